@@ -1,0 +1,5 @@
+pub mod Quoted
+pub mod Kinds
+pub mod Refusals
+pub mod Tests
+pub mod KindLaws

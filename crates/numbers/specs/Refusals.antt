@@ -1,0 +1,55 @@
+-- Document 01's table of refused calls: the number of each.
+use Prim.Native.Nat.{ℕ}
+use Rattle.numbers.specs.declared.Refusal.{Refusal}
+use Rattle.numbers.specs.declared.Refusal.the-variants.{
+  OutOfRange,
+  NoJob,
+  NotTheJobs,
+  NotLegal,
+  PacketInUse,
+  ChannelBusy,
+  NothingStartable,
+  NothingInProgress,
+  WrongCompletion,
+  NothingSelected,
+  BadDeck,
+  NoRoom,
+  WrongRequest,
+  BadConfiguration,
+  NoSuchRequest,
+  JobRuns,
+}
+
+abbrev pub numberOf : Refusal → ℕ
+-- place, channel, unit, packet or function number out of range, or channel or unit not configured
+numberOf OutOfRange = 1
+-- no job in that place, or it is closing
+numberOf NoJob = 2
+-- unit or drum address not the job's
+numberOf NotTheJobs = 3
+-- function not legal for the kind
+numberOf NotLegal = 4
+-- packet listed, in progress or stopping
+numberOf PacketInUse = 5
+-- start on a busy channel
+numberOf ChannelBusy = 6
+-- start with nothing startable
+numberOf NothingStartable = 7
+-- completion with nothing in progress
+numberOf NothingInProgress = 8
+-- cut for a packet not stopping; failure code 00, 01, 16o, 17o or over 77o
+numberOf WrongCompletion = 9
+-- no place free, or no candidate has an assignment
+numberOf NothingSelected = 10
+-- deck too long or without termination card
+numberOf BadDeck = 11
+-- card to write over 80 characters, or lent room too short
+numberOf NoRoom = 12
+-- request to write against a field, entry, 14 or 27 rule
+numberOf WrongRequest = 13
+-- bad configuration
+numberOf BadConfiguration = 14
+-- release or delete: no such ID, or for release not suspended
+numberOf NoSuchRequest = 15
+-- delete: the job runs or closes
+numberOf JobRuns = 16

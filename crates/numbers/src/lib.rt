@@ -1,0 +1,123 @@
+// The bulletin's three kinds of count, none of which can be passed for another; the kinds of channel; the refusals.
+ghost use mathlib.Core.Path.{_≡_};
+ghost use Prim.Native.Nat.{_<_};
+ghost use Rattle.numbers.specs.Kinds.{kindOf, codeOf, Rowed};
+ghost use Rattle.numbers.specs.Quoted.{is2};
+ghost use Rattle.numbers.specs.Refusals.{numberOf};
+
+// The number by which a job's cards name a channel of theirs, 0 to 15.
+pub struct LogicalChannel(pub u8);
+
+// The number of a channel of the cell, 0 to 15.
+pub struct ChannelNumber(pub u8);
+
+// The number of a unit on its channel, 0 to 15.
+pub struct UnitNumber(pub u8);
+
+// UNISERVO IIA, UNISERVO IIIA, printer, drum.
+pub enum Kind {
+    Ma,
+    Mt,
+    Pr,
+    Md,
+}
+
+// What two letters are: a kind's code, or none.
+pub enum Coded {
+    Is(Kind),
+    Unknown,
+}
+
+// Why a call is refused, in the order of document 01's table.
+pub enum Refusal {
+    OutOfRange,
+    NoJob,
+    NotTheJobs,
+    NotLegal,
+    PacketInUse,
+    ChannelBusy,
+    NothingStartable,
+    NothingInProgress,
+    WrongCompletion,
+    NothingSelected,
+    BadDeck,
+    NoRoom,
+    WrongRequest,
+    BadConfiguration,
+    NoSuchRequest,
+    JobRuns,
+}
+
+// Whether two bytes are the letters x, y.
+fn is_code(a: u8, b: u8, x: u8, y: u8) -> bool
+    ensures { λ r. ⌜ r ≡ is2 x y a b ⌝ }
+{
+    a == x && b == y
+}
+
+// The kind whose code two bytes are.
+pub fn kind_of(a: u8, b: u8) -> Coded
+    ensures { λ r. ⌜ r ≡ kindOf a b ⌝ }
+{
+    if is_code(a, b, b'M', b'A') {
+        return Coded::Is(Kind::Ma);
+    }
+    if is_code(a, b, b'M', b'T') {
+        return Coded::Is(Kind::Mt);
+    }
+    if is_code(a, b, b'P', b'R') {
+        return Coded::Is(Kind::Pr);
+    }
+    if is_code(a, b, b'M', b'D') {
+        return Coded::Is(Kind::Md);
+    }
+    Coded::Unknown
+}
+
+// A kind's code.
+pub fn code_of(kind: Kind) -> [u8; 2]
+    ensures { λ r. ⌜ r ≡ codeOf kind ⌝ }
+{
+    match kind {
+        Kind::Ma => [b'M', b'A'],
+        Kind::Mt => [b'M', b'T'],
+        Kind::Pr => [b'P', b'R'],
+        Kind::Md => [b'M', b'D'],
+    }
+}
+
+// A kind's row in a table that has one for every kind.
+pub fn row_of(kind: Kind) -> usize
+    ensures { λ r. ⌜ Rowed kind r ⌝ }
+{
+    match kind {
+        Kind::Ma => 0,
+        Kind::Mt => 1,
+        Kind::Pr => 2,
+        Kind::Md => 3,
+    }
+}
+
+// A refusal's number.
+pub fn number_of(refusal: Refusal) -> u8
+    ensures { λ r. ⌜ r ≡ numberOf refusal ⌝ }
+{
+    match refusal {
+        Refusal::OutOfRange => 1,
+        Refusal::NoJob => 2,
+        Refusal::NotTheJobs => 3,
+        Refusal::NotLegal => 4,
+        Refusal::PacketInUse => 5,
+        Refusal::ChannelBusy => 6,
+        Refusal::NothingStartable => 7,
+        Refusal::NothingInProgress => 8,
+        Refusal::WrongCompletion => 9,
+        Refusal::NothingSelected => 10,
+        Refusal::BadDeck => 11,
+        Refusal::NoRoom => 12,
+        Refusal::WrongRequest => 13,
+        Refusal::BadConfiguration => 14,
+        Refusal::NoSuchRequest => 15,
+        Refusal::JobRuns => 16,
+    }
+}
