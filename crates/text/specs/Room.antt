@@ -1,0 +1,16 @@
+-- Text written into lent room, piece after piece. What does not fit is cut at the room's end, so that writing is defined for every room, and
+-- a piece after a piece is the two pieces joined, whether they fit or not.
+use Prim.Native.Nat.{ℕ, _+_, min, max}
+use mathlib.Core.Path.{_≡_}
+use mathlib.Core.List.{List}
+use lib.ListN.{length}
+use lib.Seq.{sets}
+
+-- the place `count` bytes on from `at`, but not past the room's end
+abbrev pub reach : ℕ → ℕ → ℕ → ℕ
+reach at count end = max at (min (at + count) end)
+
+-- `room` with the bytes of `piece` stored one after the other from `at` on is `after`, and the next place is `next`
+pub record Written (room : List ℕ) (at : ℕ) (piece after : List ℕ) (next : ℕ) : Type 0 where
+  pub bytes : after ≡ sets room at piece
+  pub place : next ≡ reach at (length piece) (length room)
