@@ -1,0 +1,7 @@
+pub mod Form
+pub mod LineLaws
+pub mod ReadLaws
+pub mod ChannelLaws
+pub mod DownLaws
+pub mod Meaning
+pub mod Unique
