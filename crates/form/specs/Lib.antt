@@ -5,3 +5,4 @@ pub mod ChannelLaws
 pub mod DownLaws
 pub mod Meaning
 pub mod Unique
+pub mod Enough

@@ -113,7 +113,7 @@ six (a ∷ b ∷ x ∷ y ∷ z ∷ []) c e p q = absurd (omega arith)
 six (a ∷ b ∷ x ∷ y ∷ z ∷ w ∷ s) c e p q = e ∙ ap (λ (l : List ℕ). twoText c ++ l) (rw (p, q) refl)
 
 -- a channel line is six bytes and its n
-channel-long : (c : ℕ) (kind : Kind) (n : ℕ) → length (line (Item.channel c kind n)) ≡ 6 + length (line (Item.count n))
+pub channel-long : (c : ℕ) (kind : Kind) (n : ℕ) → length (line (Item.channel c kind n)) ≡ 6 + length (line (Item.count n))
 channel-long c Ma n = omega arith
 channel-long c Mt n = omega arith
 channel-long c Pr n = omega arith

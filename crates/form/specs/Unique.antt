@@ -14,7 +14,6 @@ use Rattle.numbers.specs.declared.Kind.{Kind}
 use Rattle.text.specs.declared.Number.{Number}
 use Rattle.text.specs.declared.Number.the-variants as Number′
 use Rattle.channels.specs.declared.Channel.{Channel}
-use Rattle.configuration.specs.declared.Verdict.{Verdict}
 use Rattle.configuration.specs.declared.line.ChannelLine.{ChannelLine}
 use Rattle.configuration.specs.declared.line.ChannelLine.the-variants as ChannelLine′
 use Rattle.configuration.specs.declared.line.DownLine.{DownLine}
