@@ -23,13 +23,20 @@ pub struct Configuration {
     pub down: [bool; 256],
 }
 
+// A channel that has nothing.
+fn no_channel() -> Channel
+    ensures { λ r. ⌜ r ≡ noChannel ⌝ }
+{
+    Channel {
+        has: Fitted::Nothing,
+    }
+}
+
 // No channel has anything.
 pub fn no_channels() -> [Channel; 16]
     ensures { λ r. ⌜ r ≡ noChannels ⌝ }
 {
-    [Channel {
-        has: Fitted::Nothing,
-    }; 16]
+    [no_channel(); 16]
 }
 
 // The channel that has a number; nothing where the cell has no such channel.
@@ -48,9 +55,7 @@ fn channel_of(channels: [Channel; 16], channel: ChannelNumber) -> Channel
     if c < 16 {
         return channels[c];
     }
-    Channel {
-        has: Fitted::Nothing,
-    }
+    no_channel()
 }
 
 // How many units a channel has; the drum has none.

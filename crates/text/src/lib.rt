@@ -38,10 +38,10 @@ pub fn is_alnum(b: u8) -> bool
 pub fn byte_at(s: &[u8], at: usize) -> u8
     ensures { λ r. ⌜ r ≡ getD (now (s .entry)) at 0 ⌝ }
 {
-    if at < s.len() {
-        return s[at];
+    if s.len() <= at {
+        return 0;
     }
-    0
+    s[at]
 }
 
 // Exactly two digits.

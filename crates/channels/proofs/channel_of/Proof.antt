@@ -1,5 +1,5 @@
 -- `channels::channel_of` meets its contract: past the table the definition answers that there is nothing too. Assumes nothing.
-use mathlib.Core.Path.{sym}
+use mathlib.Core.Path.{sym, _∙_}
 use lib.ListN.{List·getD-eq-default}
 use native.Mathlib.Omega.{arith}
 use Rattle.channels.specs.Channels.{noChannel}
@@ -19,8 +19,13 @@ array-copy-out-result c = search needs
 returns : tie.Need-returns
 returns c = search needs
 
+no-channel-requires : tie.Need-no-channel-requires
+no-channel-requires c κs = search needs
+
 returns-2 : tie.Need-returns-2
-returns-2 c = sym (List·getD-eq-default (c .before .before .args .t1) noChannel (omega arith))
+returns-2 c = c .no-channel .ensures ∙ sym (List·getD-eq-default (c .before .before .before .args .t1) noChannel (omega arith))
 
 pub channel-of-spec : {M : Type 1} → statement M
-channel-of-spec = tie.close (tie.spec cast-c mul-result array-copy-out-result returns returns-2)
+channel-of-spec =
+    tie.close
+    (tie.spec cast-c mul-result array-copy-out-result returns no-channel-requires returns-2)
