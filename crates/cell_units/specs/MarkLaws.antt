@@ -11,10 +11,10 @@ use Rattle.numbers.specs.declared.UnitNumber.{UnitNumber}
 use Rattle.channels.specs.declared.Configuration.{Configuration}
 use Rattle.channels.specs.Channels.{unitsOf, channelIn, hasUnit}
 use Rattle.units.specs.declared.Units.{Units}
-use Rattle.units.specs.State.{Square, unitIn}
+use Rattle.units.specs.State.{Square, unitIn, markedUnit}
 use Rattle.units.specs.StateLaws.{set-read}
-use Rattle.cell_units.specs.declared.Mark.{Mark}
-use Rattle.cell_units.specs.Marks.{markedUnit, markOf}
+use Rattle.units.specs.declared.Mark.{Mark}
+use Rattle.cell_units.specs.Marks.{markOf}
 
 module _ (configuration : Configuration) (state : Units) (square : Square (state .of)) (channel : ChannelNumber) (unit : UnitNumber) (mark : Mark) (on : Bool) where
   -- a configured unit is marked, and no other changes

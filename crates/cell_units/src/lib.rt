@@ -4,18 +4,12 @@ use numbers::ChannelNumber;
 use numbers::Outcome;
 use numbers::Refusal;
 use numbers::UnitNumber;
-use units::Unit;
+use units::Mark;
 use units::Units;
 ghost use mathlib.Core.Path.{_≡_};
 ghost use Rattle.units.specs.State.{unitsFrom};
 ghost use Rattle.cell_units.specs.Fresh.{freshUnits};
-ghost use Rattle.cell_units.specs.Marks.{markedUnit, markOf};
-
-// The two marks of a unit.
-pub enum Mark {
-    Down,
-    Reserved,
-}
+ghost use Rattle.cell_units.specs.Marks.{markOf};
 
 // How a mark call ends, and the units then.
 pub struct Marked {
@@ -46,22 +40,6 @@ fn fresh_from(down: [bool; 256]) -> Units
     state
 }
 
-// A unit with one mark set or cleared.
-fn marked_unit(unit: Unit, mark: Mark, on: bool) -> Unit
-    ensures { λ r. ⌜ r ≡ markedUnit mark on unit ⌝ }
-{
-    let mut next = unit;
-    match mark {
-        Mark::Down => {
-            next.down = on;
-        }
-        Mark::Reserved => {
-            next.reserved = on;
-        }
-    }
-    next
-}
-
 // The mark calls: a mark is set or cleared on a configured unit; any other, and the drum, gets 1.
 pub fn mark_unit(
     configuration: Configuration,
@@ -74,7 +52,7 @@ pub fn mark_unit(
     ensures { λ r. ⌜ r ≡ markOf configuration state channel unit mark on ⌝ }
 {
     if channels::has_unit(configuration, channel, unit) {
-        let next = marked_unit(units::unit_at(state, channel, unit), mark, on);
+        let next = units::marked_unit(units::unit_at(state, channel, unit), mark, on);
         let units = units::with_unit(state, channel, unit, next);
         return Marked {
             outcome: Outcome::Done,

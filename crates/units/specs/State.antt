@@ -7,6 +7,8 @@ use lib.ListN.{length, getD, set, replicate}
 use Rattle.units.specs.declared.Holder.{Holder}
 use Rattle.units.specs.declared.Holder.the-variants.{Free, Held}
 use Rattle.units.specs.declared.Unit.{Unit}
+use Rattle.units.specs.declared.Mark.{Mark}
+use Rattle.units.specs.declared.Mark.the-variants.{Down, Reserved}
 use Rattle.units.specs.declared.Units.{Units}
 
 -- 16 channels of 16 units
@@ -47,3 +49,8 @@ isFree (Held place) = false
 -- a unit is assignable when free and unmarked
 unfoldable pub assignable : Unit → Bool
 assignable unit = not (unit .down) && (not (unit .reserved) && isFree (unit .holder))
+
+-- a unit with one mark set or cleared, all else as it was
+abbrev pub markedUnit : Mark → Bool → Unit → Unit
+markedUnit Down on unit = record { holder = unit .holder; down = on; reserved = unit .reserved; interlock = unit .interlock }
+markedUnit Reserved on unit = record { holder = unit .holder; down = unit .down; reserved = on; interlock = unit .interlock }

@@ -2,7 +2,7 @@
 use numbers::ChannelNumber;
 use numbers::UnitNumber;
 ghost use mathlib.Core.Path.{_≡_};
-ghost use Rattle.units.specs.State.{GridOf, unitsFrom, freshUnit, noneHeld, unitIn, unitSet, isFree, assignable};
+ghost use Rattle.units.specs.State.{GridOf, unitsFrom, freshUnit, noneHeld, unitIn, unitSet, isFree, assignable, markedUnit};
 
 // A unit is free or held by the job in one place.
 pub enum Holder {
@@ -16,6 +16,12 @@ pub struct Unit {
     pub down: bool,
     pub reserved: bool,
     pub interlock: bool,
+}
+
+// The two marks of a unit.
+pub enum Mark {
+    Down,
+    Reserved,
 }
 
 // The state of all units: an array of channels, each an array of units.
@@ -111,4 +117,20 @@ pub fn is_assignable(unit: Unit) -> bool
     }
     let holder = unit.holder;
     is_free(holder)
+}
+
+// A unit with one mark set or cleared.
+pub fn marked_unit(unit: Unit, mark: Mark, on: bool) -> Unit
+    ensures { λ r. ⌜ r ≡ markedUnit mark on unit ⌝ }
+{
+    let mut next = unit;
+    match mark {
+        Mark::Down => {
+            next.down = on;
+        }
+        Mark::Reserved => {
+            next.reserved = on;
+        }
+    }
+    next
 }

@@ -2,9 +2,9 @@
 use mathlib.Core.Path.{sym, ap, _∙_}
 use Rattle.units.specs.declared.Unit.{Unit}
 use Rattle.units.specs.declared.Units.{Units}
-use Rattle.units.specs.State.{unitsFrom, unitSet}
+use Rattle.units.specs.State.{unitsFrom, unitSet, markedUnit}
 use Rattle.numbers.specs.declared.Outcome.the-variants.{Done}
-use Rattle.cell_units.specs.Marks.{markedUnit, markOf}
+use Rattle.cell_units.specs.Marks.{markOf}
 use borrow.Author.Needs.{needs}
 use Rattle.cell_units.proofs.mark_unit.Statement.{statement}
 use Rattle.cell_units.proofs.mark_unit.Tie as tie

@@ -1,10 +1,10 @@
--- `cell_units::marked_unit` meets its contract: by the mark that the match found. Assumes nothing.
+-- `units::marked_unit` meets its contract: by the mark that the match found. Assumes nothing.
 use mathlib.Core.Path.{sym, ap}
-use Rattle.cell_units.specs.declared.Mark.{Mark}
-use Rattle.cell_units.specs.Marks.{markedUnit}
+use Rattle.units.specs.declared.Mark.{Mark}
+use Rattle.units.specs.State.{markedUnit}
 use borrow.Author.Needs.{needs}
-use Rattle.cell_units.proofs.marked_unit.Statement.{statement}
-use Rattle.cell_units.proofs.marked_unit.Tie as tie
+use Rattle.units.proofs.marked_unit.Statement.{statement}
+use Rattle.units.proofs.marked_unit.Tie as tie
 
 enum-told : tie.Need-enum-told
 enum-told c = search needs
