@@ -3,3 +3,5 @@ pub mod Kinds
 pub mod Refusals
 pub mod Tests
 pub mod KindLaws
+pub mod Decides
+pub mod DecidesLaws
