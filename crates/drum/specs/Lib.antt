@@ -1,0 +1,5 @@
+pub mod Drum
+pub mod Blocks
+pub mod BlocksLaws
+pub mod DrumLaws
+pub mod Marked
