@@ -52,7 +52,7 @@ cast-t12 c = search needs
 returns-2 : tie.Need-returns-2 Inv-loop μ-loop
 returns-2 c =
     let clear = subst (Seen (c .before .before .before .before .before .before .args .held) (c .before .before .before .before .loop .s) (c .before .before .before .before .before .before .args .n)) (c .enum-told .given .1) (c .before .before .in-the-way .ensures) in (
-      (λ p. record { low = omega arith; high = c .before .before .before .loop-test .taken; free = clear-free (c .before .before .before .before .before .before .args .held) (c .before .before .before .before .before .before .args .n) (c .before .before .before .before .loop .s) clear }),
+      (λ p. record { low = omega arith; high = omega arith; free = clear-free (c .before .before .before .before .before .before .args .held) (c .before .before .before .before .before .before .args .n) (c .before .before .before .before .loop .s) clear }),
       λ b h f. c .before .before .before .before .loop .inv .1 b h (f (omega arith)),
     )
 
