@@ -54,7 +54,7 @@ pub record NoList (room wants : List ℕ) (channels : List ChannelNumber) : Type
   pub never : (others : List ChannelNumber) → Placed room wants others → ⊥
   pub blank : channels ≡ replicate 16 (channel 0)
 
-abbrev Answer : Bool → List ℕ → List ℕ → List ChannelNumber → Type 0
+abbrev pub Answer : Bool → List ℕ → List ℕ → List ChannelNumber → Type 0
 Answer true room wants channels = Least room wants channels
 Answer false room wants channels = NoList room wants channels
 

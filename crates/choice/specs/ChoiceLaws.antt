@@ -1,7 +1,7 @@
 -- What the definitions of Choice mean: the statement for each logical channel and the one by the list say the same; the greedy choice meets the
 -- promise; and the promise leaves one answer. Assumes nothing.
 use Prim.Native.Nat.{ℕ, zero, suc, _≤_, _<_, suc-le-suc}
-use mathlib.Core.Path.{_≡_, refl, sym, ap, _∙_}
+use mathlib.Core.Path.{_≡_, refl, sym, ap, _∙_, subst}
 use mathlib.Core.Bool.{Bool, true, false}
 use mathlib.Core.Logic.{inr, ⊎-elim}
 use mathlib.Core.List.{List, [], _∷_}
@@ -13,7 +13,7 @@ use borrow.Author.Tests.{leb-true, leb-false}
 use Rattle.numbers.specs.Tests.{by-bool, never}
 use Rattle.numbers.specs.declared.ChannelNumber.{ChannelNumber}
 use Rattle.choice.specs.declared.Picks.{Picks}
-use Rattle.choice.specs.Choice.{channel, want, on, total, Placed, LexLe, Least, NoList, Answers}
+use Rattle.choice.specs.Choice.{channel, want, on, total, Placed, LexLe, Least, NoList, Answer, Answers}
 use Rattle.choice.specs.Greedy.{hallB, picks, chooseOf}
 use Rattle.choice.specs.HallLaws.{hall-sound, hall-complete, channel-below}
 use Rattle.choice.specs.GreedyLaws.{Choice, choice-hall, picks-choice, picks-least}
@@ -197,3 +197,10 @@ answers-one room wants r s = one-of room wants (r .ok) (s .ok) (r .on) (s .on)
 -- so an answer is what the definition computes
 pub computed : (room wants : List ℕ) (r : Picks) → length room ≡ 16 → length wants ≡ 16 → Answers room wants r → r ≡ chooseOf room wants
 computed room wants r w l a = answers-one room wants r (chooseOf room wants) a (chosen room wants w l)
+
+-- ---- an answer by what it says of itself
+pub found-least : (room wants : List ℕ) (r : Picks) → r .ok ≡ true → Answers room wants r → Least room wants (r .on)
+found-least room wants r e a = subst (λ (b : Bool). Answer b room wants (r .on)) e a
+
+pub found-none : (room wants : List ℕ) (r : Picks) → r .ok ≡ false → Answers room wants r → NoList room wants (r .on)
+found-none room wants r e a = subst (λ (b : Bool). Answer b room wants (r .on)) e a
