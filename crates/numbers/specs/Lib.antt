@@ -5,3 +5,4 @@ pub mod Tests
 pub mod KindLaws
 pub mod Decides
 pub mod DecidesLaws
+pub mod Stores

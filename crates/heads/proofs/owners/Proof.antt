@@ -5,7 +5,7 @@ use native.Mathlib.Omega.{arith}
 use lib.ListN.{length, getD, length-set}
 use Rattle.numbers.specs.declared.LogicalChannel.{LogicalChannel}
 use Rattle.heads.specs.Giving.{logical, OwnerIs}
-use Rattle.heads.proofs.Turns.{stored}
+use Rattle.numbers.specs.Stores.{stored}
 use borrow.Author.Needs.{needs}
 use Rattle.heads.proofs.owners.Statement.{statement}
 use Rattle.heads.proofs.owners.Tie as tie

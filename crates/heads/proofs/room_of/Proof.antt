@@ -5,7 +5,7 @@ use native.Mathlib.Omega.{arith}
 use lib.ListN.{length, getD, length-set}
 use Rattle.heads.specs.Sums.{howMany}
 use Rattle.heads.specs.Giving.{freeAt}
-use Rattle.heads.proofs.Turns.{stored}
+use Rattle.numbers.specs.Stores.{stored}
 use borrow.Author.Needs.{needs}
 use Rattle.heads.proofs.room_of.Statement.{statement}
 use Rattle.heads.proofs.room_of.Tie as tie

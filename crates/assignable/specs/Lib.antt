@@ -1,0 +1,3 @@
+pub mod Assignable
+pub mod Counts
+pub mod AssignableLaws
