@@ -10,7 +10,7 @@ use Rattle.core.specs.declared.Found.the-variants.{At, Nothing}
 use Rattle.core.specs.Core.{Before, Answers}
 
 -- of two pairs one comes before the other, or they are one
-three : (p q : Pair) → Before (p .0) (p .1) (q .0) (q .1) ⊎ ((p ≡ q) ⊎ Before (q .0) (q .1) (p .0) (p .1))
+pub three : (p q : Pair) → Before (p .0) (p .1) (q .0) (q .1) ⊎ ((p ≡ q) ⊎ Before (q .0) (q .1) (p .0) (p .1))
 three p q =
     ⊎-elim (λ l. inl (inl l))
     (λ m. ⊎-elim

@@ -18,7 +18,7 @@ use Rattle.heads.specs.HeadsLaws.{all-served, all-lowest, served-placed}
 use Rattle.heads.specs.HeadsOne.{units-one}
 use Rattle.heads.specs.Giving.{freeAt, blank, toAt, Owners, RoomIs}
 use Rattle.heads.specs.GaveOut.{Logical, GaveOut, only-free}
-use Rattle.heads.specs.Serving.{Chosen, Lacking, Serves}
+use Rattle.heads.specs.Serving.{Chosen, Lacking, Answer, Serves}
 
 -- the owners are logical channels
 pub owners-logical : {wants : List ℕ} {channels : List ChannelNumber} {own : List LogicalChannel} → Owners wants channels own → Logical own
@@ -69,3 +69,10 @@ module _ (free : List Bool) (wants : List ℕ) (before : List Head) where
   -- two answers are one
   pub serves-one : (r s : Service) → Serves free wants before r → Serves free wants before s → r ≡ s
   serves-one r s = one-of (r .ok) (s .ok) (r .on) (s .on) (r .heads) (s .heads)
+
+-- ---- an answer by what it says of itself
+pub served-so : (free : List Bool) (wants : List ℕ) (before : List Head) (r : Service) → r .ok ≡ true → Serves free wants before r → Chosen free wants before (r .on) (r .heads)
+served-so free wants before r e s = subst (λ (b : Bool). Answer b free wants before (r .on) (r .heads)) e s
+
+pub lacking-so : (free : List Bool) (wants : List ℕ) (before : List Head) (r : Service) → r .ok ≡ false → Serves free wants before r → Lacking free wants before (r .on) (r .heads)
+lacking-so free wants before r e s = subst (λ (b : Bool). Answer b free wants before (r .on) (r .heads)) e s

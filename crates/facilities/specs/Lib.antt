@@ -1,0 +1,5 @@
+pub mod Assignment
+pub mod Chosen
+pub mod Kinds
+pub mod KindsLaws
+pub mod ChosenLaws
