@@ -1,13 +1,14 @@
 -- A search that antt computes: it meets the search's contract, so by `answers-one` it is what the search answers. Assumes nothing.
 use Prim.Native.Nat.{ℕ, zero, suc, _+_, _*_, _≤_, _<_, _/_, _%_}
-use mathlib.Core.Path.{_≡_, refl, sym, ap, _∙_, subst}
+use mathlib.Core.Path.{_≡_, refl, ap, _∙_, subst}
 use mathlib.Core.Logic.{_⊎_, inl, inr, ⊎-elim}
-use mathlib.Core.Bool.{Bool, true, false, _&&_, _||_, cond}
+use mathlib.Core.Bool.{Bool, true, false, _&&_, _||_}
 use native.Mathlib.Nat.{eq-zero-or-pos, eq-or-lt-of-le}
 use native.Mathlib.Omega.{arith}
 use lib.Dec.{leb, eqb}
 use borrow.Author.Tests.{eq-eqb, eqb-true, eqb-false, le-leb, leb-true}
-use Rattle.numbers.specs.Tests.{by-bool, never, both}
+use Rattle.numbers.specs.Find.{Hit, hit, none, find, First, first}
+use Rattle.numbers.specs.Tests.{by-bool, both}
 use Rattle.core.specs.declared.Found.{Found}
 use Rattle.core.specs.declared.Found.the-variants.{At, Nothing}
 use Rattle.core.specs.Core.{bit, Run, Beside, Fits, Answers}
@@ -85,28 +86,6 @@ module _ (w ib db i j : ℕ) where
       positive : eqb db 0 ≡ false → 1 ≤ db
       positive z = ⊎-elim (λ e. absurd (eqb-false db 0 z e)) (λ p. p) (eq-zero-or-pos db)
 
--- ---- the first number that passes a test
-pub data Hit : Type 0 where
-  hit : ℕ → Hit
-  none : Hit
-
-abbrev pub find : (ℕ → Bool) → ℕ → ℕ → Hit
-find f zero k = none
-find f (suc n) k = cond (f k) (hit k) (find f n (suc k))
-
-abbrev First : (ℕ → Bool) → ℕ → ℕ → Hit → Type 0
-First f n k (hit m) = (f m ≡ true) × ((b : ℕ) → k ≤ b → b < m → f b ≡ true → ⊥)
-First f n k none = (b : ℕ) → k ≤ b → b < k + n → f b ≡ true → ⊥
-
-first-step : (f : ℕ → Bool) (n k : ℕ) (v : Bool) → f k ≡ v → (h : Hit) → First f n (suc k) h → First f (suc n) k (cond v (hit k) h)
-first-step f n k true e h p = (e, λ b l m t. omega arith)
-first-step f n k false e (hit m) p = (p .0, λ b l q t. ⊎-elim (λ x. never t (ap f (sym x) ∙ e)) (λ x. p .1 b x q t) (eq-or-lt-of-le l))
-first-step f n k false e none p = λ b l q t. ⊎-elim (λ x. never t (ap f (sym x) ∙ e)) (λ x. p b x (omega arith) t) (eq-or-lt-of-le l)
-
-first : (f : ℕ → Bool) (n k : ℕ) → First f n k (find f n k)
-first f zero k = λ b l q t. omega arith
-first f (suc n) k = first-step f n k (f k) refl (find f n (suc k)) (first f n (suc k))
-
 -- ---- the search: the first pair, as one number
 abbrev pub found : Hit → Found
 found (hit m) = At (record { 0 = m / 32; 1 = m % 32 })
@@ -152,3 +131,8 @@ answers-of w ib db none p = λ a b f.
 pub computed : (w ib db : ℕ) (r : Found) → Answers w ib db r → r ≡ searchOf w ib db
 unfolding searchOf
 computed w ib db r p = answers-one w ib db r (found (find (test w ib db) 1024 0)) p (answers-of w ib db (find (test w ib db) 1024 0) (first (test w ib db) 1024 0))
+
+-- the computed search is an answer
+pub search-answers : (w ib db : ℕ) → Answers w ib db (searchOf w ib db)
+unfolding searchOf
+search-answers w ib db = answers-of w ib db (find (test w ib db) 1024 0) (first (test w ib db) 1024 0)

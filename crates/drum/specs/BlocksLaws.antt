@@ -13,7 +13,7 @@ pub le-or-lt : (a b : ℕ) → (a ≤ b) ⊎ (b < a)
 le-or-lt a b = ⊎-elim (λ e. inl (omega arith)) (λ p. inr (omega arith)) (eq-zero-or-pos (a - b))
 
 -- two that meet share a word: the later of the two starts
-shared : (a : Area) (s n : ℕ) → 1 ≤ n → Meets a s n → (x : ℕ) × ((s ≤ x) × ((x < s + n) × In a x))
+pub shared : (a : Area) (s n : ℕ) → 1 ≤ n → Meets a s n → (x : ℕ) × ((s ≤ x) × ((x < s + n) × In a x))
 shared a s n p m =
     ⊎-elim (λ h. (a .start, (h, (m .before, record { from = omega arith; below = m .some }))))
     (λ h. (s, (omega arith, (omega arith, record { from = omega arith; below = m .after }))))

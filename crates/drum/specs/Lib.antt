@@ -3,3 +3,4 @@ pub mod Blocks
 pub mod BlocksLaws
 pub mod DrumLaws
 pub mod Marked
+pub mod Computed

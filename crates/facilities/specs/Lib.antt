@@ -3,3 +3,4 @@ pub mod Chosen
 pub mod Kinds
 pub mod KindsLaws
 pub mod ChosenLaws
+pub mod Computed

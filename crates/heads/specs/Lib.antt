@@ -10,3 +10,4 @@ pub mod HeadsOne
 pub mod GaveOut
 pub mod Serving
 pub mod ServingLaws
+pub mod Computed

@@ -6,3 +6,5 @@ pub mod KindLaws
 pub mod Decides
 pub mod DecidesLaws
 pub mod Stores
+pub mod Find
+pub mod Tables
