@@ -15,7 +15,7 @@ use Rattle.text.specs.Undo.{few-digits}
 use Rattle.channels.specs.declared.Channel.{Channel}
 use Rattle.configuration.specs.Lines.{most}
 use Rattle.configuration.specs.Configured.{configurationOf}
-use Rattle.form.specs.Form.{Item, line, written, Due, Right, AllRight, Written, FirstBad}
+use Rattle.form.specs.Form.{Item, line, written, Due, Right, AllRight, InForm, FirstBad}
 use Rattle.form.specs.LineLaws.{channel-long}
 use Rattle.form.specs.Meaning.{Said, meaning}
 use Rattle.form.specs.Unique.{first-named}
@@ -80,7 +80,7 @@ longer s more number h f =
     }
 
 -- the written form of a configuration is shorter
-form-long : {s : List ℕ} {of : List Channel} {marks : List Bool} → Written s of marks → length s ≤ 1767
+form-long : {s : List ℕ} {of : List Channel} {marks : List Bool} → InForm s of marks → length s ≤ 1767
 form-long {s} w =
     let r = w .reads in
     let l : length s ≡ length (written (r .items)) + 0 = ap length (r .text) ∙ length-append (written (r .items)) [] in

@@ -70,7 +70,7 @@ pub record Reads (due : Due) (s : List ℕ) (count : ℕ) (end : Due) (rest : Li
   pub text : s ≡ written items ++ rest
 
 -- a text in the written form of these channels and down units
-pub record Written (s : List ℕ) (of : List Channel) (marks : List Bool) : Type 0 where
+pub record InForm (s : List ℕ) (of : List Channel) (marks : List Bool) : Type 0 where
   pub lines : ℕ
   pub end : Due
   pub reads : Reads first s lines end []

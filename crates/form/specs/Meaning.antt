@@ -23,7 +23,7 @@ use Rattle.configuration.specs.declared.Answer.{Answer}
 use Rattle.configuration.specs.Lines.{onNumber, lastNumber}
 use Rattle.configuration.specs.Sections.{channelsFrom, downsFrom}
 use Rattle.configuration.specs.Configured.{refused, good, afterDowns, afterChannels, configurationOf}
-use Rattle.form.specs.Form.{Item, line, Due, Right, Reads, Bad, Written, FirstBad}
+use Rattle.form.specs.Form.{Item, line, Due, Right, Reads, Bad, InForm, FirstBad}
 use Rattle.form.specs.LineLaws.{last-redone, last-undone}
 use Rattle.form.specs.ReadLaws.{no-lines, one-more, and-then}
 use Rattle.form.specs.ChannelLaws.{channels-found}
@@ -37,7 +37,7 @@ pub data Said (a : Answer) : Type 0 where
 -- what an answer says of a text
 pub record Means (s : List ℕ) (a : Answer) : Type 0 where
   pub said : Said a
-  pub written : (of : List Channel) (marks : List Bool) → a ≡ good of marks → Written s of marks
+  pub written : (of : List Channel) (marks : List Bool) → a ≡ good of marks → InForm s of marks
   pub first : (number : ℕ) → a ≡ refused number → FirstBad s number
 
 abbrev isGood : Verdict → Bool
@@ -56,7 +56,7 @@ means-bad {s} {number} b =
       first = λ n e. subst (FirstBad s) (ap (λ (a : Answer). lineOf (a .verdict)) e) b;
     }
 
-means-good : {s : List ℕ} {of : List Channel} {marks : List Bool} → Written s of marks → Means s (good of marks)
+means-good : {s : List ℕ} {of : List Channel} {marks : List Bool} → InForm s of marks → Means s (good of marks)
 means-good {s} {of} {marks} w =
     record {
       said = Said.goods of marks refl;

@@ -20,7 +20,7 @@ use Rattle.configuration.specs.declared.line.DownLine.{DownLine}
 use Rattle.configuration.specs.declared.line.DownLine.the-variants as DownLine′
 use Rattle.configuration.specs.Lines.{least, most, lastNumber, channelLine, downLine}
 use Rattle.configuration.specs.Configured.{refused, good, configurationOf}
-use Rattle.form.specs.Form.{Item, line, written, Due, Right, AllRight, Complete, Reads, Written, FirstBad}
+use Rattle.form.specs.Form.{Item, line, written, Due, Right, AllRight, Complete, Reads, InForm, FirstBad}
 use Rattle.form.specs.LineLaws.{last-undone, channel-undone, down-undone}
 use Rattle.form.specs.Meaning.{Said, meaning}
 
@@ -101,7 +101,7 @@ all-once : (due : Due) (of o : List Channel) (marks m : List Bool) → Complete 
 all-once (Due.downs zero next x y) of o marks m c d = (sym (c .0) ∙ d .0, sym (c .1) ∙ d .1)
 
 -- every configuration in the written form is read as itself
-pub read-back : (s : List ℕ) (of : List Channel) (marks : List Bool) → Written s of marks → configurationOf s ≡ good of marks
+pub read-back : (s : List ℕ) (of : List Channel) (marks : List Bool) → InForm s of marks → configurationOf s ≡ good of marks
 read-back s of marks w = by (meaning s .said)
   where
     stops : Stop (w .end) []
