@@ -46,8 +46,8 @@ fn can_serve(room: &[u8], wants: &[u8]) -> bool
 }
 
 // The lowest channel with n units after which the rest can still be served; 16 where there is none.
-fn lowest(room: [u8; 16], n: u8, rest: &[u8]) -> usize
-    ensures { λ r. ⌜ r ≡ lowestOf room n (now (rest .entry)) ⌝ }
+fn lowest(room: [u8; 16], n: u8, rest: &[u8]) -> ChannelNumber
+    ensures { λ r. ⌜ r .0 ≡ lowestOf room n (now (rest .entry)) ⌝ }
 {
     let mut c: usize = 0;
     while c < 16 {
@@ -55,12 +55,12 @@ fn lowest(room: [u8; 16], n: u8, rest: &[u8]) -> usize
             let mut tried = room;
             tried[c] = 0;
             if can_serve(&tried, rest) {
-                return c;
+                return ChannelNumber(c as u8);
             }
         }
         c += 1;
     }
-    c
+    ChannelNumber(16)
 }
 
 // A byte as a count.
@@ -100,9 +100,10 @@ pub fn choose(room: [u8; 16], wants: [u8; 16]) -> Picks
         let n = wants[l];
         if 0 < n {
             let from = l + 1;
-            let c = lowest(left, n, &wants[from..]);
+            let channel = lowest(left, n, &wants[from..]);
+            let c = channel.0 as usize;
             left[c] = 0;
-            on[l] = ChannelNumber(c as u8);
+            on[l] = channel;
         }
         l += 1;
     }

@@ -1,12 +1,13 @@
 -- How units are given: in ascending order, each to its channel's entry while that has not all, else to logical channel 0 while that has not all.
 use Prim.Native.Nat.{ℕ, _-_, _≤_, _<_, _*_, _+_}
 use mathlib.Core.Path.{_≡_}
-use mathlib.Core.Bool.{Bool, false, cond}
+use mathlib.Core.Bool.{Bool, false, cond, _&&_}
 use mathlib.Core.List.{List}
-use lib.Dec.{ltb}
+use lib.Dec.{leb, ltb}
 use lib.ListN.{length, getD, set}
 use Rattle.numbers.specs.declared.LogicalChannel.{LogicalChannel}
 use Rattle.numbers.specs.declared.ChannelNumber.{ChannelNumber}
+use Rattle.numbers.specs.declared.UnitNumber.{UnitNumber}
 use Rattle.choice.specs.Choice.{want, on}
 use Rattle.heads.specs.declared.Given.{Given}
 use Rattle.heads.specs.declared.Given.the-variants.{Nothing, To}
@@ -28,6 +29,10 @@ blank = record { to = Nothing }
 -- to which entry of the kind unit i is given: only units that are assignable are looked at
 abbrev pub toAt : List Bool → List Head → ℕ → Given
 toAt free heads i = cond (freeAt free i) (getD heads i blank .to) Nothing
+
+-- to which entry a unit of a channel is given; no unit of the cell: to nothing
+unfoldable pub givenAt : List Head → ChannelNumber → UnitNumber → Given
+givenAt heads channel unit = cond (leb (channel .0) 15 && leb (unit .0) 15) (getD heads (channel .0 * 16 + unit .0) blank .to) Nothing
 
 -- the entry that a channel's next unit goes to, when its own entry is `own` and `left` says what each still lacks
 abbrev pub takerOf : List ℕ → LogicalChannel → Given

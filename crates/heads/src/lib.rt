@@ -1,12 +1,13 @@
 // The units that a kind's entries get: unit u of channel c stands at c * 16 + u.
 use numbers::ChannelNumber;
 use numbers::LogicalChannel;
+use numbers::UnitNumber;
 ghost use mathlib.Core.Path.{_≡_};
 ghost use mathlib.Core.List.{List};
 ghost use Prim.Native.Nat.{ℕ, _+_, _*_, _≤_, _<_};
 ghost use lib.ListN.{getD};
 ghost use Rattle.heads.specs.Sums.{howMany};
-ghost use Rattle.heads.specs.Giving.{freeAt, takerOf, lessOf, OwnerIs, Owners, RoomIs};
+ghost use Rattle.heads.specs.Giving.{freeAt, givenAt, takerOf, lessOf, OwnerIs, Owners, RoomIs};
 ghost use Rattle.heads.specs.GaveOut.{Logical, GaveOut};
 ghost use Rattle.heads.specs.Serving.{Serves};
 
@@ -27,15 +28,38 @@ pub struct Service {
     pub heads: [Head; 256],
 }
 
+// Where a unit of a channel stands.
+fn place_of(channel: ChannelNumber, unit: UnitNumber) -> usize
+    ensures { λ r. ⌜ r ≡ channel .0 * 16 + unit .0 ⌝ }
+{
+    (channel.0 as usize) * 16 + (unit.0 as usize)
+}
+
+// To which entry a unit of a channel is given; to nothing where the cell has no such unit.
+pub fn given_at(heads: [Head; 256], channel: ChannelNumber, unit: UnitNumber) -> Given
+    ensures { λ r. ⌜ r ≡ givenAt heads channel unit ⌝ }
+{
+    if 15 < channel.0 {
+        return Given::Nothing;
+    }
+    if 15 < unit.0 {
+        return Given::Nothing;
+    }
+    let at = place_of(channel, unit);
+    let head = heads[at];
+    head.to
+}
+
 // How many units of a channel are assignable.
-fn free_on(free: &[bool; 256], c: usize) -> u8
-    requires { ⌜ c < 16 ⌝ }
-    ensures { λ r. ⌜ r ≡ howMany 16 (λ (u : ℕ). freeAt (now (free .entry)) (c * 16 + u)) ⌝ }
+fn free_on(free: &[bool; 256], channel: ChannelNumber) -> u8
+    requires { ⌜ channel .0 < 16 ⌝ }
+    ensures { λ r. ⌜ r ≡ howMany 16 (λ (u : ℕ). freeAt (now (free .entry)) (channel .0 * 16 + u)) ⌝ }
 {
     let mut n: u8 = 0;
     let mut u: usize = 0;
     while u < 16 {
-        if free[c * 16 + u] {
+        let at = place_of(channel, UnitNumber(u as u8));
+        if free[at] {
             n += 1;
         }
         u += 1;
@@ -50,7 +74,7 @@ fn room_of(free: &[bool; 256]) -> [u8; 16]
     let mut room = [0u8; 16];
     let mut c: usize = 0;
     while c < 16 {
-        room[c] = free_on(free, c);
+        room[c] = free_on(free, ChannelNumber(c as u8));
         c += 1;
     }
     room

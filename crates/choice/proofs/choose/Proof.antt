@@ -63,11 +63,11 @@ part-lowest-end c = search needs
 lowest-requires : tie.Need-lowest-requires Inv-loop μ-loop
 lowest-requires c κs = search needs
 
-array-write-left : tie.Need-array-write-left Inv-loop μ-loop
-array-write-left c = omega (arith, pick-below (omega arith) (c .before .before .before .before .loop-test .taken) (c .before .before .before .before .before .loop .inv) (c .before .before .before .if3 .taken) (c .lowest .ensures))
+cast-c : tie.Need-cast-c Inv-loop μ-loop
+cast-c c = search needs
 
-cast-t38 : tie.Need-cast-t38 Inv-loop μ-loop
-cast-t38 c = omega (arith, pick-below (omega arith) (c .before .before .before .before .loop-test .taken) (c .before .before .before .before .before .loop .inv) (c .before .before .before .if3 .taken) (c .lowest .ensures))
+array-write-left : tie.Need-array-write-left Inv-loop μ-loop
+array-write-left c = omega (arith, pick-below (omega arith) (c .before .before .before .before .before .loop-test .taken) (c .before .before .before .before .before .before .loop .inv) (c .before .before .before .before .if3 .taken) (c .before .lowest .ensures))
 
 array-set-from-on : tie.Need-array-set-from-on Inv-loop μ-loop
 array-set-from-on c = search needs
@@ -79,7 +79,7 @@ loop-less : tie.Need-loop-less Inv-loop μ-loop
 loop-less c = omega arith
 
 loop-again : tie.Need-loop-again Inv-loop μ-loop
-loop-again c = ⊎-elim (λ w. same (w .4) (w .5) (turn (omega arith) (c .before .loop-test .taken) (c .before .before .loop .inv) (w .0 .taken) (w .3 .ensures))) (λ w. same (w .1) (w .2) (turn-none (omega arith) (c .before .loop-test .taken) (c .before .before .loop .inv) (omega (arith, w)))) (c .if3 .came)
+loop-again c = ⊎-elim (λ w. same (w .5) (w .6) (turn (omega arith) (c .before .loop-test .taken) (c .before .before .loop .inv) (w .0 .taken) (w .3 .ensures))) (λ w. same (w .1) (w .2) (turn-none (omega arith) (c .before .loop-test .taken) (c .before .before .loop .inv) (omega (arith, w)))) (c .if3 .came)
 
 returns-3 : tie.Need-returns-3 Inv-loop μ-loop
 returns-3 c = found (c .before .before .before .before .before .before .before .before .before .before .args .t1) (c .before .before .before .before .before .before .before .before .before .before .args .t2) (omega arith) (omega arith) (omega arith) (sym (c .before .before .before .can-serve .ensures) ∙ not-false _ (c .before .before .if2 .left)) (end (omega arith) (omega arith) (c .before .loop .inv))
@@ -106,8 +106,8 @@ choose-spec =
     part-lowest-start
     part-lowest-end
     lowest-requires
+    cast-c
     array-write-left
-    cast-t38
     array-set-from-on
     add-l
     loop-less

@@ -30,6 +30,9 @@ slice-aggregate-can-serve c = search needs
 can-serve-requires : tie.Need-can-serve-requires Inv-loop μ-loop
 can-serve-requires c κs = search needs
 
+cast-t17 : tie.Need-cast-t17 Inv-loop μ-loop
+cast-t17 c = search needs
+
 returns : tie.Need-returns Inv-loop μ-loop
 returns c = sym (sym (c .before .before .before .before .before .loop .inv .1) ∙ lowest-found (c .before .before .before .before .before .before .before .args .t1) (c .before .before .before .before .before .before .before .args .n) (c .before .before .before .before .before .before .before .args .rest .now) (c .before .before .before .before .before .loop .c) (c .before .before .before .before .loop-test .taken) (c .before .before .before .if1 .taken) (sym (c .before .can-serve .ensures) ∙ c .if2 .taken))
 
@@ -43,7 +46,7 @@ loop-again : tie.Need-loop-again Inv-loop μ-loop
 loop-again c = (omega arith, ⊎-elim (λ w. lowest-barred (c .before .before .before .before .args .t1) (c .before .before .before .before .args .n) (c .before .before .before .before .args .rest .now) (c .before .before .loop .c) (c .before .loop-test .taken) (w .0 .taken) (sym (w .2 .ensures) ∙ w .3 .left)) (λ w. lowest-small (c .before .before .before .before .args .t1) (c .before .before .before .before .args .n) (c .before .before .before .before .args .rest .now) (c .before .before .loop .c) (c .before .loop-test .taken) (w .left)) (c .if1 .came) ∙ c .before .before .loop .inv .1)
 
 returns-2 : tie.Need-returns-2 Inv-loop μ-loop
-returns-2 c = sym (sym (c .before .loop .inv .1) ∙ lowest-end (c .before .before .before .args .t1) (c .before .before .before .args .n) (c .before .before .before .args .rest .now) (c .before .loop .c) (omega arith))
+returns-2 c = sym (sym (c .before .loop .inv .1) ∙ lowest-end (c .before .before .before .args .t1) (c .before .before .before .args .n) (c .before .before .before .args .rest .now) (c .before .loop .c) (omega arith) ∙ omega arith)
 
 pub lowest-spec : {M : Type 1} → statement M
 lowest-spec =
@@ -56,6 +59,7 @@ lowest-spec =
     array-write-tried
     slice-aggregate-can-serve
     can-serve-requires
+    cast-t17
     returns
     add-c
     loop-less

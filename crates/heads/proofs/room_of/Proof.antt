@@ -3,9 +3,9 @@ use Prim.Native.Nat.{ℕ, _+_, _*_, _≤_, _<_, _-_}
 use mathlib.Core.Path.{_≡_, refl, _∙_}
 use native.Mathlib.Omega.{arith}
 use lib.ListN.{length, getD, length-set}
+use Rattle.numbers.specs.Stores.{stored}
 use Rattle.heads.specs.Sums.{howMany}
 use Rattle.heads.specs.Giving.{freeAt}
-use Rattle.numbers.specs.Stores.{stored}
 use borrow.Author.Needs.{needs}
 use Rattle.heads.proofs.room_of.Statement.{statement}
 use Rattle.heads.proofs.room_of.Tie as tie
@@ -18,6 +18,9 @@ abbrev μ-loop : tie.MeasureT-loop
 
 loop-holds : tie.Need-loop-holds Inv-loop μ-loop
 loop-holds c = ((omega arith, refl), λ d h. absurd (omega arith))
+
+cast-t6 : tie.Need-cast-t6 Inv-loop μ-loop
+cast-t6 c = search needs
 
 free-on-requires : tie.Need-free-on-requires Inv-loop μ-loop
 free-on-requires c κs = search needs
@@ -44,6 +47,7 @@ room-of-spec =
     Inv-loop
     μ-loop
     loop-holds
+    cast-t6
     free-on-requires
     array-write-room
     add-c
