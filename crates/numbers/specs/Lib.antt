@@ -3,3 +3,8 @@ pub mod Kinds
 pub mod Refusals
 pub mod Tests
 pub mod KindLaws
+pub mod Decides
+pub mod DecidesLaws
+pub mod Stores
+pub mod Find
+pub mod Tables

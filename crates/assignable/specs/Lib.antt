@@ -1,0 +1,4 @@
+pub mod Assignable
+pub mod Counts
+pub mod AssignableLaws
+pub mod Computed

@@ -1,0 +1,4 @@
+pub mod Core
+pub mod CoreLaws
+pub mod Computed
+pub mod Marked

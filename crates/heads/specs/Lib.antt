@@ -1,0 +1,13 @@
+pub mod Sums
+pub mod SumsLaws
+pub mod Heads
+pub mod Giving
+pub mod GivingLaws
+pub mod Passed
+pub mod Counting
+pub mod HeadsLaws
+pub mod HeadsOne
+pub mod GaveOut
+pub mod Serving
+pub mod ServingLaws
+pub mod Computed
