@@ -3,13 +3,16 @@ use Prim.Native.Nat.{ℕ, zero, suc, _+_, _-_, _*_, _≤_, _<_}
 use mathlib.Core.Path.{_≡_, refl, ap}
 use mathlib.Core.Bool.{Bool, true, false, cond, _&&_}
 use mathlib.Core.List.{List, [], _∷_}
-use native.Mathlib.Nat.{add-zero, add-suc, le-refl}
+use native.Mathlib.Nat.{lt-of-lt-of-le, add-zero, add-suc, le-refl}
 use native.Mathlib.Numerals.{add-one}
 use native.Mathlib.Omega.{arith}
 use lib.Dec.{eqb}
 use lib.ListN.{length, getD, drop, take, drop-of-length-le}
 use lib.Seq.{drop-cons}
 use borrow.Author.Tests.{eq-eqb, ne-eqb, le-ltb, lt-ltb}
+use Rattle.numbers.specs.Tests.{both}
+use Rattle.text.specs.Class.{isDigit}
+use Rattle.text.specs.ClassLaws.{digit-bounds}
 use Rattle.words.specs.Words.{every, has, same, value, valueFrom, numberIn, leading}
 
 -- what is left at a place is the byte there and what is left after it
@@ -124,3 +127,28 @@ every-leads-not p (b ∷ s) h = test (p b) (every-leads-not p s) h
     test : (x : Bool) → ((length (leading p s) ≡ length s → ⊥) → every p s ≡ false) → (length (cond x (b ∷ leading p s) []) ≡ suc (length s) → ⊥) → x && every p s ≡ false
     test true ih h = ih (λ e. h (ap suc e))
     test false ih h = refl
+
+-- digits write a number below ten to their count
+abbrev pub tens : ℕ → ℕ
+tens zero = 1
+tens (suc k) = tens k * 10
+
+value-from-below : (j n : ℕ) (s : List ℕ) → n < tens j → every isDigit s ≡ true → valueFrom n s < tens (j + length s)
+value-from-below j n [] h d = let e : j + 0 ≡ j = omega arith in rw e h
+value-from-below j n (b ∷ s) h d =
+    let p = both (isDigit b) (every isDigit s) d in
+    let c = digit-bounds b (p .0) in
+    let e : j + suc (length s) ≡ suc j + length s = omega arith in
+    rw e (value-from-below (suc j) (n * 10 + (b - 48)) s (omega arith) (p .1))
+
+tens-grow : (i k : ℕ) → tens i ≤ tens (i + k)
+tens-grow i zero = rw add-zero (le-refl (tens i))
+tens-grow i (suc k) = rw add-suc (omega (arith, tens-grow i k))
+
+pub value-below : (k : ℕ) (s : List ℕ) → every isDigit s ≡ true → length s ≤ k → value s < tens k
+value-below k s d h =
+    let e : length s + (k - length s) ≡ k = omega arith in
+    let z : 0 + length s ≡ length s = omega arith in
+    let a : value s < tens (0 + length s) = value-from-below 0 0 s (omega arith) d in
+    let b : tens (length s) ≤ tens (length s + (k - length s)) = tens-grow (length s) (k - length s) in
+    lt-of-lt-of-le (rw z at a) (rw e at b)
