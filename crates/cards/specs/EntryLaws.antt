@@ -1,5 +1,5 @@
 -- A FAC entry by the tests that the code makes: its code, its channel, its number. Assumes nothing.
-use Prim.Native.Nat.{ℕ, zero, suc, _+_, _-_, _*_, _≤_, _<_}
+use Prim.Native.Nat.{ℕ, zero, suc, _+_, _-_, _≤_, _<_}
 use mathlib.Core.Path.{_≡_, refl, sym, ap, _∙_}
 use mathlib.Core.Bool.{Bool, true, false, cond, _&&_, not}
 use mathlib.Core.Logic.{⊎-elim}
@@ -16,7 +16,7 @@ use Rattle.words.specs.Words.{every, value, leading, isnt}
 use Rattle.words.specs.WordLaws.{leading-front, value-below}
 use Rattle.fields.specs.Fields.{padded}
 use Rattle.fields.specs.FieldLaws.{rest-is}
-use Rattle.cards.specs.Errors.{good, errorIf, orElse}
+use Rattle.cards.specs.Errors.{good, errorIf}
 use Rattle.cards.specs.ErrorLaws.{not-good, or-else-none}
 use Rattle.cards.specs.Fac.{codes, placeIn, codeText, channelText, slashAt, numberText, channelGood, most, numberGood, entryGood, slot, codeOf, slotOf, codeError, formError, entryAnswer, entryOf}
 use Rattle.cards.specs.declared.CardError.the-variants.{LongCode, UnknownCode, WrongEntry}

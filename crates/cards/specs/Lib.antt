@@ -7,3 +7,4 @@ pub mod Fac
 pub mod EntryLaws
 pub mod AskLaws
 pub mod Group
+pub mod GroupLaws

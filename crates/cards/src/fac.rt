@@ -162,7 +162,7 @@ fn entry_at(card: &[u8], k: usize) -> Entry
 }
 
 // A request for nothing.
-fn no_facilities() -> Facilities
+pub(crate) fn no_facilities() -> Facilities
     ensures { λ r. ⌜ r ≡ facilitiesOf nothing ⌝ }
 {
     Facilities {
@@ -174,7 +174,7 @@ fn no_facilities() -> Facilities
 }
 
 // An error alone.
-fn none_asked(verdict: Verdict) -> Asked
+pub(crate) fn none_asked(verdict: Verdict) -> Asked
     requires { ⌜ good verdict ≡ false ⌝ }
     ensures { λ r. ⌜ r ≡ askedAnswer verdict nothing ⌝ }
 {
@@ -225,7 +225,7 @@ fn with_number(f: Facilities, slot: usize, n: u32) -> Facilities
 }
 
 // What the entries of a card ask for, or the first error among them.
-fn facilities(card: &[u8]) -> Asked
+pub(crate) fn facilities(card: &[u8]) -> Asked
     ensures { λ r. ⌜ r ≡ askedOf nothing (drop 2 (fields (now (card .entry)))) ⌝ }
 {
     let last = fields::card::last_field(card);

@@ -1,7 +1,7 @@
 // Job requests on cards: the request, and what a group of cards reads as.
 pub mod error;
 pub mod fac;
-//G
+pub mod group;
 pub mod pty;
 
 // What is wrong with a group of cards, in the order of document 01; the last four are the schedule's to find.

@@ -195,7 +195,7 @@ fn error_at(card: &[u8], k: usize) -> Verdict
 }
 
 // The first error of a card's fields, left to right.
-fn fields_error(card: &[u8]) -> Verdict
+pub(crate) fn fields_error(card: &[u8]) -> Verdict
     ensures { λ r. ⌜ r ≡ fieldsError (fields (now (card .entry))) ⌝ }
 {
     let mut k: usize = 0;
@@ -210,7 +210,7 @@ fn fields_error(card: &[u8]) -> Verdict
 }
 
 // The priority on a card, in its tenth field.
-fn priority_at(card: &[u8]) -> Priority
+pub(crate) fn priority_at(card: &[u8]) -> Priority
     requires { ⌜ length (field (now card) 9) ≤ 12 ⌝ }
     ensures { λ r. ⌜ r ≡ priorityOf (field (now (card .entry)) 9) ⌝ }
 {

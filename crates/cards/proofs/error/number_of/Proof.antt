@@ -4,8 +4,6 @@ use Rattle.cards.specs.Errors.{errorNumber}
 use borrow.Author.Needs.{needs}
 use Rattle.cards.proofs.error.number_of.Statement.{statement}
 use Rattle.cards.proofs.error.number_of.Tie as tie
-use Rattle.cards.proofs.error.number_of.Reads as reads
-use Rattle.cards.proofs.error.number_of.Lts as lts
 
 enum-told : tie.Need-enum-told
 enum-told c = search needs

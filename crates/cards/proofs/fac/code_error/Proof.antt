@@ -9,10 +9,6 @@ use Rattle.cards.specs.EntryLaws.{code-long, code-unknown, code-known}
 use borrow.Author.Needs.{needs}
 use Rattle.cards.proofs.fac.code_error.Statement.{statement}
 use Rattle.cards.proofs.fac.code_error.Tie as tie
-use Rattle.cards.proofs.fac.code_error.Reads as reads
-use Rattle.cards.proofs.fac.code_error.Lts as lts
-use Rattle.cards.proofs.fac.code_place.Reads as code-place-reads
-use Rattle.words.proofs.leading_of.Reads as leading-of-reads
 
 leading-of-requires : tie.Need-leading-of-requires
 leading-of-requires c κs = search needs

@@ -4,9 +4,6 @@ use Rattle.cards.specs.Fac.{codes}
 use borrow.Author.Needs.{needs}
 use Rattle.cards.proofs.fac.code_place.Statement.{statement}
 use Rattle.cards.proofs.fac.code_place.Tie as tie
-use Rattle.cards.proofs.fac.code_place.Reads as reads
-use Rattle.cards.proofs.fac.code_place.Lts as lts
-use Rattle.words.proofs.is_same.Reads as is-same-reads
 
 slice-aggregate-is-same : tie.Need-slice-aggregate-is-same
 slice-aggregate-is-same c = search needs

@@ -3,11 +3,8 @@ use native.Mathlib.Omega.{arith}
 use mathlib.Core.Path.{sym}
 use Rattle.cards.specs.Fac.{asksOf}
 use Rattle.cards.specs.AskLaws.{core-many, core-none, core-good}
-use borrow.Author.Needs.{needs}
 use Rattle.cards.proofs.fac.core_error.Statement.{statement}
 use Rattle.cards.proofs.fac.core_error.Tie as tie
-use Rattle.cards.proofs.fac.core_error.Reads as reads
-use Rattle.cards.proofs.fac.core_error.Lts as lts
 
 returns : tie.Need-returns
 returns c = sym (core-many (asksOf (c .before .args .f)) (omega arith))

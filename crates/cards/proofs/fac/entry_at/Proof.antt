@@ -13,13 +13,6 @@ use Rattle.cards.specs.EntryLaws.{code-padded, entry-error, entry-long}
 use borrow.Author.Needs.{needs}
 use Rattle.cards.proofs.fac.entry_at.Statement.{statement}
 use Rattle.cards.proofs.fac.entry_at.Tie as tie
-use Rattle.cards.proofs.fac.entry_at.Reads as reads
-use Rattle.cards.proofs.fac.entry_at.Lts as lts
-use Rattle.cards.proofs.error.is_good.Reads as is-good-reads
-use Rattle.cards.proofs.fac.code_error.Reads as code-error-reads
-use Rattle.cards.proofs.fac.known_entry.Reads as known-entry-reads
-use Rattle.cards.proofs.fac.no_entry.Reads as no-entry-reads
-use Rattle.fields.proofs.card.field_at.Reads as field-at-reads
 
 field-at-requires : tie.Need-field-at-requires
 field-at-requires c κs = search needs

@@ -1,7 +1,7 @@
 -- `cards::fac::facilities` meets its contract. The loop's invariant: the entries up to place k are good and ask for `asks`, so what all ask for is said by those
 -- after it. Assumes nothing.
 use Prim.Native.Nat.{_+_, _-_, _≤_}
-use mathlib.Core.Path.{_≡_, refl, sym, ap, _∙_}
+use mathlib.Core.Path.{_≡_, sym, ap, _∙_}
 use native.Mathlib.Omega.{arith}
 use lib.ListN.{length, drop}
 use borrow.Author.Tests.{not-true, not-false}
@@ -12,15 +12,6 @@ use Rattle.cards.specs.declared.Facilities.{Facilities}
 use borrow.Author.Needs.{needs}
 use Rattle.cards.proofs.fac.facilities.Statement.{statement}
 use Rattle.cards.proofs.fac.facilities.Tie as tie
-use Rattle.cards.proofs.fac.facilities.Reads as reads
-use Rattle.cards.proofs.fac.facilities.Lts as lts
-use Rattle.cards.proofs.error.is_good.Reads as is-good-reads
-use Rattle.cards.proofs.fac.entry_at.Reads as entry-at-reads
-use Rattle.cards.proofs.fac.no_facilities.Reads as no-facilities-reads
-use Rattle.cards.proofs.fac.none_asked.Reads as none-asked-reads
-use Rattle.cards.proofs.fac.number_at.Reads as number-at-reads
-use Rattle.cards.proofs.fac.with_number.Reads as with-number-reads
-use Rattle.fields.proofs.card.last_field.Reads as last-field-reads
 
 abbrev Inv-loop : tie.InvT-loop
 Inv-loop card last asks₀ k₀ asks k = ((1 ≤ k) × (last + 1 ≡ length (fields card))) × (askedOf (asksOf asks) (drop (k + 1) (fields card)) ≡ askedOf nothing (drop 2 (fields card)))

@@ -6,10 +6,6 @@ use Rattle.words.specs.WordLaws.{number-short}
 use borrow.Author.Needs.{needs}
 use Rattle.cards.proofs.fac.is_channel.Statement.{statement}
 use Rattle.cards.proofs.fac.is_channel.Tie as tie
-use Rattle.cards.proofs.fac.is_channel.Reads as reads
-use Rattle.cards.proofs.fac.is_channel.Lts as lts
-use Rattle.words.proofs.all_of.Reads as all-of-reads
-use Rattle.words.proofs.number.Reads as number-reads
 
 returns : tie.Need-returns
 returns c = rw (lt-ltb (c .before .before .args .code) 3 (c .if1 .taken))

@@ -6,11 +6,6 @@ use Rattle.words.specs.WordLaws.{number-short}
 use borrow.Author.Needs.{needs}
 use Rattle.cards.proofs.fac.is_number.Statement.{statement}
 use Rattle.cards.proofs.fac.is_number.Tie as tie
-use Rattle.cards.proofs.fac.is_number.Reads as reads
-use Rattle.cards.proofs.fac.is_number.Lts as lts
-use Rattle.cards.proofs.fac.most_digits.Reads as most-digits-reads
-use Rattle.words.proofs.all_of.Reads as all-of-reads
-use Rattle.words.proofs.number.Reads as number-reads
 
 most-digits-requires : tie.Need-most-digits-requires
 most-digits-requires c κs = search needs

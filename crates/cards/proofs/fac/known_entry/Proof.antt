@@ -15,16 +15,6 @@ use Rattle.cards.specs.declared.Verdict.the-variants.{Good}
 use borrow.Author.Needs.{needs}
 use Rattle.cards.proofs.fac.known_entry.Statement.{statement}
 use Rattle.cards.proofs.fac.known_entry.Tie as tie
-use Rattle.cards.proofs.fac.known_entry.Reads as reads
-use Rattle.cards.proofs.fac.known_entry.Lts as lts
-use Rattle.cards.proofs.fac.code_place.Reads as code-place-reads
-use Rattle.cards.proofs.fac.is_channel.Reads as is-channel-reads
-use Rattle.cards.proofs.fac.is_number.Reads as is-number-reads
-use Rattle.cards.proofs.fac.no_entry.Reads as no-entry-reads
-use Rattle.cards.proofs.fac.slot_of.Reads as slot-of-reads
-use Rattle.words.proofs.leading_of.Reads as leading-of-reads
-use Rattle.words.proofs.number.Reads as number-reads
-use Rattle.words.proofs.until.Reads as until-reads
 
 leading-of-requires : tie.Need-leading-of-requires
 leading-of-requires c κs = search needs

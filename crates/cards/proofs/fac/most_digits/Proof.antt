@@ -1,11 +1,8 @@
 -- `cards::fac::most_digits` meets its contract, test by test. Assumes nothing.
 use native.Mathlib.Omega.{arith}
 use borrow.Author.Tests.{eq-eqb, ne-eqb}
-use borrow.Author.Needs.{needs}
 use Rattle.cards.proofs.fac.most_digits.Statement.{statement}
 use Rattle.cards.proofs.fac.most_digits.Tie as tie
-use Rattle.cards.proofs.fac.most_digits.Reads as reads
-use Rattle.cards.proofs.fac.most_digits.Lts as lts
 
 returns : tie.Need-returns
 returns c = (rw (eq-eqb (c .before .args .code) 2 (c .if1 .taken)), omega arith)

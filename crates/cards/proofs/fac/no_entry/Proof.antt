@@ -1,11 +1,8 @@
 -- `cards::fac::no_entry` meets its contract. Assumes nothing.
 use mathlib.Core.Path.{refl}
 use Rattle.cards.specs.AskLaws.{entry-alone}
-use borrow.Author.Needs.{needs}
 use Rattle.cards.proofs.fac.no_entry.Statement.{statement}
 use Rattle.cards.proofs.fac.no_entry.Tie as tie
-use Rattle.cards.proofs.fac.no_entry.Reads as reads
-use Rattle.cards.proofs.fac.no_entry.Lts as lts
 
 returns : tie.Need-returns
 returns c = (entry-alone (c .args .verdict) (c .pre), (refl, refl))

@@ -3,9 +3,6 @@ use Rattle.cards.specs.AskLaws.{none-alone}
 use borrow.Author.Needs.{needs}
 use Rattle.cards.proofs.fac.none_asked.Statement.{statement}
 use Rattle.cards.proofs.fac.none_asked.Tie as tie
-use Rattle.cards.proofs.fac.none_asked.Reads as reads
-use Rattle.cards.proofs.fac.none_asked.Lts as lts
-use Rattle.cards.proofs.fac.no_facilities.Reads as no-facilities-reads
 
 no-facilities-requires : tie.Need-no-facilities-requires
 no-facilities-requires c κs = search needs

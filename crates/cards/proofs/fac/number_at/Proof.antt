@@ -4,9 +4,6 @@ use Rattle.cards.specs.AskLaws.{past-md}
 use borrow.Author.Needs.{needs}
 use Rattle.cards.proofs.fac.number_at.Statement.{statement}
 use Rattle.cards.proofs.fac.number_at.Tie as tie
-use Rattle.cards.proofs.fac.number_at.Reads as reads
-use Rattle.cards.proofs.fac.number_at.Lts as lts
-use Rattle.text.proofs.byte_at.Reads as byte-at-reads
 
 cast-result : tie.Need-cast-result
 cast-result c = search needs

@@ -4,8 +4,6 @@ use borrow.Author.Tests.{lt-ltb, le-ltb}
 use borrow.Author.Needs.{needs}
 use Rattle.cards.proofs.fac.slot_of.Statement.{statement}
 use Rattle.cards.proofs.fac.slot_of.Tie as tie
-use Rattle.cards.proofs.fac.slot_of.Reads as reads
-use Rattle.cards.proofs.fac.slot_of.Lts as lts
 
 returns : tie.Need-returns
 returns c = (rw (lt-ltb (c .before .args .code) 3 (c .if1 .taken)), omega arith)

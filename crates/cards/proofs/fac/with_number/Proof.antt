@@ -4,8 +4,6 @@ use Rattle.cards.specs.AskLaws.{set-past-md}
 use borrow.Author.Needs.{needs}
 use Rattle.cards.proofs.fac.with_number.Statement.{statement}
 use Rattle.cards.proofs.fac.with_number.Tie as tie
-use Rattle.cards.proofs.fac.with_number.Reads as reads
-use Rattle.cards.proofs.fac.with_number.Lts as lts
 
 returns : tie.Need-returns
 returns c = rw (c .if1 .taken)

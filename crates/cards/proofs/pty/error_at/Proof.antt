@@ -12,11 +12,6 @@ use Rattle.cards.specs.declared.Verdict.the-variants.{Wrong}
 use borrow.Author.Needs.{needs}
 use Rattle.cards.proofs.pty.error_at.Statement.{statement}
 use Rattle.cards.proofs.pty.error_at.Tie as tie
-use Rattle.cards.proofs.pty.error_at.Reads as reads
-use Rattle.cards.proofs.pty.error_at.Lts as lts
-use Rattle.cards.proofs.pty.field_error.Reads as field-error-reads
-use Rattle.cards.proofs.pty.length_error.Reads as length-error-reads
-use Rattle.fields.proofs.card.field_at.Reads as field-at-reads
 
 field-at-requires : tie.Need-field-at-requires
 field-at-requires c κs = search needs

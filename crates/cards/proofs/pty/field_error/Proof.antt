@@ -1,19 +1,13 @@
 -- `cards::pty::field_error` meets its contract: the table's numbers are its columns, and one law for each way out. Assumes nothing.
 use native.Mathlib.Omega.{arith}
-use Prim.Native.Nat.{ℕ}
 use mathlib.Core.Path.{sym, ap, _∙_}
 use Rattle.cards.specs.Pty.{rules, ruleAt}
-use Rattle.cards.specs.PtyLaws.{least-at, most-at, too-short, too-long, right, wrong, rule-none, none-empty, none-long}
+use Rattle.cards.specs.PtyLaws.{least-at, most-at, too-short, too-long, right, wrong, none-empty, none-long}
 use Rattle.cards.specs.declared.CardError.{CardError}
 use Rattle.cards.specs.declared.Verdict.the-variants.{Wrong}
 use borrow.Author.Needs.{needs}
 use Rattle.cards.proofs.pty.field_error.Statement.{statement}
 use Rattle.cards.proofs.pty.field_error.Tie as tie
-use Rattle.cards.proofs.pty.field_error.Reads as reads
-use Rattle.cards.proofs.pty.field_error.Lts as lts
-use Rattle.cards.proofs.pty.content_error.Reads as content-error-reads
-use Rattle.cards.proofs.pty.is_right.Reads as is-right-reads
-use Rattle.cards.proofs.pty.length_error.Reads as length-error-reads
 
 returns : tie.Need-returns
 returns c = sym (none-empty (c .before .before .before .args .k) (c .before .before .before .args .t .now) (c .before .if1 .taken) (c .if2 .taken))

@@ -10,10 +10,6 @@ use Rattle.cards.specs.PtyLaws.{fromPlace, field-wrong, field-right, fie
 use borrow.Author.Needs.{needs}
 use Rattle.cards.proofs.pty.fields_error.Statement.{statement}
 use Rattle.cards.proofs.pty.fields_error.Tie as tie
-use Rattle.cards.proofs.pty.fields_error.Reads as reads
-use Rattle.cards.proofs.pty.fields_error.Lts as lts
-use Rattle.cards.proofs.error.is_good.Reads as is-good-reads
-use Rattle.cards.proofs.pty.error_at.Reads as error-at-reads
 
 abbrev Inv-loop : tie.InvT-loop
 Inv-loop card k₀ k = (k ≤ 14) × (fromPlace k (fields card) ≡ fieldsError (fields card))

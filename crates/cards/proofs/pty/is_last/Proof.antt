@@ -1,10 +1,7 @@
 -- `cards::pty::is_last` meets its contract, test by test. Assumes nothing.
 use borrow.Author.Tests.{eq-eqb, ne-eqb}
-use borrow.Author.Needs.{needs}
 use Rattle.cards.proofs.pty.is_last.Statement.{statement}
 use Rattle.cards.proofs.pty.is_last.Tie as tie
-use Rattle.cards.proofs.pty.is_last.Reads as reads
-use Rattle.cards.proofs.pty.is_last.Lts as lts
 
 returns : tie.Need-returns
 returns c = rw (eq-eqb (c .before .args .letter) 90 (c .if1 .taken))

@@ -4,10 +4,6 @@ use Rattle.cards.specs.PriorityLaws.{hyphen-first, no-hyphen}
 use borrow.Author.Needs.{needs}
 use Rattle.cards.proofs.pty.is_program_name.Statement.{statement}
 use Rattle.cards.proofs.pty.is_program_name.Tie as tie
-use Rattle.cards.proofs.pty.is_program_name.Reads as reads
-use Rattle.cards.proofs.pty.is_program_name.Lts as lts
-use Rattle.text.proofs.byte_at.Reads as byte-at-reads
-use Rattle.words.proofs.all_of.Reads as all-of-reads
 
 byte-at-requires : tie.Need-byte-at-requires
 byte-at-requires c κs = search needs

@@ -6,13 +6,6 @@ use Rattle.cards.specs.PtyLaws.{missed}
 use borrow.Author.Needs.{needs}
 use Rattle.cards.proofs.pty.is_right.Statement.{statement}
 use Rattle.cards.proofs.pty.is_right.Tie as tie
-use Rattle.cards.proofs.pty.is_right.Reads as reads
-use Rattle.cards.proofs.pty.is_right.Lts as lts
-use Rattle.cards.proofs.pty.is_program_name.Reads as is-program-name-reads
-use Rattle.cards.proofs.pty.priority.Reads as priority-reads
-use Rattle.words.proofs.all_in.Reads as all-in-reads
-use Rattle.words.proofs.all_of.Reads as all-of-reads
-use Rattle.words.proofs.is_same.Reads as is-same-reads
 
 all-of-requires : tie.Need-all-of-requires
 all-of-requires c κs = search needs

@@ -6,9 +6,6 @@ use Rattle.words.specs.WordLaws.{number-short}
 use borrow.Author.Needs.{needs}
 use Rattle.cards.proofs.pty.precedence_of.Statement.{statement}
 use Rattle.cards.proofs.pty.precedence_of.Tie as tie
-use Rattle.cards.proofs.pty.precedence_of.Reads as reads
-use Rattle.cards.proofs.pty.precedence_of.Lts as lts
-use Rattle.words.proofs.number.Reads as number-reads
 
 returns : tie.Need-returns
 returns c = rw (eq-eqb _ 0 (c .if1 .taken))

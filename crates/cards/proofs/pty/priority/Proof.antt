@@ -11,13 +11,6 @@ use Rattle.cards.specs.PriorityLaws.{lettered, short, no-digits, sequenc
 use borrow.Author.Needs.{needs}
 use Rattle.cards.proofs.pty.priority.Statement.{statement}
 use Rattle.cards.proofs.pty.priority.Tie as tie
-use Rattle.cards.proofs.pty.priority.Reads as reads
-use Rattle.cards.proofs.pty.priority.Lts as lts
-use Rattle.cards.proofs.pty.no_priority.Reads as no-priority-reads
-use Rattle.cards.proofs.pty.rank.Reads as rank-reads
-use Rattle.text.proofs.is_letter.Reads as is-letter-reads
-use Rattle.words.proofs.all_of.Reads as all-of-reads
-use Rattle.words.proofs.number.Reads as number-reads
 
 no-priority-requires : tie.Need-no-priority-requires
 no-priority-requires c κs = search needs

@@ -9,10 +9,6 @@ use Rattle.cards.specs.Pty.{priorityOf}
 use borrow.Author.Needs.{needs}
 use Rattle.cards.proofs.pty.priority_at.Statement.{statement}
 use Rattle.cards.proofs.pty.priority_at.Tie as tie
-use Rattle.cards.proofs.pty.priority_at.Reads as reads
-use Rattle.cards.proofs.pty.priority_at.Lts as lts
-use Rattle.cards.proofs.pty.priority.Reads as priority-reads
-use Rattle.fields.proofs.card.field_at.Reads as field-at-reads
 
 field-at-requires : tie.Need-field-at-requires
 field-at-requires c κs = search needs

@@ -5,13 +5,6 @@ use Rattle.cards.specs.PriorityLaws.{rank-letter, rank-long, rank-digits
 use borrow.Author.Needs.{needs}
 use Rattle.cards.proofs.pty.rank.Statement.{statement}
 use Rattle.cards.proofs.pty.rank.Tie as tie
-use Rattle.cards.proofs.pty.rank.Reads as reads
-use Rattle.cards.proofs.pty.rank.Lts as lts
-use Rattle.cards.proofs.pty.is_last.Reads as is-last-reads
-use Rattle.cards.proofs.pty.no_priority.Reads as no-priority-reads
-use Rattle.cards.proofs.pty.precedence_of.Reads as precedence-of-reads
-use Rattle.text.proofs.is_letter.Reads as is-letter-reads
-use Rattle.words.proofs.all_of.Reads as all-of-reads
 
 is-letter-requires : tie.Need-is-letter-requires
 is-letter-requires c κs = search needs
