@@ -1,3 +1,4 @@
 pub mod Writing
 pub mod PutLaws
 pub mod CheckLaws
+pub mod Back

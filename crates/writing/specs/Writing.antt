@@ -6,6 +6,7 @@ use lib.Dec.{eqb, ltb, leb}
 use lib.ListN.{length, getD, drop}
 use Rattle.numbers.specs.Quoted.{byte, bytes}
 use Rattle.numbers.specs.declared.Refusal.the-variants.{NoRoom, WrongRequest}
+use Rattle.text.specs.Class.{isLetter}
 use Rattle.text.specs.Writing.{twoText, decimalText}
 use Rattle.fields.specs.Fields.{spaceless}
 use Rattle.fields.specs.Deck.{lf}
@@ -114,8 +115,9 @@ numbersFit k (n ∷ ns) = ltb n (limit k) && numbersFit (suc k) ns
 abbrev pub namesFormed : Request → Bool
 namesFormed r = formed 6 (r .id) && (formed 12 (r .program) && (formed 6 (r .medium) && formed 6 (r .library)))
 
+-- the priority's parts and the minutes are ones that a card can hold
 abbrev pub rangesGood : Request → Bool
-rangesGood r = ltb (r .sequence) 64 && (ltb (r .precedence) 64 && ltb (r .minutes) 10000)
+rangesGood r = isLetter (r .letter) && (ltb (r .sequence) 64 && (ltb (r .precedence) 64 && ltb (r .minutes) 10000))
 
 -- 13: "request to write against a field, entry, 14 or 27 rule above"
 unfoldable pub takes : Request → Bool

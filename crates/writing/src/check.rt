@@ -102,6 +102,9 @@ fn are_numbers(f: Facilities) -> bool
 fn are_ranges(r: Request) -> bool
     ensures { λ b. ⌜ b ≡ rangesGood r ⌝ }
 {
+    if !text::is_letter(r.letter) {
+        return false;
+    }
     if 63 < r.sequence {
         return false;
     }
