@@ -2,3 +2,5 @@ pub mod Writing
 pub mod PutLaws
 pub mod CheckLaws
 pub mod Back
+pub mod Again
+pub mod Round

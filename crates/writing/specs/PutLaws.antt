@@ -108,7 +108,7 @@ module _ (r : Request) where
   pub both-left : length library ≡ 0 → length store ≡ 0 → length (trimmed (ptyFields r)) ≡ 12
   both-left z y = counted ∙ rw (front-none library z, front-none store y) refl
 
-  some-written : 0 < length (trimmed (ptyFields r))
+  pub some-written : 0 < length (trimmed (ptyFields r))
   some-written = omega (arith, counted)
 
   -- the card starts with the first field
