@@ -13,7 +13,7 @@ use borrow.Author.Tests.{le-ltb, lt-ltb, ne-eqb, leb-true, eqb-true}
 use Rattle.numbers.specs.Tests.{by-bool, never, both}
 use Rattle.text.specs.Class.{isDigit, isLetter}
 use Rattle.words.specs.Words.{every, value, leading, isnt}
-use Rattle.words.specs.WordLaws.{leading-front, value-below}
+use Rattle.words.specs.WordLaws.{leading-front, tens, value-below}
 use Rattle.fields.specs.Fields.{padded}
 use Rattle.fields.specs.FieldLaws.{rest-is}
 use Rattle.cards.specs.Errors.{good, errorIf}
@@ -164,20 +164,25 @@ unfolding entryOf formError
 entry-error t Good is h = never refl h
 entry-error t (Wrong e) is h = rw (← is)
 
--- a good entry's number is below 100, but that of MD
-pub small-number : (t : List ℕ) → formError t ≡ Good → (slotOf t ≡ 2 → ⊥) → value (numberText t) < 100
+-- a good entry's number is a good one
+pub good-number : (t : List ℕ) → formError t ≡ Good → numberGood (codeOf t) (numberText t) ≡ true
 unfolding formError
-small-number t e n =
+good-number t e =
     let k = or-else-none (codeError t) (errorIf (not (entryGood (codeOf t) t)) WrongEntry) e in
     by-bool (entryGood (codeOf t) t)
     (λ g. let p = both (ltb (slashAt t) (length t)) (channelGood (codeOf t) (channelText t) && numberGood (codeOf t) (numberText t)) g in
-    let q = both (channelGood (codeOf t) (channelText t)) (numberGood (codeOf t) (numberText t)) (p .1) in
-    two-digits (codeOf t) (numberText t) (λ i. n (rw i)) (q .1))
+    both (channelGood (codeOf t) (channelText t)) (numberGood (codeOf t) (numberText t)) (p .1) .1)
     (λ g. not-good (rw g at (k .1)))
-  where
-    two-digits : (code : ℕ) (s : List ℕ) → (code ≡ 2 → ⊥) → numberGood code s ≡ true → value s < 100
-    two-digits code s n g =
-        let p = both (leb (length s) (most code)) (every isDigit s && leb 1 (value s)) g in
-        let d = both (every isDigit s) (leb 1 (value s)) (p .1) .0 in
-        let l : length s ≤ 2 = rw (ne-eqb code 2 n) at (leb-true (length s) (most code) (p .0)) in
-        value-below 2 s d l
+
+-- below ten to as many digits as it may have
+pub number-below : (code : ℕ) (s : List ℕ) → numberGood code s ≡ true → value s < tens (most code)
+number-below code s g =
+    let p = both (leb (length s) (most code)) (every isDigit s && leb 1 (value s)) g in
+    value-below (most code) s (both (every isDigit s) (leb 1 (value s)) (p .1) .0) (leb-true (length s) (most code) (p .0))
+
+-- so below 100, but that of MD
+pub small-number : (t : List ℕ) → formError t ≡ Good → (slotOf t ≡ 2 → ⊥) → value (numberText t) < 100
+small-number t e n =
+    let b = number-below (codeOf t) (numberText t) (good-number t e) in
+    let c : codeOf t ≡ 2 → ⊥ = λ i. n (rw i) in
+    rw (ne-eqb (codeOf t) 2 c) at b

@@ -1,13 +1,13 @@
 -- Written FAC entries read back: each entry's code, logical channel and number, and what all of them ask for. Assumes nothing.
-use Prim.Native.Nat.{ℕ, zero, suc, _+_, _-_, _*_, _/_, _%_, _≤_, _<_}
-use mathlib.Core.Path.{_≡_, refl, sym, ap, _∙_}
-use mathlib.Core.Bool.{Bool, true, false, cond, _&&_, not}
+use Prim.Native.Nat.{ℕ, zero, suc, _+_, _-_, _/_, _%_, _≤_, _<_}
+use mathlib.Core.Path.{_≡_, refl, ap, _∙_}
+use mathlib.Core.Bool.{Bool, true, false, cond}
 use mathlib.Core.Logic.{⊎-elim}
 use mathlib.Core.List.{List, [], _∷_, _++_}
 use native.Mathlib.Nat.{eq-zero-or-pos}
 use native.Mathlib.Omega.{arith}
-use lib.Dec.{eqb, ltb, leb, eqb·suc-zero}
-use lib.ListN.{length, getD, drop, length-append, set, replicate}
+use lib.Dec.{eqb, ltb, eqb·suc-zero}
+use lib.ListN.{length, getD, length-append, set, replicate}
 use lib.Seq.{drop-append-seam, drop-append-add, append-snoc, getD-at, set-at}
 use borrow.Author.Tests.{ne-eqb, lt-ltb, le-ltb, le-leb, eqb-true, eqb-false, ltb-true}
 use Rattle.numbers.specs.Tests.{by-bool, never, both}
@@ -159,8 +159,8 @@ entered-back k n h p l =
       at = slot-back code ch (decimalText n) (f .0) (w .0) (codeAt k) (f .1) (code-low k h) (f .2) (channel-good k h) g ∙ ap (slot (codeAt k)) (w .1) ∙ slot-at k;
       number = number-of-back code ch (decimalText n) (f .0) (w .0) (codeAt k) (f .1) (code-low k h) (f .2) (channel-good k h) g ∙ number-back n;
       bytes =
-        every-append plain code (ch ++ (47 ∷ decimalText n)) (every-weaker isLetter plain letter-plain code (f .0))
-        (every-append plain ch (47 ∷ decimalText n) (every-weaker isDigit plain digit-plain ch (w .0)) (rw slash-plain (every-weaker isDigit plain digit-plain (decimalText n) (number-digits n))));
+          every-append plain code (ch ++ (47 ∷ decimalText n)) (every-weaker isLetter plain letter-plain code (f .0))
+          (every-append plain ch (47 ∷ decimalText n) (every-weaker isDigit plain digit-plain ch (w .0)) (rw slash-plain (every-weaker isDigit plain digit-plain (decimalText n) (number-digits n))));
     }
 
 -- all entries
@@ -173,10 +173,10 @@ first-entry : (asks ns whole : List ℕ) (k n : ℕ) → Entered k n → getD as
 first-entry asks ns whole k n e z p a =
     let s : allEntered (set asks (slotOf (entryText k n)) (value (numberText (entryText k n)))) (entryTexts (suc k) ns) ≡ whole = rw (e .at, e .number) (a .sum) in
     record {
-  right = rw (ne-eqb n 0 p, e .form, e .at, e .number, z) (a .right);
-  sum = rw (ne-eqb n 0 p) s;
-  bytes = rw (ne-eqb n 0 p) (e .bytes, a .bytes);
-}
+      right = rw (ne-eqb n 0 p, e .form, e .at, e .number, z) (a .right);
+      sum = rw (ne-eqb n 0 p) s;
+      bytes = rw (ne-eqb n 0 p) (e .bytes, a .bytes);
+    }
 
 entries-from : (ns : List ℕ) (k : ℕ) (done : List ℕ) → length done ≡ k → k + length ns ≡ slots → numbersFit k ns ≡ true
     → AllEntered (done ++ replicate (length ns) 0) ns k (done ++ ns)

@@ -2,14 +2,14 @@
 -- digits, hyphens and slashes between commas and a period, so that reading takes it apart where it was put together. Assumes nothing.
 use Prim.Native.Nat.{ℕ, zero, suc, _+_, _-_, _*_, _/_, _%_, _≤_, _<_}
 use mathlib.Core.Path.{_≡_, refl, sym, ap, _∙_}
-use mathlib.Core.Bool.{Bool, true, false, cond, _&&_, _||_}
+use mathlib.Core.Bool.{Bool, true, false, cond, _||_, not}
 use mathlib.Core.List.{List, [], _∷_, _++_, append-nil}
 use mathlib.Core.Logic.{⊎-elim}
 use native.Mathlib.Nat.{eq-zero-or-pos}
 use native.Mathlib.Omega.{arith}
-use lib.Dec.{eqb, leb}
+use lib.Dec.{eqb}
 use lib.ListN.{length, getD}
-use borrow.Author.Tests.{eq-eqb, ne-eqb, eqb-true, eqb-false, le-leb, lt-leb, leb-true}
+use borrow.Author.Tests.{eq-eqb, ne-eqb, eqb-true, lt-leb}
 use Rattle.numbers.specs.Quoted.{byte}
 use Rattle.numbers.specs.Tests.{by-bool, never, both}
 use Rattle.text.specs.Class.{isDigit, isLetter, isAlnum}
@@ -23,7 +23,7 @@ use Rattle.fields.specs.FieldLaws.{fields-period, fields-comma, fields-other, b
 use Rattle.fields.specs.Deck.{lf}
 use Rattle.fields.specs.Groups.{NoLf}
 use Rattle.cards.specs.Errors.{orElse}
-use Rattle.cards.specs.Pty.{Rule, fieldError, fieldsFrom, priorityOf, ranked, lastOfAll}
+use Rattle.cards.specs.Pty.{Rule, oneOf, programName, fieldError, fieldsFrom, priorityOf, ranked, lastOfAll}
 use Rattle.cards.specs.PriorityLaws.{lettered, sequenced, rank-good, rank-last}
 use Rattle.cards.specs.Group.{mark}
 use Rattle.cards.specs.declared.Priority.{Priority}
@@ -85,6 +85,14 @@ listed-plain [] p b h = never h refl
 listed-plain (x ∷ ls) p b h =
     let q = both (plain x) (every plain ls) p in
     by-bool (eqb b x) (λ e. rw (eqb-true b x e) (q .0)) (λ e. listed-plain ls (q .1) b (rw e at h))
+
+-- a text of listed letters, and a program's name
+pub listed : (ls s : List ℕ) → every plain ls ≡ true → oneOf ls s ≡ true → every plain s ≡ true
+listed ls s p h = every-weaker (has ls) plain (listed-plain ls p) s h
+
+pub named : (s : List ℕ) → programName s ≡ true → every plain s ≡ true
+unfolding programName
+named s h = every-weaker (passes Hyphened) plain hyphened-plain s (both (not (eqb (getD s 0 0) 45)) (every (passes Hyphened) s) h .1)
 
 -- fields of such bytes
 abbrev pub AllPlain : List (List ℕ) → Type 0

@@ -4,3 +4,4 @@ pub mod CheckLaws
 pub mod Back
 pub mod Again
 pub mod Round
+pub mod Kept

@@ -1,37 +1,34 @@
 -- THE ROUND TRIP: the cards of a request that the writer takes are read as that request. Each field of the written cards is the one that was written,
 -- each is right by its rule, and each part of the request is read back from its field. Assumes nothing.
-use Prim.Native.Nat.{ℕ, zero, suc, _+_, _≤_, _<_}
-use mathlib.Core.Path.{_≡_, refl, sym, ap, _∙_}
-use mathlib.Core.Bool.{Bool, true, false, _&&_, not}
+use Prim.Native.Nat.{ℕ, _≤_, _<_}
+use mathlib.Core.Path.{_≡_, refl, ap, _∙_}
+use mathlib.Core.Bool.{true, false, _&&_}
 use mathlib.Core.List.{List, [], _∷_, _++_}
 use native.Mathlib.Omega.{arith}
-use lib.Dec.{eqb, ltb, leb}
+use lib.Dec.{ltb, leb}
 use lib.ListN.{length, getD, drop}
 use borrow.Author.Tests.{eq-eqb, ltb-true, leb-true}
 use Rattle.numbers.specs.Quoted.{bytes}
 use Rattle.numbers.specs.Tests.{both}
 use Rattle.text.specs.Class.{isDigit, isLetter, isAlnum}
 use Rattle.text.specs.Writing.{decimalText}
-use Rattle.words.specs.Words.{passes, every, has, same, value}
-use Rattle.words.specs.declared.Class.the-variants.{Hyphened}
+use Rattle.words.specs.Words.{same, value}
 use Rattle.fields.specs.Fields.{field, fields, spaceless, padded, isPty, malformed}
 use Rattle.fields.specs.Deck.{lf, cardsOf}
 use Rattle.fields.specs.Groups.{NoLf, first-card}
-use Rattle.cards.specs.Errors.{good, orElse}
+use Rattle.cards.specs.Errors.{good}
 use Rattle.cards.specs.ErrorLaws.{good-is}
-use Rattle.cards.specs.Pty.{rules, ruleAt, fieldsError, priorityOf, programName, oneOf}
+use Rattle.cards.specs.Pty.{rules, ruleAt, fieldsError, priorityOf}
 use Rattle.cards.specs.PtyLaws.{right-at, good-field}
 use Rattle.cards.specs.Fac.{nothing, entriesError, allEntered, coreError, facilitiesOf, asksOf}
-use Rattle.cards.specs.Group.{isFac, mark, ptyError, facError, frontError, orderedError, asked, entriesOf, requestOf, readCards, readGroup}
+use Rattle.cards.specs.Group.{isFac, mark, ptyError, facError, orderedError, asked, entriesOf, requestOf, readCards, readGroup}
 use Rattle.cards.specs.GroupLaws.{pty-fields, front-good}
 use Rattle.cards.specs.declared.Priority.{Priority}
 use Rattle.cards.specs.declared.Request.{Request}
-use Rattle.cards.specs.declared.Reading.{Reading}
-use Rattle.cards.specs.declared.Verdict.{Verdict}
 use Rattle.cards.specs.declared.Verdict.the-variants.{Good}
 use Rattle.writing.specs.Writing.{priorityText, markText, ptyFields, trimmed, facFields, cardText, ptyText, facText, textOf, formed, numbersFit, namesFormed, rangesGood, takes, fits}
 use Rattle.writing.specs.PutLaws.{trimmed-at, some-written}
-use Rattle.writing.specs.Back.{plain, AllPlain, fields-back, card-good, card-line, trimmed-plain, trimmed-few, trimmed-error, every-weaker, alnum-plain, digit-plain, hyphened-plain, listed-plain, mark-back, name-back, number-back, number-digits, priority-back, priority-plain}
+use Rattle.writing.specs.Back.{plain, AllPlain, fields-back, card-good, card-line, trimmed-plain, trimmed-few, trimmed-error, every-weaker, alnum-plain, digit-plain, listed, named, mark-back, name-back, number-back, number-digits, priority-back, priority-plain}
 use Rattle.writing.specs.Again.{entries-back}
 
 pub same-self : (s : List ℕ) → same s s ≡ true
@@ -82,32 +79,52 @@ module _ (r : Request) (t : Taken r) where
   content : (k : ℕ) → k < 14 → ruleAt k .content (getD (ptyFields r) k []) ≡ true
   content k h = good-field k (ruleAt k) (getD (ptyFields r) k []) (right-at (ptyFields r) (t .fields) k h) .1 .1
 
-  listed : (ls s : List ℕ) → every plain ls ≡ true → oneOf ls s ≡ true → every plain s ≡ true
-  listed ls s p h = every-weaker (has ls) plain (listed-plain ls p) s h
-
-  named : (s : List ℕ) → programName s ≡ true → every plain s ≡ true
-  unfolding programName
-  named s h = every-weaker (passes Hyphened) plain hyphened-plain s (both (not (eqb (getD s 0 0) 45)) (every (passes Hyphened) s) h .1)
-
   -- so that all are letters, digits, hyphens and slashes
   pub pty-plain : AllPlain (ptyFields r)
   unfolding ptyFields rules isAlnum isLetter isDigit priorityText
-  pty-plain =
-      (every-weaker isAlnum plain alnum-plain (spaceless (r .id)) (content 0 (omega arith)),
-      (refl,
-      (refl,
-      (listed (bytes "S") (markText (r .rush)) refl (content 3 (omega arith)),
-      (named (spaceless (r .program)) (content 4 (omega arith)),
-      (listed (bytes "I") (markText (r .immediate)) refl (content 5 (omega arith)),
-      (listed (bytes "TAC") (markText (r .device)) refl (content 6 (omega arith)),
-      (every-weaker isAlnum plain alnum-plain (spaceless (r .medium)) (content 7 (omega arith)),
-      (listed (bytes "SP") (markText (r .mode)) refl (content 8 (omega arith)),
-      (priority-plain (r .sequence) (r .letter) (r .precedence) (t .sequence) (t .precedence) (t .letter),
-      (listed (bytes "PC") (markText (r .mix)) refl (content 10 (omega arith)),
-      (every-weaker isDigit plain digit-plain (decimalText (r .minutes)) (number-digits (r .minutes)),
-      (listed (bytes "TACZ") (markText (r .store)) refl (content 12 (omega arith)),
-      (every-weaker isAlnum plain alnum-plain (spaceless (r .library)) (content 13 (omega arith)),
-      tt))))))))))))))
+  pty-plain = (
+    every-weaker isAlnum plain alnum-plain (spaceless (r .id)) (content 0 (omega arith)),
+    (
+      refl,
+      (
+        refl,
+        (
+          listed (bytes "S") (markText (r .rush)) refl (content 3 (omega arith)),
+          (
+            named (spaceless (r .program)) (content 4 (omega arith)),
+            (
+              listed (bytes "I") (markText (r .immediate)) refl (content 5 (omega arith)),
+              (
+                listed (bytes "TAC") (markText (r .device)) refl (content 6 (omega arith)),
+                (
+                  every-weaker isAlnum plain alnum-plain (spaceless (r .medium)) (content 7 (omega arith)),
+                  (
+                    listed (bytes "SP") (markText (r .mode)) refl (content 8 (omega arith)),
+                    (
+                      priority-plain (r .sequence) (r .letter) (r .precedence) (t .sequence) (t .precedence) (t .letter),
+                      (
+                        listed (bytes "PC") (markText (r .mix)) refl (content 10 (omega arith)),
+                        (
+                          every-weaker isDigit plain digit-plain (decimalText (r .minutes)) (number-digits (r .minutes)),
+                          (
+                            listed (bytes "TACZ") (markText (r .store)) refl (content 12 (omega arith)),
+                            (
+                              every-weaker isAlnum plain alnum-plain (spaceless (r .library)) (content 13 (omega arith)),
+                              tt,
+                            ),
+                          ),
+                        ),
+                      ),
+                    ),
+                  ),
+                ),
+              ),
+            ),
+          ),
+        ),
+      ),
+    ),
+  )
 
   -- THE PTY CARD is its fields, the empty ones at the end left off
   abbrev kept : List (List ℕ)

@@ -5,9 +5,6 @@ use borrow.Author.Tests.{not-true, not-false, lt-ltb, le-ltb}
 use borrow.Author.Needs.{needs}
 use Rattle.writing.proofs.check.are_ranges.Statement.{statement}
 use Rattle.writing.proofs.check.are_ranges.Tie as tie
-use Rattle.writing.proofs.check.are_ranges.Reads as reads
-use Rattle.writing.proofs.check.are_ranges.Lts as lts
-use Rattle.text.proofs.is_letter.Reads as is-letter-reads
 
 is-letter-requires : tie.Need-is-letter-requires
 is-letter-requires c κs = search needs
