@@ -101,14 +101,14 @@ fn priority(t: &[u8]) -> Priority
     if !words::all_of(Class::Digit, s) {
         return no_priority();
     }
-    let n = words::number(s);
-    if n < 1 {
+    let sequence = words::number(s);
+    if sequence < 1 {
         return no_priority();
     }
-    if 63 < n {
+    if 63 < sequence {
         return no_priority();
     }
-    rank(n as u8, t[2], &t[3..])
+    rank(sequence as u8, t[2], &t[3..])
 }
 
 // Whether a field's content is right.

@@ -100,14 +100,14 @@ pub fn is_same(s: &[u8], t: &[u8]) -> bool
 pub fn until(s: &[u8], b: u8) -> usize
     ensures { λ r. ⌜ r ≡ length (leading (isnt b) (now (s .entry))) ⌝ }
 {
-    let mut i: usize = 0;
-    while i < s.len() {
-        if s[i] == b {
-            return i;
+    let mut at: usize = 0;
+    while at < s.len() {
+        if s[at] == b {
+            return at;
         }
-        i += 1;
+        at += 1;
     }
-    i
+    at
 }
 
 // What a digit is worth.

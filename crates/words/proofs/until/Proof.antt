@@ -24,19 +24,19 @@ shared-slice-read-if1 : tie.Need-shared-slice-read-if1 Inv-loop μ-loop
 shared-slice-read-if1 c = search needs
 
 returns : tie.Need-returns Inv-loop μ-loop
-returns c = sym (leading-stop (isnt (c .before .before .before .before .args .b)) (c .before .before .before .before .args .s .now) (c .before .before .before .loop .i) (c .before .before .loop-test .taken) (ap not (eq-eqb _ _ (c .if1 .taken)))) ∙ c .before .before .before .loop .inv .1
+returns c = sym (leading-stop (isnt (c .before .before .before .before .args .b)) (c .before .before .before .before .args .s .now) (c .before .before .before .loop .at) (c .before .before .loop-test .taken) (ap not (eq-eqb _ _ (c .if1 .taken)))) ∙ c .before .before .before .loop .inv .1
 
-add-i : tie.Need-add-i Inv-loop μ-loop
-add-i c = search needs
+add-at : tie.Need-add-at Inv-loop μ-loop
+add-at c = search needs
 
 loop-less : tie.Need-loop-less Inv-loop μ-loop
 loop-less c = search needs
 
 loop-again : tie.Need-loop-again Inv-loop μ-loop
-loop-again c = (omega arith, sym (leading-pass (isnt (c .before .before .before .before .args .b)) (c .before .before .before .before .args .s .now) (c .before .before .before .loop .i) (c .before .before .loop-test .taken) (ap not (ne-eqb _ _ (c .if1 .left)))) ∙ c .before .before .before .loop .inv .1)
+loop-again c = (omega arith, sym (leading-pass (isnt (c .before .before .before .before .args .b)) (c .before .before .before .before .args .s .now) (c .before .before .before .loop .at) (c .before .before .loop-test .taken) (ap not (ne-eqb _ _ (c .if1 .left)))) ∙ c .before .before .before .loop .inv .1)
 
 returns-2 : tie.Need-returns-2 Inv-loop μ-loop
-returns-2 c = sym (leading-end (isnt (c .before .before .args .b)) (c .before .before .args .s .now) (c .before .loop .i) (c .loop-test .left)) ∙ c .before .loop .inv .1
+returns-2 c = sym (leading-end (isnt (c .before .before .args .b)) (c .before .before .args .s .now) (c .before .loop .at) (c .loop-test .left)) ∙ c .before .loop .inv .1
 
 pub until-spec : {M : Type 1} → statement M
 until-spec =
@@ -47,7 +47,7 @@ until-spec =
     loop-holds
     shared-slice-read-if1
     returns
-    add-i
+    add-at
     loop-less
     loop-again
     returns-2)
