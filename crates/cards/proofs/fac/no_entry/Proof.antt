@@ -1,0 +1,11 @@
+-- `cards::fac::no_entry` meets its contract. Assumes nothing.
+use mathlib.Core.Path.{refl}
+use Rattle.cards.specs.AskLaws.{entry-alone}
+use Rattle.cards.proofs.fac.no_entry.Statement.{statement}
+use Rattle.cards.proofs.fac.no_entry.Tie as tie
+
+returns : tie.Need-returns
+returns c = (entry-alone (c .args .verdict) (c .pre), (refl, refl))
+
+pub no-entry-spec : {M : Type 1} → statement M
+no-entry-spec = tie.close (tie.spec returns)

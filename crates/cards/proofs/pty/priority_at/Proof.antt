@@ -1,0 +1,36 @@
+-- `cards::pty::priority_at` meets its contract: the field was gathered whole. Assumes nothing.
+use native.Mathlib.Omega.{arith}
+use mathlib.Core.Path.{sym, ap, _∙_}
+use lib.Seq.{length-take-le}
+use Rattle.fields.specs.Fields.{field}
+use Rattle.fields.specs.FieldLaws.{whole, within}
+use Rattle.fields.specs.declared.Field.{Field}
+use Rattle.cards.specs.Pty.{priorityOf}
+use borrow.Author.Needs.{needs}
+use Rattle.cards.proofs.pty.priority_at.Statement.{statement}
+use Rattle.cards.proofs.pty.priority_at.Tie as tie
+
+field-at-requires : tie.Need-field-at-requires
+field-at-requires c κs = search needs
+
+array-share-prefix-bytes : tie.Need-array-share-prefix-bytes
+array-share-prefix-bytes c = omega (arith, within (c .before .field-at .result) (field (c .before .before .before .args .card .now) 9) (c .before .field-at .ensures), ap (λ (f : Field). f .len) (c .before .field-at .ensures), c .before .before .before .pre)
+
+slice-aggregate-priority : tie.Need-slice-aggregate-priority
+slice-aggregate-priority c = sym (length-take-le (c .before .before .field-at .result .len) (c .before .before .field-at .result .bytes) (omega (arith, within (c .before .before .field-at .result) (field (c .before .before .before .before .args .card .now) 9) (c .before .before .field-at .ensures), ap (λ (f : Field). f .len) (c .before .before .field-at .ensures), c .before .before .before .before .pre)))
+
+priority-requires : tie.Need-priority-requires
+priority-requires c κs = search needs
+
+returns : tie.Need-returns
+returns c = c .priority .ensures ∙ ap priorityOf (whole (c .before .before .before .field-at .result) (field (c .before .before .before .before .before .args .card .now) 9) (c .before .before .before .field-at .ensures) (omega (arith, ap (λ (f : Field). f .len) (c .before .before .before .field-at .ensures), c .before .before .before .before .before .pre)))
+
+pub priority-at-spec : {M : Type 1} → statement M
+priority-at-spec =
+    tie.close
+    (tie.spec
+    field-at-requires
+    array-share-prefix-bytes
+    slice-aggregate-priority
+    priority-requires
+    returns)

@@ -1,0 +1,93 @@
+-- Document 01's card errors: the number of each, and the first of several.
+use Prim.Native.Nat.{ℕ}
+use mathlib.Core.Bool.{Bool, true, false, cond}
+use mathlib.Core.List.{List, [], _∷_}
+use Rattle.cards.specs.declared.CardError.{CardError}
+use Rattle.cards.specs.declared.CardError.the-variants.{
+  NotPty,
+  PtyMalformed,
+  IdLength,
+  WrongRush,
+  WrongLength,
+  WrongContent,
+  WrongCount,
+  NoFac,
+  SecondFac,
+  OtherCard,
+  OtherId,
+  FacMalformed,
+  LongCode,
+  UnknownCode,
+  WrongEntry,
+  TooMuchCore,
+  NoIb,
+  InSchedule,
+  SamePriority,
+  SameSequence,
+  ScheduleFull,
+}
+use Rattle.cards.specs.declared.Verdict.{Verdict}
+use Rattle.cards.specs.declared.Verdict.the-variants.{Good, Wrong}
+
+abbrev pub errorNumber : CardError → ℕ
+-- the group's first card isn't PTY
+errorNumber NotPty = 25
+-- PTY card malformed or over 14 fields
+errorNumber PtyMalformed = 17
+-- an ID of wrong length
+errorNumber IdLength = 1
+-- a wrong RUSH
+errorNumber WrongRush = 28
+-- any other wrong length
+errorNumber WrongLength = 18
+-- wrong content
+errorNumber WrongContent = 17
+-- count differs from the cards in the group
+errorNumber WrongCount = 20
+-- second card absent or not FAC
+errorNumber NoFac = 28
+-- the third card is FAC
+errorNumber SecondFac = 22
+-- the third card is anything else
+errorNumber OtherCard = 3
+-- FAC's ID differs
+errorNumber OtherId = 25
+-- FAC malformed
+errorNumber FacMalformed = 12
+-- a code of over two letters
+errorNumber LongCode = 9
+-- an unknown or empty code
+errorNumber UnknownCode = 11
+-- anything else in an entry
+errorNumber WrongEntry = 13
+-- IB plus DB over 28
+errorNumber TooMuchCore = 14
+-- no IB
+errorNumber NoIb = 27
+-- ID in the schedule and not suspended
+errorNumber InSchedule = 26
+-- same priority and precedence as a request there, and no sequence
+errorNumber SamePriority = 31
+-- same sequence as well
+errorNumber SameSequence = 90
+-- schedule full
+errorNumber ScheduleFull = 91
+
+-- nothing is wrong
+abbrev pub good : Verdict → Bool
+good Good = true
+good (Wrong e) = false
+
+-- an error where a test holds
+abbrev pub errorIf : Bool → CardError → Verdict
+errorIf b e = cond b (Wrong e) Good
+
+-- "the first answering" of two
+abbrev pub orElse : Verdict → Verdict → Verdict
+orElse Good v = v
+orElse (Wrong e) v = Wrong e
+
+-- "the first answering" of a list
+abbrev pub firstOf : List Verdict → Verdict
+firstOf [] = Good
+firstOf (v ∷ vs) = orElse v (firstOf vs)

@@ -1,0 +1,223 @@
+// A group of cards: what it asks for, or its first error.
+use crate::Asked;
+use crate::CardError;
+use crate::Facilities;
+use crate::Reading;
+use crate::Request;
+use crate::Verdict;
+use crate::error;
+use crate::fac;
+use crate::pty;
+use fields::card;
+use fields::deck;
+ghost use mathlib.Core.Path.{_≡_};
+ghost use mathlib.Core.Bool.{false};
+ghost use Prim.Native.Nat.{_≤_};
+ghost use lib.ListN.{length};
+ghost use Rattle.words.specs.Words.{same, value};
+ghost use Rattle.fields.specs.Fields.{field, fields, padded};
+ghost use Rattle.fields.specs.Deck.{cardsOf};
+ghost use Rattle.cards.specs.Errors.{good};
+ghost use Rattle.cards.specs.Fac.{asksOf};
+ghost use Rattle.cards.specs.Pty.{fieldsError};
+ghost use Rattle.cards.specs.Group.{mark, ptyError, thirdError, frontError, facOf, requestOf, noRequest, answer, readCards, readGroup};
+
+// The byte of a field that has at most one, or a blank.
+fn mark_at(card: &[u8], k: usize) -> u8
+    ensures { λ r. ⌜ r ≡ mark (field (now (card .entry)) k) ⌝ }
+{
+    let f = card::field_at(card, k);
+    let bytes = f.bytes;
+    bytes[0]
+}
+
+// A name of at most six bytes, padded.
+fn name_at(card: &[u8], k: usize) -> [u8; 6]
+    ensures { λ r. ⌜ r ≡ padded 6 (field (now (card .entry)) k) ⌝ }
+{
+    let f = card::field_at(card, k);
+    let b = f.bytes;
+    [b[0], b[1], b[2], b[3], b[4], b[5]]
+}
+
+// A program's name of at most twelve bytes, padded.
+fn program_at(card: &[u8], k: usize) -> [u8; 12]
+    ensures { λ r. ⌜ r ≡ padded 12 (field (now (card .entry)) k) ⌝ }
+{
+    let f = card::field_at(card, k);
+    f.bytes
+}
+
+// The number in a field of at most six digits.
+fn number_at(card: &[u8], k: usize) -> u32
+    requires { ⌜ length (field (now card) k) ≤ 6 ⌝ }
+    ensures { λ r. ⌜ r ≡ value (field (now (card .entry)) k) ⌝ }
+{
+    let f = card::field_at(card, k);
+    let n = f.len;
+    let bytes = f.bytes;
+    words::number(&bytes[..n])
+}
+
+// The errors of the PTY card by itself.
+fn pty_error(card: &[u8]) -> Verdict
+    ensures { λ r. ⌜ r ≡ ptyError (now (card .entry)) ⌝ }
+{
+    if !card::field_is(card, 1, b"PTY") {
+        return Verdict::Wrong(CardError::NotPty);
+    }
+    if card::is_malformed(card) {
+        return Verdict::Wrong(CardError::PtyMalformed);
+    }
+    if 13 < card::last_field(card) {
+        return Verdict::Wrong(CardError::PtyMalformed);
+    }
+    pty::fields_error(card)
+}
+
+// The FAC card by itself: its first error, or what it asks for.
+fn read_fac(card: &[u8]) -> Asked
+    ensures { λ r. ⌜ r ≡ facOf (now (card .entry)) ⌝ }
+{
+    if card::is_malformed(card) {
+        return fac::none_asked(Verdict::Wrong(CardError::FacMalformed));
+    }
+    let f = fac::facilities(card);
+    let verdict = f.verdict;
+    if !error::is_good(verdict) {
+        return f;
+    }
+    let facilities = f.facilities;
+    let e = fac::core_error(facilities);
+    if !error::is_good(e) {
+        return fac::none_asked(e);
+    }
+    f
+}
+
+// The request of a good PTY card and of what is asked for.
+fn request(card: &[u8], facilities: Facilities) -> Request
+    requires { ⌜ fieldsError (fields (now card)) ≡ Verdict.Good ⌝ }
+    ensures { λ r. ⌜ r ≡ requestOf (now (card .entry)) (asksOf facilities) ⌝ }
+{
+    let p = pty::priority_at(card);
+    let minutes = number_at(card, 11);
+    Request {
+        id: name_at(card, 0),
+        rush: mark_at(card, 3),
+        program: program_at(card, 4),
+        immediate: mark_at(card, 5),
+        device: mark_at(card, 6),
+        medium: name_at(card, 7),
+        mode: mark_at(card, 8),
+        sequence: p.sequence,
+        letter: p.letter,
+        precedence: p.precedence,
+        mix: mark_at(card, 10),
+        minutes,
+        store: mark_at(card, 12),
+        library: name_at(card, 13),
+        facilities,
+    }
+}
+
+// Whether the FAC card has the ID of a good PTY card.
+fn same_id(fac: &[u8], pty: &[u8]) -> bool
+    requires { ⌜ length (field (now pty) 0) ≤ 12 ⌝ }
+    ensures { λ r. ⌜ r ≡ same (field (now (fac .entry)) 0) (field (now (pty .entry)) 0) ⌝ }
+{
+    let f = card::field_at(pty, 0);
+    let n = f.len;
+    let bytes = f.bytes;
+    card::field_is(fac, 0, &bytes[..n])
+}
+
+// The error of a third card.
+fn third_error(third: &[u8]) -> Verdict
+    ensures { λ r. ⌜ r ≡ thirdError 3 (now (third .entry)) ⌝ }
+{
+    if card::field_is(third, 1, b"FAC") {
+        return Verdict::Wrong(CardError::SecondFac);
+    }
+    Verdict::Wrong(CardError::OtherCard)
+}
+
+// The errors of a group of n cards up to the ID of its FAC card.
+fn front_error(n: usize, pty: &[u8], fac: &[u8], third: &[u8]) -> Verdict
+    ensures { λ r. ⌜ r ≡ frontError n (now (pty .entry)) (now (fac .entry)) (now (third .entry)) ⌝ }
+{
+    let e = pty_error(pty);
+    if !error::is_good(e) {
+        return e;
+    }
+    if number_at(pty, 2) as usize != n {
+        return Verdict::Wrong(CardError::WrongCount);
+    }
+    if !card::field_is(fac, 1, b"FAC") {
+        return Verdict::Wrong(CardError::NoFac);
+    }
+    if 2 < n {
+        return third_error(third);
+    }
+    if same_id(fac, pty) {
+        return Verdict::Good;
+    }
+    Verdict::Wrong(CardError::OtherId)
+}
+
+// An error alone.
+fn no_reading(verdict: Verdict) -> Reading
+    requires { ⌜ good verdict ≡ false ⌝ }
+    ensures { λ r. ⌜ r ≡ answer verdict noRequest ⌝ }
+{
+    let request = Request {
+        id: [b' '; 6],
+        rush: b' ',
+        program: [b' '; 12],
+        immediate: b' ',
+        device: b' ',
+        medium: [b' '; 6],
+        mode: b' ',
+        sequence: 0,
+        letter: b' ',
+        precedence: 0,
+        mix: b' ',
+        minutes: 0,
+        store: b' ',
+        library: [b' '; 6],
+        facilities: fac::no_facilities(),
+    };
+    Reading { verdict, request }
+}
+
+// What a group of n cards asks for, or its first error; a second or third card that is absent is empty.
+fn read_cards(n: usize, pty: &[u8], fac: &[u8], third: &[u8]) -> Reading
+    ensures { λ r. ⌜ r ≡ readCards n (now (pty .entry)) (now (fac .entry)) (now (third .entry)) ⌝ }
+{
+    let e = front_error(n, pty, fac, third);
+    if !error::is_good(e) {
+        return no_reading(e);
+    }
+    let f = read_fac(fac);
+    let verdict = f.verdict;
+    if !error::is_good(verdict) {
+        return no_reading(verdict);
+    }
+    let facilities = f.facilities;
+    let request = request(pty, facilities);
+    Reading {
+        verdict: Verdict::Good,
+        request,
+    }
+}
+
+// What a group of cards, as a part of its deck, asks for, or its first error.
+pub fn read_group(group: &[u8]) -> Reading
+    ensures { λ r. ⌜ r ≡ readGroup (cardsOf (now (group .entry))) ⌝ }
+{
+    let n = deck::card_count(group);
+    let pty = deck::card_at(group, 0);
+    let fac = deck::card_at(group, 1);
+    let third = deck::card_at(group, 2);
+    read_cards(n, pty, fac, third)
+}

@@ -1,0 +1,5 @@
+pub mod Fields
+pub mod FieldLaws
+pub mod Deck
+pub mod DeckLaws
+pub mod Groups

@@ -1,0 +1,17 @@
+// Cards as lines of a deck, groups of cards as parts of it, and a card's fields.
+pub mod card;
+pub mod deck;
+
+use numbers::Refusal;
+
+// A field of a card, spaces dropped: its first twelve bytes, blanks behind them, and how long it is.
+pub struct Field {
+    pub bytes: [u8; 12],
+    pub len: usize,
+}
+
+// Where a deck's termination card starts, or why the deck is refused.
+pub enum DeckEnd {
+    At(usize),
+    Refused(Refusal),
+}
