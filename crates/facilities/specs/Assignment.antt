@@ -19,7 +19,7 @@ use Rattle.heads.specs.declared.Given.the-variants.{Nothing}
 use Rattle.heads.specs.Heads.{isGiven, Served}
 use Rattle.heads.specs.Giving.{blank}
 use Rattle.assignable.specs.Assignable.{isFreeOf}
-use Rattle.facilities.specs.declared.Wanted.{Wanted}
+use Rattle.cards.specs.declared.Facilities.{Facilities}
 use Rattle.facilities.specs.declared.KindChannels.{KindChannels}
 use Rattle.facilities.specs.declared.Assigned.{Assigned}
 
@@ -83,7 +83,7 @@ pub record Shaped (a : Assigned) : Type 0 where
 
 -- An assignment: a run of IB blocks and, if DB is asked for, a disjoint run of DB blocks; a drum area if asked for; for each kind, every entry
 -- with logical channel 1-15 on a channel of its own, all its units there; the logical channel 0 entry on any remaining units of that kind.
-pub record IsAssignment (cell : Cell) (wanted : Wanted) (a : Assigned) : Type 0 where
+pub record IsAssignment (cell : Cell) (wanted : Facilities) (a : Assigned) : Type 0 where
   pub shaped : Shaped a
   pub core : Core.Fits (cell .occupancy) (wanted .ib) (wanted .db) (a .ib) (a .db)
   pub drum : Drum.Fits (cell .areas) (drumLength (cell .channels)) (wanted .md) (a .drum)

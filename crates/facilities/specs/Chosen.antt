@@ -7,11 +7,11 @@ use Rattle.core.specs.Core.{Before}
 use Rattle.choice.specs.Choice.{LexLe}
 use Rattle.heads.specs.Heads.{Lowest}
 use Rattle.heads.specs.Giving.{blank}
-use Rattle.facilities.specs.declared.Wanted.{Wanted}
+use Rattle.cards.specs.declared.Facilities.{Facilities}
 use Rattle.facilities.specs.declared.Assigned.{Assigned}
 use Rattle.facilities.specs.Assignment.{Cell, unitKinds, noChannels, channelsOf, freeOf, givenOf, IsAssignment}
 
-pub record Chosen (cell : Cell) (wanted : Wanted) (a : Assigned) : Type 0 where
+pub record Chosen (cell : Cell) (wanted : Facilities) (a : Assigned) : Type 0 where
   pub is : IsAssignment cell wanted a
   -- lowest IB start, then lowest DB start
   pub core : (b : Assigned) → IsAssignment cell wanted b → Before (b .ib) (b .db) (a .ib) (a .db) → ⊥
@@ -27,14 +27,14 @@ abbrev pub nothing : Assigned
 nothing = record { found = false; ib = 0; db = 0; drum = 0; channels = replicate unitKinds noChannels; heads = replicate 256 blank }
 
 -- there is no assignment
-pub record NoAssignment (cell : Cell) (wanted : Wanted) (a : Assigned) : Type 0 where
+pub record NoAssignment (cell : Cell) (wanted : Facilities) (a : Assigned) : Type 0 where
   pub never : (b : Assigned) → IsAssignment cell wanted b → ⊥
   pub blank : a ≡ nothing
 
-abbrev pub Answer : Bool → Cell → Wanted → Assigned → Type 0
+abbrev pub Answer : Bool → Cell → Facilities → Assigned → Type 0
 Answer true = Chosen
 Answer false = NoAssignment
 
 -- the chosen assignment is found, or there is none
-abbrev pub Assigns : Cell → Wanted → Assigned → Type 0
+abbrev pub Assigns : Cell → Facilities → Assigned → Type 0
 Assigns cell wanted a = Answer (a .found) cell wanted a

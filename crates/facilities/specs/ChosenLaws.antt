@@ -26,7 +26,7 @@ use Rattle.heads.specs.Heads.{isGiven, Served}
 use Rattle.heads.specs.HeadsOne.{units-one}
 use Rattle.heads.specs.Giving.{blank}
 use Rattle.heads.specs.SumsLaws.{le-or-lt}
-use Rattle.facilities.specs.declared.Wanted.{Wanted}
+use Rattle.cards.specs.declared.Facilities.{Facilities}
 use Rattle.facilities.specs.declared.KindChannels.{KindChannels}
 use Rattle.facilities.specs.declared.Kinds.{Kinds}
 use Rattle.facilities.specs.declared.Assigned.{Assigned}
@@ -34,7 +34,7 @@ use Rattle.facilities.specs.Assignment.{Cell, unitKinds, drumLength, wan
 use Rattle.facilities.specs.Kinds.{Possible, KindsDone, KindLacking, KindsAnswer, ServesKinds}
 use Rattle.facilities.specs.Chosen.{Chosen, nothing, Answer, Assigns}
 
-module _ (cell : Cell) (wanted : Wanted) where
+module _ (cell : Cell) (wanted : Facilities) where
   -- an assignment's channels are possible for each kind
   possible : {b : Assigned} {kind : ℕ} → kind < unitKinds → IsAssignment cell wanted b → Possible (freeOf cell) (wanted .units) kind (channelsOf b kind)
   possible {b} {kind} h i = record { long = i .shaped .entries kind h; to = givenOf cell kind b; served = i .kinds kind h }

@@ -25,7 +25,7 @@ use Rattle.heads.specs.ServingLaws.{served-so, lacking-so}
 use Rattle.heads.specs.Computed.{serveOf, serve-answers}
 use Rattle.assignable.specs.Assignable.{isFreeOf}
 use Rattle.assignable.specs.Computed.{marksOf, marks-answer}
-use Rattle.facilities.specs.declared.Wanted.{Wanted}
+use Rattle.cards.specs.declared.Facilities.{Facilities}
 use Rattle.facilities.specs.declared.KindChannels.{KindChannels}
 use Rattle.facilities.specs.declared.Kinds.{Kinds}
 use Rattle.facilities.specs.declared.Assigned.{Assigned}
@@ -78,18 +78,18 @@ module _ (units : List (List Unit)) (channels : List Channel) (asked : List ℕ)
 abbrev pub withKinds : Pair → ℕ → Kinds → Assigned
 withKinds p s k = cond (k .ok) (record { found = true; ib = p .0; db = p .1; drum = s; channels = k .channels; heads = k .heads }) nothing
 
-abbrev pub withDrum : Cell → Wanted → Pair → Start → Assigned
+abbrev pub withDrum : Cell → Facilities → Pair → Start → Assigned
 withDrum cell wanted p (D.At s) = withKinds p s (kindsOf (cell .units) (cell .channels) (wanted .units))
 withDrum cell wanted p D.Nothing = nothing
 
-abbrev pub withCore : Cell → Wanted → Found → Assigned
+abbrev pub withCore : Cell → Facilities → Found → Assigned
 withCore cell wanted (C.At p) = withDrum cell wanted p (startOf (cell .areas) (drumLength (cell .channels)) (wanted .md))
 withCore cell wanted C.Nothing = nothing
 
-unfoldable pub assignOf : Cell → Wanted → Assigned
+unfoldable pub assignOf : Cell → Facilities → Assigned
 assignOf cell wanted = withCore cell wanted (searchOf (cell .occupancy) (wanted .ib) (wanted .db))
 
-module _ (cell : Cell) (wanted : Wanted) (size : length (cell .channels) ≡ 16) (full : length (wanted .units) ≡ 48) where
+module _ (cell : Cell) (wanted : Facilities) (size : length (cell .channels) ≡ 16) (full : length (wanted .units) ≡ 48) where
   with-kinds : (p : Pair) (s : ℕ) → Core.Answers (cell .occupancy) (wanted .ib) (wanted .db) (C.At p) → Drum.Answers (cell .areas) (drumLength (cell .channels)) (wanted .md) (D.At s)
       → (k : Kinds) (b : Bool) → k .ok ≡ b → KindsAnswer b (freeOf cell) (wanted .units) (k .channels) (k .heads) → Assigns cell wanted (withKinds p s k)
   with-kinds p s c d k true e a = rw e (assigned cell wanted p s (k .channels) (k .heads) c d a)

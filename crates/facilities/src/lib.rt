@@ -1,4 +1,6 @@
 // The facilities that a job gets: core, drum area, and units of each kind.
+use cards::Facilities;
+use cards::Request;
 use channels::Channel;
 use channels::Configuration;
 use channels::Fitted;
@@ -16,14 +18,6 @@ ghost use Rattle.assignable.specs.Assignable.{isFreeOf};
 ghost use Rattle.facilities.specs.Assignment.{drumLength, cellOf};
 ghost use Rattle.facilities.specs.Kinds.{ServesKinds};
 ghost use Rattle.facilities.specs.Chosen.{nothing, Assigns};
-
-// What a job asks for, 0 for none: blocks, drum words, and units at kind * 16 + logical channel, kinds in the order MA, MT, PR.
-pub struct Wanted {
-    pub ib: u8,
-    pub db: u8,
-    pub md: u32,
-    pub units: [u8; 48],
-}
 
 // The channels of a kind's entries, by logical channel; 0 where there is no entry.
 pub struct KindChannels {
@@ -127,13 +121,14 @@ fn serve_kinds(units: Units, channels: [Channel; 16], asked: [u8; 48]) -> Kinds
     }
 }
 
-// The assignment that is chosen for a job, or nothing where there is none. The parts are looked for in the order core, drum, MA, MT, PR.
-pub fn assign(
+// The assignment that is chosen for what a job asks for, or nothing where there is none. The parts are looked for in the order core, drum,
+// MA, MT, PR.
+fn find(
     units: Units,
     occupancy: u32,
     areas: [Area; 16],
     configuration: Configuration,
-    wanted: Wanted,
+    wanted: Facilities,
 ) -> Assigned
     ensures { λ r. ⌜ Assigns (cellOf (units .of) occupancy areas (configuration .channels)) wanted r ⌝ }
 {
@@ -159,4 +154,18 @@ pub fn assign(
         channels: named,
         heads,
     }
+}
+
+// The assignment that is chosen for a job request, or nothing where there is none.
+pub fn assign(
+    units: Units,
+    occupancy: u32,
+    areas: [Area; 16],
+    configuration: Configuration,
+    request: Request,
+) -> Assigned
+    ensures { λ r. ⌜ Assigns (cellOf (units .of) occupancy areas (configuration .channels)) (request .facilities) r ⌝ }
+{
+    let wanted = request.facilities;
+    find(units, occupancy, areas, configuration, wanted)
 }

@@ -16,7 +16,7 @@ use Rattle.choice.specs.Greedy.{ge, testsB, lowestFrom, picks, chooseOf}
 use Rattle.heads.specs.Sums.{sumTo}
 use Rattle.heads.specs.Computed.{serviceOf, serveOf}
 use Rattle.assignable.specs.Assignable.{isFreeOf}
-use Rattle.facilities.specs.declared.Wanted.{Wanted}
+use Rattle.cards.specs.declared.Facilities.{Facilities}
 use Rattle.facilities.specs.declared.Assigned.{Assigned}
 use Rattle.facilities.specs.Assignment.{Cell, drumLength, channelsOf}
 use Rattle.facilities.specs.Chosen.{Assigns}
@@ -34,7 +34,7 @@ freshCore = 2 ^ 0 + 2 ^ 1 + 2 ^ 30 + 2 ^ 31
 abbrev pub mt : ℕ
 mt = 1
 
-abbrev pub asks : ℕ → ℕ → ℕ → List ℕ → Wanted
+abbrev pub asks : ℕ → ℕ → ℕ → List ℕ → Facilities
 asks ib db md units = record { ib = ib; db = db; md = md; units = units }
 
 abbrev pub noUnits : List ℕ

@@ -1,12 +1,12 @@
--- `facilities::assign` meets its contract: the answers of its parts make the whole. Assumes nothing.
+-- `facilities::find` meets its contract: the answers of its parts make the whole. Assumes nothing.
 use mathlib.Core.Path.{subst}
 use borrow.Author.Tests.{not-true, not-false}
 use Rattle.core.specs.Core as Core
 use Rattle.facilities.specs.Assignment.{cellOf}
 use Rattle.facilities.specs.ChosenLaws.{no-core, no-drum, no-kind, assigned, kinds-served, kinds-lacking, for-length}
 use borrow.Author.Needs.{needs}
-use Rattle.facilities.proofs.assign.Statement.{statement}
-use Rattle.facilities.proofs.assign.Tie as tie
+use Rattle.facilities.proofs.find.Statement.{statement}
+use Rattle.facilities.proofs.find.Tie as tie
 
 cast-search : tie.Need-cast-search
 cast-search c = search needs
@@ -59,8 +59,8 @@ returns-3 c = no-kind (cellOf (c .before .before .before .before .before .before
 returns-4 : tie.Need-returns-4
 returns-4 c = assigned (cellOf (c .before .before .before .before .before .before .before .before .before .before .before .before .before .before .before .before .before .before .args .units .of) (c .before .before .before .before .before .before .before .before .before .before .before .before .before .before .before .before .before .before .args .occupancy) (c .before .before .before .before .before .before .before .before .before .before .before .before .before .before .before .before .before .before .args .areas) (c .before .before .before .before .before .before .before .before .before .before .before .before .before .before .before .before .before .before .args .configuration .channels)) (c .before .before .before .before .before .before .before .before .before .before .before .before .before .before .before .before .before .before .args .wanted) (c .before .before .before .before .before .before .before .before .before .before .before .before .before .pair .given .0 .0) (c .before .before .before .before .before .before .before .start .given .0 .0) (c .before .before .before .before .serve-kinds .result .channels) (c .before .before .before .before .serve-kinds .result .heads) (subst (Core.Answers (c .before .before .before .before .before .before .before .before .before .before .before .before .before .before .before .before .before .before .args .occupancy) (c .before .before .before .before .before .before .before .before .before .before .before .before .before .before .before .before .before .before .args .wanted .ib) (c .before .before .before .before .before .before .before .before .before .before .before .before .before .before .before .before .before .before .args .wanted .db)) (c .before .before .before .before .before .before .before .before .before .before .before .before .before .pair .given .1) (c .before .before .before .before .before .before .before .before .before .before .before .before .before .before .before .search .ensures)) (for-length (c .before .before .before .before .before .before .before .before .before .before .before .before .before .before .before .before .before .before .args .areas) (c .before .before .before .before .before .before .before .before .before .before .before .before .before .before .before .before .before .before .args .wanted .md) (c .before .before .before .before .before .before .before .before .before .before .drum-length .ensures) (c .before .before .before .before .before .before .before .start .given .1) (c .before .before .before .before .before .before .before .before .before .lowest-start .ensures)) (kinds-served (c .before .before .before .before .serve-kinds .result) (not-false (c .before .before .before .before .serve-kinds .result .ok) (c .before .before .if1 .left)) (c .before .before .before .before .serve-kinds .ensures))
 
-pub assign-spec : {M : Type 1} → statement M
-assign-spec =
+pub find-spec : {M : Type 1} → statement M
+find-spec =
     tie.close
     (tie.spec
     cast-search
