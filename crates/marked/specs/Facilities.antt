@@ -1,9 +1,9 @@
 -- The marked cases of the assigner, of any answer that it may give. Assumes nothing.
 use Prim.Native.Nat.{ℕ, _+_, _-_, _^_}
 use mathlib.Core.Path.{_≡_, refl, ap, _∙_}
-use mathlib.Core.Bool.{true, false}
+use mathlib.Core.Bool.{Bool, true, false}
 use mathlib.Core.List.{List}
-use lib.ListN.{set, replicate}
+use lib.ListN.{length, set, replicate}
 use Rattle.numbers.specs.declared.Kind.the-variants.{Mt, Md}
 use Rattle.units.specs.State.{noneHeld, unitIn, assignable}
 use Rattle.channels.specs.declared.Channel.{Channel}
@@ -43,50 +43,68 @@ noUnits = replicate 48 0
 abbrev pub mtUnits : ℕ → ℕ → ℕ → ℕ → List ℕ
 mtUnits l n m k = set (set noUnits (16 + l) n) (16 + m) k
 
+-- what a case looks at: whether there is an assignment, the starts, and the channels of MT's entries 1 and 2
+pub record Seen : Type 0 where
+  pub found : Bool
+  pub ib : ℕ
+  pub db : ℕ
+  pub drum : ℕ
+  pub mt1 : ℕ
+  pub mt2 : ℕ
+
+abbrev pub seen : Assigned → Seen
+seen a = record { found = a .found; ib = a .ib; db = a .db; drum = a .drum; mt1 = on (channelsOf a mt) 1; mt2 = on (channelsOf a mt) 2 }
+
+-- a case: a cell, a job, and what is seen of any answer
+abbrev pub Case : Cell → Wanted → Seen → Type 0
+Case cell wanted s = (a : Assigned) → Assigns cell wanted a → seen a ≡ s
+
+-- it is enough that the computed assigner shows it
+case : (cell : Cell) (wanted : Wanted) (s : Seen) → length (cell .channels) ≡ 16 → length (wanted .units) ≡ 48 → seen (assignOf cell wanted) ≡ s → Case cell wanted s
+case cell wanted s size full e a p = ap seen (computed cell wanted size full a p) ∙ e
+
+abbrev pub found : ℕ → ℕ → ℕ → ℕ → ℕ → Seen
+found ib db drum mt1 mt2 = record { found = true; ib = ib; db = db; drum = drum; mt1 = mt1; mt2 = mt2 }
+
+abbrev pub none : Seen
+none = record { found = false; ib = 0; db = 0; drum = 0; mt1 = 0; mt2 = 0 }
+
 -- K2: fresh core, IB/28 starts at 2
-pub k2 : (a : Assigned) → Assigns (cellWith freshCore noChannels) (asks 28 0 0 noUnits) a → (a .found ≡ true) × (a .ib ≡ 2)
+pub k2 : Case (cellWith freshCore noChannels) (asks 28 0 0 noUnits) (found 2 0 0 0 0)
 unfolding assignOf kindsFrom searchOf runB fitsB startOf areaB drumLength serveOf serviceOf chooseOf picks lowestFrom testsB ge sumTo isFreeOf unitIn assignable
-k2 a p =
-    let e = computed (cellWith freshCore noChannels) (asks 28 0 0 noUnits) refl refl a p in
-    (ap (λ (x : Assigned). x .found) e ∙ refl, ap (λ (x : Assigned). x .ib) e ∙ refl)
+k2 = case (cellWith freshCore noChannels) (asks 28 0 0 noUnits) (found 2 0 0 0 0) refl refl refl
 
 -- K4: free blocks 2-4 and 8-9, IB/2 and DB/3: IB at 8, DB at 2
 abbrev pub k4Core : ℕ
 k4Core = (2 ^ 32 - 1) - (2 ^ 2 + 2 ^ 3 + 2 ^ 4 + 2 ^ 8 + 2 ^ 9)
 
-pub k4 : (a : Assigned) → Assigns (cellWith k4Core noChannels) (asks 2 3 0 noUnits) a → (a .found ≡ true) × ((a .ib ≡ 8) × (a .db ≡ 2))
+pub k4 : Case (cellWith k4Core noChannels) (asks 2 3 0 noUnits) (found 8 2 0 0 0)
 unfolding assignOf kindsFrom searchOf runB fitsB startOf areaB drumLength serveOf serviceOf chooseOf picks lowestFrom testsB ge sumTo isFreeOf unitIn assignable
-k4 a p =
-    let e = computed (cellWith k4Core noChannels) (asks 2 3 0 noUnits) refl refl a p in
-    (ap (λ (x : Assigned). x .found) e ∙ refl, (ap (λ (x : Assigned). x .ib) e ∙ refl, ap (λ (x : Assigned). x .db) e ∙ refl))
+k4 = case (cellWith k4Core noChannels) (asks 2 3 0 noUnits) (found 8 2 0 0 0) refl refl refl
 
 -- MT channel 3 with four free and 5 with two
 abbrev pub mtChannels : List Channel
 mtChannels = set (set noChannels 3 (fitted Mt 4)) 5 (fitted Mt 2)
 
 -- K5: MT1/2 and MT2/3: 1 to channel 5, 2 to 3
-pub k5 : (a : Assigned) → Assigns (cellWith freshCore mtChannels) (asks 1 0 0 (mtUnits 1 2 2 3)) a → (a .found ≡ true) × ((on (channelsOf a mt) 1 ≡ 5) × (on (channelsOf a mt) 2 ≡ 3))
+pub k5 : Case (cellWith freshCore mtChannels) (asks 1 0 0 (mtUnits 1 2 2 3)) (found 2 0 0 5 3)
 unfolding assignOf kindsFrom searchOf runB fitsB startOf areaB drumLength serveOf serviceOf chooseOf picks lowestFrom testsB ge sumTo isFreeOf unitIn assignable
-k5 a p =
-    let e = computed (cellWith freshCore mtChannels) (asks 1 0 0 (mtUnits 1 2 2 3)) refl refl a p in
-    (ap (λ (x : Assigned). x .found) e ∙ refl, (ap (λ (x : Assigned). on (channelsOf x mt) 1) e ∙ refl, ap (λ (x : Assigned). on (channelsOf x mt) 2) e ∙ refl))
+k5 = case (cellWith freshCore mtChannels) (asks 1 0 0 (mtUnits 1 2 2 3)) (found 2 0 0 5 3) refl refl refl
 
 -- K6: same channels, MT1/2 and MT/4 fit
-pub k6 : (a : Assigned) → Assigns (cellWith freshCore mtChannels) (asks 1 0 0 (mtUnits 1 2 0 4)) a → a .found ≡ true
+pub k6 : Case (cellWith freshCore mtChannels) (asks 1 0 0 (mtUnits 1 2 0 4)) (found 2 0 0 3 0)
 unfolding assignOf kindsFrom searchOf runB fitsB startOf areaB drumLength serveOf serviceOf chooseOf picks lowestFrom testsB ge sumTo isFreeOf unitIn assignable
-k6 a p = ap (λ (x : Assigned). x .found) (computed (cellWith freshCore mtChannels) (asks 1 0 0 (mtUnits 1 2 0 4)) refl refl a p) ∙ refl
+k6 = case (cellWith freshCore mtChannels) (asks 1 0 0 (mtUnits 1 2 0 4)) (found 2 0 0 3 0) refl refl refl
 
 -- K7: MT1/2 and MT/5 don't
-pub k7 : (a : Assigned) → Assigns (cellWith freshCore mtChannels) (asks 1 0 0 (mtUnits 1 2 0 5)) a → a .found ≡ false
+pub k7 : Case (cellWith freshCore mtChannels) (asks 1 0 0 (mtUnits 1 2 0 5)) none
 unfolding assignOf kindsFrom searchOf runB fitsB startOf areaB drumLength serveOf serviceOf chooseOf picks lowestFrom testsB ge sumTo isFreeOf unitIn assignable
-k7 a p = ap (λ (x : Assigned). x .found) (computed (cellWith freshCore mtChannels) (asks 1 0 0 (mtUnits 1 2 0 5)) refl refl a p) ∙ refl
+k7 = case (cellWith freshCore mtChannels) (asks 1 0 0 (mtUnits 1 2 0 5)) none refl refl refl
 
--- K8: fresh drum, MD/1500 holds 35,329 to 36,828
+-- K8: fresh drum, MD/1500 holds 35,329 to 36,828: it starts at 35,329, and 36,828 is the last of 1,500 words from there
 abbrev pub drumChannels : List Channel
 drumChannels = set noChannels 7 (fitted Md 1000000)
 
-pub k8 : (a : Assigned) → Assigns (cellWith freshCore drumChannels) (asks 1 0 1500 noUnits) a → (a .found ≡ true) × ((a .drum ≡ 35329) × (a .drum + 1500 - 1 ≡ 36828))
+pub k8 : Case (cellWith freshCore drumChannels) (asks 1 0 1500 noUnits) (found 2 0 35329 0 0) × (35329 + 1500 - 1 ≡ 36828)
 unfolding assignOf kindsFrom searchOf runB fitsB startOf areaB drumLength serveOf serviceOf chooseOf picks lowestFrom testsB ge sumTo isFreeOf unitIn assignable
-k8 a p =
-    let e = computed (cellWith freshCore drumChannels) (asks 1 0 1500 noUnits) refl refl a p in
-    (ap (λ (x : Assigned). x .found) e ∙ refl, (ap (λ (x : Assigned). x .drum) e ∙ refl, ap (λ (x : Assigned). x .drum + 1500 - 1) e ∙ refl))
+k8 = (case (cellWith freshCore drumChannels) (asks 1 0 1500 noUnits) (found 2 0 35329 0 0) refl refl refl, refl)
