@@ -72,7 +72,7 @@ none = record { found = false; ib = 0; db = 0; drum = 0; mt1 = 0; mt2 = 0 }
 -- K2: fresh core, IB/28 starts at 2
 pub k2 : Case (cellWith freshCore noChannels) (asks 28 0 0 noUnits) (found 2 0 0 0 0)
 unfolding assignOf kindsFrom searchOf runB fitsB startOf areaB drumLength serveOf serviceOf chooseOf picks lowestFrom testsB ge sumTo isFreeOf unitIn assignable
-k2 = case (cellWith freshCore noChannels) (asks 28 0 0 noUnits) (found 2 0 0 0 0) refl refl refl
+k2 = case _ _ _ refl refl refl
 
 -- K4: free blocks 2-4 and 8-9, IB/2 and DB/3: IB at 8, DB at 2
 abbrev pub k4Core : ℕ
@@ -80,7 +80,7 @@ k4Core = (2 ^ 32 - 1) - (2 ^ 2 + 2 ^ 3 + 2 ^ 4 + 2 ^ 8 + 2 ^ 9)
 
 pub k4 : Case (cellWith k4Core noChannels) (asks 2 3 0 noUnits) (found 8 2 0 0 0)
 unfolding assignOf kindsFrom searchOf runB fitsB startOf areaB drumLength serveOf serviceOf chooseOf picks lowestFrom testsB ge sumTo isFreeOf unitIn assignable
-k4 = case (cellWith k4Core noChannels) (asks 2 3 0 noUnits) (found 8 2 0 0 0) refl refl refl
+k4 = case _ _ _ refl refl refl
 
 -- MT channel 3 with four free and 5 with two
 abbrev pub mtChannels : List Channel
@@ -89,17 +89,17 @@ mtChannels = set (set noChannels 3 (fitted Mt 4)) 5 (fitted Mt 2)
 -- K5: MT1/2 and MT2/3: 1 to channel 5, 2 to 3
 pub k5 : Case (cellWith freshCore mtChannels) (asks 1 0 0 (mtUnits 1 2 2 3)) (found 2 0 0 5 3)
 unfolding assignOf kindsFrom searchOf runB fitsB startOf areaB drumLength serveOf serviceOf chooseOf picks lowestFrom testsB ge sumTo isFreeOf unitIn assignable
-k5 = case (cellWith freshCore mtChannels) (asks 1 0 0 (mtUnits 1 2 2 3)) (found 2 0 0 5 3) refl refl refl
+k5 = case _ _ _ refl refl refl
 
 -- K6: same channels, MT1/2 and MT/4 fit
 pub k6 : Case (cellWith freshCore mtChannels) (asks 1 0 0 (mtUnits 1 2 0 4)) (found 2 0 0 3 0)
 unfolding assignOf kindsFrom searchOf runB fitsB startOf areaB drumLength serveOf serviceOf chooseOf picks lowestFrom testsB ge sumTo isFreeOf unitIn assignable
-k6 = case (cellWith freshCore mtChannels) (asks 1 0 0 (mtUnits 1 2 0 4)) (found 2 0 0 3 0) refl refl refl
+k6 = case _ _ _ refl refl refl
 
 -- K7: MT1/2 and MT/5 don't
 pub k7 : Case (cellWith freshCore mtChannels) (asks 1 0 0 (mtUnits 1 2 0 5)) none
 unfolding assignOf kindsFrom searchOf runB fitsB startOf areaB drumLength serveOf serviceOf chooseOf picks lowestFrom testsB ge sumTo isFreeOf unitIn assignable
-k7 = case (cellWith freshCore mtChannels) (asks 1 0 0 (mtUnits 1 2 0 5)) none refl refl refl
+k7 = case _ _ _ refl refl refl
 
 -- K8: fresh drum, MD/1500 holds 35,329 to 36,828: it starts at 35,329, and 36,828 is the last of 1,500 words from there
 abbrev pub drumChannels : List Channel
@@ -107,4 +107,4 @@ drumChannels = set noChannels 7 (fitted Md 1000000)
 
 pub k8 : Case (cellWith freshCore drumChannels) (asks 1 0 1500 noUnits) (found 2 0 35329 0 0) × (35329 + 1500 - 1 ≡ 36828)
 unfolding assignOf kindsFrom searchOf runB fitsB startOf areaB drumLength serveOf serviceOf chooseOf picks lowestFrom testsB ge sumTo isFreeOf unitIn assignable
-k8 = (case (cellWith freshCore drumChannels) (asks 1 0 1500 noUnits) (found 2 0 35329 0 0) refl refl refl, refl)
+k8 = (case _ _ _ refl refl refl, refl)
