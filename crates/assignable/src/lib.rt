@@ -3,7 +3,6 @@ use channels::Channel;
 use channels::Fitted;
 use units::Units;
 ghost use mathlib.Core.Path.{_≡_};
-ghost use Prim.Native.Nat.{_<_};
 ghost use Rattle.assignable.specs.Assignable.{unitsOfRow, FreeUnits};
 ghost use Rattle.assignable.specs.Counts.{CountsOf};
 

@@ -1,8 +1,8 @@
+-- `drum::in_the_way` meets its contract. The loop's invariant: no area passed is in the way. Assumes nothing.
 use mathlib.Core.Path.{_≡_, subst}
 use mathlib.Core.Logic.{⊎-elim}
 use Rattle.drum.specs.declared.Area.{Area}
 use Rattle.drum.specs.BlocksLaws.{le-or-lt}
--- `drum::in_the_way` meets its contract. The loop's invariant: no area passed is in the way. Assumes nothing.
 use Prim.Native.Nat.{ℕ, _≤_, _<_, _-_}
 use native.Mathlib.Omega.{arith}
 use lib.ListN.{getD, List·getD-eq-default}

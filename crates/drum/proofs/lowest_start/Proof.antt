@@ -1,7 +1,7 @@
-use mathlib.Core.Path.{subst}
-use Rattle.drum.specs.Blocks.{Seen, InTheWay}
 -- `drum::lowest_start` meets its contract. The loop's invariant: no lower start fits. It ends since an area that is in the way ends later.
 -- Assumes nothing.
+use mathlib.Core.Path.{subst}
+use Rattle.drum.specs.Blocks.{Seen, InTheWay}
 use Prim.Native.Nat.{ℕ, _≤_, _<_, _-_, _^_}
 use mathlib.Core.Logic.{⊎-elim}
 use native.Mathlib.Omega.{arith}
