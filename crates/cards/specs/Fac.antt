@@ -29,16 +29,19 @@ placeIn (k ∷ ks) c = cond (same k c) 0 (suc (placeIn ks c))
 abbrev pub codeText : List ℕ → List ℕ
 codeText t = leading isLetter t
 
+-- the place of an entry's code
 abbrev pub codeOf : List ℕ → ℕ
 codeOf t = placeIn codes (codeText t)
 
--- what stands between the code and the slash, and behind the slash
+-- what stands between the code and the slash
 abbrev pub channelText : List ℕ → List ℕ
 channelText t = leading (isnt (byte "/")) (drop (length (codeText t)) t)
 
+-- where the slash stands
 abbrev pub slashAt : List ℕ → ℕ
 slashAt t = length (codeText t) + length (channelText t)
 
+-- what stands behind the slash
 abbrev pub numberText : List ℕ → List ℕ
 numberText t = drop (slashAt t + 1) t
 
@@ -62,12 +65,15 @@ entryGood code t = ltb (slashAt t) (length t) && (channelGood code (channelText 
 abbrev pub slot : ℕ → ℕ → ℕ
 slot code channel = cond (ltb code 3) code (3 + (code - 3) * 16 + channel)
 
+-- how many numbers: three, and sixteen for each of the three kinds of unit
 abbrev pub slots : ℕ
 slots = 51
 
+-- nothing is asked for
 abbrev pub nothing : List ℕ
 nothing = replicate slots 0
 
+-- where an entry's number goes
 abbrev pub slotOf : List ℕ → ℕ
 slotOf t = slot (codeOf t) (value (channelText t))
 
@@ -83,14 +89,16 @@ formError t = orElse (codeError t) (errorIf (not (entryGood (codeOf t) t)) Wrong
 abbrev pub entryError : List ℕ → List ℕ → Verdict
 entryError asks t = orElse (formError t) (errorIf (ltb 0 (getD asks (slotOf t) 0)) WrongEntry)
 
+-- what is asked for with one entry more
 abbrev pub entered : List ℕ → List ℕ → List ℕ
 entered asks t = set asks (slotOf t) (value (numberText t))
 
--- "its entries left to right": the first error, and what all of them ask for
+-- "its entries left to right": the first error
 abbrev pub entriesError : List ℕ → List (List ℕ) → Verdict
 entriesError asks [] = Good
 entriesError asks (t ∷ ts) = orElse (entryError asks t) (entriesError (entered asks t) ts)
 
+-- what all entries ask for
 abbrev pub allEntered : List ℕ → List (List ℕ) → List ℕ
 allEntered asks [] = asks
 allEntered asks (t ∷ ts) = allEntered (entered asks t) ts
@@ -103,6 +111,7 @@ coreError asks = orElse (errorIf (ltb 28 (getD asks 0 0 + getD asks 1 0)) TooMuc
 abbrev pub facilitiesOf : List ℕ → Facilities
 facilitiesOf asks = record { ib = getD asks 0 0; db = getD asks 1 0; md = getD asks 2 0; units = drop 3 asks }
 
+-- and as one list
 abbrev pub asksOf : Facilities → List ℕ
 asksOf f = f .ib ∷ f .db ∷ f .md ∷ f .units
 
@@ -111,6 +120,7 @@ abbrev pub entryAnswer : Verdict → ℕ → ℕ → Entry
 entryAnswer Good k n = record { verdict = Good; slot = k; number = n }
 entryAnswer (Wrong e) k n = record { verdict = Wrong e; slot = 0; number = 0 }
 
+-- the entry that a text writes
 unfoldable pub entryOf : List ℕ → Entry
 entryOf t = entryAnswer (formError t) (slotOf t) (value (numberText t))
 
@@ -125,5 +135,6 @@ abbrev pub askedAnswer : Verdict → List ℕ → Asked
 askedAnswer Good asks = record { verdict = Good; facilities = facilitiesOf asks }
 askedAnswer (Wrong e) asks = record { verdict = Wrong e; facilities = facilitiesOf nothing }
 
+-- what the entries of a card read as
 unfoldable pub askedOf : List ℕ → List (List ℕ) → Asked
 askedOf asks ts = askedAnswer (entriesError asks ts) (allEntered asks ts)

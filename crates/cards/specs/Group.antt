@@ -21,10 +21,11 @@ use Rattle.cards.specs.declared.Reading.{Reading}
 abbrev pub isFac : List ℕ → Bool
 isFac card = same (field card 1) (bytes "FAC")
 
--- the entries of a FAC card, and what they ask for
+-- the entries of a FAC card
 abbrev pub entriesOf : List ℕ → List (List ℕ)
 entriesOf fac = drop 2 (fields fac)
 
+-- what they ask for
 abbrev pub asked : List ℕ → List ℕ
 asked fac = allEntered nothing (entriesOf fac)
 
@@ -61,9 +62,11 @@ frontError n pty fac third =
     ∷ errorIf (not (same (field fac 0) (field pty 0))) OtherId
     ∷ [])
 
+-- and then those of the FAC card itself
 unfoldable pub orderedError : ℕ → List ℕ → List ℕ → List ℕ → Verdict
 orderedError n pty fac third = orElse (frontError n pty fac third) (facError fac)
 
+-- the error of a group of cards
 abbrev pub groupError : List (List ℕ) → Verdict
 groupError cards = orderedError (length cards) (getD cards 0 []) (getD cards 1 []) (getD cards 2 [])
 
@@ -120,6 +123,7 @@ answer (Wrong e) r = record { verdict = Wrong e; request = noRequest }
 unfoldable pub facOf : List ℕ → Asked
 facOf fac = askedAnswer (facError fac) (asked fac)
 
+-- what n cards read as, of which the first three matter
 unfoldable pub readCards : ℕ → List ℕ → List ℕ → List ℕ → Reading
 readCards n pty fac third = answer (orderedError n pty fac third) (requestOf pty (asked fac))
 

@@ -27,12 +27,15 @@ oneOf letters t = every (has letters) t
 abbrev pub lead : List ℕ → ℕ
 lead t = cond (isLetter (getD t 0 0)) 0 2
 
+-- what is written of the sequence
 abbrev pub sequenceText : List ℕ → List ℕ
 sequenceText t = take (lead t) t
 
+-- the letter
 abbrev pub letterOf : List ℕ → ℕ
 letterOf t = getD t (lead t) 0
 
+-- what is written of the precedence
 abbrev pub precedenceText : List ℕ → List ℕ
 precedenceText t = drop (lead t + 1) t
 
@@ -44,6 +47,7 @@ sequenceGood t = every isDigit (sequenceText t) && (isLetter (getD t 0 0) || (le
 abbrev pub precedence : List ℕ → ℕ
 precedence p = cond (eqb (length p) 0) 63 (value p)
 
+-- a precedence is 0-63, of at most two digits
 abbrev pub precedenceGood : List ℕ → Bool
 precedenceGood p = leb (length p) 2 && (every isDigit p && leb (precedence p) 63)
 
@@ -62,9 +66,11 @@ ranked q l p =
     (record { good = true; sequence = q; letter = l; precedence = precedence p })
     noPriority
 
+-- a priority: sequence, letter, precedence
 unfoldable pub priorityOf : List ℕ → Priority
 priorityOf t = cond (sequenceGood t) (ranked (value (sequenceText t)) (letterOf t) (precedenceText t)) noPriority
 
+-- a priority of right content
 abbrev pub priorityGood : List ℕ → Bool
 priorityGood t = priorityOf t .good
 
@@ -74,6 +80,7 @@ pub record Rule : Type 0 where
   pub most : ℕ
   pub content : List ℕ → Bool
 
+-- a row of the table
 abbrev pub rule : ℕ → ℕ → (List ℕ → Bool) → Rule
 rule least most content = record { least = least; most = most; content = content }
 
@@ -123,5 +130,6 @@ fieldsFrom k [] fs = Good
 fieldsFrom k (r ∷ rs) [] = orElse (fieldError k r []) (fieldsFrom (suc k) rs [])
 fieldsFrom k (r ∷ rs) (f ∷ fs) = orElse (fieldError k r f) (fieldsFrom (suc k) rs fs)
 
+-- the first error of all fields
 abbrev pub fieldsError : List (List ℕ) → Verdict
 fieldsError fs = fieldsFrom 0 rules fs

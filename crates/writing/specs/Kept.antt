@@ -33,7 +33,9 @@ use Rattle.cards.specs.declared.Request.{Request}
 use Rattle.cards.specs.declared.Reading.{Reading}
 use Rattle.cards.specs.declared.Verdict.{Verdict}
 use Rattle.cards.specs.declared.Verdict.the-variants.{Good, Wrong}
-use Rattle.writing.specs.Writing.{priorityText, markText, ptyFields, formedFrom, formed, limit, numbersFit, takes}
+use Rattle.writing.specs.Writing.{priorityText, markText, ptyFields, formedFrom, formed, limit, numbersFit, takes, textOf, fits, writeAnswer}
+use Rattle.writing.specs.declared.Wrote.the-variants.{Cards, Refused}
+use Rattle.numbers.specs.declared.Refusal.the-variants.{NoRoom, WrongRequest}
 use Rattle.writing.specs.PutLaws.{number-some}
 use Rattle.writing.specs.Back.{plain, clean, every-weaker, alnum-plain, listed, named, number-digits, two-digits, two-back, priority-ranked}
 
@@ -259,3 +261,12 @@ read-taken cards r e =
     let s = or-else-none (entriesError nothing (entriesOf fac)) (orElse (coreError (asked fac)) Good) m in
     let c = or-else-none (coreError (asked fac)) Good (s .1) .0 in
     subst (λ (x : Request). takes x ≡ true) (a .1) (request-taken pty (asked fac) (fields-good pty p) (fit-all nothing (entriesOf fac) refl (s .0)) c)
+
+-- whatever the room
+pub never-13 : (cards : List (List ℕ)) (r : Request) (room : ℕ) → readGroup cards ≡ record { verdict = Good; request = r } → writeAnswer r room ≡ Refused WrongRequest → ⊥
+unfolding writeAnswer
+never-13 cards r room e w =
+    let t = read-taken cards r e in
+    by-bool (fits r room)
+    (λ f. let n : Cards (length (textOf r)) ≡ Refused WrongRequest = rw (t, f) at w in let z : _≡_ {A = ℕ} 0 1 = cc in omega arith)
+    (λ f. let n : Refused NoRoom ≡ Refused WrongRequest = rw (t, f) at w in let z : _≡_ {A = ℕ} 0 1 = cc in omega arith)

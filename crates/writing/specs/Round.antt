@@ -6,7 +6,8 @@ use mathlib.Core.Bool.{true, false, _&&_}
 use mathlib.Core.List.{List, [], _∷_, _++_}
 use native.Mathlib.Omega.{arith}
 use lib.Dec.{ltb, leb}
-use lib.ListN.{length, getD, drop}
+use lib.ListN.{length, getD, drop, take}
+use lib.Seq.{take-append-seam}
 use borrow.Author.Tests.{eq-eqb, ltb-true, leb-true}
 use Rattle.numbers.specs.Quoted.{bytes}
 use Rattle.numbers.specs.Tests.{both}
@@ -26,7 +27,8 @@ use Rattle.cards.specs.GroupLaws.{pty-fields, front-good}
 use Rattle.cards.specs.declared.Priority.{Priority}
 use Rattle.cards.specs.declared.Request.{Request}
 use Rattle.cards.specs.declared.Verdict.the-variants.{Good}
-use Rattle.writing.specs.Writing.{priorityText, markText, ptyFields, trimmed, facFields, cardText, ptyText, facText, textOf, formed, numbersFit, namesFormed, rangesGood, takes, fits}
+use Rattle.writing.specs.Writing.{priorityText, markText, ptyFields, trimmed, facFields, cardText, ptyText, facText, textOf, formed, numbersFit, namesFormed, rangesGood, takes, fits, writeAnswer, written}
+use Rattle.writing.specs.declared.Wrote.the-variants.{Cards}
 use Rattle.writing.specs.PutLaws.{trimmed-at, some-written}
 use Rattle.writing.specs.Back.{plain, AllPlain, fields-back, card-good, card-line, trimmed-plain, trimmed-few, trimmed-error, every-weaker, alnum-plain, digit-plain, listed, named, mark-back, name-back, number-back, number-digits, priority-back, priority-plain}
 use Rattle.writing.specs.Again.{entries-back}
@@ -249,3 +251,12 @@ round-trip r room t f =
     let a = both (leb (length (ptyText r)) 80) (leb (length (facText r)) 80 && leb (length (textOf r)) room) f in
     let b = both (leb (length (facText r)) 80) (leb (length (textOf r)) room) (a .1) in
     read-back r (taken r t) (leb-true (length (ptyText r)) 80 (a .0)) (leb-true (length (facText r)) 80 (b .0))
+
+-- AND SO FROM THE ROOM: the bytes that writing says it wrote are read as the request
+pub room-read : (r : Request) (room : List ℕ) → takes r ≡ true → fits r (length room) ≡ true
+    → (writeAnswer r (length room) ≡ Cards (length (textOf r))) × (readGroup (cardsOf (take (length (textOf r)) (written r room))) ≡ record { verdict = Good; request = r })
+unfolding writeAnswer written
+room-read r room t f = (
+  rw (t, f),
+  rw (t, f, take-append-seam (textOf r) (drop (length (textOf r)) room)) (round-trip r (length room) t f),
+)

@@ -44,20 +44,22 @@ ptyFields r =
     ∷ spaceless (r .library)
     ∷ []
 
--- "no trailing empty fields"
+-- a field in front of others; an empty one in front of none is left off
 abbrev pub front : List ℕ → List (List ℕ) → List (List ℕ)
 front [] [] = []
 front [] (g ∷ gs) = [] ∷ g ∷ gs
 front (b ∷ f) gs = (b ∷ f) ∷ gs
 
+-- "no trailing empty fields"
 abbrev pub trimmed : List (List ℕ) → List (List ℕ)
 trimmed [] = []
 trimmed (f ∷ fs) = front f (trimmed fs)
 
--- the code of a slot, and its logical channel
+-- the code of a slot
 abbrev pub codeAt : ℕ → ℕ
 codeAt k = cond (ltb k 3) k (3 + (k - 3) / 16)
 
+-- the logical channel of a slot
 abbrev pub channelAt : ℕ → ℕ
 channelAt k = cond (ltb k 3) 0 ((k - 3) % 16)
 
@@ -84,9 +86,11 @@ abbrev pub cardText : List (List ℕ) → List ℕ
 cardText [] = byte "." ∷ []
 cardText (f ∷ fs) = f ++ tailText fs
 
+-- the PTY card
 unfoldable pub ptyText : Request → List ℕ
 ptyText r = cardText (trimmed (ptyFields r))
 
+-- the FAC card
 unfoldable pub facText : Request → List ℕ
 facText r = cardText (facFields r)
 
@@ -108,10 +112,12 @@ formed w s = eqb (length s) w && formedFrom false s
 abbrev pub limit : ℕ → ℕ
 limit k = cond (eqb k 2) 1000000 100
 
+-- every number of the slots from k on is one of those
 abbrev pub numbersFit : ℕ → List ℕ → Bool
 numbersFit k [] = eqb k slots
 numbersFit k (n ∷ ns) = ltb n (limit k) && numbersFit (suc k) ns
 
+-- the names are in the one form
 abbrev pub namesFormed : Request → Bool
 namesFormed r = formed 6 (r .id) && (formed 12 (r .program) && (formed 6 (r .medium) && formed 6 (r .library)))
 

@@ -1,4 +1,4 @@
--- `words::is_same` meets its contract. The loop's invariant is that what is left to do gives what the whole gives. Assumes nothing.
+-- `words::is_same` meets its contract. The loop's invariant: the texts are equally long and their first i bytes the same, so whether they are the same is said by the bytes from i on. Assumes nothing.
 use mathlib.Core.Path.{_≡_, sym, _∙_}
 use borrow.Author.Needs.{needs}
 use Prim.Native.Nat.{_≤_, _-_}

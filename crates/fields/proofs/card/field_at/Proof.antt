@@ -1,4 +1,4 @@
--- `fields::card::field_at` meets its contract. The loop's invariant is that what is left to do gives what the whole gives. Assumes nothing.
+-- `fields::card::field_at` meets its contract. The loop's invariant: `f` is what was gathered, and `left` how many commas are to pass, so that `f` with what is left of the field is the field. Assumes nothing.
 use Rattle.fields.specs.FieldLaws.{pushed-len}
 use borrow.Author.Needs.{needs}
 use Prim.Native.Nat.{_≤_, _-_}

@@ -1,4 +1,4 @@
--- `fields::card::is_malformed` meets its contract. The loop's invariant is that what is left to do gives what the whole gives. Assumes nothing.
+-- `fields::card::is_malformed` meets its contract. The loop's invariant: the first i bytes are in form, and `over` says whether the period was passed, so the rest says whether the card is. Assumes nothing.
 use Rattle.fields.specs.FieldLaws.{by-form, too-long}
 use borrow.Author.Needs.{needs}
 use Prim.Native.Nat.{_≤_, _-_}

@@ -1,4 +1,4 @@
--- `fields::card::last_field` meets its contract. The loop's invariant is that what is left to do gives what the whole gives. Assumes nothing.
+-- `fields::card::last_field` meets its contract. The loop's invariant: n commas were passed, so the fields are n and those from i on. Assumes nothing.
 use borrow.Author.Needs.{needs}
 use Prim.Native.Nat.{_+_, _≤_, _-_}
 use mathlib.Core.Path.{_≡_}
