@@ -1,0 +1,12 @@
+pub mod Picks
+pub mod State
+pub mod Rules
+pub mod Lone
+pub mod Demand
+pub mod Laws
+pub mod Store
+pub mod Once
+pub mod Inv
+pub mod Steps
+pub mod Sim
+pub mod Proof
