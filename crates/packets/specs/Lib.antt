@@ -7,6 +7,15 @@ pub mod Laws
 pub mod Store
 pub mod Once
 pub mod Inv
+pub mod InvStores
+pub mod InvJobs
+pub mod Told
 pub mod Steps
 pub mod Sim
+pub mod SimSubmit
+pub mod SimStart
+pub mod SimEnd
+pub mod Acts
+pub mod SeenLaws
+pub mod Alone
 pub mod Proof

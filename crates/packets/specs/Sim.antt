@@ -11,7 +11,8 @@ use Rattle.units.specs.declared.Unit.{Unit as UnitState}
 use Rattle.numbers.specs.Tests.{by-bool}
 use Rattle.units.specs.State.{unitIn}
 use Rattle.packets.specs.Demand.{Holding, there}
-use Rattle.packets.specs.Inv.{EntryOk, Inv, New, enlisted-is, entry-packet, listed-busy, motion-busy, motion-move}
+use Rattle.packets.specs.Inv.{EntryOk, Inv, listed-busy, motion-busy}
+use Rattle.packets.specs.InvStores.{New, enlisted-is, entry-packet, motion-move}
 use Rattle.packets.specs.Laws.{All, all-imp, all-keep, and-both, and-left, and-right, clash, eqb-self, keep-all, keep-append, keep-same, settle-eq}
 use Rattle.packets.specs.Lone.{Lone, Request, carries, joins, locks, settle, still, stores, waits, write}
 use Rattle.packets.specs.Picks.{keep}

@@ -1,4 +1,4 @@
--- Every accepted call keeps the invariant, and the fresh cell has it.
+-- Every accepted call keeps the invariant, and the fresh cell has it. Assumes nothing.
 use Prim.Native.Nat.{ℕ, _<_}
 use mathlib.Core.Path.{_≡_, refl, sym, ap, _∙_}
 use mathlib.Core.Bool.{Bool, true, false, not, cond, _&&_}
@@ -6,21 +6,22 @@ use mathlib.Core.List.{List, [], _∷_}
 use mathlib.Core.Option.{Option, none, some}
 use native.Mathlib.Omega.{arith}
 use lib.ListN.{length, replicate}
-use lib.Dec.{ltb, eqb}
-use borrow.Author.Tests.{eqb-true, eqb-false, ltb-true}
+use lib.Dec.{eqb}
+use borrow.Author.Tests.{eqb-true, eqb-false}
 use Rattle.units.specs.declared.Unit.{Unit as UnitState}
 use Rattle.numbers.specs.Tests.{by-bool}
-use Rattle.numbers.specs.declared.Refusal.the-variants.{ChannelBusy, NoJob, NotLegal, NotTheJobs, NothingInProgress, NothingSelected, NothingStartable, OutOfRange, PacketInUse}
 use Rattle.units.specs.State.{unitIn}
 use Rattle.units.specs.declared.Holder.{Holder}
 use Rattle.packets.specs.Demand.{NoneHeld, emptyPlace, fresh}
-use Rattle.packets.specs.Inv.{EntryOk, Inv, New, NotOf, assigned-inv, busy-inv, close-inv, enqueue-inv, entry-packet, entry-place, idle-inv, inMotion, listed-busy, lock-inv, marked-inv, motion-busy, motion-move, returned-inv, running-alive, store-inv, sweep-inv}
-use Rattle.packets.specs.Laws.{All, all-imp, all-keep, and-left, and-right, any-none, clash, eqb-self, find-holds, getD-replicate-const, getD-replicate-same, not-false, not-true, passes}
+use Rattle.packets.specs.Inv.{EntryOk, Inv, inMotion, listed-busy, motion-busy, running-alive}
+use Rattle.packets.specs.InvJobs.{NotOf, assigned-inv, close-inv, returned-inv}
+use Rattle.packets.specs.InvStores.{New, busy-inv, enqueue-inv, entry-packet, entry-place, idle-inv, lock-inv, marked-inv, motion-move, store-inv, sweep-inv}
+use Rattle.packets.specs.Laws.{All, all-imp, all-keep, and-left, and-right, any-none, clash, eqb-self, find-holds, getD-replicate-const, getD-replicate-same, not-true}
 use Rattle.packets.specs.Picks.{find, keep}
-use Rattle.packets.specs.Rules.{Call, Complete, End, Mark, Start, Submit, Take, accept, aimed, always, atOf, atUnit, begun, closing, codeFor, cut, decided, failed, finished, inRange, isFailure, isNone, locked, over, owns, packet, refusal, returnIfDone, run, startable, step, submitted, toOf}
-use Rattle.packets.specs.State.{State, anyMoves, close, configured, drumOn, entryOf, fittedOn, heldBy, isBusy, isClosing, isEmpty, isIdle, isListed, isRunning, isStill, legalFor, lock, motionOn, move, moves, noJob, packetIn, packetOf, placeOf, put, relist, restatusAll, stateIn, store, sweep, withStatus}
+use Rattle.packets.specs.Rules.{Call, Complete, End, Mark, Start, Submit, Take, accept, aimed, always, atOf, atUnit, begun, closing, codeFor, cut, decided, failed, finished, isFailure, isNone, locked, over, packet, refusal, returnIfDone, run, startable, step, submitted, toOf}
+use Rattle.packets.specs.State.{State, anyMoves, close, drumOn, entryOf, heldBy, isBusy, isClosing, isEmpty, isIdle, isListed, isRunning, isStill, lock, motionOn, move, moves, noJob, packetIn, packetOf, placeOf, put, relist, restatusAll, stateIn, store, sweep, withStatus}
 use Rattle.packets.specs.Store.{alive-in, busy-in, packet-put, packet-restatus, sizeIn, state-put, state-restatus}
-use Rattle.packets.specs.declared.Assignment.{Assignment}
+use Rattle.packets.specs.Told.{Submits, assigns-to, completes-on, cut-going, cut-idle, cut-unlisted, ends-of, failed-going, failed-idle, starts-on, submits}
 use Rattle.packets.specs.declared.Carrier.{Carrier}
 use Rattle.packets.specs.declared.Channel.{Channel}
 use Rattle.packets.specs.declared.How.{How}
@@ -30,104 +31,10 @@ use Rattle.packets.specs.declared.JobState.the-variants.{ClosingError, C
 use Rattle.packets.specs.declared.Motion.{Motion}
 use Rattle.packets.specs.declared.Motion.the-variants.{Busy, Idle}
 use Rattle.packets.specs.declared.Packet.{Packet}
-use Rattle.packets.specs.declared.Spot.{Spot}
 use Rattle.packets.specs.declared.Status.{Status}
-use Rattle.packets.specs.declared.Status.the-variants.{Blank, Ended, InProgress, Listed, Stopping}
+use Rattle.packets.specs.declared.Status.the-variants.{Blank, Ended, InProgress, Listed}
 use Rattle.packets.specs.declared.Verdict.{Verdict}
 use Rattle.packets.specs.declared.Verdict.the-variants.{Denied, Granted}
-
-pub configured-in : (g : List Channel) (c : ℕ) → configured g c ≡ true → c < 16
-unfolding configured
-configured-in g c e = ltb-true c 16 (and-left (ltb c 16) _ e)
-
--- ---- what a call's acceptance tells
-
-pub record Submits (s : State) (j p f c a : ℕ) : Type 0 where
-  pub small : p < 16
-  pub running : isRunning (stateIn (s .jobs) j) ≡ true
-  pub owned : owns s j f c a ≡ true
-  pub idle : isBusy (packetIn (s .jobs) j p .status) ≡ false
-
-pub submits : (s : State) (j p f c : ℕ) (w : Spot) → refusal s (Submit j p f c w) ≡ Granted → Submits s j p f c (atOf w)
-unfolding refusal
-submits s j p f c w e =
-    let r₁ = passes (not (inRange s j p f c w)) OutOfRange _ e in
-    let r₂ = passes (not (isRunning (stateIn (s .jobs) j))) NoJob _ (r₁ .1) in
-    let r₃ = passes (not (owns s j f c (atOf w))) NotTheJobs _ (r₂ .1) in
-    let r₄ = passes (not (legalFor (fittedOn (s .channels) c) f)) NotLegal _ (r₃ .1) in
-    let r₅ = passes (isBusy (packetIn (s .jobs) j p .status)) PacketInUse Granted (r₄ .1) in
-    let t₁ = and-right (ltb j 16) _ (not-false (inRange s j p f c w) (r₁ .0)) in
-    record {
-      small = ltb-true p 16 (and-left (ltb p 16) _ t₁);
-      running = not-false _ (r₂ .0);
-      owned = not-false _ (r₃ .0);
-      idle = r₅ .0;
-    }
-
-pub starts-on : (s : State) (c : ℕ) → refusal s (Start c) ≡ Granted → (c < 16) × (isIdle (motionOn s c) ≡ true) × (isNone (find (startable s c) (s .queue)) ≡ false)
-unfolding refusal
-starts-on s c e =
-    let r₁ = passes (not (configured (s .channels) c)) OutOfRange _ e in
-    let r₂ = passes (not (isIdle (motionOn s c))) ChannelBusy _ (r₁ .1) in
-    let r₃ = passes (isNone (find (startable s c) (s .queue))) NothingStartable Granted (r₂ .1) in
-    (configured-in (s .channels) c (not-false _ (r₁ .0)), not-false _ (r₂ .0), r₃ .0)
-
-pub completes-on : (s : State) (c : ℕ) (how : How) → refusal s (Complete c how) ≡ Granted → (c < 16) × (isIdle (motionOn s c) ≡ false)
-unfolding refusal
-completes-on s c how e =
-    let r₁ = passes (not (configured (s .channels) c)) OutOfRange _ e in
-    let r₂ = passes (isIdle (motionOn s c)) NothingInProgress _ (r₁ .1) in
-    (configured-in (s .channels) c (not-false _ (r₁ .0)), r₂ .0)
-
-pub ends-of : (s : State) (j : ℕ) (e : Bool) → refusal s (End j e) ≡ Granted → isRunning (stateIn (s .jobs) j) ≡ true
-unfolding refusal
-ends-of s j e r =
-    let r₁ = passes (not (ltb j 16)) OutOfRange _ r in
-    let r₂ = passes (not (isRunning (stateIn (s .jobs) j))) NoJob Granted (r₁ .1) in
-    not-false _ (r₂ .0)
-
-pub assigns-to : (s : State) (j : ℕ) (asg : Assignment) → refusal s (Take j asg) ≡ Granted → (j < 16) × (isEmpty (stateIn (s .jobs) j) ≡ true)
-unfolding refusal
-assigns-to s j asg e =
-    let r₁ = passes (not (ltb j 16 && isEmpty (stateIn (s .jobs) j))) NothingSelected Granted e in
-    (ltb-true j 16 (and-left (ltb j 16) _ (not-false _ (r₁ .0))), and-right (ltb j 16) _ (not-false _ (r₁ .0)))
-
--- ---- statuses under the two sweeps
-
-pub failed-going : (x : Status) → inMotion x ≡ true → inMotion (failed x) ≡ true
-failed-going Blank e = e
-failed-going Listed e = e
-failed-going InProgress e = e
-failed-going Stopping e = e
-failed-going (Ended k) e = e
-
-pub cut-going : (x : Status) → inMotion x ≡ true → inMotion (cut x) ≡ true
-cut-going Blank e = e
-cut-going Listed e = e
-cut-going InProgress e = refl
-cut-going Stopping e = refl
-cut-going (Ended k) e = e
-
-pub failed-idle : (x : Status) → isBusy x ≡ false → failed x ≡ x
-failed-idle Blank e = refl
-failed-idle Listed e = clash true refl e
-failed-idle InProgress e = refl
-failed-idle Stopping e = refl
-failed-idle (Ended k) e = refl
-
-pub cut-idle : (x : Status) → isBusy x ≡ false → cut x ≡ x
-cut-idle Blank e = refl
-cut-idle Listed e = clash true refl e
-cut-idle InProgress e = clash true refl e
-cut-idle Stopping e = refl
-cut-idle (Ended k) e = refl
-
-pub cut-unlisted : (x : Status) → isListed (cut x) ≡ false
-cut-unlisted Blank = refl
-cut-unlisted Listed = refl
-cut-unlisted InProgress = refl
-cut-unlisted Stopping = refl
-cut-unlisted (Ended k) = refl
 
 -- ---- a submission
 
@@ -169,7 +76,7 @@ pub stored-at : (s : State) → Inv s → (j p : ℕ) (q : Packet) → Ready s j
 stored-at s I j p q r = rw (packet-put (s .jobs) j p q j p (ready-fits s I j p r), eqb-self j, eqb-self p)
 
 -- a packet that is free to be submitted is not in the list
-not-listed : (s : State) (j p : ℕ) → p < 16 → isBusy (packetIn (s .jobs) j p .status) ≡ false → (e : ℕ) → EntryOk s e → eqb (entryOf j p) e ≡ false
+pub not-listed : (s : State) (j p : ℕ) → p < 16 → isBusy (packetIn (s .jobs) j p .status) ≡ false → (e : ℕ) → EntryOk s e → eqb (entryOf j p) e ≡ false
 not-listed s j p small idle e k =
     by-bool (eqb (entryOf j p) e)
     (λ t. let x : entryOf j p ≡ e = eqb-true (entryOf j p) e t in
@@ -178,7 +85,7 @@ not-listed s j p small idle e k =
     clash (isBusy (packetIn (s .jobs) j p .status)) (listed-busy (packetIn (s .jobs) j p .status) m) idle)
     (λ t. t)
 
-all-relist : (P : ℕ → Type 0) (jobs : List Job) (q : List ℕ) → All P q → All P (relist jobs q)
+pub all-relist : (P : ℕ → Type 0) (jobs : List Job) (q : List ℕ) → All P q → All P (relist jobs q)
 unfolding relist
 all-relist P jobs q h =
     all-imp (λ (e : ℕ). P e × (isStill jobs e ≡ true)) P (λ e k. k .0) (keep (isStill jobs) q) (all-keep P (isStill jobs) q h)
@@ -198,7 +105,7 @@ listed-new s I j p f c a k =
           (all-imp (EntryOk s) (λ (e : ℕ). eqb (entryOf j p) e ≡ false) (not-listed s j p (k .small) (k .idle)) (s .queue) (I .queued));
     }
 
-submit-inv : (s : State) → Inv s → (j p f c a b : ℕ) → Submits s j p f c a → Inv (submitted s j p f c a b)
+pub submit-inv : (s : State) → Inv s → (j p f c a b : ℕ) → Submits s j p f c a → Inv (submitted s j p f c a b)
 submit-inv s I j p f c a b k =
     let r : Ready s j p = record { small = k .small; running = k .running; idle = k .idle } in
     by-bool (eqb f 0o07)
@@ -228,7 +135,7 @@ listed-not-closing s I j n =
     (λ e k. by-bool (eqb (placeOf e) j) (λ t. clash (isRunning (stateIn (s .jobs) j)) (rw (eqb-true (placeOf e) j t) at (k .running)) n) (λ t. t))
     (s .queue) (I .queued)
 
-closing-not-running : (t : JobState) → isClosing t ≡ true → (isRunning t ≡ false) × (isEmpty t ≡ false)
+pub closing-not-running : (t : JobState) → isClosing t ≡ true → (isRunning t ≡ false) × (isEmpty t ≡ false)
 closing-not-running Empty e = clash false e refl
 closing-not-running Running e = clash false e refl
 closing-not-running ClosingNormal e = (refl, refl)
@@ -314,7 +221,7 @@ module _ (s : State) (I : Inv s) (c : ℕ) (small : c < 16) (j p : ℕ) (is : mo
 
 -- ---- a job's end
 
-closing-alive : (e : Bool) → isEmpty (closing e) ≡ false
+pub closing-alive : (e : Bool) → isEmpty (closing e) ≡ false
 closing-alive true = refl
 closing-alive false = refl
 
@@ -356,7 +263,7 @@ accept-inv s I (Complete c how) r =
 accept-inv s I (End j e) r = return-inv (close (sweep s j always cut) j (closing e)) (ending-inv s I j e (ends-of s j e r)) j
 accept-inv s I (Mark c u m) e = marked-inv s I c u m
 
-decided-inv : (s : State) → Inv s → (x : Call) (n : Verdict) → refusal s x ≡ n → Inv (decided s x n .state)
+pub decided-inv : (s : State) → Inv s → (x : Call) (n : Verdict) → refusal s x ≡ n → Inv (decided s x n .state)
 decided-inv s I x Granted e = accept-inv s I x e
 decided-inv s I x (Denied n) e = I
 
@@ -371,7 +278,7 @@ run-inv s I (x ∷ l) = run-inv (step s x .state) (step-inv s I x) l
 
 -- ---- the fresh cell
 
-fresh-state : (n : ℕ) (k : Job) → k .state ≡ Empty → (j : ℕ) → stateIn (replicate n k) j ≡ Empty
+pub fresh-state : (n : ℕ) (k : Job) → k .state ≡ Empty → (j : ℕ) → stateIn (replicate n k) j ≡ Empty
 unfolding stateIn
 fresh-state n k e j = getD-replicate-const (λ (x : Job). x .state) k noJob e n j
 
