@@ -154,3 +154,11 @@ pub enum Found {
     At(u8),
     Nowhere,
 }
+
+// A change of status that a call makes to several packets of one job. A failure or 07 on a unit: its listed packets end with 01.
+// 23 on a unit or on words of the drum, and the job's end: listed packets end with 16 octal, those in progress are stopping.
+pub enum Aim {
+    Failing(ChannelNumber, u32),
+    Cutting(bool, ChannelNumber, u32, u32),
+    Closing,
+}

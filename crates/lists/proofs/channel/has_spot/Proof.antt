@@ -1,0 +1,57 @@
+-- `lists::channel::has_spot` meets its contract, by what the channel has and where the submission goes. Assumes nothing.
+use mathlib.Core.Path.{sym, _∙_}
+use borrow.Author.Needs.{needs}
+use Rattle.lists.proofs.channel.has_spot.Statement.{statement}
+use Rattle.lists.proofs.channel.has_spot.Tie as tie
+use Rattle.lists.proofs.channel.has_spot.Reads as reads
+use Rattle.lists.proofs.channel.has_spot.Lts as lts
+use Rattle.lists.proofs.channel.is_drum_kind.Reads as is-drum-kind-reads
+
+enum-told : tie.Need-enum-told
+enum-told c = search needs
+
+enum-known-has : tie.Need-enum-known-has
+enum-known-has c = search needs
+
+enum-known-spot : tie.Need-enum-known-spot
+enum-known-spot c = search needs
+
+is-drum-kind-requires : tie.Need-is-drum-kind-requires
+is-drum-kind-requires c κs = search needs
+
+returns : tie.Need-returns
+returns c = rw (c .before .before .before .before .before .before .has .given .1, c .before .before .before .spot .given .1, sym (c .before .is-drum-kind .ensures) ∙ c .if1 .taken)
+
+cast-u : tie.Need-cast-u
+cast-u c = search needs
+
+enum-told-2 : tie.Need-enum-told-2
+enum-told-2 c = search needs
+
+is-drum-kind-requires-2 : tie.Need-is-drum-kind-requires-2
+is-drum-kind-requires-2 c κs = search needs
+
+returns-2 : tie.Need-returns-2
+returns-2 c = rw (c .enum-told .given .1)
+
+returns-3 : tie.Need-returns-3
+returns-3 c = rw (c .before .before .before .before .before .before .before .has .given .1, c .before .before .before .before .spot .given .1, sym (c .before .before .is-drum-kind .ensures) ∙ c .before .if1 .left)
+
+returns-4 : tie.Need-returns-4
+returns-4 c = rw (c .before .before .before .before .has .given .1, c .before .enum-told2 .given .1) (c .is-drum-kind2 .ensures)
+
+pub has-spot-spec : {M : Type 1} → statement M
+has-spot-spec =
+    tie.close
+    (tie.spec
+    enum-told
+    enum-known-has
+    enum-known-spot
+    is-drum-kind-requires
+    returns
+    cast-u
+    enum-told-2
+    is-drum-kind-requires-2
+    returns-2
+    returns-3
+    returns-4)

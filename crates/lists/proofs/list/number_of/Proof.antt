@@ -1,0 +1,18 @@
+-- `lists::list::number_of` meets its contract. Assumes nothing.
+use mathlib.Core.Path.{refl}
+use Rattle.packets.specs.State.{packetOf}
+use borrow.Author.Needs.{needs}
+use Rattle.lists.proofs.list.number_of.Statement.{statement}
+use Rattle.lists.proofs.list.number_of.Tie as tie
+use Rattle.lists.proofs.list.number_of.Reads as reads
+use Rattle.lists.proofs.list.number_of.Lts as lts
+
+cast-result : tie.Need-cast-result
+cast-result c = search needs
+
+returns : tie.Need-returns
+unfolding packetOf
+returns c = record { is = refl; small = search needs }
+
+pub number-of-spec : {M : Type 1} → statement M
+number-of-spec = tie.close (tie.spec cast-result returns)
