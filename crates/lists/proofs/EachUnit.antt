@@ -7,7 +7,7 @@ use native.Mathlib.Omega.{arith}
 use native.Mathlib.Nat.{zero-add, add-zero, suc-add, add-suc}
 use lib.ListN.{length, getD, length-map, List·getD-map}
 use lib.Dec.{ltb, eqb}
-use borrow.Author.Tests.{eqb-true, eqb-false, eq-eqb, ne-eqb, lt-ltb, le-ltb, ltb-true, ltb-false}
+use borrow.Author.Tests.{eqb-true, eq-eqb, lt-ltb, le-ltb, ltb-true, ltb-false}
 use Rattle.units.specs.declared.Unit.{Unit as UnitState}
 use Rattle.numbers.specs.Tests.{both, by-bool, never}
 use Rattle.units.specs.State.{Square, assignable, freshUnit, unitIn, unitSet}
@@ -57,11 +57,11 @@ module _ (f : ℕ → ℕ → UnitState → UnitState) (old : List (List UnitSta
           square = set-square new (P .square) (i / 16) (i % 16) v row;
           is = λ c u h k. rw (set-read new (P .square) (i / 16) (i % 16) v row col c u)
               (by-bool (eqb c (i / 16) && eqb u (i % 16))
-                (λ t. let b = both (eqb c (i / 16)) (eqb u (i % 16)) t in
-                let x : c ≡ i / 16 = eqb-true c (i / 16) (b .0) in
-                let y : u ≡ i % 16 = eqb-true u (i % 16) (b .1) in
-                rw (t, lt-ltb (c * 16 + u) (i + 1) (omega arith), x, y) e)
-                (λ t. rw (t, other c u i k t) (P .is c u h k)));
+              (λ t. let b = both (eqb c (i / 16)) (eqb u (i % 16)) t in
+              let x : c ≡ i / 16 = eqb-true c (i / 16) (b .0) in
+              let y : u ≡ i % 16 = eqb-true u (i % 16) (b .1) in
+              rw (t, lt-ltb (c * 16 + u) (i + 1) (omega arith), x, y) e)
+              (λ t. rw (t, other c u i k t) (P .is c u h k)));
         }
 
     pub passed-left : unitIn old (i / 16) (i % 16) ≡ f (i / 16) (i % 16) (unitIn old (i / 16) (i % 16)) → Passed new (i + 1)

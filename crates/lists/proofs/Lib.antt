@@ -4,3 +4,7 @@ pub mod Search
 pub mod Relist
 pub mod Oldest
 pub mod EachUnit
+pub mod Tests
+pub mod Composed
+pub mod Verdicts
+pub mod Calls

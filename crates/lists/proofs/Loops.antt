@@ -1,6 +1,6 @@
 -- Loops that change each element of a list in its place. Assumes nothing.
-use Prim.Native.Nat.{ℕ, zero, suc, _+_, _-_, _≤_, _<_}
-use mathlib.Core.Path.{_≡_, refl, sym, ap, _∙_, subst}
+use Prim.Native.Nat.{ℕ, suc, _+_, _≤_, _<_}
+use mathlib.Core.Path.{_≡_, refl, ap, _∙_}
 use mathlib.Core.List.{List, [], _∷_, _++_, map, append-nil}
 use native.Mathlib.Numerals.{add-one}
 use native.Mathlib.Omega.{arith}
@@ -18,10 +18,11 @@ module _ {A : Type 0} (f : A → A) (l out : List A) (i : ℕ) (e : out ≡ map 
   map-step d v h q =
       rw (add-one i, take-suc l i d h, map-append f (take i l) (getD l i d ∷ []), append-snoc (map f (take i l)) (f (getD l i d)) (drop (suc i) l))
       (ap (λ (x : List A). set x i v) now ∙ set-at (map f (take i l)) (getD l i d) (drop (suc i) l) v i size
-        ∙ ap (λ (x : A). map f (take i l) ++ (x ∷ drop (suc i) l)) (q ∙ ap f (ap (λ (x : List A). getD x i d) now ∙ getD-at (map f (take i l)) (getD l i d) (drop (suc i) l) d i size)))
+      ∙ ap (λ (x : A). map f (take i l) ++ (x ∷ drop (suc i) l)) (q ∙ ap f (ap (λ (x : List A). getD x i d) now ∙ getD-at (map f (take i l)) (getD l i d) (drop (suc i) l) d i size)))
     where
       now : out ≡ map f (take i l) ++ (getD l i d ∷ drop (suc i) l)
       now = e ∙ rw (drop-cons l i d h)
+
       size : length (map f (take i l)) ≡ i
       size = length-map (take i l) f ∙ length-take-le i l (omega arith)
 

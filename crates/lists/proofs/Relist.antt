@@ -97,8 +97,10 @@ module _ (list : RequestList) (tidy : Tidy list) (e : ℕ) where
     where
       whole : list .entries ≡ listOf list ++ replicate (256 - list .count) 0
       whole = ap (λ (r : RequestList). r .entries) (tidy .is) ∙ ap (λ (k : ℕ). listOf list ++ replicate (256 - k) 0) (sym count-is)
+
       more : list .count + 1 ≡ length (listOf list ++ (e ∷ []))
       more = omega (arith, count-is, length-append (listOf list) (e ∷ []))
+
       two : {a b : List ℕ} {m n : ℕ} → a ≡ b → m ≡ n → _≡_ {A = RequestList} (record { entries = a; count = m }) (record { entries = b; count = n })
       two p q = rw (p, q)
 

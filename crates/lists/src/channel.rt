@@ -154,3 +154,10 @@ pub fn any_moves(moving: [Carrier; 16], j: u8) -> bool
     }
     false
 }
+
+// Whether channel c is the drum's.
+pub fn is_drum_on(channels: [Channel; 16], c: ChannelNumber) -> bool
+    ensures { λ r. ⌜ r ≡ drumOn channels (c .0) ⌝ }
+{
+    is_drum(fitted_on(channels, c))
+}

@@ -9,6 +9,7 @@ use units::Unit;
 use units::Units;
 ghost use mathlib.Core.Path.{_≡_};
 ghost use Prim.Native.Nat.{_<_};
+ghost use mathlib.Core.List.{[]};
 ghost use lib.ListN.{replicate};
 ghost use Rattle.packets.specs.Picks.{find};
 ghost use Rattle.packets.specs.State.{placeOf, packetOf, enlisted};
@@ -34,6 +35,16 @@ fn no_entries() -> [u8; 256]
     ensures { λ r. ⌜ r ≡ replicate 256 0 ⌝ }
 {
     [0u8; 256]
+}
+
+// A list before it has any packet.
+pub fn empty() -> RequestList
+    ensures { λ r. ⌜ r ≡ padded [] ⌝ }
+{
+    RequestList {
+        entries: no_entries(),
+        count: 0,
+    }
 }
 
 // How many packets the list has.
@@ -113,7 +124,13 @@ fn can_start(p: Packet, row: [Unit; 16], drum: bool, c: ChannelNumber) -> bool
 }
 
 // The oldest packet of the list that can start on channel c.
-pub fn oldest(units: Units, jobs: [Job; 16], list: RequestList, drum: bool, c: ChannelNumber) -> Found
+pub fn oldest(
+    units: Units,
+    jobs: [Job; 16],
+    list: RequestList,
+    drum: bool,
+    c: ChannelNumber,
+) -> Found
     requires { ⌜ c .0 < 16 ⌝ }
     ensures { λ r. ⌜ r ≡ foundOf (find (startableOn drum (units .of) jobs (c .0)) (listOf list)) ⌝ }
 {

@@ -1,6 +1,6 @@
 // One packet: its status, whether a change is for it, and the change.
-use packets::Aim;
 use numbers::ChannelNumber;
+use packets::Aim;
 use packets::Packet;
 use packets::Status;
 ghost use mathlib.Core.Path.{_≡_};
@@ -25,7 +25,12 @@ pub fn blank() -> Packet
 pub fn made(status: Status, function: u8, channel: ChannelNumber, at: u32) -> Packet
     ensures { λ r. ⌜ r ≡ packet status function (channel .0) at ⌝ }
 {
-    Packet { status, function, channel, at }
+    Packet {
+        status,
+        function,
+        channel,
+        at,
+    }
 }
 
 // The packet with another status.

@@ -1,14 +1,32 @@
 // The places: reading and changing one job, and one packet of it.
-use packets::Aim;
 use crate::packet;
+use packets::Aim;
+use packets::Blocks;
+use packets::Core;
 use packets::Job;
 use packets::JobState;
 use packets::Packet;
 ghost use mathlib.Core.Path.{_≡_};
 ghost use lib.ListN.{getD, set};
-ghost use Rattle.packets.specs.State.{blank, packetIn, stateIn, put, restatusAll, setState};
+ghost use Rattle.packets.specs.State.{blank, jobIn, packetIn, stateIn, put, restatusAll, setState};
 ghost use Rattle.packets.specs.State.{isRunning, isEmpty, isClosing};
+ghost use Rattle.packets.specs.Demand.{emptyPlace};
 ghost use Rattle.lists.specs.Held.{testOf, changeOf};
+
+// A place where no job has been.
+pub fn empty() -> Job
+    ensures { λ r. ⌜ r ≡ emptyPlace ⌝ }
+{
+    let packets = [packet::blank(); 16];
+    let none = Blocks { start: 0, count: 0 };
+    Job {
+        state: JobState::Empty,
+        packets,
+        from: 0,
+        words: 0,
+        core: Core { ib: none, db: none },
+    }
+}
 
 // Packet p of a job; blank where a job has none.
 pub fn packet_in(ps: [Packet; 16], p: u8) -> Packet
@@ -44,6 +62,30 @@ pub fn state_at(jobs: [Job; 16], j: u8) -> JobState
     }
     let job = jobs[i];
     job.state
+}
+
+// The first word of the drum area of the job in place j; 0 where the cell has none.
+pub fn from_at(jobs: [Job; 16], j: u8) -> u32
+    ensures { λ r. ⌜ r ≡ jobIn jobs j .from ⌝ }
+{
+    let i = j as usize;
+    if 15 < i {
+        return 0;
+    }
+    let job = jobs[i];
+    job.from
+}
+
+// The words of the drum area of the job in place j; 0 where the cell has none.
+pub fn words_at(jobs: [Job; 16], j: u8) -> u32
+    ensures { λ r. ⌜ r ≡ jobIn jobs j .words ⌝ }
+{
+    let i = j as usize;
+    if 15 < i {
+        return 0;
+    }
+    let job = jobs[i];
+    job.words
 }
 
 // The packets with packet p now this.
@@ -146,4 +188,17 @@ pub fn is_closing(state: JobState) -> bool
         JobState::ClosingNormal => true,
         JobState::ClosingError => true,
     }
+}
+
+// The places with another job in place j.
+pub fn with_job(jobs: [Job; 16], j: u8, job: Job) -> [Job; 16]
+    ensures { λ r. ⌜ r ≡ set jobs j job ⌝ }
+{
+    let mut next = jobs;
+    let i = j as usize;
+    if 15 < i {
+        return jobs;
+    }
+    next[i] = job;
+    next
 }

@@ -12,9 +12,6 @@ use Rattle.lists.proofs.Search.{any-step, any-here, any-done}
 use borrow.Author.Needs.{needs}
 use Rattle.lists.proofs.channel.any_moves.Statement.{statement}
 use Rattle.lists.proofs.channel.any_moves.Tie as tie
-use Rattle.lists.proofs.channel.any_moves.Reads as reads
-use Rattle.lists.proofs.channel.any_moves.Lts as lts
-use Rattle.lists.proofs.channel.is_of.Reads as is-of-reads
 
 abbrev Inv-loop : tie.InvT-loop
 Inv-loop j moving i₀ i = (i ≤ 16) × (length moving ≡ 16) × (any (λ (m : Carrier). moves j (m .motion)) (take i moving) ≡ false)
@@ -45,9 +42,11 @@ loop-less : tie.Need-loop-less Inv-loop μ-loop
 loop-less c = omega arith
 
 loop-again : tie.Need-loop-again Inv-loop μ-loop
-loop-again c = let inv = c .before .before .before .before .loop .inv in
-    (omega arith, inv .1,
-     any-step (λ (m : Carrier). moves (c .before .before .before .before .before .args .j) (m .motion)) (c .before .before .before .before .before .args .t1) (c .before .before .before .before .loop .i) idle (omega arith) (inv .2) (sym (c .before .is-of .ensures) ∙ c .if1 .left))
+loop-again c = let inv = c .before .before .before .before .loop .inv in (
+  omega arith,
+  inv .1,
+  any-step (λ (m : Carrier). moves (c .before .before .before .before .before .args .j) (m .motion)) (c .before .before .before .before .before .args .t1) (c .before .before .before .before .loop .i) idle (omega arith) (inv .2) (sym (c .before .is-of .ensures) ∙ c .if1 .left),
+)
 
 returns-2 : tie.Need-returns-2 Inv-loop μ-loop
 returns-2 c = let inv = c .before .loop .inv in

@@ -5,8 +5,6 @@ use Rattle.lists.proofs.Outside.{fitted-out}
 use borrow.Author.Needs.{needs}
 use Rattle.lists.proofs.channel.fitted_on.Statement.{statement}
 use Rattle.lists.proofs.channel.fitted_on.Tie as tie
-use Rattle.lists.proofs.channel.fitted_on.Reads as reads
-use Rattle.lists.proofs.channel.fitted_on.Lts as lts
 
 cast-i : tie.Need-cast-i
 cast-i c = search needs

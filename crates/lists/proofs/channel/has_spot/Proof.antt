@@ -3,9 +3,6 @@ use mathlib.Core.Path.{sym, _∙_}
 use borrow.Author.Needs.{needs}
 use Rattle.lists.proofs.channel.has_spot.Statement.{statement}
 use Rattle.lists.proofs.channel.has_spot.Tie as tie
-use Rattle.lists.proofs.channel.has_spot.Reads as reads
-use Rattle.lists.proofs.channel.has_spot.Lts as lts
-use Rattle.lists.proofs.channel.is_drum_kind.Reads as is-drum-kind-reads
 
 enum-told : tie.Need-enum-told
 enum-told c = search needs

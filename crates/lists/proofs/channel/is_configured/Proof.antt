@@ -1,15 +1,11 @@
 -- `lists::channel::is_configured` meets its contract. Assumes nothing.
-use mathlib.Core.Path.{_≡_, ap, _∙_, sym}
+use mathlib.Core.Path.{ap, _∙_}
 use native.Mathlib.Omega.{arith}
 use borrow.Author.Tests.{le-ltb, lt-ltb}
 use Rattle.packets.specs.State.{configured, isThereOf}
 use borrow.Author.Needs.{needs}
 use Rattle.lists.proofs.channel.is_configured.Statement.{statement}
 use Rattle.lists.proofs.channel.is_configured.Tie as tie
-use Rattle.lists.proofs.channel.is_configured.Reads as reads
-use Rattle.lists.proofs.channel.is_configured.Lts as lts
-use Rattle.lists.proofs.channel.fitted_on.Reads as fitted-on-reads
-use Rattle.lists.proofs.channel.is_there.Reads as is-there-reads
 
 returns : tie.Need-returns
 unfolding configured

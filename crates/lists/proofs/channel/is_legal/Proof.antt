@@ -2,9 +2,6 @@
 use borrow.Author.Needs.{needs}
 use Rattle.lists.proofs.channel.is_legal.Statement.{statement}
 use Rattle.lists.proofs.channel.is_legal.Tie as tie
-use Rattle.lists.proofs.channel.is_legal.Reads as reads
-use Rattle.lists.proofs.channel.is_legal.Lts as lts
-use Rattle.functions.proofs.legal.Reads as legal-reads
 
 enum-told : tie.Need-enum-told
 enum-told c = search needs

@@ -2,8 +2,6 @@
 use borrow.Author.Needs.{needs}
 use Rattle.lists.proofs.channel.is_of.Statement.{statement}
 use Rattle.lists.proofs.channel.is_of.Tie as tie
-use Rattle.lists.proofs.channel.is_of.Reads as reads
-use Rattle.lists.proofs.channel.is_of.Lts as lts
 
 enum-told : tie.Need-enum-told
 enum-told c = search needs

@@ -6,8 +6,6 @@ use Rattle.lists.proofs.Outside.{read-out}
 use borrow.Author.Needs.{needs}
 use Rattle.lists.proofs.channel.motion_on.Statement.{statement}
 use Rattle.lists.proofs.channel.motion_on.Tie as tie
-use Rattle.lists.proofs.channel.motion_on.Reads as reads
-use Rattle.lists.proofs.channel.motion_on.Lts as lts
 
 cast-i : tie.Need-cast-i
 cast-i c = search needs

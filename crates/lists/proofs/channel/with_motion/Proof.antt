@@ -5,8 +5,6 @@ use Rattle.lists.proofs.Outside.{store-out}
 use borrow.Author.Needs.{needs}
 use Rattle.lists.proofs.channel.with_motion.Statement.{statement}
 use Rattle.lists.proofs.channel.with_motion.Tie as tie
-use Rattle.lists.proofs.channel.with_motion.Reads as reads
-use Rattle.lists.proofs.channel.with_motion.Lts as lts
 
 cast-i : tie.Need-cast-i
 cast-i c = search needs

@@ -3,9 +3,6 @@ use borrow.Author.Tests.{eq-eqb, ne-eqb}
 use borrow.Author.Needs.{needs}
 use Rattle.lists.proofs.list.can_start.Statement.{statement}
 use Rattle.lists.proofs.list.can_start.Tie as tie
-use Rattle.lists.proofs.list.can_start.Reads as reads
-use Rattle.lists.proofs.list.can_start.Lts as lts
-use Rattle.lists.proofs.list.lock_in.Reads as lock-in-reads
 
 returns : tie.Need-returns
 returns c = rw (ne-eqb _ _ (c .if1 .taken))

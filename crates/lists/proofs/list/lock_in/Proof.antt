@@ -7,8 +7,6 @@ use Rattle.lists.proofs.Outside.{read-out}
 use borrow.Author.Needs.{needs}
 use Rattle.lists.proofs.list.lock_in.Statement.{statement}
 use Rattle.lists.proofs.list.lock_in.Tie as tie
-use Rattle.lists.proofs.list.lock_in.Reads as reads
-use Rattle.lists.proofs.list.lock_in.Lts as lts
 
 returns : tie.Need-returns
 returns c = sym (ap (λ (k : Unit). k .interlock) (read-out (c .before .args .t1) (freshUnit false) (c .before .args .a) (search needs) (c .if1 .taken)))

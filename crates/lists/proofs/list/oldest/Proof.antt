@@ -1,8 +1,8 @@
+-- `lists::list::oldest` meets its contract. The invariant: none of the entries passed can start. Assumes nothing.
 use mathlib.Core.List.{List, []}
-use Prim.Native.Nat.{ℕ, _≤_, _<_, _-_, _+_}
+use Prim.Native.Nat.{ℕ, _≤_, _-_, _+_}
 use Rattle.units.specs.declared.Unit.{Unit}
 use Rattle.lists.specs.Held.{foundOf, listOf}
--- `lists::list::oldest` meets its contract. The invariant: none of the entries passed can start. Assumes nothing.
 use mathlib.Core.Path.{_≡_, refl, sym, ap, _∙_}
 use mathlib.Core.Option.{none, some}
 use native.Mathlib.Omega.{arith}
@@ -13,13 +13,6 @@ use Rattle.lists.proofs.Oldest.{canStartAt, starts-is, found-is}
 use borrow.Author.Needs.{needs}
 use Rattle.lists.proofs.list.oldest.Statement.{statement}
 use Rattle.lists.proofs.list.oldest.Tie as tie
-use Rattle.lists.proofs.list.oldest.Reads as reads
-use Rattle.lists.proofs.list.oldest.Lts as lts
-use Rattle.lists.proofs.list.can_start.Reads as can-start-reads
-use Rattle.lists.proofs.list.number_of.Reads as number-of-reads
-use Rattle.lists.proofs.list.place_of.Reads as place-of-reads
-use Rattle.lists.proofs.list.size_of.Reads as size-of-reads
-use Rattle.units.proofs.grid_of.Reads as grid-of-reads
 
 abbrev Inv-loop : tie.InvT-loop
 Inv-loop drum c jobs channel row entries end i₀ i = (i ≤ end) × (length entries ≡ 256) × (find (canStartAt drum row jobs (c .0)) (take i entries) ≡ none)

@@ -1,23 +1,15 @@
 -- `lists::list::relisted` meets its contract. The invariant: what is still listed of the entries passed stands first, and zeros follow. Assumes nothing.
 use Prim.Native.Nat.{_≤_, _<_, _-_}
 use mathlib.Core.Path.{_≡_, refl, sym, ap, _∙_}
-use mathlib.Core.Bool.{Bool}
 use mathlib.Core.Logic.{⊎-elim}
 use native.Mathlib.Omega.{arith}
-use lib.ListN.{length, take, getD}
+use lib.ListN.{length, getD}
 use Rattle.packets.specs.declared.Packet.{Packet}
 use Rattle.packets.specs.State.{isListed, isStill}
 use Rattle.lists.proofs.Relist.{Relisting, relisting-kept, relisting-gone, relisted-done, entry-is}
 use borrow.Author.Needs.{needs}
 use Rattle.lists.proofs.list.relisted.Statement.{statement}
 use Rattle.lists.proofs.list.relisted.Tie as tie
-use Rattle.lists.proofs.list.relisted.Reads as reads
-use Rattle.lists.proofs.list.relisted.Lts as lts
-use Rattle.lists.proofs.list.no_entries.Reads as no-entries-reads
-use Rattle.lists.proofs.list.number_of.Reads as number-of-reads
-use Rattle.lists.proofs.list.place_of.Reads as place-of-reads
-use Rattle.lists.proofs.list.size_of.Reads as size-of-reads
-use Rattle.lists.proofs.packet.is_listed.Reads as is-listed-reads
 
 abbrev Inv-loop : tie.InvT-loop
 Inv-loop jobs old end entries₀ count₀ i₀ entries count i = (i ≤ end) × (length old ≡ 256) × Relisting jobs old entries count i
@@ -78,12 +70,14 @@ loop-again c = let jobs = c .before .before .before .before .before .before .bef
     let less = c .before .before .before .before .before .before .loop-test .taken in
     let few = c .before .before .before .before .before .before .before .before .before .size-of .ensures .few in
     let h : l .i < length old = omega (arith, l .inv .1) in
-    let t : isStill jobs e ≡ c .before .is-listed .result = ap (λ (p : Packet). isListed (p .status)) (entry-is jobs e (c .before .before .before .before .before .place-of .result) (c .before .before .before .before .number-of .result) (c .before .before .before .before .before .place-of .ensures .is) (c .before .before .before .before .number-of .ensures .is)) ∙ sym (c .before .is-listed .ensures) in
-    (omega arith, l .inv .1,
-     ⊎-elim
-     (λ w. rw (w .1, w .2) (relisting-kept jobs old (l .entries) (l .count) (l .i) (l .inv .2) h (omega (arith, l .inv .2 .few)) (t ∙ w .0 .taken)))
-     (λ w. rw (w .1, w .2) (relisting-gone jobs old (l .entries) (l .count) (l .i) (l .inv .2) h (t ∙ w .0 .left)))
-     (c .if1 .came))
+    let t : isStill jobs e ≡ c .before .is-listed .result = ap (λ (p : Packet). isListed (p .status)) (entry-is jobs e (c .before .before .before .before .before .place-of .result) (c .before .before .before .before .number-of .result) (c .before .before .before .before .before .place-of .ensures .is) (c .before .before .before .before .number-of .ensures .is)) ∙ sym (c .before .is-listed .ensures) in (
+      omega arith,
+      l .inv .1,
+      ⊎-elim
+          (λ w. rw (w .1, w .2) (relisting-kept jobs old (l .entries) (l .count) (l .i) (l .inv .2) h (omega (arith, l .inv .2 .few)) (t ∙ w .0 .taken)))
+          (λ w. rw (w .1, w .2) (relisting-gone jobs old (l .entries) (l .count) (l .i) (l .inv .2) h (t ∙ w .0 .left)))
+          (c .if1 .came),
+    )
 
 returns : tie.Need-returns Inv-loop μ-loop
 returns c = let l = c .before .loop in

@@ -1,12 +1,8 @@
 -- `lists::list::size_of` meets its contract. Assumes nothing.
-use mathlib.Core.Path.{refl}
-use native.Mathlib.Omega.{arith}
 use Rattle.lists.proofs.Relist.{sized-full}
 use borrow.Author.Needs.{needs}
 use Rattle.lists.proofs.list.size_of.Statement.{statement}
 use Rattle.lists.proofs.list.size_of.Tie as tie
-use Rattle.lists.proofs.list.size_of.Reads as reads
-use Rattle.lists.proofs.list.size_of.Lts as lts
 
 returns : tie.Need-returns
 returns c = sized-full (c .before .args .list) (search needs) (c .if1 .taken)

@@ -1,11 +1,8 @@
 -- `lists::list::with_entry` meets its contract: room or no room. Assumes nothing.
-use native.Mathlib.Omega.{arith}
 use Rattle.lists.proofs.Relist.{entry-full, entry-joins}
 use borrow.Author.Needs.{needs}
 use Rattle.lists.proofs.list.with_entry.Statement.{statement}
 use Rattle.lists.proofs.list.with_entry.Tie as tie
-use Rattle.lists.proofs.list.with_entry.Reads as reads
-use Rattle.lists.proofs.list.with_entry.Lts as lts
 
 returns : tie.Need-returns
 returns c = entry-full (c .before .args .list) (c .before .pre) (c .before .args .e) (c .if1 .taken)

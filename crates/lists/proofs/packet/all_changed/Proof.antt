@@ -1,5 +1,5 @@
 -- `lists::packet::all_changed` meets its contract. The invariant: the packets passed are changed, the others as they were. Assumes nothing.
-use Prim.Native.Nat.{_≤_, _<_, _-_}
+use Prim.Native.Nat.{_≤_, _-_}
 use mathlib.Core.Path.{_≡_, refl}
 use mathlib.Core.List.{map, _++_}
 use native.Mathlib.Omega.{arith}
@@ -10,9 +10,6 @@ use Rattle.lists.proofs.Loops.{map-step, map-done}
 use borrow.Author.Needs.{needs}
 use Rattle.lists.proofs.packet.all_changed.Statement.{statement}
 use Rattle.lists.proofs.packet.all_changed.Tie as tie
-use Rattle.lists.proofs.packet.all_changed.Reads as reads
-use Rattle.lists.proofs.packet.all_changed.Lts as lts
-use Rattle.lists.proofs.packet.changed.Reads as changed-reads
 
 abbrev Inv-loop : tie.InvT-loop
 Inv-loop aim out₀ i₀ out i = (i ≤ 16) × (length out₀ ≡ 16) × (out ≡ map (restatus (testOf aim) (changeOf aim)) (take i out₀) ++ drop i out₀)
@@ -45,10 +42,12 @@ loop-less : tie.Need-loop-less Inv-loop μ-loop
 loop-less c = omega arith
 
 loop-again : tie.Need-loop-again Inv-loop μ-loop
-loop-again c = let inv = c .before .before .before .loop .inv in
-    (omega arith, inv .1,
-     map-step (restatus (testOf (c .before .before .before .before .args .aim)) (changeOf (c .before .before .before .before .args .aim))) (c .before .before .before .before .args .ps) (c .before .before .before .loop .out) (c .before .before .before .loop .i) (inv .2)
-     blank (c .changed .result) (omega arith) (c .changed .ensures))
+loop-again c = let inv = c .before .before .before .loop .inv in (
+  omega arith,
+  inv .1,
+  map-step (restatus (testOf (c .before .before .before .before .args .aim)) (changeOf (c .before .before .before .before .args .aim))) (c .before .before .before .before .args .ps) (c .before .before .before .loop .out) (c .before .before .before .loop .i) (inv .2)
+      blank (c .changed .result) (omega arith) (c .changed .ensures),
+)
 
 returns : tie.Need-returns Inv-loop μ-loop
 returns c = map-done (restatus (testOf (c .before .before .args .aim)) (changeOf (c .before .before .args .aim))) (c .before .before .args .ps) (c .before .loop .out) (c .before .loop .i) (c .before .loop .inv .2) (omega arith)

@@ -1,13 +1,8 @@
-use mathlib.Core.Path.{sym, _∙_}
 -- `lists::packet::changed` meets its contract: the test says whether the status changes. Assumes nothing.
+use mathlib.Core.Path.{sym, _∙_}
 use borrow.Author.Needs.{needs}
 use Rattle.lists.proofs.packet.changed.Statement.{statement}
 use Rattle.lists.proofs.packet.changed.Tie as tie
-use Rattle.lists.proofs.packet.changed.Reads as reads
-use Rattle.lists.proofs.packet.changed.Lts as lts
-use Rattle.lists.proofs.packet.changed_status.Reads as changed-status-reads
-use Rattle.lists.proofs.packet.is_meant.Reads as is-meant-reads
-use Rattle.lists.proofs.packet.with_status.Reads as with-status-reads
 
 is-meant-requires : tie.Need-is-meant-requires
 is-meant-requires c κs = search needs

@@ -1,10 +1,7 @@
-use borrow.Author.Tests.{eq-eqb, ne-eqb, le-leb, lt-leb}
 -- `lists::packet::is_aimed` meets its contract, by the tests that led there. Assumes nothing.
-use borrow.Author.Needs.{needs}
+use borrow.Author.Tests.{eq-eqb, ne-eqb, le-leb, lt-leb}
 use Rattle.lists.proofs.packet.is_aimed.Statement.{statement}
 use Rattle.lists.proofs.packet.is_aimed.Tie as tie
-use Rattle.lists.proofs.packet.is_aimed.Reads as reads
-use Rattle.lists.proofs.packet.is_aimed.Lts as lts
 
 returns : tie.Need-returns
 returns c = rw (ne-eqb _ _ (c .if1 .taken))

@@ -1,10 +1,7 @@
-use borrow.Author.Tests.{eq-eqb, ne-eqb}
 -- `lists::packet::is_at` meets its contract, by the test that led there. Assumes nothing.
-use borrow.Author.Needs.{needs}
+use borrow.Author.Tests.{eq-eqb, ne-eqb}
 use Rattle.lists.proofs.packet.is_at.Statement.{statement}
 use Rattle.lists.proofs.packet.is_at.Tie as tie
-use Rattle.lists.proofs.packet.is_at.Reads as reads
-use Rattle.lists.proofs.packet.is_at.Lts as lts
 
 returns : tie.Need-returns
 returns c = rw (eq-eqb _ _ (c .before .if1 .taken))

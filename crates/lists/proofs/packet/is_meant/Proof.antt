@@ -2,10 +2,6 @@
 use borrow.Author.Needs.{needs}
 use Rattle.lists.proofs.packet.is_meant.Statement.{statement}
 use Rattle.lists.proofs.packet.is_meant.Tie as tie
-use Rattle.lists.proofs.packet.is_meant.Reads as reads
-use Rattle.lists.proofs.packet.is_meant.Lts as lts
-use Rattle.lists.proofs.packet.is_aimed.Reads as is-aimed-reads
-use Rattle.lists.proofs.packet.is_at.Reads as is-at-reads
 
 enum-known-aim : tie.Need-enum-known-aim
 enum-known-aim c = search needs

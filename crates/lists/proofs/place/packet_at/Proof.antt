@@ -5,10 +5,6 @@ use Rattle.lists.proofs.Outside.{packet-out}
 use borrow.Author.Needs.{needs}
 use Rattle.lists.proofs.place.packet_at.Statement.{statement}
 use Rattle.lists.proofs.place.packet_at.Tie as tie
-use Rattle.lists.proofs.place.packet_at.Reads as reads
-use Rattle.lists.proofs.place.packet_at.Lts as lts
-use Rattle.lists.proofs.packet.blank.Reads as blank-reads
-use Rattle.lists.proofs.place.packet_in.Reads as packet-in-reads
 
 blank-requires : tie.Need-blank-requires
 blank-requires c κs = search needs

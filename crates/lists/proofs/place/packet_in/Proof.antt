@@ -1,14 +1,10 @@
 -- `lists::place::packet_in` meets its contract. Assumes nothing.
-use mathlib.Core.Path.{_≡_, sym, _∙_}
-use lib.ListN.{length}
+use mathlib.Core.Path.{sym, _∙_}
 use Rattle.packets.specs.State.{blank}
 use Rattle.lists.proofs.Outside.{read-out}
 use borrow.Author.Needs.{needs}
 use Rattle.lists.proofs.place.packet_in.Statement.{statement}
 use Rattle.lists.proofs.place.packet_in.Tie as tie
-use Rattle.lists.proofs.place.packet_in.Reads as reads
-use Rattle.lists.proofs.place.packet_in.Lts as lts
-use Rattle.lists.proofs.packet.blank.Reads as blank-reads
 
 blank-requires : tie.Need-blank-requires
 blank-requires c κs = search needs

@@ -4,8 +4,6 @@ use Rattle.lists.proofs.Outside.{store-out}
 use borrow.Author.Needs.{needs}
 use Rattle.lists.proofs.place.packets_with.Statement.{statement}
 use Rattle.lists.proofs.place.packets_with.Tie as tie
-use Rattle.lists.proofs.place.packets_with.Reads as reads
-use Rattle.lists.proofs.place.packets_with.Lts as lts
 
 returns : tie.Need-returns
 returns c = sym (store-out (c .before .args .ps) (c .before .args .p) (c .before .args .q) (search needs) (c .if1 .taken))

@@ -5,8 +5,6 @@ use Rattle.lists.proofs.Outside.{state-out}
 use borrow.Author.Needs.{needs}
 use Rattle.lists.proofs.place.state_at.Statement.{statement}
 use Rattle.lists.proofs.place.state_at.Tie as tie
-use Rattle.lists.proofs.place.state_at.Reads as reads
-use Rattle.lists.proofs.place.state_at.Lts as lts
 
 returns : tie.Need-returns
 returns c = sym (state-out (c .before .args .t1) (c .before .args .j) (search needs) (c .if1 .taken))

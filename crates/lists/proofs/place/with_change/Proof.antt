@@ -6,9 +6,6 @@ use Rattle.lists.proofs.Outside.{sweep-out}
 use borrow.Author.Needs.{needs}
 use Rattle.lists.proofs.place.with_change.Statement.{statement}
 use Rattle.lists.proofs.place.with_change.Tie as tie
-use Rattle.lists.proofs.place.with_change.Reads as reads
-use Rattle.lists.proofs.place.with_change.Lts as lts
-use Rattle.lists.proofs.packet.all_changed.Reads as all-changed-reads
 
 returns : tie.Need-returns
 returns c = sym (sweep-out (c .before .args .t1) (c .before .args .j) (search needs) (c .if1 .taken) (testOf (c .before .args .aim)) (changeOf (c .before .args .aim)))

@@ -5,9 +5,6 @@ use Rattle.lists.proofs.Outside.{put-out}
 use borrow.Author.Needs.{needs}
 use Rattle.lists.proofs.place.with_packet.Statement.{statement}
 use Rattle.lists.proofs.place.with_packet.Tie as tie
-use Rattle.lists.proofs.place.with_packet.Reads as reads
-use Rattle.lists.proofs.place.with_packet.Lts as lts
-use Rattle.lists.proofs.place.packets_with.Reads as packets-with-reads
 
 returns : tie.Need-returns
 returns c = sym (put-out (c .before .args .t1) (c .before .args .j) (search needs) (c .if1 .taken) (c .before .args .p) (c .before .args .q))

@@ -5,8 +5,6 @@ use Rattle.lists.proofs.Outside.{state-set-out}
 use borrow.Author.Needs.{needs}
 use Rattle.lists.proofs.place.with_state.Statement.{statement}
 use Rattle.lists.proofs.place.with_state.Tie as tie
-use Rattle.lists.proofs.place.with_state.Reads as reads
-use Rattle.lists.proofs.place.with_state.Lts as lts
 
 returns : tie.Need-returns
 returns c = sym (state-set-out (c .before .args .t1) (c .before .args .j) (search needs) (c .if1 .taken) (c .before .args .state))

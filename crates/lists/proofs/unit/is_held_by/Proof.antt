@@ -2,8 +2,6 @@
 use borrow.Author.Needs.{needs}
 use Rattle.lists.proofs.unit.is_held_by.Statement.{statement}
 use Rattle.lists.proofs.unit.is_held_by.Tie as tie
-use Rattle.lists.proofs.unit.is_held_by.Reads as reads
-use Rattle.lists.proofs.unit.is_held_by.Lts as lts
 
 enum-told : tie.Need-enum-told
 enum-told c = search needs

@@ -2,9 +2,6 @@
 use borrow.Author.Needs.{needs}
 use Rattle.lists.proofs.unit.is_taken.Statement.{statement}
 use Rattle.lists.proofs.unit.is_taken.Tie as tie
-use Rattle.lists.proofs.unit.is_taken.Reads as reads
-use Rattle.lists.proofs.unit.is_taken.Lts as lts
-use Rattle.units.proofs.is_assignable.Reads as is-assignable-reads
 
 is-assignable-requires : tie.Need-is-assignable-requires
 is-assignable-requires c κs = search needs

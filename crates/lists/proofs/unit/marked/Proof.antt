@@ -2,8 +2,6 @@
 use borrow.Author.Needs.{needs}
 use Rattle.lists.proofs.unit.marked.Statement.{statement}
 use Rattle.lists.proofs.unit.marked.Tie as tie
-use Rattle.lists.proofs.unit.marked.Reads as reads
-use Rattle.lists.proofs.unit.marked.Lts as lts
 
 enum-known-marking : tie.Need-enum-known-marking
 enum-known-marking c = search needs

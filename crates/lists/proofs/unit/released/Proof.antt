@@ -1,27 +1,19 @@
-use mathlib.Core.Bool.{Bool, _&&_}
-use Rattle.lists.proofs.EachUnit.{Passed, passed-none, passed-set, passed-left, passed-all, release-square, take-square, take-read, released-here, released-not, taken-here, taken-not, wanted-is}
 -- `lists::unit::released` meets its contract. The invariant: the units passed are changed, the others as they were. Assumes nothing.
-use Prim.Native.Nat.{ℕ, _≤_, _-_, _+_, _*_, _/_, _%_}
-use mathlib.Core.Path.{_≡_, sym, ap, subst, _∙_}
+use Rattle.lists.proofs.EachUnit.{Passed, passed-none, passed-set, passed-left, passed-all, release-square, released-here, released-not}
+use Prim.Native.Nat.{ℕ, _≤_, _-_, _+_, _/_, _%_}
+use mathlib.Core.Path.{sym, ap, subst, _∙_}
 use mathlib.Core.Logic.{⊎-elim}
 use native.Mathlib.Omega.{arith}
 use Rattle.units.specs.declared.Unit.{Unit}
 use Rattle.units.specs.declared.Units.{Units}
-use Rattle.units.specs.State.{unitIn, unitsFrom, Square, assignable}
+use Rattle.units.specs.State.{unitIn, unitsFrom, Square}
 use Rattle.units.specs.StateLaws.{of-square}
-use Rattle.packets.specs.State.{heldBy, release, takeUnit, releaseAll}
+use Rattle.packets.specs.State.{release, releaseAll}
 use Rattle.packets.specs.Store.{unit-release}
-use Rattle.lists.specs.Held.{wantedIn}
 use mathlib.Core.List.{List}
 use borrow.Author.Needs.{needs}
 use Rattle.lists.proofs.unit.released.Statement.{statement}
 use Rattle.lists.proofs.unit.released.Tie as tie
-use Rattle.lists.proofs.unit.released.Reads as reads
-use Rattle.lists.proofs.unit.released.Lts as lts
-use Rattle.lists.proofs.unit.handed.Reads as handed-reads
-use Rattle.lists.proofs.unit.is_held_by.Reads as is-held-by-reads
-use Rattle.units.proofs.grid_of.Reads as grid-of-reads
-use Rattle.units.proofs.with_unit.Reads as with-unit-reads
 
 abbrev Inv-loop : tie.InvT-loop
 Inv-loop j grid next₀ i₀ next i = (i ≤ 256) × Passed (λ (c u : ℕ) (v : Unit). release j v) grid (next .of) i
@@ -74,12 +66,13 @@ loop-again c = let l = c .before .before .before .before .loop in
     let grid = c .before .before .before .before .before .grid-of .result in
     let unit = unitIn grid (l .i / 16) (l .i % 16) in
     let less = c .before .before .before .loop-test .taken in
-    let f : ℕ → ℕ → Unit → Unit = (λ (d u : ℕ) (v : Unit). release (c .before .before .before .before .before .before .args .j) v) in
-    (omega arith,
-     ⊎-elim
-     (λ w. subst (λ (n : Units). Passed f grid (n .of) (l .i + 1)) (sym (w .3 ∙ w .2 .ensures)) (passed-set f grid (l .next .of) (l .i) (l .inv .1) less (w .1 .result) (w .1 .ensures ∙ released-here unit (c .before .before .before .before .before .before .args .j) (sym (c .before .is-held-by .ensures) ∙ w .0 .taken))))
-     (λ w. subst (λ (n : Units). Passed f grid (n .of) (l .i + 1)) (sym (w .1)) (passed-left f grid (l .next .of) (l .i) (l .inv .1) less (released-not unit (c .before .before .before .before .before .before .args .j) (sym (c .before .is-held-by .ensures) ∙ w .0 .left))))
-     (c .if1 .came))
+    let f : ℕ → ℕ → Unit → Unit = (λ (d u : ℕ) (v : Unit). release (c .before .before .before .before .before .before .args .j) v) in (
+      omega arith,
+      ⊎-elim
+          (λ w. subst (λ (n : Units). Passed f grid (n .of) (l .i + 1)) (sym (w .3 ∙ w .2 .ensures)) (passed-set f grid (l .next .of) (l .i) (l .inv .1) less (w .1 .result) (w .1 .ensures ∙ released-here unit (c .before .before .before .before .before .before .args .j) (sym (c .before .is-held-by .ensures) ∙ w .0 .taken))))
+          (λ w. subst (λ (n : Units). Passed f grid (n .of) (l .i + 1)) (sym (w .1)) (passed-left f grid (l .next .of) (l .i) (l .inv .1) less (released-not unit (c .before .before .before .before .before .before .args .j) (sym (c .before .is-held-by .ensures) ∙ w .0 .left))))
+          (c .if1 .came),
+    )
 
 returns : tie.Need-returns Inv-loop μ-loop
 returns c = let l = c .before .loop in

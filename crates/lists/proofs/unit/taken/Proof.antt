@@ -1,7 +1,7 @@
-use mathlib.Core.Bool.{Bool, _&&_}
-use Rattle.lists.proofs.EachUnit.{Passed, passed-none, passed-set, passed-left, passed-all, release-square, take-square, take-read, released-here, released-not, taken-here, taken-not, wanted-is}
 -- `lists::unit::taken` meets its contract. The invariant: the units passed are changed, the others as they were. Assumes nothing.
-use Prim.Native.Nat.{ℕ, _≤_, _-_, _+_, _*_, _/_, _%_}
+use mathlib.Core.Bool.{Bool, _&&_}
+use Rattle.lists.proofs.EachUnit.{Passed, passed-none, passed-set, passed-left, passed-all, take-square, take-read, taken-here, taken-not, wanted-is}
+use Prim.Native.Nat.{ℕ, _≤_, _-_, _+_, _/_, _%_}
 use mathlib.Core.Path.{_≡_, sym, ap, subst, _∙_}
 use mathlib.Core.Logic.{⊎-elim}
 use native.Mathlib.Omega.{arith}
@@ -9,19 +9,12 @@ use Rattle.units.specs.declared.Unit.{Unit}
 use Rattle.units.specs.declared.Units.{Units}
 use Rattle.units.specs.State.{unitIn, unitsFrom, Square, assignable}
 use Rattle.units.specs.StateLaws.{of-square}
-use Rattle.packets.specs.State.{heldBy, release, takeUnit, takeAll}
-use Rattle.packets.specs.Store.{unit-release}
+use Rattle.packets.specs.State.{takeUnit, takeAll}
 use Rattle.lists.specs.Held.{wantedIn}
 use mathlib.Core.List.{List}
 use borrow.Author.Needs.{needs}
 use Rattle.lists.proofs.unit.taken.Statement.{statement}
 use Rattle.lists.proofs.unit.taken.Tie as tie
-use Rattle.lists.proofs.unit.taken.Reads as reads
-use Rattle.lists.proofs.unit.taken.Lts as lts
-use Rattle.lists.proofs.unit.handed.Reads as handed-reads
-use Rattle.lists.proofs.unit.is_taken.Reads as is-taken-reads
-use Rattle.units.proofs.grid_of.Reads as grid-of-reads
-use Rattle.units.proofs.with_unit.Reads as with-unit-reads
 
 abbrev Inv-loop : tie.InvT-loop
 Inv-loop j wanted grid next₀ i₀ next i = (i ≤ 256) × Passed (λ (c u : ℕ) (v : Unit). takeUnit j (wantedIn wanted c u) v) grid (next .of) i
@@ -78,12 +71,13 @@ loop-again c = let l = c .before .before .before .before .loop in
     let unit = unitIn grid (l .i / 16) (l .i % 16) in
     let less = c .before .before .before .loop-test .taken in
     let t : (wantedIn (c .before .before .before .before .before .before .args .t3) (l .i / 16) (l .i % 16) && assignable unit) ≡ c .before .is-taken .result = ap (λ (b : Bool). b && assignable unit) (sym (wanted-is (c .before .before .before .before .before .before .args .t3) (l .i))) ∙ sym (c .before .is-taken .ensures) in
-    let f : ℕ → ℕ → Unit → Unit = (λ (d u : ℕ) (v : Unit). takeUnit (c .before .before .before .before .before .before .args .j) (wantedIn (c .before .before .before .before .before .before .args .t3) d u) v) in
-    (omega arith,
-     ⊎-elim
-     (λ w. subst (λ (n : Units). Passed f grid (n .of) (l .i + 1)) (sym (w .3 ∙ w .2 .ensures)) (passed-set f grid (l .next .of) (l .i) (l .inv .1) less (w .1 .result) (w .1 .ensures ∙ taken-here unit (c .before .before .before .before .before .before .args .j) (wantedIn (c .before .before .before .before .before .before .args .t3) (l .i / 16) (l .i % 16)) (t ∙ w .0 .taken))))
-     (λ w. subst (λ (n : Units). Passed f grid (n .of) (l .i + 1)) (sym (w .1)) (passed-left f grid (l .next .of) (l .i) (l .inv .1) less (taken-not unit (c .before .before .before .before .before .before .args .j) (wantedIn (c .before .before .before .before .before .before .args .t3) (l .i / 16) (l .i % 16)) (t ∙ w .0 .left))))
-     (c .if1 .came))
+    let f : ℕ → ℕ → Unit → Unit = (λ (d u : ℕ) (v : Unit). takeUnit (c .before .before .before .before .before .before .args .j) (wantedIn (c .before .before .before .before .before .before .args .t3) d u) v) in (
+      omega arith,
+      ⊎-elim
+          (λ w. subst (λ (n : Units). Passed f grid (n .of) (l .i + 1)) (sym (w .3 ∙ w .2 .ensures)) (passed-set f grid (l .next .of) (l .i) (l .inv .1) less (w .1 .result) (w .1 .ensures ∙ taken-here unit (c .before .before .before .before .before .before .args .j) (wantedIn (c .before .before .before .before .before .before .args .t3) (l .i / 16) (l .i % 16)) (t ∙ w .0 .taken))))
+          (λ w. subst (λ (n : Units). Passed f grid (n .of) (l .i + 1)) (sym (w .1)) (passed-left f grid (l .next .of) (l .i) (l .inv .1) less (taken-not unit (c .before .before .before .before .before .before .args .j) (wantedIn (c .before .before .before .before .before .before .args .t3) (l .i / 16) (l .i % 16)) (t ∙ w .0 .left))))
+          (c .if1 .came),
+    )
 
 returns : tie.Need-returns Inv-loop μ-loop
 returns c = let l = c .before .loop in

@@ -6,10 +6,6 @@ use Rattle.units.specs.StateLaws.{of-square, read-past, read-beside}
 use borrow.Author.Needs.{needs}
 use Rattle.lists.proofs.unit.unit_of.Statement.{statement}
 use Rattle.lists.proofs.unit.unit_of.Tie as tie
-use Rattle.lists.proofs.unit.unit_of.Reads as reads
-use Rattle.lists.proofs.unit.unit_of.Lts as lts
-use Rattle.units.proofs.fresh_unit.Reads as fresh-unit-reads
-use Rattle.units.proofs.grid_of.Reads as grid-of-reads
 
 grid-of-requires : tie.Need-grid-of-requires
 grid-of-requires c κs = search needs

@@ -2,10 +2,6 @@
 use borrow.Author.Needs.{needs}
 use Rattle.lists.proofs.unit.with_lock.Statement.{statement}
 use Rattle.lists.proofs.unit.with_lock.Tie as tie
-use Rattle.lists.proofs.unit.with_lock.Reads as reads
-use Rattle.lists.proofs.unit.with_lock.Lts as lts
-use Rattle.lists.proofs.unit.unit_of.Reads as unit-of-reads
-use Rattle.lists.proofs.unit.with_state.Reads as with-state-reads
 
 unit-of-requires : tie.Need-unit-of-requires
 unit-of-requires c κs = search needs

@@ -2,11 +2,6 @@
 use borrow.Author.Needs.{needs}
 use Rattle.lists.proofs.unit.with_mark.Statement.{statement}
 use Rattle.lists.proofs.unit.with_mark.Tie as tie
-use Rattle.lists.proofs.unit.with_mark.Reads as reads
-use Rattle.lists.proofs.unit.with_mark.Lts as lts
-use Rattle.lists.proofs.unit.marked.Reads as marked-reads
-use Rattle.units.proofs.unit_at.Reads as unit-at-reads
-use Rattle.units.proofs.with_unit.Reads as with-unit-reads
 
 unit-at-requires : tie.Need-unit-at-requires
 unit-at-requires c κs = search needs

@@ -6,11 +6,6 @@ use Rattle.lists.proofs.EachUnit.{set-off}
 use borrow.Author.Needs.{needs}
 use Rattle.lists.proofs.unit.with_state.Statement.{statement}
 use Rattle.lists.proofs.unit.with_state.Tie as tie
-use Rattle.lists.proofs.unit.with_state.Reads as reads
-use Rattle.lists.proofs.unit.with_state.Lts as lts
-use Rattle.units.proofs.grid_of.Reads as grid-of-reads
-use Rattle.units.proofs.units_from.Reads as units-from-reads
-use Rattle.units.proofs.with_unit.Reads as with-unit-reads
 
 grid-of-requires : tie.Need-grid-of-requires
 grid-of-requires c κs = search needs
