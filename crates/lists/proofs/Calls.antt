@@ -1,35 +1,43 @@
 -- Each call's outcome, from what its parts have computed. Assumes nothing.
 use Prim.Native.Nat.{ℕ, _<_}
 use mathlib.Core.Path.{_≡_, refl, sym, ap, _∙_}
-use mathlib.Core.Bool.{Bool, true, false, not}
+use mathlib.Core.Bool.{Bool, true, false, not, _&&_}
+use mathlib.Core.List.{List}
 use mathlib.Core.Option.{Option, none, some}
 use native.Mathlib.Omega.{arith}
+use lib.ListN.{set}
 use lib.Dec.{ltb}
 use borrow.Author.Tests.{ltb-true}
 use Rattle.lists.proofs.Composed.{keeping-return}
 use Rattle.numbers.specs.declared.Refusal.{Refusal}
-use Rattle.numbers.specs.declared.Refusal.the-variants.{ChannelBusy, NoJob, NothingInProgress, NothingStartable, OutOfRange, WrongCompletion}
+use Rattle.numbers.specs.declared.Refusal.the-variants.{ChannelBusy, NoJob, NothingInProgress, NothingSelected, NothingStartable, OutOfRange, WrongCompletion}
+use Rattle.units.specs.State.{unitIn, unitSet, unitsFrom}
+use Rattle.units.specs.declared.Units.{Units}
 use Rattle.packets.specs.Demand.{there}
 use Rattle.packets.specs.Laws.{and-left, and-right, not-false, passes}
 use Rattle.packets.specs.Lone.{lists}
 use Rattle.packets.specs.Picks.{find}
 use Rattle.packets.specs.Proof.{next}
-use Rattle.packets.specs.Rules.{Call, Complete, End, Start, Submit, accept, answer, atOf, badHow, begins, closed, completed, completes, finished, inRange, leaving, packet, refusal, returnIfDone, startable, startableOn, started, submitted, toOf}
-use Rattle.packets.specs.State.{State, configured, drumOn, isIdle, isRunning, motionOn, moves, packetIn, packetOf, placeOf, stateIn}
+use Rattle.packets.specs.Rules.{Call, Complete, End, Mark, Start, Submit, Take, accept, answer, atOf, badHow, begins, closed, completed, completes, finished, freshJob, inRange, leaving, packet, reaches, refusal, returnIfDone, startable, startableOn, started, submitted, toOf, withMark}
+use Rattle.packets.specs.State.{State, configured, drumOn, fittedOn, isEmpty, isIdle, isRunning, motionOn, moves, packetIn, packetOf, placeOf, stateIn, takeAll, wanted}
 use Rattle.packets.specs.declared.Answer.the-variants.{Closed, Completed, Done, Started}
+use Rattle.packets.specs.declared.Assignment.{Assignment}
 use Rattle.packets.specs.declared.Found.{Found}
 use Rattle.packets.specs.declared.Found.the-variants.{At, Nowhere}
 use Rattle.packets.specs.declared.How.{How}
 use Rattle.packets.specs.declared.How.the-variants.{Cut, Failed, Full}
+use Rattle.packets.specs.declared.Job.{Job}
 use Rattle.packets.specs.declared.Leaving.{Leaving}
 use Rattle.packets.specs.declared.Lists.{Lists}
+use Rattle.packets.specs.declared.Marking.{Marking}
 use Rattle.packets.specs.declared.Motion.{Motion}
 use Rattle.packets.specs.declared.Motion.the-variants.{Busy, Idle}
 use Rattle.packets.specs.declared.Outcome.{Outcome}
 use Rattle.packets.specs.declared.Packet.{Packet}
 use Rattle.packets.specs.declared.Spot.{Spot}
+use Rattle.packets.specs.declared.Spot.the-variants.{OnUnit}
 use Rattle.packets.specs.declared.Verdict.the-variants.{Denied, Granted}
-use Rattle.lists.specs.Held.{beginning, foundOf, keeping, listOf, listsOf, outcome, refusedWith, settled, stateOf, wrongHow}
+use Rattle.lists.specs.Held.{beginning, foundOf, keeping, listOf, listsOf, outcome, refusedWith, settled, stateOf, withUnits, wrongHow}
 
 -- refused and accepted calls
 pub refused-is : (r : Lists) (x : Call) (n : Refusal) → refusal (stateOf r) x ≡ Denied n → (o : Outcome) → o ≡ refusedWith r n → o ≡ outcome r x
@@ -151,3 +159,27 @@ module _ (r : Lists) (j : ℕ) (err : Bool) where
         rw (g, h, d)
         (rw (keeping-return (closed (stateOf r) j err) j)
         (granted-is r (End j err) (rw (small, e))))
+
+-- ---- taking a job, and marks
+
+module _ (r : Lists) (j : ℕ) (asg : Assignment) where
+  pub take-out : (ltb j 16 && isEmpty (stateIn (r .jobs) j)) ≡ false → refusal (stateOf r) (Take j asg) ≡ Denied NothingSelected
+  unfolding refusal
+  take-out e = rw e
+
+  pub take-done : ltb j 16 ≡ true → isEmpty (stateIn (r .jobs) j) ≡ true → (job : Job) → job ≡ freshJob asg → (jobs : List Job) → jobs ≡ set (r .jobs) j job
+      → (units : Units) → units ≡ unitsFrom (takeAll (r .units .of) j (wanted asg))
+      → _≡_ {A = Outcome} (record { answer = Done; lists = record { channels = r .channels; jobs = jobs; list = r .list; moving = r .moving; units = units } }) (outcome r (Take j asg))
+  unfolding refusal accept answer
+  take-done small e job q jobs g units h = rw (g, h, q) (granted-is r (Take j asg) (rw (small, e)))
+
+module _ (r : Lists) (c u : ℕ) (m : Marking) where
+  pub mark-out : (ltb c 16 && reaches (fittedOn (r .channels) c) (OnUnit (record { 0 = u }))) ≡ false → refusal (stateOf r) (Mark c u m) ≡ Denied OutOfRange
+  unfolding refusal
+  mark-out e = rw e
+
+  pub mark-done : (ltb c 16 && reaches (fittedOn (r .channels) c) (OnUnit (record { 0 = u }))) ≡ true
+      → (units : Units) → units ≡ unitsFrom (unitSet (r .units .of) c u (withMark (unitIn (r .units .of) c u) m)) → (next : Lists) → next ≡ withUnits r units
+      → _≡_ {A = Outcome} (record { answer = Done; lists = next }) (outcome r (Mark c u m))
+  unfolding refusal accept answer
+  mark-done e units h next g = rw (g, h) (granted-is r (Mark c u m) (rw e))

@@ -13,16 +13,18 @@ use Rattle.units.specs.declared.Holder.{Holder}
 use Rattle.units.specs.declared.Units.{Units}
 use Rattle.packets.specs.Lone.{lists}
 use Rattle.packets.specs.Rules.{Call, Complete, End, Mark, Start, Submit, Take, accept, aimed, always, answer, atUnit, cut, failed, refusal}
-use Rattle.packets.specs.State.{State, isStopping, move, packetIn, relist, store, wanted, withStatus}
+use Rattle.packets.specs.State.{State, blank, isStopping, move, packetIn, relist, store, wanted, withStatus}
 use Rattle.packets.specs.declared.Aim.{Aim}
 use Rattle.packets.specs.declared.Aim.the-variants.{Closing, Cutting, Failing}
 use Rattle.packets.specs.declared.Answer.the-variants.{Refused}
 use Rattle.packets.specs.declared.Carrier.{Carrier}
+use Rattle.packets.specs.declared.Core.{Core}
 use Rattle.packets.specs.declared.Found.{Found}
 use Rattle.packets.specs.declared.Found.the-variants.{At, Nowhere}
 use Rattle.packets.specs.declared.How.{How}
 use Rattle.packets.specs.declared.How.the-variants.{Cut, Failed, Full}
 use Rattle.packets.specs.declared.Job.{Job}
+use Rattle.packets.specs.declared.JobState.the-variants.{Running}
 use Rattle.packets.specs.declared.Lists.{Lists}
 use Rattle.packets.specs.declared.Motion.{Motion}
 use Rattle.packets.specs.declared.Motion.the-variants.{Busy, Idle}
@@ -153,3 +155,7 @@ abbrev pub wrongHow : Status → How → Bool
 wrongHow t Full = false
 wrongHow t Cut = not (isStopping t)
 wrongHow t (Failed k) = eqb k 0o00 || (eqb k 0o01 || (eqb k 0o16 || (eqb k 0o17 || ltb 0o77 k)))
+
+-- a job that has just been taken
+abbrev pub takenJob : ℕ → ℕ → Core → Job
+takenJob from words core = record { state = Running; packets = replicate 16 blank; from = from; words = words; core = core }

@@ -187,3 +187,49 @@ pub fn end(lists: Lists, place: u8, in_error: bool) -> Outcome
         lists: next,
     }
 }
+
+// A job is taken into a place with an assignment: its packets blank, its units without interlock.
+pub fn take(lists: Lists, place: u8, assignment: Assignment) -> Outcome
+    ensures { λ r. ⌜ r ≡ outcome lists (Take place assignment) ⌝ }
+{
+    let jobs = lists.jobs;
+    let units = lists.units;
+    if 15 < place {
+        return refused(lists, Refusal::NothingSelected);
+    }
+    if !place::is_empty(place::state_at(jobs, place)) {
+        return refused(lists, Refusal::NothingSelected);
+    }
+    let wanted = assignment.units;
+    let core = assignment.core;
+    let job = place::running(assignment.from, assignment.words, core);
+    let mut next = lists;
+    let taken = place::with_job(jobs, place, job);
+    let held = unit::taken(units, place, wanted);
+    next.jobs = taken;
+    next.units = held;
+    Outcome {
+        answer: Answer::Done,
+        lists: next,
+    }
+}
+
+// A mark of a unit is set or cleared; on the drum channel there is no unit.
+pub fn mark(lists: Lists, channel: ChannelNumber, unit: UnitNumber, marking: Marking) -> Outcome
+    ensures { λ r. ⌜ r ≡ outcome lists (Mark (channel .0) (unit .0) marking) ⌝ }
+{
+    let channels = lists.channels;
+    let units = lists.units;
+    if 15 < channel.0 {
+        return refused(lists, Refusal::OutOfRange);
+    }
+    if !channel::has_spot(channel::fitted_on(channels, channel), Spot::OnUnit(unit)) {
+        return refused(lists, Refusal::OutOfRange);
+    }
+    let marked = unit::with_mark(units, channel, unit, marking);
+    let next = stores::with_units(lists, marked);
+    Outcome {
+        answer: Answer::Done,
+        lists: next,
+    }
+}

@@ -11,7 +11,7 @@ ghost use lib.ListN.{getD, set};
 ghost use Rattle.packets.specs.State.{blank, jobIn, packetIn, stateIn, put, restatusAll, setState};
 ghost use Rattle.packets.specs.State.{isRunning, isEmpty, isClosing};
 ghost use Rattle.packets.specs.Demand.{emptyPlace};
-ghost use Rattle.lists.specs.Held.{testOf, changeOf};
+ghost use Rattle.lists.specs.Held.{testOf, changeOf, takenJob};
 
 // A place where no job has been.
 pub fn empty() -> Job
@@ -25,6 +25,20 @@ pub fn empty() -> Job
         from: 0,
         words: 0,
         core: Core { ib: none, db: none },
+    }
+}
+
+// A job that has just been taken: its packets blank, its drum area and core.
+pub fn running(from: u32, words: u32, core: Core) -> Job
+    ensures { λ r. ⌜ r ≡ takenJob from words core ⌝ }
+{
+    let packets = [packet::blank(); 16];
+    Job {
+        state: JobState::Running,
+        packets,
+        from,
+        words,
+        core,
     }
 }
 
