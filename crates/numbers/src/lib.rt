@@ -1,7 +1,6 @@
 // The bulletin's three kinds of count, none of which can be passed for another; the kinds of channel; the refusals.
 ghost use mathlib.Core.Path.{_≡_};
-ghost use Prim.Native.Nat.{_<_};
-ghost use Rattle.numbers.specs.Kinds.{kindOf, codeOf, Rowed};
+ghost use Rattle.numbers.specs.Kinds.{kindOf, codeOf, Rowed, isDrum};
 ghost use Rattle.numbers.specs.Quoted.{is2};
 ghost use Rattle.numbers.specs.Refusals.{numberOf};
 
@@ -46,6 +45,12 @@ pub enum Refusal {
     BadConfiguration,
     NoSuchRequest,
     JobRuns,
+}
+
+// How a call that answers nothing else ends: it was done, or refused.
+pub enum Outcome {
+    Done,
+    Refused(Refusal),
 }
 
 // Whether two bytes are the letters x, y.
@@ -95,6 +100,18 @@ pub fn row_of(kind: Kind) -> usize
         Kind::Mt => 1,
         Kind::Pr => 2,
         Kind::Md => 3,
+    }
+}
+
+// Whether a kind is the drum, which has words and no units.
+pub fn is_drum(kind: Kind) -> bool
+    ensures { λ r. ⌜ r ≡ isDrum kind ⌝ }
+{
+    match kind {
+        Kind::Ma => false,
+        Kind::Mt => false,
+        Kind::Pr => false,
+        Kind::Md => true,
     }
 }
 

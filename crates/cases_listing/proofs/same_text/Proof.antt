@@ -1,0 +1,66 @@
+-- `cases_listing::same_text` is safe: what is compared is what the listing put. Assumes nothing.
+use Rattle.text.specs.RoomLaws.{written-length}
+use borrow.Author.Needs.{needs}
+use Rattle.cases_listing.proofs.same_text.Statement.{statement}
+use Rattle.cases_listing.proofs.same_text.Tie as tie
+
+buffer-requires : tie.Need-buffer-requires
+buffer-requires c κs = search needs
+
+load-requires : tie.Need-load-requires
+load-requires c κs = search needs
+
+buffer-requires-2 : tie.Need-buffer-requires-2
+buffer-requires-2 c κs = search needs
+
+load-requires-2 : tie.Need-load-requires-2
+load-requires-2 c κs = search needs
+
+array-share-prefix-text : tie.Need-array-share-prefix-text
+array-share-prefix-text c = search needs
+
+slice-aggregate-listing : tie.Need-slice-aggregate-listing
+slice-aggregate-listing c = search needs
+
+slice-aggregate-listing-2 : tie.Need-slice-aggregate-listing-2
+slice-aggregate-listing-2 c = search needs
+
+listing-requires : tie.Need-listing-requires
+listing-requires c κs = search needs
+
+array-share-prefix-room : tie.Need-array-share-prefix-room
+array-share-prefix-room c = search needs
+
+slice-aggregate-same : tie.Need-slice-aggregate-same
+slice-aggregate-same c = written-length (c .before .before .listing .ensures .text)
+
+array-share-prefix-wanted : tie.Need-array-share-prefix-wanted
+array-share-prefix-wanted c = search needs
+
+slice-aggregate-same-2 : tie.Need-slice-aggregate-same-2
+slice-aggregate-same-2 c = search needs
+
+same-requires : tie.Need-same-requires
+same-requires c κs = search needs
+
+returns : tie.Need-returns
+returns c = search needs
+
+pub same-text-spec : {M : Type 1} → statement M
+same-text-spec =
+    tie.close
+    (tie.spec
+    buffer-requires
+    load-requires
+    buffer-requires-2
+    load-requires-2
+    array-share-prefix-text
+    slice-aggregate-listing
+    slice-aggregate-listing-2
+    listing-requires
+    array-share-prefix-room
+    slice-aggregate-same
+    array-share-prefix-wanted
+    slice-aggregate-same-2
+    same-requires
+    returns)

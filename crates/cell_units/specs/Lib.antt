@@ -1,0 +1,4 @@
+pub mod Fresh
+pub mod Marks
+pub mod FreshLaws
+pub mod MarkLaws

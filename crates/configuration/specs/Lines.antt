@@ -1,0 +1,89 @@
+-- The lines of a configuration: decimal text, single spaces, LF at the end.
+use Prim.Native.Nat.{ℕ, _+_, _≤_}
+use mathlib.Core.Path.{_≡_}
+use mathlib.Core.Bool.{Bool, cond}
+use mathlib.Core.List.{List}
+use lib.Dec.{eqb, leb}
+use lib.ListN.{length, getD, drop}
+use Rattle.text.specs.declared.Number.{Number}
+use Rattle.text.specs.declared.Number.the-variants as Number′
+use Rattle.text.specs.Reading.{twoDigitsOf, decimalOf}
+use Rattle.numbers.specs.declared.Kind.{Kind}
+use Rattle.numbers.specs.declared.Kind.the-variants.{Ma, Mt, Pr, Md}
+use Rattle.numbers.specs.declared.Coded.{Coded}
+use Rattle.numbers.specs.declared.Coded.the-variants as Coded′
+use Rattle.numbers.specs.Quoted.{byte}
+use Rattle.numbers.specs.Kinds.{kindOf}
+use Rattle.configuration.specs.declared.line.ChannelLine.{ChannelLine}
+use Rattle.configuration.specs.declared.line.ChannelLine.the-variants as ChannelLine′
+use Rattle.configuration.specs.declared.line.DownLine.{DownLine}
+use Rattle.configuration.specs.declared.line.DownLine.the-variants as DownLine′
+
+-- units 1 to 16, or for MD the drum length, 35,330 to 1,000,000 words
+abbrev pub least : Kind → ℕ
+least Ma = 1
+least Mt = 1
+least Pr = 1
+least Md = 35330
+
+abbrev pub most : Kind → ℕ
+most Ma = 16
+most Mt = 16
+most Pr = 16
+most Md = 1000000
+
+-- goes on with a number that was read, and its length
+abbrev pub onNumber : {A : Type 0} → Number → A → (ℕ → ℕ → A) → A
+onNumber (Number′.Is n k) wrong go = go n k
+onNumber Number′.Wrong wrong go = wrong
+
+-- goes on with a kind that was read
+abbrev pub onKind : {A : Type 0} → Coded → A → (Kind → A) → A
+onKind (Coded′.Is kind) wrong go = go kind
+onKind Coded′.Unknown wrong go = wrong
+
+-- the byte at a place is b
+abbrev pub stands : ℕ → ℕ → List ℕ → Bool
+stands b at s = eqb (getD s at 0) b
+
+-- a decimal number from low to high that ends its line
+unfoldable pub lastNumber : ℕ → ℕ → List ℕ → Number
+lastNumber low high s =
+    onNumber (decimalOf s) Number′.Wrong λ n k.
+    cond (leb low n) (cond (leb n high) (cond (stands (byte "\n") k s) (Number′.Is n (k + 1)) Number′.Wrong) Number′.Wrong) Number′.Wrong
+
+-- `cc KK n`: a channel number 00 to 15, its kind, its n
+unfoldable pub channelLine : List ℕ → ChannelLine
+channelLine s =
+    onNumber (twoDigitsOf s) ChannelLine′.Wrong λ c _.
+    cond (leb c 15) (cond (stands (byte " ") 2 s)
+    (onKind (kindOf (getD s 3 0) (getD s 4 0)) ChannelLine′.Wrong λ kind.
+    cond (stands (byte " ") 5 s) (onNumber (lastNumber (least kind) (most kind) (drop 6 s)) ChannelLine′.Wrong λ n k.
+    ChannelLine′.Is (record { 0 = c }) kind n (6 + k)) ChannelLine′.Wrong)
+    ChannelLine′.Wrong) ChannelLine′.Wrong
+
+-- `cc uu`: a channel number 00 to 15, a unit number 00 to 15
+unfoldable pub downLine : List ℕ → DownLine
+downLine s =
+    onNumber (twoDigitsOf s) DownLine′.Wrong λ c _.
+    cond (leb c 15) (cond (stands (byte " ") 2 s)
+    (onNumber (twoDigitsOf (drop 3 s)) DownLine′.Wrong λ u _.
+    cond (leb u 15) (cond (stands (byte "\n") 5 s) (DownLine′.Is (record { 0 = c }) (record { 0 = u })) DownLine′.Wrong) DownLine′.Wrong)
+    DownLine′.Wrong) DownLine′.Wrong
+
+-- what a reader of a line answers: what the line says, and that it lies within the text
+abbrev pub channelFits : ChannelLine → ℕ → Type 0
+channelFits (ChannelLine′.Is channel kind n k) size = (channel .0 ≤ 15) × (k ≤ size)
+channelFits ChannelLine′.Wrong size = 0 ≤ size
+
+pub record ChannelRead (s : List ℕ) (r : ChannelLine) : Type 0 where
+  pub is : r ≡ channelLine s
+  pub fits : channelFits r (length s)
+
+abbrev pub downFits : DownLine → ℕ → Type 0
+downFits (DownLine′.Is channel unit) size = (channel .0 ≤ 15) × (unit .0 ≤ 15) × (6 ≤ size)
+downFits DownLine′.Wrong size = 0 ≤ size
+
+pub record DownRead (s : List ℕ) (r : DownLine) : Type 0 where
+  pub is : r ≡ downLine s
+  pub fits : downFits r (length s)
