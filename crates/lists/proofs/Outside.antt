@@ -8,8 +8,8 @@ use lib.ListN.{length, getD, set, List·getD-eq-default}
 use lib.Seq.{set-out}
 use Rattle.functions.specs.Legal.{has}
 use Rattle.packets.specs.State.{blank, fittedOn, jobIn, noJob, packetIn, put, restatus, restatusAll, setState, stateIn, withPackets, withState}
-use Rattle.packets.specs.declared.Channel.{Channel}
-use Rattle.packets.specs.declared.Fitted.the-variants.{Nothing}
+use Rattle.channels.specs.declared.Channel.{Channel}
+use Rattle.channels.specs.declared.Fitted.the-variants.{Nothing}
 use Rattle.packets.specs.declared.Job.{Job}
 use Rattle.packets.specs.declared.JobState.{JobState}
 use Rattle.packets.specs.declared.JobState.the-variants.{Empty}

@@ -8,7 +8,7 @@ use Rattle.units.specs.State.{unitIn}
 use Rattle.functions.specs.Legal.{has}
 use Rattle.packets.specs.Rules.{Submit, atOf, first, inArea, reaches, refusal}
 use Rattle.packets.specs.State.{State, drumOn, fittedOn, heldBy, isBusy, isDrumOf, isRunning, jobIn, legalFor, packetIn, stateIn}
-use Rattle.packets.specs.declared.Fitted.{Fitted}
+use Rattle.channels.specs.declared.Fitted.{Fitted}
 use Rattle.packets.specs.declared.Spot.{Spot}
 use Rattle.packets.specs.declared.Verdict.the-variants.{Granted}
 

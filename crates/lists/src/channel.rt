@@ -1,14 +1,12 @@
 // Channels: what a channel has, and what moves on it.
+use channels::Channel;
+use channels::Fitted;
 use numbers::ChannelNumber;
-use numbers::Kind;
 use packets::Carrier;
-use packets::Channel;
-use packets::Fitted;
 use packets::Motion;
 use packets::Spot;
 ghost use mathlib.Core.Path.{_≡_};
 ghost use lib.ListN.{getD, set};
-ghost use Rattle.numbers.specs.Kinds.{isDrum};
 ghost use Rattle.packets.specs.State.{fittedOn, isDrumOf, isThereOf, drumOn, configured, legalFor, isIdle, moves, anyMoves};
 ghost use Rattle.packets.specs.Rules.{reaches};
 ghost use Rattle.lists.specs.Held.{idle, carrying};
@@ -25,24 +23,13 @@ pub fn fitted_on(channels: [Channel; 16], c: ChannelNumber) -> Fitted
     channel.has
 }
 
-fn is_drum_kind(kind: Kind) -> bool
-    ensures { λ r. ⌜ r ≡ isDrum kind ⌝ }
-{
-    match kind {
-        Kind::Ma => false,
-        Kind::Mt => false,
-        Kind::Pr => false,
-        Kind::Md => true,
-    }
-}
-
 // Whether it is the drum.
 pub fn is_drum(has: Fitted) -> bool
     ensures { λ r. ⌜ r ≡ isDrumOf has ⌝ }
 {
     match has {
         Fitted::Nothing => false,
-        Fitted::With(kind, _) => is_drum_kind(kind),
+        Fitted::With(kind, _) => numbers::is_drum(kind),
     }
 }
 
@@ -84,13 +71,16 @@ pub fn has_spot(has: Fitted, spot: Spot) -> bool
         Fitted::Nothing => false,
         Fitted::With(kind, n) => match spot {
             Spot::OnUnit(unit) => {
-                if is_drum_kind(kind) {
+                if numbers::is_drum(kind) {
+                    return false;
+                }
+                if 15 < unit.0 {
                     return false;
                 }
                 let u = unit.0 as u32;
                 u < n
             }
-            Spot::OnDrum(_, _) => is_drum_kind(kind),
+            Spot::OnDrum(_, _) => numbers::is_drum(kind),
         },
     }
 }

@@ -9,6 +9,7 @@ mod stores;
 mod submission;
 mod unit;
 
+use channels::Channel;
 use numbers::ChannelNumber;
 use numbers::Refusal;
 use numbers::UnitNumber;
@@ -16,7 +17,6 @@ use packets::Answer;
 use packets::Assignment;
 use packets::Begun;
 use packets::Carrier;
-use packets::Channel;
 use packets::Found;
 use packets::How;
 use packets::Job;

@@ -15,7 +15,7 @@ use Rattle.packets.specs.declared.Answer.{Answer}
 use Rattle.packets.specs.declared.Answer.the-variants.{Closed, Completed, Done, Refused, Started}
 use Rattle.packets.specs.declared.Assignment.{Assignment}
 use Rattle.packets.specs.declared.Begun.{Begun}
-use Rattle.packets.specs.declared.Channel.{Channel}
+use Rattle.channels.specs.declared.Channel.{Channel}
 use Rattle.packets.specs.declared.Job.{Job}
 use Rattle.packets.specs.declared.JobState.the-variants.{Empty}
 use Rattle.packets.specs.declared.Motion.the-variants.{Busy, Idle}

@@ -11,8 +11,8 @@ use Rattle.numbers.specs.declared.Refusal.{Refusal}
 use Rattle.numbers.specs.declared.Refusal.the-variants.{OutOfRange, NoJob, NotTheJobs, NotLegal, PacketInUse, ChannelBusy, NothingStartable, NothingInProgress, WrongCompletion, NothingSelected}
 use Rattle.units.specs.State.{unitIn, unitSet}
 use Rattle.units.specs.declared.Unit.{Unit as UnitState}
-use Rattle.packets.specs.declared.Fitted.{Fitted}
-use Rattle.packets.specs.declared.Fitted.the-variants.{Nothing, With}
+use Rattle.channels.specs.declared.Fitted.{Fitted}
+use Rattle.channels.specs.declared.Fitted.the-variants.{Nothing, With}
 use Rattle.packets.specs.declared.Status.{Status}
 use Rattle.packets.specs.declared.Status.the-variants.{Blank, Listed, InProgress, Stopping, Ended}
 use Rattle.packets.specs.declared.Packet.{Packet}
@@ -65,10 +65,10 @@ toOf (OnDrum x h) = h
 
 -- ---- submission
 
--- a unit that the channel has; on the drum channel any address (it is never out of range, only not the job's)
+-- a unit, 0 to 15, that the channel has; on the drum channel any address (it is never out of range, only not the job's)
 abbrev pub reaches : Fitted → Spot → Bool
 reaches Nothing w = false
-reaches (With kind n) (OnUnit u) = not (isDrum kind) && ltb (u .0) n
+reaches (With kind n) (OnUnit u) = not (isDrum kind) && (ltb (u .0) 16 && ltb (u .0) n)
 reaches (With kind n) (OnDrum x h) = isDrum kind
 
 -- an address X inside the job's area

@@ -10,9 +10,9 @@ use Rattle.units.specs.State.{unitIn, unitSet, assignable}
 use Rattle.units.specs.declared.Holder.{Holder}
 use Rattle.units.specs.declared.Holder.the-variants.{Free, Held}
 use Rattle.units.specs.declared.Unit.{Unit as UnitState}
-use Rattle.packets.specs.declared.Fitted.{Fitted}
-use Rattle.packets.specs.declared.Fitted.the-variants.{Nothing, With}
-use Rattle.packets.specs.declared.Channel.{Channel}
+use Rattle.channels.specs.declared.Fitted.{Fitted}
+use Rattle.channels.specs.declared.Fitted.the-variants.{Nothing, With}
+use Rattle.channels.specs.declared.Channel.{Channel}
 use Rattle.packets.specs.declared.Status.{Status}
 use Rattle.packets.specs.declared.Status.the-variants.{Blank, Listed, InProgress, Stopping, Ended}
 use Rattle.packets.specs.declared.Packet.{Packet}

@@ -23,7 +23,7 @@ use Rattle.packets.specs.State.{State, anyMoves, close, drumOn, entryOf,
 use Rattle.packets.specs.Store.{alive-in, busy-in, packet-put, packet-restatus, sizeIn, state-put, state-restatus}
 use Rattle.packets.specs.Told.{Submits, assigns-to, completes-on, cut-going, cut-idle, cut-unlisted, ends-of, failed-going, failed-idle, starts-on, submits}
 use Rattle.packets.specs.declared.Carrier.{Carrier}
-use Rattle.packets.specs.declared.Channel.{Channel}
+use Rattle.channels.specs.declared.Channel.{Channel}
 use Rattle.packets.specs.declared.How.{How}
 use Rattle.packets.specs.declared.Job.{Job}
 use Rattle.packets.specs.declared.JobState.{JobState}

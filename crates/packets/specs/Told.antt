@@ -12,7 +12,7 @@ use Rattle.packets.specs.Picks.{find}
 use Rattle.packets.specs.Rules.{Complete, End, Start, Submit, Take, atOf, cut, failed, inRange, isNone, owns, refusal, startable}
 use Rattle.packets.specs.State.{State, configured, fittedOn, isBusy, isEmpty, isIdle, isListed, isRunning, legalFor, motionOn, packetIn, stateIn}
 use Rattle.packets.specs.declared.Assignment.{Assignment}
-use Rattle.packets.specs.declared.Channel.{Channel}
+use Rattle.channels.specs.declared.Channel.{Channel}
 use Rattle.packets.specs.declared.How.{How}
 use Rattle.packets.specs.declared.Spot.{Spot}
 use Rattle.packets.specs.declared.Status.{Status}

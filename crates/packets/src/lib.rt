@@ -1,19 +1,9 @@
 // The records of packets and request lists, in which every number is in range or answered as not there.
+use channels::Channel;
 use numbers::ChannelNumber;
-use numbers::Kind;
 use numbers::Refusal;
 use numbers::UnitNumber;
 use units::Units;
-
-// What a channel has: nothing, or a kind with its number of units (of the drum's channel: any number, unread).
-pub enum Fitted {
-    Nothing,
-    With(Kind, u32),
-}
-
-pub struct Channel {
-    pub has: Fitted,
-}
 
 // A packet is blank, listed, in progress, stopping or ended with a code.
 pub enum Status {

@@ -2,7 +2,7 @@
 use mathlib.Core.Path.{sym, ap, _∙_}
 use native.Mathlib.Omega.{arith}
 use borrow.Author.Tests.{lt-ltb, le-ltb}
-use Rattle.packets.specs.declared.Fitted.{Fitted}
+use Rattle.channels.specs.declared.Fitted.{Fitted}
 use Rattle.packets.specs.declared.Spot.the-variants.{OnUnit}
 use Rattle.packets.specs.Rules.{Mark, reaches}
 use Rattle.packets.specs.Laws.{not-true, not-false}
