@@ -11,6 +11,8 @@ pub mod InvStores
 pub mod InvJobs
 pub mod Told
 pub mod Steps
+pub mod Sound
+pub mod SoundSteps
 pub mod Sim
 pub mod SimSubmit
 pub mod SimStart
@@ -19,3 +21,5 @@ pub mod Acts
 pub mod SeenLaws
 pub mod Alone
 pub mod Proof
+pub mod Always
+pub mod AlwaysProof
