@@ -23,3 +23,5 @@ pub mod Alone
 pub mod Proof
 pub mod Always
 pub mod AlwaysProof
+pub mod Apart
+pub mod ApartProof
