@@ -25,3 +25,5 @@ pub mod Always
 pub mod AlwaysProof
 pub mod Apart
 pub mod ApartProof
+pub mod Codes
+pub mod CodesProof
