@@ -37,7 +37,8 @@ use Rattle.packets.specs.declared.Packet.{Packet}
 use Rattle.packets.specs.declared.Spot.{Spot}
 use Rattle.packets.specs.declared.Spot.the-variants.{OnUnit}
 use Rattle.packets.specs.declared.Verdict.the-variants.{Denied, Granted}
-use Rattle.lists.specs.Held.{beginning, foundOf, keeping, listOf, listsOf, outcome, refusedWith, settled, stateOf, withUnits, wrongHow}
+use Rattle.places.specs.Held.{foundOf, listOf}
+use Rattle.lists.specs.Outcomes.{beginning, keeping, listsOf, outcome, refusedWith, settled, stateOf, withUnits, wrongHow}
 
 -- refused and accepted calls
 pub refused-is : (r : Lists) (x : Call) (n : Refusal) → refusal (stateOf r) x ≡ Denied n → (o : Outcome) → o ≡ refusedWith r n → o ≡ outcome r x

@@ -4,7 +4,6 @@ use mathlib.Core.Path.{_≡_, ap, _∙_}
 use mathlib.Core.Bool.{Bool}
 use mathlib.Core.List.{List}
 use lib.ListN.{set}
-use Rattle.lists.proofs.Relist.{list-padded}
 use Rattle.numbers.specs.Tests.{by-bool}
 use Rattle.units.specs.State.{unitsFrom}
 use Rattle.units.specs.declared.Units.{Units}
@@ -18,11 +17,10 @@ use Rattle.packets.specs.declared.Motion.{Motion}
 use Rattle.packets.specs.declared.Packet.{Packet}
 use Rattle.packets.specs.declared.RequestList.{RequestList}
 use Rattle.packets.specs.declared.Status.the-variants.{Ended}
-use Rattle.lists.specs.Held.{Kept, Relisted, carrying, idle, keeping, listOf, listsOf, padded, stateOf, withUnits}
-
--- the rules' state of what the code holds of a state
-pub state-of : (s : State) → stateOf (listsOf s) ≡ s
-state-of s = rw (list-padded (s .queue))
+use Rattle.places.specs.Held.{Relisted, carrying, idle, listOf, padded}
+use Rattle.places.specs.HeldLaws.{list-padded}
+use Rattle.lists.specs.History.{state-of}
+use Rattle.lists.specs.Outcomes.{Kept, keeping, listsOf, stateOf, withUnits}
 
 -- the packets are changed, and the list keeps what is still listed
 pub kept-of : (r : Lists) (jobs after : List Job) (list : RequestList) → jobs ≡ after → Relisted jobs (r .list) list

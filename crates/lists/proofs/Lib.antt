@@ -1,9 +1,3 @@
-pub mod Loops
-pub mod Outside
-pub mod Search
-pub mod Relist
-pub mod Oldest
-pub mod EachUnit
 pub mod Tests
 pub mod Composed
 pub mod Verdicts

@@ -5,10 +5,9 @@ use mathlib.Core.Bool.{Bool, not, cond, _&&_}
 use lib.Dec.{ltb, eqb}
 use Rattle.numbers.specs.declared.Refusal.the-variants.{NoJob, NotLegal, NotTheJobs, OutOfRange, PacketInUse}
 use Rattle.units.specs.State.{unitIn}
-use Rattle.functions.specs.Legal.{has}
+use Rattle.channels.specs.declared.Fitted.{Fitted}
 use Rattle.packets.specs.Rules.{Submit, atOf, first, inArea, reaches, refusal}
 use Rattle.packets.specs.State.{State, drumOn, fittedOn, heldBy, isBusy, isDrumOf, isRunning, jobIn, legalFor, packetIn, stateIn}
-use Rattle.channels.specs.declared.Fitted.{Fitted}
 use Rattle.packets.specs.declared.Spot.{Spot}
 use Rattle.packets.specs.declared.Verdict.the-variants.{Granted}
 

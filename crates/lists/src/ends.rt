@@ -1,15 +1,15 @@
 // A job's end, and the return of its facilities.
-use crate::channel;
-use crate::place;
 use crate::stores;
-use crate::unit;
 use packets::Aim;
 use packets::JobState;
 use packets::Leaving;
 use packets::Lists;
+use places::channel;
+use places::place;
+use places::unit;
 ghost use mathlib.Core.Path.{_≡_};
 ghost use Rattle.packets.specs.Rules.{isDone, leavingAs, leaving, returnIfDone, closing, closed};
-ghost use Rattle.lists.specs.Held.{stateOf, listsOf, keeping};
+ghost use Rattle.lists.specs.Outcomes.{stateOf, listsOf, keeping};
 
 // Whether the job in place j is closing and nothing of it moves.
 fn is_done(lists: Lists, j: u8) -> bool

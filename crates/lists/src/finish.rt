@@ -1,19 +1,19 @@
 // Completion: what is wrong with one, and what it leaves.
-use crate::channel;
-use crate::packet;
-use crate::place;
 use crate::stores;
-use crate::unit;
 use numbers::ChannelNumber;
 use packets::Aim;
 use packets::How;
 use packets::Lists;
 use packets::Motion;
 use packets::Status;
+use places::channel;
+use places::packet;
+use places::place;
+use places::unit;
 ghost use mathlib.Core.Path.{_≡_};
 ghost use Rattle.packets.specs.Rules.{codeFor, isFailure, over, finished};
 ghost use Rattle.packets.specs.Rules.{broken};
-ghost use Rattle.lists.specs.Held.{stateOf, listsOf, wrongHow, Kept};
+ghost use Rattle.lists.specs.Outcomes.{stateOf, listsOf, wrongHow, Kept};
 
 // The code that a completion ends its packet with.
 fn code_for(how: How) -> u8

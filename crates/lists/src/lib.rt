@@ -1,13 +1,8 @@
 // The calls on packets and request lists. Each takes the state by value and returns it with its answer.
-mod channel;
 mod ends;
 mod finish;
-mod list;
-mod packet;
-mod place;
 mod stores;
 mod submission;
-mod unit;
 
 use channels::Channel;
 use numbers::ChannelNumber;
@@ -28,13 +23,18 @@ use packets::Outcome;
 use packets::Spot;
 use packets::Status;
 use packets::Verdict;
+use places::channel;
+use places::list;
+use places::packet;
+use places::place;
+use places::unit;
 use units::Units;
 ghost use mathlib.Core.Path.{_≡_};
 ghost use Prim.Native.Nat.{_<_};
 ghost use Rattle.packets.specs.State.{placeOf, packetOf, packetIn};
 ghost use Rattle.packets.specs.Rules.{Take, Submit, Start, Complete, End, Mark, begun, freshJob};
 ghost use Rattle.packets.specs.Demand.{fresh};
-ghost use Rattle.lists.specs.Held.{stateOf, listsOf, outcome, refusedWith, beginning};
+ghost use Rattle.lists.specs.Outcomes.{stateOf, listsOf, outcome, refusedWith, beginning};
 
 // The state of a fresh cell with these channels and units.
 pub fn fresh(channels: [Channel; 16], units: Units) -> Lists

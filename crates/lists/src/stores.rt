@@ -1,13 +1,14 @@
 // The stores that the calls are made of, each on the whole state.
-use crate::list;
-use crate::place;
 use packets::Aim;
 use packets::Lists;
 use packets::Packet;
+use places::list;
+use places::place;
 use units::Units;
 ghost use mathlib.Core.Path.{_≡_};
 ghost use Rattle.packets.specs.State.{store, sweep};
-ghost use Rattle.lists.specs.Held.{stateOf, Kept, testOf, changeOf, withUnits};
+ghost use Rattle.places.specs.Held.{testOf, changeOf};
+ghost use Rattle.lists.specs.Outcomes.{stateOf, Kept, withUnits};
 
 // Packet p of place j is now this; the list keeps what is still listed.
 pub fn stored(lists: Lists, j: u8, p: u8, q: Packet) -> Lists

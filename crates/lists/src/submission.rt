@@ -1,10 +1,5 @@
 // Submission: whether it is refused, and what it leaves.
-use crate::channel;
-use crate::list;
-use crate::packet;
-use crate::place;
 use crate::stores;
-use crate::unit;
 use channels::Fitted;
 use numbers::ChannelNumber;
 use numbers::Refusal;
@@ -14,6 +9,11 @@ use packets::Lists;
 use packets::Spot;
 use packets::Status;
 use packets::Verdict;
+use places::channel;
+use places::list;
+use places::packet;
+use places::place;
+use places::unit;
 use units::Units;
 ghost use mathlib.Core.Path.{_≡_};
 ghost use mathlib.Core.Bool.{not, _&&_, cond};
@@ -24,7 +24,7 @@ ghost use Rattle.numbers.specs.declared.Refusal.the-variants.{OutOfRange, NoJob
 ghost use Rattle.packets.specs.declared.Verdict.the-variants.{Granted};
 ghost use Rattle.packets.specs.State.{drumOn, heldBy, jobIn};
 ghost use Rattle.packets.specs.Rules.{Submit, first, atOf, toOf, reaches, inArea, refusal, pass, unlock, terminate, enlist, submitted};
-ghost use Rattle.lists.specs.Held.{stateOf, listsOf};
+ghost use Rattle.lists.specs.Outcomes.{stateOf, listsOf};
 
 // The unit, or the address X or L.
 pub fn at_of(spot: Spot) -> u32

@@ -4,7 +4,7 @@ use Rattle.packets.specs.declared.Packet.{Packet}
 use Rattle.packets.specs.declared.Status.the-variants.{InProgress}
 use Rattle.packets.specs.declared.Motion.the-variants.{Busy}
 use Rattle.packets.specs.State.{store, packetIn, withStatus}
-use Rattle.lists.specs.Held.{stateOf, listsOf}
+use Rattle.lists.specs.Outcomes.{stateOf, listsOf}
 use Rattle.lists.proofs.Composed.{move-is}
 use borrow.Author.Needs.{needs}
 use Rattle.lists.proofs.begun.Statement.{statement}

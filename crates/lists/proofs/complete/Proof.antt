@@ -3,7 +3,7 @@ use mathlib.Core.Path.{sym, ap, _∙_}
 use Rattle.packets.specs.declared.Packet.{Packet}
 use Rattle.packets.specs.Rules.{Complete}
 use Rattle.packets.specs.Laws.{not-true, not-false}
-use Rattle.lists.specs.Held.{wrongHow}
+use Rattle.lists.specs.Outcomes.{wrongHow}
 use Rattle.lists.proofs.Calls.{refused-is, complete-absent, complete-idle, complete-wrong, complete-done}
 use borrow.Author.Needs.{needs}
 use Rattle.lists.proofs.complete.Statement.{statement}

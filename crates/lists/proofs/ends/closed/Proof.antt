@@ -3,7 +3,7 @@ use mathlib.Core.Path.{ap, _∙_}
 use Rattle.packets.specs.declared.JobState.{JobState}
 use Rattle.packets.specs.State.{sweep, setState}
 use Rattle.packets.specs.Rules.{always, cut, closing}
-use Rattle.lists.specs.Held.{stateOf}
+use Rattle.lists.specs.Outcomes.{stateOf}
 use Rattle.lists.proofs.Composed.{close-is}
 use borrow.Author.Needs.{needs}
 use Rattle.lists.proofs.ends.closed.Statement.{statement}

@@ -2,7 +2,7 @@
 use mathlib.Core.Bool.{true}
 use Rattle.packets.specs.State.{sweep}
 use Rattle.packets.specs.Rules.{atUnit, failed}
-use Rattle.lists.specs.Held.{stateOf}
+use Rattle.lists.specs.Outcomes.{stateOf}
 use Rattle.lists.proofs.Composed.{lock-is}
 use borrow.Author.Needs.{needs}
 use Rattle.lists.proofs.finish.broken.Statement.{statement}

@@ -5,8 +5,8 @@ use mathlib.Core.Path.{sym, ap, _∙_}
 use Rattle.packets.specs.State.{State}
 use Rattle.packets.specs.Rules.{over, broken, codeFor}
 use Rattle.packets.specs.declared.Packet.{Packet}
-use Rattle.lists.specs.Held.{stateOf, listsOf}
-use Rattle.lists.proofs.Composed.{state-of}
+use Rattle.lists.specs.Outcomes.{stateOf, listsOf}
+use Rattle.lists.specs.History.{state-of}
 use borrow.Author.Needs.{needs}
 use Rattle.lists.proofs.finish.finished.Statement.{statement}
 use Rattle.lists.proofs.finish.finished.Tie as tie

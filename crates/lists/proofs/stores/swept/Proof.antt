@@ -1,6 +1,6 @@
 -- `lists::stores::swept` meets its contract. Assumes nothing.
 use Rattle.packets.specs.State.{restatusAll}
-use Rattle.lists.specs.Held.{testOf, changeOf}
+use Rattle.places.specs.Held.{testOf, changeOf}
 use Rattle.lists.proofs.Composed.{kept-of}
 use borrow.Author.Needs.{needs}
 use Rattle.lists.proofs.stores.swept.Statement.{statement}

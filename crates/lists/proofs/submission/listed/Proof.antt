@@ -4,7 +4,7 @@ use Rattle.packets.specs.State.{store, entryOf}
 use Rattle.packets.specs.Rules.{packet}
 use Rattle.packets.specs.declared.Packet.{Packet}
 use Rattle.packets.specs.declared.Status.the-variants.{Listed}
-use Rattle.lists.specs.Held.{stateOf, listsOf}
+use Rattle.lists.specs.Outcomes.{stateOf, listsOf}
 use Rattle.lists.proofs.Composed.{enqueue-is}
 use borrow.Author.Needs.{needs}
 use Rattle.lists.proofs.submission.listed.Statement.{statement}

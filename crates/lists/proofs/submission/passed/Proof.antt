@@ -2,7 +2,7 @@
 use mathlib.Core.Path.{ap, _∙_}
 use Rattle.packets.specs.State.{store}
 use Rattle.packets.specs.declared.Packet.{Packet}
-use Rattle.lists.specs.Held.{stateOf, listsOf}
+use Rattle.lists.specs.Outcomes.{stateOf, listsOf}
 use borrow.Author.Needs.{needs}
 use Rattle.lists.proofs.submission.passed.Statement.{statement}
 use Rattle.lists.proofs.submission.passed.Tie as tie

@@ -3,8 +3,8 @@ use mathlib.Core.Path.{ap, _∙_}
 use mathlib.Core.Bool.{Bool}
 use Rattle.packets.specs.State.{State, sweep}
 use Rattle.packets.specs.Rules.{pass, aimed, cut}
-use Rattle.lists.specs.Held.{stateOf, listsOf}
-use Rattle.lists.proofs.Composed.{state-of}
+use Rattle.lists.specs.Outcomes.{stateOf, listsOf}
+use Rattle.lists.specs.History.{state-of}
 use borrow.Author.Needs.{needs}
 use Rattle.lists.proofs.submission.terminated.Statement.{statement}
 use Rattle.lists.proofs.submission.terminated.Tie as tie

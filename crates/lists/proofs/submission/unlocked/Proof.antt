@@ -3,8 +3,9 @@ use mathlib.Core.Path.{_≡_, ap, _∙_}
 use mathlib.Core.Bool.{false}
 use Rattle.packets.specs.State.{State, sweep, lock}
 use Rattle.packets.specs.Rules.{pass, atUnit, failed}
-use Rattle.lists.specs.Held.{stateOf, listsOf}
-use Rattle.lists.proofs.Composed.{state-of, lock-is}
+use Rattle.lists.specs.Outcomes.{stateOf, listsOf}
+use Rattle.lists.specs.History.{state-of}
+use Rattle.lists.proofs.Composed.{lock-is}
 use borrow.Author.Needs.{needs}
 use Rattle.lists.proofs.submission.unlocked.Statement.{statement}
 use Rattle.lists.proofs.submission.unlocked.Tie as tie

@@ -3,7 +3,7 @@ use mathlib.Core.Path.{ap, _∙_}
 use Rattle.packets.specs.declared.JobState.{JobState}
 use Rattle.packets.specs.declared.Packet.{Packet}
 use Rattle.packets.specs.State.{isRunning, isBusy}
-use Rattle.lists.specs.Held.{stateOf}
+use Rattle.lists.specs.Outcomes.{stateOf}
 use Rattle.lists.proofs.Verdicts.{submit-is}
 use borrow.Author.Needs.{needs}
 use Rattle.lists.proofs.submission.verdict.Statement.{statement}
