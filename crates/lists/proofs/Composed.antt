@@ -8,7 +8,7 @@ use Rattle.numbers.specs.Tests.{by-bool}
 use Rattle.units.specs.State.{unitsFrom}
 use Rattle.units.specs.declared.Units.{Units}
 use Rattle.packets.specs.Rules.{isDone, over, returnIfDone}
-use Rattle.packets.specs.State.{State, close, enlisted, enqueue, entryOf, lock, move, packetIn, relist, setLock, setState, store, withStatus}
+use Rattle.packets.specs.State.{State, close, enlisted, enqueue, entryOf, lock, move, packetIn, put, relist, setLock, setState, store, withStatus}
 use Rattle.packets.specs.declared.Carrier.{Carrier}
 use Rattle.packets.specs.declared.Job.{Job}
 use Rattle.packets.specs.declared.JobState.{JobState}
@@ -18,7 +18,6 @@ use Rattle.packets.specs.declared.Packet.{Packet}
 use Rattle.packets.specs.declared.RequestList.{RequestList}
 use Rattle.packets.specs.declared.Status.the-variants.{Ended}
 use Rattle.places.specs.Held.{Relisted, carrying, idle, listOf, padded}
-use Rattle.places.specs.HeldLaws.{list-padded}
 use Rattle.lists.specs.History.{state-of}
 use Rattle.lists.specs.Outcomes.{Kept, keeping, listsOf, stateOf, withUnits}
 
@@ -29,9 +28,10 @@ pub kept-of : (r : Lists) (jobs after : List Job) (list : RequestList) → jobs 
 kept-of r jobs after list e R = record { is = rw (R .is, e); tidy = R .tidy }
 
 -- one packet more
-pub enqueue-is : (s : State) (x : Lists) → x ≡ listsOf s → (j p e : ℕ) → e ≡ entryOf j p → (l : RequestList) → l ≡ padded (enlisted (listOf (x .list)) e)
-    → _≡_ {A = Lists} (record { channels = x .channels; jobs = x .jobs; list = l; moving = x .moving; units = x .units }) (listsOf (enqueue s j p))
-enqueue-is s x h j p e g l q = rw (q, h, list-padded (s .queue), g)
+pub enlist-is : (r : Lists) (j p : ℕ) (q : Packet) (jobs : List Job) → jobs ≡ put (r .jobs) j p q → (e : ℕ) → e ≡ entryOf j p → (l : RequestList)
+    → l ≡ padded (enlisted (relist jobs (listOf (r .list))) e)
+    → _≡_ {A = Lists} (record { channels = r .channels; jobs = jobs; list = l; moving = r .moving; units = r .units }) (listsOf (enqueue (store (stateOf r) j p q) j p))
+enlist-is r j p q jobs g e h l k = rw (k, g, h)
 
 -- an interlock set or cleared
 pub lock-is : (s : State) (x : Lists) → x ≡ listsOf s → (c a : ℕ) (b : Bool) (u : Units) → u ≡ unitsFrom (setLock (x .units .of) c a b) → (y : Lists) → y ≡ withUnits x u

@@ -191,11 +191,20 @@ fn listed(lists: Lists, j: u8, p: u8, f: u8, c: ChannelNumber, a: u32) -> Lists
     ensures { λ r. ⌜ r ≡ listsOf (enlist (stateOf lists) j p f (c .0) a) ⌝ }
 {
     let q = packet::made(Status::Listed, f, c, a);
-    let mut next = stores::stored(lists, j, p, q);
-    let list = next.list;
-    let longer = list::with_entry(list, j * 16 + p);
-    next.list = longer;
-    next
+    let channels = lists.channels;
+    let moving = lists.moving;
+    let units = lists.units;
+    let list = lists.list;
+    let before = lists.jobs;
+    let jobs = place::with_packet(before, j, p, q);
+    let longer = list::relisted_with(jobs, list, j * 16 + p);
+    Lists {
+        channels,
+        jobs,
+        list: longer,
+        moving,
+        units,
+    }
 }
 
 // What an accepted submission leaves.

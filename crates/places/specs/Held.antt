@@ -7,7 +7,7 @@ use mathlib.Core.Option.{Option, none, some}
 use lib.ListN.{length, take, getD, replicate}
 use lib.Dec.{eqb}
 use Rattle.units.specs.declared.Unit.{Unit as UnitState}
-use Rattle.units.specs.State.{freshUnit}
+use Rattle.units.specs.State.{freshUnit, unitIn}
 use Rattle.units.specs.declared.Holder.{Holder}
 use Rattle.packets.specs.Rules.{aimed, always, atUnit, cut, failed}
 use Rattle.packets.specs.State.{blank, relist, wanted}
@@ -63,6 +63,10 @@ idle = carrying Idle
 -- the interlock of unit a of a channel with these units
 abbrev pub lockIn : List UnitState → ℕ → Bool
 lockIn row a = getD row a (freshUnit false) .interlock
+
+-- units that have the interlocks of channel c
+pub record RowOf (grid : List (List UnitState)) (c : ℕ) (row : List UnitState) : Type 0 where
+  pub locks : (a : ℕ) → lockIn row a ≡ unitIn grid c a .interlock
 
 -- a listed packet can start on channel c with these units
 abbrev pub canStart : Bool → List UnitState → ℕ → Packet → Bool

@@ -8,13 +8,12 @@ use packets::RequestList;
 use units::Unit;
 use units::Units;
 ghost use mathlib.Core.Path.{_≡_};
-ghost use Prim.Native.Nat.{_<_};
 ghost use mathlib.Core.List.{[]};
 ghost use lib.ListN.{replicate};
 ghost use Rattle.packets.specs.Picks.{find};
-ghost use Rattle.packets.specs.State.{placeOf, packetOf, enlisted};
+ghost use Rattle.packets.specs.State.{placeOf, packetOf, relist, enlisted};
 ghost use Rattle.packets.specs.Rules.{startableOn};
-ghost use Rattle.places.specs.Held.{listOf, padded, Within, Sized, Relisted, Tidy, canStart, lockIn, foundOf};
+ghost use Rattle.places.specs.Held.{listOf, padded, Within, Sized, Relisted, Tidy, canStart, lockIn, foundOf, RowOf};
 
 // The place of a listed packet.
 fn place_of(e: u8) -> usize
@@ -84,7 +83,7 @@ pub fn relisted(jobs: [Job; 16], list: RequestList) -> RequestList
 }
 
 // The list with one packet more, the youngest, where there is room.
-pub fn with_entry(list: RequestList, e: u8) -> RequestList
+fn with_entry(list: RequestList, e: u8) -> RequestList
     requires { ⌜ Tidy list ⌝ }
     ensures { λ r. ⌜ r ≡ padded (enlisted (listOf list) e) ⌝ }
 {
@@ -96,6 +95,14 @@ pub fn with_entry(list: RequestList, e: u8) -> RequestList
     next.entries[count] = e;
     next.count = count + 1;
     next
+}
+
+// The list without what is no longer listed, and with one packet more, the youngest, where there is room.
+pub fn relisted_with(jobs: [Job; 16], list: RequestList, e: u8) -> RequestList
+    ensures { λ r. ⌜ r ≡ padded (enlisted (relist jobs (listOf list)) e) ⌝ }
+{
+    let left = relisted(jobs, list);
+    with_entry(left, e)
 }
 
 // The interlock of unit a of a channel; none where the channel has no such unit.
@@ -123,6 +130,18 @@ fn can_start(p: Packet, row: [Unit; 16], drum: bool, c: ChannelNumber) -> bool
     !lock_in(row, p.at)
 }
 
+// The units of channel c; units without interlock where the cell has no such channel.
+fn row_of(units: Units, c: ChannelNumber) -> [Unit; 16]
+    ensures { λ r. ⌜ RowOf (units .of) (c .0) r ⌝ }
+{
+    let grid = units::grid_of(units);
+    let i = c.0 as usize;
+    if 15 < i {
+        return [units::fresh_unit(false); 16];
+    }
+    grid[i]
+}
+
 // The oldest packet of the list that can start on channel c.
 pub fn oldest(
     units: Units,
@@ -131,12 +150,9 @@ pub fn oldest(
     drum: bool,
     c: ChannelNumber,
 ) -> Found
-    requires { ⌜ c .0 < 16 ⌝ }
     ensures { λ r. ⌜ r ≡ foundOf (find (startableOn drum (units .of) jobs (c .0)) (listOf list)) ⌝ }
 {
-    let grid = units::grid_of(units);
-    let channel = c.0 as usize;
-    let row = grid[channel];
+    let row = row_of(units, c);
     let entries = list.entries;
     let end = size_of(list);
     let mut i: usize = 0;

@@ -4,7 +4,6 @@ use Rattle.packets.specs.declared.Motion.{Motion}
 use Rattle.packets.specs.State.{isIdle, placeOf, packetOf}
 use Rattle.packets.specs.Rules.{Start}
 use Rattle.packets.specs.Laws.{not-true, not-false}
-use Rattle.packets.specs.Told.{configured-in}
 use Rattle.lists.proofs.Calls.{refused-is, start-absent, start-busy, start-none, start-done}
 use borrow.Author.Needs.{needs}
 use Rattle.lists.proofs.start.Statement.{statement}
@@ -35,7 +34,7 @@ is-drum-on-requires : tie.Need-is-drum-on-requires
 is-drum-on-requires c κs = search needs
 
 oldest-requires : tie.Need-oldest-requires
-oldest-requires c κs = configured-in (c .before .before .before .before .before .before .before .before .before .before .before .args .lists .channels) (c .before .before .before .before .before .before .before .before .before .before .before .args .channel .0) (sym (c .before .before .before .before .before .is-configured .ensures) ∙ not-false _ (c .before .before .before .before .if1 .left))
+oldest-requires c κs = search needs
 
 enum-told : tie.Need-enum-told
 enum-told c = search needs

@@ -1,13 +1,12 @@
 -- `places::list::oldest` meets its contract. The invariant: none of the entries passed can start. Assumes nothing.
-use mathlib.Core.List.{List, []}
 use Prim.Native.Nat.{ℕ, _≤_, _-_, _+_}
-use Rattle.units.specs.declared.Unit.{Unit}
-use Rattle.places.specs.Held.{foundOf, listOf}
 use mathlib.Core.Path.{_≡_, refl, sym, ap, _∙_}
+use mathlib.Core.List.{List}
 use mathlib.Core.Option.{none, some}
 use native.Mathlib.Omega.{arith}
 use lib.ListN.{length, take, getD}
 use Rattle.packets.specs.Picks.{find}
+use Rattle.places.specs.Held.{foundOf, listOf}
 use Rattle.places.proofs.Search.{find-step, find-part}
 use Rattle.places.proofs.Oldest.{canStartAt, starts-is, found-is}
 use borrow.Author.Needs.{needs}
@@ -15,22 +14,13 @@ use Rattle.places.proofs.list.oldest.Statement.{statement}
 use Rattle.places.proofs.list.oldest.Tie as tie
 
 abbrev Inv-loop : tie.InvT-loop
-Inv-loop drum c jobs channel row entries end i₀ i = (i ≤ end) × (length entries ≡ 256) × (find (canStartAt drum row jobs (c .0)) (take i entries) ≡ none)
+Inv-loop drum c jobs row entries end i₀ i = (i ≤ end) × (length entries ≡ 256) × (find (canStartAt drum row jobs (c .0)) (take i entries) ≡ none)
 
 abbrev μ-loop : tie.MeasureT-loop
-μ-loop drum c jobs channel row entries end i₀ i = end - i
+μ-loop drum c jobs row entries end i₀ i = end - i
 
-grid-of-requires : tie.Need-grid-of-requires Inv-loop μ-loop
-grid-of-requires c κs = search needs
-
-cast-channel : tie.Need-cast-channel Inv-loop μ-loop
-cast-channel c = search needs
-
-mul-row : tie.Need-mul-row Inv-loop μ-loop
-mul-row c = search needs
-
-array-copy-out-row : tie.Need-array-copy-out-row Inv-loop μ-loop
-array-copy-out-row c = search needs
+row-of-requires : tie.Need-row-of-requires Inv-loop μ-loop
+row-of-requires c κs = search needs
 
 size-of-requires : tie.Need-size-of-requires Inv-loop μ-loop
 size-of-requires c κs = search needs
@@ -66,14 +56,14 @@ returns : tie.Need-returns Inv-loop μ-loop
 returns c = let l = c .before .before .before .before .before .before .before .loop in
     let few = c .before .before .before .before .before .before .before .before .size-of .ensures .few in
     let less = c .before .before .before .before .before .before .loop-test .taken in
-    let entries = c .before .before .before .before .before .before .before .before .before .before .before .before .before .args .list .entries in
-    let row = getD (c .before .before .before .before .before .before .before .before .before .before .before .before .grid-of .result) (c .before .before .before .before .before .before .before .before .before .before .before .before .before .args .c .0) [] in
-    let f = canStartAt (c .before .before .before .before .before .before .before .before .before .before .before .before .before .args .drum) row (c .before .before .before .before .before .before .before .before .before .before .before .before .before .args .t2) (c .before .before .before .before .before .before .before .before .before .before .before .before .before .args .c .0) in
-    let t : f (getD entries (l .i) 0) ≡ c .before .can-start .result = starts-is (c .before .before .before .before .before .before .before .before .before .before .before .before .before .args .drum) row (c .before .before .before .before .before .before .before .before .before .before .before .before .before .args .t2) (c .before .before .before .before .before .before .before .before .before .before .before .before .before .args .c .0) (getD entries (l .i) 0) (c .before .before .before .before .before .place-of .result) (c .before .before .before .before .number-of .result) (c .before .before .before .before .before .place-of .ensures .is) (c .before .before .before .before .number-of .ensures .is) (c .before .can-start .result) (c .before .can-start .ensures) in
+    let entries = c .before .before .before .before .before .before .before .before .before .before .before .args .list .entries in
+    let row = c .before .before .before .before .before .before .before .before .before .before .row-of .result in
+    let f = canStartAt (c .before .before .before .before .before .before .before .before .before .before .before .args .drum) row (c .before .before .before .before .before .before .before .before .before .before .before .args .t2) (c .before .before .before .before .before .before .before .before .before .before .before .args .c .0) in
+    let t : f (getD entries (l .i) 0) ≡ c .before .can-start .result = starts-is (c .before .before .before .before .before .before .before .before .before .before .before .args .drum) row (c .before .before .before .before .before .before .before .before .before .before .before .args .t2) (c .before .before .before .before .before .before .before .before .before .before .before .args .c .0) (getD entries (l .i) 0) (c .before .before .before .before .before .place-of .result) (c .before .before .before .before .number-of .result) (c .before .before .before .before .before .place-of .ensures .is) (c .before .before .before .before .number-of .ensures .is) (c .before .can-start .result) (c .before .can-start .ensures) in
     let e : find f (take (l .i + 1) entries) ≡ some (getD entries (l .i) 0) = find-step f entries (l .i) 0 (omega (arith, l .inv .1)) (l .inv .2) ∙ rw (t ∙ c .if1 .taken) in
     sym (ap foundOf (find-part f entries (l .i + 1) (c .before .before .before .before .before .before .before .before .size-of .result) (getD entries (l .i) 0) (omega arith) e))
     ∙ ap (λ (x : List ℕ). foundOf (find f x)) (c .before .before .before .before .before .before .before .before .size-of .ensures .is)
-    ∙ found-is (c .before .before .before .before .before .before .before .before .before .before .before .before .before .args .drum) (c .before .before .before .before .before .before .before .before .before .before .before .before .before .args .units .of) (c .before .before .before .before .before .before .before .before .before .before .before .before .before .args .t2) (c .before .before .before .before .before .before .before .before .before .before .before .before .before .args .c .0) row (ap (λ (g : List (List Unit)). getD g (c .before .before .before .before .before .before .before .before .before .before .before .before .before .args .c .0) []) (c .before .before .before .before .before .before .before .before .before .before .before .before .grid-of .ensures .is)) (listOf (c .before .before .before .before .before .before .before .before .before .before .before .before .before .args .list))
+    ∙ found-is (c .before .before .before .before .before .before .before .before .before .before .before .args .drum) (c .before .before .before .before .before .before .before .before .before .before .before .args .units .of) (c .before .before .before .before .before .before .before .before .before .before .before .args .t2) (c .before .before .before .before .before .before .before .before .before .before .before .args .c .0) row (c .before .before .before .before .before .before .before .before .before .before .row-of .ensures) (listOf (c .before .before .before .before .before .before .before .before .before .before .before .args .list))
 
 add-i : tie.Need-add-i Inv-loop μ-loop
 add-i c = search needs
@@ -85,21 +75,20 @@ loop-again : tie.Need-loop-again Inv-loop μ-loop
 loop-again c = let l = c .before .before .before .before .before .before .before .loop in
     let few = c .before .before .before .before .before .before .before .before .size-of .ensures .few in
     let less = c .before .before .before .before .before .before .loop-test .taken in
-    let entries = c .before .before .before .before .before .before .before .before .before .before .before .before .before .args .list .entries in
-    let row = getD (c .before .before .before .before .before .before .before .before .before .before .before .before .grid-of .result) (c .before .before .before .before .before .before .before .before .before .before .before .before .before .args .c .0) [] in
-    let f = canStartAt (c .before .before .before .before .before .before .before .before .before .before .before .before .before .args .drum) row (c .before .before .before .before .before .before .before .before .before .before .before .before .before .args .t2) (c .before .before .before .before .before .before .before .before .before .before .before .before .before .args .c .0) in
-    let t : f (getD entries (l .i) 0) ≡ c .before .can-start .result = starts-is (c .before .before .before .before .before .before .before .before .before .before .before .before .before .args .drum) row (c .before .before .before .before .before .before .before .before .before .before .before .before .before .args .t2) (c .before .before .before .before .before .before .before .before .before .before .before .before .before .args .c .0) (getD entries (l .i) 0) (c .before .before .before .before .before .place-of .result) (c .before .before .before .before .number-of .result) (c .before .before .before .before .before .place-of .ensures .is) (c .before .before .before .before .number-of .ensures .is) (c .before .can-start .result) (c .before .can-start .ensures) in
+    let entries = c .before .before .before .before .before .before .before .before .before .before .before .args .list .entries in
+    let row = c .before .before .before .before .before .before .before .before .before .before .row-of .result in
+    let f = canStartAt (c .before .before .before .before .before .before .before .before .before .before .before .args .drum) row (c .before .before .before .before .before .before .before .before .before .before .before .args .t2) (c .before .before .before .before .before .before .before .before .before .before .before .args .c .0) in
+    let t : f (getD entries (l .i) 0) ≡ c .before .can-start .result = starts-is (c .before .before .before .before .before .before .before .before .before .before .before .args .drum) row (c .before .before .before .before .before .before .before .before .before .before .before .args .t2) (c .before .before .before .before .before .before .before .before .before .before .before .args .c .0) (getD entries (l .i) 0) (c .before .before .before .before .before .place-of .result) (c .before .before .before .before .number-of .result) (c .before .before .before .before .before .place-of .ensures .is) (c .before .before .before .before .number-of .ensures .is) (c .before .can-start .result) (c .before .can-start .ensures) in
     (omega arith, l .inv .1, find-step f entries (l .i) 0 (omega (arith, l .inv .1)) (l .inv .2) ∙ rw (t ∙ c .if1 .left))
 
 returns-2 : tie.Need-returns-2 Inv-loop μ-loop
 returns-2 c = let l = c .before .loop in
-    let entries = c .before .before .before .before .before .before .before .args .list .entries in
-    let row = getD (c .before .before .before .before .before .before .grid-of .result) (c .before .before .before .before .before .before .before .args .c .0) [] in
-    let f = canStartAt (c .before .before .before .before .before .before .before .args .drum) row (c .before .before .before .before .before .before .before .args .t2) (c .before .before .before .before .before .before .before .args .c .0) in
+    let row = c .before .before .before .before .row-of .result in
+    let f = canStartAt (c .before .before .before .before .before .args .drum) row (c .before .before .before .before .before .args .t2) (c .before .before .before .before .before .args .c .0) in
     let e : l .i ≡ c .before .before .size-of .result = omega (arith, l .inv .0, c .loop-test .left) in
     sym (ap foundOf (rw e at (l .inv .2)))
     ∙ ap (λ (x : List ℕ). foundOf (find f x)) (c .before .before .size-of .ensures .is)
-    ∙ found-is (c .before .before .before .before .before .before .before .args .drum) (c .before .before .before .before .before .before .before .args .units .of) (c .before .before .before .before .before .before .before .args .t2) (c .before .before .before .before .before .before .before .args .c .0) row (ap (λ (g : List (List Unit)). getD g (c .before .before .before .before .before .before .before .args .c .0) []) (c .before .before .before .before .before .before .grid-of .ensures .is)) (listOf (c .before .before .before .before .before .before .before .args .list))
+    ∙ found-is (c .before .before .before .before .before .args .drum) (c .before .before .before .before .before .args .units .of) (c .before .before .before .before .before .args .t2) (c .before .before .before .before .before .args .c .0) row (c .before .before .before .before .row-of .ensures) (listOf (c .before .before .before .before .before .args .list))
 
 pub oldest-spec : {M : Type 1} → statement M
 oldest-spec =
@@ -107,10 +96,7 @@ oldest-spec =
     (tie.spec
     Inv-loop
     μ-loop
-    grid-of-requires
-    cast-channel
-    mul-row
-    array-copy-out-row
+    row-of-requires
     size-of-requires
     loop-holds
     array-read-e
