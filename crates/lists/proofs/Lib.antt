@@ -1,0 +1,4 @@
+pub mod Tests
+pub mod Composed
+pub mod Verdicts
+pub mod Calls

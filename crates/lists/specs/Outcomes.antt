@@ -1,0 +1,75 @@
+-- The state as the code holds it, and the one outcome of each call: what the rules say, with every byte determined.
+use Prim.Native.Nat.{ℕ}
+use mathlib.Core.Path.{_≡_}
+use mathlib.Core.Bool.{Bool, false, not, _||_}
+use lib.Dec.{eqb, ltb}
+use Rattle.numbers.specs.declared.Refusal.{Refusal}
+use Rattle.units.specs.State.{unitsFrom}
+use Rattle.units.specs.declared.Units.{Units}
+use Rattle.packets.specs.Lone.{lists}
+use Rattle.packets.specs.Rules.{Call, Complete, End, Mark, Start, Submit, Take, accept, answer, refusal}
+use Rattle.packets.specs.State.{State, isStopping, move, packetIn, store, withStatus}
+use Rattle.packets.specs.declared.Answer.the-variants.{Refused}
+use Rattle.packets.specs.declared.How.{How}
+use Rattle.packets.specs.declared.How.the-variants.{Cut, Failed, Full}
+use Rattle.packets.specs.declared.Lists.{Lists}
+use Rattle.packets.specs.declared.Motion.the-variants.{Busy}
+use Rattle.packets.specs.declared.Outcome.{Outcome}
+use Rattle.packets.specs.declared.Status.{Status}
+use Rattle.packets.specs.declared.Status.the-variants.{InProgress}
+use Rattle.packets.specs.declared.Verdict.{Verdict}
+use Rattle.packets.specs.declared.Verdict.the-variants.{Denied, Granted}
+use Rattle.places.specs.Held.{Tidy, listOf, padded}
+
+-- the state that the rules speak of
+abbrev pub stateOf : Lists → State
+stateOf r = record { channels = r .channels; units = r .units .of; jobs = r .jobs; queue = listOf (r .list); moving = r .moving }
+
+-- a state as the code holds it
+abbrev pub listsOf : State → Lists
+listsOf s = record { channels = s .channels; jobs = s .jobs; list = padded (s .queue); moving = s .moving; units = unitsFrom (s .units) }
+
+-- the same where a call does not touch the list, whose bytes stay
+abbrev pub keeping : Lists → State → Lists
+keeping r s = record { channels = s .channels; jobs = s .jobs; list = r .list; moving = s .moving; units = unitsFrom (s .units) }
+
+-- the state with other units
+abbrev pub withUnits : Lists → Units → Lists
+withUnits r units = record { channels = r .channels; jobs = r .jobs; list = r .list; moving = r .moving; units = units }
+
+-- a state as the code holds it, and with 0 past the list's packets
+pub record Kept (s : State) (r : Lists) : Type 0 where
+  pub is : r ≡ listsOf s
+  pub tidy : Tidy (r .list)
+
+-- what an accepted call leaves; a taking and a mark do not touch the list
+abbrev pub leaves : Lists → Call → Lists
+leaves r (Take j asg) = keeping r (accept (stateOf r) (Take j asg))
+leaves r (Submit j p f c w) = listsOf (accept (stateOf r) (Submit j p f c w))
+leaves r (Start c) = listsOf (accept (stateOf r) (Start c))
+leaves r (Complete c how) = listsOf (accept (stateOf r) (Complete c how))
+leaves r (End j e) = listsOf (accept (stateOf r) (End j e))
+leaves r (Mark c u m) = keeping r (accept (stateOf r) (Mark c u m))
+
+-- an accepted call leaves and answers what the rules say; a refused one returns the number alone, and the state keeps every byte
+abbrev pub settled : Lists → Call → Verdict → Outcome
+settled r x Granted = record { answer = answer (stateOf r) x; lists = leaves r x }
+settled r x (Denied n) = record { answer = Refused n; lists = r }
+
+-- the one outcome of a call
+unfoldable pub outcome : Lists → Call → Outcome
+outcome r x = settled r x (refusal (stateOf r) x)
+
+-- a refused call returns the number alone
+abbrev pub refusedWith : Lists → Refusal → Outcome
+refusedWith r n = record { answer = Refused n; lists = r }
+
+-- packet p of place j is in progress on channel c
+abbrev pub beginning : State → ℕ → ℕ → ℕ → State
+beginning s c j p = move (store s j p (withStatus (packetIn (s .jobs) j p) InProgress)) c (Busy j p)
+
+-- cut for a packet not stopping; failure code 00, 01, 16o, 17o or over 77o
+abbrev pub wrongHow : Status → How → Bool
+wrongHow t Full = false
+wrongHow t Cut = not (isStopping t)
+wrongHow t (Failed k) = eqb k 0o00 || (eqb k 0o01 || (eqb k 0o16 || (eqb k 0o17 || ltb 0o77 k)))

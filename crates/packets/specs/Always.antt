@@ -1,0 +1,45 @@
+-- What holds in every cell that calls lead to from a fresh one. A reader has to believe this page.
+use Prim.Native.Nat.{ℕ}
+use mathlib.Core.Path.{_≡_}
+use mathlib.Core.Bool.{true, false}
+use mathlib.Core.List.{List}
+use lib.Dec.{eqb}
+use Rattle.units.specs.declared.Unit.{Unit as UnitState}
+use Rattle.units.specs.State.{unitIn}
+use Rattle.channels.specs.declared.Channel.{Channel}
+use Rattle.packets.specs.Demand.{NoneHeld, fresh}
+use Rattle.packets.specs.Inv.{inMotion}
+use Rattle.packets.specs.Laws.{All}
+use Rattle.packets.specs.Once.{Nodup}
+use Rattle.packets.specs.Picks.{any}
+use Rattle.packets.specs.Rules.{Call, run}
+use Rattle.packets.specs.State.{State, drumOn, entryOf, heldBy, isBusy, isListed, isStill, motionOn, packetIn}
+use Rattle.packets.specs.declared.Motion.the-variants.{Busy}
+use Rattle.packets.specs.declared.Packet.{Packet}
+
+-- packet p of the job in place j
+abbrev pub packetAt : State → ℕ → ℕ → Packet
+packetAt s j p = packetIn (s .jobs) j p
+
+pub record Always (s : State) : Type 0 where
+  -- one packet in progress or stopping per channel: what moves on a channel is one, submitted there, and each such packet moves there
+  pub moving : (c j p : ℕ) → motionOn s c ≡ Busy j p → (inMotion (packetAt s j p .status) ≡ true) × (packetAt s j p .channel .0 ≡ c)
+  pub movers : (j p : ℕ) → inMotion (packetAt s j p .status) ≡ true → motionOn s (packetAt s j p .channel .0) ≡ Busy j p
+  -- listed packets are exactly those in the list, once each
+  pub entries : All (λ (e : ℕ). isStill (s .jobs) e ≡ true) (s .queue)
+  pub members : (j p : ℕ) → isListed (packetAt s j p .status) ≡ true → any (eqb (entryOf j p)) (s .queue) ≡ true
+  pub once : Nodup eqb (s .queue)
+  -- a listed or moving packet's unit is held by its job
+  pub held : (j p : ℕ) → isBusy (packetAt s j p .status) ≡ true → drumOn (s .channels) (packetAt s j p .channel .0) ≡ false
+      → heldBy (unitIn (s .units) (packetAt s j p .channel .0) (packetAt s j p .at) .holder) j ≡ true
+
+abbrev pub Invariants : Type 0
+Invariants = (channels : List Channel) (units : List (List UnitState)) → NoneHeld units → (calls : List Call) → Always (run (fresh channels units) calls)
+
+-- no early hand-over: a unit on which a packet is in progress or stopping is held by that packet's job
+abbrev pub NoEarlyHandOver : Type 0
+NoEarlyHandOver =
+    (channels : List Channel) (units : List (List UnitState)) → NoneHeld units → (calls : List Call) (j p : ℕ)
+    → inMotion (packetAt (run (fresh channels units) calls) j p .status) ≡ true
+    → drumOn (run (fresh channels units) calls .channels) (packetAt (run (fresh channels units) calls) j p .channel .0) ≡ false
+    → heldBy (unitIn (run (fresh channels units) calls .units) (packetAt (run (fresh channels units) calls) j p .channel .0) (packetAt (run (fresh channels units) calls) j p .at) .holder) j ≡ true

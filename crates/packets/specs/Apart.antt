@@ -1,0 +1,52 @@
+-- Areas of drum are disjoint, and so is core, if each job was taken with words and blocks that no other job held. A reader has to believe
+-- this page.
+use Prim.Native.Nat.{ℕ, _+_}
+use mathlib.Core.Path.{_≡_}
+use mathlib.Core.Bool.{Bool, true, false, _&&_, _||_}
+use mathlib.Core.List.{List, [], _∷_}
+use lib.Dec.{leb, ltb}
+use Rattle.units.specs.declared.Unit.{Unit as UnitState}
+use Rattle.channels.specs.declared.Channel.{Channel}
+use Rattle.packets.specs.Demand.{NoneHeld, fresh}
+use Rattle.packets.specs.Rules.{Call, Complete, End, Mark, Start, Submit, Take, freshJob, inArea, run, step}
+use Rattle.packets.specs.State.{State, isEmpty, jobIn, stateIn}
+use Rattle.packets.specs.declared.Blocks.{Blocks}
+use Rattle.packets.specs.declared.Job.{Job}
+
+-- a block of a run
+abbrev pub inRun : Blocks → ℕ → Bool
+inRun run b = leb (run .start) b && ltb b (run .start + run .count)
+
+-- a block of a job's core
+abbrev pub inCore : Job → ℕ → Bool
+inCore job b = inRun (job .core .ib) b || inRun (job .core .db) b
+
+-- words of the drum (inArea), or blocks of core (inCore)
+abbrev pub Part : Type 0
+Part = Job → ℕ → Bool
+
+-- no two jobs hold the same one
+abbrev pub Apart : Part → State → Type 0
+Apart part s =
+    (i j x : ℕ) → isEmpty (stateIn (s .jobs) i) ≡ false → isEmpty (stateIn (s .jobs) j) ≡ false
+    → part (jobIn (s .jobs) i) x ≡ true → part (jobIn (s .jobs) j) x ≡ true → i ≡ j
+
+-- a taking is given what no job holds
+abbrev pub Fits : Part → State → Call → Type 0
+Fits part s (Take j asg) = (i x : ℕ) → isEmpty (stateIn (s .jobs) i) ≡ false → part (jobIn (s .jobs) i) x ≡ true → part (freshJob asg) x ≡ true → ⊥
+Fits part s (Submit j p f c w) = Unit {0}
+Fits part s (Start c) = Unit {0}
+Fits part s (Complete c how) = Unit {0}
+Fits part s (End j e) = Unit {0}
+Fits part s (Mark c u m) = Unit {0}
+
+-- so is each taking of a history
+abbrev pub Fitting : Part → State → List Call → Type 0
+Fitting part s [] = Unit {0}
+Fitting part s (x ∷ l) = Fits part s x × Fitting part (step s x .state) l
+
+abbrev pub Disjoint : Type 0
+Disjoint =
+    (channels : List Channel) (units : List (List UnitState)) → NoneHeld units → (calls : List Call)
+    → (Fitting inArea (fresh channels units) calls → Apart inArea (run (fresh channels units) calls))
+    × (Fitting inCore (fresh channels units) calls → Apart inCore (run (fresh channels units) calls))

@@ -1,0 +1,77 @@
+-- What an accepted call does to each packet's status: a packet ends with exactly the code that document 01 states for what ended it, and
+-- keeps it until it is submitted again or the place is taken. A reader has to believe this page.
+use Prim.Native.Nat.{ℕ}
+use mathlib.Core.Path.{_≡_}
+use mathlib.Core.Bool.{Bool, false, not, cond, _&&_, _||_}
+use mathlib.Core.List.{List}
+use mathlib.Core.Option.{Option, none, some}
+use lib.Dec.{eqb}
+use Rattle.units.specs.declared.Unit.{Unit as UnitState}
+use Rattle.channels.specs.declared.Channel.{Channel}
+use Rattle.packets.specs.Demand.{NoneHeld, fresh}
+use Rattle.packets.specs.Picks.{find}
+use Rattle.packets.specs.Rules.{Call, Complete, End, Mark, Start, Submit, Take, accept, aimed, atOf, atUnit, codeFor, cut, failed, isFailure, locked, refusal, run, startable, step, toOf}
+use Rattle.packets.specs.Sound.{isPacket}
+use Rattle.packets.specs.State.{State, drumOn, motionOn, packetIn, packetOf, placeOf}
+use Rattle.packets.specs.declared.How.{How}
+use Rattle.packets.specs.declared.Motion.{Motion}
+use Rattle.packets.specs.declared.Motion.the-variants.{Busy, Idle}
+use Rattle.packets.specs.declared.Status.{Status}
+use Rattle.packets.specs.declared.Status.the-variants.{Blank, Ended, InProgress, Listed}
+use Rattle.packets.specs.declared.Verdict.the-variants.{Granted}
+
+-- the packet that a start takes
+abbrev pub takes : Option ℕ → ℕ → ℕ → Bool
+takes none i n = false
+takes (some e) i n = isPacket (placeOf e) (packetOf e) i n
+
+-- a submission: the packet itself ends with 00 (07, 23) or is listed; 07 under interlock ends with 01 what its job has listed on the
+-- unit; 23 ends with 16o what its job has listed there, and what is in progress there is stopping
+abbrev pub afterSubmit : State → ℕ → ℕ → ℕ → ℕ → ℕ → ℕ → ℕ → ℕ → Status
+afterSubmit s j p f c a b i n =
+    let q = packetIn (s .jobs) i n in
+    cond (isPacket j p i n) (cond (eqb f 0o07 || eqb f 0o23) (Ended 0o00) Listed)
+    (cond (eqb i j && (eqb f 0o07 && (locked s c a && atUnit c a q))) (failed (q .status))
+    (cond (eqb i j && (not (eqb f 0o07) && (eqb f 0o23 && aimed (drumOn (s .channels) c) c a b q))) (cut (q .status))
+    (q .status)))
+
+-- a completion: the packet that moved ends with 00, 17o or the failure's code; a failure ends with 01 what is listed on its unit
+abbrev pub afterComplete : State → ℕ → How → Motion → ℕ → ℕ → Status
+afterComplete s c how Idle i n = packetIn (s .jobs) i n .status
+afterComplete s c how (Busy j p) i n =
+    let q = packetIn (s .jobs) i n in
+    cond (isPacket j p i n) (Ended (codeFor how))
+    (cond (eqb i j && ((isFailure how && not (drumOn (s .channels) c)) && atUnit c (packetIn (s .jobs) j p .at) q)) (failed (q .status))
+    (q .status))
+
+-- packet n of place i after an accepted call
+unfoldable pub statusAfter : State → Call → ℕ → ℕ → Status
+statusAfter s (Take j asg) i n = cond (eqb i j) Blank (packetIn (s .jobs) i n .status)
+statusAfter s (Submit j p f c w) i n = afterSubmit s j p f c (atOf w) (toOf w) i n
+statusAfter s (Start c) i n = cond (takes (find (startable s c) (s .queue)) i n) InProgress (packetIn (s .jobs) i n .status)
+statusAfter s (Complete c how) i n = afterComplete s c how (motionOn s c) i n
+statusAfter s (End j e) i n = cond (eqb i j) (cut (packetIn (s .jobs) i n .status)) (packetIn (s .jobs) i n .status)
+statusAfter s (Mark c u m) i n = packetIn (s .jobs) i n .status
+
+-- over any history: before each accepted call s is a cell that calls led to
+abbrev pub Codes : Type 0
+Codes =
+    (channels : List Channel) (units : List (List UnitState)) → NoneHeld units → (before : List Call) (x : Call)
+    → refusal (run (fresh channels units) before) x ≡ Granted → (i n : ℕ)
+    → packetIn (accept (run (fresh channels units) before) x .jobs) i n .status ≡ statusAfter (run (fresh channels units) before) x i n
+
+-- the calls that a packet's ended status does not outlast: its own submission, and a taking of its place
+abbrev pub renews : Call → ℕ → ℕ → Bool
+renews (Take j asg) i n = eqb i j
+renews (Submit j p f c w) i n = isPacket j p i n
+renews (Start c) i n = false
+renews (Complete c how) i n = false
+renews (End j e) i n = false
+renews (Mark c u m) i n = false
+
+-- an ended packet keeps its code through every other call, accepted or refused
+abbrev pub Kept : Type 0
+Kept =
+    (channels : List Channel) (units : List (List UnitState)) → NoneHeld units → (before : List Call) (x : Call) (i n k : ℕ)
+    → packetIn (run (fresh channels units) before .jobs) i n .status ≡ Ended k → renews x i n ≡ false
+    → packetIn (step (run (fresh channels units) before) x .state .jobs) i n .status ≡ Ended k

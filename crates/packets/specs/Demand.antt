@@ -1,0 +1,189 @@
+-- Demand 3: what a job's holding sees is what a lone unit would do. A reader has to believe this page.
+use Prim.Native.Nat.{ℕ}
+use mathlib.Core.Path.{_≡_}
+use mathlib.Core.Bool.{Bool, true, false, not, cond, _&&_, _||_}
+use mathlib.Core.List.{List, [], _∷_, _++_}
+use lib.ListN.{replicate}
+use lib.Dec.{ltb, eqb}
+use Rattle.units.specs.declared.Unit.{Unit as UnitState}
+use Rattle.units.specs.State.{unitIn}
+use Rattle.units.specs.declared.Holder.the-variants.{Free}
+use Rattle.packets.specs.Lone.{loneRun, loneStarts, newLone}
+use Rattle.packets.specs.Rules.{Call, Complete, End, Mark, Start, Submit, Take, atOf, refusal, run, step}
+use Rattle.packets.specs.State.{State, blank, drumOn, heldBy, isEmpty, jobIn, motionOn, noCore, packetIn, stateIn}
+use Rattle.packets.specs.declared.Answer.{Answer}
+use Rattle.packets.specs.declared.Answer.the-variants.{Closed, Completed, Done, Refused, Started}
+use Rattle.packets.specs.declared.Assignment.{Assignment}
+use Rattle.packets.specs.declared.Begun.{Begun}
+use Rattle.channels.specs.declared.Channel.{Channel}
+use Rattle.packets.specs.declared.Job.{Job}
+use Rattle.packets.specs.declared.JobState.the-variants.{Empty}
+use Rattle.packets.specs.declared.Motion.the-variants.{Busy, Idle}
+use Rattle.packets.specs.declared.Packet.{Packet}
+use Rattle.packets.specs.declared.Verdict.the-variants.{Granted}
+
+-- ---- a fresh cell: nothing listed or moving, no job, and no unit held
+
+abbrev pub emptyPlace : Job
+emptyPlace = record { state = Empty; packets = replicate 16 blank; from = 0; words = 0; core = noCore }
+
+unfoldable pub fresh : List Channel → List (List UnitState) → State
+fresh channels units =
+    record {
+      channels = channels;
+      units = units;
+      queue = [];
+      moving = replicate 16 (record { motion = Idle });
+      jobs = replicate 16 emptyPlace;
+    }
+
+abbrev pub NoneHeld : List (List UnitState) → Type 0
+NoneHeld units = (c u : ℕ) → unitIn units c u .holder ≡ Free
+
+-- ---- a holding: what one job holds
+
+-- a unit of a channel, or, where drum, the job's piece of the drum on that channel
+pub record Holding : Type 0 where
+  pub place : ℕ
+  pub channel : ℕ
+  pub drum : Bool
+  pub unit : ℕ
+
+pub record Holds (s : State) (h : Holding) : Type 0 where
+  pub kind : drumOn (s .channels) (h .channel) ≡ h .drum
+  pub held : cond (h .drum)
+      (not (isEmpty (stateIn (s .jobs) (h .place))) && ltb 0 (jobIn (s .jobs) (h .place) .words))
+      (heldBy (unitIn (s .units) (h .channel) (h .unit) .holder) (h .place))
+      ≡ true
+
+-- channel c and unit or address a are the holding's
+abbrev pub isThere : Holding → ℕ → ℕ → Bool
+isThere h c a = eqb c (h .channel) && (h .drum || eqb a (h .unit))
+
+-- the packet was last submitted there
+abbrev pub there : Holding → Packet → Bool
+there h p = isThere h (p .channel .0) (p .at)
+
+-- ---- what is seen from outside: the calls and their answers
+
+pub record Event : Type 0 where
+  pub call : Call
+  pub answer : Answer
+
+unfoldable pub events : State → List Call → List Event
+events s [] = []
+events s (x ∷ l) = record { call = x; answer = step s x .answer } ∷ events (step s x .state) l
+
+abbrev pub isAccepted : Answer → Bool
+isAccepted Done = true
+isAccepted (Started b) = true
+isAccepted (Completed j p r) = true
+isAccepted (Closed r) = true
+isAccepted (Refused n) = false
+
+-- which of the job's packets were, since the taking, last submitted there
+abbrev pub Seen : Type 0
+Seen = ℕ → Bool
+
+abbrev pub noneSeen : Seen
+noneSeen n = false
+
+-- an accepted submission of the job's says where its packet was last submitted
+unfoldable pub noted : Holding → Seen → Call → Answer → Seen
+noted h t (Take j asg) r n = t n
+noted h t (Submit j p f c w) r n = cond (isAccepted r && eqb j (h .place) && eqb n p) (isThere h c (atOf w)) (t n)
+noted h t (Start c) r n = t n
+noted h t (Complete c how) r n = t n
+noted h t (End j e) r n = t n
+noted h t (Mark c u m) r n = t n
+
+-- a start that took a packet there
+abbrev pub tookThere : Holding → ℕ → Answer → Bool
+tookThere h c Done = false
+tookThere h c (Started b) = eqb (b .place) (h .place) && isThere h c (b .at)
+tookThere h c (Completed j p r) = false
+tookThere h c (Closed r) = false
+tookThere h c (Refused n) = false
+
+-- a completion of such a packet
+abbrev pub endedThere : Holding → Seen → Answer → Bool
+endedThere h t Done = false
+endedThere h t (Started b) = false
+endedThere h t (Completed j p r) = eqb j (h .place) && t p
+endedThere h t (Closed r) = false
+endedThere h t (Refused n) = false
+
+-- the calls that act on a holding are its job's submissions there (07 and 23 too), starts that took a packet there, completions of
+-- such packets, and the job's end
+unfoldable pub acts : Holding → Seen → Call → Answer → Bool
+acts h t (Take j asg) r = false
+acts h t (Submit j p f c w) r = isAccepted r && (eqb j (h .place) && isThere h c (atOf w))
+acts h t (Start c) r = tookThere h c r
+acts h t (Complete c how) r = endedThere h t r
+acts h t (End j e) r = isAccepted r && eqb j (h .place)
+acts h t (Mark c u m) r = false
+
+-- the calls of a stretch that acted on the holding
+unfoldable pub acting : Holding → Seen → List Event → List Call
+acting h t [] = []
+acting h t (e ∷ l) =
+    cond (acts h t (e .call) (e .answer)) (e .call ∷ acting h (noted h t (e .call) (e .answer)) l) (acting h (noted h t (e .call) (e .answer)) l)
+
+abbrev pub startIn : Answer → List Begun
+startIn Done = []
+startIn (Started b) = b ∷ []
+startIn (Completed j p r) = []
+startIn (Closed r) = []
+startIn (Refused n) = []
+
+-- the starts that those calls made in the cell
+unfoldable pub startsIn : Holding → Seen → List Event → List Begun
+startsIn h t [] = []
+startsIn h t (e ∷ l) =
+    cond (acts h t (e .call) (e .answer)) (startIn (e .answer) ++ startsIn h (noted h t (e .call) (e .answer)) l) (startsIn h (noted h t (e .call) (e .answer)) l)
+
+-- the packets that were last submitted there, after a stretch
+unfoldable pub seenAfter : Holding → Seen → List Event → Seen
+seenAfter h t [] = t
+seenAfter h t (e ∷ l) = seenAfter h (noted h t (e .call) (e .answer)) l
+
+-- ---- the stretch, and what holds in it
+
+-- before each call of the stretch the job holds it; the last call may return it
+abbrev pub Stretch : Holding → State → List Call → Type 0
+Stretch h s [] = Unit {0}
+Stretch h s (x ∷ l) = Holds s h × Stretch h (step s x .state) l
+
+-- nothing of another job is moving on that unit
+abbrev pub Quiet : Holding → State → Type 0
+Quiet h s = (j p : ℕ) → motionOn s (h .channel) ≡ Busy j p → packetIn (s .jobs) j p .at ≡ h .unit → j ≡ h .place
+
+-- nothing of another job starts there
+abbrev pub OwnStart : Holding → State → Call → Type 0
+OwnStart h s x = (b : Begun) → x ≡ Start (h .channel) → step s x .answer ≡ Started b → b .at ≡ h .unit → b .place ≡ h .place
+
+abbrev pub Undisturbed : Holding → State → List Call → Type 0
+Undisturbed h s [] = Quiet h s
+Undisturbed h s (x ∷ l) = Quiet h s × OwnStart h s x × Undisturbed h (step s x .state) l
+
+pub record Isolated (h : Holding) (s : State) (during : List Call) : Type 0 where
+  -- the same starts in the same order
+  pub starts : startsIn h noneSeen (events s during) ≡ loneStarts (h .drum) (h .place) newLone (acting h noneSeen (events s during))
+  -- the same status in every packet last submitted there
+  pub status : (n : ℕ) → seenAfter h noneSeen (events s during) n ≡ true
+      → loneRun (h .drum) newLone (acting h noneSeen (events s during)) .packets n .status ≡ packetIn (run s during .jobs) (h .place) n .status
+  -- on a unit that is not the drum nothing of another job starts or is still moving
+  pub alone : h .drum ≡ false → Undisturbed h s during
+
+-- in a cell that any calls led to from a fresh one, a job is taken with any assignment; for all that it then holds, up to its
+-- return or any earlier moment
+abbrev pub Demand3 : Type 0
+Demand3 =
+    (channels : List Channel) (units : List (List UnitState)) → NoneHeld units → (before : List Call)
+    (j : ℕ) (asg : Assignment)
+    → refusal (run (fresh channels units) before) (Take j asg) ≡ Granted
+    → (h : Holding) → h .place ≡ j
+    → Holds (step (run (fresh channels units) before) (Take j asg) .state) h
+    → (during : List Call)
+    → Stretch h (step (run (fresh channels units) before) (Take j asg) .state) during
+    → Isolated h (step (run (fresh channels units) before) (Take j asg) .state) during

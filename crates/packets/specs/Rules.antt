@@ -1,0 +1,359 @@
+-- Document 01, 'Packets and request lists' and 'Refused calls', as rules: what each call is refused for, what it leaves, what it
+-- answers. A reader has to believe this page. Codes are octal.
+use Prim.Native.Nat.{ℕ, _+_}
+use mathlib.Core.Bool.{Bool, true, false, not, cond, _&&_, _||_}
+use mathlib.Core.List.{List, [], _∷_}
+use mathlib.Core.Option.{Option, none, some}
+use lib.ListN.{set, replicate}
+use lib.Dec.{ltb, leb, eqb}
+use Rattle.numbers.specs.Kinds.{isDrum}
+use Rattle.numbers.specs.declared.Refusal.{Refusal}
+use Rattle.numbers.specs.declared.Refusal.the-variants.{OutOfRange, NoJob, NotTheJobs, NotLegal, PacketInUse, ChannelBusy, NothingStartable, NothingInProgress, WrongCompletion, NothingSelected}
+use Rattle.units.specs.State.{unitIn, unitSet}
+use Rattle.units.specs.declared.Unit.{Unit as UnitState}
+use Rattle.channels.specs.declared.Fitted.{Fitted}
+use Rattle.channels.specs.declared.Fitted.the-variants.{Nothing, With}
+use Rattle.packets.specs.declared.Status.{Status}
+use Rattle.packets.specs.declared.Status.the-variants.{Blank, Listed, InProgress, Stopping, Ended}
+use Rattle.packets.specs.declared.Packet.{Packet}
+use Rattle.packets.specs.declared.JobState.{JobState}
+use Rattle.packets.specs.declared.JobState.the-variants.{Empty, Running, ClosingNormal, ClosingError}
+use Rattle.packets.specs.declared.Job.{Job}
+use Rattle.packets.specs.declared.Motion.{Motion}
+use Rattle.packets.specs.declared.Motion.the-variants.{Idle, Busy}
+use Rattle.packets.specs.declared.Spot.{Spot}
+use Rattle.packets.specs.declared.Spot.the-variants.{OnUnit, OnDrum}
+use Rattle.packets.specs.declared.How.{How}
+use Rattle.packets.specs.declared.How.the-variants.{Full, Cut, Failed}
+use Rattle.packets.specs.declared.Marking.{Marking}
+use Rattle.packets.specs.declared.Marking.the-variants.{Down, Reserved}
+use Rattle.packets.specs.declared.Assignment.{Assignment}
+use Rattle.packets.specs.declared.Leaving.{Leaving}
+use Rattle.packets.specs.declared.Leaving.the-variants.{Stays, AfterNormal, AfterError}
+use Rattle.packets.specs.declared.Answer.{Answer}
+use Rattle.packets.specs.declared.Answer.the-variants.{Done, Started, Completed, Closed, Refused}
+use Rattle.packets.specs.declared.Verdict.{Verdict}
+use Rattle.packets.specs.declared.Verdict.the-variants.{Granted, Denied}
+use Rattle.packets.specs.Picks.{find}
+use Rattle.packets.specs.State.{State, fittedOn, drumOn, configured, legalFor, placeOf, packetOf, isBusy, isStopping, isRunning, isEmpty, isClosing, blank, withStatus, jobIn, packetIn, stateIn, setState, heldBy, releaseAll, takeAll, wanted, motionOn, isIdle, anyMoves, store, sweep, enqueue, lock, move, close}
+
+-- ---- the calls
+
+pub data Call : Type 0 where
+  -- a job is taken into a place with an assignment
+  Take : ℕ → Assignment → Call
+  -- a submission names place, packet, function, channel and unit or address
+  Submit : ℕ → ℕ → ℕ → ℕ → Spot → Call
+  -- start on a channel
+  Start : ℕ → Call
+  -- completion on a channel
+  Complete : ℕ → How → Call
+  -- the job in a place ends: true in error
+  End : ℕ → Bool → Call
+  -- a mark of unit u of channel c is set or cleared
+  Mark : ℕ → ℕ → Marking → Call
+
+-- the unit, or the address X or L
+abbrev pub atOf : Spot → ℕ
+atOf (OnUnit u) = u .0
+atOf (OnDrum x h) = x
+
+-- H, which only 23 on the drum reads
+abbrev pub toOf : Spot → ℕ
+toOf (OnUnit u) = 0
+toOf (OnDrum x h) = h
+
+-- ---- submission
+
+-- a unit, 0 to 15, that the channel has; on the drum channel any address (it is never out of range, only not the job's)
+abbrev pub reaches : Fitted → Spot → Bool
+reaches Nothing w = false
+reaches (With kind n) (OnUnit u) = not (isDrum kind) && (ltb (u .0) 16 && ltb (u .0) n)
+reaches (With kind n) (OnDrum x h) = isDrum kind
+
+-- an address X inside the job's area
+abbrev pub inArea : Job → ℕ → Bool
+inArea job x = leb (job .from) x && ltb x (job .from + job .words)
+
+-- the unit or drum address is the job's; for 23 on the drum having an area is enough
+abbrev pub owns : State → ℕ → ℕ → ℕ → ℕ → Bool
+owns s j f c a =
+    cond (drumOn (s .channels) c)
+    (cond (eqb f 0o23) (ltb 0 (jobIn (s .jobs) j .words)) (inArea (jobIn (s .jobs) j) a))
+    (heldBy (unitIn (s .units) c a .holder) j)
+
+abbrev pub packet : Status → ℕ → ℕ → ℕ → Packet
+packet t f c a = record { status = t; function = f; channel = record { 0 = c }; at = a }
+
+-- an ordinary function: the packet is listed, as the youngest; packets submitted during interlock stay listed
+abbrev pub enlist : State → ℕ → ℕ → ℕ → ℕ → ℕ → State
+enlist s j p f c a = enqueue (store s j p (packet Listed f c a)) j p
+
+-- a packet's unit is unit a of channel c
+abbrev pub atUnit : ℕ → ℕ → Packet → Bool
+atUnit c a p = eqb (p .channel .0) c && eqb (p .at) a
+
+-- what a failure, or 07 under interlock, does: a listed packet ends with 01
+abbrev pub failed : Status → Status
+failed Blank = Blank
+failed Listed = Ended 0o01
+failed InProgress = InProgress
+failed Stopping = Stopping
+failed (Ended k) = Ended k
+
+-- interlock, which the drum never has
+abbrev pub locked : State → ℕ → ℕ → Bool
+locked s c a = not (drumOn (s .channels) c) && unitIn (s .units) c a .interlock
+
+-- 07 on the drum, or without interlock, only ends with 00
+abbrev pub pass : State → ℕ → ℕ → ℕ → ℕ → ℕ → State
+pass s j p f c a = store s j p (packet (Ended 0o00) f c a)
+
+-- 07 under interlock ends the unit's listed packets with 01, clears the interlock and ends itself with 00
+abbrev pub unlock : State → ℕ → ℕ → ℕ → ℕ → ℕ → State
+unlock s j p f c a = pass (lock (sweep s j (atUnit c a) failed) c a false) j p f c a
+
+-- what 23, or the job's end, does: a listed packet ends with 16o, one in progress is stopping
+abbrev pub cut : Status → Status
+cut Blank = Blank
+cut Listed = Ended 0o16
+cut InProgress = Stopping
+cut Stopping = Stopping
+cut (Ended k) = Ended k
+
+-- 23 is for that unit; on the drum it takes those with L ≤ X ≤ H, none if L > H
+abbrev pub aimed : Bool → ℕ → ℕ → ℕ → Packet → Bool
+aimed drum c a b p = eqb (p .channel .0) c && cond drum (leb a (p .at) && leb (p .at) b) (eqb (p .at) a)
+
+-- 23 ends the job's listed packets there with 16o, makes one in progress stopping, and ends with 00; it doesn't touch interlock
+abbrev pub terminate : State → ℕ → ℕ → ℕ → ℕ → ℕ → ℕ → State
+terminate s j p f c a b = pass (sweep s j (aimed (drumOn (s .channels) c) c a b) cut) j p f c a
+
+-- 07 remove logical interlock, 23 terminate, any other function is listed
+abbrev pub submitted : State → ℕ → ℕ → ℕ → ℕ → ℕ → ℕ → State
+submitted s j p f c a b =
+    cond (eqb f 0o07) (cond (locked s c a) (unlock s j p f c a) (pass s j p f c a))
+    (cond (eqb f 0o23) (terminate s j p f c a b) (enlist s j p f c a))
+
+-- ---- start
+
+-- a listed packet on channel c whose unit has no interlock
+abbrev pub startableOn : Bool → List (List UnitState) → List Job → ℕ → ℕ → Bool
+startableOn drum units jobs c e =
+    let p = packetIn jobs (placeOf e) (packetOf e) in
+    eqb (p .channel .0) c && (drum || not (unitIn units c (p .at) .interlock))
+
+abbrev pub startable : State → ℕ → ℕ → Bool
+startable s c e = startableOn (drumOn (s .channels) c) (s .units) (s .jobs) c e
+
+-- the packet is in progress
+abbrev pub begun : State → ℕ → ℕ → State
+begun s c e =
+    move (store s (placeOf e) (packetOf e) (withStatus (packetIn (s .jobs) (placeOf e) (packetOf e)) InProgress)) c (Busy (placeOf e) (packetOf e))
+
+-- start takes the oldest such packet
+abbrev pub started : State → ℕ → Option ℕ → State
+started s c none = s
+started s c (some e) = begun s c e
+
+-- it answers the packet's place, number, function and unit or address
+abbrev pub begins : State → Option ℕ → Answer
+begins s none = Done
+begins s (some e) =
+    let p = packetIn (s .jobs) (placeOf e) (packetOf e) in
+    Started (record { place = placeOf e; packet = packetOf e; function = p .function; at = p .at })
+
+-- ---- ends and returns
+
+-- a closing job of which nothing moves is done
+abbrev pub isDone : State → ℕ → Bool
+isDone s j = isClosing (stateIn (s .jobs) j) && not (anyMoves j (s .moving))
+
+-- all facilities return together; the packets keep their statuses until the next job is taken there
+abbrev pub returned : State → ℕ → State
+returned s j =
+    record { channels = s .channels; queue = s .queue; moving = s .moving; units = releaseAll (s .units) j; jobs = setState (s .jobs) j Empty }
+
+abbrev pub returnIfDone : ℕ → State → State
+returnIfDone j s = cond (isDone s j) (returned s j) s
+
+-- what the schedule has to know: after which end the facilities returned
+abbrev pub leavingAs : JobState → Leaving
+leavingAs Empty = Stays
+leavingAs Running = Stays
+leavingAs ClosingNormal = AfterNormal
+leavingAs ClosingError = AfterError
+
+abbrev pub leaving : ℕ → State → Leaving
+leaving j s = cond (isDone s j) (leavingAs (stateIn (s .jobs) j)) Stays
+
+-- ---- completion
+
+-- full (00), cut (17o) or failed with a code
+abbrev pub codeFor : How → ℕ
+codeFor Full = 0o00
+codeFor Cut = 0o17
+codeFor (Failed k) = k
+
+abbrev pub isFailure : How → Bool
+isFailure Full = false
+isFailure Cut = false
+isFailure (Failed k) = true
+
+-- packet p of place j, in progress or stopping on channel c, has ended with a code
+abbrev pub over : State → ℕ → ℕ → ℕ → ℕ → State
+over s c j p k = store (move s c Idle) j p (withStatus (packetIn (s .jobs) j p) (Ended k))
+
+-- a failure on a unit other than the drum sets its interlock and ends that unit's listed packets with 01
+abbrev pub broken : State → ℕ → ℕ → ℕ → State
+broken s c a j = lock (sweep s j (atUnit c a) failed) c a true
+
+abbrev pub finished : State → ℕ → How → ℕ → ℕ → State
+finished s c how j p =
+    cond (isFailure how && not (drumOn (s .channels) c))
+    (broken (over s c j p (codeFor how)) c (packetIn (s .jobs) j p .at) j)
+    (over s c j p (codeFor how))
+
+abbrev pub completed : State → ℕ → How → Motion → State
+completed s c how Idle = s
+completed s c how (Busy j p) = returnIfDone j (finished s c how j p)
+
+-- a completion answers the place and number of the packet it ends, and whether the facilities returned
+abbrev pub completes : State → ℕ → How → Motion → Answer
+completes s c how Idle = Done
+completes s c how (Busy j p) = Completed j p (leaving j (finished s c how j p))
+
+-- ---- a job's end
+
+-- normally or in error
+abbrev pub closing : Bool → JobState
+closing false = ClosingNormal
+closing true = ClosingError
+
+abbrev pub always : Packet → Bool
+always p = true
+
+-- it is then closing: listed packets get 16o, those in progress become stopping
+abbrev pub closed : State → ℕ → Bool → State
+closed s j e = close (sweep s j always cut) j (closing e)
+
+-- when none is left, at once or at the last completion, all facilities return together
+abbrev pub ended : State → ℕ → Bool → State
+ended s j e = returnIfDone j (closed s j e)
+
+-- ---- taking a job, and marks
+
+-- its 16 packets blank, its drum area and core
+abbrev pub freshJob : Assignment → Job
+freshJob asg = record { state = Running; packets = replicate 16 blank; from = asg .from; words = asg .words; core = asg .core }
+
+-- its units without interlock
+abbrev pub assigned : State → ℕ → Assignment → State
+assigned s j asg =
+    record {
+      channels = s .channels;
+      queue = s .queue;
+      moving = s .moving;
+      units = takeAll (s .units) j (wanted asg);
+      jobs = set (s .jobs) j (freshJob asg);
+    }
+
+-- the two marks are independent
+abbrev pub withMark : UnitState → Marking → UnitState
+withMark v (Down b) = record { holder = v .holder; down = b; reserved = v .reserved; interlock = v .interlock }
+withMark v (Reserved b) = record { holder = v .holder; down = v .down; reserved = b; interlock = v .interlock }
+
+abbrev pub marked : State → ℕ → ℕ → Marking → State
+marked s c u m =
+    record {
+      channels = s .channels;
+      queue = s .queue;
+      moving = s .moving;
+      jobs = s .jobs;
+      units = unitSet (s .units) c u (withMark (unitIn (s .units) c u) m);
+    }
+
+-- ---- refused calls: the lowest number answers
+
+-- refused with this if the test holds, else what the later tests say
+abbrev pub first : Bool → Refusal → Verdict → Verdict
+first true n r = Denied n
+first false n r = r
+
+-- cut for a packet not stopping; failure code 00, 01, 16o, 17o or over 77o
+abbrev pub badHow : State → Motion → How → Bool
+badHow s m Full = false
+badHow s Idle Cut = false
+badHow s (Busy j p) Cut = not (isStopping (packetIn (s .jobs) j p .status))
+badHow s m (Failed k) = eqb k 0o00 || (eqb k 0o01 || (eqb k 0o16 || (eqb k 0o17 || ltb 0o77 k)))
+
+-- nothing startable
+abbrev pub isNone : Option ℕ → Bool
+isNone none = true
+isNone (some e) = false
+
+-- place, channel, unit, packet or function number out of range, or channel or unit not configured
+abbrev pub inRange : State → ℕ → ℕ → ℕ → ℕ → Spot → Bool
+inRange s j p f c w = ltb j 16 && (ltb p 16 && (ltb f 64 && (ltb c 16 && reaches (fittedOn (s .channels) c) w)))
+
+unfoldable pub refusal : State → Call → Verdict
+refusal s (Take j asg) = first (not (ltb j 16 && isEmpty (stateIn (s .jobs) j))) NothingSelected Granted
+refusal s (Submit j p f c w) =
+    first (not (inRange s j p f c w)) OutOfRange
+    (first (not (isRunning (stateIn (s .jobs) j))) NoJob
+    (first (not (owns s j f c (atOf w))) NotTheJobs
+    (first (not (legalFor (fittedOn (s .channels) c) f)) NotLegal
+    (first (isBusy (packetIn (s .jobs) j p .status)) PacketInUse
+    Granted))))
+refusal s (Start c) =
+    first (not (configured (s .channels) c)) OutOfRange
+    (first (not (isIdle (motionOn s c))) ChannelBusy
+    (first (isNone (find (startable s c) (s .queue))) NothingStartable
+    Granted))
+refusal s (Complete c how) =
+    first (not (configured (s .channels) c)) OutOfRange
+    (first (isIdle (motionOn s c)) NothingInProgress
+    (first (badHow s (motionOn s c) how) WrongCompletion
+    Granted))
+refusal s (End j e) =
+    first (not (ltb j 16)) OutOfRange
+    (first (not (isRunning (stateIn (s .jobs) j))) NoJob
+    Granted)
+refusal s (Mark c u m) =
+    first (not (ltb c 16 && reaches (fittedOn (s .channels) c) (OnUnit (record { 0 = u })))) OutOfRange Granted
+
+-- ---- what an accepted call leaves, and what it answers
+
+unfoldable pub accept : State → Call → State
+accept s (Take j asg) = assigned s j asg
+accept s (Submit j p f c w) = submitted s j p f c (atOf w) (toOf w)
+accept s (Start c) = started s c (find (startable s c) (s .queue))
+accept s (Complete c how) = completed s c how (motionOn s c)
+accept s (End j e) = ended s j e
+accept s (Mark c u m) = marked s c u m
+
+unfoldable pub answer : State → Call → Answer
+answer s (Take j asg) = Done
+answer s (Submit j p f c w) = Done
+answer s (Start c) = begins s (find (startable s c) (s .queue))
+answer s (Complete c how) = completes s c how (motionOn s c)
+answer s (End j e) = Closed (leaving j (closed s j e))
+answer s (Mark c u m) = Done
+
+-- ---- a step, a run
+
+pub record Answered : Type 0 where
+  pub answer : Answer
+  pub state : State
+
+-- a refused call returns the number alone, and the state stays
+abbrev pub decided : State → Call → Verdict → Answered
+decided s x Granted = record { answer = answer s x; state = accept s x }
+decided s x (Denied n) = record { answer = Refused n; state = s }
+
+unfoldable pub step : State → Call → Answered
+step s x = decided s x (refusal s x)
+
+unfoldable pub run : State → List Call → State
+run s [] = s
+run s (x ∷ l) = run (step s x .state) l

@@ -1,0 +1,259 @@
+-- The state that the rules speak of, how it is read, and the stores that change one part of it.
+use Prim.Native.Nat.{ℕ, _+_, _*_, _/_, _%_}
+use mathlib.Core.Bool.{Bool, true, false, cond, _&&_}
+use mathlib.Core.List.{List, [], _∷_, _++_, map}
+use lib.ListN.{length, getD, set}
+use lib.Dec.{ltb, eqb}
+use Rattle.numbers.specs.Kinds.{isDrum}
+use Rattle.functions.specs.Legal.{legalOf}
+use Rattle.units.specs.State.{unitIn, unitSet, assignable}
+use Rattle.units.specs.declared.Holder.{Holder}
+use Rattle.units.specs.declared.Holder.the-variants.{Free, Held}
+use Rattle.units.specs.declared.Unit.{Unit as UnitState}
+use Rattle.channels.specs.declared.Fitted.{Fitted}
+use Rattle.channels.specs.declared.Fitted.the-variants.{Nothing, With}
+use Rattle.channels.specs.declared.Channel.{Channel}
+use Rattle.packets.specs.declared.Status.{Status}
+use Rattle.packets.specs.declared.Status.the-variants.{Blank, Listed, InProgress, Stopping, Ended}
+use Rattle.packets.specs.declared.Packet.{Packet}
+use Rattle.packets.specs.declared.JobState.{JobState}
+use Rattle.packets.specs.declared.JobState.the-variants.{Empty, Running, ClosingNormal, ClosingError}
+use Rattle.packets.specs.declared.Core.{Core}
+use Rattle.packets.specs.declared.Job.{Job}
+use Rattle.packets.specs.declared.Motion.{Motion}
+use Rattle.packets.specs.declared.Motion.the-variants.{Idle, Busy}
+use Rattle.packets.specs.declared.Carrier.{Carrier}
+use Rattle.packets.specs.declared.Assignment.{Assignment}
+use Rattle.packets.specs.Picks.{keep, any, mapFrom}
+
+-- what each channel has, the units, the places, the listed packets of all channels in order of submission (a channel's
+-- request list is its part of it), and what moves on each channel
+pub record State : Type 0 where
+  pub channels : List Channel
+  pub units : List (List UnitState)
+  pub jobs : List Job
+  pub queue : List ℕ
+  pub moving : List Carrier
+
+-- ---- channels
+
+-- what channel c has; there is none past 15
+unfoldable pub fittedOn : List Channel → ℕ → Fitted
+fittedOn channels c = getD channels c (record { has = Nothing }) .has
+
+-- the drum, of which there are words and no units
+abbrev pub isDrumOf : Fitted → Bool
+isDrumOf Nothing = false
+isDrumOf (With kind n) = isDrum kind
+
+unfoldable pub drumOn : List Channel → ℕ → Bool
+drumOn channels c = isDrumOf (fittedOn channels c)
+
+-- a channel that is there
+abbrev pub isThereOf : Fitted → Bool
+isThereOf Nothing = false
+isThereOf (With kind n) = true
+
+unfoldable pub configured : List Channel → ℕ → Bool
+configured channels c = ltb c 16 && isThereOf (fittedOn channels c)
+
+-- a function is legal for the kind of what the channel has
+abbrev pub legalFor : Fitted → ℕ → Bool
+legalFor Nothing f = false
+legalFor (With kind n) f = legalOf kind f
+
+-- ---- a listed packet, as one number
+
+unfoldable pub entryOf : ℕ → ℕ → ℕ
+entryOf j p = j * 16 + p
+
+unfoldable pub placeOf : ℕ → ℕ
+placeOf e = e / 16
+
+unfoldable pub packetOf : ℕ → ℕ
+packetOf e = e % 16
+
+-- ---- statuses and job states
+
+abbrev pub isListed : Status → Bool
+isListed Blank = false
+isListed Listed = true
+isListed InProgress = false
+isListed Stopping = false
+isListed (Ended k) = false
+
+-- listed, in progress or stopping
+abbrev pub isBusy : Status → Bool
+isBusy Blank = false
+isBusy Listed = true
+isBusy InProgress = true
+isBusy Stopping = true
+isBusy (Ended k) = false
+
+abbrev pub isStopping : Status → Bool
+isStopping Blank = false
+isStopping Listed = false
+isStopping InProgress = false
+isStopping Stopping = true
+isStopping (Ended k) = false
+
+abbrev pub isRunning : JobState → Bool
+isRunning Empty = false
+isRunning Running = true
+isRunning ClosingNormal = false
+isRunning ClosingError = false
+
+abbrev pub isEmpty : JobState → Bool
+isEmpty Empty = true
+isEmpty Running = false
+isEmpty ClosingNormal = false
+isEmpty ClosingError = false
+
+abbrev pub isClosing : JobState → Bool
+isClosing Empty = false
+isClosing Running = false
+isClosing ClosingNormal = true
+isClosing ClosingError = true
+
+-- ---- packets, by place and number
+
+abbrev pub blank : Packet
+blank = record { status = Blank; function = 0; channel = record { 0 = 0 }; at = 0 }
+
+abbrev pub noCore : Core
+noCore = record { ib = record { start = 0; count = 0 }; db = record { start = 0; count = 0 } }
+
+-- no place of the cell
+abbrev pub noJob : Job
+noJob = record { state = Empty; packets = []; from = 0; words = 0; core = noCore }
+
+abbrev pub withStatus : Packet → Status → Packet
+withStatus p t = record { status = t; function = p .function; channel = p .channel; at = p .at }
+
+abbrev pub withPackets : Job → List Packet → Job
+withPackets j ps = record { state = j .state; packets = ps; from = j .from; words = j .words; core = j .core }
+
+abbrev pub withState : Job → JobState → Job
+withState j t = record { state = t; packets = j .packets; from = j .from; words = j .words; core = j .core }
+
+abbrev pub jobIn : List Job → ℕ → Job
+jobIn jobs j = getD jobs j noJob
+
+unfoldable pub packetIn : List Job → ℕ → ℕ → Packet
+packetIn jobs j p = getD (jobIn jobs j .packets) p blank
+
+unfoldable pub stateIn : List Job → ℕ → JobState
+stateIn jobs j = jobIn jobs j .state
+
+-- packet p of the job in place j is now this
+unfoldable pub put : List Job → ℕ → ℕ → Packet → List Job
+put jobs j p q = set jobs j (withPackets (jobIn jobs j) (set (jobIn jobs j .packets) p q))
+
+-- a packet that passes the test gets its status changed
+abbrev pub restatus : (Packet → Bool) → (Status → Status) → Packet → Packet
+restatus t f p = withStatus p (cond (t p) (f (p .status)) (p .status))
+
+-- the same for each packet of the job in place j
+unfoldable pub restatusAll : List Job → ℕ → (Packet → Bool) → (Status → Status) → List Job
+restatusAll jobs j t f = set jobs j (withPackets (jobIn jobs j) (map (restatus t f) (jobIn jobs j .packets)))
+
+unfoldable pub setState : List Job → ℕ → JobState → List Job
+setState jobs j t = set jobs j (withState (jobIn jobs j) t)
+
+-- the packet that an entry of the list names is listed
+abbrev pub isStill : List Job → ℕ → Bool
+isStill jobs e = isListed (packetIn jobs (placeOf e) (packetOf e) .status)
+
+-- the list without what is no longer listed
+unfoldable pub relist : List Job → List ℕ → List ℕ
+relist jobs q = keep (isStill jobs) q
+
+-- the list with one more at its end, where there is room (there always is: no packet is listed twice)
+unfoldable pub enlisted : List ℕ → ℕ → List ℕ
+enlisted q e = cond (ltb (length q) 256) (q ++ (e ∷ [])) q
+
+-- ---- units, by channel and number
+
+abbrev pub withLock : UnitState → Bool → UnitState
+withLock v b = record { holder = v .holder; down = v .down; reserved = v .reserved; interlock = b }
+
+abbrev pub setLock : List (List UnitState) → ℕ → ℕ → Bool → List (List UnitState)
+setLock units c u b = unitSet units c u (withLock (unitIn units c u) b)
+
+abbrev pub heldBy : Holder → ℕ → Bool
+heldBy Free j = false
+heldBy (Held k) j = eqb k j
+
+-- a unit that the job in place j holds is free again
+abbrev pub release : ℕ → UnitState → UnitState
+release j v = record { holder = cond (heldBy (v .holder) j) Free (v .holder); down = v .down; reserved = v .reserved; interlock = v .interlock }
+
+unfoldable pub releaseAll : List (List UnitState) → ℕ → List (List UnitState)
+releaseAll units j = map (map (release j)) units
+
+-- a unit that is wanted and assignable is held by the job in place j, without interlock
+abbrev pub takeUnit : ℕ → Bool → UnitState → UnitState
+takeUnit j wanted v =
+    cond (wanted && assignable v) (record { holder = Held j; down = v .down; reserved = v .reserved; interlock = false }) v
+
+-- an assignment has unit u of channel c
+abbrev pub wanted : Assignment → ℕ → ℕ → Bool
+wanted asg c u = getD (asg .units) (c * 16 + u) false
+
+unfoldable pub takeAll : List (List UnitState) → ℕ → (ℕ → ℕ → Bool) → List (List UnitState)
+takeAll units j wants = mapFrom 0 (λ c row. mapFrom 0 (λ u v. takeUnit j (wants c u) v) row) units
+
+-- ---- what moves
+
+abbrev pub motionOn : State → ℕ → Motion
+motionOn s c = getD (s .moving) c (record { motion = Idle }) .motion
+
+abbrev pub isIdle : Motion → Bool
+isIdle Idle = true
+isIdle (Busy j p) = false
+
+-- a packet of the job in place j moves
+abbrev pub moves : ℕ → Motion → Bool
+moves j Idle = false
+moves j (Busy k p) = eqb k j
+
+abbrev pub anyMoves : ℕ → List Carrier → Bool
+anyMoves j moving = any (λ (m : Carrier). moves j (m .motion)) moving
+
+-- ---- the stores that the rules are made of
+
+-- packet p of place j is now this; the list keeps what is still listed
+abbrev pub store : State → ℕ → ℕ → Packet → State
+store s j p q =
+    let after = put (s .jobs) j p q in
+    record { channels = s .channels; units = s .units; moving = s .moving; jobs = after; queue = relist after (s .queue) }
+
+-- the packets of place j that pass the test change their status; the list keeps what is still listed
+abbrev pub sweep : State → ℕ → (Packet → Bool) → (Status → Status) → State
+sweep s j t f =
+    let after = restatusAll (s .jobs) j t f in
+    record { channels = s .channels; units = s .units; moving = s .moving; jobs = after; queue = relist after (s .queue) }
+
+-- packet p of place j is the youngest of the list
+abbrev pub enqueue : State → ℕ → ℕ → State
+enqueue s j p =
+    record { channels = s .channels; units = s .units; moving = s .moving; jobs = s .jobs; queue = enlisted (s .queue) (entryOf j p) }
+
+-- the interlock of unit a of channel c is set or cleared
+abbrev pub lock : State → ℕ → ℕ → Bool → State
+lock s c a b = record { channels = s .channels; units = setLock (s .units) c a b; moving = s .moving; jobs = s .jobs; queue = s .queue }
+
+-- what moves on channel c
+abbrev pub move : State → ℕ → Motion → State
+move s c m =
+    record {
+      channels = s .channels;
+      units = s .units;
+      moving = set (s .moving) c (record { motion = m });
+      jobs = s .jobs;
+      queue = s .queue;
+    }
+
+-- the state of the job in place j
+abbrev pub close : State → ℕ → JobState → State
+close s j t = record { channels = s .channels; units = s .units; moving = s .moving; jobs = setState (s .jobs) j t; queue = s .queue }
