@@ -1,0 +1,27 @@
+-- The candidates: the requests from which the selection takes the first that has an assignment.
+use Prim.Native.Nat.{ℕ, _+_}
+use mathlib.Core.Bool.{Bool, _&&_, not}
+use mathlib.Core.List.{List}
+use lib.ListN.{drop}
+use Rattle.entries.specs.Entries.{keyOf, lowerSequence, waiting, active, serial}
+use Rattle.entries.specs.declared.Entry.{Entry}
+use Rattle.held.specs.Held.{first, any}
+
+-- "no job runs or closes", and "while [an S-type job] runs or closes, nothing is [a candidate]"
+abbrev pub running : List Entry → Bool
+running es = any (λ e. active (e .state)) es
+
+abbrev pub runningAlone : List Entry → Bool
+runningAlone es = any (λ e. active (e .state) && serial (e .request)) es
+
+-- "no request of the same letter and precedence with a lower sequence stands in the schedule"
+abbrev pub headed : List Entry → Entry → Bool
+headed es e = any (λ f. lowerSequence (keyOf (f .request)) (keyOf (e .request))) es
+
+-- A CANDIDATE: it waits, is not headed, nothing runs alone, and if it is an S-type job nothing runs
+unfoldable pub candidate : List Entry → Entry → Bool
+candidate es e = waiting (e .state) && (not (headed es e) && (not (runningAlone es) && not (serial (e .request) && running es)))
+
+-- the place of the first candidate from a place on
+unfoldable pub nextCandidate : List Entry → ℕ → ℕ
+nextCandidate es from = from + first (candidate es) (drop from es)

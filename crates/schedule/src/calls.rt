@@ -1,0 +1,164 @@
+// What the calls make of the schedule: a request enters, is released or deleted, and its job is taken, closes and has returned.
+use crate::Changed;
+use crate::Entering;
+use cards::CardError;
+use cards::Request;
+use cards::Verdict;
+use entries::Question;
+use entries::State;
+use held::Schedule;
+use numbers::Outcome;
+use numbers::Refusal;
+ghost use mathlib.Core.Path.{_≡_};
+ghost use Rattle.held.specs.Held.{held};
+ghost use Rattle.schedule.specs.Calls.{sameThere, clashError, barred, entering, released, deleted, taken, closing, returned, refused, done};
+
+// Whether a request without sequence has the letter and precedence of one of these.
+fn is_same_there(others: Schedule, request: Request) -> bool
+    ensures { λ r. ⌜ r ≡ sameThere (held others) request ⌝ }
+{
+    if request.sequence == 0 {
+        return held::has(others, held::of_key(Question::Ranked, request));
+    }
+    false
+}
+
+// What bars a request from joining these: the same priority, the same sequence as well, or that there are 64.
+fn clash(others: Schedule, request: Request) -> Verdict
+    ensures { λ r. ⌜ r ≡ clashError (held others) request ⌝ }
+{
+    if is_same_there(others, request) {
+        return Verdict::Wrong(CardError::SamePriority);
+    }
+    if held::has(others, held::of_key(Question::Keyed, request)) {
+        return Verdict::Wrong(CardError::SameSequence);
+    }
+    if 64 <= held::size(others) {
+        return Verdict::Wrong(CardError::ScheduleFull);
+    }
+    Verdict::Good
+}
+
+// Whether a request's ID is in the schedule and not suspended.
+fn is_barred(schedule: Schedule, k: usize) -> bool
+    ensures { λ r. ⌜ r ≡ barred k (held schedule) ⌝ }
+{
+    if k < held::size(schedule) {
+        let entry = held::entry_at(schedule, k);
+        let state = entry.state;
+        return !entries::is_suspended(state);
+    }
+    false
+}
+
+// An error, and the schedule as it was.
+fn not_entered(schedule: Schedule, verdict: Verdict) -> Entering
+    ensures { λ r. ⌜ r ≡ record { verdict = verdict; schedule = schedule } ⌝ }
+{
+    Entering { verdict, schedule }
+}
+
+// Enters a request, in the place of a suspended one of its ID, or answers the first of 26, 31, 90 and 91.
+pub fn enter(schedule: Schedule, request: Request) -> Entering
+    ensures { λ r. ⌜ r ≡ entering schedule request ⌝ }
+{
+    let id = request.id;
+    let k = held::first_of(schedule, held::of_id(id));
+    if is_barred(schedule, k) {
+        return not_entered(schedule, Verdict::Wrong(CardError::InSchedule));
+    }
+    let others = held::without(schedule, k);
+    let verdict = clash(others, request);
+    if !cards::error::is_good(verdict) {
+        return not_entered(schedule, verdict);
+    }
+    let next = held::inserted(others, entries::new_entry(request));
+    Entering {
+        verdict: Verdict::Good,
+        schedule: next,
+    }
+}
+
+// A refusal, and the schedule as it was.
+fn not_changed(schedule: Schedule, refusal: Refusal) -> Changed
+    ensures { λ r. ⌜ r ≡ refused refusal schedule ⌝ }
+{
+    Changed {
+        outcome: Outcome::Refused(refusal),
+        schedule,
+    }
+}
+
+// The schedule that follows.
+fn changed(schedule: Schedule) -> Changed
+    ensures { λ r. ⌜ r ≡ done schedule ⌝ }
+{
+    Changed {
+        outcome: Outcome::Done,
+        schedule,
+    }
+}
+
+// Lets a suspended request wait again.
+pub fn release(schedule: Schedule, id: [u8; 6]) -> Changed
+    ensures { λ r. ⌜ r ≡ released schedule id ⌝ }
+{
+    let k = held::first_of(schedule, held::of_id(id));
+    if k < held::size(schedule) {
+        let entry = held::entry_at(schedule, k);
+        let state = entry.state;
+        if entries::is_suspended(state) {
+            return changed(held::changed_at(schedule, k, State::Waiting));
+        }
+    }
+    not_changed(schedule, Refusal::NoSuchRequest)
+}
+
+// Takes a request whose job neither runs nor closes out of the schedule.
+pub fn delete(schedule: Schedule, id: [u8; 6]) -> Changed
+    ensures { λ r. ⌜ r ≡ deleted schedule id ⌝ }
+{
+    let k = held::first_of(schedule, held::of_id(id));
+    if k < held::size(schedule) {
+        let entry = held::entry_at(schedule, k);
+        let state = entry.state;
+        if entries::is_active(state) {
+            return not_changed(schedule, Refusal::JobRuns);
+        }
+        return changed(held::without(schedule, k));
+    }
+    not_changed(schedule, Refusal::NoSuchRequest)
+}
+
+// The job of the request at a place of the schedule is taken into a job place and runs.
+pub fn taken(schedule: Schedule, k: usize, place: u8) -> Schedule
+    ensures { λ r. ⌜ r ≡ taken schedule k place ⌝ }
+{
+    held::changed_at(schedule, k, State::Running(place))
+}
+
+// The job in a place has ended and closes.
+pub fn closing(schedule: Schedule, place: u8) -> Schedule
+    ensures { λ r. ⌜ r ≡ closing schedule place ⌝ }
+{
+    let k = held::first_of(schedule, held::of_place(place));
+    held::changed_at(schedule, k, State::Closing(place))
+}
+
+// The job in a place has returned: its request goes, unless the job ended in error and has a sequence.
+pub fn returned(schedule: Schedule, place: u8, in_error: bool) -> Schedule
+    ensures { λ r. ⌜ r ≡ returned schedule place in_error ⌝ }
+{
+    let k = held::first_of(schedule, held::of_place(place));
+    if k < held::size(schedule) {
+        let entry = held::entry_at(schedule, k);
+        let request = entry.request;
+        if in_error {
+            if 1 <= request.sequence {
+                return held::changed_at(schedule, k, State::Suspended);
+            }
+        }
+        return held::without(schedule, k);
+    }
+    schedule
+}
