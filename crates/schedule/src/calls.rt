@@ -104,12 +104,13 @@ pub fn release(schedule: Schedule, id: [u8; 6]) -> Changed
     ensures { λ r. ⌜ r ≡ released schedule id ⌝ }
 {
     let k = held::first_of(schedule, held::of_id(id));
-    if k < held::size(schedule) {
-        let entry = held::entry_at(schedule, k);
-        let state = entry.state;
-        if entries::is_suspended(state) {
-            return changed(held::changed_at(schedule, k, State::Waiting));
-        }
+    if held::size(schedule) <= k {
+        return not_changed(schedule, Refusal::NoSuchRequest);
+    }
+    let entry = held::entry_at(schedule, k);
+    let state = entry.state;
+    if entries::is_suspended(state) {
+        return changed(held::changed_at(schedule, k, State::Waiting));
     }
     not_changed(schedule, Refusal::NoSuchRequest)
 }
@@ -119,15 +120,15 @@ pub fn delete(schedule: Schedule, id: [u8; 6]) -> Changed
     ensures { λ r. ⌜ r ≡ deleted schedule id ⌝ }
 {
     let k = held::first_of(schedule, held::of_id(id));
-    if k < held::size(schedule) {
-        let entry = held::entry_at(schedule, k);
-        let state = entry.state;
-        if entries::is_active(state) {
-            return not_changed(schedule, Refusal::JobRuns);
-        }
-        return changed(held::without(schedule, k));
+    if held::size(schedule) <= k {
+        return not_changed(schedule, Refusal::NoSuchRequest);
     }
-    not_changed(schedule, Refusal::NoSuchRequest)
+    let entry = held::entry_at(schedule, k);
+    let state = entry.state;
+    if entries::is_active(state) {
+        return not_changed(schedule, Refusal::JobRuns);
+    }
+    changed(held::without(schedule, k))
 }
 
 // The job of the request at a place of the schedule is taken into a job place and runs.
@@ -150,15 +151,16 @@ pub fn returned(schedule: Schedule, place: u8, in_error: bool) -> Schedule
     ensures { λ r. ⌜ r ≡ returned schedule place in_error ⌝ }
 {
     let k = held::first_of(schedule, held::of_place(place));
-    if k < held::size(schedule) {
-        let entry = held::entry_at(schedule, k);
-        let request = entry.request;
-        if in_error {
-            if 1 <= request.sequence {
-                return held::changed_at(schedule, k, State::Suspended);
-            }
-        }
+    if held::size(schedule) <= k {
+        return schedule;
+    }
+    let entry = held::entry_at(schedule, k);
+    let request = entry.request;
+    if !in_error {
         return held::without(schedule, k);
     }
-    schedule
+    if 1 <= request.sequence {
+        return held::changed_at(schedule, k, State::Suspended);
+    }
+    held::without(schedule, k)
 }

@@ -1,18 +1,15 @@
+-- `schedule::calls::clash` meets its contract: the errors in order, by the tests that led there. Assumes nothing.
+use Rattle.held.specs.Held.{held}
+use Rattle.schedule.proofs.Cases.{asked, clash-rank, clash-key, clash-full, clash-none}
 use borrow.Author.Needs.{needs}
 use Rattle.schedule.proofs.calls.clash.Statement.{statement}
 use Rattle.schedule.proofs.calls.clash.Tie as tie
-use Rattle.schedule.proofs.calls.clash.Reads as reads
-use Rattle.schedule.proofs.calls.clash.Lts as lts
-use Rattle.held.proofs.has.Reads as has-reads
-use Rattle.held.proofs.of_key.Reads as of-key-reads
-use Rattle.held.proofs.size.Reads as size-reads
-use Rattle.schedule.proofs.calls.is_same_there.Reads as is-same-there-reads
 
 is-same-there-requires : tie.Need-is-same-there-requires
 is-same-there-requires c κs = search needs
 
 returns : tie.Need-returns
-returns c = search needs
+returns c = clash-rank (held (c .before .before .args .others)) (c .before .before .args .request) (c .before .is-same-there .ensures) (c .if1 .taken)
 
 of-key-requires : tie.Need-of-key-requires
 of-key-requires c κs = search needs
@@ -21,16 +18,16 @@ has-requires : tie.Need-has-requires
 has-requires c κs = search needs
 
 returns-2 : tie.Need-returns-2
-returns-2 c = search needs
+returns-2 c = clash-key (held (c .before .before .before .before .before .args .others)) (c .before .before .before .before .before .args .request) (c .before .before .before .before .is-same-there .ensures) (c .before .before .before .if1 .left) (asked (held (c .before .before .before .before .before .args .others)) (c .before .before .of-key .ensures) (c .before .has .ensures)) (c .if2 .taken)
 
 size-requires : tie.Need-size-requires
 size-requires c κs = search needs
 
 returns-3 : tie.Need-returns-3
-returns-3 c = search needs
+returns-3 c = clash-full (held (c .before .before .before .before .before .before .before .args .others)) (c .before .before .before .before .before .before .before .args .request) (c .before .before .before .before .before .before .is-same-there .ensures) (c .before .before .before .before .before .if1 .left) (asked (held (c .before .before .before .before .before .before .before .args .others)) (c .before .before .before .before .of-key .ensures) (c .before .before .before .has .ensures)) (c .before .before .if2 .left) (c .before .size .ensures) (c .if3 .taken)
 
 returns-4 : tie.Need-returns-4
-returns-4 c = search needs
+returns-4 c = clash-none (held (c .before .before .before .before .before .before .before .args .others)) (c .before .before .before .before .before .before .before .args .request) (c .before .before .before .before .before .before .is-same-there .ensures) (c .before .before .before .before .before .if1 .left) (asked (held (c .before .before .before .before .before .before .before .args .others)) (c .before .before .before .before .of-key .ensures) (c .before .before .before .has .ensures)) (c .before .before .if2 .left) (c .before .size .ensures) (c .if3 .left)
 
 pub clash-spec : {M : Type 1} → statement M
 clash-spec =

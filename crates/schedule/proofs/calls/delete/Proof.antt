@@ -1,16 +1,12 @@
+-- `schedule::calls::delete` meets its contract: by the tests that led there. Assumes nothing.
+use Prim.Native.Nat.{ℕ}
+use mathlib.Core.Path.{ap, _∙_}
+use Rattle.held.specs.Held.{held}
+use Rattle.schedule.specs.Calls.{deletedAt, done}
+use Rattle.schedule.proofs.Cases.{named-place, delete-none, delete-runs, delete-yes}
 use borrow.Author.Needs.{needs}
 use Rattle.schedule.proofs.calls.delete.Statement.{statement}
 use Rattle.schedule.proofs.calls.delete.Tie as tie
-use Rattle.schedule.proofs.calls.delete.Reads as reads
-use Rattle.schedule.proofs.calls.delete.Lts as lts
-use Rattle.entries.proofs.is_active.Reads as is-active-reads
-use Rattle.held.proofs.entry_at.Reads as entry-at-reads
-use Rattle.held.proofs.first_of.Reads as first-of-reads
-use Rattle.held.proofs.of_id.Reads as of-id-reads
-use Rattle.held.proofs.size.Reads as size-reads
-use Rattle.held.proofs.without.Reads as without-reads
-use Rattle.schedule.proofs.calls.changed.Reads as changed-reads
-use Rattle.schedule.proofs.calls.not_changed.Reads as not-changed-reads
 
 of-id-requires : tie.Need-of-id-requires
 of-id-requires c κs = search needs
@@ -21,17 +17,23 @@ first-of-requires c κs = search needs
 size-requires : tie.Need-size-requires
 size-requires c κs = search needs
 
+not-changed-requires : tie.Need-not-changed-requires
+not-changed-requires c κs = search needs
+
+returns : tie.Need-returns
+returns c = c .not-changed .ensures ∙ delete-none (c .before .before .before .before .before .args .schedule) (c .before .before .before .first-of .result) (c .before .before .size .ensures) (c .before .if1 .taken) ∙ ap (λ (k : ℕ). deletedAt k (c .before .before .before .before .before .args .schedule)) (named-place (held (c .before .before .before .before .before .args .schedule)) (c .before .before .before .before .before .args .id) (c .before .before .before .before .of-id .ensures) (c .before .before .before .first-of .ensures))
+
 entry-at-requires : tie.Need-entry-at-requires
 entry-at-requires c κs = search needs
 
 is-active-requires : tie.Need-is-active-requires
 is-active-requires c κs = search needs
 
-not-changed-requires : tie.Need-not-changed-requires
-not-changed-requires c κs = search needs
+not-changed-requires-2 : tie.Need-not-changed-requires-2
+not-changed-requires-2 c κs = search needs
 
-returns : tie.Need-returns
-returns c = search needs
+returns-2 : tie.Need-returns-2
+returns-2 c = c .not-changed2 .ensures ∙ delete-runs (c .before .before .before .before .before .before .before .before .args .schedule) (c .before .before .before .before .before .before .first-of .result) (c .before .before .before .before .before .size .ensures) (c .before .before .before .before .if1 .left) (c .before .before .before .entry-at .ensures) (c .before .before .is-active .ensures) (c .before .if2 .taken) ∙ ap (λ (k : ℕ). deletedAt k (c .before .before .before .before .before .before .before .before .args .schedule)) (named-place (held (c .before .before .before .before .before .before .before .before .args .schedule)) (c .before .before .before .before .before .before .before .before .args .id) (c .before .before .before .before .before .before .before .of-id .ensures) (c .before .before .before .before .before .before .first-of .ensures))
 
 without-requires : tie.Need-without-requires
 without-requires c κs = search needs
@@ -39,14 +41,8 @@ without-requires c κs = search needs
 changed-requires : tie.Need-changed-requires
 changed-requires c κs = search needs
 
-returns-2 : tie.Need-returns-2
-returns-2 c = search needs
-
-not-changed-requires-2 : tie.Need-not-changed-requires-2
-not-changed-requires-2 c κs = search needs
-
 returns-3 : tie.Need-returns-3
-returns-3 c = search needs
+returns-3 c = c .changed .ensures ∙ ap done (c .before .without .ensures) ∙ delete-yes (c .before .before .before .before .before .before .before .before .before .args .schedule) (c .before .before .before .before .before .before .before .first-of .result) (c .before .before .before .before .before .before .size .ensures) (c .before .before .before .before .before .if1 .left) (c .before .before .before .before .entry-at .ensures) (c .before .before .before .is-active .ensures) (c .before .before .if2 .left) ∙ ap (λ (k : ℕ). deletedAt k (c .before .before .before .before .before .before .before .before .before .args .schedule)) (named-place (held (c .before .before .before .before .before .before .before .before .before .args .schedule)) (c .before .before .before .before .before .before .before .before .before .args .id) (c .before .before .before .before .before .before .before .before .of-id .ensures) (c .before .before .before .before .before .before .before .first-of .ensures))
 
 pub delete-spec : {M : Type 1} → statement M
 delete-spec =
@@ -55,12 +51,12 @@ delete-spec =
     of-id-requires
     first-of-requires
     size-requires
-    entry-at-requires
-    is-active-requires
     not-changed-requires
     returns
+    entry-at-requires
+    is-active-requires
+    not-changed-requires-2
+    returns-2
     without-requires
     changed-requires
-    returns-2
-    not-changed-requires-2
     returns-3)

@@ -1,17 +1,15 @@
+-- `schedule::calls::enter` meets its contract: the errors in order, then the new request among the others. Assumes nothing.
+use borrow.Author.Tests.{not-true, not-false}
+use Prim.Native.Nat.{ℕ}
+use mathlib.Core.Path.{ap, _∙_}
+use Rattle.held.specs.Held.{held}
+use Rattle.held.specs.HeldLaws.{held-few}
+use Rattle.held.proofs.Full.{full}
+use Rattle.schedule.specs.Calls.{enteringAt}
+use Rattle.schedule.proofs.Cases.{named-place, enter-barred, enter-clash, enter-good}
 use borrow.Author.Needs.{needs}
 use Rattle.schedule.proofs.calls.enter.Statement.{statement}
 use Rattle.schedule.proofs.calls.enter.Tie as tie
-use Rattle.schedule.proofs.calls.enter.Reads as reads
-use Rattle.schedule.proofs.calls.enter.Lts as lts
-use Rattle.cards.proofs.error.is_good.Reads as is-good-reads
-use Rattle.entries.proofs.new_entry.Reads as new-entry-reads
-use Rattle.held.proofs.first_of.Reads as first-of-reads
-use Rattle.held.proofs.inserted.Reads as inserted-reads
-use Rattle.held.proofs.of_id.Reads as of-id-reads
-use Rattle.held.proofs.without.Reads as without-reads
-use Rattle.schedule.proofs.calls.clash.Reads as clash-reads
-use Rattle.schedule.proofs.calls.is_barred.Reads as is-barred-reads
-use Rattle.schedule.proofs.calls.not_entered.Reads as not-entered-reads
 
 of-id-requires : tie.Need-of-id-requires
 of-id-requires c κs = search needs
@@ -26,7 +24,7 @@ not-entered-requires : tie.Need-not-entered-requires
 not-entered-requires c κs = search needs
 
 returns : tie.Need-returns
-returns c = search needs
+returns c = c .not-entered .ensures ∙ enter-barred (c .before .before .before .before .before .before .args .schedule) (held-few (c .before .before .before .before .before .before .args .schedule) (full (c .before .before .before .before .before .before .args .schedule) _ (c .before .before .before .before .before .before .good .0))) (c .before .before .before .first-of .result) (c .before .before .before .before .before .before .args .request) (c .before .before .is-barred .ensures) (c .before .if1 .taken) ∙ ap (λ (k : ℕ). enteringAt k (c .before .before .before .before .before .before .args .schedule) (c .before .before .before .before .before .before .args .request)) (named-place (held (c .before .before .before .before .before .before .args .schedule)) (c .before .before .before .before .before .before .args .request .id) (c .before .before .before .before .of-id .ensures) (c .before .before .before .first-of .ensures))
 
 without-requires : tie.Need-without-requires
 without-requires c κs = search needs
@@ -41,7 +39,7 @@ not-entered-requires-2 : tie.Need-not-entered-requires-2
 not-entered-requires-2 c κs = search needs
 
 returns-2 : tie.Need-returns-2
-returns-2 c = search needs
+returns-2 c = c .not-entered2 .ensures ∙ enter-clash (c .before .before .before .before .before .before .before .before .before .before .args .schedule) (held-few (c .before .before .before .before .before .before .before .before .before .before .args .schedule) (full (c .before .before .before .before .before .before .before .before .before .before .args .schedule) _ (c .before .before .before .before .before .before .before .before .before .before .good .0))) (c .before .before .before .before .before .before .before .first-of .result) (c .before .before .before .before .before .before .before .before .before .before .args .request) (c .before .before .before .before .before .before .is-barred .ensures) (c .before .before .before .before .before .if1 .left) (c .before .before .before .before .without .ensures) (c .before .before .before .clash .ensures) (c .before .before .is-good .ensures) (not-true (c .before .before .is-good .result) (c .before .if2 .taken)) ∙ ap (λ (k : ℕ). enteringAt k (c .before .before .before .before .before .before .before .before .before .before .args .schedule) (c .before .before .before .before .before .before .before .before .before .before .args .request)) (named-place (held (c .before .before .before .before .before .before .before .before .before .before .args .schedule)) (c .before .before .before .before .before .before .before .before .before .before .args .request .id) (c .before .before .before .before .before .before .before .before .of-id .ensures) (c .before .before .before .before .before .before .before .first-of .ensures))
 
 new-entry-requires : tie.Need-new-entry-requires
 new-entry-requires c κs = search needs
@@ -50,7 +48,7 @@ inserted-requires : tie.Need-inserted-requires
 inserted-requires c κs = search needs
 
 returns-3 : tie.Need-returns-3
-returns-3 c = search needs
+returns-3 c = enter-good (c .before .before .before .before .before .before .before .before .before .before .before .args .schedule) (held-few (c .before .before .before .before .before .before .before .before .before .before .before .args .schedule) (full (c .before .before .before .before .before .before .before .before .before .before .before .args .schedule) _ (c .before .before .before .before .before .before .before .before .before .before .before .good .0))) (c .before .before .before .before .before .before .before .before .first-of .result) (c .before .before .before .before .before .before .before .before .before .before .before .args .request) (c .before .before .before .before .before .before .before .is-barred .ensures) (c .before .before .before .before .before .before .if1 .left) (c .before .before .before .before .before .without .ensures) (c .before .before .before .before .clash .ensures) (c .before .before .before .is-good .ensures) (not-false (c .before .before .before .is-good .result) (c .before .before .if2 .left)) (c .before .new-entry .ensures) (c .inserted .ensures) ∙ ap (λ (k : ℕ). enteringAt k (c .before .before .before .before .before .before .before .before .before .before .before .args .schedule) (c .before .before .before .before .before .before .before .before .before .before .before .args .request)) (named-place (held (c .before .before .before .before .before .before .before .before .before .before .before .args .schedule)) (c .before .before .before .before .before .before .before .before .before .before .before .args .request .id) (c .before .before .before .before .before .before .before .before .before .of-id .ensures) (c .before .before .before .before .before .before .before .before .first-of .ensures))
 
 pub enter-spec : {M : Type 1} → statement M
 enter-spec =

@@ -1,11 +1,8 @@
+-- `schedule::calls::is_barred` meets its contract: by whether there is a request at the place, and its state. Assumes nothing.
+use Rattle.schedule.proofs.Cases.{barred-is, barred-no}
 use borrow.Author.Needs.{needs}
 use Rattle.schedule.proofs.calls.is_barred.Statement.{statement}
 use Rattle.schedule.proofs.calls.is_barred.Tie as tie
-use Rattle.schedule.proofs.calls.is_barred.Reads as reads
-use Rattle.schedule.proofs.calls.is_barred.Lts as lts
-use Rattle.entries.proofs.is_suspended.Reads as is-suspended-reads
-use Rattle.held.proofs.entry_at.Reads as entry-at-reads
-use Rattle.held.proofs.size.Reads as size-reads
 
 size-requires : tie.Need-size-requires
 size-requires c κs = search needs
@@ -17,10 +14,10 @@ is-suspended-requires : tie.Need-is-suspended-requires
 is-suspended-requires c κs = search needs
 
 returns : tie.Need-returns
-returns c = search needs
+returns c = barred-is (c .before .before .before .before .args .schedule) (c .before .before .before .before .args .k) (c .before .before .before .size .ensures) (c .before .before .if1 .taken) (c .before .entry-at .ensures) (c .is-suspended .ensures)
 
 returns-2 : tie.Need-returns-2
-returns-2 c = search needs
+returns-2 c = barred-no (c .before .before .args .schedule) (c .before .before .args .k) (c .before .size .ensures) (c .if1 .left)
 
 pub is-barred-spec : {M : Type 1} → statement M
 is-barred-spec =

@@ -1,16 +1,12 @@
+-- `schedule::calls::release` meets its contract: by the tests that led there. Assumes nothing.
+use Prim.Native.Nat.{ℕ}
+use mathlib.Core.Path.{ap, _∙_}
+use Rattle.held.specs.Held.{held}
+use Rattle.schedule.specs.Calls.{releasedAt, done}
+use Rattle.schedule.proofs.Cases.{named-place, release-none, release-yes, release-no}
 use borrow.Author.Needs.{needs}
 use Rattle.schedule.proofs.calls.release.Statement.{statement}
 use Rattle.schedule.proofs.calls.release.Tie as tie
-use Rattle.schedule.proofs.calls.release.Reads as reads
-use Rattle.schedule.proofs.calls.release.Lts as lts
-use Rattle.entries.proofs.is_suspended.Reads as is-suspended-reads
-use Rattle.held.proofs.changed_at.Reads as changed-at-reads
-use Rattle.held.proofs.entry_at.Reads as entry-at-reads
-use Rattle.held.proofs.first_of.Reads as first-of-reads
-use Rattle.held.proofs.of_id.Reads as of-id-reads
-use Rattle.held.proofs.size.Reads as size-reads
-use Rattle.schedule.proofs.calls.changed.Reads as changed-reads
-use Rattle.schedule.proofs.calls.not_changed.Reads as not-changed-reads
 
 of-id-requires : tie.Need-of-id-requires
 of-id-requires c κs = search needs
@@ -20,6 +16,12 @@ first-of-requires c κs = search needs
 
 size-requires : tie.Need-size-requires
 size-requires c κs = search needs
+
+not-changed-requires : tie.Need-not-changed-requires
+not-changed-requires c κs = search needs
+
+returns : tie.Need-returns
+returns c = c .not-changed .ensures ∙ release-none (c .before .before .before .before .before .args .schedule) (c .before .before .before .first-of .result) (c .before .before .size .ensures) (c .before .if1 .taken) ∙ ap (λ (k : ℕ). releasedAt k (c .before .before .before .before .before .args .schedule)) (named-place (held (c .before .before .before .before .before .args .schedule)) (c .before .before .before .before .before .args .id) (c .before .before .before .before .of-id .ensures) (c .before .before .before .first-of .ensures))
 
 entry-at-requires : tie.Need-entry-at-requires
 entry-at-requires c κs = search needs
@@ -33,14 +35,14 @@ changed-at-requires c κs = search needs
 changed-requires : tie.Need-changed-requires
 changed-requires c κs = search needs
 
-returns : tie.Need-returns
-returns c = search needs
-
-not-changed-requires : tie.Need-not-changed-requires
-not-changed-requires c κs = search needs
-
 returns-2 : tie.Need-returns-2
-returns-2 c = search needs
+returns-2 c = c .changed .ensures ∙ ap done (c .before .changed-at .ensures) ∙ release-yes (c .before .before .before .before .before .before .before .before .before .args .schedule) (c .before .before .before .before .before .before .before .first-of .result) (c .before .before .before .before .before .before .size .ensures) (c .before .before .before .before .before .if1 .left) (c .before .before .before .before .entry-at .ensures) (c .before .before .before .is-suspended .ensures) (c .before .before .if2 .taken) ∙ ap (λ (k : ℕ). releasedAt k (c .before .before .before .before .before .before .before .before .before .args .schedule)) (named-place (held (c .before .before .before .before .before .before .before .before .before .args .schedule)) (c .before .before .before .before .before .before .before .before .before .args .id) (c .before .before .before .before .before .before .before .before .of-id .ensures) (c .before .before .before .before .before .before .before .first-of .ensures))
+
+not-changed-requires-2 : tie.Need-not-changed-requires-2
+not-changed-requires-2 c κs = search needs
+
+returns-3 : tie.Need-returns-3
+returns-3 c = c .not-changed2 .ensures ∙ release-no (c .before .before .before .before .before .before .before .before .args .schedule) (c .before .before .before .before .before .before .first-of .result) (c .before .before .before .before .before .size .ensures) (c .before .before .before .before .if1 .left) (c .before .before .before .entry-at .ensures) (c .before .before .is-suspended .ensures) (c .before .if2 .left) ∙ ap (λ (k : ℕ). releasedAt k (c .before .before .before .before .before .before .before .before .args .schedule)) (named-place (held (c .before .before .before .before .before .before .before .before .args .schedule)) (c .before .before .before .before .before .before .before .before .args .id) (c .before .before .before .before .before .before .before .of-id .ensures) (c .before .before .before .before .before .before .first-of .ensures))
 
 pub release-spec : {M : Type 1} → statement M
 release-spec =
@@ -49,10 +51,12 @@ release-spec =
     of-id-requires
     first-of-requires
     size-requires
+    not-changed-requires
+    returns
     entry-at-requires
     is-suspended-requires
     changed-at-requires
     changed-requires
-    returns
-    not-changed-requires
-    returns-2)
+    returns-2
+    not-changed-requires-2
+    returns-3)

@@ -1,14 +1,13 @@
+-- `schedule::calls::returned` meets its contract: by the tests that led there. Assumes nothing.
+use borrow.Author.Tests.{not-true, not-false}
+use Prim.Native.Nat.{ℕ}
+use mathlib.Core.Path.{ap, _∙_}
+use Rattle.held.specs.Held.{held}
+use Rattle.schedule.specs.Calls.{returnedAt}
+use Rattle.schedule.proofs.Cases.{job-place, return-none, return-normal, return-suspends, return-removes}
 use borrow.Author.Needs.{needs}
 use Rattle.schedule.proofs.calls.returned.Statement.{statement}
 use Rattle.schedule.proofs.calls.returned.Tie as tie
-use Rattle.schedule.proofs.calls.returned.Reads as reads
-use Rattle.schedule.proofs.calls.returned.Lts as lts
-use Rattle.held.proofs.changed_at.Reads as changed-at-reads
-use Rattle.held.proofs.entry_at.Reads as entry-at-reads
-use Rattle.held.proofs.first_of.Reads as first-of-reads
-use Rattle.held.proofs.of_place.Reads as of-place-reads
-use Rattle.held.proofs.size.Reads as size-reads
-use Rattle.held.proofs.without.Reads as without-reads
 
 of-place-requires : tie.Need-of-place-requires
 of-place-requires c κs = search needs
@@ -19,23 +18,29 @@ first-of-requires c κs = search needs
 size-requires : tie.Need-size-requires
 size-requires c κs = search needs
 
+returns : tie.Need-returns
+returns c = return-none (c .before .before .before .before .args .schedule) (c .before .before .first-of .result) (c .before .size .ensures) (c .before .before .before .before .args .in-error) (c .if1 .taken) ∙ ap (λ (k : ℕ). returnedAt k (c .before .before .before .before .args .schedule) (c .before .before .before .before .args .in-error)) (job-place (held (c .before .before .before .before .args .schedule)) (c .before .before .before .before .args .place) (c .before .before .before .of-place .ensures) (c .before .before .first-of .ensures))
+
 entry-at-requires : tie.Need-entry-at-requires
 entry-at-requires c κs = search needs
-
-changed-at-requires : tie.Need-changed-at-requires
-changed-at-requires c κs = search needs
-
-returns : tie.Need-returns
-returns c = search needs
 
 without-requires : tie.Need-without-requires
 without-requires c κs = search needs
 
 returns-2 : tie.Need-returns-2
-returns-2 c = search needs
+returns-2 c = c .without .ensures ∙ return-normal (c .before .before .before .before .before .before .before .before .args .schedule) (c .before .before .before .before .before .before .first-of .result) (c .before .before .before .before .before .size .ensures) (c .before .before .before .before .if1 .left) (c .before .before .before .entry-at .ensures) (c .before .before .before .before .before .before .before .before .args .in-error) (not-true (c .before .before .before .before .before .before .before .before .args .in-error) (c .before .if2 .taken)) ∙ ap (λ (k : ℕ). returnedAt k (c .before .before .before .before .before .before .before .before .args .schedule) (c .before .before .before .before .before .before .before .before .args .in-error)) (job-place (held (c .before .before .before .before .before .before .before .before .args .schedule)) (c .before .before .before .before .before .before .before .before .args .place) (c .before .before .before .before .before .before .before .of-place .ensures) (c .before .before .before .before .before .before .first-of .ensures))
+
+changed-at-requires : tie.Need-changed-at-requires
+changed-at-requires c κs = search needs
 
 returns-3 : tie.Need-returns-3
-returns-3 c = search needs
+returns-3 c = c .changed-at .ensures ∙ return-suspends (c .before .before .before .before .before .before .before .before .before .before .args .schedule) (c .before .before .before .before .before .before .before .before .first-of .result) (c .before .before .before .before .before .before .before .size .ensures) (c .before .before .before .before .before .before .if1 .left) (c .before .before .before .before .before .entry-at .ensures) (c .before .before .before .before .before .before .before .before .before .before .args .in-error) (not-false (c .before .before .before .before .before .before .before .before .before .before .args .in-error) (c .before .before .before .if2 .left)) (c .before .if3 .taken) ∙ ap (λ (k : ℕ). returnedAt k (c .before .before .before .before .before .before .before .before .before .before .args .schedule) (c .before .before .before .before .before .before .before .before .before .before .args .in-error)) (job-place (held (c .before .before .before .before .before .before .before .before .before .before .args .schedule)) (c .before .before .before .before .before .before .before .before .before .before .args .place) (c .before .before .before .before .before .before .before .before .before .of-place .ensures) (c .before .before .before .before .before .before .before .before .first-of .ensures))
+
+without-requires-2 : tie.Need-without-requires-2
+without-requires-2 c κs = search needs
+
+returns-4 : tie.Need-returns-4
+returns-4 c = c .without2 .ensures ∙ return-removes (c .before .before .before .before .before .before .before .before .before .before .args .schedule) (c .before .before .before .before .before .before .before .before .first-of .result) (c .before .before .before .before .before .before .before .size .ensures) (c .before .before .before .before .before .before .if1 .left) (c .before .before .before .before .before .entry-at .ensures) (c .before .before .before .before .before .before .before .before .before .before .args .in-error) (not-false (c .before .before .before .before .before .before .before .before .before .before .args .in-error) (c .before .before .before .if2 .left)) (c .before .if3 .left) ∙ ap (λ (k : ℕ). returnedAt k (c .before .before .before .before .before .before .before .before .before .before .args .schedule) (c .before .before .before .before .before .before .before .before .before .before .args .in-error)) (job-place (held (c .before .before .before .before .before .before .before .before .before .before .args .schedule)) (c .before .before .before .before .before .before .before .before .before .before .args .place) (c .before .before .before .before .before .before .before .before .before .of-place .ensures) (c .before .before .before .before .before .before .before .before .first-of .ensures))
 
 pub returned-spec : {M : Type 1} → statement M
 returned-spec =
@@ -44,9 +49,11 @@ returned-spec =
     of-place-requires
     first-of-requires
     size-requires
-    entry-at-requires
-    changed-at-requires
     returns
+    entry-at-requires
     without-requires
     returns-2
-    returns-3)
+    changed-at-requires
+    returns-3
+    without-requires-2
+    returns-4)
