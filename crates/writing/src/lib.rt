@@ -1,6 +1,6 @@
 // A request written as its two cards into lent room.
 mod check;
-mod put;
+pub mod put;
 
 use cards::Request;
 use numbers::Refusal;

@@ -1,0 +1,117 @@
+-- The groups of a part of a deck, each read in turn: what the loop keeps, and that the whole is the text of all groups. Then the lines of the
+-- schedule, and one group's answer. Assumes nothing.
+use Prim.Native.Nat.{ℕ, _+_, _-_, _≤_, _<_}
+use mathlib.Core.Path.{_≡_, refl, sym, ap, subst, _∙_}
+use mathlib.Core.Bool.{Bool, true, false}
+use mathlib.Core.List.{List, [], _∷_}
+use mathlib.Core.Logic.{⊎-elim}
+use native.Mathlib.Nat.{eq-zero-or-pos}
+use native.Mathlib.Omega.{arith}
+use lib.ListN.{length, getD, take, drop, length-take, length-drop, drop-of-length-le}
+use lib.Seq.{drop-drop}
+use Rattle.text.specs.Room.{Written}
+use Rattle.text.specs.RoomLaws.{Going, start, turn, end, andThen}
+use Rattle.fields.specs.FieldLaws.{rest-is}
+use Rattle.fields.specs.Deck.{cardsOf, size, opens, ontoGroup, groupsOf, groupSize, deckEnd}
+use Rattle.fields.specs.Groups.{in-turn, deck-cards}
+use Rattle.fields.specs.declared.DeckEnd.{DeckEnd}
+use Rattle.fields.specs.declared.DeckEnd.the-variants.{At, Refused}
+use Rattle.held.specs.Held.{held}
+use Rattle.numbers.specs.declared.Refusal.{Refusal}
+use Rattle.deck_text.specs.Report.{scheduleText, fresh, errorsFrom, endFrom, lastLine, closingText, reportText, refusedText, deckText, textBy}
+use Rattle.deck_text.specs.Reading.{Read, ReadAll}
+use Rattle.deck_text.specs.declared.Progress.{Progress}
+use Rattle.deck_text.specs.declared.Step.{Step}
+
+-- a card's group has a byte at least
+first-pos : (c : List ℕ) (b : Bool) (gs : List (List (List ℕ))) → 1 ≤ size (getD (ontoGroup c b gs) 0 [])
+first-pos c true gs = omega arith
+first-pos c false [] = omega arith
+first-pos c false (g ∷ gs) = omega arith
+
+no-cards : (d : List ℕ) → length (take (groupSize d) d) ≡ 0 → cardsOf d ≡ []
+no-cards d h = by (cardsOf d) refl
+  where
+    by : (cs : List (List ℕ)) → cardsOf d ≡ cs → cardsOf d ≡ []
+    by [] e = e
+    by (c ∷ cs) e =
+        let p : 1 ≤ groupSize d = rw e (first-pos c (opens cs) (groupsOf cs)) in
+        let l : length d ≡ 0 = omega (arith, length-take (groupSize d) d) in
+        none d l
+      where
+        none : (d : List ℕ) → length d ≡ 0 → cardsOf d ≡ []
+        none [] l = refl
+        none (b ∷ d) l = absurd (omega arith)
+
+drop-part : (n : ℕ) (l : List ℕ) → drop (length (take n l)) l ≡ drop n l
+drop-part n l =
+    ⊎-elim
+    (λ z. let e : length (take n l) ≡ n = omega (arith, length-take n l) in ap (λ (k : ℕ). drop k l) e)
+    (λ p. drop-of-length-le l {i = length (take n l)} (omega (arith, length-take n l)) ∙ sym (drop-of-length-le l {i = n} (omega arith)))
+    (eq-zero-or-pos (n - length l))
+
+next-group : (d : List ℕ) → (length (take (groupSize d) d) ≡ 0 → ⊥)
+    → groupsOf (cardsOf d) ≡ cardsOf (take (groupSize d) d) ∷ groupsOf (cardsOf (drop (length (take (groupSize d) d)) d))
+next-group d n = rw (drop-part (groupSize d) d) (by (cardsOf d) refl)
+  where
+    by : (cs : List (List ℕ)) → cardsOf d ≡ cs → groupsOf (cardsOf d) ≡ cardsOf (take (groupSize d) d) ∷ groupsOf (cardsOf (drop (groupSize d) d))
+    by [] e = absurd (n (rw e))
+    by (c ∷ cs) e = in-turn d c cs e .next
+
+pub record AtGroups (part room : List ℕ) (out : List ℕ) (p : Progress) (at from : ℕ) : Type 0 where
+  pub within : from ≤ length part
+  pub going : Going room 0 (errorsFrom fresh (groupsOf (cardsOf part))) out at (errorsFrom p (groupsOf (cardsOf (drop from part))))
+  pub then : endFrom p (groupsOf (cardsOf (drop from part))) ≡ endFrom fresh (groupsOf (cardsOf part))
+
+pub groups-start : (part room : List ℕ) {p : Progress} → p ≡ fresh → AtGroups part room room p 0 0
+groups-start part room e =
+    subst (λ (p : Progress). AtGroups part room room p 0 0) (sym e) (record { within = omega arith; going = start room 0 _; then = refl })
+
+-- the group that the code has found
+module _ {part room out : List ℕ} {p : Progress} {at from : ℕ} (w : AtGroups part room out p at from) where
+  all-read : groupsOf (cardsOf (drop from part)) ≡ [] → ReadAll room (groupsOf (cardsOf part)) out (record { at = at; progress = p })
+  all-read e = record {
+    text = end (rw e at (w .going));
+    then = rw e at (w .then);
+  }
+
+  pub groups-end : length part ≤ from → ReadAll room (groupsOf (cardsOf part)) out (record { at = at; progress = p })
+  groups-end h = all-read (rw (drop-of-length-le part h))
+
+  module _ {g : List ℕ} (is : g ≡ take (groupSize (take (length part - from) (drop from part))) (take (length part - from) (drop from part))) where
+    group-is : g ≡ take (groupSize (drop from part)) (drop from part)
+    group-is = is ∙ ap (λ (l : List ℕ). take (groupSize l) l) (rest-is part from)
+
+    pub groups-over : length g ≡ 0 → ReadAll room (groupsOf (cardsOf part)) out (record { at = at; progress = p })
+    groups-over h = all-read (rw (no-cards (drop from part) (ap length (sym group-is) ∙ h)))
+
+    pub group-within : from < length part → from + length g ≤ length part
+    group-within h = omega (arith, ap length group-is, length-take (groupSize (drop from part)) (drop from part), length-drop from part)
+
+    pub groups-turn : from < length part → (length g ≡ 0 → ⊥) → {out′ : List ℕ} {r : Step} → Read out at p (cardsOf g) out′ r → AtGroups part room out′ (r .progress) (r .at) (from + length g)
+    groups-turn h n {out′} {r} d =
+        let e : groupsOf (cardsOf (drop from part)) ≡ cardsOf g ∷ groupsOf (cardsOf (drop (from + length g) part)) =
+        rw (← drop-drop (length g) from part, group-is) (next-group (drop from part) (λ z. n (ap length group-is ∙ z))) in
+        record {
+          within = group-within h;
+          going = rw (d .then) (turn (rw e at (w .going)) (d .text));
+          then = rw (d .then) (rw e at (w .then));
+        }
+
+-- the errors, then the schedule, then the last line
+pub report-put : {room out then after· : List ℕ} {at next r : ℕ} (gs : List (List (List ℕ))) {p : Progress} → p ≡ endFrom fresh gs
+    → Written room 0 (errorsFrom fresh gs) out at → Written out at (scheduleText (held (p .schedule))) then next → Written then next (lastLine (p .last)) after· r
+    → Written room 0 (reportText gs) after· r
+unfolding reportText
+report-put {out = out} {after· = after·} {at = at} {r = r} gs e a b c =
+    andThen a (subst (λ (p : Progress). Written out at (closingText p) after· r) e (andThen b c))
+
+-- the text of a deck by where it ends
+module _ (s : List ℕ) {end : DeckEnd} (is : end ≡ deckEnd s) where
+  pub good-text : (n : ℕ) → end ≡ At n → reportText (groupsOf (cardsOf (take n s))) ≡ deckText s
+  good-text n e =
+      let d : deckEnd s ≡ At n = sym is ∙ e in
+      ap (λ (cs : List (List ℕ)). reportText (groupsOf cs)) (deck-cards s n d) ∙ ap (λ (x : DeckEnd). textBy x s) (sym d)
+
+  pub refused-text : (refusal : Refusal) → end ≡ Refused refusal → refusedText refusal ≡ deckText s
+  refused-text refusal e = ap (λ (x : DeckEnd). textBy x s) (sym (sym is ∙ e))

@@ -1,0 +1,26 @@
+-- `deck_text::put_report` meets its contract. Assumes nothing.
+use Rattle.fields.specs.Deck.{cardsOf, groupsOf}
+use Rattle.deck_text.proofs.InTurn.{report-put}
+use borrow.Author.Needs.{needs}
+use Rattle.deck_text.proofs.put_report.Statement.{statement}
+use Rattle.deck_text.proofs.put_report.Tie as tie
+
+put-groups-requires : tie.Need-put-groups-requires
+put-groups-requires c κs = search needs
+
+put-schedule-requires : tie.Need-put-schedule-requires
+put-schedule-requires c κs = search needs
+
+put-last-requires : tie.Need-put-last-requires
+put-last-requires c κs = search needs
+
+same-length : tie.Need-same-length
+same-length c = search needs
+
+returns : tie.Need-returns
+returns c = report-put (groupsOf (cardsOf (c .before .before .before .before .before .before .before .before .before .before .before .before .before .before .before .before .before .args .part .now))) (c .before .before .before .before .before .before .before .before .before .before .before .before .before .put-groups .ensures .then) (c .before .before .before .before .before .before .before .before .before .before .before .before .before .put-groups .ensures .text) (c .before .before .before .before .before .before .put-schedule .ensures) (c .before .before .put-last .ensures)
+
+pub put-report-spec : {M : Type 1} → statement M
+put-report-spec =
+    tie.close
+    (tie.spec put-groups-requires put-schedule-requires put-last-requires same-length returns)
