@@ -1,0 +1,70 @@
+-- `cases_deck::same_text` is safe: what is compared is what the report put. Assumes nothing.
+use Rattle.text.specs.RoomLaws.{written-length}
+use borrow.Author.Needs.{needs}
+use Rattle.cases_deck.proofs.same_text.Statement.{statement}
+use Rattle.cases_deck.proofs.same_text.Tie as tie
+
+large-buffer-requires : tie.Need-large-buffer-requires
+large-buffer-requires c κs = search needs
+
+load-requires : tie.Need-load-requires
+load-requires c κs = search needs
+
+large-buffer-requires-2 : tie.Need-large-buffer-requires-2
+large-buffer-requires-2 c κs = search needs
+
+load-requires-2 : tie.Need-load-requires-2
+load-requires-2 c κs = search needs
+
+large-buffer-requires-3 : tie.Need-large-buffer-requires-3
+large-buffer-requires-3 c κs = search needs
+
+array-share-prefix-text : tie.Need-array-share-prefix-text
+array-share-prefix-text c = search needs
+
+slice-aggregate-report : tie.Need-slice-aggregate-report
+slice-aggregate-report c = search needs
+
+slice-aggregate-report-2 : tie.Need-slice-aggregate-report-2
+slice-aggregate-report-2 c = search needs
+
+report-requires : tie.Need-report-requires
+report-requires c κs = search needs
+
+array-share-prefix-room : tie.Need-array-share-prefix-room
+array-share-prefix-room c = search needs
+
+slice-aggregate-same : tie.Need-slice-aggregate-same
+slice-aggregate-same c = written-length (c .before .before .report .ensures)
+
+array-share-prefix-wanted : tie.Need-array-share-prefix-wanted
+array-share-prefix-wanted c = search needs
+
+slice-aggregate-same-2 : tie.Need-slice-aggregate-same-2
+slice-aggregate-same-2 c = search needs
+
+same-requires : tie.Need-same-requires
+same-requires c κs = search needs
+
+returns : tie.Need-returns
+returns c = search needs
+
+pub same-text-spec : {M : Type 1} → statement M
+same-text-spec =
+    tie.close
+    (tie.spec
+    large-buffer-requires
+    load-requires
+    large-buffer-requires-2
+    load-requires-2
+    large-buffer-requires-3
+    array-share-prefix-text
+    slice-aggregate-report
+    slice-aggregate-report-2
+    report-requires
+    array-share-prefix-room
+    slice-aggregate-same
+    array-share-prefix-wanted
+    slice-aggregate-same-2
+    same-requires
+    returns)

@@ -1,0 +1,12 @@
+// Reads a deck on standard input and prints its report.
+use libc::STDIN_FILENO;
+use libc::STDOUT_FILENO;
+
+// A deck has at most 16,384 bytes: of a longer one as much is read as shows that, since the buffer holds more.
+fn main() {
+    let mut deck = io::large_buffer();
+    let n = io::read_full(STDIN_FILENO, &mut deck);
+    let mut room = io::large_buffer();
+    let length = deck_text::report(&deck[..n], &mut room);
+    io::write_all(STDOUT_FILENO, &room[..length]);
+}
