@@ -1,0 +1,4 @@
+pub mod Orderly
+pub mod OrderLaws
+pub mod ListLaws
+pub mod Reachable
