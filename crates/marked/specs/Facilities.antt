@@ -56,11 +56,11 @@ abbrev pub seen : Assigned → Seen
 seen a = record { found = a .found; ib = a .ib; db = a .db; drum = a .drum; mt1 = on (channelsOf a mt) 1; mt2 = on (channelsOf a mt) 2 }
 
 -- a case: a cell, a job, and what is seen of any answer
-abbrev pub Case : Cell → Wanted → Seen → Type 0
+abbrev pub Case : Cell → Facilities → Seen → Type 0
 Case cell wanted s = (a : Assigned) → Assigns cell wanted a → seen a ≡ s
 
 -- it is enough that the computed assigner shows it
-case : (cell : Cell) (wanted : Wanted) (s : Seen) → length (cell .channels) ≡ 16 → length (wanted .units) ≡ 48 → seen (assignOf cell wanted) ≡ s → Case cell wanted s
+case : (cell : Cell) (wanted : Facilities) (s : Seen) → length (cell .channels) ≡ 16 → length (wanted .units) ≡ 48 → seen (assignOf cell wanted) ≡ s → Case cell wanted s
 case cell wanted s size full e a p = ap seen (computed cell wanted size full a p) ∙ e
 
 abbrev pub found : ℕ → ℕ → ℕ → ℕ → ℕ → Seen
