@@ -2,7 +2,6 @@
 use cards::Facilities;
 use cards::Request;
 use channels::Channel;
-use channels::Configuration;
 use channels::Fitted;
 use core::Found;
 use drum::Area;
@@ -127,15 +126,14 @@ fn find(
     units: Units,
     occupancy: u32,
     areas: [Area; 16],
-    configuration: Configuration,
+    channels: [Channel; 16],
     wanted: Facilities,
 ) -> Assigned
-    ensures { λ r. ⌜ Assigns (cellOf (units .of) occupancy areas (configuration .channels)) wanted r ⌝ }
+    ensures { λ r. ⌜ Assigns (cellOf (units .of) occupancy areas channels) wanted r ⌝ }
 {
     let Found::At(pair) = core::search(occupancy, wanted.ib as u32, wanted.db as u32) else {
         return nothing();
     };
-    let channels = configuration.channels;
     let Start::At(start) = drum::lowest_start(areas, drum_length(channels), wanted.md) else {
         return nothing();
     };
@@ -161,11 +159,11 @@ pub fn assign(
     units: Units,
     occupancy: u32,
     areas: [Area; 16],
-    configuration: Configuration,
+    channels: [Channel; 16],
     request: Request,
 ) -> Assigned
-    ensures { λ r. ⌜ Assigns (cellOf (units .of) occupancy areas (configuration .channels)) (request .facilities) r ⌝ }
+    ensures { λ r. ⌜ Assigns (cellOf (units .of) occupancy areas channels) (request .facilities) r ⌝ }
 {
     let wanted = request.facilities;
-    find(units, occupancy, areas, configuration, wanted)
+    find(units, occupancy, areas, channels, wanted)
 }
