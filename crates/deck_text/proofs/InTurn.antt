@@ -3,25 +3,29 @@
 use Prim.Native.Nat.{ℕ, _+_, _-_, _≤_, _<_}
 use mathlib.Core.Path.{_≡_, refl, sym, ap, subst, _∙_}
 use mathlib.Core.Bool.{Bool, true, false}
-use mathlib.Core.List.{List, [], _∷_}
+use mathlib.Core.List.{List, [], _∷_, _++_}
 use mathlib.Core.Logic.{⊎-elim}
 use native.Mathlib.Nat.{eq-zero-or-pos}
 use native.Mathlib.Omega.{arith}
 use lib.ListN.{length, getD, take, drop, length-take, length-drop, drop-of-length-le}
-use lib.Seq.{drop-drop}
+use lib.Seq.{drop-drop, length-take-le}
 use Rattle.text.specs.Room.{Written}
-use Rattle.text.specs.RoomLaws.{Going, start, turn, end, andThen}
+use Rattle.text.specs.RoomLaws.{Going, start, turn, end, none, andThen}
 use Rattle.fields.specs.FieldLaws.{rest-is}
 use Rattle.fields.specs.Deck.{cardsOf, size, opens, ontoGroup, groupsOf, groupSize, deckEnd}
 use Rattle.fields.specs.Groups.{in-turn, deck-cards}
 use Rattle.fields.specs.declared.DeckEnd.{DeckEnd}
 use Rattle.fields.specs.declared.DeckEnd.the-variants.{At, Refused}
-use Rattle.held.specs.Held.{held}
+use Rattle.held.specs.Held.{held, scheduleOf}
+use Rattle.held.specs.declared.Schedule.{Schedule}
 use Rattle.numbers.specs.declared.Refusal.{Refusal}
-use Rattle.deck_text.specs.Report.{scheduleText, fresh, errorsFrom, endFrom, lastLine, closingText, reportText, refusedText, deckText, textBy}
-use Rattle.deck_text.specs.Reading.{Read, ReadAll}
+use Rattle.numbers.specs.declared.Outcome.the-variants as Outcomes
+use Rattle.deck_text.specs.Report.{scheduleText, begin, errorsFrom, endFrom, lastLine, closingText, reportText, refusedText, deckGroups, deckText, textBy, notesText, notesBy, scheduleBy, outcomeBy}
+use Rattle.deck_text.proofs.Pieces.{end-within}
+use Rattle.deck_text.specs.Reading.{Read, ReadAll, Noted, DeckEntered}
 use Rattle.deck_text.specs.declared.Progress.{Progress}
 use Rattle.deck_text.specs.declared.Step.{Step}
+use Rattle.deck_text.specs.declared.Entered.{Entered}
 
 -- a card's group has a byte at least
 first-pos : (c : List ℕ) (b : Bool) (gs : List (List (List ℕ))) → 1 ≤ size (getD (ontoGroup c b gs) 0 [])
@@ -58,37 +62,36 @@ next-group d n = rw (drop-part (groupSize d) d) (by (cardsOf d) refl)
     by [] e = absurd (n (rw e))
     by (c ∷ cs) e = in-turn d c cs e .next
 
-pub record AtGroups (part room : List ℕ) (out : List ℕ) (p : Progress) (at from : ℕ) : Type 0 where
+pub record AtGroups (part room : List ℕ) (first : Progress) (out : List ℕ) (p : Progress) (at from : ℕ) : Type 0 where
   pub within : from ≤ length part
-  pub going : Going room 0 (errorsFrom fresh (groupsOf (cardsOf part))) out at (errorsFrom p (groupsOf (cardsOf (drop from part))))
-  pub then : endFrom p (groupsOf (cardsOf (drop from part))) ≡ endFrom fresh (groupsOf (cardsOf part))
+  pub going : Going room 0 (errorsFrom first (groupsOf (cardsOf part))) out at (errorsFrom p (groupsOf (cardsOf (drop from part))))
+  pub then : endFrom p (groupsOf (cardsOf (drop from part))) ≡ endFrom first (groupsOf (cardsOf part))
 
-pub groups-start : (part room : List ℕ) {p : Progress} → p ≡ fresh → AtGroups part room room p 0 0
-groups-start part room e =
-    subst (λ (p : Progress). AtGroups part room room p 0 0) (sym e) (record { within = omega arith; going = start room 0 _; then = refl })
+pub groups-start : (part room : List ℕ) (p : Progress) → AtGroups part room p room p 0 0
+groups-start part room p = record { within = omega arith; going = start room 0 _; then = refl }
 
 -- the group that the code has found
-module _ {part room out : List ℕ} {p : Progress} {at from : ℕ} (w : AtGroups part room out p at from) where
-  all-read : groupsOf (cardsOf (drop from part)) ≡ [] → ReadAll room (groupsOf (cardsOf part)) out (record { at = at; progress = p })
+module _ {part room out : List ℕ} {first p : Progress} {at from : ℕ} (w : AtGroups part room first out p at from) where
+  all-read : groupsOf (cardsOf (drop from part)) ≡ [] → ReadAll room first (groupsOf (cardsOf part)) out (record { at = at; progress = p })
   all-read e = record {
     text = end (rw e at (w .going));
     then = rw e at (w .then);
   }
 
-  pub groups-end : length part ≤ from → ReadAll room (groupsOf (cardsOf part)) out (record { at = at; progress = p })
+  pub groups-end : length part ≤ from → ReadAll room first (groupsOf (cardsOf part)) out (record { at = at; progress = p })
   groups-end h = all-read (rw (drop-of-length-le part h))
 
   module _ {g : List ℕ} (is : g ≡ take (groupSize (take (length part - from) (drop from part))) (take (length part - from) (drop from part))) where
     group-is : g ≡ take (groupSize (drop from part)) (drop from part)
     group-is = is ∙ ap (λ (l : List ℕ). take (groupSize l) l) (rest-is part from)
 
-    pub groups-over : length g ≡ 0 → ReadAll room (groupsOf (cardsOf part)) out (record { at = at; progress = p })
+    pub groups-over : length g ≡ 0 → ReadAll room first (groupsOf (cardsOf part)) out (record { at = at; progress = p })
     groups-over h = all-read (rw (no-cards (drop from part) (ap length (sym group-is) ∙ h)))
 
     pub group-within : from < length part → from + length g ≤ length part
     group-within h = omega (arith, ap length group-is, length-take (groupSize (drop from part)) (drop from part), length-drop from part)
 
-    pub groups-turn : from < length part → (length g ≡ 0 → ⊥) → {out′ : List ℕ} {r : Step} → Read out at p (cardsOf g) out′ r → AtGroups part room out′ (r .progress) (r .at) (from + length g)
+    pub groups-turn : from < length part → (length g ≡ 0 → ⊥) → {out′ : List ℕ} {r : Step} → Read out at p (cardsOf g) out′ r → AtGroups part room first out′ (r .progress) (r .at) (from + length g)
     groups-turn h n {out′} {r} d =
         let e : groupsOf (cardsOf (drop from part)) ≡ cardsOf g ∷ groupsOf (cardsOf (drop (from + length g) part)) =
         rw (← drop-drop (length g) from part, group-is) (next-group (drop from part) (λ z. n (ap length group-is ∙ z))) in
@@ -98,20 +101,55 @@ module _ {part room out : List ℕ} {p : Progress} {at from : ℕ} (w : AtGroups
           then = rw (d .then) (rw e at (w .then));
         }
 
--- the errors, then the schedule, then the last line
-pub report-put : {room out then after· : List ℕ} {at next r : ℕ} (gs : List (List (List ℕ))) {p : Progress} → p ≡ endFrom fresh gs
-    → Written room 0 (errorsFrom fresh gs) out at → Written out at (scheduleText (held (p .schedule))) then next → Written then next (lastLine (p .last)) after· r
+-- the errors, then the schedule, then the last line, from an empty schedule on
+pub report-put : {room out then after· : List ℕ} {schedule : Schedule} {first : Progress} {step : Step} {next r : ℕ} (gs : List (List (List ℕ))) → schedule ≡ scheduleOf [] → first ≡ begin schedule → ReadAll room first gs out step
+    → Written out (step .at) (scheduleText (held (step .progress .schedule))) then next → Written then next (lastLine (step .progress .last)) after· r
     → Written room 0 (reportText gs) after· r
 unfolding reportText
-report-put {out = out} {after· = after·} {at = at} {r = r} gs e a b c =
-    andThen a (subst (λ (p : Progress). Written out at (closingText p) after· r) e (andThen b c))
+report-put {room} {out} {after· = after·} {first = first} {step = step} {r = r} gs e f d b c =
+    let w : Written room 0 (errorsFrom first gs ++ closingText (endFrom first gs)) after· r =
+    andThen (d .text) (subst (λ (p : Progress). Written out (step .at) (closingText p) after· r) (d .then) (andThen b c)) in
+    subst (λ (p : Progress). Written room 0 (errorsFrom p gs ++ closingText (endFrom p gs)) after· r) (f ∙ ap begin e) w
 
--- the text of a deck by where it ends
+-- the errors, then the last line, and the schedule that follows
+pub noted : {room out after· : List ℕ} {schedule : Schedule} {first : Progress} {step : Step} {at : ℕ} (gs : List (List (List ℕ))) → first ≡ begin schedule → ReadAll room first gs out step
+    → Written out (step .at) (lastLine (step .progress .last)) after· at → Noted room schedule gs after· (record { outcome = Outcomes.Done; schedule = step .progress .schedule; at = at })
+unfolding notesText
+noted {room} {out} {after·} {first = first} {step = step} {at = at} gs f d c = record {
+  done = refl;
+  then = ap (λ (p : Progress). p .schedule) (d .then) ∙ ap (λ (p : Progress). endFrom p gs .schedule) f;
+  text = subst (λ (p : Progress). Written room 0 (errorsFrom p gs ++ lastLine (endFrom p gs .last)) after· at) f
+      (andThen (d .text) (subst (λ (p : Progress). Written out (step .at) (lastLine (p .last)) after· at) (d .then) c));
+}
+
+-- the text of a deck, and what entering it leaves, by where it ends
 module _ (s : List ℕ) {end : DeckEnd} (is : end ≡ deckEnd s) where
+  pub part-long : (n : ℕ) → end ≡ At n → n ≡ length (take n s)
+  part-long n e = sym (length-take-le n s (end-within s n (sym is ∙ e)))
+
+  groups-are : (n : ℕ) → end ≡ At n → groupsOf (cardsOf (take n s)) ≡ deckGroups s
+  groups-are n e = ap groupsOf (deck-cards s n (sym is ∙ e))
+
   pub good-text : (n : ℕ) → end ≡ At n → reportText (groupsOf (cardsOf (take n s))) ≡ deckText s
-  good-text n e =
-      let d : deckEnd s ≡ At n = sym is ∙ e in
-      ap (λ (cs : List (List ℕ)). reportText (groupsOf cs)) (deck-cards s n d) ∙ ap (λ (x : DeckEnd). textBy x s) (sym d)
+  good-text n e = ap reportText (groups-are n e) ∙ ap (λ (x : DeckEnd). textBy x s) (sym (sym is ∙ e))
 
   pub refused-text : (refusal : Refusal) → end ≡ Refused refusal → refusedText refusal ≡ deckText s
   refused-text refusal e = ap (λ (x : DeckEnd). textBy x s) (sym (sym is ∙ e))
+
+  pub good-entered : (n : ℕ) → end ≡ At n → {schedule : Schedule} {room after· : List ℕ} {r : Entered} → Noted room schedule (groupsOf (cardsOf (take n s))) after· r → DeckEntered schedule s room after· r
+  good-entered n e {schedule} {room} {after·} {r} d =
+      let q : deckEnd s ≡ At n = sym is ∙ e in
+      record {
+        outcome = d .done ∙ ap outcomeBy (sym q);
+        then = d .then ∙ ap (λ (gs : List (List (List ℕ))). endFrom (begin schedule) gs .schedule) (groups-are n e) ∙ ap (λ (x : DeckEnd). scheduleBy x schedule s) (sym q);
+        text = subst (λ (p : List ℕ). Written room 0 p after· (r .at)) (ap (notesText schedule) (groups-are n e) ∙ ap (λ (x : DeckEnd). notesBy x schedule s) (sym q)) (d .text);
+      }
+
+  pub refused-entered : (refusal : Refusal) → end ≡ Refused refusal → (schedule : Schedule) (room : List ℕ) → DeckEntered schedule s room room (record { outcome = Outcomes.Refused refusal; schedule = schedule; at = 0 })
+  refused-entered refusal e schedule room =
+      let q : deckEnd s ≡ Refused refusal = sym is ∙ e in
+      record {
+        outcome = ap outcomeBy (sym q);
+        then = ap (λ (x : DeckEnd). scheduleBy x schedule s) (sym q);
+        text = subst (λ (p : List ℕ). Written room 0 p room 0) (ap (λ (x : DeckEnd). notesBy x schedule s) (sym q)) (none room 0);
+      }

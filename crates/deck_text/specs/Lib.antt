@@ -1,3 +1,4 @@
 pub mod Report
 pub mod Reading
 pub mod Enough
+pub mod DeckLaws

@@ -1,18 +1,33 @@
--- What reading groups leaves in lent room and answers.
+-- What reading groups, and entering a deck, leave in lent room and answer.
 use mathlib.Core.Path.{_≡_}
 use mathlib.Core.List.{List}
 use Prim.Native.Nat.{ℕ}
+use Rattle.numbers.specs.declared.Outcome.the-variants.{Done}
 use Rattle.text.specs.Room as Room
-use Rattle.deck_text.specs.Report.{fresh, groupText, after, errorsFrom, endFrom}
+use Rattle.held.specs.declared.Schedule.{Schedule}
+use Rattle.deck_text.specs.Report.{begin, groupText, after, errorsFrom, endFrom, notesText, deckNotes, deckSchedule, deckOutcome}
 use Rattle.deck_text.specs.declared.Progress.{Progress}
 use Rattle.deck_text.specs.declared.Step.{Step}
+use Rattle.deck_text.specs.declared.Entered.{Entered}
 
 -- one group: its text, and what has been read then
 pub record Read (room : List ℕ) (at : ℕ) (p : Progress) (cards : List (List ℕ)) (after· : List ℕ) (r : Step) : Type 0 where
   pub text : Room.Written room at (groupText p cards) after· (r .at)
   pub then : r .progress ≡ after p cards
 
--- all groups, from nothing read and the room's start on
-pub record ReadAll (room : List ℕ) (gs : List (List (List ℕ))) (after· : List ℕ) (r : Step) : Type 0 where
-  pub text : Room.Written room 0 (errorsFrom fresh gs) after· (r .at)
-  pub then : r .progress ≡ endFrom fresh gs
+-- all groups, after what was read before them, and from the room's start on
+pub record ReadAll (room : List ℕ) (start : Progress) (gs : List (List (List ℕ))) (after· : List ℕ) (r : Step) : Type 0 where
+  pub text : Room.Written room 0 (errorsFrom start gs) after· (r .at)
+  pub then : r .progress ≡ endFrom start gs
+
+-- all groups of a deck that is not refused, with the last line
+pub record Noted (room : List ℕ) (schedule : Schedule) (gs : List (List (List ℕ))) (after· : List ℕ) (r : Entered) : Type 0 where
+  pub done : r .outcome ≡ Done
+  pub then : r .schedule ≡ endFrom (begin schedule) gs .schedule
+  pub text : Room.Written room 0 (notesText schedule gs) after· (r .at)
+
+-- A DECK ENTERED: each part of the answer, and the room
+pub record DeckEntered (schedule : Schedule) (s room after· : List ℕ) (r : Entered) : Type 0 where
+  pub outcome : r .outcome ≡ deckOutcome s
+  pub then : r .schedule ≡ deckSchedule schedule s
+  pub text : Room.Written room 0 (deckNotes schedule s) after· (r .at)

@@ -1,4 +1,4 @@
--- What the deck program prints.
+-- What the deck program prints, and what entering a deck into a schedule makes of the schedule and answers.
 use Prim.Native.Nat.{ℕ}
 use mathlib.Core.Bool.{Bool, cond, _&&_}
 use mathlib.Core.List.{List, [], _∷_, _++_}
@@ -7,6 +7,8 @@ use lib.ListN.{length, getD}
 use Rattle.numbers.specs.Quoted.{bytes}
 use Rattle.numbers.specs.Refusals.{numberOf}
 use Rattle.numbers.specs.declared.Refusal.{Refusal}
+use Rattle.numbers.specs.declared.Outcome.{Outcome}
+use Rattle.numbers.specs.declared.Outcome.the-variants as Outcomes
 use Rattle.text.specs.Class.{isAlnum}
 use Rattle.text.specs.Writing.{decimalText}
 use Rattle.words.specs.Words.{every}
@@ -54,9 +56,9 @@ scheduleText (e ∷ es) = requestLine (e .request) ++ scheduleText es
 abbrev pub lastLine : List ℕ → List ℕ
 lastLine id = spaceless id ++ bytes " SCH ACK\n"
 
--- what has been read before the first group: an empty schedule; "six hyphens if none"
-abbrev pub fresh : Progress
-fresh = record { schedule = scheduleOf []; shown = bytes "------"; last = bytes "------" }
+-- what has been read before the first group: the schedule as it stands; "six hyphens if none"
+abbrev pub begin : Schedule → Progress
+begin s = record { schedule = s; shown = bytes "------"; last = bytes "------" }
 
 -- a group's own error, or what entering its request answers
 abbrev pub triedBy : Verdict → Schedule → Request → Entering
@@ -102,21 +104,51 @@ abbrev pub endFrom : Progress → List (List (List ℕ)) → Progress
 endFrom p [] = p
 endFrom p (g ∷ gs) = endFrom (after p g) gs
 
--- THE REPORT: "errors .. in deck order, then the schedule in selection order .., then the last good ID"
+-- THE REPORT, read "into an empty schedule": "errors .. in deck order, then the schedule in selection order .., then the last good ID"
 abbrev pub closingText : Progress → List ℕ
 closingText p = scheduleText (held (p .schedule)) ++ lastLine (p .last)
 
 unfoldable pub reportText : List (List (List ℕ)) → List ℕ
-reportText gs = errorsFrom fresh gs ++ closingText (endFrom fresh gs)
+reportText gs = errorsFrom (begin (scheduleOf [])) gs ++ closingText (endFrom (begin (scheduleOf [])) gs)
 
 -- "A refused deck gives the one line `SCH ER 11`"
 abbrev pub refusedText : Refusal → List ℕ
 refusedText refusal = bytes "SCH ER " ++ (decimalText (numberOf refusal) ++ bytes "\n")
 
+-- the groups of a deck: those of the cards before its termination card
+abbrev pub deckGroups : List ℕ → List (List (List ℕ))
+deckGroups s = groupsOf (before (cardsOf s))
+
 abbrev pub textBy : DeckEnd → List ℕ → List ℕ
-textBy (At n) s = reportText (groupsOf (before (cardsOf s)))
+textBy (At n) s = reportText (deckGroups s)
 textBy (Refused refusal) s = refusedText refusal
 
 -- WHAT THE DECK PROGRAM PRINTS
 abbrev pub deckText : List ℕ → List ℕ
 deckText s = textBy (deckEnd s) s
+
+-- ENTERING A DECK into a schedule that may hold requests already: the answer "the deck program's error lines, then `id SCH ACK`", the schedule that
+-- follows, and how the call ends. A refused deck leaves the schedule as it was and puts nothing
+unfoldable pub notesText : Schedule → List (List (List ℕ)) → List ℕ
+notesText schedule gs = errorsFrom (begin schedule) gs ++ lastLine (endFrom (begin schedule) gs .last)
+
+abbrev pub notesBy : DeckEnd → Schedule → List ℕ → List ℕ
+notesBy (At n) schedule s = notesText schedule (deckGroups s)
+notesBy (Refused refusal) schedule s = []
+
+abbrev pub scheduleBy : DeckEnd → Schedule → List ℕ → Schedule
+scheduleBy (At n) schedule s = endFrom (begin schedule) (deckGroups s) .schedule
+scheduleBy (Refused refusal) schedule s = schedule
+
+abbrev pub outcomeBy : DeckEnd → Outcome
+outcomeBy (At n) = Outcomes.Done
+outcomeBy (Refused refusal) = Outcomes.Refused refusal
+
+abbrev pub deckNotes : Schedule → List ℕ → List ℕ
+deckNotes schedule s = notesBy (deckEnd s) schedule s
+
+abbrev pub deckSchedule : Schedule → List ℕ → Schedule
+deckSchedule schedule s = scheduleBy (deckEnd s) schedule s
+
+abbrev pub deckOutcome : List ℕ → Outcome
+deckOutcome s = outcomeBy (deckEnd s)

@@ -9,6 +9,7 @@ use fields::DeckEnd;
 use fields::card;
 use fields::deck;
 use held::Schedule;
+use numbers::Outcome;
 use numbers::Refusal;
 use schedule::Entering;
 use schedule::calls;
@@ -18,8 +19,8 @@ ghost use mathlib.Core.Path.{_≡_};
 ghost use Rattle.text.specs.Room.{Written};
 ghost use Rattle.fields.specs.Deck.{cardsOf, groupsOf};
 ghost use Rattle.held.specs.Held.{held};
-ghost use Rattle.deck_text.specs.Report.{shownBy, errorLine, requestLine, scheduleText, lastLine, lineBy, lastBy, tried, fresh, reportText, refusedText, deckText};
-ghost use Rattle.deck_text.specs.Reading.{Read, ReadAll};
+ghost use Rattle.deck_text.specs.Report.{shownBy, errorLine, requestLine, scheduleText, lastLine, lineBy, lastBy, tried, begin, reportText, refusedText, deckText};
+ghost use Rattle.deck_text.specs.Reading.{Read, ReadAll, Noted, DeckEntered};
 
 // What has been read so far: the schedule, the ID that an error line shows, and the last good one.
 pub struct Progress {
@@ -32,6 +33,13 @@ pub struct Progress {
 pub struct Step {
     pub at: usize,
     pub progress: Progress,
+}
+
+// What entering a deck answers: a refusal and the schedule as it was, or the schedule that follows and where the text in the lent room ends.
+pub struct Entered {
+    pub outcome: Outcome,
+    pub schedule: Schedule,
+    pub at: usize,
 }
 
 // The ID of a group's PTY card if it is well formed, else the one before.
@@ -159,10 +167,9 @@ fn put_group(out: &mut [u8], at: usize, progress: Progress, group: &[u8]) -> Ste
 }
 
 // What has been read before the first group.
-fn fresh() -> Progress
-    ensures { λ r. ⌜ r ≡ fresh ⌝ }
+fn begin(schedule: Schedule) -> Progress
+    ensures { λ r. ⌜ r ≡ begin schedule ⌝ }
 {
-    let schedule = held::empty();
     Progress {
         schedule,
         shown: *b"------",
@@ -171,10 +178,10 @@ fn fresh() -> Progress
 }
 
 // Reads the groups in turn, each as the part of the deck that starts where the last one ended.
-fn put_groups(out: &mut [u8], part: &[u8]) -> Step
-    ensures { λ r. ⌜ ReadAll (now (out .entry)) (groupsOf (cardsOf (now (part .entry)))) (now (out .exit)) r ⌝ }
+fn put_groups(out: &mut [u8], part: &[u8], start: Progress) -> Step
+    ensures { λ r. ⌜ ReadAll (now (out .entry)) start (groupsOf (cardsOf (now (part .entry)))) (now (out .exit)) r ⌝ }
 {
-    let mut progress = fresh();
+    let mut progress = start;
     let mut at: usize = 0;
     let mut from: usize = 0;
     while from < part.len() {
@@ -192,16 +199,32 @@ fn put_groups(out: &mut [u8], part: &[u8]) -> Step
     Step { at, progress }
 }
 
-// The report of a deck's part before its termination card.
+// The report of a deck's part before its termination card, read into an empty schedule.
 fn put_report(out: &mut [u8], part: &[u8]) -> usize
     ensures { λ r. ⌜ Written (now (out .entry)) 0 (reportText (groupsOf (cardsOf (now (part .entry))))) (now (out .exit)) r ⌝ }
 {
-    let step = put_groups(out, part);
+    let step = put_groups(out, part, begin(held::empty()));
     let progress = step.progress;
     let schedule = progress.schedule;
     let last = progress.last;
     let next = put_schedule(out, step.at, schedule);
     put_last(out, next, last)
+}
+
+// The errors of a deck's part before its termination card, read into a schedule, and the last line.
+fn put_entered(out: &mut [u8], part: &[u8], schedule: Schedule) -> Entered
+    ensures { λ r. ⌜ Noted (now (out .entry)) schedule (groupsOf (cardsOf (now (part .entry)))) (now (out .exit)) r ⌝ }
+{
+    let step = put_groups(out, part, begin(schedule));
+    let progress = step.progress;
+    let then = progress.schedule;
+    let last = progress.last;
+    let at = put_last(out, step.at, last);
+    Entered {
+        outcome: Outcome::Done,
+        schedule: then,
+        at,
+    }
 }
 
 // The line of a refused deck.
@@ -221,5 +244,21 @@ pub fn report(deck: &[u8], out: &mut [u8]) -> usize
     match end {
         DeckEnd::At(n) => put_report(out, &deck[..n]),
         DeckEnd::Refused(refusal) => put_refused(out, refusal),
+    }
+}
+
+// Reads a deck into a schedule and puts its error lines and the last line into lent room; a room that is too small gets what fits. A refused deck
+// leaves the schedule and the room as they were.
+pub fn enter_deck(schedule: Schedule, deck: &[u8], out: &mut [u8]) -> Entered
+    ensures { λ r. ⌜ DeckEntered schedule (now (deck .entry)) (now (out .entry)) (now (out .exit)) r ⌝ }
+{
+    let end = deck::deck_end(deck);
+    match end {
+        DeckEnd::At(n) => put_entered(out, &deck[..n], schedule),
+        DeckEnd::Refused(refusal) => Entered {
+            outcome: Outcome::Refused(refusal),
+            schedule,
+            at: 0,
+        },
     }
 }

@@ -22,7 +22,7 @@ use Rattle.entries.specs.declared.Entry.{Entry}
 use Rattle.held.specs.Held.{most, held, scheduleOf, any, there, entryAt, without, withState, changedAt}
 use Rattle.held.specs.HeldLaws.{Holds, holds-held, holds-again}
 use Rattle.held.specs.declared.Schedule.{Schedule}
-use Rattle.schedule.specs.Calls.{ofName, ofJob, barred, sameThere, clashError, enterError, entered, enteringBy, releasedAt, deletedAt, returnedAt}
+use Rattle.schedule.specs.Calls.{ofName, ofJob, barred, sameThere, clashError, enterError, entered, enteringBy, entering, releasedAt, deletedAt, returnedAt}
 use Rattle.orderly.specs.Orderly.{Call, after, afterAll, Orderly, Sound}
 use Rattle.orderly.specs.ListLaws.{orderly-out, orderly-state, orderly-into, none-same, none-named}
 
@@ -91,10 +91,13 @@ module _ (s : Schedule) (d : Sound s) where
   sound-entering r Good e = sound-entered r e
   sound-entering r (Wrong x) e = d
 
+  pub sound-enter : (r : Request) → Sound (entering s r .schedule)
+  sound-enter r = sound-entering r (enterError (ofName (r .id) (held s)) (held s) r) refl
+
   -- after each call
   pub sound-after : (c : Call) → Sound (after s c)
   unfolding after
-  sound-after (Call.Enter r) = sound-entering r (enterError (ofName (r .id) (held s)) (held s) r) refl
+  sound-after (Call.Enter r) = sound-enter r
   sound-after (Call.Release id) = sound-released (ofName id (held s))
   sound-after (Call.Delete id) = sound-deleted (ofName id (held s))
   sound-after (Call.Take k place) = sound-changed k (Running place)
@@ -106,6 +109,10 @@ unfolding afterAll
 sound-all s [] d = d
 sound-all s (c ∷ cs) d = sound-all (after s c) cs (sound-after s d c)
 
+-- the empty schedule
+pub sound-empty : Sound (scheduleOf [])
+sound-empty = sound-of [] (record { names = tt; keys = tt; few = omega arith })
+
 -- AFTER ANY CALLS
 pub reachable : (cs : List Call) → Sound (afterAll (scheduleOf []) cs)
-reachable cs = sound-all (scheduleOf []) cs (sound-of [] (record { names = tt; keys = tt; few = omega arith }))
+reachable cs = sound-all (scheduleOf []) cs sound-empty

@@ -9,16 +9,13 @@ use Rattle.deck_text.proofs.put_groups.Statement.{statement}
 use Rattle.deck_text.proofs.put_groups.Tie as tie
 
 abbrev Inv-loop : tie.InvT-loop
-Inv-loop out₀ part progress₀ at₀ from₀ out progress at from = AtGroups part out₀ out progress at from
+Inv-loop out₀ part progress₀ at₀ from₀ out progress at from = AtGroups part out₀ progress₀ out progress at from
 
 abbrev μ-loop : tie.MeasureT-loop
 μ-loop out₀ part progress₀ at₀ from₀ out progress at from = length part - from
 
-fresh-requires : tie.Need-fresh-requires Inv-loop μ-loop
-fresh-requires c κs = search needs
-
 loop-holds : tie.Need-loop-holds Inv-loop μ-loop
-loop-holds c = groups-start (c .before .before .before .args .part .now) (c .before .before .before .args .out .now) (c .fresh .ensures)
+loop-holds c = groups-start (c .before .before .args .part .now) (c .before .before .args .out .now) (c .before .before .args .start)
 
 sub-first-group : tie.Need-sub-first-group Inv-loop μ-loop
 sub-first-group c = search needs
@@ -62,7 +59,6 @@ put-groups-spec =
     (tie.spec
     Inv-loop
     μ-loop
-    fresh-requires
     loop-holds
     sub-first-group
     part-first-group-start

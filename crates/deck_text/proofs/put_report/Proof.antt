@@ -4,6 +4,19 @@ use Rattle.deck_text.proofs.InTurn.{report-put}
 use borrow.Author.Needs.{needs}
 use Rattle.deck_text.proofs.put_report.Statement.{statement}
 use Rattle.deck_text.proofs.put_report.Tie as tie
+use Rattle.deck_text.proofs.put_report.Reads as reads
+use Rattle.deck_text.proofs.put_report.Lts as lts
+use Rattle.deck_text.proofs.begin.Reads as begin-reads
+use Rattle.deck_text.proofs.put_groups.Reads as put-groups-reads
+use Rattle.deck_text.proofs.put_last.Reads as put-last-reads
+use Rattle.deck_text.proofs.put_schedule.Reads as put-schedule-reads
+use Rattle.held.proofs.empty.Reads as empty-reads
+
+empty-requires : tie.Need-empty-requires
+empty-requires c κs = search needs
+
+begin-requires : tie.Need-begin-requires
+begin-requires c κs = search needs
 
 put-groups-requires : tie.Need-put-groups-requires
 put-groups-requires c κs = search needs
@@ -18,9 +31,16 @@ same-length : tie.Need-same-length
 same-length c = search needs
 
 returns : tie.Need-returns
-returns c = report-put (groupsOf (cardsOf (c .before .before .before .before .before .before .before .before .before .before .before .before .before .before .before .before .before .args .part .now))) (c .before .before .before .before .before .before .before .before .before .before .before .before .before .put-groups .ensures .then) (c .before .before .before .before .before .before .before .before .before .before .before .before .before .put-groups .ensures .text) (c .before .before .before .before .before .before .put-schedule .ensures) (c .before .before .put-last .ensures)
+returns c = report-put (groupsOf (cardsOf (c .before .before .before .before .before .before .before .before .before .before .before .before .before .before .before .before .before .before .before .args .part .now))) (c .before .before .before .before .before .before .before .before .before .before .before .before .before .before .before .empty .ensures) (c .before .before .before .before .before .before .before .before .before .before .before .before .before .before .begin .ensures) (c .before .before .before .before .before .before .before .before .before .before .before .before .before .put-groups .ensures) (c .before .before .before .before .before .before .put-schedule .ensures) (c .before .before .put-last .ensures)
 
 pub put-report-spec : {M : Type 1} → statement M
 put-report-spec =
     tie.close
-    (tie.spec put-groups-requires put-schedule-requires put-last-requires same-length returns)
+    (tie.spec
+    empty-requires
+    begin-requires
+    put-groups-requires
+    put-schedule-requires
+    put-last-requires
+    same-length
+    returns)

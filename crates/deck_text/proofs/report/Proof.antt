@@ -1,8 +1,5 @@
 -- `deck_text::report` meets its contract. Assumes nothing.
-use mathlib.Core.Path.{sym, _∙_}
-use lib.Seq.{length-take-le}
-use Rattle.deck_text.proofs.InTurn.{good-text, refused-text}
-use Rattle.deck_text.proofs.Pieces.{end-within}
+use Rattle.deck_text.proofs.InTurn.{part-long, good-text, refused-text}
 use borrow.Author.Needs.{needs}
 use Rattle.deck_text.proofs.report.Statement.{statement}
 use Rattle.deck_text.proofs.report.Tie as tie
@@ -14,7 +11,7 @@ enum-known-end : tie.Need-enum-known-end
 enum-known-end c = search needs
 
 slice-aggregate-put-report : tie.Need-slice-aggregate-put-report
-slice-aggregate-put-report c = sym (length-take-le (c .before .before .before .end .given .0 .0) (c .before .before .before .before .before .before .before .before .args .deck .now) (end-within (c .before .before .before .before .before .before .before .before .args .deck .now) (c .before .before .before .end .given .0 .0) (sym (c .before .before .before .before .before .deck-end .ensures) ∙ c .before .before .before .end .given .1)))
+slice-aggregate-put-report c = part-long (c .before .before .before .before .before .before .before .before .args .deck .now) (c .before .before .before .before .before .deck-end .ensures) (c .before .before .before .end .given .0 .0) (c .before .before .before .end .given .1)
 
 put-report-requires : tie.Need-put-report-requires
 put-report-requires c κs = search needs
