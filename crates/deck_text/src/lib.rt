@@ -217,12 +217,12 @@ fn put_entered(out: &mut [u8], part: &[u8], schedule: Schedule) -> Entered
 {
     let step = put_groups(out, part, begin(schedule));
     let progress = step.progress;
-    let then = progress.schedule;
+    let followed = progress.schedule;
     let last = progress.last;
     let at = put_last(out, step.at, last);
     Entered {
         outcome: Outcome::Done,
-        schedule: then,
+        schedule: followed,
         at,
     }
 }
