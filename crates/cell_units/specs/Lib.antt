@@ -1,4 +1,2 @@
 pub mod Fresh
-pub mod Marks
 pub mod FreshLaws
-pub mod MarkLaws

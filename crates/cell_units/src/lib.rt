@@ -1,21 +1,11 @@
-// The units of a configured cell: fresh, and marked.
+// The units of a configured cell when it is fresh.
 use channels::Configuration;
 use numbers::ChannelNumber;
-use numbers::Outcome;
-use numbers::Refusal;
 use numbers::UnitNumber;
-use units::Mark;
 use units::Units;
 ghost use mathlib.Core.Path.{_≡_};
 ghost use Rattle.units.specs.State.{unitsFrom};
 ghost use Rattle.cell_units.specs.Fresh.{freshUnits};
-ghost use Rattle.cell_units.specs.Marks.{markOf};
-
-// How a mark call ends, and the units then.
-pub struct Marked {
-    pub outcome: Outcome,
-    pub units: Units,
-}
 
 // The units of a fresh cell: free, down where the configuration says so, and not marked otherwise.
 pub fn fresh(configuration: Configuration) -> Units
@@ -38,29 +28,4 @@ fn fresh_from(down: [bool; 256]) -> Units
         i += 1;
     }
     state
-}
-
-// The mark calls: a mark is set or cleared on a configured unit; any other, and the drum, gets 1.
-pub fn mark_unit(
-    configuration: Configuration,
-    state: Units,
-    channel: ChannelNumber,
-    unit: UnitNumber,
-    mark: Mark,
-    on: bool,
-) -> Marked
-    ensures { λ r. ⌜ r ≡ markOf configuration state channel unit mark on ⌝ }
-{
-    if channels::has_unit(configuration, channel, unit) {
-        let next = units::marked_unit(units::unit_at(state, channel, unit), mark, on);
-        let units = units::with_unit(state, channel, unit, next);
-        return Marked {
-            outcome: Outcome::Done,
-            units,
-        };
-    }
-    Marked {
-        outcome: Outcome::Refused(Refusal::OutOfRange),
-        units: state,
-    }
 }

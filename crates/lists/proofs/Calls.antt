@@ -11,14 +11,15 @@ use borrow.Author.Tests.{ltb-true}
 use Rattle.lists.proofs.Composed.{keeping-return}
 use Rattle.numbers.specs.declared.Refusal.{Refusal}
 use Rattle.numbers.specs.declared.Refusal.the-variants.{ChannelBusy, NoJob, NothingInProgress, NothingSelected, NothingStartable, OutOfRange, WrongCompletion}
-use Rattle.units.specs.State.{unitIn, unitSet, unitsFrom}
+use Rattle.units.specs.State.{markedUnit, unitIn, unitSet, unitsFrom}
 use Rattle.units.specs.declared.Units.{Units}
+use Rattle.units.specs.declared.Mark.{Mark as UnitMark}
 use Rattle.packets.specs.Demand.{there}
 use Rattle.packets.specs.Laws.{and-left, and-right, not-false, passes}
 use Rattle.packets.specs.Lone.{lists}
 use Rattle.packets.specs.Picks.{find}
 use Rattle.packets.specs.Proof.{next}
-use Rattle.packets.specs.Rules.{Call, Complete, End, Mark, Start, Submit, Take, accept, answer, atOf, badHow, begins, closed, completed, completes, finished, freshJob, inRange, leaving, packet, reaches, refusal, returnIfDone, startable, startableOn, started, submitted, toOf, withMark}
+use Rattle.packets.specs.Rules.{Call, Complete, End, Mark, Start, Submit, Take, accept, answer, atOf, badHow, begins, closed, completed, completes, finished, freshJob, inRange, leaving, packet, reaches, refusal, returnIfDone, startable, startableOn, started, submitted, toOf}
 use Rattle.packets.specs.State.{State, configured, drumOn, fittedOn, isEmpty, isIdle, isRunning, motionOn, moves, packetIn, packetOf, placeOf, stateIn, takeAll, wanted}
 use Rattle.packets.specs.declared.Answer.the-variants.{Closed, Completed, Done, Started}
 use Rattle.packets.specs.declared.Assignment.{Assignment}
@@ -29,10 +30,9 @@ use Rattle.packets.specs.declared.How.the-variants.{Cut, Failed, Full}
 use Rattle.packets.specs.declared.Job.{Job}
 use Rattle.packets.specs.declared.Leaving.{Leaving}
 use Rattle.packets.specs.declared.Lists.{Lists}
-use Rattle.packets.specs.declared.Marking.{Marking}
 use Rattle.packets.specs.declared.Motion.{Motion}
 use Rattle.packets.specs.declared.Motion.the-variants.{Busy, Idle}
-use Rattle.packets.specs.declared.Outcome.{Outcome}
+use Rattle.packets.specs.declared.Acted.{Acted}
 use Rattle.packets.specs.declared.Packet.{Packet}
 use Rattle.packets.specs.declared.Spot.{Spot}
 use Rattle.packets.specs.declared.Spot.the-variants.{OnUnit}
@@ -41,7 +41,7 @@ use Rattle.places.specs.Held.{foundOf, listOf}
 use Rattle.lists.specs.Outcomes.{beginning, keeping, listsOf, outcome, refusedWith, settled, stateOf, withUnits, wrongHow}
 
 -- refused and accepted calls
-pub refused-is : (r : Lists) (x : Call) (n : Refusal) → refusal (stateOf r) x ≡ Denied n → (o : Outcome) → o ≡ refusedWith r n → o ≡ outcome r x
+pub refused-is : (r : Lists) (x : Call) (n : Refusal) → refusal (stateOf r) x ≡ Denied n → (o : Acted) → o ≡ refusedWith r n → o ≡ outcome r x
 unfolding outcome
 refused-is r x n e o q = q ∙ sym (ap (settled r x) e)
 
@@ -59,7 +59,7 @@ module _ (r : Lists) (j p f c : ℕ) (w : Spot) (e : refusal (stateOf r) (Submit
       (ltb-true j 16 (and-left (ltb j 16) _ t), ltb-true p 16 (and-left (ltb p 16) _ (and-right (ltb j 16) _ t)))
 
   pub submit-done : (a b : ℕ) → a ≡ atOf w → b ≡ toOf w → (next : Lists) → next ≡ listsOf (submitted (stateOf r) j p f c a b)
-      → _≡_ {A = Outcome} (record { answer = Done; lists = next }) (outcome r (Submit j p f c w))
+      → _≡_ {A = Acted} (record { answer = Done; lists = next }) (outcome r (Submit j p f c w))
   unfolding accept answer
   submit-done a b x y next q = rw (q, x, y) (granted-is r (Submit j p f c w) e)
 
@@ -94,13 +94,13 @@ module _ (r : Lists) (c : ℕ) where
 
       pub start-done : (x : ℕ) → o ≡ At x → (q : Packet) → q ≡ packetIn (r .jobs) (placeOf x) (packetOf x) → (next : Lists)
           → next ≡ listsOf (beginning (stateOf r) c (placeOf x) (packetOf x))
-          → _≡_ {A = Outcome} (record { answer = Started (record { place = placeOf x; packet = packetOf x; function = q .function; at = q .at }); lists = next }) (outcome r (Start c))
+          → _≡_ {A = Acted} (record { answer = Started (record { place = placeOf x; packet = packetOf x; function = q .function; at = q .at }); lists = next }) (outcome r (Start c))
       unfolding refusal accept answer
       start-done x e q g next h =
           rw (g, h)
           (ap (λ (k : Option ℕ). both k) (sym at) ∙ granted-is r (Start c) (rw (there, free, at)))
         where
-          both : Option ℕ → Outcome
+          both : Option ℕ → Acted
           both k = record { answer = begins (stateOf r) k; lists = listsOf (started (stateOf r) c k) }
 
           at : find (startable (stateOf r) c) (listOf (r .list)) ≡ some x
@@ -130,14 +130,14 @@ module _ (r : Lists) (c : ℕ) (how : How) where
 
       pub complete-done : wrongHow (packetIn (r .jobs) j p .status) how ≡ false → (done next : Lists) (l : Leaving)
           → done ≡ listsOf (finished (stateOf r) c how j p) → l ≡ leaving j (stateOf done) → next ≡ keeping done (returnIfDone j (stateOf done))
-          → _≡_ {A = Outcome} (record { answer = Completed j p l; lists = next }) (outcome r (Complete c how))
+          → _≡_ {A = Acted} (record { answer = Completed j p l; lists = next }) (outcome r (Complete c how))
       unfolding refusal accept answer
       complete-done e done next l d g h =
           rw (g, h, d)
           (rw (keeping-return (finished (stateOf r) c how j p) j)
           (ap both (sym moves) ∙ granted-is r (Complete c how) (rw (there, moves, how-is (stateOf r) j p how ∙ e))))
         where
-          both : Motion → Outcome
+          both : Motion → Acted
           both m = record { answer = completes (stateOf r) c how m; lists = listsOf (completed (stateOf r) c how m) }
 
 -- ---- a job's end
@@ -154,7 +154,7 @@ module _ (r : Lists) (j : ℕ) (err : Bool) where
 
     pub end-done : isRunning (stateIn (r .jobs) j) ≡ true → (shut next : Lists) (l : Leaving)
         → shut ≡ listsOf (closed (stateOf r) j err) → l ≡ leaving j (stateOf shut) → next ≡ keeping shut (returnIfDone j (stateOf shut))
-        → _≡_ {A = Outcome} (record { answer = Closed l; lists = next }) (outcome r (End j err))
+        → _≡_ {A = Acted} (record { answer = Closed l; lists = next }) (outcome r (End j err))
     unfolding refusal accept answer
     end-done e shut next l d g h =
         rw (g, h, d)
@@ -170,17 +170,17 @@ module _ (r : Lists) (j : ℕ) (asg : Assignment) where
 
   pub take-done : ltb j 16 ≡ true → isEmpty (stateIn (r .jobs) j) ≡ true → (job : Job) → job ≡ freshJob asg → (jobs : List Job) → jobs ≡ set (r .jobs) j job
       → (units : Units) → units ≡ unitsFrom (takeAll (r .units .of) j (wanted asg))
-      → _≡_ {A = Outcome} (record { answer = Done; lists = record { channels = r .channels; jobs = jobs; list = r .list; moving = r .moving; units = units } }) (outcome r (Take j asg))
+      → _≡_ {A = Acted} (record { answer = Done; lists = record { channels = r .channels; jobs = jobs; list = r .list; moving = r .moving; units = units } }) (outcome r (Take j asg))
   unfolding refusal accept answer
   take-done small e job q jobs g units h = rw (g, h, q) (granted-is r (Take j asg) (rw (small, e)))
 
-module _ (r : Lists) (c u : ℕ) (m : Marking) where
-  pub mark-out : (ltb c 16 && reaches (fittedOn (r .channels) c) (OnUnit (record { 0 = u }))) ≡ false → refusal (stateOf r) (Mark c u m) ≡ Denied OutOfRange
+module _ (r : Lists) (c u : ℕ) (m : UnitMark) (on : Bool) where
+  pub mark-out : (ltb c 16 && reaches (fittedOn (r .channels) c) (OnUnit (record { 0 = u }))) ≡ false → refusal (stateOf r) (Mark c u m on) ≡ Denied OutOfRange
   unfolding refusal
   mark-out e = rw e
 
   pub mark-done : (ltb c 16 && reaches (fittedOn (r .channels) c) (OnUnit (record { 0 = u }))) ≡ true
-      → (units : Units) → units ≡ unitsFrom (unitSet (r .units .of) c u (withMark (unitIn (r .units .of) c u) m)) → (next : Lists) → next ≡ withUnits r units
-      → _≡_ {A = Outcome} (record { answer = Done; lists = next }) (outcome r (Mark c u m))
+      → (units : Units) → units ≡ unitsFrom (unitSet (r .units .of) c u (markedUnit m on (unitIn (r .units .of) c u))) → (next : Lists) → next ≡ withUnits r units
+      → _≡_ {A = Acted} (record { answer = Done; lists = next }) (outcome r (Mark c u m on))
   unfolding refusal accept answer
-  mark-done e units h next g = rw (g, h) (granted-is r (Mark c u m) (rw e))
+  mark-done e units h next g = rw (g, h) (granted-is r (Mark c u m on) (rw e))

@@ -21,7 +21,7 @@ leaves-is r (Submit j p f c w) = state-of (accept (stateOf r) (Submit j p f c w)
 leaves-is r (Start c) = state-of (accept (stateOf r) (Start c))
 leaves-is r (Complete c how) = state-of (accept (stateOf r) (Complete c how))
 leaves-is r (End j e) = state-of (accept (stateOf r) (End j e))
-leaves-is r (Mark c u m) = refl
+leaves-is r (Mark c u m on) = refl
 
 -- one call: the rules' answer, and the rules' state
 pub outcome-is : (r : Lists) (x : Call) → (outcome r x .answer ≡ step (stateOf r) x .answer) × (stateOf (outcome r x .lists) ≡ step (stateOf r) x .state)

@@ -14,7 +14,7 @@ use Rattle.packets.specs.declared.How.{How}
 use Rattle.packets.specs.declared.How.the-variants.{Cut, Failed, Full}
 use Rattle.packets.specs.declared.Lists.{Lists}
 use Rattle.packets.specs.declared.Motion.the-variants.{Busy}
-use Rattle.packets.specs.declared.Outcome.{Outcome}
+use Rattle.packets.specs.declared.Acted.{Acted}
 use Rattle.packets.specs.declared.Status.{Status}
 use Rattle.packets.specs.declared.Status.the-variants.{InProgress}
 use Rattle.packets.specs.declared.Verdict.{Verdict}
@@ -49,19 +49,19 @@ leaves r (Submit j p f c w) = listsOf (accept (stateOf r) (Submit j p f c w))
 leaves r (Start c) = listsOf (accept (stateOf r) (Start c))
 leaves r (Complete c how) = listsOf (accept (stateOf r) (Complete c how))
 leaves r (End j e) = listsOf (accept (stateOf r) (End j e))
-leaves r (Mark c u m) = keeping r (accept (stateOf r) (Mark c u m))
+leaves r (Mark c u m on) = keeping r (accept (stateOf r) (Mark c u m on))
 
 -- an accepted call leaves and answers what the rules say; a refused one returns the number alone, and the state keeps every byte
-abbrev pub settled : Lists → Call → Verdict → Outcome
+abbrev pub settled : Lists → Call → Verdict → Acted
 settled r x Granted = record { answer = answer (stateOf r) x; lists = leaves r x }
 settled r x (Denied n) = record { answer = Refused n; lists = r }
 
 -- the one outcome of a call
-unfoldable pub outcome : Lists → Call → Outcome
+unfoldable pub outcome : Lists → Call → Acted
 outcome r x = settled r x (refusal (stateOf r) x)
 
 -- a refused call returns the number alone
-abbrev pub refusedWith : Lists → Refusal → Outcome
+abbrev pub refusedWith : Lists → Refusal → Acted
 refusedWith r n = record { answer = Refused n; lists = r }
 
 -- packet p of place j is in progress on channel c

@@ -8,6 +8,7 @@ use channels::Channel;
 use numbers::ChannelNumber;
 use numbers::Refusal;
 use numbers::UnitNumber;
+use packets::Acted;
 use packets::Answer;
 use packets::Assignment;
 use packets::Begun;
@@ -17,9 +18,7 @@ use packets::How;
 use packets::Job;
 use packets::JobState;
 use packets::Lists;
-use packets::Marking;
 use packets::Motion;
-use packets::Outcome;
 use packets::Spot;
 use packets::Status;
 use packets::Verdict;
@@ -31,6 +30,7 @@ use places::unit;
 use units::Units;
 ghost use mathlib.Core.Path.{_≡_};
 ghost use Prim.Native.Nat.{_<_};
+ghost use Rattle.units.specs.State.{unitIn, unitSet, unitsFrom, markedUnit};
 ghost use Rattle.packets.specs.State.{placeOf, packetOf, packetIn};
 ghost use Rattle.packets.specs.Rules.{Take, Submit, Start, Complete, End, Mark, begun, freshJob};
 ghost use Rattle.packets.specs.Demand.{fresh};
@@ -55,10 +55,10 @@ pub fn fresh(channels: [Channel; 16], units: Units) -> Lists
 }
 
 // A refused call returns the number alone.
-fn refused(lists: Lists, refusal: Refusal) -> Outcome
+fn refused(lists: Lists, refusal: Refusal) -> Acted
     ensures { λ r. ⌜ r ≡ refusedWith lists refusal ⌝ }
 {
-    Outcome {
+    Acted {
         answer: Answer::Refused(refusal),
         lists,
     }
@@ -72,7 +72,7 @@ pub fn submit(
     function: u8,
     channel: ChannelNumber,
     spot: Spot,
-) -> Outcome
+) -> Acted
     ensures { λ r. ⌜ r ≡ outcome lists (Submit place packet function (channel .0) spot) ⌝ }
 {
     match submission::verdict(lists, place, packet, function, channel, spot) {
@@ -81,7 +81,7 @@ pub fn submit(
             let at = submission::at_of(spot);
             let to = submission::to_of(spot);
             let next = submission::submitted(lists, place, packet, function, channel, at, to);
-            Outcome {
+            Acted {
                 answer: Answer::Done,
                 lists: next,
             }
@@ -103,7 +103,7 @@ fn begun(lists: Lists, c: ChannelNumber, j: u8, p: u8) -> Lists
 }
 
 // Start on a channel.
-pub fn start(lists: Lists, channel: ChannelNumber) -> Outcome
+pub fn start(lists: Lists, channel: ChannelNumber) -> Acted
     ensures { λ r. ⌜ r ≡ outcome lists (Start (channel .0)) ⌝ }
 {
     let channels = lists.channels;
@@ -131,7 +131,7 @@ pub fn start(lists: Lists, channel: ChannelNumber) -> Outcome
                 at: q.at,
             });
             let next = begun(lists, channel, j, p);
-            Outcome {
+            Acted {
                 answer,
                 lists: next,
             }
@@ -140,7 +140,7 @@ pub fn start(lists: Lists, channel: ChannelNumber) -> Outcome
 }
 
 // Completion on a channel: full, cut or failed with a code.
-pub fn complete(lists: Lists, channel: ChannelNumber, how: How) -> Outcome
+pub fn complete(lists: Lists, channel: ChannelNumber, how: How) -> Acted
     ensures { λ r. ⌜ r ≡ outcome lists (Complete (channel .0) how) ⌝ }
 {
     let channels = lists.channels;
@@ -160,7 +160,7 @@ pub fn complete(lists: Lists, channel: ChannelNumber, how: How) -> Outcome
             let done = finish::finished(lists, channel, how, j, p);
             let leaving = ends::leaving(done, j);
             let next = ends::returned_if_done(done, j);
-            Outcome {
+            Acted {
                 answer: Answer::Completed(j, p, leaving),
                 lists: next,
             }
@@ -169,7 +169,7 @@ pub fn complete(lists: Lists, channel: ChannelNumber, how: How) -> Outcome
 }
 
 // The job in a place ends, normally or in error.
-pub fn end(lists: Lists, place: u8, in_error: bool) -> Outcome
+pub fn end(lists: Lists, place: u8, in_error: bool) -> Acted
     ensures { λ r. ⌜ r ≡ outcome lists (End place in_error) ⌝ }
 {
     let jobs = lists.jobs;
@@ -182,14 +182,14 @@ pub fn end(lists: Lists, place: u8, in_error: bool) -> Outcome
     let shut = ends::closed(lists, place, in_error);
     let leaving = ends::leaving(shut, place);
     let next = ends::returned_if_done(shut, place);
-    Outcome {
+    Acted {
         answer: Answer::Closed(leaving),
         lists: next,
     }
 }
 
 // A job is taken into a place with an assignment: its packets blank, its units without interlock.
-pub fn take(lists: Lists, place: u8, assignment: Assignment) -> Outcome
+pub fn take(lists: Lists, place: u8, assignment: Assignment) -> Acted
     ensures { λ r. ⌜ r ≡ outcome lists (Take place assignment) ⌝ }
 {
     let jobs = lists.jobs;
@@ -208,15 +208,30 @@ pub fn take(lists: Lists, place: u8, assignment: Assignment) -> Outcome
     let held = unit::taken(units, place, wanted);
     next.jobs = taken;
     next.units = held;
-    Outcome {
+    Acted {
         answer: Answer::Done,
         lists: next,
     }
 }
 
+// The units with one mark of unit u of channel c set or cleared.
+fn with_mark(units: Units, c: ChannelNumber, u: UnitNumber, mark: units::Mark, on: bool) -> Units
+    ensures { λ r. ⌜ r ≡ unitsFrom (unitSet (units .of) (c .0) (u .0) (markedUnit mark on (unitIn (units .of) (c .0) (u .0)))) ⌝ }
+{
+    let unit = units::unit_at(units, c, u);
+    let state = units::marked_unit(unit, mark, on);
+    units::with_unit(units, c, u, state)
+}
+
 // A mark of a unit is set or cleared; on the drum channel there is no unit.
-pub fn mark(lists: Lists, channel: ChannelNumber, unit: UnitNumber, marking: Marking) -> Outcome
-    ensures { λ r. ⌜ r ≡ outcome lists (Mark (channel .0) (unit .0) marking) ⌝ }
+pub fn mark(
+    lists: Lists,
+    channel: ChannelNumber,
+    unit: UnitNumber,
+    mark: units::Mark,
+    on: bool,
+) -> Acted
+    ensures { λ r. ⌜ r ≡ outcome lists (Mark (channel .0) (unit .0) mark on) ⌝ }
 {
     let channels = lists.channels;
     let units = lists.units;
@@ -226,9 +241,9 @@ pub fn mark(lists: Lists, channel: ChannelNumber, unit: UnitNumber, marking: Mar
     if !channel::has_spot(channel::fitted_on(channels, channel), Spot::OnUnit(unit)) {
         return refused(lists, Refusal::OutOfRange);
     }
-    let marked = unit::with_mark(units, channel, unit, marking);
+    let marked = with_mark(units, channel, unit, mark, on);
     let next = stores::with_units(lists, marked);
-    Outcome {
+    Acted {
         answer: Answer::Done,
         lists: next,
     }

@@ -38,7 +38,7 @@ actsNow h s (Submit j p f c w) = eqb j (h .place) && isThere h c (atOf w)
 actsNow h s (Start c) = answersThere h s c (answer s (Start c))
 actsNow h s (Complete c how) = answersThere h s c (answer s (Complete c how))
 actsNow h s (End j e) = eqb j (h .place)
-actsNow h s (Mark c u m) = false
+actsNow h s (Mark c u m on) = false
 
 -- the call acts on the holding, and the lone unit makes the same step and the same start; or it doesn't, and the lone unit stands still
 pub record Acted (h : Holding) (s : State) (l : Lone) (x : Call) : Type 0 where
@@ -75,7 +75,7 @@ sim-acts h s I H l S (Complete c how) r t =
     }
 sim-acts h s I H l S (End j e) r t =
     record { sim = sim-end h s I l S j e (ends-of s j e r) (sym (eqb-true j (h .place) t)); start = refl }
-sim-acts h s I H l S (Mark c u m) r t = clash false t refl
+sim-acts h s I H l S (Mark c u m on) r t = clash false t refl
 
 pub sim-away : (h : Holding) (s : State) → Inv s → Holds s h → (l : Lone) → Sim h s l → (x : Call) → refusal s x ≡ Granted → actsNow h s x ≡ false → Sim h (accept s x) l
 unfolding accept actsNow answersThere answer
@@ -94,4 +94,4 @@ sim-away h s I H l S (Complete c how) r t =
     let t′ : eqb (o .0) (h .place) && there h (packetIn (s .jobs) (o .0) (o .1)) ≡ false = rw (o .2) at t in
     rw (o .2) (sim-complete-away h s I H l S c (k .0) (o .0) (o .1) (o .2) (rw (eqb-flip (h .place) (o .0)) t′) how)
 sim-away h s I H l S (End j e) r t = sim-end-away h s I l S j e (ends-of s j e r) (rw (eqb-flip (h .place) j) t)
-sim-away h s I H l S (Mark c u m) r t = sim-mark h s I l S c u m
+sim-away h s I H l S (Mark c u m on) r t = sim-mark h s I l S c u m on

@@ -8,7 +8,7 @@ use native.Mathlib.Omega.{arith}
 use lib.Dec.{eqb}
 use Rattle.units.specs.declared.Unit.{Unit as UnitState}
 use Rattle.numbers.specs.Tests.{by-bool}
-use Rattle.units.specs.State.{unitIn}
+use Rattle.units.specs.State.{unitIn, markedUnit}
 use Rattle.units.specs.declared.Holder.{Holder}
 use Rattle.units.specs.declared.Holder.the-variants.{Free}
 use Rattle.packets.specs.Demand.{Holding, Holds, OwnStart, Quiet, Stretch, Undisturbed}
@@ -17,7 +17,7 @@ use Rattle.packets.specs.InvJobs.{held-once, take-held}
 use Rattle.packets.specs.InvStores.{mark-holder}
 use Rattle.packets.specs.Laws.{clash, find-holds}
 use Rattle.packets.specs.Picks.{find}
-use Rattle.packets.specs.Rules.{Call, Complete, End, Mark, Start, Submit, Take, accept, always, answer, atOf, begins, begun, closing, completed, cut, decided, finished, isFailure, locked, marked, packet, refusal, returnIfDone, startable, started, step, submitted, toOf, withMark}
+use Rattle.packets.specs.Rules.{Call, Complete, End, Mark, Start, Submit, Take, accept, always, answer, atOf, begins, begun, closing, completed, cut, decided, finished, isFailure, locked, marked, packet, refusal, returnIfDone, startable, started, step, submitted, toOf}
 use Rattle.packets.specs.SimSubmit.{unit-held}
 use Rattle.packets.specs.State.{State, anyMoves, close, drumOn, heldBy, isClosing, motionOn, packetIn, packetOf, placeOf, setLock, stateIn, sweep, withLock}
 use Rattle.packets.specs.Steps.{startable-on, step-inv}
@@ -82,8 +82,8 @@ accept-same s I (Complete c how) r = go (motionOn s c)
     go Idle = same-kept s s (λ c u. refl)
     go (Busy j p) = return-keeps s (finished s c how j p) j (finish-keeps s c how j p)
 accept-same s I (End k e) r = return-keeps s (close (sweep s k always cut) k (closing e)) k (λ c u. refl)
-accept-same s I (Mark c u m) r =
-    same-kept s (marked s c u m) (λ e w. unit-keep (λ (v : UnitState). v .holder) (s .units) c u (withMark (unitIn (s .units) c u) m) e w (mark-holder (unitIn (s .units) c u) m))
+accept-same s I (Mark c u m on) r =
+    same-kept s (marked s c u m on) (λ e w. unit-keep (λ (v : UnitState). v .holder) (s .units) c u (markedUnit m on (unitIn (s .units) c u)) e w (mark-holder m on (unitIn (s .units) c u)))
 
 pub step-same : (s : State) → Inv s → (x : Call) → Same s (step s x .state)
 unfolding step
@@ -117,7 +117,7 @@ accept-config s (Complete c how) = go (motionOn s c)
         return-config (finished s c how j p) j
         ∙ by-bool (isFailure how && not (drumOn (s .channels) c)) (λ e. rw e) (λ e. rw e)
 accept-config s (End j e) = return-config (close (sweep s j always cut) j (closing e)) j
-accept-config s (Mark c u m) = refl
+accept-config s (Mark c u m on) = refl
 
 pub step-config : (s : State) (x : Call) → step s x .state .channels ≡ s .channels
 unfolding step

@@ -38,7 +38,7 @@ Fits part s (Submit j p f c w) = Unit {0}
 Fits part s (Start c) = Unit {0}
 Fits part s (Complete c how) = Unit {0}
 Fits part s (End j e) = Unit {0}
-Fits part s (Mark c u m) = Unit {0}
+Fits part s (Mark c u m on) = Unit {0}
 
 -- so is each taking of a history
 abbrev pub Fitting : Part → State → List Call → Type 0

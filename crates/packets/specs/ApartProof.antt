@@ -154,7 +154,7 @@ module _ (part : Part) (L : Lasting part) where
       let h₁ = alive-in (s₁ .jobs) j a₁ in
       let a₂ : isEmpty (stateIn (closed s j e .jobs) j) ≡ false = rw (state-state (s₁ .jobs) j (closing e) j h₁, eqb-self j) (closing-alive e) in
       apart-same s (ended s j e) (same-trans (same-sweep s j always cut) (same-trans (same-state s₁ (closed s j e) j (closing e) refl h₁ a₁) (same-return (closed s j e) j a₂))) A
-  accept-apart s I A (Mark c u m) r k = apart-same s (marked s c u m) (same-jobs s (marked s c u m) refl) A
+  accept-apart s I A (Mark c u m on) r k = apart-same s (marked s c u m on) (same-jobs s (marked s c u m on) refl) A
 
   step-apart : (s : State) → Inv s → Apart part s → (x : Call) → Fits part s x → Apart part (step s x .state)
   unfolding step

@@ -51,7 +51,7 @@ statusAfter s (Submit j p f c w) i n = afterSubmit s j p f c (atOf w) (toOf w) i
 statusAfter s (Start c) i n = cond (takes (find (startable s c) (s .queue)) i n) InProgress (packetIn (s .jobs) i n .status)
 statusAfter s (Complete c how) i n = afterComplete s c how (motionOn s c) i n
 statusAfter s (End j e) i n = cond (eqb i j) (cut (packetIn (s .jobs) i n .status)) (packetIn (s .jobs) i n .status)
-statusAfter s (Mark c u m) i n = packetIn (s .jobs) i n .status
+statusAfter s (Mark c u m on) i n = packetIn (s .jobs) i n .status
 
 -- over any history: before each accepted call s is a cell that calls led to
 abbrev pub Codes : Type 0
@@ -67,7 +67,7 @@ renews (Submit j p f c w) i n = isPacket j p i n
 renews (Start c) i n = false
 renews (Complete c how) i n = false
 renews (End j e) i n = false
-renews (Mark c u m) i n = false
+renews (Mark c u m on) i n = false
 
 -- an ended packet keeps its code through every other call, accepted or refused
 abbrev pub Kept : Type 0

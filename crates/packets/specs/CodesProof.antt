@@ -116,7 +116,7 @@ status-after s I (End j e) r i n =
     ∙ ap (λ (q : Packet). q .status) (packet-state (restatusAll (s .jobs) j always cut) j (closing e) i n)
     ∙ swept-status s j always cut h refl i n
     ∙ by-bool (eqb i j) (λ d. rw d) (λ d. rw d)
-status-after s I (Mark c u m) r i n = refl
+status-after s I (Mark c u m on) r i n = refl
 
 pub codes : Codes
 codes channels units free before x r i n =
@@ -159,7 +159,7 @@ keeps-code s I (Complete c how) r i n k e b =
     (by-bool (eqb i (o .0) && ((isFailure how && not (drumOn (s .channels) c)) && atUnit c (packetIn (s .jobs) (o .0) (o .1) .at) (packetIn (s .jobs) i n)))
     (λ d. rw d) (λ d. rw d))))
 keeps-code s I (End j err) r i n k e b = rw e (by-bool (eqb i j) (λ d. rw d) (λ d. rw d))
-keeps-code s I (Mark c u m) r i n k e b = e
+keeps-code s I (Mark c u m on) r i n k e b = e
 
 pub kept : Kept
 unfolding step

@@ -95,7 +95,7 @@ noted h t (Submit j p f c w) r n = cond (isAccepted r && eqb j (h .place) && eqb
 noted h t (Start c) r n = t n
 noted h t (Complete c how) r n = t n
 noted h t (End j e) r n = t n
-noted h t (Mark c u m) r n = t n
+noted h t (Mark c u m on) r n = t n
 
 -- a start that took a packet there
 abbrev pub tookThere : Holding → ℕ → Answer → Bool
@@ -121,7 +121,7 @@ acts h t (Submit j p f c w) r = isAccepted r && (eqb j (h .place) && isThere h c
 acts h t (Start c) r = tookThere h c r
 acts h t (Complete c how) r = endedThere h t r
 acts h t (End j e) r = isAccepted r && eqb j (h .place)
-acts h t (Mark c u m) r = false
+acts h t (Mark c u m on) r = false
 
 -- the calls of a stretch that acted on the holding
 unfoldable pub acting : Holding → Seen → List Event → List Call

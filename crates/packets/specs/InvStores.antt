@@ -8,17 +8,17 @@ use lib.ListN.{length, getD, set, length-set, length-append}
 use lib.Dec.{eqb}
 use borrow.Author.Tests.{eqb-true, lt-ltb}
 use Rattle.units.specs.declared.Unit.{Unit as UnitState}
+use Rattle.units.specs.declared.Mark.{Mark as UnitMark}
+use Rattle.units.specs.declared.Mark.the-variants.{Down, Reserved}
 use Rattle.numbers.specs.Tests.{by-bool}
-use Rattle.units.specs.State.{unitIn, unitSet}
+use Rattle.units.specs.State.{unitIn, unitSet, markedUnit}
 use Rattle.packets.specs.Inv.{EntryOk, Inv, OkEntry, OkMotion, Owned, Spots, inMotion, listed-busy, motion-busy, requeued, running-alive, single-relist}
 use Rattle.packets.specs.Laws.{All, all-append, all-imp, and-left, and-right, getD-set}
 use Rattle.packets.specs.Once.{few, nodup-snoc}
-use Rattle.packets.specs.Rules.{marked, withMark}
+use Rattle.packets.specs.Rules.{marked}
 use Rattle.packets.specs.State.{State, enlisted, enqueue, entryOf, isBusy, isListed, lock, motionOn, move, packetIn, packetOf, placeOf, put, restatusAll, setLock, stateIn, store, sweep, withLock}
 use Rattle.packets.specs.Store.{alive-in, length-put, length-restatus, packet-put, packet-restatus, size-put, size-restatus, sizeIn, state-put, state-restatus, unit-keep}
 use Rattle.packets.specs.declared.Carrier.{Carrier}
-use Rattle.packets.specs.declared.Marking.{Marking}
-use Rattle.packets.specs.declared.Marking.the-variants.{Down, Reserved}
 use Rattle.packets.specs.declared.Motion.{Motion}
 use Rattle.packets.specs.declared.Motion.the-variants.{Busy, Idle}
 use Rattle.packets.specs.declared.Packet.{Packet}
@@ -144,14 +144,14 @@ lock-inv s I c a b =
     reunit-inv s I (setLock (s .units) c a b)
     (λ d u. unit-keep (λ (v : UnitState). v .holder) (s .units) c a (withLock (unitIn (s .units) c a) b) d u refl)
 
-pub mark-holder : (v : UnitState) (m : Marking) → withMark v m .holder ≡ v .holder
-mark-holder v (Down b) = refl
-mark-holder v (Reserved b) = refl
+pub mark-holder : (m : UnitMark) (on : Bool) (v : UnitState) → markedUnit m on v .holder ≡ v .holder
+mark-holder Down on v = refl
+mark-holder Reserved on v = refl
 
-pub marked-inv : (s : State) → Inv s → (c u : ℕ) (m : Marking) → Inv (marked s c u m)
-marked-inv s I c u m =
-    reunit-inv s I (unitSet (s .units) c u (withMark (unitIn (s .units) c u) m))
-    (λ e w. unit-keep (λ (v : UnitState). v .holder) (s .units) c u (withMark (unitIn (s .units) c u) m) e w (mark-holder (unitIn (s .units) c u) m))
+pub marked-inv : (s : State) → Inv s → (c u : ℕ) (m : UnitMark) (on : Bool) → Inv (marked s c u m on)
+marked-inv s I c u m on =
+    reunit-inv s I (unitSet (s .units) c u (markedUnit m on (unitIn (s .units) c u)))
+    (λ e w. unit-keep (λ (v : UnitState). v .holder) (s .units) c u (markedUnit m on (unitIn (s .units) c u)) e w (mark-holder m on (unitIn (s .units) c u)))
 
 -- ---- the queue and the channels
 

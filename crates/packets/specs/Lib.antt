@@ -27,3 +27,4 @@ pub mod Apart
 pub mod ApartProof
 pub mod Codes
 pub mod CodesProof
+pub mod MarkLaws

@@ -138,7 +138,7 @@ loneStep drum l (Submit j n f c w) = hears drum l n f (atOf w) (toOf w)
 loneStep drum l (Start c) = cond (l .interlock) l (setsOff l (l .order))
 loneStep drum l (Complete c how) = completesAs drum l how (l .moving)
 loneStep drum l (End j e) = halts (λ x. true) l
-loneStep drum l (Mark c u m) = l
+loneStep drum l (Mark c u m on) = l
 
 -- the start that a call makes, if it makes one; place is where the lone unit's job is
 abbrev pub startOf : ℕ → Lone → List ℕ → List Begun
@@ -151,7 +151,7 @@ loneStart place l (Submit j n f c w) = []
 loneStart place l (Start c) = cond (l .interlock) [] (startOf place l (l .order))
 loneStart place l (Complete c how) = []
 loneStart place l (End j e) = []
-loneStart place l (Mark c u m) = []
+loneStart place l (Mark c u m on) = []
 
 unfoldable pub loneRun : Bool → Lone → List Call → Lone
 loneRun drum l [] = l

@@ -9,8 +9,9 @@ use lib.Dec.{ltb, leb, eqb}
 use Rattle.numbers.specs.Kinds.{isDrum}
 use Rattle.numbers.specs.declared.Refusal.{Refusal}
 use Rattle.numbers.specs.declared.Refusal.the-variants.{OutOfRange, NoJob, NotTheJobs, NotLegal, PacketInUse, ChannelBusy, NothingStartable, NothingInProgress, WrongCompletion, NothingSelected}
-use Rattle.units.specs.State.{unitIn, unitSet}
+use Rattle.units.specs.State.{unitIn, unitSet, markedUnit}
 use Rattle.units.specs.declared.Unit.{Unit as UnitState}
+use Rattle.units.specs.declared.Mark.{Mark as UnitMark}
 use Rattle.channels.specs.declared.Fitted.{Fitted}
 use Rattle.channels.specs.declared.Fitted.the-variants.{Nothing, With}
 use Rattle.packets.specs.declared.Status.{Status}
@@ -25,8 +26,6 @@ use Rattle.packets.specs.declared.Spot.{Spot}
 use Rattle.packets.specs.declared.Spot.the-variants.{OnUnit, OnDrum}
 use Rattle.packets.specs.declared.How.{How}
 use Rattle.packets.specs.declared.How.the-variants.{Full, Cut, Failed}
-use Rattle.packets.specs.declared.Marking.{Marking}
-use Rattle.packets.specs.declared.Marking.the-variants.{Down, Reserved}
 use Rattle.packets.specs.declared.Assignment.{Assignment}
 use Rattle.packets.specs.declared.Leaving.{Leaving}
 use Rattle.packets.specs.declared.Leaving.the-variants.{Stays, AfterNormal, AfterError}
@@ -50,8 +49,8 @@ pub data Call : Type 0 where
   Complete : ℕ → How → Call
   -- the job in a place ends: true in error
   End : ℕ → Bool → Call
-  -- a mark of unit u of channel c is set or cleared
-  Mark : ℕ → ℕ → Marking → Call
+  -- a mark of unit u of channel c, down or reserved, is set (true) or cleared
+  Mark : ℕ → ℕ → UnitMark → Bool → Call
 
 -- the unit, or the address X or L
 abbrev pub atOf : Spot → ℕ
@@ -259,18 +258,14 @@ assigned s j asg =
     }
 
 -- the two marks are independent
-abbrev pub withMark : UnitState → Marking → UnitState
-withMark v (Down b) = record { holder = v .holder; down = b; reserved = v .reserved; interlock = v .interlock }
-withMark v (Reserved b) = record { holder = v .holder; down = v .down; reserved = b; interlock = v .interlock }
-
-abbrev pub marked : State → ℕ → ℕ → Marking → State
-marked s c u m =
+abbrev pub marked : State → ℕ → ℕ → UnitMark → Bool → State
+marked s c u m on =
     record {
       channels = s .channels;
       queue = s .queue;
       moving = s .moving;
       jobs = s .jobs;
-      units = unitSet (s .units) c u (withMark (unitIn (s .units) c u) m);
+      units = unitSet (s .units) c u (markedUnit m on (unitIn (s .units) c u));
     }
 
 -- ---- refused calls: the lowest number answers
@@ -319,7 +314,7 @@ refusal s (End j e) =
     first (not (ltb j 16)) OutOfRange
     (first (not (isRunning (stateIn (s .jobs) j))) NoJob
     Granted)
-refusal s (Mark c u m) =
+refusal s (Mark c u m on) =
     first (not (ltb c 16 && reaches (fittedOn (s .channels) c) (OnUnit (record { 0 = u })))) OutOfRange Granted
 
 -- ---- what an accepted call leaves, and what it answers
@@ -330,7 +325,7 @@ accept s (Submit j p f c w) = submitted s j p f c (atOf w) (toOf w)
 accept s (Start c) = started s c (find (startable s c) (s .queue))
 accept s (Complete c how) = completed s c how (motionOn s c)
 accept s (End j e) = ended s j e
-accept s (Mark c u m) = marked s c u m
+accept s (Mark c u m on) = marked s c u m on
 
 unfoldable pub answer : State → Call → Answer
 answer s (Take j asg) = Done
@@ -338,7 +333,7 @@ answer s (Submit j p f c w) = Done
 answer s (Start c) = begins s (find (startable s c) (s .queue))
 answer s (Complete c how) = completes s c how (motionOn s c)
 answer s (End j e) = Closed (leaving j (closed s j e))
-answer s (Mark c u m) = Done
+answer s (Mark c u m on) = Done
 
 -- ---- a step, a run
 

@@ -187,7 +187,7 @@ accept-seen h s I H t k (End j e) r =
     λ n. seen-calm h s (ended s j e) (t n) n
     (calm-trans h s s₁ (ended s j e) n (calm-sweep h s j always cut inside refl cut-idle n)
     (calm-trans h s₁ s₂ (ended s j e) n (calm-same h s₁ s₂ n (packet-state (restatusAll (s .jobs) j always cut) j (closing e) (h .place) n)) (calm-return h s₂ j n))) (k n)
-accept-seen h s I H t k (Mark c u m) r = k
+accept-seen h s I H t k (Mark c u m on) r = k
 
 -- what is seen from outside to act on the holding does
 pub acts-same : (h : Holding) (s : State) → Inv s → (t : Seen) → SeenOk h s t → (x : Call) → acts h t x (answer s x) ≡ actsNow h s x
@@ -209,7 +209,7 @@ acts-same h s I t k (Complete c how) = go (motionOn s c) refl
         rw (d, x) (k p .1 (motion-busy (packetIn (s .jobs) (h .place) p .status) (rw x at (I .motion c j p e .going)))))
         (λ d. rw d)
 acts-same h s I t k (End j e) = refl
-acts-same h s I t k (Mark c u m) = refl
+acts-same h s I t k (Mark c u m on) = refl
 
 pub acts-refused : (h : Holding) (t : Seen) (x : Call) (n : Refusal) → acts h t x (Refused n) ≡ false
 unfolding acts
@@ -218,7 +218,7 @@ acts-refused h t (Submit j p f c w) n = refl
 acts-refused h t (Start c) n = refl
 acts-refused h t (Complete c how) n = refl
 acts-refused h t (End j e) n = refl
-acts-refused h t (Mark c u m) n = refl
+acts-refused h t (Mark c u m on) n = refl
 
 pub noted-refused : (h : Holding) (t : Seen) (x : Call) (n : Refusal) → noted h t x (Refused n) ≡ t
 unfolding noted
@@ -227,4 +227,4 @@ noted-refused h t (Submit j p f c w) n = refl
 noted-refused h t (Start c) n = refl
 noted-refused h t (Complete c how) n = refl
 noted-refused h t (End j e) n = refl
-noted-refused h t (Mark c u m) n = refl
+noted-refused h t (Mark c u m on) n = refl

@@ -7,15 +7,17 @@ use lib.ListN.{length}
 use lib.Dec.{eqb}
 use borrow.Author.Tests.{eqb-true, eqb-false, eq-eqb}
 use Rattle.units.specs.declared.Unit.{Unit as UnitState}
+use Rattle.units.specs.declared.Mark.{Mark as UnitMark}
+use Rattle.units.specs.declared.Mark.the-variants.{Down, Reserved}
 use Rattle.numbers.specs.Tests.{by-bool}
-use Rattle.units.specs.State.{unitIn, unitSet}
+use Rattle.units.specs.State.{unitIn, unitSet, markedUnit}
 use Rattle.packets.specs.Demand.{Holding, Holds, isThere, there}
 use Rattle.packets.specs.Inv.{Inv, running-alive}
 use Rattle.packets.specs.InvJobs.{held-once, held-taken, take-held}
 use Rattle.packets.specs.InvStores.{idle-inv, sweep-inv}
 use Rattle.packets.specs.Laws.{and-left, and-right, clash, eqb-self, not-true}
 use Rattle.packets.specs.Lone.{Lone, become, breaks, carries, completesAs, ends, endsWith, fails, halts, locks, loneStep, stops}
-use Rattle.packets.specs.Rules.{Complete, End, always, assigned, atUnit, broken, closing, codeFor, cut, ended, failed, finished, isFailure, marked, over, returnIfDone, withMark}
+use Rattle.packets.specs.Rules.{Complete, End, always, assigned, atUnit, broken, closing, codeFor, cut, ended, failed, finished, isFailure, marked, over, returnIfDone}
 use Rattle.packets.specs.Sim.{Sim, movingThere, sim-move, sim-move-away, sim-same, sim-store, sim-store-away, sim-sweep, sim-sweep-away, sim-units, sim-units-away}
 use Rattle.packets.specs.SimStart.{sim-return}
 use Rattle.packets.specs.SimSubmit.{cut-stops, fail-table, holder-alive, is-there, lock-away, lock-here, there-channel, there-unit, unit-held}
@@ -26,8 +28,6 @@ use Rattle.packets.specs.Told.{cut-going, failed-going}
 use Rattle.packets.specs.declared.Assignment.{Assignment}
 use Rattle.packets.specs.declared.How.{How}
 use Rattle.packets.specs.declared.How.the-variants.{Cut, Failed, Full}
-use Rattle.packets.specs.declared.Marking.{Marking}
-use Rattle.packets.specs.declared.Marking.the-variants.{Down, Reserved}
 use Rattle.packets.specs.declared.Motion.the-variants.{Busy, Idle}
 use Rattle.packets.specs.declared.Status.the-variants.{Ended}
 
@@ -173,12 +173,12 @@ sim-assign-away h s I H l S j small empty asg =
     other : eqb (h .place) j ≡ false
     other = by-bool (eqb (h .place) j) (λ e. clash (isEmpty (stateIn (s .jobs) j)) empty (rw (eqb-true (h .place) j e) at (holder-alive h s I H))) (λ e. e)
 
-pub sim-mark : (h : Holding) (s : State) → Inv s → (l : Lone) → Sim h s l → (c u : ℕ) (m : Marking) → Sim h (marked s c u m) l
-sim-mark h s I l S c u m =
-    sim-units-away h s I l S (unitSet (s .units) c u (withMark (unitIn (s .units) c u) m))
+pub sim-mark : (h : Holding) (s : State) → Inv s → (l : Lone) → Sim h s l → (c u : ℕ) (m : UnitMark) (on : Bool) → Sim h (marked s c u m on) l
+sim-mark h s I l S c u m on =
+    sim-units-away h s I l S (unitSet (s .units) c u (markedUnit m on (unitIn (s .units) c u)))
     (by-bool (h .drum) (λ e. rw e)
-    (λ e. rw (e, unit-keep (λ (v : UnitState). v .interlock) (s .units) c u (withMark (unitIn (s .units) c u) m) (h .channel) (h .unit) (mark-lock (unitIn (s .units) c u) m))))
+    (λ e. rw (e, unit-keep (λ (v : UnitState). v .interlock) (s .units) c u (markedUnit m on (unitIn (s .units) c u)) (h .channel) (h .unit) (mark-lock m on (unitIn (s .units) c u)))))
   where
-    mark-lock : (v : UnitState) (m : Marking) → withMark v m .interlock ≡ v .interlock
-    mark-lock v (Down b) = refl
-    mark-lock v (Reserved b) = refl
+    mark-lock : (m : UnitMark) (on : Bool) (v : UnitState) → markedUnit m on v .interlock ≡ v .interlock
+    mark-lock Down on v = refl
+    mark-lock Reserved on v = refl

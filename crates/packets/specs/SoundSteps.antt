@@ -168,7 +168,7 @@ accept-sound s I S (Complete c how) r =
 accept-sound s I S (End j e) r =
     let h = alive-in (s .jobs) j (running-alive (stateIn (s .jobs) j) (ends-of s j e r)) in
     return-sound (closed s j e) (state-sound (sweep s j always cut) (sweep-sound s S j always cut h refl cut-moved cut-listed) j (closing e) (s .units)) j
-accept-sound s I S (Mark c u m) r = units-sound s noPacket S (marked s c u m .units)
+accept-sound s I S (Mark c u m on) r = units-sound s noPacket S (marked s c u m on .units)
 
 step-sound : (s : State) → Inv s → Sound s noPacket → (x : Call) → Sound (step s x .state) noPacket
 unfolding step

@@ -261,7 +261,7 @@ accept-inv s I (Complete c how) r =
     let o = busy-of (motionOn s c) (k .1) in
     rw (o .2) (return-inv (finished s c how (o .0) (o .1)) (finished-inv s I c (k .0) (o .0) (o .1) (o .2) how) (o .0))
 accept-inv s I (End j e) r = return-inv (close (sweep s j always cut) j (closing e)) (ending-inv s I j e (ends-of s j e r)) j
-accept-inv s I (Mark c u m) e = marked-inv s I c u m
+accept-inv s I (Mark c u m on) e = marked-inv s I c u m on
 
 pub decided-inv : (s : State) → Inv s → (x : Call) (n : Verdict) → refusal s x ≡ n → Inv (decided s x n .state)
 decided-inv s I x Granted e = accept-inv s I x e

@@ -89,12 +89,6 @@ pub enum How {
     Failed(u8),
 }
 
-// A mark that is set or cleared.
-pub enum Marking {
-    Down(bool),
-    Reserved(bool),
-}
-
 // What a job is given: unit u of channel c where units[c * 16 + u]; a drum area and core.
 pub struct Assignment {
     pub units: [bool; 256],
@@ -128,7 +122,7 @@ pub enum Answer {
 }
 
 // The answer with the state after the call.
-pub struct Outcome {
+pub struct Acted {
     pub answer: Answer,
     pub lists: Lists,
 }

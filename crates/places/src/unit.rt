@@ -1,7 +1,6 @@
-// Units: reading one, its interlock and marks, and the units that a job is given and returns.
+// Units: reading one, its interlock, and the units that a job is given and returns.
 use numbers::ChannelNumber;
 use numbers::UnitNumber;
-use packets::Marking;
 use units::Holder;
 use units::Unit;
 use units::Units;
@@ -9,7 +8,6 @@ ghost use mathlib.Core.Path.{_≡_};
 ghost use mathlib.Core.Bool.{_&&_};
 ghost use Rattle.units.specs.State.{unitIn, unitSet, unitsFrom, assignable};
 ghost use Rattle.packets.specs.State.{heldBy, setLock, releaseAll, takeAll};
-ghost use Rattle.packets.specs.Rules.{withMark};
 ghost use Rattle.places.specs.Held.{handedTo, wantedIn};
 
 // Unit a of channel c; free and unmarked where the cell has none.
@@ -52,36 +50,6 @@ pub fn with_lock(units: Units, c: ChannelNumber, a: u32, on: bool) -> Units
         interlock: on,
     };
     with_state(units, c, a, state)
-}
-
-// A unit with one mark set or cleared.
-fn marked(unit: Unit, marking: Marking) -> Unit
-    ensures { λ r. ⌜ r ≡ withMark unit marking ⌝ }
-{
-    let holder = unit.holder;
-    match marking {
-        Marking::Down(on) => Unit {
-            holder,
-            down: on,
-            reserved: unit.reserved,
-            interlock: unit.interlock,
-        },
-        Marking::Reserved(on) => Unit {
-            holder,
-            down: unit.down,
-            reserved: on,
-            interlock: unit.interlock,
-        },
-    }
-}
-
-// The units with one mark of unit u of channel c set or cleared.
-pub fn with_mark(units: Units, c: ChannelNumber, u: UnitNumber, marking: Marking) -> Units
-    ensures { λ r. ⌜ r ≡ unitsFrom (unitSet (units .of) (c .0) (u .0) (withMark (unitIn (units .of) (c .0) (u .0)) marking)) ⌝ }
-{
-    let unit = units::unit_at(units, c, u);
-    let state = marked(unit, marking);
-    units::with_unit(units, c, u, state)
 }
 
 // Whether the job in place j holds it.
