@@ -1,43 +1,20 @@
--- The loops of this crate over plain lists: one that fills a list with a function's values, one that looks for an element, one that builds the
+-- The loops of this crate over plain lists: one that looks for an element, one that builds the
 -- occupancy word from its highest bit down, and one that looks for a free place. Assumes nothing.
 use Prim.Native.Nat.{ℕ, suc, _+_, _*_, _-_, _≤_, _<_}
 use mathlib.Core.Path.{_≡_, refl, sym, ap, _∙_}
 use mathlib.Core.Bool.{Bool, true, false, cond}
-use mathlib.Core.List.{List, map}
+use mathlib.Core.List.{List}
 use mathlib.Core.Logic.{⊎-elim}
 use native.Mathlib.Nat.{pow-le-pow-right, eq-or-lt-of-le}
 use native.Mathlib.Numerals.{add-one}
 use native.Mathlib.Omega.{arith}
-use lib.ListN.{length, getD, set, drop, length-set, length-map, List·getD-map, drop-of-length-le}
-use lib.Seq.{drop-cons, ext-getD}
-use Rattle.numbers.specs.Stores.{stored}
+use lib.ListN.{length, getD, drop, drop-of-length-le}
+use lib.Seq.{drop-cons}
 use Rattle.packets.specs.Picks.{any}
 use Rattle.packets.specs.State.{isEmpty, stateIn}
 use Rattle.packets.specs.declared.Job.{Job}
 use Rattle.room.specs.Taken.{wordFrom}
 use Rattle.room.specs.TakenLaws.{word-below}
-
-module _ {A B : Type 0} (f : A → B) (y : A) (l : List A) where
-  -- the first i of 16 are filled
-  pub record Filled (out : List B) (i : ℕ) : Type 0 where
-    pub high : i ≤ 16
-    pub source : length l ≡ 16
-    pub wide : length out ≡ 16
-    pub each : (d : ℕ) → d < i → getD out d (f y) ≡ f (getD l d y)
-
-  pub fill-turn : {out : List B} {i : ℕ} (v : B) → Filled out i → i < 16 → v ≡ f (getD l i y) → Filled (set out i v) (i + 1)
-  fill-turn {out} {i} v k h e =
-      record {
-        high = omega arith;
-        source = k .source;
-        wide = length-set out i v ∙ k .wide;
-        each = stored (λ (d : ℕ) (x : B). x ≡ f (getD l d y)) out i 16 v (f y) (k .wide) h (k .each) e;
-      }
-
-  pub fill-end : {out : List B} {i : ℕ} → Filled out i → 16 ≤ i → out ≡ map f l
-  fill-end {out} {i} k h =
-      ext-getD (f y) out (map f l) (k .wide ∙ sym (length-map l f ∙ k .source))
-      λ d q. k .each d (omega (arith, k .wide, k .high)) ∙ sym (List·getD-map f l d y)
 
 module _ {A : Type 0} (f : A → Bool) (y : A) (l : List A) where
   -- what has been passed does not pass the test

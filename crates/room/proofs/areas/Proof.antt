@@ -1,15 +1,17 @@
 -- `room::areas` meets its contract. The loop's invariant stands first; the lemmas of its turns are in this folder's other files. Assumes nothing.
 use Prim.Native.Nat.{_-_}
+use mathlib.Core.Path.{refl}
 use native.Mathlib.Omega.{arith}
+use Rattle.drum.specs.Drum.{noArea}
 use Rattle.packets.specs.State.{noJob}
 use Rattle.room.specs.Taken.{areaOf}
-use Rattle.room.proofs.Loops.{Filled, fill-turn, fill-end}
+use Rattle.room.specs.Filling.{Filled, fill-turn, fill-end}
 use borrow.Author.Needs.{needs}
 use Rattle.room.proofs.areas.Statement.{statement}
 use Rattle.room.proofs.areas.Tie as tie
 
 abbrev Inv-loop : tie.InvT-loop
-Inv-loop jobs next₀ i₀ next i = Filled areaOf noJob jobs next i
+Inv-loop jobs next₀ i₀ next i = Filled areaOf noJob noArea jobs 16 next i
 
 abbrev μ-loop : tie.MeasureT-loop
 μ-loop jobs next₀ i₀ next i = 16 - i
@@ -39,10 +41,10 @@ loop-less : tie.Need-loop-less Inv-loop μ-loop
 loop-less c = omega arith
 
 loop-again : tie.Need-loop-again Inv-loop μ-loop
-loop-again c = fill-turn areaOf noJob (c .before .before .before .before .args .t1) (c .area-of .result) (c .before .before .before .loop .inv) (omega arith) (c .area-of .ensures)
+loop-again c = fill-turn areaOf noJob noArea (c .before .before .before .before .args .t1) 16 (c .area-of .result) (c .before .before .before .loop .inv) (omega arith) (c .area-of .ensures)
 
 returns : tie.Need-returns Inv-loop μ-loop
-returns c = fill-end areaOf noJob (c .before .before .args .t1) (c .before .loop .inv) (omega arith)
+returns c = fill-end areaOf noJob noArea (c .before .before .args .t1) 16 refl (c .before .loop .inv) (omega arith)
 
 pub areas-spec : {M : Type 1} → statement M
 areas-spec =
