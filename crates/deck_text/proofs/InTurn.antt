@@ -20,8 +20,9 @@ use Rattle.held.specs.Held.{held, scheduleOf}
 use Rattle.held.specs.declared.Schedule.{Schedule}
 use Rattle.numbers.specs.declared.Refusal.{Refusal}
 use Rattle.numbers.specs.declared.Outcome.the-variants as Outcomes
-use Rattle.deck_text.specs.Report.{scheduleText, begin, errorsFrom, endFrom, lastLine, closingText, reportText, refusedText, deckGroups, deckText, textBy, notesText, notesBy, scheduleBy, outcomeBy}
-use Rattle.deck_text.proofs.Pieces.{end-within}
+use Rattle.deck_text.specs.Report.{scheduleText, begin, errorsFrom, endFrom, lastLine, closingText, reportText, refusedText, deckGroups, deckText, textBy, notesText, notesBy, scheduleBy, outcomeBy, deckNotes, deckSchedule, deckOutcome}
+use Rattle.deck_text.proofs.Few.{ends}
+use Rattle.deck_text.proofs.Bounds.{deck-notes-short, entire}
 use Rattle.deck_text.specs.Reading.{Read, ReadAll, Noted, DeckEntered}
 use Rattle.deck_text.specs.declared.Progress.{Progress}
 use Rattle.deck_text.specs.declared.Step.{Step}
@@ -125,7 +126,7 @@ noted {room} {out} {after·} {first = first} {step = step} {at = at} gs f d c = 
 -- the text of a deck, and what entering it leaves, by where it ends
 module _ (s : List ℕ) {end : DeckEnd} (is : end ≡ deckEnd s) where
   pub part-long : (n : ℕ) → end ≡ At n → n ≡ length (take n s)
-  part-long n e = sym (length-take-le n s (end-within s n (sym is ∙ e)))
+  part-long n e = sym (length-take-le n s (omega (arith, ends s n (sym is ∙ e) .within)))
 
   groups-are : (n : ℕ) → end ≡ At n → groupsOf (cardsOf (take n s)) ≡ deckGroups s
   groups-are n e = ap groupsOf (deck-cards s n (sym is ∙ e))
@@ -136,20 +137,21 @@ module _ (s : List ℕ) {end : DeckEnd} (is : end ≡ deckEnd s) where
   pub refused-text : (refusal : Refusal) → end ≡ Refused refusal → refusedText refusal ≡ deckText s
   refused-text refusal e = ap (λ (x : DeckEnd). textBy x s) (sym (sym is ∙ e))
 
+  entered : {schedule : Schedule} {room after· : List ℕ} {r : Entered} → r .outcome ≡ deckOutcome s → r .schedule ≡ deckSchedule schedule s → Written room 0 (deckNotes schedule s) after· (r .at) → DeckEntered schedule s room after· r
+  entered {schedule} o t w = record { outcome = o; then = t; text = w; whole = λ h. entire w (omega (arith, deck-notes-short schedule s)) }
+
   pub good-entered : (n : ℕ) → end ≡ At n → {schedule : Schedule} {room after· : List ℕ} {r : Entered} → Noted room schedule (groupsOf (cardsOf (take n s))) after· r → DeckEntered schedule s room after· r
   good-entered n e {schedule} {room} {after·} {r} d =
       let q : deckEnd s ≡ At n = sym is ∙ e in
-      record {
-        outcome = d .done ∙ ap outcomeBy (sym q);
-        then = d .then ∙ ap (λ (gs : List (List (List ℕ))). endFrom (begin schedule) gs .schedule) (groups-are n e) ∙ ap (λ (x : DeckEnd). scheduleBy x schedule s) (sym q);
-        text = subst (λ (p : List ℕ). Written room 0 p after· (r .at)) (ap (notesText schedule) (groups-are n e) ∙ ap (λ (x : DeckEnd). notesBy x schedule s) (sym q)) (d .text);
-      }
+      entered
+      (d .done ∙ ap outcomeBy (sym q))
+      (d .then ∙ ap (λ (gs : List (List (List ℕ))). endFrom (begin schedule) gs .schedule) (groups-are n e) ∙ ap (λ (x : DeckEnd). scheduleBy x schedule s) (sym q))
+      (subst (λ (p : List ℕ). Written room 0 p after· (r .at)) (ap (notesText schedule) (groups-are n e) ∙ ap (λ (x : DeckEnd). notesBy x schedule s) (sym q)) (d .text))
 
   pub refused-entered : (refusal : Refusal) → end ≡ Refused refusal → (schedule : Schedule) (room : List ℕ) → DeckEntered schedule s room room (record { outcome = Outcomes.Refused refusal; schedule = schedule; at = 0 })
   refused-entered refusal e schedule room =
       let q : deckEnd s ≡ Refused refusal = sym is ∙ e in
-      record {
-        outcome = ap outcomeBy (sym q);
-        then = ap (λ (x : DeckEnd). scheduleBy x schedule s) (sym q);
-        text = subst (λ (p : List ℕ). Written room 0 p room 0) (ap (λ (x : DeckEnd). notesBy x schedule s) (sym q)) (none room 0);
-      }
+      entered
+      (ap outcomeBy (sym q))
+      (ap (λ (x : DeckEnd). scheduleBy x schedule s) (sym q))
+      (subst (λ (p : List ℕ). Written room 0 p room 0) (ap (λ (x : DeckEnd). notesBy x schedule s) (sym q)) (none room 0))

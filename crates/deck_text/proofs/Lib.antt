@@ -1,2 +1,4 @@
-pub mod InTurn
+pub mod Few
 pub mod Pieces
+pub mod InTurn
+pub mod Bounds

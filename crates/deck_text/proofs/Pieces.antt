@@ -1,24 +1,20 @@
--- The lines of the schedule, one group's answer, the ID shown, and the part of a deck before its termination card. Assumes nothing.
-use Prim.Native.Nat.{ℕ, suc, _+_, _≤_, _<_}
+-- The lines of the schedule, one group's answer, and the ID shown. Assumes nothing.
+use Prim.Native.Nat.{ℕ, _+_, _≤_, _<_}
 use mathlib.Core.Path.{_≡_, refl, sym, ap, subst, _∙_}
-use mathlib.Core.Bool.{Bool, true, false, cond, _&&_}
-use mathlib.Core.List.{List, [], _∷_, _++_}
+use mathlib.Core.Bool.{Bool, true, false}
+use mathlib.Core.List.{List, [], _++_}
 use native.Mathlib.Numerals.{add-one}
 use native.Mathlib.Omega.{arith}
-use lib.Dec.{eqb, leb}
 use lib.ListN.{length, getD, take, drop, drop-of-length-le}
 use lib.Seq.{drop-cons}
 use borrow.Author.Tests.{le-leb, lt-leb}
-use Rattle.numbers.specs.Tests.{by-bool, never}
-use Rattle.numbers.specs.declared.Refusal.the-variants.{BadDeck}
+use Rattle.numbers.specs.Tests.{never}
 use Rattle.text.specs.Room.{Written}
 use Rattle.text.specs.Class.{isAlnum}
 use Rattle.words.specs.Words.{every}
 use Rattle.fields.specs.Fields.{field, isPty, padded, fieldOf}
 use Rattle.fields.specs.FieldLaws.{whole}
-use Rattle.fields.specs.Deck.{cardsOf, size, before, isTermination, terminated, ontoLine, deckEnd}
 use Rattle.fields.specs.declared.Field.{Field}
-use Rattle.fields.specs.declared.DeckEnd.the-variants.{At, Refused}
 use Rattle.cards.specs.Errors.{good}
 use Rattle.cards.specs.ErrorLaws.{good-is}
 use Rattle.cards.specs.Group.{readGroup}
@@ -101,33 +97,3 @@ module _ (card shown : List ℕ) {b : Bool} (a : b ≡ isPty card) where
         pub shown-formed : t ≡ true → {r : List ℕ} → r ≡ padded 6 (field card 0) → r ≡ shownBy card shown
         unfolding shownBy
         shown-formed q m = m ∙ rw (sym a ∙ e, le-leb 1 (length (field card 0)) (omega (arith, long)), le-leb (length (field card 0)) 6 (omega (arith, long)), name-is ∙ q)
-
--- the cards of a deck take no more bytes than it has, and the termination card stands among them
-size-cards : (s : List ℕ) → size (cardsOf s) ≤ length s
-size-cards [] = omega arith
-size-cards (b ∷ s) = by (eqb b 10) (size-cards s)
-  where
-    onto : (cs : List (List ℕ)) → size (ontoLine b cs) ≤ suc (size cs)
-    onto [] = omega arith
-    onto (c ∷ cs) = omega arith
-
-    by : (x : Bool) → size (cardsOf s) ≤ length s → size (cond x ([] ∷ cardsOf s) (ontoLine b (cardsOf s))) ≤ suc (length s)
-    by true h = omega arith
-    by false h = omega (arith, onto (cardsOf s))
-
-size-before : (cs : List (List ℕ)) → size (before cs) ≤ size cs
-size-before [] = omega arith
-size-before (c ∷ cs) = by (isTermination c) (size-before cs)
-  where
-    by : (x : Bool) → size (before cs) ≤ size cs → size (cond x [] (c ∷ before cs)) ≤ length c + 1 + size cs
-    by true h = omega arith
-    by false h = omega arith
-
-pub end-within : (s : List ℕ) (n : ℕ) → deckEnd s ≡ At n → n ≤ length s
-unfolding deckEnd
-end-within s n e =
-    by-bool (leb (length s) 16384 && terminated (cardsOf s))
-    (λ t. let i : At (size (before (cardsOf s))) ≡ At n = rw t at e in
-    let k : size (before (cardsOf s)) ≡ n = cc in
-    omega (arith, size-before (cardsOf s), size-cards s))
-    (λ t. let i : Refused BadDeck ≡ At n = rw t at e in let z : _≡_ {A = ℕ} 0 1 = cc in absurd (omega arith))

@@ -11,7 +11,6 @@ use lib.Seq.{take-all, length-take-le}
 use borrow.Author.Tests.{lt-leb}
 use Rattle.numbers.specs.declared.Refusal.the-variants.{BadDeck}
 use Rattle.fields.specs.Deck.{deckEnd}
-use Rattle.fields.specs.declared.DeckEnd.the-variants.{Refused}
 use Rattle.deck_text.specs.Report.{refusedText, deckText}
 
 -- a deck of over 16,384 bytes is refused

@@ -19,8 +19,8 @@ ghost use mathlib.Core.Path.{_≡_};
 ghost use Rattle.text.specs.Room.{Written};
 ghost use Rattle.fields.specs.Deck.{cardsOf, groupsOf};
 ghost use Rattle.held.specs.Held.{held};
-ghost use Rattle.deck_text.specs.Report.{shownBy, errorLine, requestLine, scheduleText, lastLine, lineBy, lastBy, tried, begin, reportText, refusedText, deckText};
-ghost use Rattle.deck_text.specs.Reading.{Read, ReadAll, Noted, DeckEntered};
+ghost use Rattle.deck_text.specs.Report.{shownBy, errorLine, requestLine, scheduleText, lastLine, lineBy, lastBy, tried, begin, reportText, refusedText};
+ghost use Rattle.deck_text.specs.Reading.{Read, ReadAll, Noted, Reported, DeckEntered};
 
 // What has been read so far: the schedule, the ID that an error line shows, and the last good one.
 pub struct Progress {
@@ -236,9 +236,9 @@ fn put_refused(out: &mut [u8], refusal: Refusal) -> usize
     text::put_byte(out, number, b'\n')
 }
 
-// Puts what the deck program prints into lent room and answers its length; a room that is too small gets what fits.
+// Puts what the deck program prints into lent room and answers its length. 53,248 bytes are enough; a smaller room gets what fits.
 pub fn report(deck: &[u8], out: &mut [u8]) -> usize
-    ensures { λ r. ⌜ Written (now (out .entry)) 0 (deckText (now (deck .entry))) (now (out .exit)) r ⌝ }
+    ensures { λ r. ⌜ Reported (now (deck .entry)) (now (out .entry)) (now (out .exit)) r ⌝ }
 {
     let end = deck::deck_end(deck);
     match end {
@@ -247,8 +247,8 @@ pub fn report(deck: &[u8], out: &mut [u8]) -> usize
     }
 }
 
-// Reads a deck into a schedule and puts its error lines and the last line into lent room; a room that is too small gets what fits. A refused deck
-// leaves the schedule and the room as they were.
+// Reads a deck into a schedule and puts its error lines and the last line into lent room. 53,248 bytes are enough; a smaller room gets what fits. A
+// refused deck leaves the schedule and the room as they were.
 pub fn enter_deck(schedule: Schedule, deck: &[u8], out: &mut [u8]) -> Entered
     ensures { λ r. ⌜ DeckEntered schedule (now (deck .entry)) (now (out .entry)) (now (out .exit)) r ⌝ }
 {

@@ -40,6 +40,9 @@ each-out P k [] h = h
 each-out P zero (e ∷ es) h = h .1
 each-out P (suc k) (e ∷ es) h = (h .0, each-out P k es (h .1))
 
+pub each-without : (P : Request → Type 0) (k : ℕ) (es : List Entry) → Each P (requests es) → Each P (requests (without k es))
+each-without P k es h = rw (out-is k es) (each-out P k es h)
+
 pairs-out : (R : Request → Request → Type 0) (k : ℕ) (es : List Entry) → Pairs R (requests es) → Pairs R (requests (out k es))
 unfolding out
 pairs-out R k [] h = h
@@ -92,6 +95,9 @@ each-into P x (e ∷ es) p h = by (precedes (keyOf (e .request)) (keyOf (x .requ
     by : (b : Bool) → Each P (requests (into x es)) → Each P (requests (cond b (e ∷ into x es) (x ∷ e ∷ es)))
     by true ih = (h .0, ih)
     by false ih = (p, h)
+
+pub each-inserted : (P : Request → Type 0) (x : Entry) (es : List Entry) → P (x .request) → Each P (requests es) → Each P (requests (inserted x es))
+each-inserted P x es p h = rw (into-is x es) (each-into P x es p h)
 
 each-on : (P Q : Request → Type 0) → ((r : Request) → P r → Q r) → (rs : List Request) → Each P rs → Each Q rs
 each-on P Q f [] h = tt

@@ -23,14 +23,18 @@ use Rattle.held.specs.Held.{most, held, scheduleOf, any, there, entryAt, withou
 use Rattle.held.specs.HeldLaws.{Holds, holds-held, holds-again}
 use Rattle.held.specs.declared.Schedule.{Schedule}
 use Rattle.schedule.specs.Calls.{ofName, ofJob, barred, sameThere, clashError, enterError, entered, enteringBy, entering, releasedAt, deletedAt, returnedAt}
-use Rattle.orderly.specs.Orderly.{Call, after, afterAll, Orderly, Sound}
-use Rattle.orderly.specs.ListLaws.{orderly-out, orderly-state, orderly-into, none-same, none-named}
+use Rattle.orderly.specs.Orderly.{Call, after, afterAll, Each, requests, Orderly, Sound}
+use Rattle.orderly.specs.ListLaws.{each-without, each-inserted, orderly-out, orderly-state, orderly-into, none-same, none-named}
 
 -- the one value that holds orderly entries
 sound-of : (es : List Entry) → Orderly es → Sound (scheduleOf es)
 sound-of es o =
     let h : Holds (scheduleOf es) es = record { is = refl; few = o .few } in
     record { whole = holds-again h; orderly = subst (λ (l : List Entry). Orderly l) (sym (holds-held h)) o }
+
+-- what it then holds
+held-of : (es : List Entry) → Orderly es → held (scheduleOf es) ≡ es
+held-of es o = holds-held (record { is = refl; few = o .few })
 
 sound-either : (b : Bool) {s t : Schedule} → (b ≡ true → Sound s) → (b ≡ false → Sound t) → Sound (cond b s t)
 sound-either true f g = f refl
@@ -79,20 +83,29 @@ module _ (s : Schedule) (d : Sound s) where
       by false false true e = not-good e
       by false false false e = (refl, refl)
 
-  sound-entered : (r : Request) → enterError (ofName (r .id) (held s)) (held s) r ≡ Good → Sound (scheduleOf (entered (ofName (r .id) (held s)) (held s) r))
+  orderly-entered : (r : Request) → enterError (ofName (r .id) (held s)) (held s) r ≡ Good → Orderly (entered (ofName (r .id) (held s)) (held s) r)
   unfolding enterError
-  sound-entered r e =
+  orderly-entered r e =
       let k = ofName (r .id) (held s) in
       let c = clear (without k (held s)) r (or-else-none (errorIf (barred k (held s)) InSchedule) (clashError (without k (held s)) r) e .1) in
-      sound-of _
-      (orderly-into (record { request = r; state = firstState r }) (without k (held s)) (none-named r (held s) (d .orderly .names)) (none-same r (without k (held s)) (c .0)) (leb-false most (length (without k (held s))) (c .1)) (orderly-out k (held s) (d .orderly)))
+      orderly-into (record { request = r; state = firstState r }) (without k (held s)) (none-named r (held s) (d .orderly .names)) (none-same r (without k (held s)) (c .0)) (leb-false most (length (without k (held s))) (c .1)) (orderly-out k (held s) (d .orderly))
 
   sound-entering : (r : Request) (v : Verdict) → enterError (ofName (r .id) (held s)) (held s) r ≡ v → Sound (enteringBy v (ofName (r .id) (held s)) s r .schedule)
-  sound-entering r Good e = sound-entered r e
+  sound-entering r Good e = sound-of _ (orderly-entered r e)
   sound-entering r (Wrong x) e = d
 
   pub sound-enter : (r : Request) → Sound (entering s r .schedule)
   sound-enter r = sound-entering r (enterError (ofName (r .id) (held s)) (held s) r) refl
+
+  -- what holds of each request, and of the one that is to enter, holds of each then
+  pub each-enter : (P : Request → Type 0) (r : Request) → P r → Each P (requests (held s)) → Each P (requests (held (entering s r .schedule)))
+  each-enter P r p h = by (enterError (ofName (r .id) (held s)) (held s) r) refl
+    where
+      by : (v : Verdict) → enterError (ofName (r .id) (held s)) (held s) r ≡ v → Each P (requests (held (enteringBy v (ofName (r .id) (held s)) s r .schedule)))
+      by Good e =
+          subst (λ (l : List Entry). Each P (requests l)) (sym (held-of _ (orderly-entered r e)))
+          (each-inserted P (record { request = r; state = firstState r }) (without (ofName (r .id) (held s)) (held s)) p (each-without P (ofName (r .id) (held s)) (held s) h))
+      by (Wrong x) e = h
 
   -- after each call
   pub sound-after : (c : Call) → Sound (after s c)

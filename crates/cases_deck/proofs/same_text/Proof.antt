@@ -35,7 +35,7 @@ array-share-prefix-room : tie.Need-array-share-prefix-room
 array-share-prefix-room c = search needs
 
 slice-aggregate-same : tie.Need-slice-aggregate-same
-slice-aggregate-same c = written-length (c .before .before .report .ensures)
+slice-aggregate-same c = written-length (c .before .before .report .ensures .text)
 
 array-share-prefix-wanted : tie.Need-array-share-prefix-wanted
 array-share-prefix-wanted c = search needs

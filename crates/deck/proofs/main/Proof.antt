@@ -32,7 +32,7 @@ array-share-prefix-room : tie.Need-array-share-prefix-room
 array-share-prefix-room c = search needs
 
 slice-aggregate-write-all : tie.Need-slice-aggregate-write-all
-slice-aggregate-write-all c = written-length (c .before .before .report .ensures)
+slice-aggregate-write-all c = written-length (c .before .before .report .ensures .text)
 
 write-all-requires : tie.Need-write-all-requires
 write-all-requires c κs = search needs

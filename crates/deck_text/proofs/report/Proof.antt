@@ -1,5 +1,6 @@
 -- `deck_text::report` meets its contract. Assumes nothing.
 use Rattle.deck_text.proofs.InTurn.{part-long, good-text, refused-text}
+use Rattle.deck_text.proofs.Bounds.{reported}
 use borrow.Author.Needs.{needs}
 use Rattle.deck_text.proofs.report.Statement.{statement}
 use Rattle.deck_text.proofs.report.Tie as tie
@@ -26,13 +27,13 @@ same-length : tie.Need-same-length
 same-length c = search needs
 
 returns : tie.Need-returns
-returns c = rw (good-text (c .before .before .before .before .before .before .before .before .before .before .before .args .deck .now) (c .before .before .before .before .before .before .before .before .deck-end .ensures) (c .before .before .before .before .before .before .end .given .0 .0) (c .before .before .before .before .before .before .end .given .1)) at (c .before .before .put-report .ensures)
+returns c = reported (c .before .before .before .before .before .before .before .before .before .before .before .args .deck .now) (rw (good-text (c .before .before .before .before .before .before .before .before .before .before .before .args .deck .now) (c .before .before .before .before .before .before .before .before .deck-end .ensures) (c .before .before .before .before .before .before .end .given .0 .0) (c .before .before .before .before .before .before .end .given .1)) at (c .before .before .put-report .ensures))
 
 same-length-2 : tie.Need-same-length-2
 same-length-2 c = search needs
 
 returns-2 : tie.Need-returns-2
-returns-2 c = rw (refused-text (c .before .before .before .before .before .before .before .before .before .before .args .deck .now) (c .before .before .before .before .before .before .before .deck-end .ensures) (c .before .before .before .before .before .end2 .given .0 .0) (c .before .before .before .before .before .end2 .given .1)) at (c .before .before .put-refused .ensures)
+returns-2 c = reported (c .before .before .before .before .before .before .before .before .before .before .args .deck .now) (rw (refused-text (c .before .before .before .before .before .before .before .before .before .before .args .deck .now) (c .before .before .before .before .before .before .before .deck-end .ensures) (c .before .before .before .before .before .end2 .given .0 .0) (c .before .before .before .before .before .end2 .given .1)) at (c .before .before .put-refused .ensures))
 
 pub report-spec : {M : Type 1} → statement M
 report-spec =
