@@ -28,3 +28,4 @@ pub mod ApartProof
 pub mod Codes
 pub mod CodesProof
 pub mod MarkLaws
+pub mod EndsMoving
