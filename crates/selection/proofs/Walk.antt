@@ -1,20 +1,19 @@
 -- The walk over the candidates, and what an assignment's core says of its starts. Assumes nothing.
-use Prim.Native.Nat.{ℕ, zero, suc, _+_, _-_, _≤_, _<_}
-use mathlib.Core.Path.{_≡_, refl, sym, ap, subst, _∙_}
+use Prim.Native.Nat.{ℕ, _+_, _≤_, _<_}
+use mathlib.Core.Path.{_≡_, refl, sym, ap, subst}
 use mathlib.Core.Bool.{Bool, true, false}
-use mathlib.Core.List.{List, [], _∷_}
+use mathlib.Core.List.{List}
 use mathlib.Core.Logic.{inl, inr}
-use native.Mathlib.Nat.{le-of-suc-le-suc}
 use native.Mathlib.Omega.{arith}
 use lib.Dec.{eqb, ltb}
-use lib.ListN.{length, getD, drop, length-drop}
-use lib.Seq.{getD-drop}
+use lib.ListN.{length}
 use borrow.Author.Tests.{eqb-false, eqb-true, ltb-false, ltb-true}
 use Rattle.numbers.specs.Tests.{by-bool, never}
 use Rattle.entries.specs.Entries.{blank}
 use Rattle.entries.specs.declared.Entry.{Entry}
 use Rattle.held.specs.Held.{entryAt, first}
 use Rattle.schedule.specs.Candidates.{candidate, nextCandidate}
+use Rattle.schedule.specs.CandidateLaws.{stands, none-before}
 use Rattle.facilities.specs.Assignment.{Cell}
 use Rattle.facilities.specs.Chosen.{Answer, Assigns, NoAssignment}
 use Rattle.facilities.specs.declared.Assigned.{Assigned}
@@ -25,39 +24,6 @@ use Rattle.selection.specs.Selecting.{Candidate, FirstFit, HasNone, NoFi
 use Rattle.selection.specs.declared.Pick.{Pick}
 use Rattle.selection.specs.declared.Selection.{Selection}
 
--- the first that passes a test passes it, and none before it does
-module _ (p : Entry → Bool) where
-  hit : (es : List Entry) → first p es < length es → p (getD es (first p es) blank) ≡ true
-  hit [] h = absurd (omega arith)
-  hit (e ∷ es) h = by-bool (p e) (λ t. rw t t) (λ t. rw t (hit es (let k : suc (first p es) < suc (length es) = rw t at h in le-of-suc-le-suc k)))
-
-  missed : (es : List Entry) (i : ℕ) → i < first p es → p (getD es i blank) ≡ false
-  missed [] i h = absurd (omega arith)
-  missed (e ∷ es) zero h = by-bool (p e) (λ t. let k : 0 < 0 = rw t at h in absurd (omega arith)) (λ t. t)
-  missed (e ∷ es) (suc i) h =
-      by-bool (p e) (λ t. let k : suc i < 0 = rw t at h in absurd (omega arith))
-      (λ t. missed es i (let k : suc i < suc (first p es) = rw t at h in le-of-suc-le-suc k))
-
--- the next candidate from a place on is one, and none between is
-module _ (es : List Entry) (from : ℕ) where
-  pub next-is : nextCandidate es from < length es → candidate es (entryAt es (nextCandidate es from)) ≡ true
-  unfolding nextCandidate
-  next-is h =
-      ap (λ (e : Entry). candidate es e) (sym (getD-drop from es (first (candidate es) (drop from es)) blank))
-      ∙ hit (candidate es) (drop from es) (omega (arith, length-drop from es))
-
-  pub next-none : (i : ℕ) → from ≤ i → i < nextCandidate es from → candidate es (entryAt es i) ≡ true → ⊥
-  unfolding nextCandidate
-  next-none i l h e =
-      never e
-      (ap (λ (k : ℕ). candidate es (entryAt es k)) (let z : i ≡ from + (i - from) = omega arith in z)
-      ∙ ap (λ (e : Entry). candidate es e) (sym (getD-drop from es (i - from) blank))
-      ∙ missed (candidate es) (drop from es) (i - from) (omega arith))
-
-  pub next-from : from ≤ nextCandidate es from
-  unfolding nextCandidate
-  next-from = omega arith
-
 -- the candidates before k have no assignment, and k is the place of one unless it is past the last
 pub record Walked (es : List Entry) (cell : Cell) (k : ℕ) : Type 0 where
   pub passed : (i : ℕ) → i < k → Candidate es i → HasNone cell (entryAt es i .request)
@@ -67,8 +33,8 @@ module _ {es : List Entry} {cell : Cell} where
   pub walk-start : {k : ℕ} → k ≡ nextCandidate es 0 → Walked es cell k
   walk-start {k} e =
       record {
-        passed = λ i h c b a. next-none es 0 i (omega arith) (rw e at h) (c .1);
-        stop = λ h. rw e (next-is es 0 (rw e at h));
+        passed = λ i h c b a. never (c .1) (none-before es 0 i (omega arith) (rw e at h));
+        stop = λ h. rw e (stands es 0 (rw e at h));
       }
 
   pub walk-found : {k : ℕ} {entry : Entry} (a : Assigned) → Walked es cell k → k < length es → entry ≡ entryAt es k → a .found ≡ true
@@ -87,8 +53,8 @@ module _ {es : List Entry} {cell : Cell} where
       record {
         passed = λ i l c. by-bool (ltb i k) (λ t. w .passed i (ltb-true i k t) c)
             (λ t. by-bool (eqb i k) (λ q. rw (eqb-true i k q, sym e) (none .never))
-            (λ q. absurd (next-none es (k + 1) i (past i (ltb-false i k t) (eqb-false i k q)) (rw n at l) (c .1))));
-        stop = λ l. rw n (next-is es (k + 1) (rw n at l));
+            (λ q. λ b a. never (c .1) (none-before es (k + 1) i (past i (ltb-false i k t) (eqb-false i k q)) (rw n at l))));
+        stop = λ l. rw n (stands es (k + 1) (rw n at l));
       }
     where
       past : (i : ℕ) → k ≤ i → (i ≡ k → ⊥) → k + 1 ≤ i

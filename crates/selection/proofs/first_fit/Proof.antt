@@ -3,8 +3,9 @@ use Prim.Native.Nat.{_+_, _-_}
 use mathlib.Core.Path.{refl}
 use native.Mathlib.Omega.{arith}
 use Rattle.held.specs.Held.{held}
+use Rattle.schedule.specs.CandidateLaws.{not-before}
 use Rattle.facilities.specs.Assignment.{cellOf}
-use Rattle.selection.proofs.Walk.{Walked, next-from, walk-start, walk-found, walk-turn, walk-end}
+use Rattle.selection.proofs.Walk.{Walked, walk-start, walk-found, walk-turn, walk-end}
 use borrow.Author.Needs.{needs}
 use Rattle.selection.proofs.first_fit.Statement.{statement}
 use Rattle.selection.proofs.first_fit.Tie as tie
@@ -40,7 +41,7 @@ next-candidate-requires-2 : tie.Need-next-candidate-requires-2 Inv-loop μ-loop
 next-candidate-requires-2 c κs = search needs
 
 loop-less : tie.Need-loop-less Inv-loop μ-loop
-loop-less c = omega (arith, c .next-candidate2 .ensures, next-from (held (c .before .before .before .before .before .before .before .before .before .args .schedule)) (c .before .before .before .before .before .before .loop .k + 1))
+loop-less c = omega (arith, c .next-candidate2 .ensures, not-before (held (c .before .before .before .before .before .before .before .before .before .args .schedule)) (c .before .before .before .before .before .before .loop .k + 1))
 
 loop-again : tie.Need-loop-again Inv-loop μ-loop
 loop-again c = walk-turn (c .before .before .assign .result) (c .before .before .before .before .before .before .loop .inv) (omega (arith, c .before .before .before .before .before .before .before .before .size .ensures)) (c .before .before .before .before .entry-at .ensures) (c .before .if1 .left) (c .before .before .assign .ensures) (c .next-candidate2 .ensures)
