@@ -1,0 +1,116 @@
+-- Every call on the cell: what it answers, and what schedule and lists then hold. A reader has to believe this page; it puts together the pages of the
+-- schedule's calls, of selection and of the request lists.
+use Prim.Native.Nat.{ℕ}
+use mathlib.Core.Path.{_≡_}
+use mathlib.Core.Bool.{Bool, true, false, cond, _&&_}
+use mathlib.Core.List.{List, []}
+use lib.Dec.{ltb}
+use Rattle.numbers.specs.declared.Outcome.{Outcome}
+use Rattle.numbers.specs.declared.Outcome.the-variants as Outcomes
+use Rattle.numbers.specs.declared.Refusal.the-variants.{NothingSelected, OutOfRange}
+use Rattle.channels.specs.declared.Configuration.{Configuration}
+use Rattle.cell_units.specs.Fresh.{freshUnits}
+use Rattle.held.specs.Held.{scheduleOf}
+use Rattle.held.specs.declared.Schedule.{Schedule}
+use Rattle.schedule.specs.Calls.{closing, deleted, released, returned}
+use Rattle.schedule.specs.declared.Changed.{Changed}
+use Rattle.deck_text.specs.Reading.{DeckEntered}
+use Rattle.packets.specs.Demand.{fresh}
+use Rattle.packets.specs.Rules.{Call, Complete, End, Mark, Start, Submit, Take}
+use Rattle.packets.specs.State.{packetIn}
+use Rattle.packets.specs.declared.Answer.{Answer}
+use Rattle.packets.specs.declared.Answer.the-variants.{Closed, Completed, Done, Refused, Started}
+use Rattle.packets.specs.declared.Leaving.{Leaving}
+use Rattle.packets.specs.declared.Leaving.the-variants.{AfterError, AfterNormal, Stays}
+use Rattle.packets.specs.declared.Lists.{Lists}
+use Rattle.lists.specs.Outcomes.{listsOf, outcome}
+use Rattle.selection.specs.Selecting.{Takes}
+use Rattle.cell.specs.declared.Answered.{Answered}
+use Rattle.cell.specs.declared.Cell.{Cell}
+use Rattle.cell.specs.declared.DeckAnswer.{DeckAnswer}
+use Rattle.cell.specs.declared.SelectAnswer.{SelectAnswer}
+use Rattle.cell.specs.declared.StatusAnswer.{StatusAnswer}
+use Rattle.cell.specs.declared.StatusAnswer.the-variants as StatusAnswers
+
+abbrev pub cellOf : Schedule → Lists → Cell
+cellOf schedule lists = record { schedule = schedule; lists = lists }
+
+-- the fresh cell of a configuration: an empty schedule, no job, every unit free, down where the configuration says so
+unfoldable pub freshCell : Configuration → Cell
+freshCell configuration = cellOf (scheduleOf []) (listsOf (fresh (configuration .channels) (freshUnits (configuration .down))))
+
+-- ---- the calls on packets, jobs and marks: what the request lists say, and the schedule follows
+
+-- "all facilities return together, and only then a normal end removes its request; an error end suspends it .., else removes it"
+abbrev pub leftBy : Leaving → Schedule → ℕ → Schedule → Schedule
+leftBy Stays s place otherwise = otherwise
+leftBy AfterNormal s place otherwise = returned s place false
+leftBy AfterError s place otherwise = returned s place true
+
+-- a completion may have returned its job's facilities
+abbrev pub afterCompletion : Schedule → Answer → Schedule
+afterCompletion s Done = s
+afterCompletion s (Started b) = s
+afterCompletion s (Completed place packet leaving) = leftBy leaving s place s
+afterCompletion s (Closed leaving) = s
+afterCompletion s (Refused n) = s
+
+-- a job that has ended is closing, unless its facilities returned at once
+abbrev pub afterEnd : Schedule → ℕ → Answer → Schedule
+afterEnd s place Done = s
+afterEnd s place (Started b) = s
+afterEnd s place (Completed j p leaving) = s
+afterEnd s place (Closed leaving) = leftBy leaving s place (closing s place)
+afterEnd s place (Refused n) = s
+
+-- the schedule after a call on the lists
+abbrev pub follows : Schedule → Call → Answer → Schedule
+follows s (Take j asg) a = s
+follows s (Submit j p f c w) a = s
+follows s (Start c) a = s
+follows s (Complete c how) a = afterCompletion s a
+follows s (End j e) a = afterEnd s j a
+follows s (Mark c u m on) a = s
+
+-- SUBMIT, START, COMPLETE, END, MARK
+unfoldable pub acted : Cell → Call → Answered
+acted cell x =
+    record {
+      answer = outcome (cell .lists) x .answer;
+      cell = cellOf (follows (cell .schedule) x (outcome (cell .lists) x .answer)) (outcome (cell .lists) x .lists);
+    }
+
+-- ---- the calls on the schedule alone
+
+abbrev pub answerOf : Outcome → Answer
+answerOf Outcomes.Done = Done
+answerOf (Outcomes.Refused n) = Refused n
+
+abbrev pub changed : Cell → Changed → Answered
+changed cell c = record { answer = answerOf (c .outcome); cell = cellOf (c .schedule) (cell .lists) }
+
+-- RELEASE, DELETE
+abbrev pub releasing : Cell → List ℕ → Answered
+releasing cell id = changed cell (released (cell .schedule) id)
+
+abbrev pub deleting : Cell → List ℕ → Answered
+deleting cell id = changed cell (deleted (cell .schedule) id)
+
+-- ENTER A DECK: the error lines and the last line in the lent room, the schedule that follows; a refused deck changes nothing and puts nothing
+pub record Enters (cell : Cell) (bytes room after· : List ℕ) (r : DeckAnswer) : Type 0 where
+  pub deck : DeckEntered (cell .schedule) bytes room after· (record { outcome = r .outcome; schedule = r .cell .schedule; at = r .at })
+  pub lists : r .cell .lists ≡ cell .lists
+
+-- SELECT: refusal 10 where nothing is selected
+abbrev pub outcomeOf : Bool → Outcome
+outcomeOf true = Outcomes.Done
+outcomeOf false = Outcomes.Refused NothingSelected
+
+pub record SelectsIn (cell : Cell) (r : SelectAnswer) : Type 0 where
+  pub outcome : r .outcome ≡ outcomeOf (r .selection .found)
+  pub takes : Takes (cell .schedule) (cell .lists) (record { selection = r .selection; schedule = r .cell .schedule; lists = r .cell .lists })
+
+-- READ A PACKET'S STATUS: "1 if p or k is out of range"; nothing changes
+abbrev pub statusOf : Cell → ℕ → ℕ → StatusAnswer
+statusOf cell place packet =
+    cond (ltb place 16 && ltb packet 16) (StatusAnswers.Is (packetIn (cell .lists .jobs) place packet .status)) (StatusAnswers.Refused OutOfRange)

@@ -1,0 +1,289 @@
+// The cell: its schedule and its request lists in one value, and every call on it. The configuration is in the lists, as their channels.
+use channels::Configuration;
+use held::Schedule;
+use numbers::ChannelNumber;
+use numbers::Outcome;
+use numbers::Refusal;
+use numbers::UnitNumber;
+use packets::Acted;
+use packets::Answer;
+use packets::How;
+use packets::Leaving;
+use packets::Lists;
+use packets::Spot;
+use packets::Status;
+use places::place;
+use schedule::calls;
+use selection::Selection;
+ghost use mathlib.Core.Path.{_≡_};
+ghost use Rattle.packets.specs.Rules.{Submit, Start, Complete, End, Mark};
+ghost use Rattle.cell.specs.Calls.{freshCell, acted, leftBy, afterCompletion, afterEnd, releasing, deleting, answerOf, outcomeOf, statusOf, Enters, SelectsIn};
+
+pub struct Cell {
+    pub schedule: Schedule,
+    pub lists: Lists,
+}
+
+// What a call answers, and the cell then.
+pub struct Answered {
+    pub answer: Answer,
+    pub cell: Cell,
+}
+
+// What entering a deck answers, where its text ends in the lent room, and the cell then.
+pub struct DeckAnswer {
+    pub outcome: Outcome,
+    pub at: usize,
+    pub cell: Cell,
+}
+
+// What a selection answers (with place, request and assignment), and the cell then.
+pub struct SelectAnswer {
+    pub outcome: Outcome,
+    pub selection: Selection,
+    pub cell: Cell,
+}
+
+// A packet's status, or why it is not answered.
+pub enum StatusAnswer {
+    Is(Status),
+    Refused(Refusal),
+}
+
+// The fresh cell of a configuration: an empty schedule, no job, every unit free, down where the configuration says so.
+pub fn fresh(configuration: Configuration) -> Cell
+    ensures { λ r. ⌜ r ≡ freshCell configuration ⌝ }
+{
+    let channels = configuration.channels;
+    let units = cell_units::fresh(configuration);
+    Cell {
+        schedule: held::empty(),
+        lists: lists::fresh(channels, units),
+    }
+}
+
+// Enters a deck: its error lines and the last line are put into the lent room; a refused deck changes nothing.
+pub fn enter(cell: Cell, deck: &[u8], out: &mut [u8]) -> DeckAnswer
+    ensures { λ r. ⌜ Enters cell (now (deck .entry)) (now (out .entry)) (now (out .exit)) r ⌝ }
+{
+    let schedule = cell.schedule;
+    let lists = cell.lists;
+    let entered = deck_text::enter_deck(schedule, deck, out);
+    let outcome = entered.outcome;
+    let with_deck = entered.schedule;
+    DeckAnswer {
+        outcome,
+        at: entered.at,
+        cell: Cell {
+            schedule: with_deck,
+            lists,
+        },
+    }
+}
+
+// How a selection ends.
+fn outcome_of(found: bool) -> Outcome
+    ensures { λ r. ⌜ r ≡ outcomeOf found ⌝ }
+{
+    if found {
+        return Outcome::Done;
+    }
+    Outcome::Refused(Refusal::NothingSelected)
+}
+
+// Selects the first candidate in order that has an assignment and takes its job into the lowest free place.
+pub fn select(cell: Cell) -> SelectAnswer
+    ensures { λ r. ⌜ SelectsIn cell r ⌝ }
+{
+    let schedule = cell.schedule;
+    let lists = cell.lists;
+    let taking = selection::select(schedule, lists);
+    let selection = taking.selection;
+    let with_job = taking.schedule;
+    let after = taking.lists;
+    SelectAnswer {
+        outcome: outcome_of(selection.found),
+        selection,
+        cell: Cell {
+            schedule: with_job,
+            lists: after,
+        },
+    }
+}
+
+// An answer of the lists, and the cell with the schedule that follows it.
+fn with_schedule(acted: Acted, schedule: Schedule) -> Answered
+    ensures { λ r. ⌜ r ≡ record { answer = acted .answer; cell = record { schedule = schedule; lists = acted .lists } } ⌝ }
+{
+    let answer = acted.answer;
+    let lists = acted.lists;
+    Answered {
+        answer,
+        cell: Cell { schedule, lists },
+    }
+}
+
+// Submission of a packet of the job in a place.
+pub fn submit(
+    cell: Cell,
+    place: u8,
+    packet: u8,
+    function: u8,
+    channel: ChannelNumber,
+    spot: Spot,
+) -> Answered
+    ensures { λ r. ⌜ r ≡ acted cell (Submit place packet function (channel .0) spot) ⌝ }
+{
+    let lists = cell.lists;
+    with_schedule(
+        lists::submit(lists, place, packet, function, channel, spot),
+        cell.schedule,
+    )
+}
+
+// Start on a channel.
+pub fn start(cell: Cell, channel: ChannelNumber) -> Answered
+    ensures { λ r. ⌜ r ≡ acted cell (Start (channel .0)) ⌝ }
+{
+    let lists = cell.lists;
+    with_schedule(lists::start(lists, channel), cell.schedule)
+}
+
+// The schedule after a call that may have returned a job's facilities; otherwise as given.
+fn left_by(leaving: Leaving, schedule: Schedule, place: u8, otherwise: Schedule) -> Schedule
+    ensures { λ r. ⌜ r ≡ leftBy leaving schedule place otherwise ⌝ }
+{
+    match leaving {
+        Leaving::Stays => otherwise,
+        Leaving::AfterNormal => calls::returned(schedule, place, false),
+        Leaving::AfterError => calls::returned(schedule, place, true),
+    }
+}
+
+// The schedule after a completion: the request of a job whose facilities returned goes or is suspended.
+fn after_completion(schedule: Schedule, answer: Answer) -> Schedule
+    ensures { λ r. ⌜ r ≡ afterCompletion schedule answer ⌝ }
+{
+    match answer {
+        Answer::Done => schedule,
+        Answer::Started(_) => schedule,
+        Answer::Completed(place, _, leaving) => left_by(leaving, schedule, place, schedule),
+        Answer::Closed(_) => schedule,
+        Answer::Refused(_) => schedule,
+    }
+}
+
+// Completion on a channel: full, cut or failed with a code.
+pub fn complete(cell: Cell, channel: ChannelNumber, how: How) -> Answered
+    ensures { λ r. ⌜ r ≡ acted cell (Complete (channel .0) how) ⌝ }
+{
+    let lists = cell.lists;
+    let schedule = cell.schedule;
+    let acted = lists::complete(lists, channel, how);
+    let answer = acted.answer;
+    with_schedule(acted, after_completion(schedule, answer))
+}
+
+// The schedule after a job's end: it is closing, or its facilities have returned.
+fn after_end(schedule: Schedule, place: u8, answer: Answer) -> Schedule
+    ensures { λ r. ⌜ r ≡ afterEnd schedule place answer ⌝ }
+{
+    match answer {
+        Answer::Done => schedule,
+        Answer::Started(_) => schedule,
+        Answer::Completed(_, _, _) => schedule,
+        Answer::Closed(leaving) => {
+            let closing = calls::closing(schedule, place);
+            left_by(leaving, schedule, place, closing)
+        }
+        Answer::Refused(_) => schedule,
+    }
+}
+
+// The job in a place ends, normally or in error.
+pub fn end(cell: Cell, place: u8, in_error: bool) -> Answered
+    ensures { λ r. ⌜ r ≡ acted cell (End place in_error) ⌝ }
+{
+    let lists = cell.lists;
+    let schedule = cell.schedule;
+    let acted = lists::end(lists, place, in_error);
+    let answer = acted.answer;
+    with_schedule(acted, after_end(schedule, place, answer))
+}
+
+// A mark of a unit is set or cleared.
+pub fn mark(
+    cell: Cell,
+    channel: ChannelNumber,
+    unit: UnitNumber,
+    mark: units::Mark,
+    on: bool,
+) -> Answered
+    ensures { λ r. ⌜ r ≡ acted cell (Mark (channel .0) (unit .0) mark on) ⌝ }
+{
+    let lists = cell.lists;
+    with_schedule(lists::mark(lists, channel, unit, mark, on), cell.schedule)
+}
+
+// How a call that only changes the schedule ends.
+fn answer_of(outcome: Outcome) -> Answer
+    ensures { λ r. ⌜ r ≡ answerOf outcome ⌝ }
+{
+    match outcome {
+        Outcome::Done => Answer::Done,
+        Outcome::Refused(refusal) => Answer::Refused(refusal),
+    }
+}
+
+// A suspended request waits again.
+pub fn release(cell: Cell, id: [u8; 6]) -> Answered
+    ensures { λ r. ⌜ r ≡ releasing cell id ⌝ }
+{
+    let schedule = cell.schedule;
+    let lists = cell.lists;
+    let changed = calls::release(schedule, id);
+    let outcome = changed.outcome;
+    let waiting = changed.schedule;
+    Answered {
+        answer: answer_of(outcome),
+        cell: Cell {
+            schedule: waiting,
+            lists,
+        },
+    }
+}
+
+// A request whose job neither runs nor closes is taken out of the schedule.
+pub fn delete(cell: Cell, id: [u8; 6]) -> Answered
+    ensures { λ r. ⌜ r ≡ deleting cell id ⌝ }
+{
+    let schedule = cell.schedule;
+    let lists = cell.lists;
+    let changed = calls::delete(schedule, id);
+    let outcome = changed.outcome;
+    let rest = changed.schedule;
+    Answered {
+        answer: answer_of(outcome),
+        cell: Cell {
+            schedule: rest,
+            lists,
+        },
+    }
+}
+
+// The status of a packet of a place.
+pub fn status(cell: Cell, place: u8, packet: u8) -> StatusAnswer
+    ensures { λ r. ⌜ r ≡ statusOf cell place packet ⌝ }
+{
+    if 15 < place {
+        return StatusAnswer::Refused(Refusal::OutOfRange);
+    }
+    if 15 < packet {
+        return StatusAnswer::Refused(Refusal::OutOfRange);
+    }
+    let lists = cell.lists;
+    let jobs = lists.jobs;
+    let found = place::packet_at(jobs, place, packet);
+    let status = found.status;
+    StatusAnswer::Is(status)
+}
