@@ -58,7 +58,7 @@ pub fn key_of(request: Request) -> Key
 }
 
 // Whether two keys have the same letter and precedence.
-pub fn same_rank(a: Key, b: Key) -> bool
+fn same_rank(a: Key, b: Key) -> bool
     ensures { λ r. ⌜ r ≡ sameRank a b ⌝ }
 {
     a.letter == b.letter && a.precedence == b.precedence
@@ -79,7 +79,7 @@ fn is_lower(a: Key, b: Key) -> bool
 }
 
 // Whether a key comes before another in the selection order.
-pub fn precedes(a: Key, b: Key) -> bool
+fn precedes(a: Key, b: Key) -> bool
     ensures { λ r. ⌜ r ≡ precedes a b ⌝ }
 {
     if a.letter == b.letter {
@@ -128,7 +128,7 @@ pub fn is_active(state: State) -> bool
 }
 
 // Whether a request's job runs or closes in a place.
-pub fn is_in_place(state: State, place: u8) -> bool
+fn is_in_place(state: State, place: u8) -> bool
     ensures { λ r. ⌜ r ≡ inPlace place state ⌝ }
 {
     match state {

@@ -28,7 +28,7 @@ pub fn put_name(room: &mut [u8], at: usize, name: &[u8]) -> usize
 }
 
 // Puts a mark, nothing for a blank.
-pub fn put_mark(room: &mut [u8], at: usize, mark: u8) -> usize
+fn put_mark(room: &mut [u8], at: usize, mark: u8) -> usize
     ensures { λ r. ⌜ Written (now (room .entry)) at (markText mark) (now (room .exit)) r ⌝ }
 {
     if mark == b' ' {
@@ -52,7 +52,7 @@ pub fn put_priority(room: &mut [u8], at: usize, r: Request) -> usize
 }
 
 // Puts the field at a place of the PTY card, nothing past the last.
-pub fn put_field(room: &mut [u8], at: usize, r: Request, k: usize) -> usize
+pub(crate) fn put_field(room: &mut [u8], at: usize, r: Request, k: usize) -> usize
     ensures { λ next. ⌜ Written (now (room .entry)) at (getD (ptyFields r) k []) (now (room .exit)) next ⌝ }
 {
     let id = r.id;
@@ -115,7 +115,7 @@ fn put_fields(room: &mut [u8], at: usize, r: Request) -> usize
 }
 
 // Puts the PTY card.
-pub fn put_pty(room: &mut [u8], at: usize, r: Request) -> usize
+pub(crate) fn put_pty(room: &mut [u8], at: usize, r: Request) -> usize
     ensures { λ next. ⌜ Written (now (room .entry)) at (ptyText r) (now (room .exit)) next ⌝ }
 {
     let id = put_field(room, at, r, 0);
@@ -191,7 +191,7 @@ fn put_entries(room: &mut [u8], at: usize, f: Facilities) -> usize
 }
 
 // Puts the FAC card.
-pub fn put_fac(room: &mut [u8], at: usize, r: Request) -> usize
+pub(crate) fn put_fac(room: &mut [u8], at: usize, r: Request) -> usize
     ensures { λ next. ⌜ Written (now (room .entry)) at (facText r) (now (room .exit)) next ⌝ }
 {
     let id = put_field(room, at, r, 0);
