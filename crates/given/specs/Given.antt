@@ -1,0 +1,74 @@
+-- A live job holds exactly what it was given: its drum area, its core and its units are those of the last taking into its place, until all
+-- facilities return together; an empty place holds no unit. A reader has to believe this page.
+use Prim.Native.Nat.{ℕ, _<_}
+use mathlib.Core.Path.{_≡_}
+use mathlib.Core.Bool.{true, false, cond, _&&_}
+use mathlib.Core.List.{List, [], _∷_}
+use mathlib.Core.Option.{Option, none, some}
+use lib.Dec.{eqb}
+use Rattle.units.specs.State.{Square, assignable, unitIn}
+use Rattle.units.specs.declared.Unit.{Unit as UnitState}
+use Rattle.channels.specs.declared.Channel.{Channel}
+use Rattle.packets.specs.Demand.{Event, NoneHeld, events, fresh, isAccepted}
+use Rattle.packets.specs.Rules.{Call, Complete, End, Mark, Start, Submit, Take, run, step}
+use Rattle.packets.specs.State.{State, heldBy, isEmpty, jobIn, stateIn, wanted}
+use Rattle.packets.specs.declared.Answer.{Answer}
+use Rattle.packets.specs.declared.Assignment.{Assignment}
+
+-- ---- what was given, by the calls and their answers alone
+
+-- an accepted taking into place j gives its assignment; after any other call the last one stands
+unfoldable pub takenBy : ℕ → Option Assignment → Call → Answer → Option Assignment
+takenBy j last (Take i asg) r = cond (isAccepted r && eqb j i) (some asg) last
+takenBy j last (Submit i p f c w) r = last
+takenBy j last (Start c) r = last
+takenBy j last (Complete c how) r = last
+takenBy j last (End i e) r = last
+takenBy j last (Mark c u m on) r = last
+
+unfoldable pub takenIn : ℕ → Option Assignment → List Event → Option Assignment
+takenIn j last [] = last
+takenIn j last (e ∷ l) = takenIn j (takenBy j last (e .call) (e .answer)) l
+
+-- the assignment of the last accepted taking into place j, from a fresh cell on
+abbrev pub taking : List Event → ℕ → Option Assignment
+taking l j = takenIn j none l
+
+-- ---- what a taking may be given
+
+-- each unit that an accepted taking wants is assignable: free and unmarked
+abbrev pub Wants : State → Call → Type 0
+Wants s (Take j asg) =
+    isAccepted (step s (Take j asg) .answer) ≡ true → (c u : ℕ) → c < 16 → u < 16 → wanted asg c u ≡ true → assignable (unitIn (s .units) c u) ≡ true
+Wants s (Submit j p f c w) = Unit {0}
+Wants s (Start c) = Unit {0}
+Wants s (Complete c how) = Unit {0}
+Wants s (End j e) = Unit {0}
+Wants s (Mark c u m on) = Unit {0}
+
+-- so it is with each taking of a history
+abbrev pub Wanting : State → List Call → Type 0
+Wanting s [] = Unit {0}
+Wanting s (x ∷ l) = Wants s x × Wanting (step s x .state) l
+
+-- ---- what a place holds
+
+-- the job in place j holds what the assignment gives: that drum area, that core, and a unit exactly when the assignment has it
+pub record HoldsExactly (s : State) (j : ℕ) (asg : Assignment) : Type 0 where
+  pub from : jobIn (s .jobs) j .from ≡ asg .from
+  pub words : jobIn (s .jobs) j .words ≡ asg .words
+  pub core : jobIn (s .jobs) j .core ≡ asg .core
+  pub units : (c u : ℕ) → c < 16 → u < 16 → heldBy (unitIn (s .units) c u .holder) j ≡ wanted asg c u
+
+pub record AsGiven (s : State) (j : ℕ) (last : Option Assignment) : Type 0 where
+  -- a job that runs or is closing was taken, and holds what it was given
+  pub live : isEmpty (stateIn (s .jobs) j) ≡ false → (asg : Assignment) × (last ≡ some asg) × HoldsExactly s j asg
+  -- no job is there, or its facilities have returned
+  pub empty : isEmpty (stateIn (s .jobs) j) ≡ true → (c u : ℕ) → heldBy (unitIn (s .units) c u .holder) j ≡ false
+
+-- for every history of calls from a fresh cell of 16 channels of 16 units, and for every place
+abbrev pub HoldsWhatItWasGiven : Type 0
+HoldsWhatItWasGiven =
+    (channels : List Channel) (units : List (List UnitState)) → NoneHeld units → Square units → (calls : List Call)
+    → Wanting (fresh channels units) calls
+    → (j : ℕ) → AsGiven (run (fresh channels units) calls) j (taking (events (fresh channels units) calls) j)
