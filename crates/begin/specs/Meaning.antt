@@ -3,12 +3,13 @@
 -- configuration is answered with good, and none before it with bad. Assumes nothing.
 use Prim.Native.Nat.{ℕ, zero, suc, _+_, _≤_, _<_}
 use mathlib.Core.Path.{_≡_, refl, sym, ap, subst, _∙_}
-use mathlib.Core.Bool.{Bool}
+use mathlib.Core.Bool.{Bool, true, false}
 use mathlib.Core.List.{List, [], _∷_, _++_, append-assoc}
 use native.Mathlib.Omega.{arith}
-use lib.Dec.{leb}
-use lib.ListN.{length, length-append}
-use borrow.Author.Tests.{leb-true, leb-false}
+use lib.Dec.{ltb}
+use lib.ListN.{length, take, drop, length-append, take-append-drop}
+use lib.Seq.{length-take-le}
+use borrow.Author.Tests.{ltb-true, ltb-false}
 use Rattle.numbers.specs.Tests.{by-bool}
 use Rattle.channels.specs.declared.Channel.{Channel}
 use Rattle.fields.specs.Deck.{cardsOf, size}
@@ -18,6 +19,7 @@ use Rattle.configuration.specs.Configured.{refused, good, configurationOf}
 use Rattle.form.specs.Form.{Item, line, written, Due, Right, Complete, Reads, Bad, InForm, FirstBad}
 use Rattle.form.specs.Meaning.{Said, meaning}
 use Rattle.form.specs.Unique.{read-back, first-named}
+use Rattle.form.specs.Enough.{enough}
 use Rattle.begin.specs.declared.Begun.{Begun}
 use Rattle.begin.specs.declared.Begun.the-variants as Begun′
 use Rattle.begin.specs.declared.Beginning.{Beginning}
@@ -30,9 +32,9 @@ begunWith of marks = record { begun = Begun′.Good; configuration = record { ch
 
 -- what is answered: good for the written form, else by whether the first bad or missing line is there
 data Answered (s : List ℕ) : Type 0 where
-  goods : (of : List Channel) (marks : List Bool) → InForm s of marks → openingOf s ≡ begunWith of marks → Answered s
-  bads : (number : ℕ) → FirstBad s number → number ≤ length (cardsOf s) → openingOf s .begun ≡ Begun′.Bad number → Answered s
-  dues : (number : ℕ) → FirstBad s number → length (cardsOf s) < number → openingOf s .begun ≡ Begun′.More → Answered s
+  goods : (of : List Channel) (marks : List Bool) → InForm s of marks → openingOf true s ≡ begunWith of marks → Answered s
+  bads : (number : ℕ) → FirstBad s number → number ≤ length (cardsOf s) → openingOf true s .begun ≡ Begun′.Bad number → Answered s
+  dues : (number : ℕ) → FirstBad s number → length (cardsOf s) < number → openingOf true s .begun ≡ Begun′.More → Answered s
 
 answered : (s : List ℕ) → Answered s
 unfolding openingOf
@@ -41,12 +43,12 @@ answered s = by (meaning s .said)
     by : Said (configurationOf s) → Answered s
     by (Said.goods of marks e) = Answered.goods of marks (meaning s .written of marks e) (rw e)
     by (Said.bads n e) =
-        by-bool (leb n (length (cardsOf s)))
-        (λ t. Answered.bads n (meaning s .first n e) (leb-true n (length (cardsOf s)) t) (rw (e, t)))
-        (λ t. Answered.dues n (meaning s .first n e) (leb-false n (length (cardsOf s)) t) (rw (e, t)))
+        by-bool (ltb (length (cardsOf s)) n)
+        (λ t. Answered.dues n (meaning s .first n e) (ltb-true (length (cardsOf s)) n t) (rw (e, t)))
+        (λ t. Answered.bads n (meaning s .first n e) (ltb-false (length (cardsOf s)) n t) (rw (e, t)))
 
 -- good is answered for the written form of a configuration
-pub form-good : (s : List ℕ) (of : List Channel) (marks : List Bool) → InForm s of marks → openingOf s ≡ begunWith of marks
+pub form-good : (s : List ℕ) (of : List Channel) (marks : List Bool) → InForm s of marks → openingOf true s ≡ begunWith of marks
 unfolding openingOf
 form-good s of marks w = rw (read-back s of marks w)
 
@@ -94,7 +96,7 @@ after s more of marks w n =
         nothing = elim [ ]
 
 -- and for nothing else
-pub good-form : (s : List ℕ) (of : List Channel) (marks : List Bool) → openingOf s ≡ begunWith of marks → InForm s of marks
+pub good-form : (s : List ℕ) (of : List Channel) (marks : List Bool) → openingOf true s ≡ begunWith of marks → InForm s of marks
 good-form s of marks e = by (answered s)
   where
     by : Answered s → InForm s of marks
@@ -132,7 +134,7 @@ stays s more number h f =
     }
 
 -- bad is answered for the first bad line, and whatever follows does not change it
-pub bad-stays : (s more : List ℕ) (number : ℕ) → openingOf s .begun ≡ Begun′.Bad number → FirstBad (s ++ more) number × (configurationOf (s ++ more) ≡ refused number)
+pub bad-stays : (s more : List ℕ) (number : ℕ) → openingOf true s .begun ≡ Begun′.Bad number → FirstBad (s ++ more) number × (configurationOf (s ++ more) ≡ refused number)
 bad-stays s more number e = by (answered s)
   where
     by : Answered s → FirstBad (s ++ more) number × (configurationOf (s ++ more) ≡ refused number)
@@ -144,7 +146,7 @@ bad-stays s more number e = by (answered s)
     by (Answered.dues n f l g) = absurd (more-not-bad (sym g ∙ e))
 
 -- where more is due, whole lines are all right ones, and the configuration is not complete
-pub more-due : (s : List ℕ) → size (cardsOf s) ≡ length s → openingOf s .begun ≡ Begun′.More
+pub more-due : (s : List ℕ) → size (cardsOf s) ≡ length s → openingOf true s .begun ≡ Begun′.More
     → (due : Due) × Reads Due.first s (length (cardsOf s)) due [] × ((of : List Channel) (marks : List Bool) → Complete due of marks → ⊥)
 more-due s whole e = by (answered s)
   where
@@ -161,13 +163,38 @@ more-due s whole e = by (answered s)
         )
 
 -- so every question before the end of a configuration is answered with more
-pub before-good : (s more : List ℕ) (of : List Channel) (marks : List Bool) → InForm (s ++ more) of marks → (more ≡ [] → ⊥) → openingOf s .begun ≡ Begun′.More
+pub before-good : (s more : List ℕ) (of : List Channel) (marks : List Bool) → InForm (s ++ more) of marks → (more ≡ [] → ⊥) → openingOf true s .begun ≡ Begun′.More
 before-good s more of marks w n = by (answered s)
   where
     never-bad : {number : ℕ} → configurationOf (s ++ more) ≡ refused number → ⊥
     never-bad e = bad-not-good (sym e ∙ read-back (s ++ more) of marks w)
 
-    by : Answered s → openingOf s .begun ≡ Begun′.More
+    by : Answered s → openingOf true s .begun ≡ Begun′.More
     by (Answered.goods o m v f) = absurd (never-bad (first-named (s ++ more) (v .lines + 1) (after s more o m v n)))
     by (Answered.bads k f l g) = absurd (never-bad (bad-stays s more k g .1))
     by (Answered.dues k f l g) = g
+
+-- where no more comes, the reader's verdict is the answer
+pub ended : (s : List ℕ) (number : ℕ) → configurationOf s ≡ refused number → openingOf false s .begun ≡ Begun′.Bad number
+unfolding openingOf
+ended s number e = rw e
+
+-- 2,048 bytes decide: of a text of as many no more need be kept, and the line that they blame is the first bad line whatever follows
+pub kept : (s more : List ℕ) → 2048 ≤ length s → (number : ℕ) × (openingOf false (take 2048 s) .begun ≡ Begun′.Bad number) × (configurationOf (s ++ more) ≡ refused number)
+kept s more h = by (meaning (take 2048 s) .said)
+  where
+    same : configurationOf (s ++ more) ≡ configurationOf (take 2048 s)
+    same =
+        ap (λ (l : List ℕ). configurationOf (l ++ more)) (sym (take-append-drop 2048 s))
+        ∙ ap configurationOf (append-assoc (take 2048 s) (drop 2048 s) more)
+        ∙ enough (take 2048 s) (drop 2048 s ++ more) (omega (arith, length-take-le 2048 s h))
+
+    by : Said (configurationOf (take 2048 s)) → (number : ℕ) × (openingOf false (take 2048 s) .begun ≡ Begun′.Bad number) × (configurationOf (s ++ more) ≡ refused number)
+    by (Said.goods o m e) =
+        let w = meaning (take 2048 s) .written o m e in
+        let f = first-named ((take 2048 s) ++ (0 ∷ [])) (w .lines + 1) (after (take 2048 s) (0 ∷ []) o m w some) in
+        absurd (bad-not-good (sym f ∙ enough (take 2048 s) (0 ∷ []) (omega (arith, length-take-le 2048 s h)) ∙ e))
+      where
+        some : _≡_ {A = List ℕ} (0 ∷ []) [] → ⊥
+        some e = let z : _≡_ {A = ℕ} 1 0 = ap length e in omega arith
+    by (Said.bads n e) = (n, ended (take 2048 s) n e, same ∙ e)

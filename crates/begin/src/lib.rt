@@ -19,29 +19,31 @@ pub struct Beginning {
     pub configuration: Configuration,
 }
 
-// What a reader's verdict on so many lines comes to: a bad line that is not there yet is one that is due.
-fn so_far(verdict: Verdict, lines: usize) -> Begun
-    ensures { λ r. ⌜ r ≡ saidSoFar verdict lines ⌝ }
+// What a reader's verdict on so many lines comes to: where more may come, a bad line that is not there yet is one that is due.
+fn so_far(verdict: Verdict, more: bool, lines: usize) -> Begun
+    ensures { λ r. ⌜ r ≡ saidSoFar verdict more lines ⌝ }
 {
     match verdict {
         Verdict::Good => Begun::Good,
         Verdict::Bad(line) => {
-            if line <= lines {
-                return Begun::Bad(line);
+            if more {
+                if lines < line {
+                    return Begun::More;
+                }
             }
-            Begun::More
+            Begun::Bad(line)
         }
     }
 }
 
-// What the text so far begins.
-pub fn configured(text: &[u8]) -> Beginning
-    ensures { λ r. ⌜ r ≡ openingOf (now (text .entry)) ⌝ }
+// What the text so far begins, where more may come or not.
+pub fn configured(text: &[u8], more: bool) -> Beginning
+    ensures { λ r. ⌜ r ≡ openingOf more (now (text .entry)) ⌝ }
 {
     let answer = configuration::read(text);
     let verdict = answer.verdict;
     let configuration = answer.configuration;
-    let begun = so_far(verdict, fields::deck::card_count(text));
+    let begun = so_far(verdict, more, fields::deck::card_count(text));
     Beginning {
         begun,
         configuration,

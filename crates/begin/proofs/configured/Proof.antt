@@ -1,6 +1,7 @@
 -- `begin::configured` meets its contract. Assumes nothing.
 use Prim.Native.Nat.{ℕ}
 use mathlib.Core.Path.{_≡_}
+use mathlib.Core.Bool.{Bool}
 use mathlib.Core.List.{List}
 use lib.ListN.{length}
 use Rattle.fields.specs.Deck.{cardsOf}
@@ -16,9 +17,9 @@ use Rattle.begin.proofs.configured.Tie as tie
 abbrev found : Begun → Answer → Beginning
 found b a = record { begun = b; configuration = a .configuration }
 
-opened : (s : List ℕ) {a : Answer} {b : Begun} {n : ℕ} → a ≡ configurationOf s → n ≡ length (cardsOf s) → b ≡ saidSoFar (a .verdict) n → found b a ≡ openingOf s
+opened : (more : Bool) (s : List ℕ) {a : Answer} {b : Begun} {n : ℕ} → a ≡ configurationOf s → n ≡ length (cardsOf s) → b ≡ saidSoFar (a .verdict) more n → found b a ≡ openingOf more s
 unfolding openingOf
-opened s e l f = rw (f, l, e)
+opened more s e l f = rw (f, l, e)
 
 read-requires : tie.Need-read-requires
 read-requires c κs = search needs
@@ -30,7 +31,7 @@ so-far-requires : tie.Need-so-far-requires
 so-far-requires c κs = search needs
 
 returns : tie.Need-returns
-returns c = opened (c .before .before .before .before .before .args .text .now) (c .before .before .before .read .ensures) (c .before .card-count .ensures) (c .so-far .ensures)
+returns c = opened (c .before .before .before .before .before .args .more) (c .before .before .before .before .before .args .text .now) (c .before .before .before .read .ensures) (c .before .card-count .ensures) (c .so-far .ensures)
 
 pub configured-spec : {M : Type 1} → statement M
 configured-spec = tie.close (tie.spec read-requires card-count-requires so-far-requires returns)
