@@ -1,0 +1,4 @@
+pub mod Refusing
+pub mod Demands
+pub mod Standing
+pub mod Proved
