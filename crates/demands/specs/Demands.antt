@@ -11,7 +11,7 @@ use Rattle.numbers.specs.declared.Outcome.the-variants.{Done, Refused}
 use Rattle.numbers.specs.declared.Refusal.{Refusal}
 use Rattle.numbers.specs.declared.Refusal.the-variants.{NothingSelected}
 use Rattle.channels.specs.declared.Configuration.{Configuration}
-use Rattle.configuration.specs.Lines.{configurationOf}
+use Rattle.configuration.specs.Configured.{configurationOf}
 use Rattle.form.specs.Meaning.{Means}
 use Rattle.fields.specs.Deck.{cardsOf}
 use Rattle.cards.specs.Group.{readGroup}
