@@ -7,30 +7,20 @@ use mathlib.Core.List.{List, [], _∷_, _++_, append-assoc}
 use native.Mathlib.Omega.{arith}
 use lib.Dec.{eqb, ltb}
 use lib.ListN.{length, length-append}
-use borrow.Author.Tests.{eq-eqb, ne-eqb, eqb-true, not-true}
-use Rattle.numbers.specs.Tests.{by-bool, never, both}
+use borrow.Author.Tests.{ne-eqb, eqb-true}
+use Rattle.numbers.specs.Tests.{by-bool, both}
 use Rattle.numbers.specs.Kinds.{codeOf}
 use Rattle.numbers.specs.declared.Kind.{Kind}
 use Rattle.numbers.specs.declared.Kind.the-variants.{Ma, Mt, Pr, Md}
 use Rattle.text.specs.Writing.{twoText, digitsText, decimalText}
 use Rattle.words.specs.Words.{every, isnt}
 use Rattle.fields.specs.Deck.{cardsOf, ontoLine, size}
+use Rattle.collect.specs.DeckLaws.{Plain, first-card}
 use Rattle.form.specs.Form.{Item, line, written}
-
--- no LF in a text
-abbrev pub Plain : List ℕ → Type 0
-Plain s = every (isnt 10) s ≡ true
 
 every-append : (p : ℕ → Bool) (s t : List ℕ) → every p s ≡ true → every p t ≡ true → every p (s ++ t) ≡ true
 every-append p [] t a b = b
 every-append p (x ∷ s) t a b = let q = both (p x) (every p s) a in rw (q .0, every-append p s t (q .1) b)
-
--- the first line, where an LF ends it
-pub first-card : (l t : List ℕ) → Plain l → cardsOf (l ++ (10 ∷ t)) ≡ l ∷ cardsOf t
-first-card [] t p = refl
-first-card (b ∷ l) t p =
-    let q = both (isnt 10 b) (every (isnt 10) l) p in
-    rw (not-true (eqb b 10) (q .0), first-card l t (q .1))
 
 digit-plain : (d : ℕ) → isnt 10 (48 + d) ≡ true
 digit-plain d = rw (ne-eqb (48 + d) 10 (λ e. omega arith))
