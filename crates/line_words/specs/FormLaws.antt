@@ -28,7 +28,7 @@ has-passes p (x ∷ l) b e h =
     let q = both (p x) (every p l) e in
     by-bool (eqb b x) (λ t. ap p (eqb-true b x t) ∙ q .0) (λ t. has-passes p l b (q .1) (rw t at h))
 
-every-more : (p q : ℕ → Bool) → ((b : ℕ) → p b ≡ true → q b ≡ true) → (s : List ℕ) → every p s ≡ true → every q s ≡ true
+pub every-more : (p q : ℕ → Bool) → ((b : ℕ) → p b ≡ true → q b ≡ true) → (s : List ℕ) → every p s ≡ true → every q s ≡ true
 every-more p q f [] e = refl
 every-more p q f (b ∷ s) e = let r = both (p b) (every p s) e in rw (f b (r .0), every-more p q f s (r .1))
 
