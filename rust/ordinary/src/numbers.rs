@@ -1,0 +1,106 @@
+//! Kinds, numbers and refusals that every part uses.
+
+/// A channel of the cell, 0 to 15.
+#[derive(Clone, Copy, Debug, PartialEq, Eq, PartialOrd, Ord)]
+pub struct ChannelNumber(pub u8);
+
+/// A unit on its channel, 0 to 15.
+#[derive(Clone, Copy, Debug, PartialEq, Eq, PartialOrd, Ord)]
+pub struct UnitNumber(pub u8);
+
+/// A logical channel on a FAC card, 0 to 15; 0 ties the units to no channel.
+#[derive(Clone, Copy, Debug, PartialEq, Eq, PartialOrd, Ord)]
+pub struct LogicalChannel(pub u8);
+
+impl ChannelNumber {
+    pub fn all() -> impl Iterator<Item = ChannelNumber> {
+        (0..16).map(ChannelNumber)
+    }
+
+    pub fn index(self) -> usize {
+        usize::from(self.0)
+    }
+}
+
+impl UnitNumber {
+    pub fn index(self) -> usize {
+        usize::from(self.0)
+    }
+}
+
+/// What a channel has; the order is that of entries on a written card.
+#[derive(Clone, Copy, Debug, PartialEq, Eq, PartialOrd, Ord)]
+pub enum Kind {
+    /// drum
+    Md,
+    /// UNISERVO IIA
+    Ma,
+    /// UNISERVO IIIA
+    Mt,
+    /// printer
+    Pr,
+}
+
+impl Kind {
+    /// The kinds that have units.
+    pub const WITH_UNITS: [Kind; 3] = [Kind::Ma, Kind::Mt, Kind::Pr];
+
+    pub fn from_letters(letters: &[u8]) -> Option<Kind> {
+        match letters {
+            b"MD" => Some(Kind::Md),
+            b"MA" => Some(Kind::Ma),
+            b"MT" => Some(Kind::Mt),
+            b"PR" => Some(Kind::Pr),
+            _ => None,
+        }
+    }
+
+    pub fn letters(self) -> &'static str {
+        match self {
+            Kind::Md => "MD",
+            Kind::Ma => "MA",
+            Kind::Mt => "MT",
+            Kind::Pr => "PR",
+        }
+    }
+}
+
+/// Why a call is refused, with the requirements' numbers.
+#[derive(Clone, Copy, Debug, PartialEq, Eq, PartialOrd, Ord)]
+#[repr(u8)]
+pub enum Refusal {
+    /// A place, channel, unit, packet or function number out of range, or a channel or unit not configured.
+    OutOfRange = 1,
+    /// No job in that place, or it is closing.
+    NoJob = 2,
+    /// The unit or drum address is not the job's.
+    NotTheJobs = 3,
+    /// The function is not legal for the kind.
+    IllegalFunction = 4,
+    /// The packet is listed, in progress or stopping.
+    PacketInUse = 5,
+    ChannelBusy = 6,
+    NothingStartable = 7,
+    NothingInProgress = 8,
+    /// Cut for a packet that is not stopping, or a failure code that is none.
+    BadCompletion = 9,
+    /// No place free, or no candidate has an assignment.
+    NothingSelected = 10,
+    /// A deck that is too long or has no termination card.
+    BadDeck = 11,
+    /// A card over 80 characters, or too little room for it.
+    NoRoom = 12,
+    /// A request that no cards can hold.
+    BadRequest = 13,
+    BadConfiguration = 14,
+    /// No such ID, or for release not suspended.
+    NoSuchRequest = 15,
+    /// The request to delete runs or closes.
+    RequestRuns = 16,
+}
+
+impl Refusal {
+    pub fn number(self) -> u8 {
+        self as u8
+    }
+}
