@@ -308,9 +308,9 @@ impl Cell {
         if self.moving[number].is_some() {
             return Err(Refusal::ChannelBusy);
         }
+        let on_drum = channel.kind() == Kind::Md;
         let startable = |packet: &Packet| {
-            let locked = channel.kind() != Kind::Md && self.units[number][packet.target as usize].interlock;
-            usize::from(packet.channel) == number && !locked
+            usize::from(packet.channel) == number && (on_drum || !self.units[number][packet.target as usize].interlock)
         };
         let at = self.listed.iter().position(|&name| startable(self.packet(name)));
         let name = self.listed.remove(at.ok_or(Refusal::NothingStartable)?);

@@ -89,6 +89,10 @@ impl Shift {
         Shift { cell: Cell::new(configuration), deck: None }
     }
 
+    pub fn cell(&self) -> &Cell {
+        &self.cell
+    }
+
     /// What is answered to a line, given without its LF: a card while a deck comes in, else a call or none.
     pub fn answer_line(&mut self, line: &[u8]) -> Vec<u8> {
         if let Some(deck) = &mut self.deck {

@@ -107,3 +107,10 @@ fn drum_addresses_and_terminate() {
          ACK\nACK STOPPING\nACK LISTED\nNO 3\n"
     );
 }
+
+#[test]
+fn a_start_looks_only_at_its_own_channels_list() {
+    let calls = "SELECT\nSUBMIT 0 0 02 2 35329\nSUBMIT 0 1 02 4 0\nSTART 4\nSTART 2\n";
+    let answers = answers("2\n02 MD 40000\n04 PR 1\n0\n", &["IB/1,MD/10,PR/1"], calls);
+    assert_eq!(answers, "ACK 0 A IB 2-2 MD 35329-35338 PR 04/00\nACK\nACK\nACK 0 1 02 0\nACK 0 0 02 35329\n");
+}

@@ -1,0 +1,542 @@
+//! Random shift scripts. A shift of the ordinary implementation runs beside, so that most calls make sense in the state they meet.
+
+use ordinary::cell::{Job, PacketName, Status};
+use ordinary::configuration::{Channel, Configuration, DRUM_START};
+use ordinary::functions::{self, REMOVE_INTERLOCK, TERMINATE};
+use ordinary::numbers::{ChannelNumber, Kind};
+use ordinary::schedule::State;
+use ordinary::shift::Shift;
+
+use crate::configurations;
+use crate::decks::{self, Reach, Style};
+use crate::random::{damage, Random, ODD_BYTES};
+
+/// A configuration, and calls with their line ends; a deck is one call with its cards.
+pub struct Script {
+    pub pieces: Vec<Vec<u8>>,
+    /// How many of the pieces are calls.
+    pub calls: usize,
+}
+
+/// The calls by sort, each as likely as its weight says; the weights differ from script to script.
+#[derive(Clone, Copy)]
+enum Sort {
+    Deck,
+    Select,
+    Submit,
+    Start,
+    Complete,
+    End,
+    Mark,
+    Request,
+    Status,
+    Board,
+    Noise,
+}
+
+const SORTS: [Sort; 11] = [
+    Sort::Deck,
+    Sort::Select,
+    Sort::Submit,
+    Sort::Start,
+    Sort::Complete,
+    Sort::End,
+    Sort::Mark,
+    Sort::Request,
+    Sort::Status,
+    Sort::Board,
+    Sort::Noise,
+];
+
+const WEIGHTS: &[[usize; 11]] = &[
+    // An ordinary day.
+    [3, 10, 35, 18, 17, 4, 3, 3, 4, 2, 1],
+    // Long request lists.
+    [2, 6, 80, 3, 3, 1, 1, 1, 2, 1, 0],
+    // Many short jobs.
+    [8, 25, 15, 10, 10, 18, 4, 5, 3, 2, 0],
+    // A full schedule and full places.
+    [15, 20, 20, 8, 8, 1, 6, 8, 4, 2, 1],
+    // Failures and marks.
+    [3, 10, 30, 20, 22, 4, 8, 1, 1, 2, 0],
+];
+
+struct Writer<'r> {
+    random: &'r mut Random,
+    shift: Shift,
+    style: Style,
+    pieces: Vec<Vec<u8>>,
+}
+
+/// A script with this many calls.
+pub fn script(random: &mut Random, calls: usize) -> Script {
+    let configuration = match random.below(30) {
+        0 => configurations::configuration(random),
+        1..=6 => b"6\n00 MA 4\n01 MA 2\n03 MT 6\n05 MT 3\n07 MD 40000\n12 PR 2\n1\n00 01\n".to_vec(),
+        7..=9 => b"4\n02 MD 35400\n03 MT 16\n05 MT 16\n06 PR 16\n0\n".to_vec(),
+        _ => with_units(random),
+    };
+    // What follows a configuration is no fault of it here.
+    let mut lines = configuration.split_inclusive(|&byte| byte == b'\n');
+    let Ok(read) = Configuration::from_lines(|| lines.next()) else {
+        return Script { pieces: vec![configuration, b"SELECT\nBOARD\n".to_vec()], calls: 0 };
+    };
+    let kept = configuration.len() - lines.map(<[u8]>::len).sum::<usize>();
+    let style = Style {
+        ids: *random.pick(&[4, 30, 100, 1_000_000]),
+        letters: *random.pick(&[1, 3, 26]),
+        precedences: *random.pick(&[2, 8, 64]),
+        sequences: *random.pick(&[1, 3, 64]),
+        suspended: *random.pick(&[0, 10, 40]),
+        serial: *random.pick(&[0, 0, 5, 40]),
+        spoilt: *random.pick(&[0, 10, 50]),
+        large: *random.pick(&[0, 0, 5, 30]),
+        blocks: *random.pick(&[1, 1, 3]),
+        units: *random.pick(&[10, 30, 50]),
+        reach: Some(reach(&read)),
+    };
+    let weights = *random.pick(WEIGHTS);
+    let mut writer = Writer { random, shift: Shift::new(read), style, pieces: vec![configuration[..kept].to_vec()] };
+    writer.call(Sort::Deck);
+    while writer.pieces.len() <= calls {
+        let sort = writer.sort(&weights);
+        writer.call(sort);
+    }
+    writer.last();
+    let calls = writer.pieces.len() - 1;
+    Script { pieces: writer.pieces, calls }
+}
+
+/// A good configuration, mostly with units.
+fn with_units(random: &mut Random) -> Vec<u8> {
+    let has_units = |text: &[u8]| {
+        let configuration = Configuration::from_text(text);
+        configuration.is_ok_and(|read| read.channels().any(|(_, channel)| channel.unit_count() > 0))
+    };
+    let mut text = configurations::good(random);
+    while !has_units(&text) && random.percent(90) {
+        text = configurations::good(random);
+    }
+    text
+}
+
+fn reach(configuration: &Configuration) -> Reach {
+    let most = |kind| {
+        let channels = configuration.channels().filter(|(_, channel)| channel.kind() == kind);
+        channels.map(|(_, channel)| channel.unit_count().into()).max().unwrap_or(0)
+    };
+    let words = configuration.drum().map_or(0, |length| length - DRUM_START);
+    Reach { units: [Kind::Ma, Kind::Mt, Kind::Pr].map(most), words: words as usize }
+}
+
+/// Has the job units or a drum area?
+fn has_something(job: &Job) -> bool {
+    !job.assignment.units.is_empty() || !job.assignment.drum.is_empty()
+}
+
+impl Writer<'_> {
+    /// The next sort of call, mostly one that can be accepted now.
+    fn sort(&mut self, weights: &[usize]) -> Sort {
+        let mut sort = SORTS[self.random.weighted(weights)];
+        for _ in 0..12 {
+            let cell = self.shift.cell();
+            let sensible = match sort {
+                Sort::Submit => cell.jobs().any(|(_, job)| has_something(job)),
+                Sort::End => cell.jobs().any(|(_, job)| job.end.is_none()),
+                Sort::Start => cell.listed().any(|(channel, _)| cell.moving(channel).is_none()),
+                Sort::Complete => ChannelNumber::all().any(|channel| cell.moving(channel).is_some()),
+                Sort::Select => cell.clone().select().is_ok(),
+                Sort::Deck => cell.schedule().requests().len() < 64,
+                _ => true,
+            };
+            if sensible || self.random.percent(2) {
+                break;
+            }
+            sort = SORTS[self.random.weighted(weights)];
+        }
+        sort
+    }
+
+    fn call(&mut self, sort: Sort) {
+        let piece = match sort {
+            Sort::Deck => self.deck(),
+            Sort::Select => b"SELECT\n".to_vec(),
+            Sort::Submit => self.submit(),
+            Sort::Start => {
+                let channel = self.channel_to_start();
+                self.line(&["START", &channel])
+            }
+            Sort::Complete => self.complete(),
+            Sort::End => self.end(),
+            Sort::Mark => self.mark(),
+            Sort::Request => self.request(),
+            Sort::Status => {
+                let (place, packet) = (self.place(), self.random.within(0..=16).to_string());
+                self.line(&["STATUS", &place, &packet])
+            }
+            Sort::Board => b"BOARD\n".to_vec(),
+            Sort::Noise => self.noise(),
+        };
+        self.push(piece);
+    }
+
+    fn push(&mut self, piece: Vec<u8>) {
+        for line in piece.split_inclusive(|&byte| byte == b'\n') {
+            self.shift.answer_line(line.strip_suffix(b"\n").unwrap_or(line));
+        }
+        self.pieces.push(piece);
+    }
+
+    /// The state in full at the end, and now and then an end in the middle of something.
+    fn last(&mut self) {
+        self.push(b"BOARD\n".to_vec());
+        for place in 0..16 {
+            for packet in 0..16 {
+                if self.random.percent(20) {
+                    self.push(format!("STATUS {place} {packet}\n").into_bytes());
+                }
+            }
+        }
+        let end: &[u8] = match self.random.below(12) {
+            0 => b"BOARD",
+            1 => b"DECK",
+            2 => b"DECK\nA,PTY,2,,P,,,M,P,A,P,1.\nA,FAC,IB/1.\n",
+            3 => b"DECK\n)))))))) +++++++++++++                                                  ))))))))",
+            4 => b"#",
+            5 => b"\xff",
+            _ => return,
+        };
+        self.pieces.push(end.to_vec());
+    }
+
+    fn deck(&mut self) -> Vec<u8> {
+        let mut piece = b"DECK\n".to_vec();
+        if self.random.percent(8) {
+            piece.extend(decks::any_for_script(self.random));
+        } else {
+            let groups = *self.random.pick(&[0, 1, 2, 3, 5, 8, 20]);
+            piece.extend(decks::for_script(self.random, self.style, groups));
+        }
+        piece
+    }
+
+    fn submit(&mut self) -> Vec<u8> {
+        let Some((place, job)) = self.random_job() else {
+            return self.random_submission();
+        };
+        if self.random.percent(8) {
+            return self.random_submission();
+        }
+        let mut holdings: Vec<(ChannelNumber, u32)> = Vec::new();
+        for (channel, unit) in job.assignment.units.iter().flat_map(|(_, units)| units) {
+            holdings.push((*channel, u32::from(unit.0)));
+        }
+        let area = job.assignment.drum.clone();
+        let drum = self.shift.cell().configuration().channels().find(|(_, channel)| channel.kind() == Kind::Md);
+        let on_drum = match drum {
+            Some((channel, _)) if !area.is_empty() && (holdings.is_empty() || self.random.percent(40)) => Some(channel),
+            _ => None,
+        };
+        let packet = self.packet(place);
+        if let Some(channel) = on_drum {
+            let x = self.address(area.start, area.end);
+            let function = self.function(Kind::Md);
+            let h = self.address(area.start, area.end);
+            let words = [
+                self.number(place as u32),
+                self.number(packet),
+                self.octal(function),
+                self.number(channel.0.into()),
+                self.number(x),
+                self.number(h),
+            ];
+            let words: Vec<&str> = words.iter().map(String::as_str).collect();
+            let shown = if self.random.percent(if function == TERMINATE { 90 } else { 10 }) { 6 } else { 5 };
+            return self.line(&[&["SUBMIT"], &words[..shown]].concat());
+        }
+        if holdings.is_empty() {
+            return self.random_submission();
+        }
+        // Few units again and again, so that lists and interlocks meet.
+        let at = if self.random.percent(60) { 0 } else { self.random.below(holdings.len()) };
+        let (channel, unit) = holdings[at];
+        let kind = self.shift.cell().configuration().channel(channel).map_or(Kind::Ma, Channel::kind);
+        let function = self.function(kind);
+        let words = [
+            self.number(place as u32),
+            self.number(packet),
+            self.octal(function),
+            self.number(channel.0.into()),
+            self.number(unit),
+        ];
+        let words: Vec<&str> = words.iter().map(String::as_str).collect();
+        let h: &[&str] = if self.random.percent(3) { &["7"] } else { &[] };
+        self.line(&[&["SUBMIT"], &words[..], h].concat())
+    }
+
+    fn random_submission(&mut self) -> Vec<u8> {
+        let place = self.place();
+        let packet = self.random.within(0..=17).to_string();
+        let function = if self.random.percent(95) { self.random.below(64) } else { self.random.within(60..=600) };
+        let function = self.octal(function as u8 & 0o77 | (function as u8 & 0o200));
+        let channel = self.any_channel();
+        let x = match self.random.below(4) {
+            0 => self.random.within(35_320..=35_400),
+            1 => self.random.below(1_000_010),
+            _ => self.random.within(0..=17),
+        };
+        let x = self.number(x as u32);
+        let h = self.random.below(1_000_000).to_string();
+        let words = ["SUBMIT", &place, &packet, &function, &channel, &x, &h];
+        let shown = if self.random.percent(30) { 7 } else { 6 };
+        self.line(&words[..shown])
+    }
+
+    fn complete(&mut self) -> Vec<u8> {
+        let moving: Vec<ChannelNumber> =
+            ChannelNumber::all().filter(|&channel| self.shift.cell().moving(channel).is_some()).collect();
+        let mut stopping = false;
+        let channel = if moving.is_empty() || self.random.percent(4) {
+            self.any_channel()
+        } else {
+            let channel = *self.random.pick(&moving);
+            if let Some(PacketName { place, packet }) = self.shift.cell().moving(channel) {
+                stopping = self.shift.cell().status(place as u32, packet as u32) == Ok(Status::Stopping);
+            }
+            self.number(channel.0.into())
+        };
+        match self.random.weighted(&[50, if stopping { 50 } else { 5 }, 30]) {
+            0 => self.line(&["DONE", &channel]),
+            1 => self.line(&["CUT", &channel]),
+            _ => {
+                let code =
+                    if self.random.percent(90) { self.random.below(64) } else { *self.random.pick(&[64, 100, 127]) };
+                let code = self.octal(code as u8);
+                self.line(&["FAIL", &channel, &code])
+            }
+        }
+    }
+
+    fn end(&mut self) -> Vec<u8> {
+        let place = match self.random_job() {
+            Some((place, _)) if !self.random.percent(10) => self.number(place as u32),
+            _ => self.place(),
+        };
+        let word = if self.random.percent(60) { "END" } else { "ABORT" };
+        self.line(&[word, &place])
+    }
+
+    fn mark(&mut self) -> Vec<u8> {
+        let word = *self.random.pick(&["DOWN", "UP", "UP", "RESERVE", "UNRESERVE", "UNRESERVE"]);
+        let channel = self.any_channel();
+        let configured =
+            channel.parse().ok().and_then(|number| self.shift.cell().configuration().channel(ChannelNumber(number)));
+        let unit = match configured {
+            Some(channel) if channel.unit_count() > 0 && self.random.percent(90) => {
+                self.random.below(channel.unit_count().into())
+            }
+            _ => self.random.within(0..=17),
+        };
+        let unit = self.number(unit as u32);
+        self.line(&[word, &channel, &unit])
+    }
+
+    fn request(&mut self) -> Vec<u8> {
+        let word = if self.random.percent(60) { "RELEASE" } else { "DELETE" };
+        let requests = self.shift.cell().schedule().requests();
+        let suspended: Vec<&str> = requests
+            .iter()
+            .filter(|scheduled| word == "DELETE" || scheduled.state == State::Suspended)
+            .map(|scheduled| scheduled.request.id.as_str())
+            .collect();
+        let id = if !suspended.is_empty() && !self.random.percent(10) {
+            self.random.pick(&suspended).to_string()
+        } else if !requests.is_empty() && self.random.percent(50) {
+            self.random.pick(requests).request.id.clone()
+        } else {
+            self.random.pick(&["NOBODY", "A", "J1", "------", "TOOLONGID", "a", "J1,"]).to_string()
+        };
+        self.line(&[word, &id])
+    }
+
+    /// Lines that are no calls, or nearly none.
+    fn noise(&mut self) -> Vec<u8> {
+        let length = *self.random.pick(&[0, 1, 5, 20, 254, 255, 256, 257, 300, 5000]);
+        let mut line = match self.random.below(9) {
+            0 => Vec::new(),
+            1 => format!("#{}", self.random.text("abc #?", length)).into_bytes(),
+            2 => self.random.text("SELECT BOARD 0123", length).into_bytes(),
+            3 => (0..length).map(|_| *self.random.pick(ODD_BYTES)).filter(|&byte| byte != b'\n').collect(),
+            4 => {
+                // A call with spaces or words too many, or too few.
+                let calls = [
+                    "SELECT",
+                    "START 3",
+                    "STATUS 0 0",
+                    "BOARD",
+                    "END 15",
+                    "RELEASE A",
+                    "DECK",
+                    "SUBMIT 0 0 02 3 0",
+                    "CUT 3",
+                    "FAIL 3 2",
+                ];
+                let extra = ["", " ", "  ", " 0", " 0 0", "\r", "\t", "."];
+                let before = if self.random.percent(10) { " " } else { "" };
+                format!("{before}{}{}", self.random.pick(&calls), self.random.pick(&extra)).into_bytes()
+            }
+            5 => {
+                let numbers = [
+                    "",
+                    "0",
+                    "000000003",
+                    "0000000003",
+                    "999999999",
+                    "1000000000",
+                    "4294967299",
+                    "-0",
+                    "+3",
+                    "3.",
+                    "0x3",
+                    "3a",
+                    "８",
+                ];
+                let words = [
+                    "START",
+                    "DONE",
+                    "CUT",
+                    "END",
+                    "ABORT",
+                    "RELEASE",
+                    "DELETE",
+                    "START 3",
+                    "STATUS 0",
+                    "DOWN 3",
+                    "FAIL 3",
+                    "SUBMIT 0 0 02 3",
+                ];
+                format!("{} {}", self.random.pick(&words), self.random.pick(&numbers)).into_bytes()
+            }
+            6 => {
+                let word = *self.random.pick(&["START", "RELEASE", "DELETE", "#"]);
+                let digits = length.saturating_sub(word.len() + 1);
+                format!("{word} {}", "0".repeat(digits)).into_bytes()
+            }
+            _ => {
+                let mut line = self.submit();
+                line.pop();
+                damage(self.random, &mut line);
+                line.retain(|&byte| byte != b'\n');
+                line
+            }
+        };
+        if line == b"DECK" {
+            line.push(b' ');
+        }
+        line.push(b'\n');
+        line
+    }
+
+    /// Words with single spaces, and once in a while a little damage.
+    fn line(&mut self, words: &[&str]) -> Vec<u8> {
+        let mut line = words.join(" ").into_bytes();
+        line.push(b'\n');
+        line
+    }
+
+    fn number(&mut self, number: u32) -> String {
+        match self.random.below(20) {
+            0 => format!("{number:02}"),
+            1 => format!("{number:09}"),
+            _ => number.to_string(),
+        }
+    }
+
+    fn octal(&mut self, number: u8) -> String {
+        match self.random.below(10) {
+            0 => format!("{number:o}"),
+            1 => format!("{number:09o}"),
+            _ => format!("{number:02o}"),
+        }
+    }
+
+    fn random_job(&mut self) -> Option<(usize, Job)> {
+        let mut jobs: Vec<(usize, &Job)> = self.shift.cell().jobs().collect();
+        // Mostly one that has something to submit to.
+        if jobs.iter().any(|(_, job)| has_something(job)) && self.random.percent(90) {
+            jobs.retain(|(_, job)| has_something(job));
+        }
+        if jobs.is_empty() {
+            return None;
+        }
+        let (place, job) = *self.random.pick(&jobs);
+        Some((place, job.clone()))
+    }
+
+    fn place(&mut self) -> String {
+        let place = if self.random.percent(95) { self.random.below(16) } else { self.random.within(16..=300) };
+        self.number(place as u32)
+    }
+
+    /// A packet of the place, mostly one that may be submitted.
+    fn packet(&mut self, place: usize) -> u32 {
+        let usable = |packet: &u32| {
+            let status = self.shift.cell().status(place as u32, *packet);
+            matches!(status, Ok(Status::Blank | Status::Ended(_)))
+        };
+        let free: Vec<u32> = (0..16).filter(usable).collect();
+        if free.is_empty() || self.random.percent(8) {
+            self.random.below(16) as u32
+        } else {
+            *self.random.pick(&free)
+        }
+    }
+
+    fn function(&mut self, kind: Kind) -> u8 {
+        match self.random.weighted(&[70, 12, 14, 4]) {
+            0 => {
+                let legal: Vec<u8> =
+                    (0..=functions::LAST).filter(|&function| functions::is_legal(kind, function)).collect();
+                *self.random.pick(&legal)
+            }
+            1 => REMOVE_INTERLOCK,
+            2 => TERMINATE,
+            _ => self.random.below(64) as u8,
+        }
+    }
+
+    /// An address in an area, at its ends or just outside.
+    fn address(&mut self, start: u32, end: u32) -> u32 {
+        match self.random.below(12) {
+            0 | 1 => start,
+            2 | 3 => end - 1,
+            4 => end,
+            5 => start - 1,
+            6 => *self.random.pick(&[0, 35_328, 35_329, 999_999_999]),
+            _ => start + self.random.below((end - start) as usize) as u32,
+        }
+    }
+
+    fn any_channel(&mut self) -> String {
+        let channels: Vec<ChannelNumber> =
+            self.shift.cell().configuration().channels().map(|(number, _)| number).collect();
+        if channels.is_empty() || self.random.percent(8) {
+            let channel = if self.random.percent(80) { self.random.within(0..=17) } else { self.random.below(1000) };
+            self.number(channel as u32)
+        } else {
+            let channel = *self.random.pick(&channels);
+            self.number(channel.0.into())
+        }
+    }
+
+    /// A channel with something listed, mostly.
+    fn channel_to_start(&mut self) -> String {
+        let listed: Vec<ChannelNumber> = self.shift.cell().listed().map(|(channel, _)| channel).collect();
+        if listed.is_empty() || self.random.percent(10) {
+            self.any_channel()
+        } else {
+            let channel = *self.random.pick(&listed);
+            self.number(channel.0.into())
+        }
+    }
+}
