@@ -131,7 +131,12 @@ fn spoilt(random: &mut Random, good: &[u8]) -> Vec<u8> {
     } else {
         let to = random.below(lines.len());
         let line = lines[at].clone();
-        match random.below(4) {
+        match random.below(5) {
+            // A drum, perhaps a second one.
+            4 => {
+                let channel = line.get(..2).unwrap_or("00").to_string();
+                lines[at] = format!("{channel} MD 40000");
+            }
             0 => lines.insert(at, random.pick(&["", "0", "00 00", "00 MA 1", "15 15"]).to_string()),
             1 => lines.push(random.pick(&["", "0", "x", "15 15"]).to_string()),
             2 => lines.insert(to, line),

@@ -171,8 +171,8 @@ fn at_the_limit(random: &mut Random, style: Style) -> Vec<u8> {
         }
         // As many groups as there can be.
         _ => {
-            let opener: &[u8] =
-                *random.pick(&[&b",PTY\n"[..], b"A,PTY.\n", b",PTY,\n", b"A,PTY,2,,P,,,M,P,A,P,1.\nA,FAC,IB/1.\n"]);
+            const OPENERS: [&[u8]; 4] = [b",PTY\n", b"A,PTY.\n", b",PTY,\n", b"A,PTY,2,,P,,,M,P,A,P,1.\nA,FAC,IB/1.\n"];
+            let opener = *random.pick(&OPENERS);
             while deck.len() + opener.len() + TERMINATION.len() <= length {
                 deck.extend(opener);
             }
@@ -538,8 +538,9 @@ fn spoil_fac(random: &mut Random, fields: &mut Vec<String>) {
         }
         4 => fields[0] = random.pick(&["", "OTHER", "A1", "J0", "J1", "-"]).to_string(),
         _ => {
-            let db = random.within(1..=99);
-            fields.retain(|field| !field.starts_with("DB"));
+            let db = *random.pick(&[1, 14, 27, 28, 29, 30, 99]);
+            let without_ib = random.percent(50);
+            fields.retain(|field| !field.starts_with("DB") && !(without_ib && field.starts_with("IB")));
             fields.push(format!("DB/{db}"));
         }
     }

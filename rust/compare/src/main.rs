@@ -1,6 +1,6 @@
 //! Compares the ordinary implementation with the proved programs on random input, to the byte.
 //!
-//! `compare deck|listing|shift [--seed N] [--count N] [--calls N] [--jobs N] [--save FOLDER] [--show] [-- COMMAND..]`
+//! `compare deck|listing|shift [--seed N] [--count N] [--calls N] [--jobs N] [--save FOLDER] [--first] [--show] [-- COMMAND..]`
 //!
 //! Input number i of a run is made from seed N + i alone, so `--seed S --count 1` gives it again. For `shift` `--calls` is the length of a
 //! script, and every fiftieth script is short and handed over line by line, each line after the answer to the one before.
@@ -28,7 +28,7 @@ use programs::{Outcome, Program};
 use random::Random;
 
 const USAGE: &str =
-    "usage: compare deck|listing|shift [--seed N] [--count N] [--calls N] [--jobs N] [--save FOLDER] [--show] [-- COMMAND..]";
+    "usage: compare deck|listing|shift [--seed N] [--count N] [--calls N] [--jobs N] [--save FOLDER] [--first] [--show] [-- COMMAND..]";
 
 #[derive(Clone, Copy, PartialEq, Eq)]
 enum Subject {
@@ -62,6 +62,8 @@ struct Options {
     calls: usize,
     jobs: usize,
     save: PathBuf,
+    /// Stop at the first difference.
+    first: bool,
     show: bool,
     command: Vec<OsString>,
 }
@@ -75,8 +77,17 @@ fn options() -> Result<Options, String> {
         _ => return Err(USAGE.into()),
     };
     let save = Path::new(env!("CARGO_MANIFEST_DIR")).join("../target/differences");
-    let mut options =
-        Options { subject, seed: 1, count: 1000, calls: 2000, jobs: 2, save, show: false, command: Vec::new() };
+    let mut options = Options {
+        subject,
+        seed: 1,
+        count: 1000,
+        calls: 2000,
+        jobs: 2,
+        save,
+        first: false,
+        show: false,
+        command: Vec::new(),
+    };
     while let Some(word) = words.next() {
         if word == "--" {
             options.command = words.by_ref().collect();
@@ -84,6 +95,10 @@ fn options() -> Result<Options, String> {
         }
         if word == "--show" {
             options.show = true;
+            continue;
+        }
+        if word == "--first" {
+            options.first = true;
             continue;
         }
         let value = words.next().ok_or(USAGE)?;
@@ -115,7 +130,7 @@ fn input(subject: Subject, seed: u64, calls: usize) -> (Vec<Vec<u8>>, usize) {
 
 /// Is the script of this seed handed over line by line?
 fn is_talk(seed: u64) -> bool {
-    seed % 50 == 0
+    seed.is_multiple_of(50)
 }
 
 /// What a run has seen.
@@ -202,7 +217,8 @@ fn compare(options: Options) -> Result<u64, String> {
         for _ in 0..options.jobs {
             scope.spawn(|| loop {
                 let at = next.fetch_add(1, Ordering::Relaxed);
-                if at >= options.count {
+                let stop = options.first && tally.lock().expect("no thread has failed").differences > 0;
+                if at >= options.count || stop {
                     return;
                 }
                 one(&options, &program, options.seed + at, &tally);
@@ -238,7 +254,7 @@ fn one(options: &Options, program: &Program, seed: u64, tally: &Mutex<Tally>) {
         program.run(&text)
     };
     let differs = answered.output != expected || answered.fault.is_some();
-    if differs {
+    if differs && !options.first {
         if let Err(error) = save(options, program, seed, pieces, &answered) {
             eprintln!("{}: {error}", options.save.display());
         }

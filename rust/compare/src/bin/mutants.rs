@@ -1,0 +1,91 @@
+//! How sharp is the comparison? Each change of `mutants.txt` is made to a copy of the ordinary implementation, which is then compared with the
+//! proved program, or with COMMAND: there must be a difference.
+//!
+//! `mutants deck|listing|shift [--count N] [-- COMMAND..]`
+//!
+//! A change is four lines: the subject and the file, the text to find (once), the text to put there, and an empty line.
+
+use std::fs;
+use std::path::Path;
+use std::process::{Command, ExitCode, Stdio};
+
+struct Change {
+    file: String,
+    old: String,
+    new: String,
+}
+
+fn changes(text: &str, subject: &str) -> Vec<Change> {
+    let lines: Vec<&str> = text.lines().filter(|line| !line.starts_with("//")).collect();
+    let mut changes = Vec::new();
+    for change in lines.split(|line| line.is_empty()).filter(|change| !change.is_empty()) {
+        let [head, old, new] = change else { panic!("not three lines: {change:?}") };
+        let (of, file) = head.split_once(' ').expect("a subject and a file");
+        if of == subject {
+            changes.push(Change { file: file.into(), old: old.to_string(), new: new.to_string() });
+        }
+    }
+    changes
+}
+
+fn copy(from: &Path, to: &Path) {
+    fs::create_dir_all(to).expect("a folder for the copy");
+    for entry in fs::read_dir(from).expect("a folder to copy") {
+        let entry = entry.expect("an entry");
+        let target = to.join(entry.file_name());
+        if entry.path().is_dir() {
+            copy(&entry.path(), &target);
+        } else {
+            fs::copy(entry.path(), target).expect("a copied file");
+        }
+    }
+}
+
+fn main() -> ExitCode {
+    let mut words = std::env::args().skip(1);
+    let subject = words.next().expect("usage: mutants deck|listing|shift [--count N] [-- COMMAND..]");
+    let rest: Vec<String> = words.collect();
+    let here = Path::new(env!("CARGO_MANIFEST_DIR"));
+    let top = here.join("..");
+    let repository = top.join("target/mutants");
+    let work = repository.join("rust");
+    let _ = fs::remove_dir_all(&repository);
+    for part in ["ordinary/src", "compare/src"] {
+        copy(&top.join(part), &work.join(part));
+    }
+    for file in ["Cargo.toml", "Cargo.lock", "ordinary/Cargo.toml", "compare/Cargo.toml"] {
+        fs::copy(top.join(file), work.join(file)).expect("a copied file");
+    }
+    // Only what is compared is built there.
+    fs::write(work.join("Cargo.toml"), "[workspace]\nresolver = \"2\"\nmembers = [\"ordinary\", \"compare\"]\n\n[workspace.package]\nversion = \"0.1.0\"\nedition = \"2021\"\npublish = false\n")
+        .expect("a written file");
+    copy(&top.join("../target/bin"), &repository.join("target/bin"));
+
+    let text = fs::read_to_string(here.join("mutants.txt")).expect("mutants.txt");
+    let changes = changes(&text, &subject);
+    let mut kept = 0;
+    for Change { file, old, new } in &changes {
+        let path = work.join("ordinary/src").join(file);
+        let source = fs::read_to_string(&path).expect("a source file");
+        assert_eq!(source.matches(old.as_str()).count(), 1, "{file}: {old}");
+        fs::write(&path, source.replace(old.as_str(), new)).expect("a written file");
+        let mut build = Command::new("cargo");
+        build.args(["build", "--offline", "--quiet", "--bin", "compare"]).current_dir(&work);
+        build.env("CARGO_TARGET_DIR", top.join("target/mutants-build"));
+        let built = build.stderr(Stdio::null()).status().expect("cargo");
+        assert!(built.success(), "{file}: {new} does not build");
+        let mut compare = Command::new(top.join("target/mutants-build/debug/compare"));
+        compare.arg(&subject).args(["--first", "--save"]).arg(repository.join("differences")).args(&rest);
+        let found = compare.stdout(Stdio::null()).stderr(Stdio::null()).status().expect("compare");
+        let verdict = if found.success() { "NOT FOUND" } else { "found" };
+        kept += u32::from(found.success());
+        println!("{verdict:<9}  {file}: {} -> {}", old.trim(), new.trim());
+        fs::write(&path, source).expect("a written file");
+    }
+    println!("{}: {} changes, {kept} not found", subject, changes.len());
+    if kept == 0 {
+        ExitCode::SUCCESS
+    } else {
+        ExitCode::FAILURE
+    }
+}
