@@ -540,7 +540,7 @@ fn spoil_fac(random: &mut Random, fields: &mut Vec<String>) {
         _ => {
             let db = *random.pick(&[1, 14, 27, 28, 29, 30, 99]);
             let without_ib = random.percent(50);
-            fields.retain(|field| !field.starts_with("DB") && !(without_ib && field.starts_with("IB")));
+            fields.retain(|field| !(field.starts_with("DB") || without_ib && field.starts_with("IB")));
             fields.push(format!("DB/{db}"));
         }
     }

@@ -303,6 +303,7 @@ fn save(
         let pieces = reduce::pieces(pieces, &mut shows);
         reduce::text(&pieces.concat(), &mut shows)
     };
+    let fault = answered.fault.clone();
     let (expected, answered) = (subject.ordinary(&small), program.run(&small));
     fs::create_dir_all(&options.save)?;
     let file = |end: &str| options.save.join(format!("{}-{seed}.{end}", subject.name()));
@@ -324,7 +325,7 @@ fn save(
         at + 1,
         line(&expected, at),
         line(&answered.output, at),
-        answered.fault.map_or(String::new(), |fault| format!(", {fault}"))
+        answered.fault.or(fault).map_or(String::new(), |fault| format!(", {fault}"))
     );
     Ok(())
 }

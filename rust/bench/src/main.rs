@@ -1,0 +1,211 @@
+//! Times of the ordinary implementation and of the proved functions on the same input. Each figure is the lowest of several samples, each of
+//! as many runs as take some twenty milliseconds. That both answer the same is checked before anything is timed.
+
+mod proved;
+
+use std::hint::black_box;
+use std::time::{Duration, Instant};
+
+use ordinary::cell::{Cell, Completion, Submission};
+use ordinary::configuration::Configuration;
+
+const TERMINATION: &str = ")))))))) +++++++++++++                                                  ))))))))\n";
+const SAMPLES: usize = 15;
+const SAMPLE: Duration = Duration::from_millis(20);
+
+/// Nanoseconds of one run.
+fn time(mut run: impl FnMut()) -> f64 {
+    let mut runs = 1_u32;
+    let sample = |runs: u32, run: &mut dyn FnMut()| {
+        let start = Instant::now();
+        for _ in 0..runs {
+            run();
+        }
+        start.elapsed()
+    };
+    while sample(runs, &mut run) < SAMPLE {
+        runs *= 2;
+    }
+    let samples = (0..SAMPLES).map(|_| sample(runs, &mut run).as_nanos() as f64 / f64::from(runs));
+    samples.fold(f64::INFINITY, f64::min)
+}
+
+fn show(what: &str, ordinary: f64, proved: Option<f64>) {
+    let micro = |nanoseconds: f64| format!("{:.2}", nanoseconds / 1000.0);
+    let (time, ratio) = match proved {
+        Some(proved) => (micro(proved), format!("{:.1}", proved / ordinary)),
+        None => ("-".into(), "-".into()),
+    };
+    println!("| {what} | {} | {time} | {ratio} |", micro(ordinary));
+}
+
+fn main() {
+    println!("| What | ordinary, µs | proved, µs | proved / ordinary |");
+    println!("|---|---|---|---|");
+    decks();
+    configurations();
+    turns();
+    selections();
+    if !proved::LINKED {
+        eprintln!("The proved functions are not linked: run bench/native.sh first.");
+    }
+}
+
+fn decks() {
+    let k1 = "A1,PTY,2,,ECU,,T,PROG,P,02A5,P,3.\nA1,FAC,IB/2,MT1/2.\nB7,PTY,2,,LABEL,,T,PROG,P,A5,C,1.\nB7,FAC,IB/1.\n\
+              D4,PTY,2,,KEY,,T,PROG,P,01A5,C,1.\nD4,FAC,IB/1.\n";
+    let requests = |count: usize| -> String {
+        let entries = "IB/2,DB/1,MD/1500,MA/1,MT1/2,MT2/3,PR/1";
+        (0..count).map(|n| request(n, entries)).collect()
+    };
+    let longest = (1..).take_while(|&count| requests(count).len() + TERMINATION.len() <= 16_384).last().unwrap_or(0);
+    let one_card_groups = "A,PTY.\n".repeat((16_384 - TERMINATION.len()) / 7);
+    for (what, cards) in [
+        ("deck: the three requests of K1", k1.to_string()),
+        ("deck: 64 requests, which fill the schedule", requests(64)),
+        (&format!("deck: {longest} requests, nearly 16,384 bytes"), requests(longest)),
+        ("deck: 2,329 groups of one card, all in error", one_card_groups),
+    ] {
+        let deck = (cards + TERMINATION).into_bytes();
+        let ordinary = time(|| {
+            black_box(ordinary::deck::report(black_box(&deck)));
+        });
+        let proved = proved::LINKED.then(|| {
+            let mut room = vec![0; 65_536];
+            let length = proved::deck(&deck, &mut room);
+            assert_eq!(&room[..length], ordinary::deck::report(&deck).as_bytes());
+            time(|| {
+                black_box(proved::deck(black_box(&deck), &mut room));
+            })
+        });
+        show(what, ordinary, proved);
+    }
+}
+
+/// The two cards of a request with its own ID and priority.
+fn request(number: usize, entries: &str) -> String {
+    let letter = char::from(b'A' + (number / 63 % 26) as u8);
+    format!("J{number},PTY,2,,PROG-{number},,T,LIB,P,{letter}{},P,10.\nJ{number},FAC,{entries}.\n", number % 63)
+}
+
+/// Sixteen channels with sixteen units each, all down.
+fn largest_configuration() -> String {
+    let channels: String = (0..16).map(|channel| format!("{channel:02} MT 16\n")).collect();
+    let down: String = (0..256).map(|unit| format!("{:02} {:02}\n", unit / 16, unit % 16)).collect();
+    format!("16\n{channels}256\n{down}")
+}
+
+const CELL: &str = "6\n00 MA 4\n01 MA 2\n03 MT 6\n05 MT 3\n07 MD 40000\n12 PR 2\n1\n00 01\n";
+
+fn configurations() {
+    for (what, text) in [
+        ("configuration: six channels, one unit down", CELL.to_string()),
+        ("configuration: 256 units, all down", largest_configuration()),
+    ] {
+        let ordinary = time(|| {
+            black_box(ordinary::configuration::listing(black_box(text.as_bytes())));
+        });
+        let proved = proved::LINKED.then(|| {
+            let mut room = [0; 96];
+            let length = proved::listing(text.as_bytes(), &mut room);
+            assert_eq!(&room[..length], ordinary::configuration::listing(text.as_bytes()).as_bytes());
+            time(|| {
+                black_box(proved::listing(black_box(text.as_bytes()), &mut room));
+            })
+        });
+        show(what, ordinary, proved);
+    }
+}
+
+/// A packet submitted, started and completed.
+fn turns() {
+    let channel = 3;
+    let mut cell = fresh(CELL, &request(0, "IB/1,MT/2"));
+    cell.select().expect("a job");
+    let turn = |cell: &mut Cell| {
+        let submission = Submission { place: 0, packet: 0, function: 0o02, channel, x: 0, h: 0 };
+        cell.submit(black_box(submission)).expect("accepted");
+        black_box(cell.start(channel)).expect("accepted");
+        black_box(cell.complete(channel, Completion::Full)).expect("accepted");
+    };
+    let ordinary = time(|| turn(&mut cell));
+    let proved = proved::LINKED.then(|| {
+        let channel = channel as u8;
+        assert!(proved::turns(CELL.as_bytes(), channel) && proved::no_turn(CELL.as_bytes(), channel));
+        let thousand = time(|| {
+            black_box(proved::turns(black_box(CELL.as_bytes()), channel));
+        });
+        let none = time(|| {
+            black_box(proved::no_turn(black_box(CELL.as_bytes()), channel));
+        });
+        (thousand - none) / 1000.0
+    });
+    show("submit, start and complete", ordinary, proved);
+}
+
+/// A fresh cell that has entered these cards.
+fn fresh(configuration: &str, cards: &str) -> Cell {
+    let mut cell = Cell::new(Configuration::from_text(configuration.as_bytes()).expect("a good configuration"));
+    let outcome = cell.enter_deck(format!("{cards}{TERMINATION}").as_bytes()).expect("a good deck");
+    assert!(outcome.errors.is_empty());
+    cell
+}
+
+/// Selection over 64 requests with fifteen places held: none fits, or only the last fits.
+fn selections() {
+    let configuration: String = (0..16)
+        .map(|channel| match channel {
+            0..=4 => format!("{channel:02} MA 16\n"),
+            5..=10 => format!("{channel:02} MT 16\n"),
+            11 => format!("{channel:02} MD 400000\n"),
+            _ => format!("{channel:02} PR 4\n"),
+        })
+        .collect();
+    let configuration = format!("16\n{configuration}0\n");
+    for (what, last) in [
+        ("selection, 15 places held, none of 49 fits", "IB/1,DB/1,MD/100,MA1/4,MA2/3,MT1/4,MT2/3,PR1/5"),
+        ("selection, 15 places held, only the last of 49 fits", "IB/1,DB/1,MD/100,MA1/4,MA2/3,MT1/4,MT2/3,PR1/4"),
+    ] {
+        let mut cards = String::new();
+        for number in 0..64 {
+            cards += &request(
+                number,
+                match number {
+                    0..=14 => "IB/1,MD/100,MT/2",
+                    63 => last,
+                    // What is lacking shows last.
+                    _ => "IB/1,DB/1,MD/100,MA1/4,MA2/3,MT1/4,MT2/3,PR1/5",
+                },
+            );
+        }
+        let mut cell = fresh(&configuration, &cards);
+        for _ in 0..15 {
+            cell.select().expect("a job");
+        }
+        let fits = cell.clone().select().is_ok();
+        let clone = time(|| {
+            black_box(cell.clone());
+        });
+        let ordinary = if fits {
+            let both = time(|| {
+                black_box(cell.clone()).select().expect("a job");
+            });
+            both - clone
+        } else {
+            time(|| assert!(black_box(&mut cell).select().is_err()))
+        };
+        let deck = format!("{cards}{TERMINATION}");
+        let proved = proved::LINKED.then(|| {
+            let (configuration, deck) = (configuration.as_bytes(), deck.as_bytes());
+            assert_eq!(proved::selections(configuration, deck), fits);
+            let hundred = time(|| {
+                black_box(proved::selections(black_box(configuration), black_box(deck)));
+            });
+            let one = time(|| {
+                black_box(proved::one_selection(black_box(configuration), black_box(deck)));
+            });
+            (hundred - one) / 99.0
+        });
+        show(what, ordinary, proved);
+    }
+}
