@@ -42,6 +42,22 @@ pub extern "C" fn luffgravel_listing(config: &[u8], out: &mut [u8]) -> usize {
     listing_text::listing(config, out)
 }
 
+// Whether a text is a configuration with this unit, and that unit, named by its place among 256, is down. Which unit is known only at the call,
+// so the whole configuration is made.
+#[no_mangle]
+pub extern "C" fn luffgravel_is_down(config: &[u8], channel: u8, unit: u8, at: usize) -> bool {
+    let answer = configuration::read(config);
+    let configuration = answer.configuration;
+    let down = configuration.down;
+    if 255 < at {
+        return false;
+    }
+    if channels::has_unit(configuration, ChannelNumber(channel), UnitNumber(unit)) {
+        return down[at];
+    }
+    false
+}
+
 // The fresh lists of a configuration.
 fn fresh(config: &[u8]) -> Lists {
     let answer = configuration::read(config);

@@ -5,6 +5,7 @@ mod native {
     extern "C" {
         fn luffgravel_deck(deck: *const u8, length: usize, out: *mut u8, room: usize) -> usize;
         fn luffgravel_listing(config: *const u8, length: usize, out: *mut u8, room: usize) -> usize;
+        fn luffgravel_is_down(config: *const u8, length: usize, channel: u8, unit: u8, at: usize) -> bool;
         fn luffgravel_turns(config: *const u8, length: usize, channel: u8) -> bool;
         fn luffgravel_no_turn(config: *const u8, length: usize, channel: u8) -> bool;
         fn luffgravel_selections(config: *const u8, length: usize, deck: *const u8, deck_length: usize) -> bool;
@@ -19,6 +20,11 @@ mod native {
 
     pub fn listing(config: &[u8], out: &mut [u8]) -> usize {
         unsafe { luffgravel_listing(config.as_ptr(), config.len(), out.as_mut_ptr(), out.len()) }
+    }
+
+    pub fn is_down(config: &[u8], channel: u8, unit: u8) -> bool {
+        let at = usize::from(channel) * 16 + usize::from(unit);
+        unsafe { luffgravel_is_down(config.as_ptr(), config.len(), channel, unit, at) }
     }
 
     pub fn turns(config: &[u8], channel: u8) -> bool {
@@ -52,6 +58,10 @@ mod absent {
     }
 
     pub fn listing(_: &[u8], _: &mut [u8]) -> usize {
+        unreachable!("the proved functions are not linked")
+    }
+
+    pub fn is_down(_: &[u8], _: u8, _: u8) -> bool {
         unreachable!("the proved functions are not linked")
     }
 
