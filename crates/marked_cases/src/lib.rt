@@ -1,0 +1,1 @@
+// The marked cases K1 to K9 of document 01 as one statement over a list: see specs/. No code.
