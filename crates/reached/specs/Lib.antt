@@ -1,3 +1,4 @@
 pub mod Reached
 pub mod Fitting
 pub mod ReachedProof
+pub mod InOrder
