@@ -3,7 +3,6 @@
 use numbers::Refusal;
 use packets::Begun;
 use packets::Status;
-ghost use mathlib.Core.Path.{_≡_};
 ghost use Rattle.text.specs.Room.{Written};
 ghost use Rattle.answer_text.specs.Answers.{refusedText, doneText, startedText, completedText, statusWord, statusText, noCallText};
 

@@ -1,6 +1,6 @@
 -- What owning a value tells of the numbers and names in it: each is what its type lets it be. Assumes nothing.
 use Prim.Native.Nat.{ℕ, zero, suc, _^_, _≤_, _<_}
-use mathlib.Core.Path.{_≡_, refl, sym, ap, subst, _∙_}
+use mathlib.Core.Path.{_≡_, sym, subst, _∙_}
 use mathlib.Core.Bool.{false}
 use mathlib.Core.List.{List, [], _∷_, map}
 use native.Mathlib.Nat.{le-of-suc-le-suc}
@@ -27,15 +27,13 @@ use Rattle.units.specs.declared.Units.{Units}
 use Rattle.units.proofs.Holder as Holder′
 use Rattle.units.proofs.Unit as Unit′
 use Rattle.units.proofs.Units as Units′
-use Rattle.packets.specs.State.{noJob, jobIn}
-use Rattle.packets.specs.declared.Job.{Job}
+use Rattle.packets.specs.State.{noJob}
 use Rattle.packets.specs.declared.Motion.{Motion}
 use Rattle.packets.specs.declared.Motion.the-variants.{Idle, Busy}
 use Rattle.packets.specs.declared.Lists.{Lists}
 use Rattle.packets.proofs.Job as Job′
 use Rattle.packets.proofs.Motion as Motion′
 use Rattle.packets.proofs.Carrier as Carrier′
-use Rattle.packets.proofs.RequestList as RequestList′
 use Rattle.packets.proofs.Lists as Lists′
 use Rattle.list_lines.specs.Lines.{idle}
 use Rattle.text.specs.Room.{Written}

@@ -1,11 +1,11 @@
 -- How long a board is at most: 17,235 bytes, if its numbers and names are what their types let them be. Assumes nothing.
 use Prim.Native.Nat.{ℕ, zero, suc, _+_, _*_, _-_, _/_, _%_, _^_, _≤_, _<_, min}
-use mathlib.Core.Path.{_≡_, refl, sym, ap, _∙_}
-use mathlib.Core.Bool.{Bool, true, false, cond}
+use mathlib.Core.Path.{_≡_, refl}
+use mathlib.Core.Bool.{Bool, true, false}
 use mathlib.Core.List.{List, [], _∷_, _++_}
 use native.Mathlib.Omega.{arith}
 use lib.Dec.{eqb, leb}
-use lib.ListN.{length, getD, take, replicate, length-append, length-take}
+use lib.ListN.{length, getD, length-append, length-take}
 use lib.Seq.{getD-take}
 use Rattle.numbers.specs.Quoted.{bytes, byte}
 use Rattle.numbers.specs.Tests.{by-bool}
@@ -33,14 +33,13 @@ use Rattle.packets.specs.declared.JobState.the-variants as J
 use Rattle.packets.specs.declared.Packet.{Packet}
 use Rattle.packets.specs.declared.Motion.{Motion}
 use Rattle.packets.specs.declared.Motion.the-variants.{Idle, Busy}
-use Rattle.packets.specs.declared.Carrier.{Carrier}
 use Rattle.packets.specs.declared.Lists.{Lists}
-use Rattle.pieces.specs.Pieces.{unitText, packetText, spanText, wordText, eachFrom, each, eachOf}
+use Rattle.pieces.specs.Pieces.{packetText, spanText, wordText, eachOf}
 use Rattle.pieces.specs.PieceLaws.{each-bound, of-bound}
 use Rattle.job_lines.specs.Places.{idIn, jobText, placeText, placesText}
 use Rattle.job_lines.specs.Blocks.{blockByte, blocksText, coreText}
 use Rattle.unit_lines.specs.Units.{holderText, isLocked, stateText, unitLine, channelText, unitsText}
-use Rattle.drum_lines.specs.Areas.{holds, holders, inserted, ascending, areaText, areaLine, drumText}
+use Rattle.drum_lines.specs.Areas.{holds, holders, inserted, ascending, areaLine, drumText}
 use Rattle.list_lines.specs.Lines.{lineText, motionText, idle, movesText, entryText, listedLine, listedText, stateWord, requestText, requestsText}
 use Rattle.board_text.specs.Board.{queueOf, boardText, most}
 

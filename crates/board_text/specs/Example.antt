@@ -10,7 +10,6 @@ use Rattle.numbers.specs.declared.Kind.the-variants.{Mt, Md}
 use Rattle.text.specs.Writing.{digitsText}
 use Rattle.writing.specs.Writing.{priorityText}
 use Rattle.cards.specs.declared.Request.{Request}
-use Rattle.entries.specs.Entries as Entries
 use Rattle.entries.specs.declared.State.the-variants as S
 use Rattle.held.specs.Held.{scheduleOf}
 use Rattle.held.specs.declared.Schedule.{Schedule}

@@ -11,7 +11,7 @@ ghost use lib.ListN.{take};
 ghost use Rattle.packets.specs.State.{isEmpty};
 ghost use Rattle.text.specs.Room.{Written};
 ghost use Rattle.job_lines.specs.Places.{jobText, placeText, idIn, placesText};
-ghost use Rattle.job_lines.specs.Blocks.{inRun, isExecutive, holdsBlock, digit, holderIn, blockByte, blocksText, coreText};
+ghost use Rattle.job_lines.specs.Blocks.{inRun, holdsBlock, digit, holderIn, blockByte, blocksText, coreText};
 
 // The ID of the request whose job is in a place; blanks where there is none.
 fn id_in(entries: [Entry; 64], count: usize, place: u8) -> [u8; 6]

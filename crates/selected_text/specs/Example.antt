@@ -1,8 +1,7 @@
 -- The example of a selection's answer, computed: A1 asks for IB/2 and MT1/2 and gets blocks 2 and 3 and the first two units of channel 3. Assumes nothing.
-use Prim.Native.Nat.{ℕ}
 use mathlib.Core.Path.{_≡_, refl}
 use mathlib.Core.Bool.{true}
-use mathlib.Core.List.{List, [], _∷_}
+use mathlib.Core.List.{List, []}
 use lib.ListN.{set, replicate}
 use Rattle.numbers.specs.Quoted.{byte, bytes}
 use Rattle.numbers.specs.declared.Kind.the-variants.{Mt}

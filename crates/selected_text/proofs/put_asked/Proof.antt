@@ -1,5 +1,4 @@
 -- `selected_text::put_asked` meets its contract: the entry where units are asked for, else nothing. Assumes nothing.
-use mathlib.Core.Path.{sym, ap, _∙_}
 use borrow.Author.Tests.{eq-eqb, ne-eqb}
 use Rattle.text.specs.RoomLaws.{none}
 use Rattle.selected_text.specs.Selected.{askedText}

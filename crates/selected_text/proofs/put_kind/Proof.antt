@@ -1,6 +1,6 @@
 -- `selected_text::put_kind` meets its contract. The loop's invariant is `Going`: whoever puts the entries that are left has put them all.
 -- Assumes nothing.
-use Prim.Native.Nat.{ℕ, _-_, _≤_}
+use Prim.Native.Nat.{_-_, _≤_}
 use native.Mathlib.Omega.{arith}
 use Rattle.text.specs.RoomLaws.{Going, start, same-room}
 use Rattle.heads.specs.Giving.{logical}
