@@ -128,7 +128,7 @@ pub fn is_active(state: State) -> bool
 }
 
 // Whether a request's job runs or closes in a place.
-fn is_in_place(state: State, place: u8) -> bool
+pub fn is_in_place(state: State, place: u8) -> bool
     ensures { λ r. ⌜ r ≡ inPlace place state ⌝ }
 {
     match state {
