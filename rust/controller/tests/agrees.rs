@@ -1,0 +1,155 @@
+//! The linked functions answer what `ordinary` answers: the public cases, every function code on every pair of letters, and core of every size asked of many words.
+
+use std::fs;
+use std::num::NonZeroUsize;
+use std::path::{Path, PathBuf};
+
+use controller::{Starts, DECK_ROOM, LISTING_ROOM};
+use ordinary::assign::{assign, Free};
+use ordinary::card::{Code, Entry, Request};
+use ordinary::configuration::Configuration;
+use ordinary::numbers::{Kind, LogicalChannel};
+
+/// The public cases of a program: each input, and what is to be answered.
+fn cases(name: &str, at_least: usize) -> Vec<(PathBuf, Vec<u8>, Vec<u8>)> {
+    let folder = Path::new(env!("CARGO_MANIFEST_DIR")).join("../../crates").join(name).join("data");
+    let mut inputs: Vec<PathBuf> = fs::read_dir(&folder)
+        .unwrap_or_else(|error| panic!("{}: {error}", folder.display()))
+        .map(|entry| entry.unwrap().path())
+        .filter(|path| path.extension().is_some_and(|extension| extension == "in"))
+        .collect();
+    inputs.sort();
+    assert!(inputs.len() >= at_least, "{} has {} cases", folder.display(), inputs.len());
+    let case = |path: PathBuf| {
+        let input = fs::read(&path).unwrap();
+        let output = fs::read(path.with_extension("out")).unwrap();
+        (path, input, output)
+    };
+    inputs.into_iter().map(case).collect()
+}
+
+#[track_caller]
+fn same(path: &Path, answered: &[u8], expected: &[u8]) {
+    let [answered, expected] = [answered, expected].map(String::from_utf8_lossy);
+    assert!(answered == expected, "{}\nexpected:\n{expected}\nanswered:\n{answered}", path.display());
+}
+
+/// Every room up to the text and a little beyond gets the front of the text, and its other bytes are kept.
+#[track_caller]
+fn cut(path: &Path, whole: &[u8], put: impl Fn(&mut [u8]) -> usize) {
+    // Long texts are cut at some places only.
+    let step = whole.len() / 64 + 1;
+    for size in (0..whole.len() + 3).step_by(step) {
+        let mut room: Vec<u8> = (0..size + 8).map(|at| at as u8 ^ 0xa5).collect();
+        let mut expected = room.clone();
+        let fits = size.min(whole.len());
+        expected[..fits].copy_from_slice(&whole[..fits]);
+        assert_eq!(put(&mut room[..size]), fits, "{} in {size} bytes", path.display());
+        assert!(room == expected, "{} in {size} bytes", path.display());
+    }
+}
+
+#[test]
+fn listing() {
+    for (path, input, output) in cases("cases_listing", 30) {
+        let mut room = [0; LISTING_ROOM];
+        let answered = controller::listing(&input, &mut room);
+        same(&path, answered, &output);
+        same(&path, answered, ordinary::configuration::listing(&input).as_bytes());
+        cut(&path, answered, |room| controller::listing_into(&input, room));
+    }
+}
+
+#[test]
+fn deck() {
+    let mut room = [0; DECK_ROOM];
+    for (path, input, output) in cases("cases_deck", 34) {
+        let answered = controller::deck(&input, &mut room);
+        same(&path, answered, &output);
+        same(&path, answered, ordinary::deck::report(&input).as_bytes());
+        cut(&path, answered, |room| controller::deck_into(&input, room));
+    }
+}
+
+#[test]
+fn bad_line() {
+    let mut bad = 0;
+    for (path, input, _) in cases("cases_listing", 30) {
+        let expected = Configuration::from_text(&input).err().map(|line| line.0);
+        assert_eq!(controller::bad_line(&input).map(NonZeroUsize::get), expected, "{}", path.display());
+        bad += usize::from(expected.is_some());
+    }
+    assert!(bad > 0);
+    assert_eq!(controller::bad_line(b"").map(NonZeroUsize::get), Some(1));
+    assert_eq!(controller::bad_line(b"0\n0\n"), None);
+}
+
+#[test]
+fn legality() {
+    let mut legal = 0;
+    for letters in 0..=u16::MAX {
+        let letters = letters.to_be_bytes();
+        let kind = Kind::from_letters(&letters);
+        for function in 0..=u8::MAX {
+            let expected = kind.is_some_and(|kind| ordinary::functions::is_legal(kind, function));
+            assert_eq!(controller::is_legal(letters, function), expected, "{letters:?} {function:o}");
+            legal += u32::from(expected);
+        }
+    }
+    assert_eq!(legal, 24 + 17 + 4 + 10);
+}
+
+/// What `ordinary` assigns to a request for core alone.
+fn ordinary_starts(taken: u32, ib: u32, db: u32) -> Option<Starts> {
+    let mut request = Request::read(&[b"A1,PTY,2,,ECU,,T,PROG,P,A5,P,3.", b"A1,FAC,IB/1."]).unwrap();
+    let entry = |code, n| Entry { code, logical: LogicalChannel(0), n };
+    request.entries = vec![entry(Code::Ib, ib), entry(Code::Db, db)];
+    let core = std::array::from_fn(|block| taken >> block & 1 == 0);
+    let free = Free { core, drum: 0..0, drum_held: Vec::new(), channels: Vec::new() };
+    let assignment = assign(&request, &free)?;
+    Some(Starts { ib: assignment.ib.start, db: assignment.db.start })
+}
+
+#[test]
+fn marked_core() {
+    let executives = 1 | 1 << 1 | 1 << 30 | 1 << 31;
+    // K2: fresh core, IB/28 starts at 2.
+    assert_eq!(controller::core_starts(executives, 28, 0), Some(Starts { ib: 2, db: 0 }));
+    assert_eq!(controller::core_starts(executives, 29, 0), None);
+    // K4: free blocks 2-4 and 8-9, IB/2 and DB/3: IB at 8, DB at 2.
+    let free = 0b111 << 2 | 0b11 << 8;
+    assert_eq!(controller::core_starts(!free, 2, 3), Some(Starts { ib: 8, db: 2 }));
+}
+
+#[test]
+fn core() {
+    // xorshift: words of every density, the first ones with few blocks taken.
+    let mut state: u64 = 0x9e37_79b9_7f4a_7c15;
+    let mut next = || {
+        state ^= state << 13;
+        state ^= state >> 7;
+        state ^= state << 17;
+        state as u32
+    };
+    let mut answers = [0; 2];
+    for round in 0..200 {
+        let taken = match round % 4 {
+            0 => next() & next() & next() & next(),
+            1 => next() & next() & next(),
+            2 => next() & next(),
+            _ => next(),
+        };
+        for ib in 0..31 {
+            for db in 0..31 {
+                let expected = ordinary_starts(taken, ib, db);
+                assert_eq!(controller::core_starts(taken, ib, db), expected, "{taken:032b} {ib} {db}");
+                answers[usize::from(expected.is_some())] += 1;
+            }
+        }
+    }
+    assert!(answers.into_iter().min() > Some(1000), "{answers:?}");
+    for many in [32, 1 << 16, u32::MAX] {
+        assert_eq!(controller::core_starts(0, many, 0), None);
+        assert_eq!(controller::core_starts(0, 1, many), None);
+    }
+}
