@@ -12,7 +12,6 @@ use packets::Leaving;
 use packets::Lists;
 use packets::Spot;
 use packets::Status;
-use places::place;
 use schedule::calls;
 use selection::Selection;
 ghost use mathlib.Core.Path.{_≡_};
@@ -282,8 +281,10 @@ pub fn status(cell: Cell, place: u8, packet: u8) -> StatusAnswer
         return StatusAnswer::Refused(Refusal::OutOfRange);
     }
     let lists = cell.lists;
-    let jobs = lists.jobs;
-    let found = place::packet_at(jobs, place, packet);
+    let i = place as usize;
+    let job = lists.jobs[i];
+    let ps = job.packets;
+    let found = places::packet_in(ps, packet);
     let status = found.status;
     StatusAnswer::Is(status)
 }

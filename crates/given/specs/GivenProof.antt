@@ -30,7 +30,7 @@ use Rattle.packets.specs.declared.Assignment.{Assignment}
 use Rattle.packets.specs.declared.JobState.the-variants.{Empty, Running}
 use Rattle.packets.specs.declared.Verdict.{Verdict}
 use Rattle.packets.specs.declared.Verdict.the-variants.{Denied, Granted}
-use Rattle.places.proofs.EachUnit.{release-square, take-read, take-square}
+use Rattle.holders.proofs.EachUnit.{release-square, take-read, take-square}
 use Rattle.given.specs.Given.{HoldsWhatItWasGiven, HoldsExactly, Wanting, Wants, takenBy, takenIn}
 use Rattle.given.specs.SameLaws.{Same, Share, same-begun, same-closed, same-finished, same-marked, same-submit, share}
 

@@ -1,186 +1,131 @@
 -- Each call's outcome, from what its parts have computed. Assumes nothing.
-use Prim.Native.Nat.{ℕ, _<_}
+use Prim.Native.Nat.{ℕ, _%_, _<_}
 use mathlib.Core.Path.{_≡_, refl, sym, ap, _∙_}
-use mathlib.Core.Bool.{Bool, true, false, not, _&&_}
+use mathlib.Core.Bool.{Bool, true, not, cond, _&&_}
 use mathlib.Core.List.{List}
-use mathlib.Core.Option.{Option, none, some}
 use native.Mathlib.Omega.{arith}
-use lib.ListN.{set}
+use lib.ListN.{length, getD, set}
 use lib.Dec.{ltb}
 use borrow.Author.Tests.{ltb-true}
-use Rattle.lists.proofs.Composed.{keeping-return}
+use Rattle.numbers.specs.Tests.{by-bool}
 use Rattle.numbers.specs.declared.Refusal.{Refusal}
-use Rattle.numbers.specs.declared.Refusal.the-variants.{ChannelBusy, NoJob, NothingInProgress, NothingSelected, NothingStartable, OutOfRange, WrongCompletion}
+use Rattle.numbers.specs.declared.Refusal.the-variants.{NoJob, NothingSelected, OutOfRange}
 use Rattle.units.specs.State.{markedUnit, unitIn, unitSet, unitsFrom}
-use Rattle.units.specs.declared.Units.{Units}
 use Rattle.units.specs.declared.Mark.{Mark as UnitMark}
-use Rattle.packets.specs.Demand.{there}
-use Rattle.packets.specs.Laws.{and-left, and-right, not-false, passes}
-use Rattle.packets.specs.Lone.{lists}
-use Rattle.packets.specs.Picks.{find}
-use Rattle.packets.specs.Proof.{next}
-use Rattle.packets.specs.Rules.{Call, Complete, End, Mark, Start, Submit, Take, accept, answer, atOf, badHow, begins, closed, completed, completes, finished, freshJob, inRange, leaving, packet, reaches, refusal, returnIfDone, startable, startableOn, started, submitted, toOf}
-use Rattle.packets.specs.State.{State, configured, drumOn, fittedOn, isEmpty, isIdle, isRunning, motionOn, moves, packetIn, packetOf, placeOf, stateIn, takeAll, wanted}
-use Rattle.packets.specs.declared.Answer.the-variants.{Closed, Completed, Done, Started}
-use Rattle.packets.specs.declared.Assignment.{Assignment}
-use Rattle.packets.specs.declared.Found.{Found}
-use Rattle.packets.specs.declared.Found.the-variants.{At, Nowhere}
-use Rattle.packets.specs.declared.How.{How}
-use Rattle.packets.specs.declared.How.the-variants.{Cut, Failed, Full}
-use Rattle.packets.specs.declared.Job.{Job}
-use Rattle.packets.specs.declared.Leaving.{Leaving}
-use Rattle.packets.specs.declared.Lists.{Lists}
-use Rattle.packets.specs.declared.Motion.{Motion}
-use Rattle.packets.specs.declared.Motion.the-variants.{Busy, Idle}
+use Rattle.units.specs.declared.Units.{Units}
+use Rattle.channels.specs.declared.Fitted.{Fitted}
+use Rattle.packets.specs.Laws.{and-left, not-false, passes}
+use Rattle.packets.specs.Rules.{Call, End, Mark, Take, accept, always, answer, closed, closing, cut, first, freshJob, leaving, reaches, refusal, returnIfDone}
+use Rattle.packets.specs.State.{State, close, fittedOn, isEmpty, isRunning, jobIn, noJob, relist, releaseAll, stateIn, sweep, takeAll, wanted}
 use Rattle.packets.specs.declared.Acted.{Acted}
-use Rattle.packets.specs.declared.Packet.{Packet}
-use Rattle.packets.specs.declared.Spot.{Spot}
+use Rattle.packets.specs.declared.Answer.{Answer}
+use Rattle.packets.specs.declared.Answer.the-variants.{Closed, Done, Refused}
+use Rattle.packets.specs.declared.Assignment.{Assignment}
+use Rattle.packets.specs.declared.Ending.{Ending}
+use Rattle.packets.specs.declared.Job.{Job}
+use Rattle.packets.specs.declared.Lists.{Lists}
+use Rattle.packets.specs.declared.RequestList.{RequestList}
 use Rattle.packets.specs.declared.Spot.the-variants.{OnUnit}
+use Rattle.packets.specs.declared.Verdict.{Verdict}
 use Rattle.packets.specs.declared.Verdict.the-variants.{Denied, Granted}
-use Rattle.places.specs.Held.{foundOf, listOf}
-use Rattle.lists.specs.Outcomes.{beginning, keeping, listsOf, outcome, refusedWith, settled, stateOf, withUnits, wrongHow}
+use Rattle.queue.specs.Padded.{Relisted, listOf}
+use Rattle.endings.specs.Over.{closedJob, endingOf}
+use Rattle.lists.proofs.Focus.{ending-packets, focus, focus-close, focus-leaving, focus-return, focus-self, focus-sweep}
+use Rattle.lists.specs.Outcomes.{leaves, listsOf, outcome, settled, stateOf}
 
--- refused and accepted calls
-pub refused-is : (r : Lists) (x : Call) (n : Refusal) → refusal (stateOf r) x ≡ Denied n → (o : Acted) → o ≡ refusedWith r n → o ≡ outcome r x
-unfolding outcome
-refused-is r x n e o q = q ∙ sym (ap (settled r x) e)
+-- ---- refused and accepted calls
 
-granted-is : (r : Lists) (x : Call) → refusal (stateOf r) x ≡ Granted → settled r x Granted ≡ outcome r x
-unfolding outcome
-granted-is r x e = sym (ap (settled r x) e)
+module _ (r : Lists) (x : Call) where
+  pub refused-is : (n : Refusal) → refusal (stateOf r) x ≡ Denied n → _≡_ {A = Acted} (record { lists = r; answer = Refused n }) (outcome r x)
+  unfolding outcome
+  refused-is n e = sym (ap (settled r x) e)
 
--- ---- submission
+  pub granted-is : refusal (stateOf r) x ≡ Granted → (next : Lists) (a : Answer) → next ≡ leaves r x → a ≡ answer (stateOf r) x
+      → _≡_ {A = Acted} (record { lists = next; answer = a }) (outcome r x)
+  unfolding outcome
+  granted-is e next a p q = rw (p, q) (sym (ap (settled r x) e))
 
-module _ (r : Lists) (j p f c : ℕ) (w : Spot) (e : refusal (stateOf r) (Submit j p f c w) ≡ Granted) where
-  pub submit-small : (j < 16) × (p < 16)
-  unfolding refusal
-  submit-small =
-      let t : inRange (stateOf r) j p f c w ≡ true = not-false (inRange (stateOf r) j p f c w) (passes (not (inRange (stateOf r) j p f c w)) OutOfRange _ e .0) in
-      (ltb-true j 16 (and-left (ltb j 16) _ t), ltb-true p 16 (and-left (ltb p 16) _ (and-right (ltb j 16) _ t)))
+-- ---- a place's number, taken below 16
 
-  pub submit-done : (a b : ℕ) → a ≡ atOf w → b ≡ toOf w → (next : Lists) → next ≡ listsOf (submitted (stateOf r) j p f c a b)
-      → _≡_ {A = Acted} (record { answer = Done; lists = next }) (outcome r (Submit j p f c w))
-  unfolding accept answer
-  submit-done a b x y next q = rw (q, x, y) (granted-is r (Submit j p f c w) e)
-
--- ---- start
-
-found-none : (o : Option ℕ) → foundOf o ≡ Nowhere → o ≡ none
-found-none none e = refl
-found-none (some x) e = absurd (let z : _≡_ {A = ℕ} 0 1 = cc in omega arith)
-
-found-some : (o : Option ℕ) (x : ℕ) → foundOf o ≡ At x → o ≡ some x
-found-some none x e = absurd (let z : _≡_ {A = ℕ} 0 1 = cc in omega arith)
-found-some (some y) x e = let z : y ≡ x = cc in ap some z
-
-module _ (r : Lists) (c : ℕ) where
-  pub start-absent : configured (r .channels) c ≡ false → refusal (stateOf r) (Start c) ≡ Denied OutOfRange
-  unfolding refusal
-  start-absent e = rw e
-
-  module _ (there : configured (r .channels) c ≡ true) where
-    pub start-busy : isIdle (motionOn (stateOf r) c) ≡ false → refusal (stateOf r) (Start c) ≡ Denied ChannelBusy
-    unfolding refusal
-    start-busy e = rw (there, e)
-
-    module _ (free : isIdle (motionOn (stateOf r) c) ≡ true) (drum : Bool) (is : drum ≡ drumOn (r .channels) c) (o : Found)
-        (found : o ≡ foundOf (find (startableOn drum (r .units .of) (r .jobs) c) (listOf (r .list)))) where
-      look : o ≡ foundOf (find (startable (stateOf r) c) (listOf (r .list)))
-      look = found ∙ ap (λ (d : Bool). foundOf (find (startableOn d (r .units .of) (r .jobs) c) (listOf (r .list)))) is
-
-      pub start-none : o ≡ Nowhere → refusal (stateOf r) (Start c) ≡ Denied NothingStartable
-      unfolding refusal
-      start-none e = rw (there, free, found-none (find (startable (stateOf r) c) (listOf (r .list))) (sym look ∙ e))
-
-      pub start-done : (x : ℕ) → o ≡ At x → (q : Packet) → q ≡ packetIn (r .jobs) (placeOf x) (packetOf x) → (next : Lists)
-          → next ≡ listsOf (beginning (stateOf r) c (placeOf x) (packetOf x))
-          → _≡_ {A = Acted} (record { answer = Started (record { place = placeOf x; packet = packetOf x; function = q .function; at = q .at }); lists = next }) (outcome r (Start c))
-      unfolding refusal accept answer
-      start-done x e q g next h =
-          rw (g, h)
-          (ap (λ (k : Option ℕ). both k) (sym at) ∙ granted-is r (Start c) (rw (there, free, at)))
-        where
-          both : Option ℕ → Acted
-          both k = record { answer = begins (stateOf r) k; lists = listsOf (started (stateOf r) c k) }
-
-          at : find (startable (stateOf r) c) (listOf (r .list)) ≡ some x
-          at = found-some (find (startable (stateOf r) c) (listOf (r .list))) x (sym look ∙ e)
-
--- ---- completion
-
-how-is : (s : State) (j p : ℕ) (how : How) → badHow s (Busy j p) how ≡ wrongHow (packetIn (s .jobs) j p .status) how
-how-is s j p Full = refl
-how-is s j p Cut = refl
-how-is s j p (Failed k) = refl
-
-module _ (r : Lists) (c : ℕ) (how : How) where
-  pub complete-absent : configured (r .channels) c ≡ false → refusal (stateOf r) (Complete c how) ≡ Denied OutOfRange
-  unfolding refusal
-  complete-absent e = rw e
-
-  module _ (there : configured (r .channels) c ≡ true) where
-    pub complete-idle : motionOn (stateOf r) c ≡ Idle → refusal (stateOf r) (Complete c how) ≡ Denied NothingInProgress
-    unfolding refusal
-    complete-idle e = rw (there, e)
-
-    module _ (j p : ℕ) (moves : motionOn (stateOf r) c ≡ Busy j p) where
-      pub complete-wrong : wrongHow (packetIn (r .jobs) j p .status) how ≡ true → refusal (stateOf r) (Complete c how) ≡ Denied WrongCompletion
-      unfolding refusal
-      complete-wrong e = rw (there, moves, how-is (stateOf r) j p how ∙ e)
-
-      pub complete-done : wrongHow (packetIn (r .jobs) j p .status) how ≡ false → (done next : Lists) (l : Leaving)
-          → done ≡ listsOf (finished (stateOf r) c how j p) → l ≡ leaving j (stateOf done) → next ≡ keeping done (returnIfDone j (stateOf done))
-          → _≡_ {A = Acted} (record { answer = Completed j p l; lists = next }) (outcome r (Complete c how))
-      unfolding refusal accept answer
-      complete-done e done next l d g h =
-          rw (g, h, d)
-          (rw (keeping-return (finished (stateOf r) c how j p) j)
-          (ap both (sym moves) ∙ granted-is r (Complete c how) (rw (there, moves, how-is (stateOf r) j p how ∙ e))))
-        where
-          both : Motion → Acted
-          both m = record { answer = completes (stateOf r) c how m; lists = listsOf (completed (stateOf r) c how m) }
+pub small-is : (j : ℕ) → ltb j 16 ≡ true → j % 16 ≡ j
+small-is j t = let h : j < 16 = ltb-true j 16 t in omega arith
 
 -- ---- a job's end
 
 module _ (r : Lists) (j : ℕ) (err : Bool) where
-  pub end-out : ltb j 16 ≡ false → refusal (stateOf r) (End j err) ≡ Denied OutOfRange
-  unfolding refusal
-  end-out e = rw e
+  pub end-verdict : (v : Verdict) → v ≡ first (not (ltb j 16)) OutOfRange (first (not (isRunning (getD (r .jobs) (j % 16) noJob .state))) NoJob Granted)
+      → refusal (stateOf r) (End j err) ≡ v
+  unfolding refusal stateIn
+  end-verdict v e = by-bool (ltb j 16) (λ t. rw (e, t, small-is j t)) (λ t. rw (e, t))
 
-  module _ (small : ltb j 16 ≡ true) where
-    pub end-none : isRunning (stateIn (r .jobs) j) ≡ false → refusal (stateOf r) (End j err) ≡ Denied NoJob
+  module _ (size : length (r .jobs) ≡ 16) (granted : refusal (stateOf r) (End j err) ≡ Granted) where
+    small : j < 16
     unfolding refusal
-    end-none e = rw (small, e)
+    small = ltb-true j 16 (not-false (ltb j 16) (passes (not (ltb j 16)) OutOfRange _ granted .0))
 
-    pub end-done : isRunning (stateIn (r .jobs) j) ≡ true → (shut next : Lists) (l : Leaving)
-        → shut ≡ listsOf (closed (stateOf r) j err) → l ≡ leaving j (stateOf shut) → next ≡ keeping shut (returnIfDone j (stateOf shut))
-        → _≡_ {A = Acted} (record { answer = Closed l; lists = next }) (outcome r (End j err))
-    unfolding refusal accept answer
-    end-done e shut next l d g h =
-        rw (g, h, d)
-        (rw (keeping-return (closed (stateOf r) j err) j)
-        (granted-is r (End j err) (rw (small, e))))
+    abbrev shutJob : Job
+    shutJob = closedJob (jobIn (r .jobs) j) err
 
--- ---- taking a job, and marks
+    abbrev shutList : List ℕ
+    shutList = relist j (shutJob .packets) (listOf (r .list))
+
+    shut-is : closed (stateOf r) j err ≡ focus (stateOf r) j shutJob shutList
+    shut-is =
+        ap (λ (s : State). close (sweep s j always cut) j (closing err)) (focus-self (stateOf r) j)
+        ∙ ap (λ (s : State). close s j (closing err)) (focus-sweep (stateOf r) j (omega (arith, size, small)) (jobIn (r .jobs) j) (listOf (r .list)) always cut)
+        ∙ focus-close (stateOf r) j (omega (arith, size, small)) _ _ (closing err)
+
+    pub end-is : (shut : Ending) → shut ≡ endingOf (closedJob (getD (r .jobs) (j % 16) noJob) err) (r .moving) j
+        → (left : RequestList) → Relisted j (shut .job .packets) (r .list) left
+        → (units : Units) → units ≡ unitsFrom (cond (shut .done) (releaseAll (r .units .of) j) (r .units .of))
+        → _≡_ {A = Acted} (record {
+          lists = record { channels = r .channels; jobs = set (r .jobs) (j % 16) (shut .job); list = left; moving = r .moving; units = units };
+          answer = Closed (shut .leaving);
+        }) (outcome r (End j err))
+    unfolding accept answer
+    end-is shut e left l units u =
+        let k : j % 16 ≡ j = omega (arith, small) in
+        granted-is r (End j err) granted _ _
+        (rw (l .is, u, e, k, ending-packets _ shutJob)
+        (sym (ap listsOf (ap (returnIfDone j) shut-is ∙ focus-return (stateOf r) j (omega (arith, size, small)) shutJob shutList))))
+        (rw (e, k) (sym (ap Closed (ap (leaving j) shut-is ∙ focus-leaving (stateOf r) j (omega (arith, size, small)) shutJob shutList))))
+
+-- ---- taking a job
 
 module _ (r : Lists) (j : ℕ) (asg : Assignment) where
-  pub take-out : (ltb j 16 && isEmpty (stateIn (r .jobs) j)) ≡ false → refusal (stateOf r) (Take j asg) ≡ Denied NothingSelected
-  unfolding refusal
-  take-out e = rw e
+  pub take-verdict : (v : Verdict) → v ≡ first (not (ltb j 16 && isEmpty (getD (r .jobs) (j % 16) noJob .state))) NothingSelected Granted
+      → refusal (stateOf r) (Take j asg) ≡ v
+  unfolding refusal stateIn
+  take-verdict v e = by-bool (ltb j 16) (λ t. rw (e, t, small-is j t)) (λ t. rw (e, t))
 
-  pub take-done : ltb j 16 ≡ true → isEmpty (stateIn (r .jobs) j) ≡ true → (job : Job) → job ≡ freshJob asg → (jobs : List Job) → jobs ≡ set (r .jobs) j job
+  pub take-is : refusal (stateOf r) (Take j asg) ≡ Granted
+      → (job : Job) → job ≡ freshJob asg
       → (units : Units) → units ≡ unitsFrom (takeAll (r .units .of) j (wanted asg))
-      → _≡_ {A = Acted} (record { answer = Done; lists = record { channels = r .channels; jobs = jobs; list = r .list; moving = r .moving; units = units } }) (outcome r (Take j asg))
-  unfolding refusal accept answer
-  take-done small e job q jobs g units h = rw (g, h, q) (granted-is r (Take j asg) (rw (small, e)))
+      → _≡_ {A = Acted} (record {
+        lists = record { channels = r .channels; jobs = set (r .jobs) (j % 16) job; list = r .list; moving = r .moving; units = units };
+        answer = Done;
+      }) (outcome r (Take j asg))
+  unfolding accept answer
+  take-is granted job e units u =
+      let k : j % 16 ≡ j = small-is j small in
+      granted-is r (Take j asg) granted _ _ (rw (e, u, k)) refl
+    where
+      small : ltb j 16 ≡ true
+      small = unfold refusal in and-left (ltb j 16) _ (not-false _ (passes (not (ltb j 16 && isEmpty (stateIn (r .jobs) j))) NothingSelected Granted granted .0))
+
+-- ---- marks
 
 module _ (r : Lists) (c u : ℕ) (m : UnitMark) (on : Bool) where
-  pub mark-out : (ltb c 16 && reaches (fittedOn (r .channels) c) (OnUnit (record { 0 = u }))) ≡ false → refusal (stateOf r) (Mark c u m on) ≡ Denied OutOfRange
+  pub mark-verdict : (has : Fitted) → has ≡ fittedOn (r .channels) c → (v : Verdict)
+      → v ≡ first (not (ltb c 16 && reaches has (OnUnit (record { 0 = u })))) OutOfRange Granted → refusal (stateOf r) (Mark c u m on) ≡ v
   unfolding refusal
-  mark-out e = rw e
+  mark-verdict has h v e = rw (e, h)
 
-  pub mark-done : (ltb c 16 && reaches (fittedOn (r .channels) c) (OnUnit (record { 0 = u }))) ≡ true
-      → (units : Units) → units ≡ unitsFrom (unitSet (r .units .of) c u (markedUnit m on (unitIn (r .units .of) c u))) → (next : Lists) → next ≡ withUnits r units
-      → _≡_ {A = Acted} (record { answer = Done; lists = next }) (outcome r (Mark c u m on))
-  unfolding refusal accept answer
-  mark-done e units h next g = rw (g, h) (granted-is r (Mark c u m on) (rw e))
+  pub mark-is : refusal (stateOf r) (Mark c u m on) ≡ Granted
+      → (units : Units) → units ≡ unitsFrom (unitSet (r .units .of) c u (markedUnit m on (unitIn (r .units .of) c u)))
+      → _≡_ {A = Acted} (record {
+        lists = record { channels = r .channels; jobs = r .jobs; list = r .list; moving = r .moving; units = units };
+        answer = Done;
+      }) (outcome r (Mark c u m on))
+  unfolding accept answer
+  mark-is granted units e = granted-is r (Mark c u m on) granted _ _ (rw e) refl

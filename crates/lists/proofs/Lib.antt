@@ -1,4 +1,7 @@
-pub mod Tests
-pub mod Composed
-pub mod Verdicts
+pub mod Parts
+pub mod Full
+pub mod Focus
 pub mod Calls
+pub mod Submits
+pub mod Starts
+pub mod Completes

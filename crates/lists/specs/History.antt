@@ -12,7 +12,7 @@ use Rattle.packets.specs.declared.How.the-variants.{Full}
 use Rattle.packets.specs.declared.Lists.{Lists}
 use Rattle.packets.specs.declared.Verdict.{Verdict}
 use Rattle.packets.specs.declared.Verdict.the-variants.{Denied, Granted}
-use Rattle.places.specs.HeldLaws.{list-padded}
+use Rattle.queue.specs.PaddedLaws.{list-padded}
 use Rattle.lists.specs.Outcomes.{leaves, listsOf, outcome, settled, stateOf}
 
 -- the rules' state of what the code holds of a state

@@ -1,25 +1,17 @@
 -- The state as the code holds it, and the one outcome of each call: what the rules say, with every byte determined.
-use Prim.Native.Nat.{ℕ}
 use mathlib.Core.Path.{_≡_}
-use mathlib.Core.Bool.{Bool, false, not, _||_}
-use lib.Dec.{eqb, ltb}
 use Rattle.numbers.specs.declared.Refusal.{Refusal}
 use Rattle.units.specs.State.{unitsFrom}
 use Rattle.units.specs.declared.Units.{Units}
 use Rattle.packets.specs.Lone.{lists}
 use Rattle.packets.specs.Rules.{Call, Complete, End, Mark, Start, Submit, Take, accept, answer, refusal}
-use Rattle.packets.specs.State.{State, isStopping, move, packetIn, store, withStatus}
+use Rattle.packets.specs.State.{State}
 use Rattle.packets.specs.declared.Answer.the-variants.{Refused}
-use Rattle.packets.specs.declared.How.{How}
-use Rattle.packets.specs.declared.How.the-variants.{Cut, Failed, Full}
 use Rattle.packets.specs.declared.Lists.{Lists}
-use Rattle.packets.specs.declared.Motion.the-variants.{Busy}
 use Rattle.packets.specs.declared.Acted.{Acted}
-use Rattle.packets.specs.declared.Status.{Status}
-use Rattle.packets.specs.declared.Status.the-variants.{InProgress}
 use Rattle.packets.specs.declared.Verdict.{Verdict}
 use Rattle.packets.specs.declared.Verdict.the-variants.{Denied, Granted}
-use Rattle.places.specs.Held.{Tidy, listOf, padded}
+use Rattle.queue.specs.Padded.{Tidy, listOf, padded}
 
 -- the state that the rules speak of
 abbrev pub stateOf : Lists → State
@@ -63,13 +55,3 @@ outcome r x = settled r x (refusal (stateOf r) x)
 -- a refused call returns the number alone
 abbrev pub refusedWith : Lists → Refusal → Acted
 refusedWith r n = record { answer = Refused n; lists = r }
-
--- packet p of place j is in progress on channel c
-abbrev pub beginning : State → ℕ → ℕ → ℕ → State
-beginning s c j p = move (store s j p (withStatus (packetIn (s .jobs) j p) InProgress)) c (Busy j p)
-
--- cut for a packet not stopping; failure code 00, 01, 16o, 17o or over 77o
-abbrev pub wrongHow : Status → How → Bool
-wrongHow t Full = false
-wrongHow t Cut = not (isStopping t)
-wrongHow t (Failed k) = eqb k 0o00 || (eqb k 0o01 || (eqb k 0o16 || (eqb k 0o17 || ltb 0o77 k)))

@@ -1,47 +1,32 @@
-// The calls on packets and request lists. Each takes the state by value and returns it with its answer.
-mod ends;
-mod finish;
-mod stores;
-mod submission;
+// The calls on packets and request lists. Each takes the state by value, changes it where it stands, and returns it with its answer.
+mod after;
+mod verdicts;
 
 use channels::Channel;
 use numbers::ChannelNumber;
-use numbers::Refusal;
 use numbers::UnitNumber;
 use packets::Acted;
 use packets::Answer;
 use packets::Assignment;
-use packets::Begun;
 use packets::Carrier;
-use packets::Found;
 use packets::How;
-use packets::Job;
-use packets::JobState;
 use packets::Lists;
 use packets::Motion;
 use packets::Spot;
 use packets::Status;
 use packets::Verdict;
-use places::channel;
-use places::list;
-use places::packet;
-use places::place;
-use places::unit;
 use units::Units;
 ghost use mathlib.Core.Path.{_≡_};
-ghost use Prim.Native.Nat.{_<_};
-ghost use Rattle.units.specs.State.{unitIn, unitSet, unitsFrom, markedUnit};
-ghost use Rattle.packets.specs.State.{placeOf, packetOf, packetIn};
-ghost use Rattle.packets.specs.Rules.{Take, Submit, Start, Complete, End, Mark, begun, freshJob};
+ghost use Rattle.packets.specs.Rules.{Take, Submit, Start, Complete, End, Mark};
 ghost use Rattle.packets.specs.Demand.{fresh};
-ghost use Rattle.lists.specs.Outcomes.{stateOf, listsOf, outcome, refusedWith, beginning};
+ghost use Rattle.lists.specs.Outcomes.{listsOf, outcome};
 
 // The state of a fresh cell with these channels and units.
 pub fn fresh(channels: [Channel; 16], units: Units) -> Lists
     ensures { λ r. ⌜ r ≡ listsOf (fresh channels (units .of)) ⌝ }
 {
-    let jobs = [place::empty(); 16];
-    let list = list::empty();
+    let jobs = [places::empty(); 16];
+    let list = queue::empty();
     let moving = [Carrier {
         motion: Motion::Idle,
     }; 16];
@@ -51,16 +36,6 @@ pub fn fresh(channels: [Channel; 16], units: Units) -> Lists
         list,
         moving,
         units,
-    }
-}
-
-// A refused call returns the number alone.
-fn refused(lists: Lists, refusal: Refusal) -> Acted
-    ensures { λ r. ⌜ r ≡ refusedWith lists refusal ⌝ }
-{
-    Acted {
-        answer: Answer::Refused(refusal),
-        lists,
     }
 }
 
@@ -75,67 +50,75 @@ pub fn submit(
 ) -> Acted
     ensures { λ r. ⌜ r ≡ outcome lists (Submit place packet function (channel .0) spot) ⌝ }
 {
-    match submission::verdict(lists, place, packet, function, channel, spot) {
-        Verdict::Denied(refusal) => refused(lists, refusal),
+    let mut next = lists;
+    let mut answer = Answer::Done;
+    let channels = next.channels;
+    let units = next.units;
+    let has = carriers::fitted_on(channels, channel);
+    let at = submission::at_of(spot);
+    let unit = holders::unit_of(units, channel, at);
+    let i = (place % 16) as usize;
+    let job = next.jobs[i];
+    match submission::verdict(has, job, unit, place, packet, function, channel, spot) {
+        Verdict::Denied(refusal) => {
+            answer = Answer::Refused(refusal);
+        }
         Verdict::Granted => {
-            let at = submission::at_of(spot);
-            let to = submission::to_of(spot);
-            let next = submission::submitted(lists, place, packet, function, channel, at, to);
-            Acted {
-                answer: Answer::Done,
-                lists: next,
+            let unlocking = submission::is_unlocking(function, has, unit);
+            let gone = submission::job_after(job, packet, function, channel, spot, has, unlocking);
+            next.jobs[i] = gone;
+            let list = next.list;
+            let left = after::list_of(gone, place, packet, function, list);
+            next.list = left;
+            if unlocking {
+                let open = holders::with_lock(units, channel, at, false);
+                next.units = open;
             }
         }
     }
-}
-
-// The packet of the list is now in progress on channel c.
-fn begun(lists: Lists, c: ChannelNumber, j: u8, p: u8) -> Lists
-    ensures { λ r. ⌜ r ≡ listsOf (beginning (stateOf lists) (c .0) j p) ⌝ }
-{
-    let jobs = lists.jobs;
-    let q = packet::with_status(place::packet_at(jobs, j, p), Status::InProgress);
-    let mut next = stores::stored(lists, j, p, q);
-    let before = next.moving;
-    let moving = channel::with_motion(before, c, Motion::Busy(j, p));
-    next.moving = moving;
-    next
+    Acted {
+        lists: next,
+        answer,
+    }
 }
 
 // Start on a channel.
 pub fn start(lists: Lists, channel: ChannelNumber) -> Acted
     ensures { λ r. ⌜ r ≡ outcome lists (Start (channel .0)) ⌝ }
 {
-    let channels = lists.channels;
-    let jobs = lists.jobs;
-    let list = lists.list;
-    let moving = lists.moving;
-    let units = lists.units;
-    if !channel::is_configured(channels, channel) {
-        return refused(lists, Refusal::OutOfRange);
-    }
-    if !channel::is_idle(channel::motion_on(moving, channel)) {
-        return refused(lists, Refusal::ChannelBusy);
-    }
-    let drum = channel::is_drum_on(channels, channel);
-    match list::oldest(units, jobs, list, drum, channel) {
-        Found::Nowhere => refused(lists, Refusal::NothingStartable),
-        Found::At(e) => {
-            let j = e / 16;
-            let p = e % 16;
-            let q = place::packet_at(jobs, j, p);
-            let answer = Answer::Started(Begun {
-                place: j,
-                packet: p,
-                function: q.function,
-                at: q.at,
-            });
-            let next = begun(lists, channel, j, p);
-            Acted {
-                answer,
-                lists: next,
-            }
+    let mut next = lists;
+    let mut answer = Answer::Done;
+    let channels = next.channels;
+    let jobs = next.jobs;
+    let list = next.list;
+    let units = next.units;
+    let drum = carriers::is_drum(carriers::fitted_on(channels, channel));
+    let found = queue::oldest(units, jobs, list, drum, channel);
+    let c = (channel.0 % 16) as usize;
+    let carrier = next.moving[c];
+    let motion = carrier.motion;
+    match verdicts::of_start(channels, motion, found, channel) {
+        Verdict::Denied(refusal) => {
+            answer = Answer::Refused(refusal);
         }
+        Verdict::Granted => {
+            let e = after::entry_of(found);
+            let i = (e / 16) as usize;
+            let mut job = next.jobs[i];
+            let ps = job.packets;
+            answer = after::started(ps, e);
+            let qs = places::with_status_at(ps, e % 16, Status::InProgress);
+            job.packets = qs;
+            next.jobs[i] = job;
+            let left = queue::relisted(job, e / 16, list);
+            next.list = left;
+            let busy = after::busy_with(e);
+            next.moving[c] = busy;
+        }
+    }
+    Acted {
+        lists: next,
+        answer,
     }
 }
 
@@ -143,28 +126,44 @@ pub fn start(lists: Lists, channel: ChannelNumber) -> Acted
 pub fn complete(lists: Lists, channel: ChannelNumber, how: How) -> Acted
     ensures { λ r. ⌜ r ≡ outcome lists (Complete (channel .0) how) ⌝ }
 {
-    let channels = lists.channels;
-    let jobs = lists.jobs;
-    let moving = lists.moving;
-    if !channel::is_configured(channels, channel) {
-        return refused(lists, Refusal::OutOfRange);
-    }
-    match channel::motion_on(moving, channel) {
-        Motion::Idle => refused(lists, Refusal::NothingInProgress),
-        Motion::Busy(j, p) => {
-            let q = place::packet_at(jobs, j, p);
-            let status = q.status;
-            if finish::is_wrong(status, how) {
-                return refused(lists, Refusal::WrongCompletion);
-            }
-            let done = finish::finished(lists, channel, how, j, p);
-            let leaving = ends::leaving(done, j);
-            let next = ends::returned_if_done(done, j);
-            Acted {
-                answer: Answer::Completed(j, p, leaving),
-                lists: next,
+    let mut next = lists;
+    let mut answer = Answer::Done;
+    let channels = next.channels;
+    let c = (channel.0 % 16) as usize;
+    let carrier = next.moving[c];
+    let j = after::place_of(carrier);
+    let p = after::packet_of(carrier);
+    let i = (j % 16) as usize;
+    let job = next.jobs[i];
+    let ps = job.packets;
+    let q = places::packet_in(ps, p);
+    match verdicts::of_complete(channels, carrier, q, how, channel) {
+        Verdict::Denied(refusal) => {
+            answer = Answer::Refused(refusal);
+        }
+        Verdict::Granted => {
+            let idle = after::idle();
+            next.moving[c] = idle;
+            let moving = next.moving;
+            let breaking = endings::is_breaking(how, carriers::fitted_on(channels, channel));
+            let over = endings::over(job, p, how, channel, breaking, moving, j);
+            let gone = over.job;
+            next.jobs[i] = gone;
+            let list = next.list;
+            let left = queue::relisted(gone, j, list);
+            next.list = left;
+            let leaving = over.leaving;
+            answer = Answer::Completed(j, p, leaving);
+            if breaking || over.done {
+                let units = next.units;
+                let free = after::units_of(units, channel, q.at, breaking, j, over.done);
+                next.units = free;
             }
         }
+    }
+    Acted {
+        lists: next,
+        answer,
     }
 }
 
@@ -172,19 +171,35 @@ pub fn complete(lists: Lists, channel: ChannelNumber, how: How) -> Acted
 pub fn end(lists: Lists, place: u8, in_error: bool) -> Acted
     ensures { λ r. ⌜ r ≡ outcome lists (End place in_error) ⌝ }
 {
-    let jobs = lists.jobs;
-    if 15 < place {
-        return refused(lists, Refusal::OutOfRange);
+    let mut next = lists;
+    let mut answer = Answer::Done;
+    let i = (place % 16) as usize;
+    let job = next.jobs[i];
+    let state = job.state;
+    match verdicts::of_end(state, place) {
+        Verdict::Denied(refusal) => {
+            answer = Answer::Refused(refusal);
+        }
+        Verdict::Granted => {
+            let moving = next.moving;
+            let shut = endings::closed(job, in_error, moving, place);
+            let gone = shut.job;
+            next.jobs[i] = gone;
+            let list = next.list;
+            let left = queue::relisted(gone, place, list);
+            next.list = left;
+            let leaving = shut.leaving;
+            answer = Answer::Closed(leaving);
+            if shut.done {
+                let units = next.units;
+                let free = holders::released(units, place);
+                next.units = free;
+            }
+        }
     }
-    if !place::is_running(place::state_at(jobs, place)) {
-        return refused(lists, Refusal::NoJob);
-    }
-    let shut = ends::closed(lists, place, in_error);
-    let leaving = ends::leaving(shut, place);
-    let next = ends::returned_if_done(shut, place);
     Acted {
-        answer: Answer::Closed(leaving),
         lists: next,
+        answer,
     }
 }
 
@@ -192,35 +207,29 @@ pub fn end(lists: Lists, place: u8, in_error: bool) -> Acted
 pub fn take(lists: Lists, place: u8, assignment: Assignment) -> Acted
     ensures { λ r. ⌜ r ≡ outcome lists (Take place assignment) ⌝ }
 {
-    let jobs = lists.jobs;
-    let units = lists.units;
-    if 15 < place {
-        return refused(lists, Refusal::NothingSelected);
-    }
-    if !place::is_empty(place::state_at(jobs, place)) {
-        return refused(lists, Refusal::NothingSelected);
-    }
-    let wanted = assignment.units;
-    let core = assignment.core;
-    let job = place::running(assignment.from, assignment.words, core);
     let mut next = lists;
-    let taken = place::with_job(jobs, place, job);
-    let held = unit::taken(units, place, wanted);
-    next.jobs = taken;
-    next.units = held;
-    Acted {
-        answer: Answer::Done,
-        lists: next,
+    let mut answer = Answer::Done;
+    let i = (place % 16) as usize;
+    let last = next.jobs[i];
+    let state = last.state;
+    match verdicts::of_take(state, place) {
+        Verdict::Denied(refusal) => {
+            answer = Answer::Refused(refusal);
+        }
+        Verdict::Granted => {
+            let core = assignment.core;
+            let job = places::running(assignment.from, assignment.words, core);
+            next.jobs[i] = job;
+            let wanted = assignment.units;
+            let units = next.units;
+            let held = holders::taken(units, place, wanted);
+            next.units = held;
+        }
     }
-}
-
-// The units with one mark of unit u of channel c set or cleared.
-fn with_mark(units: Units, c: ChannelNumber, u: UnitNumber, mark: units::Mark, on: bool) -> Units
-    ensures { λ r. ⌜ r ≡ unitsFrom (unitSet (units .of) (c .0) (u .0) (markedUnit mark on (unitIn (units .of) (c .0) (u .0)))) ⌝ }
-{
-    let unit = units::unit_at(units, c, u);
-    let state = units::marked_unit(unit, mark, on);
-    units::with_unit(units, c, u, state)
+    Acted {
+        lists: next,
+        answer,
+    }
 }
 
 // A mark of a unit is set or cleared; on the drum channel there is no unit.
@@ -233,18 +242,22 @@ pub fn mark(
 ) -> Acted
     ensures { λ r. ⌜ r ≡ outcome lists (Mark (channel .0) (unit .0) mark on) ⌝ }
 {
-    let channels = lists.channels;
-    let units = lists.units;
-    if 15 < channel.0 {
-        return refused(lists, Refusal::OutOfRange);
+    let mut next = lists;
+    let mut answer = Answer::Done;
+    let channels = next.channels;
+    let has = carriers::fitted_on(channels, channel);
+    match verdicts::of_mark(has, channel, unit) {
+        Verdict::Denied(refusal) => {
+            answer = Answer::Refused(refusal);
+        }
+        Verdict::Granted => {
+            let units = next.units;
+            let marked = after::with_mark(units, channel, unit, mark, on);
+            next.units = marked;
+        }
     }
-    if !channel::has_spot(channel::fitted_on(channels, channel), Spot::OnUnit(unit)) {
-        return refused(lists, Refusal::OutOfRange);
-    }
-    let marked = with_mark(units, channel, unit, mark, on);
-    let next = stores::with_units(lists, marked);
     Acted {
-        answer: Answer::Done,
         lists: next,
+        answer,
     }
 }

@@ -1,15 +1,17 @@
 -- What holds in every cell that calls lead to: the invariant, and what becomes of the list when packets change. Assumes nothing.
 use Prim.Native.Nat.{ℕ}
-use mathlib.Core.Path.{_≡_, refl, sym}
+use mathlib.Core.Path.{_≡_, refl, sym, _∙_}
 use mathlib.Core.Bool.{Bool, true, false}
 use mathlib.Core.List.{List}
 use lib.ListN.{length}
 use lib.Dec.{eqb}
+use borrow.Author.Tests.{eqb-true}
+use Rattle.numbers.specs.Tests.{by-bool}
 use Rattle.units.specs.State.{unitIn}
 use Rattle.packets.specs.Laws.{All, all-imp, all-keep}
 use Rattle.packets.specs.Once.{Nodup, nodup-keep}
 use Rattle.packets.specs.Picks.{keep}
-use Rattle.packets.specs.State.{State, drumOn, heldBy, isBusy, isEmpty, isListed, isRunning, isStill, motionOn, packetIn, packetOf, placeOf, relist, stateIn}
+use Rattle.packets.specs.State.{State, drumOn, heldBy, isBusy, isEmpty, isKept, isListed, isRunning, isStill, motionOn, packetIn, packetOf, packetsIn, placeOf, relist, stateIn}
 use Rattle.packets.specs.Store.{sizeIn}
 use Rattle.packets.specs.declared.Job.{Job}
 use Rattle.packets.specs.declared.JobState.{JobState}
@@ -77,20 +79,32 @@ pub record Inv (s : State) : Type 0 where
   pub holders : (c u j : ℕ) → heldBy (unitIn (s .units) c u .holder) j ≡ true → isEmpty (stateIn (s .jobs) j) ≡ false
 
 -- what is no longer listed leaves no repeat
-pub single-relist : (jobs : List Job) (q : List ℕ) → Nodup eqb q → Nodup eqb (relist jobs q)
+pub single-relist : (j : ℕ) (ps : List Packet) (q : List ℕ) → Nodup eqb q → Nodup eqb (relist j ps q)
 unfolding relist
-single-relist jobs q h = nodup-keep eqb (isStill jobs) q h
+single-relist j ps q h = nodup-keep eqb (isKept j ps) q h
+
+-- only the packets of place j change
+abbrev pub Elsewhere : ℕ → List Job → List Job → Type 0
+Elsewhere j old jobs = (i n : ℕ) → eqb i j ≡ false → packetIn jobs i n ≡ packetIn old i n
+
+-- then an entry that was listed is kept if it still is
+pub kept-still : (j : ℕ) (old jobs : List Job) → Elsewhere j old jobs → (e : ℕ) → isStill old e ≡ true → isKept j (packetsIn jobs j) e ≡ isStill jobs e
+unfolding packetIn
+kept-still j old jobs same e l =
+    by-bool (eqb (placeOf e) j)
+    (λ t. let p : placeOf e ≡ j = eqb-true (placeOf e) j t in rw (t, p))
+    (λ t. rw t (sym (rw (same (placeOf e) (packetOf e) t) l)))
 
 -- the queue after a change of the packets
-pub requeued : (s s′ : State) (jobs : List Job)
+pub requeued : (s s′ : State) (j : ℕ) (jobs : List Job) → Elsewhere j (s .jobs) jobs
     → ((j p : ℕ) → OkEntry s j p → isListed (packetIn jobs j p .status) ≡ true → OkEntry s′ j p)
-    → (q : List ℕ) → All (EntryOk s) q → All (EntryOk s′) (relist jobs q)
+    → (q : List ℕ) → All (EntryOk s) q → All (EntryOk s′) (relist j (packetsIn jobs j) q)
 unfolding relist
-requeued s s′ jobs f q h =
-    all-imp (λ (e : ℕ). EntryOk s e × (isListed (packetIn jobs (placeOf e) (packetOf e) .status) ≡ true)) (EntryOk s′)
-    (λ e k. f (placeOf e) (packetOf e) (k .0) (k .1))
-    (keep (isStill jobs) q)
-    (all-keep (EntryOk s) (isStill jobs) q h)
+requeued s s′ j jobs same f q h =
+    all-imp (λ (e : ℕ). EntryOk s e × (isKept j (packetsIn jobs j) e ≡ true)) (EntryOk s′)
+    (λ e k. f (placeOf e) (packetOf e) (k .0) (sym (kept-still j (s .jobs) jobs same e (k .0 .listed)) ∙ k .1))
+    (keep (isKept j (packetsIn jobs j)) q)
+    (all-keep (EntryOk s) (isKept j (packetsIn jobs j)) q h)
 
 -- a packet that is busy stays where it was submitted
 abbrev pub Spots : Packet → Packet → Type 0

@@ -12,13 +12,14 @@ use Rattle.units.specs.declared.Mark.{Mark as UnitMark}
 use Rattle.units.specs.declared.Mark.the-variants.{Down, Reserved}
 use Rattle.numbers.specs.Tests.{by-bool}
 use Rattle.units.specs.State.{unitIn, unitSet, markedUnit}
-use Rattle.packets.specs.Inv.{EntryOk, Inv, OkEntry, OkMotion, Owned, Spots, inMotion, listed-busy, motion-busy, requeued, running-alive, single-relist}
-use Rattle.packets.specs.Laws.{All, all-append, all-imp, and-left, and-right, getD-set}
+use Rattle.packets.specs.Inv.{Elsewhere, EntryOk, Inv, OkEntry, OkMotion, Owned, Spots, inMotion, listed-busy, motion-busy, requeued, running-alive, single-relist}
+use Rattle.packets.specs.Laws.{All, all-append, all-imp, and-left, and-right, clash, getD-set}
 use Rattle.packets.specs.Once.{few, nodup-snoc}
 use Rattle.packets.specs.Rules.{marked}
-use Rattle.packets.specs.State.{State, enlisted, enqueue, entryOf, isBusy, isListed, lock, motionOn, move, packetIn, packetOf, placeOf, put, restatusAll, setLock, stateIn, store, sweep, withLock}
-use Rattle.packets.specs.Store.{alive-in, length-put, length-restatus, packet-put, packet-restatus, size-put, size-restatus, sizeIn, state-put, state-restatus, unit-keep}
+use Rattle.packets.specs.State.{State, enlisted, enqueue, entryOf, isBusy, isIdle, isListed, lock, motionOn, move, packetIn, packetOf, packetsIn, placeOf, put, restatusAll, setLock, stateIn, store, sweep, withLock}
+use Rattle.packets.specs.Store.{alive-in, busy-in, length-put, length-restatus, packet-put, packet-restatus, size-put, size-restatus, sizeIn, state-put, state-restatus, unit-keep}
 use Rattle.packets.specs.declared.Carrier.{Carrier}
+use Rattle.packets.specs.declared.Job.{Job}
 use Rattle.packets.specs.declared.Motion.{Motion}
 use Rattle.packets.specs.declared.Motion.the-variants.{Busy, Idle}
 use Rattle.packets.specs.declared.Packet.{Packet}
@@ -26,6 +27,13 @@ use Rattle.packets.specs.declared.Status.{Status}
 use Rattle.packets.specs.declared.Status.the-variants.{Blank}
 
 -- ---- a store
+
+-- one packet of place j, or those that pass a test, are changed, and no other
+pub put-elsewhere : (jobs : List Job) (j p : ℕ) (q : Packet) → p < sizeIn jobs j → Elsewhere j jobs (put jobs j p q)
+put-elsewhere jobs j p q fits i n d = packet-put jobs j p q i n fits ∙ rw d
+
+pub restatus-elsewhere : (jobs : List Job) (j : ℕ) (t : Packet → Bool) (f : Status → Status) → j < length jobs → f Blank ≡ Blank → Elsewhere j jobs (restatusAll jobs j t f)
+restatus-elsewhere jobs j t f inside fb i n d = packet-restatus jobs j t f i n inside fb ∙ rw d
 
 module _ (s : State) (I : Inv s) (j p : ℕ) (q : Packet) (fits : p < sizeIn (s .jobs) j)
     (spot : Spots (packetIn (s .jobs) j p) q)
@@ -55,8 +63,8 @@ module _ (s : State) (I : Inv s) (j p : ℕ) (q : Packet) (fits : p < sizeIn (s 
         sizes = λ i a. rw (size-put (s .jobs) j p q i) (I .sizes i (rw (state-put (s .jobs) j p q i) at a));
         places = length-put (s .jobs) j p q ∙ I .places;
         channels = I .channels;
-        single = single-relist (put (s .jobs) j p q) (s .queue) (I .single);
-        queued = requeued s (store s j p q) (put (s .jobs) j p q) entry (s .queue) (I .queued);
+        single = single-relist j (packetsIn (put (s .jobs) j p q) j) (s .queue) (I .single);
+        queued = requeued s (store s j p q) j (put (s .jobs) j p q) (put-elsewhere (s .jobs) j p q fits) entry (s .queue) (I .queued);
         motion = λ c i n e. record {
           going = store-going c i n e;
           channel = store-spots i n (motion-busy (packetIn (s .jobs) i n .status) (I .motion c i n e .going)) .0 ∙ I .motion c i n e .channel;
@@ -99,8 +107,8 @@ module _ (s : State) (I : Inv s) (j : ℕ) (t : Packet → Bool) (f : Status →
         sizes = λ i a. rw (size-restatus (s .jobs) j t f i) (I .sizes i (rw (state-restatus (s .jobs) j t f i) at a));
         places = length-restatus (s .jobs) j t f ∙ I .places;
         channels = I .channels;
-        single = single-relist (restatusAll (s .jobs) j t f) (s .queue) (I .single);
-        queued = requeued s (sweep s j t f) (restatusAll (s .jobs) j t f) entry (s .queue) (I .queued);
+        single = single-relist j (packetsIn (restatusAll (s .jobs) j t f) j) (s .queue) (I .single);
+        queued = requeued s (sweep s j t f) j (restatusAll (s .jobs) j t f) (restatus-elsewhere (s .jobs) j t f inside fb) entry (s .queue) (I .queued);
         motion = λ c i n e. record {
           going = sweep-going i n (I .motion c i n e .going);
           channel = sweep-channel i n ∙ I .motion c i n e .channel;
@@ -252,3 +260,15 @@ busy-inv s I c j p h k =
     let x : j ≡ i = cc in let y : p ≡ n = cc in let w : d ≡ c = eqb-true d c t in
     rw (w, ← x, ← y) k)
     (λ t. I .motion d i n (rw t at e′)))
+
+-- what moves is a packet of the cell
+pub idle-is : (s : State) → Inv s → (c : ℕ) → isIdle (motionOn s c) ≡ true → motionOn s c ≡ Idle
+idle-is s I c e = go (motionOn s c) refl
+  where
+    go : (m : Motion) → motionOn s c ≡ m → motionOn s c ≡ Idle
+    go Idle q = q
+    go (Busy j p) q =
+        let k = I .motion c j p q in
+        let a : j < length (s .jobs) = alive-in (s .jobs) j (k .alive) in
+        let b : p < sizeIn (s .jobs) j = busy-in (s .jobs) j p (motion-busy (packetIn (s .jobs) j p .status) (k .going)) in
+        clash false (rw (q, lt-ltb j 16 (omega (arith, I .places)), lt-ltb p 16 (omega (arith, I .sizes j (k .alive)))) at e) refl

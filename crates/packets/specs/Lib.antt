@@ -29,3 +29,4 @@ pub mod Codes
 pub mod CodesProof
 pub mod MarkLaws
 pub mod EndsMoving
+pub mod PickLaws

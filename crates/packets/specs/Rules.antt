@@ -4,12 +4,13 @@ use Prim.Native.Nat.{ℕ, _+_}
 use mathlib.Core.Bool.{Bool, true, false, not, cond, _&&_, _||_}
 use mathlib.Core.List.{List, [], _∷_}
 use mathlib.Core.Option.{Option, none, some}
-use lib.ListN.{set, replicate}
+use lib.ListN.{getD, set, replicate}
 use lib.Dec.{ltb, leb, eqb}
 use Rattle.numbers.specs.Kinds.{isDrum}
 use Rattle.numbers.specs.declared.Refusal.{Refusal}
 use Rattle.numbers.specs.declared.Refusal.the-variants.{OutOfRange, NoJob, NotTheJobs, NotLegal, PacketInUse, ChannelBusy, NothingStartable, NothingInProgress, WrongCompletion, NothingSelected}
 use Rattle.units.specs.State.{unitIn, unitSet, markedUnit}
+use Rattle.units.specs.declared.Holder.{Holder}
 use Rattle.units.specs.declared.Unit.{Unit as UnitState}
 use Rattle.units.specs.declared.Mark.{Mark as UnitMark}
 use Rattle.channels.specs.declared.Fitted.{Fitted}
@@ -34,7 +35,7 @@ use Rattle.packets.specs.declared.Answer.the-variants.{Done, Started, Co
 use Rattle.packets.specs.declared.Verdict.{Verdict}
 use Rattle.packets.specs.declared.Verdict.the-variants.{Granted, Denied}
 use Rattle.packets.specs.Picks.{find}
-use Rattle.packets.specs.State.{State, fittedOn, drumOn, configured, legalFor, placeOf, packetOf, isBusy, isStopping, isRunning, isEmpty, isClosing, blank, withStatus, jobIn, packetIn, stateIn, setState, heldBy, releaseAll, takeAll, wanted, motionOn, isIdle, anyMoves, store, sweep, enqueue, lock, move, close}
+use Rattle.packets.specs.State.{State, fittedOn, isDrumOf, drumOn, configured, legalFor, placeOf, packetOf, isBusy, isStopping, isRunning, isEmpty, isClosing, blank, withStatus, jobIn, packetIn, stateIn, setState, heldBy, releaseAll, takeAll, wanted, motionOn, isIdle, anyMoves, store, sweep, enqueue, lock, move, close}
 
 -- ---- the calls
 
@@ -75,11 +76,11 @@ abbrev pub inArea : Job → ℕ → Bool
 inArea job x = leb (job .from) x && ltb x (job .from + job .words)
 
 -- the unit or drum address is the job's; for 23 on the drum having an area is enough
-abbrev pub owns : State → ℕ → ℕ → ℕ → ℕ → Bool
-owns s j f c a =
-    cond (drumOn (s .channels) c)
-    (cond (eqb f 0o23) (ltb 0 (jobIn (s .jobs) j .words)) (inArea (jobIn (s .jobs) j) a))
-    (heldBy (unitIn (s .units) c a .holder) j)
+abbrev pub isOwn : Bool → Job → Holder → ℕ → ℕ → ℕ → Bool
+isOwn drum job holder j f a =
+    cond drum
+    (cond (eqb f 0o23) (ltb 0 (job .words)) (inArea job a))
+    (heldBy holder j)
 
 abbrev pub packet : Status → ℕ → ℕ → ℕ → Packet
 packet t f c a = record { status = t; function = f; channel = record { 0 = c }; at = a }
@@ -275,12 +276,16 @@ abbrev pub first : Bool → Refusal → Verdict → Verdict
 first true n r = Denied n
 first false n r = r
 
+-- the status of what moves
+abbrev pub movingStatus : State → Motion → Status
+movingStatus s Idle = Blank
+movingStatus s (Busy j p) = packetIn (s .jobs) j p .status
+
 -- cut for a packet not stopping; failure code 00, 01, 16o, 17o or over 77o
-abbrev pub badHow : State → Motion → How → Bool
-badHow s m Full = false
-badHow s Idle Cut = false
-badHow s (Busy j p) Cut = not (isStopping (packetIn (s .jobs) j p .status))
-badHow s m (Failed k) = eqb k 0o00 || (eqb k 0o01 || (eqb k 0o16 || (eqb k 0o17 || ltb 0o77 k)))
+abbrev pub isWrong : Status → How → Bool
+isWrong t Full = false
+isWrong t Cut = not (isStopping t)
+isWrong t (Failed k) = eqb k 0o00 || (eqb k 0o01 || (eqb k 0o16 || (eqb k 0o17 || ltb 0o77 k)))
 
 -- nothing startable
 abbrev pub isNone : Option ℕ → Bool
@@ -288,18 +293,22 @@ isNone none = true
 isNone (some e) = false
 
 -- place, channel, unit, packet or function number out of range, or channel or unit not configured
-abbrev pub inRange : State → ℕ → ℕ → ℕ → ℕ → Spot → Bool
-inRange s j p f c w = ltb j 16 && (ltb p 16 && (ltb f 64 && (ltb c 16 && reaches (fittedOn (s .channels) c) w)))
+abbrev pub inRange : Fitted → ℕ → ℕ → ℕ → ℕ → Spot → Bool
+inRange has j p f c w = ltb j 16 && (ltb p 16 && (ltb f 64 && (ltb c 16 && reaches has w)))
+
+-- a submission, by what the channel has, the job in the place and the unit
+abbrev pub submitRefusal : Fitted → Job → UnitState → ℕ → ℕ → ℕ → ℕ → Spot → Verdict
+submitRefusal has job unit j p f c w =
+    first (not (inRange has j p f c w)) OutOfRange
+    (first (not (isRunning (job .state))) NoJob
+    (first (not (isOwn (isDrumOf has) job (unit .holder) j f (atOf w))) NotTheJobs
+    (first (not (legalFor has f)) NotLegal
+    (first (isBusy (getD (job .packets) p blank .status)) PacketInUse
+    Granted))))
 
 unfoldable pub refusal : State → Call → Verdict
 refusal s (Take j asg) = first (not (ltb j 16 && isEmpty (stateIn (s .jobs) j))) NothingSelected Granted
-refusal s (Submit j p f c w) =
-    first (not (inRange s j p f c w)) OutOfRange
-    (first (not (isRunning (stateIn (s .jobs) j))) NoJob
-    (first (not (owns s j f c (atOf w))) NotTheJobs
-    (first (not (legalFor (fittedOn (s .channels) c) f)) NotLegal
-    (first (isBusy (packetIn (s .jobs) j p .status)) PacketInUse
-    Granted))))
+refusal s (Submit j p f c w) = submitRefusal (fittedOn (s .channels) c) (jobIn (s .jobs) j) (unitIn (s .units) c (atOf w)) j p f c w
 refusal s (Start c) =
     first (not (configured (s .channels) c)) OutOfRange
     (first (not (isIdle (motionOn s c))) ChannelBusy
@@ -308,7 +317,7 @@ refusal s (Start c) =
 refusal s (Complete c how) =
     first (not (configured (s .channels) c)) OutOfRange
     (first (isIdle (motionOn s c)) NothingInProgress
-    (first (badHow s (motionOn s c) how) WrongCompletion
+    (first (isWrong (movingStatus s (motionOn s c)) how) WrongCompletion
     Granted))
 refusal s (End j e) =
     first (not (ltb j 16)) OutOfRange

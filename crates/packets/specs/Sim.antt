@@ -11,12 +11,12 @@ use Rattle.units.specs.declared.Unit.{Unit as UnitState}
 use Rattle.numbers.specs.Tests.{by-bool}
 use Rattle.units.specs.State.{unitIn}
 use Rattle.packets.specs.Demand.{Holding, there}
-use Rattle.packets.specs.Inv.{EntryOk, Inv, listed-busy, motion-busy}
-use Rattle.packets.specs.InvStores.{New, enlisted-is, entry-packet, motion-move}
+use Rattle.packets.specs.Inv.{Elsewhere, EntryOk, Inv, kept-still, listed-busy, motion-busy}
+use Rattle.packets.specs.InvStores.{New, enlisted-is, entry-packet, motion-move, put-elsewhere, restatus-elsewhere}
 use Rattle.packets.specs.Laws.{All, all-imp, all-keep, and-both, and-left, and-right, clash, eqb-self, keep-all, keep-append, keep-same, settle-eq}
 use Rattle.packets.specs.Lone.{Lone, Request, carries, joins, locks, settle, still, stores, waits, write}
 use Rattle.packets.specs.Picks.{keep}
-use Rattle.packets.specs.State.{State, enqueue, entryOf, isBusy, isListed, isStill, motionOn, move, packetIn, packetOf, placeOf, put, relist, restatus, restatusAll, store, sweep}
+use Rattle.packets.specs.State.{State, enqueue, entryOf, isBusy, isKept, isListed, motionOn, move, packetIn, packetOf, packetsIn, placeOf, put, relist, restatus, restatusAll, store, sweep}
 use Rattle.packets.specs.Store.{packet-put, packet-restatus, sizeIn}
 use Rattle.packets.specs.declared.Job.{Job}
 use Rattle.packets.specs.declared.Motion.{Motion}
@@ -86,10 +86,10 @@ module _ (h : Holding) (s : State) (I : Inv s) (l : Lone) (S : Sim h s l) where
           let p : placeOf e ≡ h .place = eqb-true (placeOf e) (h .place) (and-left (eqb (placeOf e) (h .place)) _ (k .1)) in
           rw (S .table (packetOf e) (and-right (eqb (placeOf e) (h .place)) _ (k .1)), ← waits-listed (packetIn (s .jobs) (h .place) (packetOf e) .status)) (rw p at (k .0 .listed))
 
-  module _ (jobs : List Job)
+  module _ (j : ℕ) (jobs : List Job) (elsewhere : Elsewhere j (s .jobs) jobs)
       (kept : (n : ℕ) → isBusy (packetIn (s .jobs) (h .place) n .status) ≡ true → there h (packetIn jobs (h .place) n) ≡ there h (packetIn (s .jobs) (h .place) n)) where
     abbrev rejob : State
-    rejob = record { channels = s .channels; units = s .units; moving = s .moving; jobs = jobs; queue = relist jobs (s .queue) }
+    rejob = record { channels = s .channels; units = s .units; moving = s .moving; jobs = jobs; queue = relist j (packetsIn jobs j) (s .queue) }
 
     same-moving : (m : Motion) → motionOn s (h .channel) ≡ m → movingThere h (s .jobs) m ≡ movingThere h jobs m
     same-moving Idle e = refl
@@ -106,9 +106,9 @@ module _ (h : Holding) (s : State) (I : Inv s) (l : Lone) (S : Sim h s l) where
     sim-jobs t table =
         record {
           order = still-keep t (l .order) ∙ rw (S .order)
-              (settle-eq (on h (s .jobs)) (on h jobs) (isStill jobs) num (λ (n : ℕ). waits (t n .status)) (s .queue)
-              (all-imp (EntryOk s) (λ (e : ℕ). (on h jobs e ≡ on h (s .jobs) e) × (on h (s .jobs) e ≡ true → isListed (packetIn jobs (placeOf e) (packetOf e) .status) ≡ waits (t (num e) .status)))
-              (λ e k. (same e k, listens e k)) (s .queue) (I .queued)));
+              (settle-eq (on h (s .jobs)) (on h jobs) (isKept j (packetsIn jobs j)) num (λ (n : ℕ). waits (t n .status)) (s .queue)
+              (all-imp (EntryOk s) (λ (e : ℕ). (on h jobs e ≡ on h (s .jobs) e) × (on h (s .jobs) e ≡ true → isKept j (packetsIn jobs j) e ≡ waits (t (num e) .status)))
+              (λ e k. (same e k, λ o. kept-still j (s .jobs) jobs elsewhere e (k .listed) ∙ listens e k o)) (s .queue) (I .queued)));
           table = table;
           moving = S .moving ∙ same-moving (motionOn s (h .channel)) refl;
           lock = S .lock;
@@ -151,7 +151,7 @@ module _ (h : Holding) (s : State) (I : Inv s) (l : Lone) (S : Sim h s l) where
 
     pub sim-store : h .place ≡ j → (r : Request) → r ≡ look q → Sim h (store s j p q) (stores l p r)
     sim-store at-j r is =
-        sim-jobs (put (s .jobs) j p q) store-kept (write (l .packets) p r) table
+        sim-jobs j (put (s .jobs) j p q) (put-elsewhere (s .jobs) j p q fits) store-kept (write (l .packets) p r) table
       where
         table : (n : ℕ) → there h (packetIn (put (s .jobs) j p q) (h .place) n) ≡ true → write (l .packets) p r n ≡ look (packetIn (put (s .jobs) j p q) (h .place) n)
         table n t =
@@ -162,7 +162,7 @@ module _ (h : Holding) (s : State) (I : Inv s) (l : Lone) (S : Sim h s l) where
 
     pub sim-store-away : eqb (h .place) j && there h q ≡ false → Sim h (store s j p q) l
     sim-store-away away =
-        sim-jobs-away (put (s .jobs) j p q) store-kept table
+        sim-jobs-away j (put (s .jobs) j p q) (put-elsewhere (s .jobs) j p q fits) store-kept table
       where
         table : (n : ℕ) → there h (packetIn (put (s .jobs) j p q) (h .place) n) ≡ true → l .packets n ≡ look (packetIn (put (s .jobs) j p q) (h .place) n)
         table n t =
@@ -182,7 +182,7 @@ module _ (h : Holding) (s : State) (I : Inv s) (l : Lone) (S : Sim h s l) where
         → ((n : ℕ) → there h (packetIn (s .jobs) (h .place) n) ≡ true → t n ≡ look (restatus test f (packetIn (s .jobs) (h .place) n)))
         → Sim h (sweep s j test f) (settle l t)
     sim-sweep at-j t is =
-        sim-jobs (restatusAll (s .jobs) j test f) sweep-kept t table
+        sim-jobs j (restatusAll (s .jobs) j test f) (restatus-elsewhere (s .jobs) j test f inside fb) sweep-kept t table
       where
         table : (n : ℕ) → there h (packetIn (restatusAll (s .jobs) j test f) (h .place) n) ≡ true → t n ≡ look (packetIn (restatusAll (s .jobs) j test f) (h .place) n)
         table n e =
@@ -192,7 +192,7 @@ module _ (h : Holding) (s : State) (I : Inv s) (l : Lone) (S : Sim h s l) where
 
     pub sim-sweep-away : ((n : ℕ) → h .place ≡ j → there h (packetIn (s .jobs) (h .place) n) ≡ true → test (packetIn (s .jobs) (h .place) n) ≡ false) → Sim h (sweep s j test f) l
     sim-sweep-away away =
-        sim-jobs-away (restatusAll (s .jobs) j test f) sweep-kept table
+        sim-jobs-away j (restatusAll (s .jobs) j test f) (restatus-elsewhere (s .jobs) j test f inside fb) sweep-kept table
       where
         table : (n : ℕ) → there h (packetIn (restatusAll (s .jobs) j test f) (h .place) n) ≡ true → l .packets n ≡ look (packetIn (restatusAll (s .jobs) j test f) (h .place) n)
         table n e =

@@ -10,7 +10,8 @@ use Rattle.numbers.specs.Tests.{by-bool}
 use Rattle.units.specs.State.{unitIn}
 use Rattle.packets.specs.Demand.{Holding, Holds, startIn, there}
 use Rattle.packets.specs.Inv.{EntryOk, Inv}
-use Rattle.packets.specs.Laws.{all-imp, and-left, and-right, clash, eqb-self, find-holds, find-keep, not-true, or-right}
+use Rattle.packets.specs.InvStores.{idle-is}
+use Rattle.packets.specs.Laws.{all-imp, and-left, and-right, eqb-self, find-holds, find-keep, not-true, or-right}
 use Rattle.packets.specs.Lone.{Lone, become, carries, loneStart, loneStep, setsOff, startOf, stores}
 use Rattle.packets.specs.Picks.{find, keep}
 use Rattle.packets.specs.Rules.{Start, answer, begun, returnIfDone, startable}
@@ -21,8 +22,7 @@ use Rattle.packets.specs.Steps.{start-at, start-fits, start-store, start
 use Rattle.packets.specs.Store.{packet-state, unit-release}
 use Rattle.packets.specs.declared.Job.{Job}
 use Rattle.packets.specs.declared.JobState.the-variants.{Empty}
-use Rattle.packets.specs.declared.Motion.{Motion}
-use Rattle.packets.specs.declared.Motion.the-variants.{Busy, Idle}
+use Rattle.packets.specs.declared.Motion.the-variants.{Busy}
 use Rattle.packets.specs.declared.Status.the-variants.{InProgress}
 
 -- ---- a return
@@ -114,14 +114,10 @@ module _ (h : Holding) (s : State) (I : Inv s) (H : Holds s h) (l : Lone) (S : S
         let q = withStatus (packetIn (s .jobs) (placeOf e) (packetOf e)) InProgress in
         let s₁ = store s (placeOf e) (packetOf e) q in
         let S₁ : Sim h s₁ l = sim-store-away h s I l S (placeOf e) (packetOf e) q (start-fits s I c small e entry-ok on-channel) (λ b. refl) away in
-        sim-move-away h s₁ (start-store s I c small e entry-ok on-channel) l S₁ c (Busy (placeOf e) (packetOf e)) small (λ x. not-moving ∙ sym (was-idle (motionOn s c) idle))
+        sim-move-away h s₁ (start-store s I c small e entry-ok on-channel) l S₁ c (Busy (placeOf e) (packetOf e)) small (λ x. not-moving ∙ sym (ap (movingThere h after) (idle-is s I c idle)))
       where
         after : List Job
         after = put (s .jobs) (placeOf e) (packetOf e) (withStatus (packetIn (s .jobs) (placeOf e) (packetOf e)) InProgress)
-
-        was-idle : (m : Motion) → isIdle m ≡ true → movingThere h after m ≡ none
-        was-idle Idle i = refl
-        was-idle (Busy j p) i = clash false i refl
 
         not-moving : movingThere h after (Busy (placeOf e) (packetOf e)) ≡ none
         not-moving =

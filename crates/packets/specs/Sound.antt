@@ -16,7 +16,7 @@ use Rattle.packets.specs.Laws.{and-left, and-right, clash}
 use Rattle.packets.specs.Lone.{lists}
 use Rattle.packets.specs.Picks.{any, keep}
 use Rattle.packets.specs.Rules.{assigned}
-use Rattle.packets.specs.State.{State, blank, enqueue, entryOf, isListed, isStill, motionOn, move, moves, packetIn, put, relist, restatus, restatusAll, setState, store, sweep}
+use Rattle.packets.specs.State.{State, blank, enqueue, entryOf, isKept, isListed, motionOn, move, moves, packetIn, packetsIn, put, relist, restatus, restatusAll, setState, store, sweep}
 use Rattle.packets.specs.Store.{busy-in, packet-fresh, packet-put, packet-restatus, packet-state, size-fresh, size-put, size-restatus, size-state, sizeIn}
 use Rattle.packets.specs.declared.Assignment.{Assignment}
 use Rattle.packets.specs.declared.Job.{Job}
@@ -52,10 +52,13 @@ keep-any f e (x ∷ q) h t =
     by-bool (f x) (λ g. rw (g, d) (keep-any f e q h′ t)) (λ g. rw g (keep-any f e q h′ t)))
 
 -- what is listed after a change stays in the list
-stays : (jobs : List Job) (q : List ℕ) (i n : ℕ) → n < 16 → isListed (packetIn jobs i n .status) ≡ true → any (eqb (entryOf i n)) q ≡ true
-    → any (eqb (entryOf i n)) (relist jobs q) ≡ true
-unfolding relist
-stays jobs q i n small l m = keep-any (isStill jobs) (entryOf i n) q m (rw (entry-place i n small, entry-packet i n small) l)
+stays : (j : ℕ) (jobs : List Job) (q : List ℕ) (i n : ℕ) → n < 16 → isListed (packetIn jobs i n .status) ≡ true → any (eqb (entryOf i n)) q ≡ true
+    → any (eqb (entryOf i n)) (relist j (packetsIn jobs j) q) ≡ true
+unfolding relist packetIn
+stays j jobs q i n small l m =
+    keep-any (isKept j (packetsIn jobs j)) (entryOf i n) q m
+    (rw (entry-place i n small, entry-packet i n small)
+    (by-bool (eqb i j) (λ t. let p : i ≡ j = eqb-true i j t in rw t (rw p at l)) (λ t. rw t)))
 
 any-last : (e : ℕ) (q : List ℕ) (x : ℕ) → any (eqb e) (q ++ (x ∷ [])) ≡ any (eqb e) q || eqb e x
 any-last e [] x = by-bool (eqb e x) (λ t. rw t) (λ t. rw t)
@@ -67,7 +70,7 @@ module _ (s : State) (j p : ℕ) (S : Sound s (isPacket j p)) where
   store-sound q fits =
       record {
         mover = λ i n b h. rw (same i n b) (S .mover i n b (rw (same i n b) at h));
-        member = λ i n b h. stays (put (s .jobs) j p q) (s .queue) i n (small i n h) h (S .member i n b (rw (same i n b) at h));
+        member = λ i n b h. stays j (put (s .jobs) j p q) (s .queue) i n (small i n h) h (S .member i n b (rw (same i n b) at h));
         sixteen = λ i. rw (size-put (s .jobs) j p q i) (S .sixteen i);
       }
     where
@@ -141,7 +144,7 @@ module _ (s : State) (S : Sound s noPacket) (j : ℕ) (t : Packet → Bool) (f :
   sweep-sound =
       record {
         mover = λ i n b h. rw (channel i n) (S .mover i n b (back inMotion moved i n h));
-        member = λ i n b h. stays (restatusAll (s .jobs) j t f) (s .queue) i n (small i n h) h (S .member i n b (back isListed listed i n h));
+        member = λ i n b h. stays j (restatusAll (s .jobs) j t f) (s .queue) i n (small i n h) h (S .member i n b (back isListed listed i n h));
         sixteen = λ i. rw (size-restatus (s .jobs) j t f i) (S .sixteen i);
       }
     where

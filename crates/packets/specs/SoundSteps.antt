@@ -11,7 +11,7 @@ use Rattle.numbers.specs.Tests.{by-bool}
 use Rattle.channels.specs.declared.Channel.{Channel}
 use Rattle.packets.specs.Demand.{emptyPlace, fresh}
 use Rattle.packets.specs.Inv.{EntryOk, Inv, inMotion, running-alive}
-use Rattle.packets.specs.InvStores.{New, enlisted-is, lock-inv, motion-move, sweep-inv}
+use Rattle.packets.specs.InvStores.{New, enlisted-is, idle-is, lock-inv, motion-move, sweep-inv}
 use Rattle.packets.specs.Laws.{clash, eqb-self, find-holds, getD-replicate-const, getD-replicate-same}
 use Rattle.packets.specs.Picks.{any, find}
 use Rattle.packets.specs.Rules.{Call, Complete, End, Mark, Start, Submit, Take, accept, aimed, always, atOf, atUnit, begun, closed, closing, codeFor, cut, decided, enlist, failed, finished, isDone, isFailure, locked, marked, over, packet, refusal, returnIfDone, run, startable, step, submitted, toOf}
@@ -114,7 +114,7 @@ module _ (s : State) (I : Inv s) (S : Sound s noPacket) (c : ℕ) (small : c < 1
       let at : packetIn (s₁ .jobs) j p ≡ q = start-at s I c small e k on in
       sound-whole (move s₁ c (Busy j p)) j p
       (move-sound s₁ j p (store-sound s j p (sound-but (isPacket j p) S) q (start-fits s I c small e k on)) c (Busy j p) (rw (I .channels) small)
-      (λ i n b m. clash false (rw m at idle) refl))
+      (λ i n b m. let z : Busy i n ≡ Idle = sym m ∙ idle-is s I c idle in let y : _≡_ {A = ℕ} 0 1 = cc in omega arith))
       (λ m. rw (at, on) (motion-move s₁ c (Busy j p) c (rw (I .channels) small) ∙ rw (eqb-self c)))
       (λ m. clash false (rw at at m) refl)
 

@@ -1,6 +1,6 @@
 -- The state that the rules speak of, how it is read, and the stores that change one part of it.
 use Prim.Native.Nat.{ℕ, _+_, _*_, _/_, _%_}
-use mathlib.Core.Bool.{Bool, true, false, cond, _&&_}
+use mathlib.Core.Bool.{Bool, true, false, not, cond, _&&_, _||_}
 use mathlib.Core.List.{List, [], _∷_, _++_, map}
 use lib.ListN.{length, getD, set}
 use lib.Dec.{ltb, eqb}
@@ -139,6 +139,9 @@ withState j t = record { state = t; packets = j .packets; from = j .from; words 
 abbrev pub jobIn : List Job → ℕ → Job
 jobIn jobs j = getD jobs j noJob
 
+abbrev pub packetsIn : List Job → ℕ → List Packet
+packetsIn jobs j = jobIn jobs j .packets
+
 unfoldable pub packetIn : List Job → ℕ → ℕ → Packet
 packetIn jobs j p = getD (jobIn jobs j .packets) p blank
 
@@ -164,9 +167,13 @@ setState jobs j t = set jobs j (withState (jobIn jobs j) t)
 abbrev pub isStill : List Job → ℕ → Bool
 isStill jobs e = isListed (packetIn jobs (placeOf e) (packetOf e) .status)
 
--- the list without what is no longer listed
-unfoldable pub relist : List Job → List ℕ → List ℕ
-relist jobs q = keep (isStill jobs) q
+-- an entry stays unless it names a packet of place j, whose packets are these, that is not listed
+abbrev pub isKept : ℕ → List Packet → ℕ → Bool
+isKept j ps e = not (eqb (placeOf e) j) || isListed (getD ps (packetOf e) blank .status)
+
+-- the list without those packets of place j that are no longer listed
+unfoldable pub relist : ℕ → List Packet → List ℕ → List ℕ
+relist j ps q = keep (isKept j ps) q
 
 -- the list with one more at its end, where there is room (there always is: no packet is listed twice)
 unfoldable pub enlisted : List ℕ → ℕ → List ℕ
@@ -205,12 +212,16 @@ takeAll units j wants = mapFrom 0 (λ c row. mapFrom 0 (λ u v. takeUnit j (want
 
 -- ---- what moves
 
-abbrev pub motionOn : State → ℕ → Motion
-motionOn s c = getD (s .moving) c (record { motion = Idle }) .motion
+abbrev pub carrying : Motion → Carrier
+carrying m = record { motion = m }
 
+abbrev pub motionOn : State → ℕ → Motion
+motionOn s c = getD (s .moving) c (carrying Idle) .motion
+
+-- nothing moves; what is no packet of the cell's 16 places is nothing
 abbrev pub isIdle : Motion → Bool
 isIdle Idle = true
-isIdle (Busy j p) = false
+isIdle (Busy j p) = not (ltb j 16 && ltb p 16)
 
 -- a packet of the job in place j moves
 abbrev pub moves : ℕ → Motion → Bool
@@ -222,17 +233,17 @@ anyMoves j moving = any (λ (m : Carrier). moves j (m .motion)) moving
 
 -- ---- the stores that the rules are made of
 
--- packet p of place j is now this; the list keeps what is still listed
+-- packet p of place j is now this; what is no longer listed leaves the list
 abbrev pub store : State → ℕ → ℕ → Packet → State
 store s j p q =
     let after = put (s .jobs) j p q in
-    record { channels = s .channels; units = s .units; moving = s .moving; jobs = after; queue = relist after (s .queue) }
+    record { channels = s .channels; units = s .units; moving = s .moving; jobs = after; queue = relist j (packetsIn after j) (s .queue) }
 
--- the packets of place j that pass the test change their status; the list keeps what is still listed
+-- the packets of place j that pass the test change their status; what is no longer listed leaves the list
 abbrev pub sweep : State → ℕ → (Packet → Bool) → (Status → Status) → State
 sweep s j t f =
     let after = restatusAll (s .jobs) j t f in
-    record { channels = s .channels; units = s .units; moving = s .moving; jobs = after; queue = relist after (s .queue) }
+    record { channels = s .channels; units = s .units; moving = s .moving; jobs = after; queue = relist j (packetsIn after j) (s .queue) }
 
 -- packet p of place j is the youngest of the list
 abbrev pub enqueue : State → ℕ → ℕ → State
@@ -249,7 +260,7 @@ move s c m =
     record {
       channels = s .channels;
       units = s .units;
-      moving = set (s .moving) c (record { motion = m });
+      moving = set (s .moving) c (carrying m);
       jobs = s .jobs;
       queue = s .queue;
     }

@@ -19,7 +19,7 @@ use Rattle.packets.specs.InvStores.{New, busy-inv, enqueue-inv, entry-pa
 use Rattle.packets.specs.Laws.{All, all-imp, all-keep, and-left, and-right, any-none, clash, eqb-self, find-holds, getD-replicate-const, getD-replicate-same, not-true}
 use Rattle.packets.specs.Picks.{find, keep}
 use Rattle.packets.specs.Rules.{Call, Complete, End, Mark, Start, Submit, Take, accept, aimed, always, atOf, atUnit, begun, closing, codeFor, cut, decided, failed, finished, isFailure, isNone, locked, over, packet, refusal, returnIfDone, run, startable, step, submitted, toOf}
-use Rattle.packets.specs.State.{State, anyMoves, close, drumOn, entryOf, heldBy, isBusy, isClosing, isEmpty, isIdle, isListed, isRunning, isStill, lock, motionOn, move, moves, noJob, packetIn, packetOf, placeOf, put, relist, restatusAll, stateIn, store, sweep, withStatus}
+use Rattle.packets.specs.State.{State, anyMoves, close, drumOn, entryOf, heldBy, isBusy, isClosing, isEmpty, isIdle, isListed, isKept, isRunning, lock, motionOn, move, moves, noJob, packetIn, packetOf, packetsIn, placeOf, put, relist, restatusAll, stateIn, store, sweep, withStatus}
 use Rattle.packets.specs.Store.{alive-in, busy-in, packet-put, packet-restatus, sizeIn, state-put, state-restatus}
 use Rattle.packets.specs.Told.{Submits, assigns-to, completes-on, cut-going, cut-idle, cut-unlisted, ends-of, failed-going, failed-idle, starts-on, submits}
 use Rattle.packets.specs.declared.Carrier.{Carrier}
@@ -85,10 +85,10 @@ not-listed s j p small idle e k =
     clash (isBusy (packetIn (s .jobs) j p .status)) (listed-busy (packetIn (s .jobs) j p .status) m) idle)
     (λ t. t)
 
-pub all-relist : (P : ℕ → Type 0) (jobs : List Job) (q : List ℕ) → All P q → All P (relist jobs q)
+pub all-relist : (P : ℕ → Type 0) (j : ℕ) (ps : List Packet) (q : List ℕ) → All P q → All P (relist j ps q)
 unfolding relist
-all-relist P jobs q h =
-    all-imp (λ (e : ℕ). P e × (isStill jobs e ≡ true)) P (λ e k. k .0) (keep (isStill jobs) q) (all-keep P (isStill jobs) q h)
+all-relist P j ps q h =
+    all-imp (λ (e : ℕ). P e × (isKept j ps e ≡ true)) P (λ e k. k .0) (keep (isKept j ps) q) (all-keep P (isKept j ps) q h)
 
 -- an ordinary function's packet is new in the list
 pub listed-new : (s : State) → Inv s → (j p f c a : ℕ) → Submits s j p f c a → New (store s j p (packet Listed f c a)) j p
@@ -101,7 +101,7 @@ listed-new s I j p f c a k =
         running = rw (state-put (s .jobs) j p (packet Listed f c a) j) (k .running);
         owned = rw (stored-at s I j p (packet Listed f c a) r) (λ n. rw n at (k .owned));
       };
-      once = all-relist (λ (e : ℕ). eqb (entryOf j p) e ≡ false) (put (s .jobs) j p (packet Listed f c a)) (s .queue)
+      once = all-relist (λ (e : ℕ). eqb (entryOf j p) e ≡ false) j (packetsIn (put (s .jobs) j p (packet Listed f c a)) j) (s .queue)
           (all-imp (EntryOk s) (λ (e : ℕ). eqb (entryOf j p) e ≡ false) (not-listed s j p (k .small) (k .idle)) (s .queue) (I .queued));
     }
 

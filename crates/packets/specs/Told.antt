@@ -6,11 +6,12 @@ use mathlib.Core.List.{List}
 use lib.Dec.{ltb}
 use borrow.Author.Tests.{ltb-true}
 use Rattle.numbers.specs.declared.Refusal.the-variants.{ChannelBusy, NoJob, NotLegal, NotTheJobs, NothingInProgress, NothingSelected, NothingStartable, OutOfRange, PacketInUse}
+use Rattle.units.specs.State.{unitIn}
 use Rattle.packets.specs.Inv.{inMotion}
 use Rattle.packets.specs.Laws.{and-left, and-right, clash, not-false, passes}
 use Rattle.packets.specs.Picks.{find}
-use Rattle.packets.specs.Rules.{Complete, End, Start, Submit, Take, atOf, cut, failed, inRange, isNone, owns, refusal, startable}
-use Rattle.packets.specs.State.{State, configured, fittedOn, isBusy, isEmpty, isIdle, isListed, isRunning, legalFor, motionOn, packetIn, stateIn}
+use Rattle.packets.specs.Rules.{Complete, End, Start, Submit, Take, atOf, cut, failed, inRange, isNone, isOwn, refusal, startable}
+use Rattle.packets.specs.State.{State, configured, drumOn, fittedOn, isBusy, isEmpty, isIdle, isListed, isRunning, jobIn, legalFor, motionOn, packetIn, stateIn}
 use Rattle.packets.specs.declared.Assignment.{Assignment}
 use Rattle.channels.specs.declared.Channel.{Channel}
 use Rattle.packets.specs.declared.How.{How}
@@ -25,6 +26,10 @@ configured-in g c e = ltb-true c 16 (and-left (ltb c 16) _ e)
 
 -- ---- what a call's acceptance tells
 
+-- the unit or drum address is the job's
+abbrev pub owns : State → ℕ → ℕ → ℕ → ℕ → Bool
+owns s j f c a = isOwn (drumOn (s .channels) c) (jobIn (s .jobs) j) (unitIn (s .units) c a .holder) j f a
+
 pub record Submits (s : State) (j p f c a : ℕ) : Type 0 where
   pub small : p < 16
   pub running : isRunning (stateIn (s .jobs) j) ≡ true
@@ -32,14 +37,14 @@ pub record Submits (s : State) (j p f c a : ℕ) : Type 0 where
   pub idle : isBusy (packetIn (s .jobs) j p .status) ≡ false
 
 pub submits : (s : State) (j p f c : ℕ) (w : Spot) → refusal s (Submit j p f c w) ≡ Granted → Submits s j p f c (atOf w)
-unfolding refusal
+unfolding refusal drumOn stateIn packetIn
 submits s j p f c w e =
-    let r₁ = passes (not (inRange s j p f c w)) OutOfRange _ e in
+    let r₁ = passes (not (inRange (fittedOn (s .channels) c) j p f c w)) OutOfRange _ e in
     let r₂ = passes (not (isRunning (stateIn (s .jobs) j))) NoJob _ (r₁ .1) in
     let r₃ = passes (not (owns s j f c (atOf w))) NotTheJobs _ (r₂ .1) in
     let r₄ = passes (not (legalFor (fittedOn (s .channels) c) f)) NotLegal _ (r₃ .1) in
     let r₅ = passes (isBusy (packetIn (s .jobs) j p .status)) PacketInUse Granted (r₄ .1) in
-    let t₁ = and-right (ltb j 16) _ (not-false (inRange s j p f c w) (r₁ .0)) in
+    let t₁ = and-right (ltb j 16) _ (not-false (inRange (fittedOn (s .channels) c) j p f c w) (r₁ .0)) in
     record {
       small = ltb-true p 16 (and-left (ltb p 16) _ t₁);
       running = not-false _ (r₂ .0);

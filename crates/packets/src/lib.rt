@@ -112,6 +112,13 @@ pub enum Leaving {
     AfterError,
 }
 
+// What a completion or an end makes of a job: the job then, whether its facilities return, and after which end.
+pub struct Ending {
+    pub job: Job,
+    pub done: bool,
+    pub leaving: Leaving,
+}
+
 // What a call answers: a completion the place and number of the packet that it ends.
 pub enum Answer {
     Done,
@@ -121,10 +128,10 @@ pub enum Answer {
     Refused(Refusal),
 }
 
-// The answer with the state after the call.
+// The state after a call, and its answer. The state stands first: with the answer before it a copy of the state could not be left out.
 pub struct Acted {
-    pub answer: Answer,
     pub lists: Lists,
+    pub answer: Answer,
 }
 
 // Whether a call is refused.

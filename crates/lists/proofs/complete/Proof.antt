@@ -1,79 +1,122 @@
 -- `lists::complete` meets its contract: the rules' outcome of a completion. Assumes nothing.
-use mathlib.Core.Path.{sym, ap, _∙_}
-use Rattle.packets.specs.declared.Packet.{Packet}
+use mathlib.Core.Path.{refl, _∙_}
 use Rattle.packets.specs.Rules.{Complete}
-use Rattle.packets.specs.Laws.{not-true, not-false}
-use Rattle.lists.specs.Outcomes.{wrongHow}
-use Rattle.lists.proofs.Calls.{refused-is, complete-absent, complete-idle, complete-wrong, complete-done}
+use Rattle.lists.proofs.Calls.{refused-is}
+use Rattle.lists.proofs.Full.{places}
+use Rattle.lists.proofs.Completes.{complete-verdict, complete-is}
 use borrow.Author.Needs.{needs}
 use Rattle.lists.proofs.complete.Statement.{statement}
 use Rattle.lists.proofs.complete.Tie as tie
 
-is-configured-requires : tie.Need-is-configured-requires
-is-configured-requires c κs = search needs
+cast-c : tie.Need-cast-c
+cast-c c = search needs
 
-refused-requires : tie.Need-refused-requires
-refused-requires c κs = search needs
+mul-carrier : tie.Need-mul-carrier
+mul-carrier c = search needs
 
-returns : tie.Need-returns
-returns c = refused-is (c .before .before .before .before .before .before .args .lists) (Complete (c .before .before .before .before .before .before .args .channel .0) (c .before .before .before .before .before .before .args .how)) _ (complete-absent (c .before .before .before .before .before .before .args .lists) (c .before .before .before .before .before .before .args .channel .0) (c .before .before .before .before .before .before .args .how) (sym (c .before .before .is-configured .ensures) ∙ not-true _ (c .before .if1 .taken))) (c .refused .result) (c .refused .ensures)
+element-copy-out-carrier : tie.Need-element-copy-out-carrier
+element-copy-out-carrier c = search needs
 
-motion-on-requires : tie.Need-motion-on-requires
-motion-on-requires c κs = search needs
+place-of-requires : tie.Need-place-of-requires
+place-of-requires c κs = search needs
+
+packet-of-requires : tie.Need-packet-of-requires
+packet-of-requires c κs = search needs
+
+cast-i : tie.Need-cast-i
+cast-i c = search needs
+
+mul-job : tie.Need-mul-job
+mul-job c = search needs
+
+element-copy-out-job : tie.Need-element-copy-out-job
+element-copy-out-job c = search needs
+
+packet-in-requires : tie.Need-packet-in-requires
+packet-in-requires c κs = search needs
+
+of-complete-requires : tie.Need-of-complete-requires
+of-complete-requires c κs = search needs
+
+enum-known-refusal : tie.Need-enum-known-refusal
+enum-known-refusal c = search needs
 
 enum-told : tie.Need-enum-told
 enum-told c = search needs
 
-refused-requires-2 : tie.Need-refused-requires-2
-refused-requires-2 c κs = search needs
+idle-requires : tie.Need-idle-requires
+idle-requires c κs = search needs
 
-enum-known-j : tie.Need-enum-known-j
-enum-known-j c = search needs
+mul-idle : tie.Need-mul-idle
+mul-idle c = search needs
 
-packet-at-requires : tie.Need-packet-at-requires
-packet-at-requires c κs = search needs
+element-set-from-idle : tie.Need-element-set-from-idle
+element-set-from-idle c = search needs
 
-is-wrong-requires : tie.Need-is-wrong-requires
-is-wrong-requires c κs = search needs
+fitted-on-requires : tie.Need-fitted-on-requires
+fitted-on-requires c κs = search needs
 
-refused-requires-3 : tie.Need-refused-requires-3
-refused-requires-3 c κs = search needs
+is-breaking-requires : tie.Need-is-breaking-requires
+is-breaking-requires c κs = search needs
+
+over-requires : tie.Need-over-requires
+over-requires c κs = search needs
+
+mul-gone : tie.Need-mul-gone
+mul-gone c = search needs
+
+element-set-from-gone : tie.Need-element-set-from-gone
+element-set-from-gone c = search needs
+
+relisted-requires : tie.Need-relisted-requires
+relisted-requires c κs = search needs
+
+units-of-requires : tie.Need-units-of-requires
+units-of-requires c κs = search needs
+
+returns : tie.Need-returns
+returns c = let a = c .before .before .before .before .before .before .before .before .before .before .before .before .args in
+    refused-is (a .lists) (Complete (a .channel .0) (a .how)) _
+    (complete-verdict (a .lists) (a .channel .0) (a .how) _ refl (c .before .before .before .before .before .before .before .before .place-of .result) (c .before .before .before .before .before .before .before .packet-of .result) (c .before .before .before .before .before .before .before .before .place-of .ensures) (c .before .before .before .before .before .before .before .packet-of .ensures) (c .before .before .before .before .packet-in .result) (c .before .before .before .before .packet-in .ensures) (c .before .before .before .of-complete .result) (c .before .before .before .of-complete .ensures) ∙ c .before .refusal .given .1)
 
 returns-2 : tie.Need-returns-2
-returns-2 c = refused-is (c .before .before .before .before .before .before .before .before .before .before .before .before .before .args .lists) (Complete (c .before .before .before .before .before .before .before .before .before .before .before .before .before .args .channel .0) (c .before .before .before .before .before .before .before .before .before .before .before .before .before .args .how)) _ (complete-wrong (c .before .before .before .before .before .before .before .before .before .before .before .before .before .args .lists) (c .before .before .before .before .before .before .before .before .before .before .before .before .before .args .channel .0) (c .before .before .before .before .before .before .before .before .before .before .before .before .before .args .how) (sym (c .before .before .before .before .before .before .before .before .before .is-configured .ensures) ∙ not-false _ (c .before .before .before .before .before .before .before .before .if1 .left)) (c .before .before .before .before .before .j .given .0 .0) (c .before .before .before .before .before .j .given .0 .1 .0) (sym (c .before .before .before .before .before .before .before .motion-on .ensures) ∙ c .before .before .before .before .before .j .given .1) (sym (c .before .before .is-wrong .ensures ∙ ap (λ (q : Packet). wrongHow (q .status) (c .before .before .before .before .before .before .before .before .before .before .before .before .before .args .how)) (c .before .before .before .packet-at .ensures)) ∙ c .before .if2 .taken)) (c .refused3 .result) (c .refused3 .ensures)
-
-finished-requires : tie.Need-finished-requires
-finished-requires c κs = search needs
-
-leaving-requires : tie.Need-leaving-requires
-leaving-requires c κs = search needs
-
-returned-if-done-requires : tie.Need-returned-if-done-requires
-returned-if-done-requires c κs = search needs
+returns-2 c = let a = c .before .before .before .before .before .before .before .before .before .before .before .before .before .before .before .before .before .before .before .before .before .before .args in
+    complete-is (a .lists) (a .channel .0) (a .how) _ refl (c .before .before .before .before .before .before .before .before .before .before .before .before .before .before .before .before .before .before .place-of .result) (c .before .before .before .before .before .before .before .before .before .before .before .before .before .before .before .before .before .packet-of .result) (c .before .before .before .before .before .before .before .before .before .before .before .before .before .before .before .before .before .before .place-of .ensures) (c .before .before .before .before .before .before .before .before .before .before .before .before .before .before .before .before .before .packet-of .ensures) (c .before .before .before .before .before .before .before .before .before .before .before .before .before .before .packet-in .result) (c .before .before .before .before .before .before .before .before .before .before .before .before .before .before .packet-in .ensures) (places (a .lists) _ (c .before .before .before .before .before .before .before .before .before .before .before .before .before .before .before .before .before .before .before .before .before .before .good .0))
+    (complete-verdict (a .lists) (a .channel .0) (a .how) _ refl (c .before .before .before .before .before .before .before .before .before .before .before .before .before .before .before .before .before .before .place-of .result) (c .before .before .before .before .before .before .before .before .before .before .before .before .before .before .before .before .before .packet-of .result) (c .before .before .before .before .before .before .before .before .before .before .before .before .before .before .before .before .before .before .place-of .ensures) (c .before .before .before .before .before .before .before .before .before .before .before .before .before .before .before .before .before .packet-of .ensures) (c .before .before .before .before .before .before .before .before .before .before .before .before .before .before .packet-in .result) (c .before .before .before .before .before .before .before .before .before .before .before .before .before .before .packet-in .ensures) (c .before .before .before .before .before .before .before .before .before .before .before .before .before .of-complete .result) (c .before .before .before .before .before .before .before .before .before .before .before .before .before .of-complete .ensures) ∙ c .before .before .before .before .before .before .before .before .before .before .before .enum-told .given .1)
+    (c .before .before .before .before .before .before .before .before .fitted-on .result) (c .before .before .before .before .before .before .before .before .fitted-on .ensures) (c .before .before .before .before .before .before .before .before .before .before .idle .result) (c .before .before .before .before .before .before .before .before .before .before .idle .ensures) (c .before .before .before .before .before .before .before .is-breaking .result) (c .before .before .before .before .before .before .before .is-breaking .ensures) (c .before .before .before .before .before .before .over .result) (c .before .before .before .before .before .before .over .ensures) (c .before .before .before .relisted .result) (c .before .before .before .relisted .ensures) (c .units-of .result) (c .units-of .ensures)
 
 returns-3 : tie.Need-returns-3
-returns-3 c = refused-is (c .before .before .before .before .before .before .before .before .before .args .lists) (Complete (c .before .before .before .before .before .before .before .before .before .args .channel .0) (c .before .before .before .before .before .before .before .before .before .args .how)) _ (complete-idle (c .before .before .before .before .before .before .before .before .before .args .lists) (c .before .before .before .before .before .before .before .before .before .args .channel .0) (c .before .before .before .before .before .before .before .before .before .args .how) (sym (c .before .before .before .before .before .is-configured .ensures) ∙ not-false _ (c .before .before .before .before .if1 .left)) (sym (c .before .before .before .motion-on .ensures) ∙ c .before .enum-told .given .1)) (c .refused2 .result) (c .refused2 .ensures)
-
-returns-4 : tie.Need-returns-4
-returns-4 c = complete-done (c .before .before .before .before .before .before .before .before .before .before .before .before .before .before .before .args .lists) (c .before .before .before .before .before .before .before .before .before .before .before .before .before .before .before .args .channel .0) (c .before .before .before .before .before .before .before .before .before .before .before .before .before .before .before .args .how) (sym (c .before .before .before .before .before .before .before .before .before .before .before .is-configured .ensures) ∙ not-false _ (c .before .before .before .before .before .before .before .before .before .before .if1 .left)) (c .before .before .before .before .before .before .before .j .given .0 .0) (c .before .before .before .before .before .before .before .j .given .0 .1 .0) (sym (c .before .before .before .before .before .before .before .before .before .motion-on .ensures) ∙ c .before .before .before .before .before .before .before .j .given .1) (sym (c .before .before .before .before .is-wrong .ensures ∙ ap (λ (q : Packet). wrongHow (q .status) (c .before .before .before .before .before .before .before .before .before .before .before .before .before .before .before .args .how)) (c .before .before .before .before .before .packet-at .ensures)) ∙ c .before .before .before .if2 .left) (c .before .before .finished .result) (c .returned-if-done .result) (c .before .leaving .result) (c .before .before .finished .ensures) (c .before .leaving .ensures) (c .returned-if-done .ensures)
+returns-3 c = let a = c .before .before .before .before .before .before .before .before .before .before .before .before .before .before .before .before .before .before .before .before .before .args in
+    complete-is (a .lists) (a .channel .0) (a .how) _ refl (c .before .before .before .before .before .before .before .before .before .before .before .before .before .before .before .before .before .place-of .result) (c .before .before .before .before .before .before .before .before .before .before .before .before .before .before .before .before .packet-of .result) (c .before .before .before .before .before .before .before .before .before .before .before .before .before .before .before .before .before .place-of .ensures) (c .before .before .before .before .before .before .before .before .before .before .before .before .before .before .before .before .packet-of .ensures) (c .before .before .before .before .before .before .before .before .before .before .before .before .before .packet-in .result) (c .before .before .before .before .before .before .before .before .before .before .before .before .before .packet-in .ensures) (places (a .lists) _ (c .before .before .before .before .before .before .before .before .before .before .before .before .before .before .before .before .before .before .before .before .before .good .0))
+    (complete-verdict (a .lists) (a .channel .0) (a .how) _ refl (c .before .before .before .before .before .before .before .before .before .before .before .before .before .before .before .before .before .place-of .result) (c .before .before .before .before .before .before .before .before .before .before .before .before .before .before .before .before .packet-of .result) (c .before .before .before .before .before .before .before .before .before .before .before .before .before .before .before .before .before .place-of .ensures) (c .before .before .before .before .before .before .before .before .before .before .before .before .before .before .before .before .packet-of .ensures) (c .before .before .before .before .before .before .before .before .before .before .before .before .before .packet-in .result) (c .before .before .before .before .before .before .before .before .before .before .before .before .before .packet-in .ensures) (c .before .before .before .before .before .before .before .before .before .before .before .before .of-complete .result) (c .before .before .before .before .before .before .before .before .before .before .before .before .of-complete .ensures) ∙ c .before .before .before .before .before .before .before .before .before .before .enum-told .given .1)
+    (c .before .before .before .before .before .before .before .fitted-on .result) (c .before .before .before .before .before .before .before .fitted-on .ensures) (c .before .before .before .before .before .before .before .before .before .idle .result) (c .before .before .before .before .before .before .before .before .before .idle .ensures) (c .before .before .before .before .before .before .is-breaking .result) (c .before .before .before .before .before .before .is-breaking .ensures) (c .before .before .before .before .before .over .result) (c .before .before .before .before .before .over .ensures) (c .before .before .relisted .result) (c .before .before .relisted .ensures) (a .lists .units) (rw (c .before .if1 .left, c .if2 .left) refl)
 
 pub complete-spec : {M : Type 1} → statement M
 complete-spec =
     tie.close
     (tie.spec
-    is-configured-requires
-    refused-requires
-    returns
-    motion-on-requires
+    cast-c
+    mul-carrier
+    element-copy-out-carrier
+    place-of-requires
+    packet-of-requires
+    cast-i
+    mul-job
+    element-copy-out-job
+    packet-in-requires
+    of-complete-requires
+    enum-known-refusal
     enum-told
-    refused-requires-2
-    enum-known-j
-    packet-at-requires
-    is-wrong-requires
-    refused-requires-3
+    idle-requires
+    mul-idle
+    element-set-from-idle
+    fitted-on-requires
+    is-breaking-requires
+    over-requires
+    mul-gone
+    element-set-from-gone
+    relisted-requires
+    units-of-requires
+    returns
     returns-2
-    finished-requires
-    leaving-requires
-    returned-if-done-requires
-    returns-3
-    returns-4)
+    returns-3)

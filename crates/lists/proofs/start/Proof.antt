@@ -1,80 +1,113 @@
 -- `lists::start` meets its contract: the rules' outcome of a start. Assumes nothing.
-use mathlib.Core.Path.{sym, ap, _∙_}
-use Rattle.packets.specs.declared.Motion.{Motion}
-use Rattle.packets.specs.State.{isIdle, placeOf, packetOf}
+use mathlib.Core.Path.{_∙_}
 use Rattle.packets.specs.Rules.{Start}
-use Rattle.packets.specs.Laws.{not-true, not-false}
-use Rattle.lists.proofs.Calls.{refused-is, start-absent, start-busy, start-none, start-done}
+use Rattle.packets.specs.State.{placeOf, packetOf}
+use Rattle.lists.proofs.Calls.{refused-is}
+use Rattle.lists.proofs.Full.{places}
+use Rattle.lists.proofs.Starts.{start-verdict, start-is}
 use borrow.Author.Needs.{needs}
 use Rattle.lists.proofs.start.Statement.{statement}
 use Rattle.lists.proofs.start.Tie as tie
 
-is-configured-requires : tie.Need-is-configured-requires
-is-configured-requires c κs = search needs
+fitted-on-requires : tie.Need-fitted-on-requires
+fitted-on-requires c κs = search needs
 
-refused-requires : tie.Need-refused-requires
-refused-requires c κs = search needs
-
-returns : tie.Need-returns
-returns c = refused-is (c .before .before .before .before .before .before .before .before .args .lists) (Start (c .before .before .before .before .before .before .before .before .args .channel .0)) _ (start-absent (c .before .before .before .before .before .before .before .before .args .lists) (c .before .before .before .before .before .before .before .before .args .channel .0) (sym (c .before .before .is-configured .ensures) ∙ not-true _ (c .before .if1 .taken))) (c .refused .result) (c .refused .ensures)
-
-motion-on-requires : tie.Need-motion-on-requires
-motion-on-requires c κs = search needs
-
-is-idle-requires : tie.Need-is-idle-requires
-is-idle-requires c κs = search needs
-
-refused-requires-2 : tie.Need-refused-requires-2
-refused-requires-2 c κs = search needs
-
-returns-2 : tie.Need-returns-2
-returns-2 c = refused-is (c .before .before .before .before .before .before .before .before .before .before .before .args .lists) (Start (c .before .before .before .before .before .before .before .before .before .before .before .args .channel .0)) _ (start-busy (c .before .before .before .before .before .before .before .before .before .before .before .args .lists) (c .before .before .before .before .before .before .before .before .before .before .before .args .channel .0) (sym (c .before .before .before .before .before .is-configured .ensures) ∙ not-false _ (c .before .before .before .before .if1 .left)) (sym (c .before .before .is-idle .ensures ∙ ap (λ (m : Motion). isIdle m) (c .before .before .before .motion-on .ensures)) ∙ not-true _ (c .before .if2 .taken))) (c .refused2 .result) (c .refused2 .ensures)
-
-is-drum-on-requires : tie.Need-is-drum-on-requires
-is-drum-on-requires c κs = search needs
+is-drum-requires : tie.Need-is-drum-requires
+is-drum-requires c κs = search needs
 
 oldest-requires : tie.Need-oldest-requires
 oldest-requires c κs = search needs
 
+cast-c : tie.Need-cast-c
+cast-c c = search needs
+
+mul-carrier : tie.Need-mul-carrier
+mul-carrier c = search needs
+
+element-copy-out-carrier : tie.Need-element-copy-out-carrier
+element-copy-out-carrier c = search needs
+
+of-start-requires : tie.Need-of-start-requires
+of-start-requires c κs = search needs
+
+enum-known-refusal : tie.Need-enum-known-refusal
+enum-known-refusal c = search needs
+
 enum-told : tie.Need-enum-told
 enum-told c = search needs
 
-refused-requires-3 : tie.Need-refused-requires-3
-refused-requires-3 c κs = search needs
+entry-of-requires : tie.Need-entry-of-requires
+entry-of-requires c κs = search needs
 
-enum-known-e : tie.Need-enum-known-e
-enum-known-e c = search needs
+cast-i : tie.Need-cast-i
+cast-i c = search needs
 
-packet-at-requires : tie.Need-packet-at-requires
-packet-at-requires c κs = search needs
+mul-job : tie.Need-mul-job
+mul-job c = search needs
 
-begun-requires : tie.Need-begun-requires
-begun-requires c κs = search needs
+element-copy-out-job : tie.Need-element-copy-out-job
+element-copy-out-job c = search needs
 
-returns-3 : tie.Need-returns-3
-returns-3 c = refused-is (c .before .before .before .before .before .before .before .before .before .before .before .before .before .before .before .args .lists) (Start (c .before .before .before .before .before .before .before .before .before .before .before .before .before .before .before .args .channel .0)) _ (start-none (c .before .before .before .before .before .before .before .before .before .before .before .before .before .before .before .args .lists) (c .before .before .before .before .before .before .before .before .before .before .before .before .before .before .before .args .channel .0) (sym (c .before .before .before .before .before .before .before .before .before .is-configured .ensures) ∙ not-false _ (c .before .before .before .before .before .before .before .before .if1 .left)) (sym (c .before .before .before .before .before .before .is-idle .ensures ∙ ap (λ (m : Motion). isIdle m) (c .before .before .before .before .before .before .before .motion-on .ensures)) ∙ not-false _ (c .before .before .before .before .before .if2 .left)) (c .before .before .before .before .is-drum-on .result) (c .before .before .before .before .is-drum-on .ensures) (c .before .before .before .oldest .result) (c .before .before .before .oldest .ensures) (c .before .enum-told .given .1)) (c .refused3 .result) (c .refused3 .ensures)
+started-requires : tie.Need-started-requires
+started-requires c κs = search needs
 
-returns-4 : tie.Need-returns-4
+with-status-at-requires : tie.Need-with-status-at-requires
+with-status-at-requires c κs = search needs
+
+mul-job-2 : tie.Need-mul-job-2
+mul-job-2 c = search needs
+
+element-set-from-job : tie.Need-element-set-from-job
+element-set-from-job c = search needs
+
+relisted-requires : tie.Need-relisted-requires
+relisted-requires c κs = search needs
+
+busy-with-requires : tie.Need-busy-with-requires
+busy-with-requires c κs = search needs
+
+mul-busy : tie.Need-mul-busy
+mul-busy c = search needs
+
+element-set-from-busy : tie.Need-element-set-from-busy
+element-set-from-busy c = search needs
+
+returns : tie.Need-returns
+returns c = let a = c .before .before .before .before .before .before .before .before .before .before .before .before .before .args in
+    refused-is (a .lists) (Start (a .channel .0)) _
+    (start-verdict (a .lists) (a .channel .0) (c .before .before .before .before .before .before .before .is-drum .result) (rw (← c .before .before .before .before .before .before .before .before .fitted-on .ensures) (c .before .before .before .before .before .before .before .is-drum .ensures)) (c .before .before .before .before .before .before .oldest .result) (c .before .before .before .before .before .before .oldest .ensures) (c .before .before .before .of-start .result) (c .before .before .before .of-start .ensures) ∙ c .before .refusal .given .1)
+
+returns-2 : tie.Need-returns-2
 unfolding placeOf packetOf
-returns-4 c = start-done (c .before .before .before .before .before .before .before .before .before .before .before .before .before .before .before .before .before .args .lists) (c .before .before .before .before .before .before .before .before .before .before .before .before .before .before .before .before .before .args .channel .0) (sym (c .before .before .before .before .before .before .before .before .before .before .before .is-configured .ensures) ∙ not-false _ (c .before .before .before .before .before .before .before .before .before .before .if1 .left)) (sym (c .before .before .before .before .before .before .before .before .is-idle .ensures ∙ ap (λ (m : Motion). isIdle m) (c .before .before .before .before .before .before .before .before .before .motion-on .ensures)) ∙ not-false _ (c .before .before .before .before .before .before .before .if2 .left)) (c .before .before .before .before .before .before .is-drum-on .result) (c .before .before .before .before .before .before .is-drum-on .ensures) (c .before .before .before .before .before .oldest .result) (c .before .before .before .before .before .oldest .ensures) (c .before .before .before .e .given .0 .0) (c .before .before .before .e .given .1) (c .before .packet-at .result) (c .before .packet-at .ensures) (c .begun .result) (c .begun .ensures)
+returns-2 c = let a = c .before .before .before .before .before .before .before .before .before .before .before .before .before .before .before .before .before .before .before .args in
+    start-is (a .lists) (a .channel .0) (c .before .before .before .before .before .before .before .before .before .before .before .before .before .is-drum .result) (rw (← c .before .before .before .before .before .before .before .before .before .before .before .before .before .before .fitted-on .ensures) (c .before .before .before .before .before .before .before .before .before .before .before .before .before .is-drum .ensures)) (c .before .before .before .before .before .before .before .before .before .before .before .before .oldest .result) (c .before .before .before .before .before .before .before .before .before .before .before .before .oldest .ensures) (places (a .lists) _ (c .before .before .before .before .before .before .before .before .before .before .before .before .before .before .before .before .before .before .before .good .0))
+    (start-verdict (a .lists) (a .channel .0) (c .before .before .before .before .before .before .before .before .before .before .before .before .before .is-drum .result) (rw (← c .before .before .before .before .before .before .before .before .before .before .before .before .before .before .fitted-on .ensures) (c .before .before .before .before .before .before .before .before .before .before .before .before .before .is-drum .ensures)) (c .before .before .before .before .before .before .before .before .before .before .before .before .oldest .result) (c .before .before .before .before .before .before .before .before .before .before .before .before .oldest .ensures) (c .before .before .before .before .before .before .before .before .before .of-start .result) (c .before .before .before .before .before .before .before .before .before .of-start .ensures) ∙ c .before .before .before .before .before .before .before .enum-told .given .1)
+    (c .before .before .before .before .before .before .entry-of .result) (c .before .before .before .before .before .before .entry-of .ensures) (search needs) (c .before .before .with-status-at .result) (c .before .before .with-status-at .ensures) (c .before .before .before .started .result) (c .before .before .before .started .ensures) (c .before .relisted .result) (c .before .relisted .ensures) (c .busy-with .result) (c .busy-with .ensures)
 
 pub start-spec : {M : Type 1} → statement M
 start-spec =
     tie.close
     (tie.spec
-    is-configured-requires
-    refused-requires
-    returns
-    motion-on-requires
-    is-idle-requires
-    refused-requires-2
-    returns-2
-    is-drum-on-requires
+    fitted-on-requires
+    is-drum-requires
     oldest-requires
+    cast-c
+    mul-carrier
+    element-copy-out-carrier
+    of-start-requires
+    enum-known-refusal
     enum-told
-    refused-requires-3
-    enum-known-e
-    packet-at-requires
-    begun-requires
-    returns-3
-    returns-4)
+    entry-of-requires
+    cast-i
+    mul-job
+    element-copy-out-job
+    started-requires
+    with-status-at-requires
+    mul-job-2
+    element-set-from-job
+    relisted-requires
+    busy-with-requires
+    mul-busy
+    element-set-from-busy
+    returns
+    returns-2)

@@ -1,10 +1,30 @@
 -- `lists::submit` meets its contract: the rules' outcome of a submission. Assumes nothing.
-use mathlib.Core.Path.{sym, _∙_}
+use mathlib.Core.Path.{refl, _∙_}
 use Rattle.packets.specs.Rules.{Submit}
-use Rattle.lists.proofs.Calls.{refused-is, submit-small, submit-done}
+use Rattle.lists.proofs.Calls.{refused-is}
+use Rattle.lists.proofs.Full.{places}
+use Rattle.lists.proofs.Submits.{submit-verdict, submit-is}
 use borrow.Author.Needs.{needs}
 use Rattle.lists.proofs.submit.Statement.{statement}
 use Rattle.lists.proofs.submit.Tie as tie
+
+fitted-on-requires : tie.Need-fitted-on-requires
+fitted-on-requires c κs = search needs
+
+at-of-requires : tie.Need-at-of-requires
+at-of-requires c κs = search needs
+
+unit-of-requires : tie.Need-unit-of-requires
+unit-of-requires c κs = search needs
+
+cast-i : tie.Need-cast-i
+cast-i c = search needs
+
+mul-job : tie.Need-mul-job
+mul-job c = search needs
+
+element-copy-out-job : tie.Need-element-copy-out-job
+element-copy-out-job c = search needs
 
 verdict-requires : tie.Need-verdict-requires
 verdict-requires c κs = search needs
@@ -12,37 +32,63 @@ verdict-requires c κs = search needs
 enum-known-refusal : tie.Need-enum-known-refusal
 enum-known-refusal c = search needs
 
-refused-requires : tie.Need-refused-requires
-refused-requires c κs = search needs
-
 enum-told : tie.Need-enum-told
 enum-told c = search needs
 
-at-of-requires : tie.Need-at-of-requires
-at-of-requires c κs = search needs
+is-unlocking-requires : tie.Need-is-unlocking-requires
+is-unlocking-requires c κs = search needs
 
-to-of-requires : tie.Need-to-of-requires
-to-of-requires c κs = search needs
+job-after-requires : tie.Need-job-after-requires
+job-after-requires c κs = search needs
 
-submitted-requires : tie.Need-submitted-requires
-submitted-requires c κs = submit-small (c .before .before .before .before .before .args .lists) (c .before .before .before .before .before .args .place) (c .before .before .before .before .before .args .packet) (c .before .before .before .before .before .args .function) (c .before .before .before .before .before .args .channel .0) (c .before .before .before .before .before .args .spot) (sym (c .before .before .before .before .verdict .ensures) ∙ c .before .before .enum-told .given .1)
+mul-gone : tie.Need-mul-gone
+mul-gone c = search needs
+
+element-set-from-gone : tie.Need-element-set-from-gone
+element-set-from-gone c = search needs
+
+list-of-requires : tie.Need-list-of-requires
+list-of-requires c κs = search needs
+
+with-lock-requires : tie.Need-with-lock-requires
+with-lock-requires c κs = search needs
 
 returns : tie.Need-returns
-returns c = refused-is (c .before .before .before .before .before .args .lists) (Submit (c .before .before .before .before .before .args .place) (c .before .before .before .before .before .args .packet) (c .before .before .before .before .before .args .function) (c .before .before .before .before .before .args .channel .0) (c .before .before .before .before .before .args .spot)) (c .before .before .refusal .given .0 .0) (sym (c .before .before .before .before .verdict .ensures) ∙ c .before .before .refusal .given .1) (c .refused .result) (c .refused .ensures)
+returns c = let a = c .before .before .before .before .before .before .before .before .before .before .args in
+    refused-is (a .lists) (Submit (a .place) (a .packet) (a .function) (a .channel .0) (a .spot)) _
+    (submit-verdict (a .lists) (a .place) (a .packet) (a .function) (a .channel .0) (a .spot) (c .before .before .before .before .before .before .before .fitted-on .result) (c .before .before .before .before .before .before .before .fitted-on .ensures) (c .before .before .before .before .before .unit-of .result) (rw (← c .before .before .before .before .before .before .at-of .ensures) (c .before .before .before .before .before .unit-of .ensures)) (c .before .before .before .verdict .result) (c .before .before .before .verdict .ensures) ∙ c .before .refusal .given .1)
 
 returns-2 : tie.Need-returns-2
-returns-2 c = submit-done (c .before .before .before .before .before .before .args .lists) (c .before .before .before .before .before .before .args .place) (c .before .before .before .before .before .before .args .packet) (c .before .before .before .before .before .before .args .function) (c .before .before .before .before .before .before .args .channel .0) (c .before .before .before .before .before .before .args .spot) (sym (c .before .before .before .before .before .verdict .ensures) ∙ c .before .before .before .enum-told .given .1) (c .before .before .at-of .result) (c .before .to-of .result) (c .before .before .at-of .ensures) (c .before .to-of .ensures) (c .submitted .result) (c .submitted .ensures)
+returns-2 c = let a = c .before .before .before .before .before .before .before .before .before .before .before .before .before .before .before .args in
+    submit-is (a .lists) (a .place) (a .packet) (a .function) (a .channel .0) (a .spot) (c .before .before .before .before .before .before .before .before .before .before .before .before .fitted-on .result) (c .before .before .before .before .before .before .before .before .before .before .before .before .fitted-on .ensures) (c .before .before .before .before .before .before .before .before .before .before .unit-of .result) (rw (← c .before .before .before .before .before .before .before .before .before .before .before .at-of .ensures) (c .before .before .before .before .before .before .before .before .before .before .unit-of .ensures)) (places (a .lists) _ (c .before .before .before .before .before .before .before .before .before .before .before .before .before .before .before .good .0))
+    (submit-verdict (a .lists) (a .place) (a .packet) (a .function) (a .channel .0) (a .spot) (c .before .before .before .before .before .before .before .before .before .before .before .before .fitted-on .result) (c .before .before .before .before .before .before .before .before .before .before .before .before .fitted-on .ensures) (c .before .before .before .before .before .before .before .before .before .before .unit-of .result) (rw (← c .before .before .before .before .before .before .before .before .before .before .before .at-of .ensures) (c .before .before .before .before .before .before .before .before .before .before .unit-of .ensures)) (c .before .before .before .before .before .before .before .before .verdict .result) (c .before .before .before .before .before .before .before .before .verdict .ensures) ∙ c .before .before .before .before .before .before .enum-told .given .1)
+    (c .before .before .before .before .before .is-unlocking .result) (c .before .before .before .before .before .is-unlocking .ensures) (c .before .before .before .before .job-after .result) (c .before .before .before .before .job-after .ensures) (c .before .before .list-of .result) (c .before .before .list-of .ensures) (c .with-lock .result) (rw (c .before .if1 .taken, ← c .before .before .before .before .before .before .before .before .before .before .before .at-of .ensures) (c .with-lock .ensures))
+
+returns-3 : tie.Need-returns-3
+returns-3 c = let a = c .before .before .before .before .before .before .before .before .before .before .before .before .before .before .args in
+    submit-is (a .lists) (a .place) (a .packet) (a .function) (a .channel .0) (a .spot) (c .before .before .before .before .before .before .before .before .before .before .before .fitted-on .result) (c .before .before .before .before .before .before .before .before .before .before .before .fitted-on .ensures) (c .before .before .before .before .before .before .before .before .before .unit-of .result) (rw (← c .before .before .before .before .before .before .before .before .before .before .at-of .ensures) (c .before .before .before .before .before .before .before .before .before .unit-of .ensures)) (places (a .lists) _ (c .before .before .before .before .before .before .before .before .before .before .before .before .before .before .good .0))
+    (submit-verdict (a .lists) (a .place) (a .packet) (a .function) (a .channel .0) (a .spot) (c .before .before .before .before .before .before .before .before .before .before .before .fitted-on .result) (c .before .before .before .before .before .before .before .before .before .before .before .fitted-on .ensures) (c .before .before .before .before .before .before .before .before .before .unit-of .result) (rw (← c .before .before .before .before .before .before .before .before .before .before .at-of .ensures) (c .before .before .before .before .before .before .before .before .before .unit-of .ensures)) (c .before .before .before .before .before .before .before .verdict .result) (c .before .before .before .before .before .before .before .verdict .ensures) ∙ c .before .before .before .before .before .enum-told .given .1)
+    (c .before .before .before .before .is-unlocking .result) (c .before .before .before .before .is-unlocking .ensures) (c .before .before .before .job-after .result) (c .before .before .before .job-after .ensures) (c .before .list-of .result) (c .before .list-of .ensures) (a .lists .units) (rw (c .if1 .left) refl)
 
 pub submit-spec : {M : Type 1} → statement M
 submit-spec =
     tie.close
     (tie.spec
+    fitted-on-requires
+    at-of-requires
+    unit-of-requires
+    cast-i
+    mul-job
+    element-copy-out-job
     verdict-requires
     enum-known-refusal
-    refused-requires
     enum-told
-    at-of-requires
-    to-of-requires
-    submitted-requires
+    is-unlocking-requires
+    job-after-requires
+    mul-gone
+    element-set-from-gone
+    list-of-requires
+    with-lock-requires
     returns
-    returns-2)
+    returns-2
+    returns-3)

@@ -1,0 +1,107 @@
+-- A submission's outcome, from what its parts have computed: each function's stores are one store of the job and one pass over the list. Assumes nothing.
+use Prim.Native.Nat.{ℕ, _%_, _<_}
+use mathlib.Core.Path.{_≡_, refl, sym, ap, _∙_}
+use mathlib.Core.Bool.{Bool, true, false, not, cond}
+use mathlib.Core.List.{List, map}
+use native.Mathlib.Omega.{arith}
+use lib.ListN.{length, getD, set}
+use lib.Dec.{eqb, ltb}
+use borrow.Author.Tests.{eqb-true, ltb-true}
+use Rattle.numbers.specs.Tests.{by-bool}
+use Rattle.numbers.specs.declared.Refusal.the-variants.{OutOfRange}
+use Rattle.units.specs.State.{unitIn, unitsFrom}
+use Rattle.units.specs.declared.Unit.{Unit as UnitState}
+use Rattle.units.specs.declared.Units.{Units}
+use Rattle.channels.specs.declared.Fitted.{Fitted}
+use Rattle.packets.specs.Laws.{and-left, and-right, not-false, passes}
+use Rattle.packets.specs.Rules.{Submit, accept, aimed, answer, atOf, atUnit, cut, enlist, failed, inRange, locked, packet, pass, refusal, submitRefusal, submitted, toOf}
+use Rattle.packets.specs.State.{State, drumOn, enqueue, entryOf, fittedOn, isDrumOf, jobIn, noJob, relist, restatus, setLock, store, sweep, withPackets}
+use Rattle.packets.specs.declared.Acted.{Acted}
+use Rattle.packets.specs.declared.Answer.the-variants.{Done}
+use Rattle.packets.specs.declared.Job.{Job}
+use Rattle.packets.specs.declared.Lists.{Lists}
+use Rattle.packets.specs.declared.Packet.{Packet}
+use Rattle.packets.specs.declared.RequestList.{RequestList}
+use Rattle.packets.specs.declared.Spot.{Spot}
+use Rattle.packets.specs.declared.Status.{Status}
+use Rattle.packets.specs.declared.Status.the-variants.{Ended, Listed}
+use Rattle.packets.specs.declared.Verdict.{Verdict}
+use Rattle.packets.specs.declared.Verdict.the-variants.{Granted}
+use Rattle.queue.specs.Padded.{listOf, padded}
+use Rattle.submission.specs.After.{isUnlocking, jobAfter}
+use Rattle.lists.proofs.Calls.{granted-is, small-is}
+use Rattle.lists.proofs.Focus.{fewer-set, focus, focus-self, focus-store, focus-sweep, relist-twice, reunit}
+use Rattle.lists.specs.Outcomes.{listsOf, outcome, stateOf}
+use Rattle.lists.specs.Parts.{listAfter, listedAs}
+
+module _ (s : State) (j : ℕ) (h : j < length (s .jobs)) (p f c a : ℕ) where
+  abbrev job : Job
+  job = jobIn (s .jobs) j
+
+  abbrev ended : Packet
+  ended = packet (Ended 0o00) f c a
+
+  pass-is : pass s j p f c a ≡ focus s j (withPackets job (set (job .packets) p ended)) (relist j (set (job .packets) p ended) (s .queue))
+  pass-is = ap (λ (z : State). store z j p ended) (focus-self s j) ∙ focus-store s j h job (s .queue) p ended
+
+  enlist-is : enlist s j p f c a
+      ≡ enqueue (focus s j (withPackets job (set (job .packets) p (packet Listed f c a))) (relist j (set (job .packets) p (packet Listed f c a)) (s .queue))) j p
+  enlist-is = ap (λ (z : State). enqueue z j p) (ap (λ (z : State). store z j p (packet Listed f c a)) (focus-self s j) ∙ focus-store s j h job (s .queue) p (packet Listed f c a))
+
+  -- a sweep, with other units then, and the packet stored
+  swept-is : (t : Packet → Bool) (g : Status → Status) (units : List (List UnitState))
+      → store (reunit (sweep s j t g) units) j p ended
+      ≡ focus (reunit s units) j (withPackets job (set (map (restatus t g) (job .packets)) p ended)) (relist j (set (map (restatus t g) (job .packets)) p ended) (s .queue))
+  swept-is t g units =
+      let ps = map (restatus t g) (job .packets) in
+      ap (λ (z : State). store (reunit z units) j p ended) (ap (λ (z : State). sweep z j t g) (focus-self s j) ∙ focus-sweep s j h job (s .queue) t g)
+      ∙ focus-store (reunit s units) j h (withPackets job ps) (relist j ps (s .queue)) p ended
+      ∙ ap (focus (reunit s units) j (withPackets job (set ps p ended))) (relist-twice j ps (set ps p ended) (fewer-set ps p ended refl) (s .queue))
+
+  -- what a submission leaves, as the code builds it
+  pub submitted-is : (b : ℕ) → let u = isUnlocking f (drumOn (s .channels) c) (unitIn (s .units) c a .interlock) in
+      let after = jobAfter job p f c a b (drumOn (s .channels) c) u in
+      submitted s j p f c a b
+      ≡ focus (reunit s (cond u (setLock (s .units) c a false) (s .units))) j after (listAfter f (entryOf j p) (relist j (after .packets) (s .queue)))
+  submitted-is b =
+      by-bool (eqb f 0o07)
+      (λ t. by-bool (locked s c a)
+      (λ l. rw (t, l) (swept-is (atUnit c a) failed (setLock (s .units) c a false)))
+      (λ l. rw (t, l, other t) pass-is))
+      (λ t. by-bool (eqb f 0o23)
+      (λ d. rw (t, d) (swept-is (aimed (drumOn (s .channels) c) c a b) cut (s .units)))
+      (λ d. rw (t, d) enlist-is))
+    where
+      other : eqb f 0o07 ≡ true → eqb f 0o23 ≡ false
+      other t = let q : f ≡ 0o07 = eqb-true f 0o07 t in rw q refl
+
+module _ (r : Lists) (j p f c : ℕ) (w : Spot) (has : Fitted) (on : has ≡ fittedOn (r .channels) c) (unit : UnitState) (is : unit ≡ unitIn (r .units .of) c (atOf w)) where
+  pub submit-verdict : (v : Verdict) → v ≡ submitRefusal has (getD (r .jobs) (j % 16) noJob) unit j p f c w → refusal (stateOf r) (Submit j p f c w) ≡ v
+  unfolding refusal
+  submit-verdict v e = by-bool (ltb j 16) (λ t. rw (e, on, is, small-is j t)) (λ t. rw (e, t))
+
+  module _ (size : length (r .jobs) ≡ 16) (granted : refusal (stateOf r) (Submit j p f c w) ≡ Granted) where
+    inside : inRange (fittedOn (r .channels) c) j p f c w ≡ true
+    inside = unfold refusal in not-false _ (passes (not (inRange (fittedOn (r .channels) c) j p f c w)) OutOfRange _ granted .0)
+
+    place-small : j < 16
+    place-small = ltb-true j 16 (and-left (ltb j 16) _ inside)
+
+    packet-small : p < 16
+    packet-small = ltb-true p 16 (and-left (ltb p 16) _ (and-right (ltb j 16) _ inside))
+
+    pub submit-is : (unlocking : Bool) → unlocking ≡ isUnlocking f (isDrumOf has) (unit .interlock)
+        → (gone : Job) → gone ≡ jobAfter (getD (r .jobs) (j % 16) noJob) p f c (atOf w) (toOf w) (isDrumOf has) unlocking
+        → (left : RequestList) → left ≡ padded (listAfter f (listedAs j p) (relist j (gone .packets) (listOf (r .list))))
+        → (units : Units) → units ≡ unitsFrom (cond unlocking (setLock (r .units .of) c (atOf w) false) (r .units .of))
+        → _≡_ {A = Acted} (record {
+          lists = record { channels = r .channels; jobs = set (r .jobs) (j % 16) gone; list = left; moving = r .moving; units = units };
+          answer = Done;
+        }) (outcome r (Submit j p f c w))
+    unfolding accept answer drumOn entryOf
+    submit-is unlocking ul gone g left l units u =
+        let k : j % 16 ≡ j = omega (arith, place-small) in
+        let m : p % 16 ≡ p = omega (arith, packet-small) in
+        granted-is r (Submit j p f c w) granted _ _
+        (rw (l, u, g, ul, on, is, k, m) (sym (ap listsOf (submitted-is (stateOf r) j (omega (arith, size, place-small)) p f c (atOf w) (toOf w)))))
+        refl

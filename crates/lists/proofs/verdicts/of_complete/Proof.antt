@@ -1,0 +1,39 @@
+-- `lists::verdicts::of_complete` meets its contract, by the tests that led there. Assumes nothing.
+use mathlib.Core.Path.{sym, _∙_}
+use Rattle.packets.specs.Laws.{not-false, not-true}
+use borrow.Author.Needs.{needs}
+use Rattle.lists.proofs.verdicts.of_complete.Statement.{statement}
+use Rattle.lists.proofs.verdicts.of_complete.Tie as tie
+
+is-configured-requires : tie.Need-is-configured-requires
+is-configured-requires c κs = search needs
+
+returns : tie.Need-returns
+returns c = rw (sym (c .before .is-configured .ensures) ∙ not-true _ (c .if1 .taken))
+
+is-idle-requires : tie.Need-is-idle-requires
+is-idle-requires c κs = search needs
+
+returns-2 : tie.Need-returns-2
+returns-2 c = rw (sym (c .before .before .before .is-configured .ensures) ∙ not-false _ (c .before .before .if1 .left), sym (c .before .is-idle .ensures) ∙ c .if2 .taken)
+
+is-wrong-requires : tie.Need-is-wrong-requires
+is-wrong-requires c κs = search needs
+
+returns-3 : tie.Need-returns-3
+returns-3 c = rw (sym (c .before .before .before .before .before .is-configured .ensures) ∙ not-false _ (c .before .before .before .before .if1 .left), sym (c .before .before .before .is-idle .ensures) ∙ c .before .before .if2 .left, sym (c .before .is-wrong .ensures) ∙ c .if3 .taken)
+
+returns-4 : tie.Need-returns-4
+returns-4 c = rw (sym (c .before .before .before .before .before .is-configured .ensures) ∙ not-false _ (c .before .before .before .before .if1 .left), sym (c .before .before .before .is-idle .ensures) ∙ c .before .before .if2 .left, sym (c .before .is-wrong .ensures) ∙ c .if3 .left)
+
+pub of-complete-spec : {M : Type 1} → statement M
+of-complete-spec =
+    tie.close
+    (tie.spec
+    is-configured-requires
+    returns
+    is-idle-requires
+    returns-2
+    is-wrong-requires
+    returns-3
+    returns-4)

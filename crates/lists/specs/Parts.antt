@@ -1,0 +1,52 @@
+-- The parts of what the calls answer and leave.
+use Prim.Native.Nat.{ℕ, _+_, _*_, _%_}
+use mathlib.Core.Bool.{Bool, true, false, cond}
+use mathlib.Core.List.{List}
+use lib.ListN.{getD}
+use Rattle.units.specs.declared.Unit.{Unit as UnitState}
+use Rattle.packets.specs.State.{blank, enlisted, packetOf, placeOf, releaseAll, setLock}
+use Rattle.submission.specs.After.{isListing}
+use Rattle.packets.specs.declared.Answer.{Answer}
+use Rattle.packets.specs.declared.Answer.the-variants.{Started}
+use Rattle.packets.specs.declared.Found.{Found}
+use Rattle.packets.specs.declared.Found.the-variants.{At, Nowhere}
+use Rattle.packets.specs.declared.Motion.{Motion}
+use Rattle.packets.specs.declared.Motion.the-variants.{Busy, Idle}
+use Rattle.packets.specs.declared.Packet.{Packet}
+
+-- the list after a submission: what is listed joins it
+abbrev pub listAfter : ℕ → ℕ → List ℕ → List ℕ
+listAfter f e q = cond (isListing f) (enlisted q e) q
+
+-- packet p of place j as an entry, each taken below 16
+abbrev pub listedAs : ℕ → ℕ → ℕ
+listedAs j p = j % 16 * 16 + p % 16
+
+abbrev pub isNowhere : Found → Bool
+isNowhere (At e) = false
+isNowhere Nowhere = true
+
+abbrev pub entryIn : Found → ℕ
+entryIn (At e) = e
+entryIn Nowhere = 0
+
+-- the place and the number of what moves
+abbrev pub placeIn : Motion → ℕ
+placeIn Idle = 0
+placeIn (Busy j p) = j
+
+abbrev pub packetNo : Motion → ℕ
+packetNo Idle = 0
+packetNo (Busy j p) = p
+
+-- the answer of a start, by the packets of the place
+abbrev pub startedAt : List Packet → ℕ → Answer
+startedAt ps e =
+    let q = getD ps (packetOf e) blank in
+    Started (record { place = placeOf e; packet = packetOf e; function = q .function; at = q .at })
+
+-- the units after a completion
+abbrev pub unitsAfter : List (List UnitState) → ℕ → ℕ → Bool → ℕ → Bool → List (List UnitState)
+unitsAfter units c a breaking j done =
+    let shut = cond breaking (setLock units c a true) units in
+    cond done (releaseAll shut j) shut

@@ -1,0 +1,123 @@
+// What the calls answer and leave, by the parts that they change.
+use numbers::ChannelNumber;
+use numbers::UnitNumber;
+use packets::Answer;
+use packets::Begun;
+use packets::Carrier;
+use packets::Found;
+use packets::Job;
+use packets::Motion;
+use packets::Packet;
+use packets::RequestList;
+use units::Units;
+ghost use mathlib.Core.Path.{_≡_};
+ghost use Rattle.units.specs.State.{unitIn, unitSet, unitsFrom, markedUnit};
+ghost use Rattle.packets.specs.declared.Motion.the-variants.{Idle, Busy};
+ghost use Rattle.packets.specs.State.{carrying, placeOf, packetOf, relist};
+ghost use Rattle.queue.specs.Padded.{listOf, padded};
+ghost use Rattle.lists.specs.Parts.{listAfter, listedAs, entryIn, placeIn, packetNo, startedAt, unitsAfter};
+
+// The list after a submission of packet p of the job in place j; any function but 07 and 23 is listed, as the youngest.
+pub fn list_of(job: Job, j: u8, p: u8, f: u8, list: RequestList) -> RequestList
+    ensures { λ r. ⌜ r ≡ padded (listAfter f (listedAs j p) (relist j (job .packets) (listOf list))) ⌝ }
+{
+    if submission::is_listing(f) {
+        return queue::relisted_with(job, j, list, (j % 16) * 16 + p % 16);
+    }
+    queue::relisted(job, j, list)
+}
+
+// The entry that was found; 0 where none was.
+pub fn entry_of(found: Found) -> u8
+    ensures { λ r. ⌜ r ≡ entryIn found ⌝ }
+{
+    match found {
+        Found::At(e) => e,
+        Found::Nowhere => 0,
+    }
+}
+
+// The answer of a start: the packet of a place with these packets that an entry names.
+pub fn started(ps: [Packet; 16], e: u8) -> Answer
+    ensures { λ r. ⌜ r ≡ startedAt ps e ⌝ }
+{
+    let q = places::packet_in(ps, e % 16);
+    Answer::Started(Begun {
+        place: e / 16,
+        packet: e % 16,
+        function: q.function,
+        at: q.at,
+    })
+}
+
+// A channel on which the packet of an entry moves.
+pub fn busy_with(e: u8) -> Carrier
+    ensures { λ r. ⌜ r ≡ carrying (Busy (placeOf e) (packetOf e)) ⌝ }
+{
+    Carrier {
+        motion: Motion::Busy(e / 16, e % 16),
+    }
+}
+
+// A channel on which nothing moves.
+pub fn idle() -> Carrier
+    ensures { λ r. ⌜ r ≡ carrying Idle ⌝ }
+{
+    Carrier {
+        motion: Motion::Idle,
+    }
+}
+
+// The place of what moves; 0 where nothing does.
+pub fn place_of(carrier: Carrier) -> u8
+    ensures { λ r. ⌜ r ≡ placeIn (carrier .motion) ⌝ }
+{
+    let motion = carrier.motion;
+    match motion {
+        Motion::Idle => 0,
+        Motion::Busy(j, _) => j,
+    }
+}
+
+// The number of the packet that moves; 0 where nothing does.
+pub fn packet_of(carrier: Carrier) -> u8
+    ensures { λ r. ⌜ r ≡ packetNo (carrier .motion) ⌝ }
+{
+    let motion = carrier.motion;
+    match motion {
+        Motion::Idle => 0,
+        Motion::Busy(_, p) => p,
+    }
+}
+
+// The units after a completion: one with its interlock set if it broke, those of the job in place j free if it is done.
+pub fn units_of(units: Units, c: ChannelNumber, a: u32, breaking: bool, j: u8, done: bool) -> Units
+    ensures { λ r. ⌜ r ≡ unitsFrom (unitsAfter (units .of) (c .0) a breaking j done) ⌝ }
+{
+    if !breaking {
+        if !done {
+            return units;
+        }
+        return holders::released(units, j);
+    }
+    let shut = holders::with_lock(units, c, a, true);
+    if !done {
+        return shut;
+    }
+    holders::released(shut, j)
+}
+
+// The units with one mark of unit u of channel c set or cleared.
+pub fn with_mark(
+    units: Units,
+    c: ChannelNumber,
+    u: UnitNumber,
+    mark: units::Mark,
+    on: bool,
+) -> Units
+    ensures { λ r. ⌜ r ≡ unitsFrom (unitSet (units .of) (c .0) (u .0) (markedUnit mark on (unitIn (units .of) (c .0) (u .0)))) ⌝ }
+{
+    let unit = units::unit_at(units, c, u);
+    let state = units::marked_unit(unit, mark, on);
+    units::with_unit(units, c, u, state)
+}

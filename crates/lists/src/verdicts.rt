@@ -1,0 +1,133 @@
+// Whether a call is refused, by the parts that it reads; of a submission the crate of that name has it.
+use channels::Channel;
+use channels::Fitted;
+use numbers::ChannelNumber;
+use numbers::Refusal;
+use numbers::UnitNumber;
+use packets::Carrier;
+use packets::Found;
+use packets::How;
+use packets::JobState;
+use packets::Motion;
+use packets::Packet;
+use packets::Spot;
+use packets::Verdict;
+ghost use mathlib.Core.Path.{_≡_};
+ghost use mathlib.Core.Bool.{not, _&&_};
+ghost use lib.Dec.{ltb};
+ghost use Rattle.numbers.specs.declared.Refusal.the-variants.{OutOfRange, NoJob, ChannelBusy, NothingStartable, NothingInProgress, WrongCompletion, NothingSelected};
+ghost use Rattle.packets.specs.declared.Verdict.the-variants.{Granted};
+ghost use Rattle.packets.specs.declared.Spot.the-variants.{OnUnit};
+ghost use Rattle.packets.specs.State.{configured, isIdle, isRunning, isEmpty};
+ghost use Rattle.packets.specs.Rules.{first, isWrong, reaches};
+ghost use Rattle.lists.specs.Parts.{isNowhere};
+
+// Whether nothing moves; what is no packet of the cell is nothing.
+fn is_idle(motion: Motion) -> bool
+    ensures { λ r. ⌜ r ≡ isIdle motion ⌝ }
+{
+    match motion {
+        Motion::Idle => true,
+        Motion::Busy(j, p) => {
+            if 15 < j {
+                return true;
+            }
+            15 < p
+        }
+    }
+}
+
+fn is_nowhere(found: Found) -> bool
+    ensures { λ r. ⌜ r ≡ isNowhere found ⌝ }
+{
+    match found {
+        Found::At(_) => false,
+        Found::Nowhere => true,
+    }
+}
+
+pub fn of_start(channels: [Channel; 16], motion: Motion, found: Found, c: ChannelNumber) -> Verdict
+    ensures { λ r. ⌜ r ≡ first (not (configured channels (c .0))) OutOfRange (first (not (isIdle motion)) ChannelBusy (first (isNowhere found) NothingStartable Granted)) ⌝ }
+{
+    if !carriers::is_configured(channels, c) {
+        return Verdict::Denied(Refusal::OutOfRange);
+    }
+    if !is_idle(motion) {
+        return Verdict::Denied(Refusal::ChannelBusy);
+    }
+    if is_nowhere(found) {
+        return Verdict::Denied(Refusal::NothingStartable);
+    }
+    Verdict::Granted
+}
+
+// Of a completion, by what moves on the channel and its packet.
+pub fn of_complete(
+    channels: [Channel; 16],
+    carrier: Carrier,
+    packet: Packet,
+    how: How,
+    c: ChannelNumber,
+) -> Verdict
+    ensures { λ r. ⌜ r ≡ first (not (configured channels (c .0))) OutOfRange (first (isIdle (carrier .motion)) NothingInProgress (first (isWrong (packet .status) how) WrongCompletion Granted)) ⌝ }
+{
+    let motion = carrier.motion;
+    let status = packet.status;
+    if !carriers::is_configured(channels, c) {
+        return Verdict::Denied(Refusal::OutOfRange);
+    }
+    if is_idle(motion) {
+        return Verdict::Denied(Refusal::NothingInProgress);
+    }
+    if endings::is_wrong(status, how) {
+        return Verdict::Denied(Refusal::WrongCompletion);
+    }
+    Verdict::Granted
+}
+
+pub fn of_end(state: JobState, j: u8) -> Verdict
+    ensures { λ r. ⌜ r ≡ first (not (ltb j 16)) OutOfRange (first (not (isRunning state)) NoJob Granted) ⌝ }
+{
+    if 15 < j {
+        return Verdict::Denied(Refusal::OutOfRange);
+    }
+    if !places::is_running(state) {
+        return Verdict::Denied(Refusal::NoJob);
+    }
+    Verdict::Granted
+}
+
+fn is_empty(state: JobState) -> bool
+    ensures { λ r. ⌜ r ≡ isEmpty state ⌝ }
+{
+    match state {
+        JobState::Empty => true,
+        JobState::Running => false,
+        JobState::ClosingNormal => false,
+        JobState::ClosingError => false,
+    }
+}
+
+pub fn of_take(state: JobState, j: u8) -> Verdict
+    ensures { λ r. ⌜ r ≡ first (not (ltb j 16 && isEmpty state)) NothingSelected Granted ⌝ }
+{
+    if 15 < j {
+        return Verdict::Denied(Refusal::NothingSelected);
+    }
+    if !is_empty(state) {
+        return Verdict::Denied(Refusal::NothingSelected);
+    }
+    Verdict::Granted
+}
+
+pub fn of_mark(has: Fitted, c: ChannelNumber, u: UnitNumber) -> Verdict
+    ensures { λ r. ⌜ r ≡ first (not (ltb (c .0) 16 && reaches has (OnUnit u))) OutOfRange Granted ⌝ }
+{
+    if 15 < c.0 {
+        return Verdict::Denied(Refusal::OutOfRange);
+    }
+    if !carriers::has_spot(has, Spot::OnUnit(u)) {
+        return Verdict::Denied(Refusal::OutOfRange);
+    }
+    Verdict::Granted
+}

@@ -1,0 +1,32 @@
+-- A change of the statuses of one job's packets: which packets it is for, and what becomes of them; one packet's status; a new job.
+use Prim.Native.Nat.{ℕ}
+use mathlib.Core.Bool.{Bool}
+use mathlib.Core.List.{List}
+use lib.ListN.{getD, set, replicate}
+use Rattle.packets.specs.Rules.{aimed, always, atUnit, cut, failed}
+use Rattle.packets.specs.State.{blank, withStatus}
+use Rattle.packets.specs.declared.Aim.{Aim}
+use Rattle.packets.specs.declared.Aim.the-variants.{Closing, Cutting, Failing}
+use Rattle.packets.specs.declared.Core.{Core}
+use Rattle.packets.specs.declared.Job.{Job}
+use Rattle.packets.specs.declared.JobState.the-variants.{Running}
+use Rattle.packets.specs.declared.Packet.{Packet}
+use Rattle.packets.specs.declared.Status.{Status}
+
+abbrev pub testOf : Aim → Packet → Bool
+testOf (Failing c a) = atUnit (c .0) a
+testOf (Cutting drum c a b) = aimed drum (c .0) a b
+testOf Closing = always
+
+abbrev pub changeOf : Aim → Status → Status
+changeOf (Failing c a) = failed
+changeOf (Cutting drum c a b) = cut
+changeOf Closing = cut
+
+-- packet p of these in another status
+abbrev pub statusSet : List Packet → ℕ → Status → List Packet
+statusSet ps p t = set ps p (withStatus (getD ps p blank) t)
+
+-- a job that has just been taken
+abbrev pub takenJob : ℕ → ℕ → Core → Job
+takenJob from words core = record { state = Running; packets = replicate 16 blank; from = from; words = words; core = core }
