@@ -1,16 +1,17 @@
 -- What the parts of a reply come to. Assumes nothing.
 use Prim.Native.Nat.{ℕ, min, _≤_, _<_}
 use mathlib.Core.Path.{_≡_, refl, sym, ap, ap₂, subst, _∙_}
-use mathlib.Core.Bool.{true, false}
+use mathlib.Core.Bool.{Bool, true, false}
 use mathlib.Core.List.{List, _++_}
 use native.Mathlib.Omega.{arith}
 use Rattle.numbers.specs.declared.Outcome.{Outcome}
 use Rattle.numbers.specs.declared.UnitNumber.{UnitNumber}
 use Rattle.channels.specs.declared.Channel.{Channel}
+use Rattle.channels.specs.declared.Fitted.{Fitted}
 use Rattle.text.specs.Room.{Written}
 use Rattle.text.specs.RoomLaws.{andThen}
 use Rattle.deck_text.specs.Report.{deckNotes}
-use Rattle.packets.specs.State.{drumOn}
+use Rattle.packets.specs.State.{drumOn, fittedOn, isDrumOf}
 use Rattle.packets.specs.declared.Spot.the-variants.{OnUnit, OnDrum}
 use Rattle.cell.specs.Calls.{cellOf, Enters}
 use Rattle.cell.specs.declared.Answered.{Answered}
@@ -44,3 +45,7 @@ shown e w = rw e (record { cell = refl; put = w })
 -- the answer of a call is the answer that its contract gives
 pub gives-as : {a b : Answered} {room after : List ℕ} {r : Replied} → a ≡ b → Gives a room after r → Gives b room after r
 gives-as {room = room} {after = after} {r = r} e g = subst (λ (x : Answered). Gives x room after r) e g
+
+-- whether a channel has the drum, by what it has
+pub drum-of : (channels : List Channel) (c : ℕ) {has : Fitted} {b : Bool} → has ≡ fittedOn channels c → b ≡ isDrumOf has → b ≡ drumOn channels c
+drum-of channels c e f = unfold drumOn in f ∙ ap isDrumOf e

@@ -7,7 +7,6 @@ use numbers::Outcome;
 use numbers::UnitNumber;
 use packets::Answer;
 use packets::Spot;
-use places::channel;
 use script::Line;
 use script::Said;
 use script::Submission;
@@ -55,7 +54,7 @@ fn spot_of(channels: [Channel; 16], submission: Submission) -> Spot
 {
     let at = submission.at;
     let to = submission.to;
-    if channel::is_drum_on(channels, submission.channel) {
+    if carriers::is_drum(carriers::fitted_on(channels, submission.channel)) {
         return Spot::OnDrum(at, to);
     }
     if at < 255 {
