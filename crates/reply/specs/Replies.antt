@@ -86,9 +86,14 @@ pub record Selects (cell : Cell) (room after : List ℕ) (r : Replied) : Type 0 
   pub shows : Shows (selectText (answer .outcome) (answer .selection) (cell .lists .channels)) (answer .cell) room after r
 
 -- a deck entered: its error lines and the last line; where it is refused, that
+abbrev pub deckReply : Cell → List ℕ → List ℕ
+deckReply cell deck = deckNotes (cell .schedule) deck ++ refusalText (deckOutcome deck)
+
+abbrev pub deckCell : Cell → List ℕ → Cell
+deckCell cell deck = cellOf (deckSchedule (cell .schedule) deck) (cell .lists)
+
 abbrev pub EntersDeck : Cell → List ℕ → List ℕ → List ℕ → Replied → Type 0
-EntersDeck cell deck room after r =
-    Shows (deckNotes (cell .schedule) deck ++ refusalText (deckOutcome deck)) (cellOf (deckSchedule (cell .schedule) deck) (cell .lists)) room after r
+EntersDeck cell deck room after r = Shows (deckReply cell deck) (deckCell cell deck) room after r
 
 -- THE ANSWER TO A LINE: what it says, the ID that it names, and the line itself; `DECK` is answered when its deck has been gathered
 abbrev pub Replies : Cell → Line → List ℕ → List ℕ → List ℕ → List ℕ → Replied → Type 0

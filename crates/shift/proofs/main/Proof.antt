@@ -1,0 +1,89 @@
+-- `shift::main` is safe and ends: the turns that are left grow fewer. Assumes nothing.
+use borrow.Author.Needs.{needs}
+use Rattle.shift.proofs.main.Statement.{statement}
+use Rattle.shift.proofs.main.Tie as tie
+
+abbrev Inv-loop : tie.InvT-loop
+Inv-loop line₀ room₀ shift₀ len₀ left₀ line room shift len left = Unit {0}
+
+abbrev μ-loop : tie.MeasureT-loop
+μ-loop line₀ room₀ shift₀ len₀ left₀ line room shift len left = left
+
+fresh-requires : tie.Need-fresh-requires Inv-loop μ-loop
+fresh-requires c κs = search needs
+
+loop-holds : tie.Need-loop-holds Inv-loop μ-loop
+loop-holds c = search needs
+
+buffer-requires : tie.Need-buffer-requires Inv-loop μ-loop
+buffer-requires c κs = search needs
+
+slice-aggregate-read : tie.Need-slice-aggregate-read Inv-loop μ-loop
+slice-aggregate-read c = search needs
+
+read-requires : tie.Need-read-requires Inv-loop μ-loop
+read-requires c κs = search needs
+
+slice-aggregate-count : tie.Need-slice-aggregate-count Inv-loop μ-loop
+slice-aggregate-count c = search needs
+
+count-requires : tie.Need-count-requires Inv-loop μ-loop
+count-requires c κs = search needs
+
+finish-requires : tie.Need-finish-requires Inv-loop μ-loop
+finish-requires c κs = search needs
+
+returns : tie.Need-returns Inv-loop μ-loop
+returns c = search needs
+
+array-share-prefix-piece : tie.Need-array-share-prefix-piece Inv-loop μ-loop
+array-share-prefix-piece c = search needs
+
+slice-aggregate-hear : tie.Need-slice-aggregate-hear Inv-loop μ-loop
+slice-aggregate-hear c = search needs
+
+hear-requires : tie.Need-hear-requires Inv-loop μ-loop
+hear-requires c κs = search needs
+
+is-over-requires : tie.Need-is-over-requires Inv-loop μ-loop
+is-over-requires c κs = search needs
+
+returns-2 : tie.Need-returns-2 Inv-loop μ-loop
+returns-2 c = search needs
+
+sub-left : tie.Need-sub-left Inv-loop μ-loop
+sub-left c = search needs
+
+loop-less : tie.Need-loop-less Inv-loop μ-loop
+loop-less c = search needs
+
+loop-again : tie.Need-loop-again Inv-loop μ-loop
+loop-again c = search needs
+
+returns-3 : tie.Need-returns-3 Inv-loop μ-loop
+returns-3 c = search needs
+
+pub main-spec : {M : Type 1} → statement M
+main-spec =
+    tie.close
+    (tie.spec
+    Inv-loop
+    μ-loop
+    fresh-requires
+    loop-holds
+    buffer-requires
+    slice-aggregate-read
+    read-requires
+    slice-aggregate-count
+    count-requires
+    finish-requires
+    returns
+    array-share-prefix-piece
+    slice-aggregate-hear
+    hear-requires
+    is-over-requires
+    returns-2
+    sub-left
+    loop-less
+    loop-again
+    returns-3)
