@@ -10,19 +10,11 @@ struct Heard {
     len: usize,
 }
 
-// The first n bytes.
-fn front(s: &[u8], n: usize) -> &[u8] {
-    if n <= s.len() {
-        return &s[..n];
-    }
-    s
-}
-
 // Answers one line.
 fn answer(shift: Shift, line: &[u8], room: &mut [u8; 16384]) -> Shift {
     let mut out = io::large_buffer();
     let turn = turns::take_line(shift, line, room, &mut out);
-    io::write_all(STDOUT_FILENO, front(&out, turn.at));
+    io::write_all(STDOUT_FILENO, lines::front(&out, turn.at));
     turn.shift
 }
 
@@ -39,14 +31,13 @@ fn hear(
     let mut kept = len;
     let mut at: usize = 0;
     while at < piece.len() {
-        let end = at + words::until(&piece[at..], b'\n');
-        kept = text::put_bytes(line, kept, &piece[at..end]);
-        if end == piece.len() {
-            return Heard { shift, len: kept };
+        let cut = lines::take_up(line, kept, &piece[at..]);
+        at += cut.taken;
+        kept = cut.kept;
+        if cut.whole {
+            shift = answer(shift, lines::front(line, kept), room);
+            kept = 0;
         }
-        shift = answer(shift, front(line, kept), room);
-        kept = 0;
-        at = end + 1;
     }
     Heard { shift, len: kept }
 }
@@ -65,8 +56,8 @@ fn is_over(phase: Phase) -> bool {
 // The end of the input, after `len` bytes of a last line.
 fn finish(shift: Shift, len: usize, line: &[u8; 20480], room: &mut [u8; 16384]) {
     let mut out = io::large_buffer();
-    let n = turns::end(shift, front(line, len), room, &mut out);
-    io::write_all(STDOUT_FILENO, front(&out, n));
+    let n = turns::end(shift, lines::front(line, len), room, &mut out);
+    io::write_all(STDOUT_FILENO, lines::front(&out, n));
 }
 
 // A proved loop has to end, and nothing says that the input does: the loop counts its turns down, from a number that no run uses up.
