@@ -123,10 +123,10 @@ impl Shift {
         }
     }
 
-    /// What is answered when the input ends; `rest` is what stands after its last LF.
+    /// What is answered when the input ends; `rest` is what stands after its last LF, a line as if it had one, a card of a deck too.
     pub fn finish(mut self, rest: &[u8]) -> Vec<u8> {
         let mut answer = Vec::new();
-        if self.deck.is_none() && !rest.is_empty() {
+        if !rest.is_empty() {
             answer = self.answer_line(rest);
         }
         if self.deck.is_some() {
