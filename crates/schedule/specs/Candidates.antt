@@ -1,11 +1,12 @@
 -- The candidates: the requests from which the selection takes the first that has an assignment.
-use Prim.Native.Nat.{ℕ, _+_}
-use mathlib.Core.Bool.{Bool, _&&_, not}
+use Prim.Native.Nat.{ℕ, _≤_, _<_}
+use mathlib.Core.Path.{_≡_}
+use mathlib.Core.Bool.{Bool, false, _&&_, not}
 use mathlib.Core.List.{List}
-use lib.ListN.{drop}
+use lib.ListN.{length, getD}
 use Rattle.entries.specs.Entries.{keyOf, lowerSequence, waiting, active, serial}
 use Rattle.entries.specs.declared.Entry.{Entry}
-use Rattle.held.specs.Held.{first, any}
+use Rattle.held.specs.Held.{any, entryAt}
 
 -- "no job runs or closes", and "while [an S-type job] runs or closes, nothing is [a candidate]"
 abbrev pub running : List Entry → Bool
@@ -22,6 +23,8 @@ headed es e = any (λ f. lowerSequence (keyOf (f .request)) (keyOf (e .request))
 unfoldable pub candidate : List Entry → Entry → Bool
 candidate es e = waiting (e .state) && (not (headed es e) && (not (runningAlone es) && not (serial (e .request) && running es)))
 
--- the place of the first candidate from a place on
-unfoldable pub nextCandidate : List Entry → ℕ → ℕ
-nextCandidate es from = from + first (candidate es) (drop from es)
+-- the marks of the candidates, by place in the schedule: none past the last
+pub record Marks (es : List Entry) (marks : List Bool) : Type 0 where
+  pub long : length marks ≡ 64
+  pub each : (k : ℕ) → k < length es → getD marks k false ≡ candidate es (entryAt es k)
+  pub rest : (k : ℕ) → length es ≤ k → getD marks k false ≡ false

@@ -1,3 +1,4 @@
 pub mod Calls
 pub mod Candidates
 pub mod CandidateLaws
+pub mod Marking

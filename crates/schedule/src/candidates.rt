@@ -1,43 +1,137 @@
-// The candidates, in selection order.
-use entries::Question;
+// The candidates, in selection order. The schedule's array is taken out once for each function: each call that takes it copies it.
+use entries::Entry;
+use entries::Key;
 use held::Schedule;
 ghost use mathlib.Core.Path.{_≡_};
-ghost use Rattle.held.specs.Held.{held, entryAt};
-ghost use Rattle.schedule.specs.Candidates.{candidate, nextCandidate};
+ghost use mathlib.Core.Bool.{_||_, _&&_};
+ghost use Prim.Native.Nat.{_≤_};
+ghost use Rattle.entries.specs.Entries.{lowerSequence, active, serial};
+ghost use Rattle.held.specs.Held.{held};
+ghost use Rattle.schedule.specs.Candidates.{Marks};
+ghost use Rattle.schedule.specs.Marking.{Outlines, Heads, Tells};
 
-// Whether the request at a place is a candidate; one past the last is not looked at.
-fn is_candidate(schedule: Schedule, k: usize) -> bool
-    ensures { λ r. ⌜ r ≡ candidate (held schedule) (entryAt (held schedule) k) ⌝ }
+// What candidates are told by: the keys of the requests, and whether a job runs or closes, at all and as an S-type job.
+struct Outline {
+    keys: [Key; 64],
+    runs: bool,
+    alone: bool,
+}
+
+// Whether a job runs or closes: one of those before, or an entry's.
+fn runs_with(before: bool, entry: Entry) -> bool
+    ensures { λ r. ⌜ r ≡ before || active (entry .state) ⌝ }
 {
-    let entry = held::entry_at(schedule, k);
+    if before {
+        return true;
+    }
+    let state = entry.state;
+    entries::is_active(state)
+}
+
+// Whether an S-type job runs or closes: one of those before, or an entry's.
+fn alone_with(before: bool, entry: Entry) -> bool
+    ensures { λ r. ⌜ r ≡ before || (active (entry .state) && serial (entry .request)) ⌝ }
+{
+    if before {
+        return true;
+    }
+    let state = entry.state;
+    let request = entry.request;
+    if entries::is_active(state) {
+        return entries::is_serial(request);
+    }
+    false
+}
+
+// What the candidates of a schedule are told by.
+fn outline_of(schedule: Schedule) -> Outline
+    ensures { λ r. ⌜ Outlines (held schedule) r ⌝ }
+{
+    let n = held::size(schedule);
+    let list = schedule.entries;
+    let none = Key {
+        letter: 0,
+        precedence: 0,
+        sequence: 0,
+    };
+    let mut keys = [none; 64];
+    let mut runs = false;
+    let mut alone = false;
+    let mut i: usize = 0;
+    while i < n {
+        let entry = list[i];
+        let request = entry.request;
+        keys[i] = entries::key_of(request);
+        runs = runs_with(runs, entry);
+        alone = alone_with(alone, entry);
+        i += 1;
+    }
+    Outline { keys, runs, alone }
+}
+
+// Whether a key has another's letter and precedence and a lower sequence.
+fn is_lower(a: Key, b: Key) -> bool
+    ensures { λ r. ⌜ r ≡ lowerSequence a b ⌝ }
+{
+    if a.letter == b.letter {
+        if a.precedence == b.precedence {
+            return a.sequence < b.sequence;
+        }
+        return false;
+    }
+    false
+}
+
+// Whether some of the first keys has a key's letter and precedence and a lower sequence.
+fn is_headed(keys: [Key; 64], n: usize, key: Key) -> bool
+    requires { ⌜ n ≤ 64 ⌝ }
+    ensures { λ r. ⌜ Heads keys n key r ⌝ }
+{
+    let mut i: usize = 0;
+    while i < n {
+        if is_lower(keys[i], key) {
+            return true;
+        }
+        i += 1;
+    }
+    false
+}
+
+// Whether an entry is a candidate, told whether it is headed, whether an S-type job runs or closes, and whether any does.
+fn is_candidate(entry: Entry, headed: bool, alone: bool, runs: bool) -> bool
+    ensures { λ r. ⌜ Tells entry headed alone runs r ⌝ }
+{
     let state = entry.state;
     let request = entry.request;
     if !entries::is_waiting(state) {
         return false;
     }
-    if held::has(schedule, held::of_key(Question::Lower, request)) {
+    if headed {
         return false;
     }
-    if held::has(schedule, held::of_jobs(Question::Serial)) {
+    if alone {
         return false;
     }
     if entries::is_serial(request) {
-        return !held::has(schedule, held::of_jobs(Question::Active));
+        return !runs;
     }
     true
 }
 
-// The place of the first candidate from a place on; none is left where the answer is no place of the schedule.
-pub fn next_candidate(schedule: Schedule, from: usize) -> usize
-    ensures { λ r. ⌜ r ≡ nextCandidate (held schedule) from ⌝ }
+// Which requests are candidates, by place in the schedule; none past the last.
+pub fn all(schedule: Schedule) -> [bool; 64]
+    ensures { λ r. ⌜ Marks (held schedule) r ⌝ }
 {
     let n = held::size(schedule);
-    let mut i = from;
-    while i < n {
-        if is_candidate(schedule, i) {
-            return i;
-        }
-        i += 1;
+    let outline = outline_of(schedule);
+    let keys = outline.keys;
+    let list = schedule.entries;
+    let mut marks = [false; 64];
+    let mut k: usize = 0;
+    while k < n {
+        let headed = is_headed(keys, n, keys[k]);
+        marks[k] = is_candidate(list[k], headed, outline.alone, outline.runs);
+        k += 1;
     }
-    i
+    marks
 }

@@ -1,19 +1,20 @@
 -- The walk over the candidates, and what an assignment's core says of its starts. Assumes nothing.
 use Prim.Native.Nat.{ℕ, _+_, _≤_, _<_}
-use mathlib.Core.Path.{_≡_, refl, sym, ap, subst}
+use mathlib.Core.Path.{_≡_, refl, sym, ap, subst, _∙_}
 use mathlib.Core.Bool.{Bool, true, false}
 use mathlib.Core.List.{List}
 use mathlib.Core.Logic.{inl, inr}
 use native.Mathlib.Omega.{arith}
-use lib.Dec.{eqb, ltb}
-use lib.ListN.{length}
-use borrow.Author.Tests.{eqb-false, eqb-true, ltb-false, ltb-true}
+use lib.Dec.{eqb}
+use lib.ListN.{length, getD, take}
+use borrow.Author.Tests.{eqb-false, eqb-true}
 use Rattle.numbers.specs.Tests.{by-bool, never}
 use Rattle.entries.specs.Entries.{blank}
 use Rattle.entries.specs.declared.Entry.{Entry}
-use Rattle.held.specs.Held.{entryAt, first}
-use Rattle.schedule.specs.Candidates.{candidate, nextCandidate}
-use Rattle.schedule.specs.CandidateLaws.{stands, none-before}
+use Rattle.held.specs.Held.{held, entryAt}
+use Rattle.held.specs.HeldLaws.{held-at, held-few, held-sized}
+use Rattle.held.specs.declared.Schedule.{Schedule}
+use Rattle.schedule.specs.Candidates.{Marks}
 use Rattle.facilities.specs.Assignment.{Cell}
 use Rattle.facilities.specs.Chosen.{Answer, Assigns, NoAssignment}
 use Rattle.facilities.specs.declared.Assigned.{Assigned}
@@ -24,47 +25,62 @@ use Rattle.selection.specs.Selecting.{Candidate, FirstFit, HasNone, NoFi
 use Rattle.selection.specs.declared.Pick.{Pick}
 use Rattle.selection.specs.declared.Selection.{Selection}
 
--- the candidates before k have no assignment, and k is the place of one unless it is past the last
+-- the candidates before k have no assignment
 pub record Walked (es : List Entry) (cell : Cell) (k : ℕ) : Type 0 where
   pub passed : (i : ℕ) → i < k → Candidate es i → HasNone cell (entryAt es i .request)
-  pub stop : k < length es → candidate es (entryAt es k) ≡ true
 
-module _ {es : List Entry} {cell : Cell} where
-  pub walk-start : {k : ℕ} → k ≡ nextCandidate es 0 → Walked es cell k
-  walk-start {k} e =
-      record {
-        passed = λ i h c b a. never (c .1) (none-before es 0 i (omega arith) (rw e at h));
-        stop = λ h. rw e (stands es 0 (rw e at h));
-      }
+pub walk-start : (es : List Entry) (cell : Cell) → Walked es cell 0
+walk-start es cell = record { passed = λ i h c. absurd (omega arith) }
 
-  pub walk-found : {k : ℕ} {entry : Entry} (a : Assigned) → Walked es cell k → k < length es → entry ≡ entryAt es k → a .found ≡ true
-      → Assigns cell (entry .request .facilities) a → FirstFit es cell k a
-  walk-found {k} {entry} a w h e f s =
+-- one more has none, or is no candidate
+walk-more : {es : List Entry} {cell : Cell} {k : ℕ} → Walked es cell k → (Candidate es k → HasNone cell (entryAt es k .request)) → Walked es cell (k + 1)
+walk-more {es} {cell} {k} w f =
+    record {
+      passed = λ i h c. by-bool (eqb i k) (λ q. let e : i ≡ k = eqb-true i k q in rw e (f (rw e at c)))
+          (λ q. w .passed i (less i h (eqb-false i k q)) c);
+    }
+  where
+    less : (i : ℕ) → i < k + 1 → (i ≡ k → ⊥) → i < k
+    less i h q = omega arith
+
+-- the walk over a schedule's array, by the marks of its candidates
+module _ (s : Schedule) (wide : length (s .entries) ≡ 64) {n : ℕ} (size : n ≡ length (held s)) {may : List Bool} (marks : Marks (held s) may) (cell : Cell) where
+  part : take n (s .entries) ≡ held s
+  part = held-sized s size
+
+  pub few : n ≤ 64
+  few = omega (arith, held-few s wide)
+
+  walk-in : {k : ℕ} → Walked (take n (s .entries)) cell k → Walked (held s) cell k
+  walk-in {k} w = subst (λ (es : List Entry). Walked es cell k) part w
+
+  pub walk-found : {k : ℕ} (d : Entry) (a : Assigned) → Walked (take n (s .entries)) cell k → k < n → getD may k false ≡ true → a .found ≡ true
+      → Assigns cell (getD (s .entries) k d .request .facilities) a → FirstFit (held s) cell k a
+  walk-found {k} d a w h m f r =
+      let l : k < length (held s) = omega arith in
       record {
-        candidate = (h, w .stop h);
+        candidate = (l, sym (marks .each k l) ∙ m);
         found = f;
-        chosen = rw (sym e) (subst (λ (b : Bool). Answer b cell (entry .request .facilities) a) f s);
-        first = w .passed;
+        chosen = rw (sym (held-at s k d l)) (subst (λ (b : Bool). Answer b cell (getD (s .entries) k d .request .facilities) a) f r);
+        first = walk-in w .passed;
       }
 
-  pub walk-turn : {k k′ : ℕ} {entry : Entry} (a : Assigned) → Walked es cell k → k < length es → entry ≡ entryAt es k → a .found ≡ false
-      → Assigns cell (entry .request .facilities) a → k′ ≡ nextCandidate es (k + 1) → Walked es cell k′
-  walk-turn {k} {k′} {entry} a w h e f s n =
-      record {
-        passed = λ i l c. by-bool (ltb i k) (λ t. w .passed i (ltb-true i k t) c)
-            (λ t. by-bool (eqb i k) (λ q. rw (eqb-true i k q, sym e) (none .never))
-            (λ q. λ b a. never (c .1) (none-before es (k + 1) i (past i (ltb-false i k t) (eqb-false i k q)) (rw n at l))));
-        stop = λ l. rw n (stands es (k + 1) (rw n at l));
-      }
+  pub walk-none : {k : ℕ} (d : Entry) (a : Assigned) → Walked (take n (s .entries)) cell k → k < n → a .found ≡ false → Assigns cell (getD (s .entries) k d .request .facilities) a
+      → Walked (take n (s .entries)) cell (k + 1)
+  walk-none {k} d a w h f r =
+      let l : k < length (held s) = omega arith in
+      subst (λ (es : List Entry). Walked es cell (k + 1)) (sym part) (walk-more (walk-in w) λ c. rw (sym (held-at s k d l)) (none .never))
     where
-      past : (i : ℕ) → k ≤ i → (i ≡ k → ⊥) → k + 1 ≤ i
-      past i l q = omega arith
+      none : NoAssignment cell (getD (s .entries) k d .request .facilities) a
+      none = subst (λ (b : Bool). Answer b cell (getD (s .entries) k d .request .facilities) a) f r
 
-      none : NoAssignment cell (entry .request .facilities) a
-      none = subst (λ (b : Bool). Answer b cell (entry .request .facilities) a) f s
+  pub walk-past : {k : ℕ} → Walked (take n (s .entries)) cell k → k < n → getD may k false ≡ false → Walked (take n (s .entries)) cell (k + 1)
+  walk-past {k} w h m =
+      let l : k < length (held s) = omega arith in
+      subst (λ (es : List Entry). Walked es cell (k + 1)) (sym part) (walk-more (walk-in w) λ c b a. never (c .1) (sym (marks .each k l) ∙ m))
 
-  pub walk-end : {k : ℕ} → Walked es cell k → length es ≤ k → NoFit es cell
-  walk-end w h i c = w .passed i (omega (arith, c .0)) c
+  pub walk-end : {k : ℕ} → Walked (take n (s .entries)) cell k → n ≤ k → NoFit (held s) cell
+  walk-end w h i c = walk-in w .passed i (omega (arith, c .0)) c
 
 -- ---- the whole selection
 

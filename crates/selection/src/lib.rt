@@ -75,19 +75,23 @@ fn first_fit(
     ensures { λ r. ⌜ Picks (held schedule) (cellOf (units .of) occupancy areas channels) r ⌝ }
 {
     let n = held::size(schedule);
-    let mut k = candidates::next_candidate(schedule, 0);
+    let may = candidates::all(schedule);
+    let list = schedule.entries;
+    let mut k: usize = 0;
     while k < n {
-        let entry = held::entry_at(schedule, k);
-        let request = entry.request;
-        let assigned = facilities::assign(units, occupancy, areas, channels, request);
-        if assigned.found {
-            return Pick {
-                found: true,
-                at: k,
-                assigned,
-            };
+        if may[k] {
+            let entry = list[k];
+            let request = entry.request;
+            let assigned = facilities::assign(units, occupancy, areas, channels, request);
+            if assigned.found {
+                return Pick {
+                    found: true,
+                    at: k,
+                    assigned,
+                };
+            }
         }
-        k = candidates::next_candidate(schedule, k + 1);
+        k += 1;
     }
     Pick {
         found: false,

@@ -1,0 +1,30 @@
+-- What the parts of the marking answer: the outline of a schedule, whether a key is headed, and whether an entry is a candidate.
+use Prim.Native.Nat.{ℕ, _<_}
+use mathlib.Core.Path.{_≡_}
+use mathlib.Core.Bool.{Bool}
+use mathlib.Core.List.{List}
+use lib.ListN.{length, getD}
+use Rattle.entries.specs.Entries.{keyOf}
+use Rattle.entries.specs.declared.Entry.{Entry}
+use Rattle.entries.specs.declared.Key.{Key}
+use Rattle.held.specs.Held.{noKey, entryAt}
+use Rattle.schedule.specs.Candidates.{running, runningAlone, headed, candidate}
+use Rattle.schedule.specs.declared.candidates.Outline.{Outline}
+
+-- the keys of the requests, by place in the schedule
+abbrev pub Keys : List Entry → List Key → Type 0
+Keys es keys = (k : ℕ) → k < length es → getD keys k noKey ≡ keyOf (entryAt es k .request)
+
+-- what candidates are told by
+pub record Outlines (es : List Entry) (o : Outline) : Type 0 where
+  pub keys : Keys es (o .keys)
+  pub runs : o .runs ≡ running es
+  pub alone : o .alone ≡ runningAlone es
+
+-- of every schedule whose n requests have these keys: whether an entry with this key is headed
+abbrev pub Heads : List Key → ℕ → Key → Bool → Type 0
+Heads keys n key r = (es : List Entry) (e : Entry) → n ≡ length es → Keys es keys → key ≡ keyOf (e .request) → r ≡ headed es e
+
+-- of every schedule of which this is so: whether the entry is a candidate
+abbrev pub Tells : Entry → Bool → Bool → Bool → Bool → Type 0
+Tells e heads alone runs r = (es : List Entry) → heads ≡ headed es e → alone ≡ runningAlone es → runs ≡ running es → r ≡ candidate es e
