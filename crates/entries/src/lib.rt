@@ -72,7 +72,7 @@ fn same_key(a: Key, b: Key) -> bool
 }
 
 // Whether a key has another's letter and precedence and a lower sequence.
-fn is_lower(a: Key, b: Key) -> bool
+pub fn is_lower(a: Key, b: Key) -> bool
     ensures { λ r. ⌜ r ≡ lowerSequence a b ⌝ }
 {
     same_rank(a, b) && a.sequence < b.sequence

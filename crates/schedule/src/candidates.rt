@@ -5,7 +5,7 @@ use held::Schedule;
 ghost use mathlib.Core.Path.{_≡_};
 ghost use mathlib.Core.Bool.{_||_, _&&_};
 ghost use Prim.Native.Nat.{_≤_};
-ghost use Rattle.entries.specs.Entries.{lowerSequence, active, serial};
+ghost use Rattle.entries.specs.Entries.{active, serial};
 ghost use Rattle.held.specs.Held.{held};
 ghost use Rattle.schedule.specs.Candidates.{Marks};
 ghost use Rattle.schedule.specs.Marking.{Outlines, Heads, Tells};
@@ -69,19 +69,6 @@ fn outline_of(schedule: Schedule) -> Outline
     Outline { keys, runs, alone }
 }
 
-// Whether a key has another's letter and precedence and a lower sequence.
-fn is_lower(a: Key, b: Key) -> bool
-    ensures { λ r. ⌜ r ≡ lowerSequence a b ⌝ }
-{
-    if a.letter == b.letter {
-        if a.precedence == b.precedence {
-            return a.sequence < b.sequence;
-        }
-        return false;
-    }
-    false
-}
-
 // Whether some of the first keys has a key's letter and precedence and a lower sequence.
 fn is_headed(keys: [Key; 64], n: usize, key: Key) -> bool
     requires { ⌜ n ≤ 64 ⌝ }
@@ -89,7 +76,7 @@ fn is_headed(keys: [Key; 64], n: usize, key: Key) -> bool
 {
     let mut i: usize = 0;
     while i < n {
-        if is_lower(keys[i], key) {
+        if entries::is_lower(keys[i], key) {
             return true;
         }
         i += 1;
