@@ -3,16 +3,15 @@ use Prim.Native.Nat.{ℕ, zero, suc, _+_, _≤_, _<_}
 use mathlib.Core.Path.{_≡_, refl, sym, ap, subst, _∙_}
 use mathlib.Core.Bool.{Bool, true, false, _&&_, _||_}
 use mathlib.Core.List.{List, _∷_}
-use native.Mathlib.Numerals.{add-one}
 use native.Mathlib.Omega.{arith}
 use lib.ListN.{length, getD, take, drop, set, replicate, length-set, drop-of-length-le}
-use lib.Seq.{drop-cons, getD-set-other}
+use lib.Seq.{getD-set-other}
 use Rattle.numbers.specs.Stores.{stored}
-use Rattle.entries.specs.Entries.{keyOf, lowerSequence, active, serial, blank}
+use Rattle.entries.specs.Entries.{keyOf, lowerSequence, active, serial}
 use Rattle.entries.specs.declared.Entry.{Entry}
 use Rattle.entries.specs.declared.Key.{Key}
 use Rattle.held.specs.Held.{held, any, entryAt, noKey}
-use Rattle.held.specs.HeldLaws.{held-at, held-few, held-sized}
+use Rattle.held.specs.HeldLaws.{entry-step, held-at, held-few, held-sized}
 use Rattle.held.specs.declared.Schedule.{Schedule}
 use Rattle.schedule.specs.Candidates.{running, runningAlone, headed, candidate, Marks}
 use Rattle.schedule.specs.Marking.{Keys, Outlines, Heads, Tells}
@@ -26,9 +25,6 @@ or-assoc false b c = refl
 or-false : (a : Bool) → a || false ≡ a
 or-false true = refl
 or-false false = refl
-
-entry-step : (es : List Entry) (i : ℕ) → i < length es → drop i es ≡ entryAt es i ∷ drop (i + 1) es
-entry-step es i h = rw (add-one, drop-cons es i blank)
 
 module _ (p : Entry → Bool) (es : List Entry) (i : ℕ) where
   told-turn : (b : Bool) {b′ : Bool} → i < length es → b′ ≡ b || p (entryAt es i) → b || any p (drop i es) ≡ any p es → b′ || any p (drop (i + 1) es) ≡ any p es
