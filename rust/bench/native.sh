@@ -18,7 +18,7 @@ mkdir "$work/src"
 # would need a proof of its own, and ten calls in a row need none.
 cat > "$work/src/lib.rt" <<'RT'
 // Functions of the proved crates under plain names, for a harness.
-use held::Schedule;
+use schedule_list::Schedule;
 use numbers::ChannelNumber;
 use numbers::UnitNumber;
 use packets::Answer;
@@ -28,18 +28,18 @@ use packets::Core;
 use packets::How;
 use packets::Lists;
 use packets::Spot;
-use selection::Taking;
+use cell_selection::Taking;
 
 // The deck program's text.
 #[no_mangle]
 pub extern "C" fn luffgravel_deck(deck: &[u8], out: &mut [u8]) -> usize {
-    deck_text::report(deck, out)
+    schedule_deck::report(deck, out)
 }
 
 // The listing program's text.
 #[no_mangle]
 pub extern "C" fn luffgravel_listing(config: &[u8], out: &mut [u8]) -> usize {
-    listing_text::listing(config, out)
+    configuration_listing::listing(config, out)
 }
 
 // Whether a text is a configuration with this unit, and that unit, named by its place among 256, is down. Which unit is known only at the call,
@@ -62,7 +62,7 @@ pub extern "C" fn luffgravel_is_down(config: &[u8], channel: u8, unit: u8, at: u
 fn fresh(config: &[u8]) -> Lists {
     let answer = configuration::read(config);
     let configuration = answer.configuration;
-    let units = cell_units::fresh(configuration);
+    let units = configuration_units::fresh(configuration);
     let channels = configuration.channels;
     lists::fresh(channels, units)
 }
@@ -142,19 +142,19 @@ pub extern "C" fn luffgravel_no_turn(config: &[u8], channel: u8) -> bool {
 
 // One more job is taken.
 fn next(before: Taking) -> Taking {
-    selection::select(before.schedule, before.lists)
+    cell_selection::select(before.schedule, before.lists)
 }
 
 // The schedule that a deck gives; its text is cut to the room that it has here.
 fn entered(deck: &[u8]) -> Schedule {
     let mut room: [u8; 256] = [0; 256];
-    let entered = deck_text::enter_deck(held::empty(), deck, &mut room);
+    let entered = schedule_deck::enter_deck(schedule_list::empty(), deck, &mut room);
     entered.schedule
 }
 
 // A cell that has entered a deck and selected fifteen jobs.
 fn held_by_fifteen(config: &[u8], deck: &[u8]) -> Taking {
-    let first = selection::select(entered(deck), fresh(config));
+    let first = cell_selection::select(entered(deck), fresh(config));
     let five = next(next(next(next(first))));
     let ten = next(next(next(next(next(five)))));
     next(next(next(next(next(ten)))))
@@ -162,7 +162,7 @@ fn held_by_fifteen(config: &[u8], deck: &[u8]) -> Taking {
 
 // A selection from this state finds something.
 fn finds(schedule: Schedule, lists: Lists) -> bool {
-    let taking = selection::select(schedule, lists);
+    let taking = cell_selection::select(schedule, lists);
     let selection = taking.selection;
     selection.found
 }

@@ -6,7 +6,7 @@ use lib.Dec.{eqb, ltb}
 use lib.ListN.{length, getD, drop, replicate}
 use Rattle.numbers.specs.Quoted.{byte, bytes}
 use Rattle.words.specs.Words.{same, value}
-use Rattle.fields.specs.Fields.{field, fields, isPty, malformed, padded}
+use Rattle.cards_fields.specs.Fields.{field, fields, isPty, malformed, padded}
 use Rattle.cards.specs.Errors.{errorIf, orElse, firstOf}
 use Rattle.cards.specs.Pty.{fieldsError, priorityOf}
 use Rattle.cards.specs.Fac.{nothing, entriesError, allEntered, coreError, facilitiesOf, askedAnswer}

@@ -1,10 +1,4 @@
 pub mod Errors
-pub mod ErrorLaws
 pub mod Pty
-pub mod PriorityLaws
-pub mod PtyLaws
 pub mod Fac
-pub mod EntryLaws
-pub mod AskLaws
 pub mod Group
-pub mod GroupLaws

@@ -10,7 +10,7 @@ ghost use mathlib.Core.Path.{_≡_};
 ghost use mathlib.Core.Bool.{false};
 ghost use Prim.Native.Nat.{_≤_, _<_};
 ghost use lib.ListN.{getD, drop, set};
-ghost use Rattle.fields.specs.Fields.{field, fields};
+ghost use Rattle.cards_fields.specs.Fields.{field, fields};
 ghost use Rattle.cards.specs.Errors.{good};
 ghost use Rattle.cards.specs.Fac.{codes, placeIn, channelGood, most, numberGood, slot, slots, codeError, coreError, nothing, facilitiesOf, asksOf, entryAnswer, EntryRead, askedAnswer, askedOf};
 
@@ -143,7 +143,7 @@ fn known_entry(t: &[u8]) -> Entry
 fn entry_at(card: &[u8], k: usize) -> Entry
     ensures { λ r. ⌜ EntryRead (field (now (card .entry)) k) r ⌝ }
 {
-    let f = fields::card::field_at(card, k);
+    let f = cards_fields::card::field_at(card, k);
     let n = f.len;
     let bytes = f.bytes;
     if n <= 12 {
@@ -228,7 +228,7 @@ fn with_number(f: Facilities, slot: usize, n: u32) -> Facilities
 pub(crate) fn facilities(card: &[u8]) -> Asked
     ensures { λ r. ⌜ r ≡ askedOf nothing (drop 2 (fields (now (card .entry)))) ⌝ }
 {
-    let last = fields::card::last_field(card);
+    let last = cards_fields::card::last_field(card);
     let mut asks = no_facilities();
     let mut k: usize = 1;
     while k < last {

@@ -7,7 +7,7 @@ use words::Class;
 ghost use mathlib.Core.Path.{_≡_};
 ghost use Prim.Native.Nat.{_≤_, _<_};
 ghost use lib.ListN.{length};
-ghost use Rattle.fields.specs.Fields.{field, fields};
+ghost use Rattle.cards_fields.specs.Fields.{field, fields};
 ghost use Rattle.cards.specs.Pty.{programName, noPriority, precedence, lastOfAll, ranked, priorityOf, ruleAt, lengthError, contentError, fieldError, fieldsError};
 
 // The table's numbers: for each field its least and most length.
@@ -185,7 +185,7 @@ fn error_at(card: &[u8], k: usize) -> Verdict
     requires { ⌜ k < 14 ⌝ }
     ensures { λ r. ⌜ r ≡ fieldError k (ruleAt k) (field (now (card .entry)) k) ⌝ }
 {
-    let f = fields::card::field_at(card, k);
+    let f = cards_fields::card::field_at(card, k);
     let n = f.len;
     if 12 < n {
         return Verdict::Wrong(length_error(k));
@@ -214,7 +214,7 @@ pub(crate) fn priority_at(card: &[u8]) -> Priority
     requires { ⌜ length (field (now card) 9) ≤ 12 ⌝ }
     ensures { λ r. ⌜ r ≡ priorityOf (field (now (card .entry)) 9) ⌝ }
 {
-    let f = fields::card::field_at(card, 9);
+    let f = cards_fields::card::field_at(card, 9);
     let n = f.len;
     let bytes = f.bytes;
     priority(&bytes[..n])

@@ -4,10 +4,10 @@ use cards::Request;
 use cards::Verdict;
 use cards::error;
 use cards::group;
-use fields::DeckEnd;
-use fields::deck;
+use cards_fields::DeckEnd;
+use cards_fields::deck;
+use cards_writing::Wrote;
 use libc::STDOUT_FILENO;
-use writing::Wrote;
 ghost use Rattle.io.specs.Counts.{Counts};
 
 // Puts the file that argument i names into a buffer, and answers its length; 0 for a file that is not there, and no wanted file is empty.
@@ -29,12 +29,12 @@ fn load(i: usize, buffer: &mut [u8; 4096]) -> usize
 // Whether a request that was read is written as cards that read and write alike. What follows the last LF of the rooms is no card.
 fn comes_back(request: Request) -> bool {
     let mut first = [0u8; 162];
-    let Wrote::Cards(_) = writing::write(&mut first, request) else {
+    let Wrote::Cards(_) = cards_writing::write(&mut first, request) else {
         return false;
     };
     let again = group::read_group(&first);
     let mut second = [0u8; 162];
-    let Wrote::Cards(_) = writing::write(&mut second, again.request) else {
+    let Wrote::Cards(_) = cards_writing::write(&mut second, again.request) else {
         return false;
     };
     check::same(&first, &second)

@@ -33,7 +33,7 @@ fn same_text(i: usize, j: usize) -> bool {
     let mut wanted = io::large_buffer();
     let m = load(j, &mut wanted);
     let mut room = io::large_buffer();
-    let length = deck_text::report(&text[..n], &mut room);
+    let length = schedule_deck::report(&text[..n], &mut room);
     check::same(&room[..length], &wanted[..m])
 }
 

@@ -33,7 +33,7 @@ fn same_text(i: usize, j: usize) -> bool {
     let mut wanted = io::buffer();
     let m = load(j, &mut wanted);
     let mut room = [0u8; 128];
-    let length = listing_text::listing(&text[..n], &mut room);
+    let length = configuration_listing::listing(&text[..n], &mut room);
     check::same(&room[..length], &wanted[..m])
 }
 

@@ -1,6 +1,6 @@
 // Runs each case of data/ and compares: the arguments are the names of the inputs, each before what must come out.
 use libc::STDOUT_FILENO;
-use turns::Shift;
+use shift_turns::Shift;
 ghost use Rattle.io.specs.Counts.{Counts};
 
 // The shift after a line, and how long what was said is.
@@ -42,9 +42,9 @@ fn answer(
     len: usize,
 ) -> Said {
     let mut out = io::large_buffer();
-    let turn = turns::take_line(shift, line, room, &mut out);
+    let turn = shift_turns::take_line(shift, line, room, &mut out);
     let after = turn.shift;
-    let end = text::put_bytes(said, len, lines::front(&out, turn.at));
+    let end = text::put_bytes(said, len, shift_lines::front(&out, turn.at));
     Said {
         shift: after,
         len: end,
@@ -60,35 +60,35 @@ fn finish(
     len: usize,
 ) -> usize {
     let mut out = io::large_buffer();
-    let n = turns::end(shift, line, room, &mut out);
-    text::put_bytes(said, len, lines::front(&out, n))
+    let n = shift_turns::end(shift, line, room, &mut out);
+    text::put_bytes(said, len, shift_lines::front(&out, n))
 }
 
 // Plays a script, its lines taken up in the room for one: all that is answered, and how long that is.
 fn play(script: &[u8], line: &mut [u8; 20480], said: &mut [u8; 65536]) -> usize {
     let mut room = [0u8; 16384];
-    let mut shift = turns::fresh();
+    let mut shift = shift_turns::fresh();
     let mut len: usize = 0;
     let mut kept: usize = 0;
     let mut at: usize = 0;
     while at < script.len() {
-        let cut = lines::take_up(line, kept, &script[at..]);
+        let cut = shift_lines::take_up(line, kept, &script[at..]);
         at += cut.taken;
         kept = cut.kept;
         if cut.whole {
-            let after = answer(shift, lines::front(line, kept), &mut room, said, len);
+            let after = answer(shift, shift_lines::front(line, kept), &mut room, said, len);
             shift = after.shift;
             len = after.len;
             kept = 0;
         }
     }
-    finish(shift, lines::front(line, kept), &mut room, said, len)
+    finish(shift, shift_lines::front(line, kept), &mut room, said, len)
 }
 
 // Whether all that is answered to a script is this text.
 fn says(script: &[u8], line: &mut [u8; 20480], said: &mut [u8; 65536], wanted: &[u8]) -> bool {
     let length = play(script, line, said);
-    check::same(lines::front(said, length), wanted)
+    check::same(shift_lines::front(said, length), wanted)
 }
 
 // Whether the answers to the script in file i are file j.

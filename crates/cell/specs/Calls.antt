@@ -9,12 +9,12 @@ use Rattle.numbers.specs.declared.Outcome.{Outcome}
 use Rattle.numbers.specs.declared.Outcome.the-variants as Outcomes
 use Rattle.numbers.specs.declared.Refusal.the-variants.{NothingSelected, OutOfRange}
 use Rattle.channels.specs.declared.Configuration.{Configuration}
-use Rattle.cell_units.specs.Fresh.{freshUnits}
-use Rattle.held.specs.Held.{scheduleOf}
-use Rattle.held.specs.declared.Schedule.{Schedule}
+use Rattle.configuration_units.specs.Fresh.{freshUnits}
+use Rattle.schedule_list.specs.Held.{scheduleOf}
+use Rattle.schedule_list.specs.declared.Schedule.{Schedule}
 use Rattle.schedule.specs.Calls.{closing, deleted, released, returned}
 use Rattle.schedule.specs.declared.Changed.{Changed}
-use Rattle.deck_text.specs.Reading.{DeckEntered}
+use Rattle.schedule_deck.specs.Reading.{DeckEntered}
 use Rattle.packets.specs.Demand.{fresh}
 use Rattle.packets.specs.Rules.{Call, Complete, End, Mark, Start, Submit, Take}
 use Rattle.packets.specs.State.{packetIn}
@@ -24,7 +24,7 @@ use Rattle.packets.specs.declared.Leaving.{Leaving}
 use Rattle.packets.specs.declared.Leaving.the-variants.{AfterError, AfterNormal, Stays}
 use Rattle.packets.specs.declared.Lists.{Lists}
 use Rattle.lists.specs.Outcomes.{listsOf, outcome}
-use Rattle.selection.specs.Selecting.{Takes}
+use Rattle.cell_selection.specs.Selecting.{Takes}
 use Rattle.cell.specs.declared.Answered.{Answered}
 use Rattle.cell.specs.declared.Cell.{Cell}
 use Rattle.cell.specs.declared.DeckAnswer.{DeckAnswer}

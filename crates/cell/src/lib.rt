@@ -1,6 +1,6 @@
 // The cell: its schedule and its request lists in one value, and every call on it. The configuration is in the lists, as their channels.
+use cell_selection::Selection;
 use channels::Configuration;
-use held::Schedule;
 use numbers::ChannelNumber;
 use numbers::Outcome;
 use numbers::Refusal;
@@ -13,7 +13,7 @@ use packets::Lists;
 use packets::Spot;
 use packets::Status;
 use schedule::calls;
-use selection::Selection;
+use schedule_list::Schedule;
 ghost use mathlib.Core.Path.{_≡_};
 ghost use Rattle.packets.specs.Rules.{Submit, Start, Complete, End, Mark};
 ghost use Rattle.cell.specs.Calls.{freshCell, acted, leftBy, afterCompletion, afterEnd, releasing, deleting, answerOf, outcomeOf, statusOf, Enters, SelectsIn};
@@ -54,9 +54,9 @@ pub fn fresh(configuration: Configuration) -> Cell
     ensures { λ r. ⌜ r ≡ freshCell configuration ⌝ }
 {
     let channels = configuration.channels;
-    let units = cell_units::fresh(configuration);
+    let units = configuration_units::fresh(configuration);
     Cell {
-        schedule: held::empty(),
+        schedule: schedule_list::empty(),
         lists: lists::fresh(channels, units),
     }
 }
@@ -67,7 +67,7 @@ pub fn enter(cell: Cell, deck: &[u8], out: &mut [u8]) -> DeckAnswer
 {
     let schedule = cell.schedule;
     let lists = cell.lists;
-    let entered = deck_text::enter_deck(schedule, deck, out);
+    let entered = schedule_deck::enter_deck(schedule, deck, out);
     let outcome = entered.outcome;
     let with_deck = entered.schedule;
     DeckAnswer {
@@ -96,7 +96,7 @@ pub fn select(cell: Cell) -> SelectAnswer
 {
     let schedule = cell.schedule;
     let lists = cell.lists;
-    let taking = selection::select(schedule, lists);
+    let taking = cell_selection::select(schedule, lists);
     let selection = taking.selection;
     let with_job = taking.schedule;
     let after = taking.lists;
@@ -284,7 +284,7 @@ pub fn status(cell: Cell, place: u8, packet: u8) -> StatusAnswer
     let i = place as usize;
     let job = lists.jobs[i];
     let ps = job.packets;
-    let found = places::packet_in(ps, packet);
+    let found = packets_job::packet_in(ps, packet);
     let status = found.status;
     StatusAnswer::Is(status)
 }

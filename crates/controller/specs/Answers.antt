@@ -7,8 +7,8 @@ use Rattle.numbers.specs.declared.Coded.the-variants.{Is, Unknown}
 use Rattle.configuration.specs.declared.Verdict.{Verdict}
 use Rattle.configuration.specs.declared.Verdict.the-variants.{Good, Bad}
 use Rattle.functions.specs.Legal.{legalOf}
-use Rattle.core.specs.declared.Found.the-variants.{At, Nothing}
-use Rattle.core.specs.Core as Core
+use Rattle.assign_core.specs.declared.Found.the-variants.{At, Nothing}
+use Rattle.assign_core.specs.Core as Core
 
 -- a verdict as one number: the line of a bad configuration, 0 for a good one
 abbrev pub lineOf : Verdict → ℕ

@@ -1,11 +1,11 @@
 // What a controller links: functions over numbers and lent bytes, under names that C can call. Each hands its arguments on and keeps the promise of
 // the function that it calls. None has a state of its own or a `requires`; what no contract can ask of a caller in another language is in docs/LINKING.md.
+use assign_core::Found;
 use configuration::Verdict;
-use core::Found;
 use numbers::Coded;
 ghost use mathlib.Core.Path.{_≡_};
-ghost use Rattle.listing_text.specs.Listing.{Listed};
-ghost use Rattle.deck_text.specs.Reading.{Reported};
+ghost use Rattle.configuration_listing.specs.Listing.{Listed};
+ghost use Rattle.schedule_deck.specs.Reading.{Reported};
 ghost use Rattle.numbers.specs.Kinds.{kindOf};
 ghost use Rattle.configuration.specs.Configured.{configurationOf};
 ghost use Rattle.controller.specs.Answers.{lineOf, legalBy, Placed};
@@ -15,7 +15,7 @@ ghost use Rattle.controller.specs.Answers.{lineOf, legalBy, Placed};
 pub extern "C" fn luffgravel_listing(config: &[u8], out: &mut [u8]) -> usize
     ensures { λ r. ⌜ Listed (now (config .entry)) (now (out .entry)) (now (out .exit)) r ⌝ }
 {
-    listing_text::listing(config, out)
+    configuration_listing::listing(config, out)
 }
 
 // Puts what the deck program prints into lent room and answers its length. 53,248 bytes are enough; a smaller room gets what fits.
@@ -23,7 +23,7 @@ pub extern "C" fn luffgravel_listing(config: &[u8], out: &mut [u8]) -> usize
 pub extern "C" fn luffgravel_deck(deck: &[u8], out: &mut [u8]) -> usize
     ensures { λ r. ⌜ Reported (now (deck .entry)) (now (out .entry)) (now (out .exit)) r ⌝ }
 {
-    deck_text::report(deck, out)
+    schedule_deck::report(deck, out)
 }
 
 // The number by which a verdict goes.
@@ -63,7 +63,7 @@ pub extern "C" fn luffgravel_is_legal(first: u8, second: u8, function: u8) -> bo
 pub extern "C" fn luffgravel_core(taken: u32, ib: u32, db: u32, i: &mut u32, j: &mut u32) -> bool
     ensures { λ r. ⌜ Placed taken ib db (now (i .entry)) (now (j .entry)) (now (i .exit)) (now (j .exit)) r ⌝ }
 {
-    let found = core::search(taken, ib, db);
+    let found = assign_core::search(taken, ib, db);
     match found {
         Found::At(pair) => {
             *i = pair.0;

@@ -7,6 +7,6 @@ fn main() {
     let mut deck = io::large_buffer();
     let n = io::read_full(STDIN_FILENO, &mut deck);
     let mut room = io::large_buffer();
-    let length = deck_text::report(&deck[..n], &mut room);
+    let length = schedule_deck::report(&deck[..n], &mut room);
     io::write_all(STDOUT_FILENO, &room[..length]);
 }

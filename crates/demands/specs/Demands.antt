@@ -12,26 +12,25 @@ use Rattle.numbers.specs.declared.Refusal.{Refusal}
 use Rattle.numbers.specs.declared.Refusal.the-variants.{NothingSelected}
 use Rattle.channels.specs.declared.Configuration.{Configuration}
 use Rattle.configuration.specs.Configured.{configurationOf}
-use Rattle.form.specs.Meaning.{Means}
-use Rattle.fields.specs.Deck.{cardsOf}
+use Rattle.configuration_form.specs.Means.{Means}
+use Rattle.cards_fields.specs.Deck.{cardsOf}
 use Rattle.cards.specs.Group.{readGroup}
 use Rattle.cards.specs.declared.Request.{Request}
 use Rattle.cards.specs.declared.Verdict.the-variants.{Good}
-use Rattle.writing.specs.Writing.{fits, takes, textOf, written}
-use Rattle.held.specs.Held.{held}
+use Rattle.cards_writing.specs.Writing.{fits, takes, textOf, written}
+use Rattle.schedule_list.specs.Held.{held}
 use Rattle.packets.specs.Codes.{statusAfter}
 use Rattle.packets.specs.Demand.{Holding, Holds, Isolated, Stretch}
 use Rattle.packets.specs.Rules as Rules
 use Rattle.packets.specs.State.{packetIn}
 use Rattle.packets.specs.declared.Verdict.the-variants.{Granted}
-use Rattle.selection.specs.Selecting.{Selected}
-use Rattle.selection.specs.SelectingLaws.{NoneToSelect}
-use Rattle.selection.specs.declared.Selection.{Selection}
+use Rattle.cell_selection.specs.Selecting.{Selected, NoneToSelect}
+use Rattle.cell_selection.specs.declared.Selection.{Selection}
 use Rattle.cell.specs.Calls.{Enters, freshCell}
 use Rattle.cell.specs.declared.Cell.{Cell}
 use Rattle.cell.specs.declared.DeckAnswer.{DeckAnswer}
-use Rattle.history.specs.Heard.{heard, inside}
-use Rattle.history.specs.History.{Call, Chosen, Does, Event, Leads, Reply, Select}
+use Rattle.cell_history.specs.Heard.{heard, inside}
+use Rattle.cell_history.specs.History.{Call, Chosen, Does, Event, Leads, Reply, Select}
 use Rattle.demands.specs.Refusing.{refusalIn}
 
 -- "1. Every card, deck, configuration and call is answered, whatever is in it. Bad input gets document 01's number, and after a refused call

@@ -1,4 +1,2 @@
 pub mod Refusing
 pub mod Demands
-pub mod Standing
-pub mod Proved

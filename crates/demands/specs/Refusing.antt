@@ -7,7 +7,7 @@ use Rattle.packets.specs.declared.Answer.{Answer}
 use Rattle.packets.specs.declared.Answer.the-variants as Answers
 use Rattle.cell.specs.declared.StatusAnswer.{StatusAnswer}
 use Rattle.cell.specs.declared.StatusAnswer.the-variants as Statuses
-use Rattle.history.specs.History.{Chosen, Entered, Reply, Said, Shown}
+use Rattle.cell_history.specs.History.{Chosen, Entered, Reply, Said, Shown}
 
 abbrev pub ofOutcome : Outcome → Option Refusal
 ofOutcome Outcomes.Done = none

@@ -11,7 +11,7 @@ use lib.ListN.{length, getD}
 use Rattle.numbers.specs.declared.Kind.{Kind}
 use Rattle.numbers.specs.declared.Kind.the-variants.{Ma, Mt, Pr, Md}
 use Rattle.numbers.specs.Kinds.{rowOf}
-use Rattle.numbers.specs.KindLaws.{kindAt, kind-at}
+use Rattle.numbers.proofs.KindLaws.{kindAt, kind-at}
 use Rattle.functions.specs.Legal.{own, common, has, legalOf}
 use Rattle.functions.proofs.Entries.{every, both-left, both-right, at}
 

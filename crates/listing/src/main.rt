@@ -7,6 +7,6 @@ fn main() {
     let mut text = io::buffer();
     let n = io::read_full(STDIN_FILENO, &mut text);
     let mut room = [0u8; 128];
-    let length = listing_text::listing(&text[..n], &mut room);
+    let length = configuration_listing::listing(&text[..n], &mut room);
     io::write_all(STDOUT_FILENO, &room[..length]);
 }

@@ -7,15 +7,15 @@ use native.Mathlib.Omega.{arith}
 use lib.ListN.{length, getD, set}
 use lib.Dec.{ltb}
 use borrow.Author.Tests.{ltb-true}
-use Rattle.numbers.specs.Tests.{by-bool}
+use Rattle.numbers.proofs.Tests.{by-bool}
 use Rattle.numbers.specs.declared.Refusal.the-variants.{NothingInProgress, OutOfRange, WrongCompletion}
 use Rattle.units.specs.State.{unitsFrom}
 use Rattle.units.specs.declared.Units.{Units}
 use Rattle.channels.specs.declared.Fitted.{Fitted}
-use Rattle.packets.specs.Laws.{and-left, clash, not-false, passes}
+use Rattle.packets.proofs.Laws.{and-left, clash, not-false, passes}
 use Rattle.packets.specs.Rules.{Complete, accept, answer, atUnit, broken, codeFor, completed, completes, failed, finished, first, isFailure, isWrong, leaving, movingStatus, over, refusal, returnIfDone}
 use Rattle.packets.specs.State.{State, blank, carrying, configured, drumOn, fittedOn, isDrumOf, isIdle, isListed, jobIn, lock, motionOn, move, noJob, packetIn, relist, restatus, setLock, store, sweep, withPackets, withStatus}
-use Rattle.packets.specs.Told.{configured-in}
+use Rattle.packets.proofs.Told.{configured-in}
 use Rattle.packets.specs.declared.Acted.{Acted}
 use Rattle.packets.specs.declared.Answer.the-variants.{Completed}
 use Rattle.packets.specs.declared.Carrier.{Carrier}
@@ -31,9 +31,9 @@ use Rattle.packets.specs.declared.Status.{Status}
 use Rattle.packets.specs.declared.Status.the-variants.{Blank, Ended, InProgress, Listed, Stopping}
 use Rattle.packets.specs.declared.Verdict.{Verdict}
 use Rattle.packets.specs.declared.Verdict.the-variants.{Granted}
-use Rattle.queue.specs.Padded.{Relisted, listOf}
-use Rattle.places.specs.Aims.{statusSet}
-use Rattle.endings.specs.Over.{endingOf, overJob}
+use Rattle.packets_queue.specs.Padded.{Relisted, listOf}
+use Rattle.packets_job.specs.Aims.{statusSet}
+use Rattle.packets_end.specs.Over.{endingOf, overJob}
 use Rattle.lists.proofs.Calls.{granted-is, small-is}
 use Rattle.lists.proofs.Focus.{ending-packets, fewer-map, focus, focus-leaving, focus-return, focus-self, focus-store, focus-sweep, relist-twice, reunit}
 use Rattle.lists.specs.Outcomes.{listsOf, outcome, stateOf}

@@ -5,11 +5,11 @@ use mathlib.Core.Bool.{Bool, true, false, cond, not, _&&_}
 use mathlib.Core.List.{List, [], _∷_, map}
 use lib.ListN.{length, getD, set}
 use lib.Seq.{getD-set-same, set-getD, set-set}
-use Rattle.numbers.specs.Tests.{by-bool}
+use Rattle.numbers.proofs.Tests.{by-bool}
 use Rattle.units.specs.declared.Unit.{Unit as UnitState}
 use Rattle.packets.specs.Rules.{leaving, returnIfDone}
-use Rattle.endings.specs.Over.{endingIf, endingOf}
-use Rattle.packets.specs.Laws.{clash}
+use Rattle.packets_end.specs.Over.{endingIf, endingOf}
+use Rattle.packets.proofs.Laws.{clash}
 use Rattle.packets.specs.Picks.{keep}
 use lib.Dec.{eqb}
 use Rattle.packets.specs.State.{State, anyMoves, blank, close, isClosing, isKept, isListed, jobIn, noJob, packetOf, placeOf, put, releaseAll, relist, restatus, restatusAll, setState, stateIn, store, sweep, withPackets, withState}

@@ -1,3 +1,4 @@
+pub mod History
 pub mod Parts
 pub mod Full
 pub mod Focus

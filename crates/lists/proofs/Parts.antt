@@ -5,7 +5,7 @@ use mathlib.Core.Bool.{not}
 use native.Mathlib.Omega.{arith}
 use lib.Dec.{ltb}
 use borrow.Author.Tests.{lt-ltb, le-ltb, ltb-true, ltb-false}
-use Rattle.numbers.specs.Tests.{by-bool}
+use Rattle.numbers.proofs.Tests.{by-bool}
 
 -- past 15, as the code tests it
 pub past-is : (p : ℕ) → ltb 15 p ≡ not (ltb p 16)

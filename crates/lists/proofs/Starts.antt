@@ -6,13 +6,13 @@ use mathlib.Core.List.{List}
 use mathlib.Core.Option.{Option, none, some}
 use native.Mathlib.Omega.{arith}
 use lib.ListN.{length, getD, set}
-use Rattle.numbers.specs.Tests.{by-bool}
+use Rattle.numbers.proofs.Tests.{by-bool}
 use Rattle.numbers.specs.declared.Refusal.the-variants.{ChannelBusy, NothingStartable, OutOfRange}
-use Rattle.packets.specs.Laws.{clash, not-false, passes}
+use Rattle.packets.proofs.Laws.{clash, not-false, passes}
 use Rattle.packets.specs.Picks.{find}
 use Rattle.packets.specs.Rules.{Start, accept, answer, begins, begun, first, isNone, refusal, startable, startableOn, started}
 use Rattle.packets.specs.State.{State, carrying, configured, drumOn, fittedOn, isDrumOf, isIdle, jobIn, motionOn, move, noJob, packetIn, packetOf, placeOf, relist, store, withPackets, withStatus}
-use Rattle.packets.specs.Told.{configured-in}
+use Rattle.packets.proofs.Told.{configured-in}
 use Rattle.packets.specs.declared.Acted.{Acted}
 use Rattle.packets.specs.declared.Answer.{Answer}
 use Rattle.packets.specs.declared.Carrier.{Carrier}
@@ -24,8 +24,8 @@ use Rattle.packets.specs.declared.RequestList.{RequestList}
 use Rattle.packets.specs.declared.Status.the-variants.{InProgress}
 use Rattle.packets.specs.declared.Verdict.{Verdict}
 use Rattle.packets.specs.declared.Verdict.the-variants.{Granted}
-use Rattle.queue.specs.Padded.{Relisted, foundOf, listOf}
-use Rattle.places.specs.Aims.{statusSet}
+use Rattle.packets_queue.specs.Padded.{Relisted, foundOf, listOf}
+use Rattle.packets_job.specs.Aims.{statusSet}
 use Rattle.lists.proofs.Calls.{granted-is}
 use Rattle.lists.proofs.Focus.{focus, focus-self, focus-store}
 use Rattle.lists.specs.Outcomes.{listsOf, outcome, stateOf}

@@ -7,13 +7,13 @@ use native.Mathlib.Omega.{arith}
 use lib.ListN.{length, getD, set}
 use lib.Dec.{eqb, ltb}
 use borrow.Author.Tests.{eqb-true, ltb-true}
-use Rattle.numbers.specs.Tests.{by-bool}
+use Rattle.numbers.proofs.Tests.{by-bool}
 use Rattle.numbers.specs.declared.Refusal.the-variants.{OutOfRange}
 use Rattle.units.specs.State.{unitIn, unitsFrom}
 use Rattle.units.specs.declared.Unit.{Unit as UnitState}
 use Rattle.units.specs.declared.Units.{Units}
 use Rattle.channels.specs.declared.Fitted.{Fitted}
-use Rattle.packets.specs.Laws.{and-left, and-right, not-false, passes}
+use Rattle.packets.proofs.Laws.{and-left, and-right, not-false, passes}
 use Rattle.packets.specs.Rules.{Submit, accept, aimed, answer, atOf, atUnit, cut, enlist, failed, inRange, locked, packet, pass, refusal, submitRefusal, submitted, toOf}
 use Rattle.packets.specs.State.{State, drumOn, enqueue, entryOf, fittedOn, isDrumOf, jobIn, noJob, relist, restatus, setLock, store, sweep, withPackets}
 use Rattle.packets.specs.declared.Acted.{Acted}
@@ -27,8 +27,8 @@ use Rattle.packets.specs.declared.Status.{Status}
 use Rattle.packets.specs.declared.Status.the-variants.{Ended, Listed}
 use Rattle.packets.specs.declared.Verdict.{Verdict}
 use Rattle.packets.specs.declared.Verdict.the-variants.{Granted}
-use Rattle.queue.specs.Padded.{listOf, padded}
-use Rattle.submission.specs.After.{isUnlocking, jobAfter}
+use Rattle.packets_queue.specs.Padded.{listOf, padded}
+use Rattle.packets_submit.specs.After.{isUnlocking, jobAfter}
 use Rattle.lists.proofs.Calls.{granted-is, small-is}
 use Rattle.lists.proofs.Focus.{fewer-set, focus, focus-self, focus-store, focus-sweep, relist-twice, reunit}
 use Rattle.lists.specs.Outcomes.{listsOf, outcome, stateOf}

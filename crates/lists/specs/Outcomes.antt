@@ -11,7 +11,7 @@ use Rattle.packets.specs.declared.Lists.{Lists}
 use Rattle.packets.specs.declared.Acted.{Acted}
 use Rattle.packets.specs.declared.Verdict.{Verdict}
 use Rattle.packets.specs.declared.Verdict.the-variants.{Denied, Granted}
-use Rattle.queue.specs.Padded.{Tidy, listOf, padded}
+use Rattle.packets_queue.specs.Padded.{Tidy, listOf, padded}
 
 -- the state that the rules speak of
 abbrev pub stateOf : Lists → State

@@ -5,7 +5,7 @@ use mathlib.Core.List.{List}
 use lib.ListN.{getD}
 use Rattle.units.specs.declared.Unit.{Unit as UnitState}
 use Rattle.packets.specs.State.{blank, enlisted, packetOf, placeOf, releaseAll, setLock}
-use Rattle.submission.specs.After.{isListing}
+use Rattle.packets_submit.specs.After.{isListing}
 use Rattle.packets.specs.declared.Answer.{Answer}
 use Rattle.packets.specs.declared.Answer.the-variants.{Started}
 use Rattle.packets.specs.declared.Found.{Found}

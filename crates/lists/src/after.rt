@@ -14,17 +14,17 @@ ghost use mathlib.Core.Path.{_≡_};
 ghost use Rattle.units.specs.State.{unitIn, unitSet, unitsFrom, markedUnit};
 ghost use Rattle.packets.specs.declared.Motion.the-variants.{Idle, Busy};
 ghost use Rattle.packets.specs.State.{carrying, placeOf, packetOf, relist};
-ghost use Rattle.queue.specs.Padded.{listOf, padded};
+ghost use Rattle.packets_queue.specs.Padded.{listOf, padded};
 ghost use Rattle.lists.specs.Parts.{listAfter, listedAs, entryIn, placeIn, packetNo, startedAt, unitsAfter};
 
 // The list after a submission of packet p of the job in place j; any function but 07 and 23 is listed, as the youngest.
 pub fn list_of(job: Job, j: u8, p: u8, f: u8, list: RequestList) -> RequestList
     ensures { λ r. ⌜ r ≡ padded (listAfter f (listedAs j p) (relist j (job .packets) (listOf list))) ⌝ }
 {
-    if submission::is_listing(f) {
-        return queue::relisted_with(job, j, list, (j % 16) * 16 + p % 16);
+    if packets_submit::is_listing(f) {
+        return packets_queue::relisted_with(job, j, list, (j % 16) * 16 + p % 16);
     }
-    queue::relisted(job, j, list)
+    packets_queue::relisted(job, j, list)
 }
 
 // The entry that was found; 0 where none was.
@@ -41,7 +41,7 @@ pub fn entry_of(found: Found) -> u8
 pub fn started(ps: [Packet; 16], e: u8) -> Answer
     ensures { λ r. ⌜ r ≡ startedAt ps e ⌝ }
 {
-    let q = places::packet_in(ps, e % 16);
+    let q = packets_job::packet_in(ps, e % 16);
     Answer::Started(Begun {
         place: e / 16,
         packet: e % 16,
@@ -98,13 +98,13 @@ pub fn units_of(units: Units, c: ChannelNumber, a: u32, breaking: bool, j: u8, d
         if !done {
             return units;
         }
-        return holders::released(units, j);
+        return packets_units::released(units, j);
     }
-    let shut = holders::with_lock(units, c, a, true);
+    let shut = packets_units::with_lock(units, c, a, true);
     if !done {
         return shut;
     }
-    holders::released(shut, j)
+    packets_units::released(shut, j)
 }
 
 // The units with one mark of unit u of channel c set or cleared.

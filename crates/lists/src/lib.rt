@@ -25,8 +25,8 @@ ghost use Rattle.lists.specs.Outcomes.{listsOf, outcome};
 pub fn fresh(channels: [Channel; 16], units: Units) -> Lists
     ensures { λ r. ⌜ r ≡ listsOf (fresh channels (units .of)) ⌝ }
 {
-    let jobs = [places::empty(); 16];
-    let list = queue::empty();
+    let jobs = [packets_job::empty(); 16];
+    let list = packets_queue::empty();
     let moving = [Carrier {
         motion: Motion::Idle,
     }; 16];
@@ -54,24 +54,32 @@ pub fn submit(
     let mut answer = Answer::Done;
     let channels = next.channels;
     let units = next.units;
-    let has = carriers::fitted_on(channels, channel);
-    let at = submission::at_of(spot);
-    let unit = holders::unit_of(units, channel, at);
+    let has = packets_channels::fitted_on(channels, channel);
+    let at = packets_submit::at_of(spot);
+    let unit = packets_units::unit_of(units, channel, at);
     let i = (place % 16) as usize;
     let job = next.jobs[i];
-    match submission::verdict(has, job, unit, place, packet, function, channel, spot) {
+    match packets_submit::verdict(has, job, unit, place, packet, function, channel, spot) {
         Verdict::Denied(refusal) => {
             answer = Answer::Refused(refusal);
         }
         Verdict::Granted => {
-            let unlocking = submission::is_unlocking(function, has, unit);
-            let gone = submission::job_after(job, packet, function, channel, spot, has, unlocking);
+            let unlocking = packets_submit::is_unlocking(function, has, unit);
+            let gone = packets_submit::job_after(
+                job,
+                packet,
+                function,
+                channel,
+                spot,
+                has,
+                unlocking,
+            );
             next.jobs[i] = gone;
             let list = next.list;
             let left = after::list_of(gone, place, packet, function, list);
             next.list = left;
             if unlocking {
-                let open = holders::with_lock(units, channel, at, false);
+                let open = packets_units::with_lock(units, channel, at, false);
                 next.units = open;
             }
         }
@@ -92,8 +100,8 @@ pub fn start(lists: Lists, channel: ChannelNumber) -> Acted
     let jobs = next.jobs;
     let list = next.list;
     let units = next.units;
-    let drum = carriers::is_drum(carriers::fitted_on(channels, channel));
-    let found = queue::oldest(units, jobs, list, drum, channel);
+    let drum = packets_channels::is_drum(packets_channels::fitted_on(channels, channel));
+    let found = packets_queue::oldest(units, jobs, list, drum, channel);
     let c = (channel.0 % 16) as usize;
     let carrier = next.moving[c];
     let motion = carrier.motion;
@@ -107,10 +115,10 @@ pub fn start(lists: Lists, channel: ChannelNumber) -> Acted
             let mut job = next.jobs[i];
             let ps = job.packets;
             answer = after::started(ps, e);
-            let qs = places::with_status_at(ps, e % 16, Status::InProgress);
+            let qs = packets_job::with_status_at(ps, e % 16, Status::InProgress);
             job.packets = qs;
             next.jobs[i] = job;
-            let left = queue::relisted(job, e / 16, list);
+            let left = packets_queue::relisted(job, e / 16, list);
             next.list = left;
             let busy = after::busy_with(e);
             next.moving[c] = busy;
@@ -136,7 +144,7 @@ pub fn complete(lists: Lists, channel: ChannelNumber, how: How) -> Acted
     let i = (j % 16) as usize;
     let job = next.jobs[i];
     let ps = job.packets;
-    let q = places::packet_in(ps, p);
+    let q = packets_job::packet_in(ps, p);
     match verdicts::of_complete(channels, carrier, q, how, channel) {
         Verdict::Denied(refusal) => {
             answer = Answer::Refused(refusal);
@@ -145,12 +153,15 @@ pub fn complete(lists: Lists, channel: ChannelNumber, how: How) -> Acted
             let idle = after::idle();
             next.moving[c] = idle;
             let moving = next.moving;
-            let breaking = endings::is_breaking(how, carriers::fitted_on(channels, channel));
-            let over = endings::over(job, p, how, channel, breaking, moving, j);
+            let breaking = packets_end::is_breaking(
+                how,
+                packets_channels::fitted_on(channels, channel),
+            );
+            let over = packets_end::over(job, p, how, channel, breaking, moving, j);
             let gone = over.job;
             next.jobs[i] = gone;
             let list = next.list;
-            let left = queue::relisted(gone, j, list);
+            let left = packets_queue::relisted(gone, j, list);
             next.list = left;
             let leaving = over.leaving;
             answer = Answer::Completed(j, p, leaving);
@@ -182,17 +193,17 @@ pub fn end(lists: Lists, place: u8, in_error: bool) -> Acted
         }
         Verdict::Granted => {
             let moving = next.moving;
-            let shut = endings::closed(job, in_error, moving, place);
+            let shut = packets_end::closed(job, in_error, moving, place);
             let gone = shut.job;
             next.jobs[i] = gone;
             let list = next.list;
-            let left = queue::relisted(gone, place, list);
+            let left = packets_queue::relisted(gone, place, list);
             next.list = left;
             let leaving = shut.leaving;
             answer = Answer::Closed(leaving);
             if shut.done {
                 let units = next.units;
-                let free = holders::released(units, place);
+                let free = packets_units::released(units, place);
                 next.units = free;
             }
         }
@@ -218,11 +229,11 @@ pub fn take(lists: Lists, place: u8, assignment: Assignment) -> Acted
         }
         Verdict::Granted => {
             let core = assignment.core;
-            let job = places::running(assignment.from, assignment.words, core);
+            let job = packets_job::running(assignment.from, assignment.words, core);
             next.jobs[i] = job;
             let wanted = assignment.units;
             let units = next.units;
-            let held = holders::taken(units, place, wanted);
+            let held = packets_units::taken(units, place, wanted);
             next.units = held;
         }
     }
@@ -245,7 +256,7 @@ pub fn mark(
     let mut next = lists;
     let mut answer = Answer::Done;
     let channels = next.channels;
-    let has = carriers::fitted_on(channels, channel);
+    let has = packets_channels::fitted_on(channels, channel);
     match verdicts::of_mark(has, channel, unit) {
         Verdict::Denied(refusal) => {
             answer = Answer::Refused(refusal);

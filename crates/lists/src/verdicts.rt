@@ -49,7 +49,7 @@ fn is_nowhere(found: Found) -> bool
 pub fn of_start(channels: [Channel; 16], motion: Motion, found: Found, c: ChannelNumber) -> Verdict
     ensures { λ r. ⌜ r ≡ first (not (configured channels (c .0))) OutOfRange (first (not (isIdle motion)) ChannelBusy (first (isNowhere found) NothingStartable Granted)) ⌝ }
 {
-    if !carriers::is_configured(channels, c) {
+    if !packets_channels::is_configured(channels, c) {
         return Verdict::Denied(Refusal::OutOfRange);
     }
     if !is_idle(motion) {
@@ -73,13 +73,13 @@ pub fn of_complete(
 {
     let motion = carrier.motion;
     let status = packet.status;
-    if !carriers::is_configured(channels, c) {
+    if !packets_channels::is_configured(channels, c) {
         return Verdict::Denied(Refusal::OutOfRange);
     }
     if is_idle(motion) {
         return Verdict::Denied(Refusal::NothingInProgress);
     }
-    if endings::is_wrong(status, how) {
+    if packets_end::is_wrong(status, how) {
         return Verdict::Denied(Refusal::WrongCompletion);
     }
     Verdict::Granted
@@ -91,7 +91,7 @@ pub fn of_end(state: JobState, j: u8) -> Verdict
     if 15 < j {
         return Verdict::Denied(Refusal::OutOfRange);
     }
-    if !places::is_running(state) {
+    if !packets_job::is_running(state) {
         return Verdict::Denied(Refusal::NoJob);
     }
     Verdict::Granted
@@ -126,7 +126,7 @@ pub fn of_mark(has: Fitted, c: ChannelNumber, u: UnitNumber) -> Verdict
     if 15 < c.0 {
         return Verdict::Denied(Refusal::OutOfRange);
     }
-    if !carriers::has_spot(has, Spot::OnUnit(u)) {
+    if !packets_channels::has_spot(has, Spot::OnUnit(u)) {
         return Verdict::Denied(Refusal::OutOfRange);
     }
     Verdict::Granted

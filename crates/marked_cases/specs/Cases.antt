@@ -10,11 +10,11 @@ use Rattle.cards.specs.Group.{readGroup}
 use Rattle.cards.specs.declared.Facilities.{Facilities}
 use Rattle.cards.specs.declared.Verdict.{Verdict}
 use Rattle.cards.specs.declared.Verdict.the-variants.{Good, Wrong}
-use Rattle.deck_text.specs.Report.{deckText}
-use Rattle.facilities.specs.Assignment.{Cell}
-use Rattle.facilities.specs.Chosen.{Assigns}
-use Rattle.facilities.specs.declared.Assigned.{Assigned}
-use Rattle.marked.specs.Facilities.{Seen, asks, cellWith, drumChannels, found, freshCore, k4Core, mtChannels, mtUnits, noUnits, none, seen}
+use Rattle.schedule_deck.specs.Report.{deckText}
+use Rattle.assign.specs.Assignment.{Cell}
+use Rattle.assign.specs.Chosen.{Assigns}
+use Rattle.assign.specs.declared.Assigned.{Assigned}
+use Rattle.marked_cases.specs.Facilities.{Seen, asks, cellWith, drumChannels, found, freshCore, k4Core, mtChannels, mtUnits, noUnits, none, seen}
 use Rattle.packets.specs.EndsMoving.{Shown, cell, moving, shown}
 use Rattle.packets.specs.Rules.{Call, Complete}
 use Rattle.packets.specs.declared.Answer.the-variants.{Closed, Completed, Done, Started}

@@ -1,2 +1,2 @@
+pub mod Facilities
 pub mod Cases
-pub mod CasesProof

@@ -1,10 +1,4 @@
 pub mod Quoted
 pub mod Kinds
 pub mod Refusals
-pub mod Tests
-pub mod KindLaws
 pub mod Decides
-pub mod DecidesLaws
-pub mod Stores
-pub mod Find
-pub mod Tables

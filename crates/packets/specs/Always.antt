@@ -8,12 +8,9 @@ use Rattle.units.specs.declared.Unit.{Unit as UnitState}
 use Rattle.units.specs.State.{unitIn}
 use Rattle.channels.specs.declared.Channel.{Channel}
 use Rattle.packets.specs.Demand.{NoneHeld, fresh}
-use Rattle.packets.specs.Inv.{inMotion}
-use Rattle.packets.specs.Laws.{All}
-use Rattle.packets.specs.Once.{Nodup}
-use Rattle.packets.specs.Picks.{any}
+use Rattle.packets.specs.State.{inMotion, State, drumOn, entryOf, heldBy, isBusy, isListed, isStill, motionOn, packetIn}
+use Rattle.packets.specs.Picks.{All, Nodup, any}
 use Rattle.packets.specs.Rules.{Call, run}
-use Rattle.packets.specs.State.{State, drumOn, entryOf, heldBy, isBusy, isListed, isStill, motionOn, packetIn}
 use Rattle.packets.specs.declared.Motion.the-variants.{Busy}
 use Rattle.packets.specs.declared.Packet.{Packet}
 

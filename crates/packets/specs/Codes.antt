@@ -11,8 +11,7 @@ use Rattle.channels.specs.declared.Channel.{Channel}
 use Rattle.packets.specs.Demand.{NoneHeld, fresh}
 use Rattle.packets.specs.Picks.{find}
 use Rattle.packets.specs.Rules.{Call, Complete, End, Mark, Start, Submit, Take, accept, aimed, atOf, atUnit, codeFor, cut, failed, isFailure, locked, refusal, run, startable, step, toOf}
-use Rattle.packets.specs.Sound.{isPacket}
-use Rattle.packets.specs.State.{State, drumOn, motionOn, packetIn, packetOf, placeOf}
+use Rattle.packets.specs.State.{isPacket, State, drumOn, motionOn, packetIn, packetOf, placeOf}
 use Rattle.packets.specs.declared.How.{How}
 use Rattle.packets.specs.declared.Motion.{Motion}
 use Rattle.packets.specs.declared.Motion.the-variants.{Busy, Idle}

@@ -268,3 +268,14 @@ move s c m =
 -- the state of the job in place j
 abbrev pub close : State → ℕ → JobState → State
 close s j t = record { channels = s .channels; units = s .units; moving = s .moving; jobs = setState (s .jobs) j t; queue = s .queue }
+
+abbrev pub inMotion : Status → Bool
+inMotion Blank = false
+inMotion Listed = false
+inMotion InProgress = true
+inMotion Stopping = true
+inMotion (Ended k) = false
+
+-- packet p of place j
+abbrev pub isPacket : ℕ → ℕ → ℕ → ℕ → Bool
+isPacket j p i n = eqb i j && eqb n p

@@ -7,22 +7,22 @@ use native.Mathlib.Omega.{arith}
 use lib.Dec.{leb}
 use lib.ListN.{length, getD, take, drop, length-append, length-take, length-drop}
 use borrow.Author.Tests.{lt-ltb, le-ltb, le-leb, lt-leb}
-use Rattle.numbers.specs.Tests.{never}
+use Rattle.numbers.proofs.Tests.{never}
 use Rattle.numbers.specs.declared.Refusal.the-variants.{NoSuchRequest, JobRuns}
 use Rattle.cards.specs.Errors.{good, errorIf, orElse}
-use Rattle.cards.specs.ErrorLaws.{not-good, good-is}
+use Rattle.cards.proofs.ErrorLaws.{not-good, good-is}
 use Rattle.cards.specs.declared.CardError.the-variants.{InSchedule, SamePriority, SameSequence, ScheduleFull}
 use Rattle.cards.specs.declared.Verdict.{Verdict}
 use Rattle.cards.specs.declared.Verdict.the-variants.{Good, Wrong}
 use Rattle.cards.specs.declared.Request.{Request}
-use Rattle.entries.specs.Entries.{answers, keyOf, sameKey, waiting, suspended, active, serial, firstState, blank}
-use Rattle.entries.specs.declared.State.{State}
-use Rattle.entries.specs.declared.State.the-variants.{Waiting, Suspended}
-use Rattle.entries.specs.declared.Entry.{Entry}
-use Rattle.entries.specs.declared.Query.{Query}
-use Rattle.held.specs.Held.{most, held, scheduleOf, first, any, there, without, withState, inserted, insertedInto, changedAt, ofId, ofPlace}
-use Rattle.held.specs.HeldLaws.{holds-held}
-use Rattle.held.specs.declared.Schedule.{Schedule}
+use Rattle.schedule_entries.specs.Entries.{answers, keyOf, sameKey, waiting, suspended, active, serial, firstState, blank}
+use Rattle.schedule_entries.specs.declared.State.{State}
+use Rattle.schedule_entries.specs.declared.State.the-variants.{Waiting, Suspended}
+use Rattle.schedule_entries.specs.declared.Entry.{Entry}
+use Rattle.schedule_entries.specs.declared.Query.{Query}
+use Rattle.schedule_list.specs.Held.{most, held, scheduleOf, first, any, there, without, withState, inserted, insertedInto, changedAt, ofId, ofPlace}
+use Rattle.schedule_list.proofs.HeldLaws.{holds-held}
+use Rattle.schedule_list.specs.declared.Schedule.{Schedule}
 use Rattle.schedule.specs.Calls.{ofName, ofJob, barred, sameThere, clashError, enterError, entered, enteringBy, enteringAt, refused, done, releasedAt, deletedAt, returnedAt}
 use Rattle.schedule.specs.Candidates.{headed, running, runningAlone, candidate}
 use Rattle.schedule.specs.declared.Entering.{Entering}

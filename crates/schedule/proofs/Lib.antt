@@ -1,2 +1,3 @@
+pub mod CandidateLaws
 pub mod Cases
 pub mod Marking

@@ -6,13 +6,13 @@ use mathlib.Core.List.{List, _∷_}
 use native.Mathlib.Omega.{arith}
 use lib.ListN.{length, getD, take, drop, set, replicate, length-set, drop-of-length-le}
 use lib.Seq.{getD-set-other}
-use Rattle.numbers.specs.Stores.{stored}
-use Rattle.entries.specs.Entries.{keyOf, lowerSequence, active, serial}
-use Rattle.entries.specs.declared.Entry.{Entry}
-use Rattle.entries.specs.declared.Key.{Key}
-use Rattle.held.specs.Held.{held, any, entryAt, noKey}
-use Rattle.held.specs.HeldLaws.{entry-step, held-at, held-few, held-sized}
-use Rattle.held.specs.declared.Schedule.{Schedule}
+use Rattle.numbers.proofs.Stores.{stored}
+use Rattle.schedule_entries.specs.Entries.{keyOf, lowerSequence, active, serial}
+use Rattle.schedule_entries.specs.declared.Entry.{Entry}
+use Rattle.schedule_entries.specs.declared.Key.{Key}
+use Rattle.schedule_list.specs.Held.{held, any, entryAt, noKey}
+use Rattle.schedule_list.proofs.HeldLaws.{entry-step, held-at, held-few, held-sized}
+use Rattle.schedule_list.specs.declared.Schedule.{Schedule}
 use Rattle.schedule.specs.Candidates.{running, runningAlone, headed, candidate, Marks}
 use Rattle.schedule.specs.Marking.{Keys, Outlines, Heads, Tells}
 use Rattle.schedule.specs.declared.candidates.Outline.{Outline}

@@ -4,9 +4,9 @@ use mathlib.Core.Path.{_≡_}
 use mathlib.Core.Bool.{Bool, false, _&&_, not}
 use mathlib.Core.List.{List}
 use lib.ListN.{length, getD}
-use Rattle.entries.specs.Entries.{keyOf, lowerSequence, waiting, active, serial}
-use Rattle.entries.specs.declared.Entry.{Entry}
-use Rattle.held.specs.Held.{any, entryAt}
+use Rattle.schedule_entries.specs.Entries.{keyOf, lowerSequence, waiting, active, serial}
+use Rattle.schedule_entries.specs.declared.Entry.{Entry}
+use Rattle.schedule_list.specs.Held.{any, entryAt}
 
 -- "no job runs or closes", and "while [an S-type job] runs or closes, nothing is [a candidate]"
 abbrev pub running : List Entry → Bool

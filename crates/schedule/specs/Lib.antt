@@ -1,4 +1,3 @@
 pub mod Calls
 pub mod Candidates
-pub mod CandidateLaws
 pub mod Marking

@@ -4,10 +4,10 @@ use mathlib.Core.Path.{_≡_}
 use mathlib.Core.Bool.{Bool}
 use mathlib.Core.List.{List}
 use lib.ListN.{length, getD}
-use Rattle.entries.specs.Entries.{keyOf}
-use Rattle.entries.specs.declared.Entry.{Entry}
-use Rattle.entries.specs.declared.Key.{Key}
-use Rattle.held.specs.Held.{noKey, entryAt}
+use Rattle.schedule_entries.specs.Entries.{keyOf}
+use Rattle.schedule_entries.specs.declared.Entry.{Entry}
+use Rattle.schedule_entries.specs.declared.Key.{Key}
+use Rattle.schedule_list.specs.Held.{noKey, entryAt}
 use Rattle.schedule.specs.Candidates.{running, runningAlone, headed, candidate}
 use Rattle.schedule.specs.declared.candidates.Outline.{Outline}
 

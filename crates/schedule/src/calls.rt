@@ -4,13 +4,13 @@ use crate::Entering;
 use cards::CardError;
 use cards::Request;
 use cards::Verdict;
-use entries::Question;
-use entries::State;
-use held::Schedule;
 use numbers::Outcome;
 use numbers::Refusal;
+use schedule_entries::Question;
+use schedule_entries::State;
+use schedule_list::Schedule;
 ghost use mathlib.Core.Path.{_≡_};
-ghost use Rattle.held.specs.Held.{held};
+ghost use Rattle.schedule_list.specs.Held.{held};
 ghost use Rattle.schedule.specs.Calls.{sameThere, clashError, barred, entering, released, deleted, taken, closing, returned, refused, done};
 
 // Whether a request without sequence has the letter and precedence of one of these.
@@ -18,7 +18,7 @@ fn is_same_there(others: Schedule, request: Request) -> bool
     ensures { λ r. ⌜ r ≡ sameThere (held others) request ⌝ }
 {
     if request.sequence == 0 {
-        return held::has(others, held::of_key(Question::Ranked, request));
+        return schedule_list::has(others, schedule_list::of_key(Question::Ranked, request));
     }
     false
 }
@@ -30,10 +30,10 @@ fn clash(others: Schedule, request: Request) -> Verdict
     if is_same_there(others, request) {
         return Verdict::Wrong(CardError::SamePriority);
     }
-    if held::has(others, held::of_key(Question::Keyed, request)) {
+    if schedule_list::has(others, schedule_list::of_key(Question::Keyed, request)) {
         return Verdict::Wrong(CardError::SameSequence);
     }
-    if 64 <= held::size(others) {
+    if 64 <= schedule_list::size(others) {
         return Verdict::Wrong(CardError::ScheduleFull);
     }
     Verdict::Good
@@ -43,10 +43,10 @@ fn clash(others: Schedule, request: Request) -> Verdict
 fn is_barred(schedule: Schedule, k: usize) -> bool
     ensures { λ r. ⌜ r ≡ barred k (held schedule) ⌝ }
 {
-    if k < held::size(schedule) {
-        let entry = held::entry_at(schedule, k);
+    if k < schedule_list::size(schedule) {
+        let entry = schedule_list::entry_at(schedule, k);
         let state = entry.state;
-        return !entries::is_suspended(state);
+        return !schedule_entries::is_suspended(state);
     }
     false
 }
@@ -63,16 +63,16 @@ pub fn enter(schedule: Schedule, request: Request) -> Entering
     ensures { λ r. ⌜ r ≡ entering schedule request ⌝ }
 {
     let id = request.id;
-    let k = held::first_of(schedule, held::of_id(id));
+    let k = schedule_list::first_of(schedule, schedule_list::of_id(id));
     if is_barred(schedule, k) {
         return not_entered(schedule, Verdict::Wrong(CardError::InSchedule));
     }
-    let others = held::without(schedule, k);
+    let others = schedule_list::without(schedule, k);
     let verdict = clash(others, request);
     if !cards::error::is_good(verdict) {
         return not_entered(schedule, verdict);
     }
-    let next = held::inserted(others, entries::new_entry(request));
+    let next = schedule_list::inserted(others, schedule_entries::new_entry(request));
     Entering {
         verdict: Verdict::Good,
         schedule: next,
@@ -103,14 +103,14 @@ fn changed(schedule: Schedule) -> Changed
 pub fn release(schedule: Schedule, id: [u8; 6]) -> Changed
     ensures { λ r. ⌜ r ≡ released schedule id ⌝ }
 {
-    let k = held::first_of(schedule, held::of_id(id));
-    if held::size(schedule) <= k {
+    let k = schedule_list::first_of(schedule, schedule_list::of_id(id));
+    if schedule_list::size(schedule) <= k {
         return not_changed(schedule, Refusal::NoSuchRequest);
     }
-    let entry = held::entry_at(schedule, k);
+    let entry = schedule_list::entry_at(schedule, k);
     let state = entry.state;
-    if entries::is_suspended(state) {
-        return changed(held::changed_at(schedule, k, State::Waiting));
+    if schedule_entries::is_suspended(state) {
+        return changed(schedule_list::changed_at(schedule, k, State::Waiting));
     }
     not_changed(schedule, Refusal::NoSuchRequest)
 }
@@ -119,48 +119,48 @@ pub fn release(schedule: Schedule, id: [u8; 6]) -> Changed
 pub fn delete(schedule: Schedule, id: [u8; 6]) -> Changed
     ensures { λ r. ⌜ r ≡ deleted schedule id ⌝ }
 {
-    let k = held::first_of(schedule, held::of_id(id));
-    if held::size(schedule) <= k {
+    let k = schedule_list::first_of(schedule, schedule_list::of_id(id));
+    if schedule_list::size(schedule) <= k {
         return not_changed(schedule, Refusal::NoSuchRequest);
     }
-    let entry = held::entry_at(schedule, k);
+    let entry = schedule_list::entry_at(schedule, k);
     let state = entry.state;
-    if entries::is_active(state) {
+    if schedule_entries::is_active(state) {
         return not_changed(schedule, Refusal::JobRuns);
     }
-    changed(held::without(schedule, k))
+    changed(schedule_list::without(schedule, k))
 }
 
 // The job of the request at a place of the schedule is taken into a job place and runs.
 pub fn taken(schedule: Schedule, k: usize, place: u8) -> Schedule
     ensures { λ r. ⌜ r ≡ taken schedule k place ⌝ }
 {
-    held::changed_at(schedule, k, State::Running(place))
+    schedule_list::changed_at(schedule, k, State::Running(place))
 }
 
 // The job in a place has ended and closes.
 pub fn closing(schedule: Schedule, place: u8) -> Schedule
     ensures { λ r. ⌜ r ≡ closing schedule place ⌝ }
 {
-    let k = held::first_of(schedule, held::of_place(place));
-    held::changed_at(schedule, k, State::Closing(place))
+    let k = schedule_list::first_of(schedule, schedule_list::of_place(place));
+    schedule_list::changed_at(schedule, k, State::Closing(place))
 }
 
 // The job in a place has returned: its request goes, unless the job ended in error and has a sequence.
 pub fn returned(schedule: Schedule, place: u8, in_error: bool) -> Schedule
     ensures { λ r. ⌜ r ≡ returned schedule place in_error ⌝ }
 {
-    let k = held::first_of(schedule, held::of_place(place));
-    if held::size(schedule) <= k {
+    let k = schedule_list::first_of(schedule, schedule_list::of_place(place));
+    if schedule_list::size(schedule) <= k {
         return schedule;
     }
-    let entry = held::entry_at(schedule, k);
+    let entry = schedule_list::entry_at(schedule, k);
     let request = entry.request;
     if !in_error {
-        return held::without(schedule, k);
+        return schedule_list::without(schedule, k);
     }
     if 1 <= request.sequence {
-        return held::changed_at(schedule, k, State::Suspended);
+        return schedule_list::changed_at(schedule, k, State::Suspended);
     }
-    held::without(schedule, k)
+    schedule_list::without(schedule, k)
 }

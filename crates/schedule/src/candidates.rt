@@ -1,12 +1,12 @@
 // The candidates, in selection order. The schedule's array is taken out once for each function: each call that takes it copies it.
-use entries::Entry;
-use entries::Key;
-use held::Schedule;
+use schedule_entries::Entry;
+use schedule_entries::Key;
+use schedule_list::Schedule;
 ghost use mathlib.Core.Path.{_≡_};
 ghost use mathlib.Core.Bool.{_||_, _&&_};
 ghost use Prim.Native.Nat.{_≤_};
-ghost use Rattle.entries.specs.Entries.{active, serial};
-ghost use Rattle.held.specs.Held.{held};
+ghost use Rattle.schedule_entries.specs.Entries.{active, serial};
+ghost use Rattle.schedule_list.specs.Held.{held};
 ghost use Rattle.schedule.specs.Candidates.{Marks};
 ghost use Rattle.schedule.specs.Marking.{Outlines, Heads, Tells};
 
@@ -25,7 +25,7 @@ fn runs_with(before: bool, entry: Entry) -> bool
         return true;
     }
     let state = entry.state;
-    entries::is_active(state)
+    schedule_entries::is_active(state)
 }
 
 // Whether an S-type job runs or closes: one of those before, or an entry's.
@@ -37,8 +37,8 @@ fn alone_with(before: bool, entry: Entry) -> bool
     }
     let state = entry.state;
     let request = entry.request;
-    if entries::is_active(state) {
-        return entries::is_serial(request);
+    if schedule_entries::is_active(state) {
+        return schedule_entries::is_serial(request);
     }
     false
 }
@@ -47,7 +47,7 @@ fn alone_with(before: bool, entry: Entry) -> bool
 fn outline_of(schedule: Schedule) -> Outline
     ensures { λ r. ⌜ Outlines (held schedule) r ⌝ }
 {
-    let n = held::size(schedule);
+    let n = schedule_list::size(schedule);
     let list = schedule.entries;
     let none = Key {
         letter: 0,
@@ -61,7 +61,7 @@ fn outline_of(schedule: Schedule) -> Outline
     while i < n {
         let entry = list[i];
         let request = entry.request;
-        keys[i] = entries::key_of(request);
+        keys[i] = schedule_entries::key_of(request);
         runs = runs_with(runs, entry);
         alone = alone_with(alone, entry);
         i += 1;
@@ -76,7 +76,7 @@ fn is_headed(keys: [Key; 64], n: usize, key: Key) -> bool
 {
     let mut i: usize = 0;
     while i < n {
-        if entries::is_lower(keys[i], key) {
+        if schedule_entries::is_lower(keys[i], key) {
             return true;
         }
         i += 1;
@@ -90,7 +90,7 @@ fn is_candidate(entry: Entry, headed: bool, alone: bool, runs: bool) -> bool
 {
     let state = entry.state;
     let request = entry.request;
-    if !entries::is_waiting(state) {
+    if !schedule_entries::is_waiting(state) {
         return false;
     }
     if headed {
@@ -99,7 +99,7 @@ fn is_candidate(entry: Entry, headed: bool, alone: bool, runs: bool) -> bool
     if alone {
         return false;
     }
-    if entries::is_serial(request) {
+    if schedule_entries::is_serial(request) {
         return !runs;
     }
     true
@@ -109,7 +109,7 @@ fn is_candidate(entry: Entry, headed: bool, alone: bool, runs: bool) -> bool
 pub fn all(schedule: Schedule) -> [bool; 64]
     ensures { λ r. ⌜ Marks (held schedule) r ⌝ }
 {
-    let n = held::size(schedule);
+    let n = schedule_list::size(schedule);
     let outline = outline_of(schedule);
     let keys = outline.keys;
     let list = schedule.entries;

@@ -3,8 +3,8 @@ pub mod calls;
 pub mod candidates;
 
 use cards::Verdict;
-use held::Schedule;
 use numbers::Outcome;
+use schedule_list::Schedule;
 
 // What entering a request answers: an error and the schedule as it was, or the schedule with the request.
 pub struct Entering {

@@ -1,8 +1,8 @@
 // The whole cell as a program to talk to: reads a script on standard input and answers each line as soon as it has come.
 use libc::STDIN_FILENO;
 use libc::STDOUT_FILENO;
-use turns::Phase;
-use turns::Shift;
+use shift_turns::Phase;
+use shift_turns::Shift;
 
 // The shift after what has come, and how many bytes of the next line stand in the room for it.
 struct Heard {
@@ -13,8 +13,8 @@ struct Heard {
 // Answers one line.
 fn answer(shift: Shift, line: &[u8], room: &mut [u8; 16384]) -> Shift {
     let mut out = io::large_buffer();
-    let turn = turns::take_line(shift, line, room, &mut out);
-    io::write_all(STDOUT_FILENO, lines::front(&out, turn.at));
+    let turn = shift_turns::take_line(shift, line, room, &mut out);
+    io::write_all(STDOUT_FILENO, shift_lines::front(&out, turn.at));
     turn.shift
 }
 
@@ -31,11 +31,11 @@ fn hear(
     let mut kept = len;
     let mut at: usize = 0;
     while at < piece.len() {
-        let cut = lines::take_up(line, kept, &piece[at..]);
+        let cut = shift_lines::take_up(line, kept, &piece[at..]);
         at += cut.taken;
         kept = cut.kept;
         if cut.whole {
-            shift = answer(shift, lines::front(line, kept), room);
+            shift = answer(shift, shift_lines::front(line, kept), room);
             kept = 0;
         }
     }
@@ -56,15 +56,15 @@ fn is_over(phase: Phase) -> bool {
 // The end of the input, after `len` bytes of a last line.
 fn finish(shift: Shift, len: usize, line: &[u8; 20480], room: &mut [u8; 16384]) {
     let mut out = io::large_buffer();
-    let n = turns::end(shift, lines::front(line, len), room, &mut out);
-    io::write_all(STDOUT_FILENO, lines::front(&out, n));
+    let n = shift_turns::end(shift, shift_lines::front(line, len), room, &mut out);
+    io::write_all(STDOUT_FILENO, shift_lines::front(&out, n));
 }
 
 // A proved loop has to end, and nothing says that the input does: the loop counts its turns down, from a number that no run uses up.
 fn main() {
     let mut line = [0u8; 20480];
     let mut room = [0u8; 16384];
-    let mut shift = turns::fresh();
+    let mut shift = shift_turns::fresh();
     let mut len: usize = 0;
     let mut left = u64::MAX;
     while 0 < left {

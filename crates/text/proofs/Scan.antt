@@ -11,7 +11,7 @@ use lib.ListN.{length, getD, drop, drop-of-length-le}
 use lib.Seq.{drop-cons}
 use borrow.Author.Tests.{lt-ltb, le-ltb}
 use Rattle.text.specs.Class.{isDigit}
-use Rattle.text.specs.ClassLaws.{digit-bounds}
+use Rattle.text.proofs.ClassLaws.{digit-bounds}
 use Rattle.text.specs.Reading.{digitsFrom}
 use Rattle.text.specs.declared.Number.the-variants.{Is, Wrong}
 

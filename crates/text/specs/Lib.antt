@@ -2,8 +2,3 @@ pub mod Class
 pub mod Reading
 pub mod Writing
 pub mod Room
-pub mod RoomLaws
-pub mod ClassLaws
-pub mod Tens
-pub mod Undo
-pub mod Redo

@@ -1,5 +1,5 @@
 -- `cases_deck::same_text` is safe: what is compared is what the report put. Assumes nothing.
-use Rattle.text.specs.RoomLaws.{written-length}
+use Rattle.text.proofs.RoomLaws.{written-length}
 use borrow.Author.Needs.{needs}
 use Rattle.cases_deck.proofs.same_text.Statement.{statement}
 use Rattle.cases_deck.proofs.same_text.Tie as tie

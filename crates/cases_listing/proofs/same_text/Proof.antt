@@ -1,5 +1,5 @@
 -- `cases_listing::same_text` is safe: what is compared is what the listing put. Assumes nothing.
-use Rattle.text.specs.RoomLaws.{written-length}
+use Rattle.text.proofs.RoomLaws.{written-length}
 use borrow.Author.Needs.{needs}
 use Rattle.cases_listing.proofs.same_text.Statement.{statement}
 use Rattle.cases_listing.proofs.same_text.Tie as tie

@@ -1,9 +1,9 @@
 -- `controller::luffgravel_core` meets its contract: the pair that the search found stands in i and j; where it found none they are kept. Assumes nothing.
 use mathlib.Core.Path.{refl, subst}
 use borrow.Author.Needs.{needs}
-use Rattle.numbers.specs.Tests.{never}
-use Rattle.core.specs.declared.Found.{Found}
-use Rattle.core.specs.Core.{Answers}
+use Rattle.numbers.proofs.Tests.{never}
+use Rattle.assign_core.specs.declared.Found.{Found}
+use Rattle.assign_core.specs.Core.{Answers}
 use Rattle.controller.proofs.luffgravel_core.Statement.{statement}
 use Rattle.controller.proofs.luffgravel_core.Tie as tie
 

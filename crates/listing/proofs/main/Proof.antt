@@ -1,5 +1,5 @@
 -- `listing::main` meets its contract: what it writes is what the listing put. Assumes nothing.
-use Rattle.text.specs.RoomLaws.{written-length}
+use Rattle.text.proofs.RoomLaws.{written-length}
 use borrow.Author.Needs.{needs}
 use Rattle.listing.proofs.main.Statement.{statement}
 use Rattle.listing.proofs.main.Tie as tie

@@ -2,7 +2,7 @@
 use Prim.Native.Nat.{_≤_, _<_, _-_}
 use native.Mathlib.Omega.{arith}
 use lib.ListN.{length}
-use Rattle.lines.specs.LineLaws.{taken-within}
+use Rattle.shift_lines.proofs.LineLaws.{taken-within}
 use borrow.Author.Needs.{needs}
 use Rattle.shift.proofs.hear.Statement.{statement}
 use Rattle.shift.proofs.hear.Tie as tie

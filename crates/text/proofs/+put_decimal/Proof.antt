@@ -1,6 +1,6 @@
 -- `text::put_decimal` meets its contract. The digits of n / 10, and then the last one; the measure is n. Assumes nothing.
-use Rattle.text.specs.RoomLaws.{andThen}
-use Rattle.text.specs.Tens.{one-digit, more-digits}
+use Rattle.text.proofs.RoomLaws.{andThen}
+use Rattle.text.proofs.Tens.{one-digit, more-digits}
 use borrow.Author.Needs.{needs}
 use Prim.Native.Nat.{ℕ, _<_}
 use borrow.Fn.Kinds.{In}

@@ -3,7 +3,7 @@ use lib.ListN.{getD, length}
 use mathlib.Core.Path.{sym, _∙_}
 use borrow.Author.Tests.{not-true, not-false}
 use Rattle.text.proofs.Scan.{stop, full, next, ended, more-fits, Passed}
-use Rattle.text.specs.ClassLaws.{digit-bounds}
+use Rattle.text.proofs.ClassLaws.{digit-bounds}
 use native.Mathlib.Omega.{arith}
 use Prim.Native.Nat.{_-_}
 use borrow.Author.Needs.{needs}

@@ -4,7 +4,7 @@ use native.Mathlib.Omega.{arith}
 use native.Mathlib.Numerals.{add-one}
 use lib.ListN.{drop-of-length-le, length, drop}
 use lib.Seq.{drop-cons}
-use Rattle.text.specs.RoomLaws.{same-room, Going, turn, end}
+use Rattle.text.proofs.RoomLaws.{same-room, Going, turn, end}
 use borrow.Author.Needs.{needs}
 use Rattle.text.proofs.put_bytes.Statement.{statement}
 use Rattle.text.proofs.put_bytes.Tie as tie

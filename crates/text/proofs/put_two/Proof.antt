@@ -1,5 +1,5 @@
 -- `text::put_two` meets its contract: one digit, and then the other. Assumes nothing.
-use Rattle.text.specs.RoomLaws.{andThen}
+use Rattle.text.proofs.RoomLaws.{andThen}
 use borrow.Author.Needs.{needs}
 use Rattle.text.proofs.put_two.Statement.{statement}
 use Rattle.text.proofs.put_two.Tie as tie

@@ -1,6 +1,6 @@
 -- `text::two_digits` meets its contract. Each answer is a case of proofs/Cases.antt. Assumes nothing.
 use Rattle.text.proofs.Cases.{two-yes, two-no, two-half}
-use Rattle.text.specs.ClassLaws.{digit-bounds}
+use Rattle.text.proofs.ClassLaws.{digit-bounds}
 use borrow.Author.Needs.{needs}
 use Rattle.text.proofs.two_digits.Statement.{statement}
 use Rattle.text.proofs.two_digits.Tie as tie

@@ -2,7 +2,7 @@
 use mathlib.Core.Path.{sym, refl, _∙_}
 use native.Mathlib.Omega.{arith}
 use Rattle.units.specs.State.{unitIn}
-use Rattle.units.specs.StateLaws.{of-square, read-past, read-beside}
+use Rattle.units.proofs.StateLaws.{of-square, read-past, read-beside}
 use borrow.Author.Needs.{needs}
 use Rattle.units.proofs.unit_at.Statement.{statement}
 use Rattle.units.proofs.unit_at.Tie as tie

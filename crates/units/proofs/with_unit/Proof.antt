@@ -2,7 +2,7 @@
 use mathlib.Core.Path.{sym, ap}
 use native.Mathlib.Omega.{arith}
 use Rattle.units.specs.State.{unitsFrom, unitSet}
-use Rattle.units.specs.StateLaws.{of-square, set-past, set-beside}
+use Rattle.units.proofs.StateLaws.{of-square, set-past, set-beside}
 use borrow.Author.Needs.{needs}
 use Rattle.units.proofs.with_unit.Statement.{statement}
 use Rattle.units.proofs.with_unit.Tie as tie

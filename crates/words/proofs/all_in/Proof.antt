@@ -5,7 +5,7 @@ use mathlib.Core.Path.{_≡_, sym, _∙_}
 use native.Mathlib.Omega.{arith}
 use lib.ListN.{length, drop}
 use Rattle.words.specs.Words.{every, has}
-use Rattle.words.specs.WordLaws.{every-pass, every-fail, every-end}
+use Rattle.words.proofs.WordLaws.{every-pass, every-fail, every-end}
 use Rattle.words.proofs.all_in.Statement.{statement}
 use Rattle.words.proofs.all_in.Tie as tie
 

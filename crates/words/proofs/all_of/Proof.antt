@@ -1,7 +1,7 @@
 -- `words::all_of` meets its contract: all bytes pass where as many as there are lead. Assumes nothing.
 use mathlib.Core.Path.{sym, _∙_}
 use Rattle.words.specs.Words.{passes}
-use Rattle.words.specs.WordLaws.{every-leads, every-leads-not}
+use Rattle.words.proofs.WordLaws.{every-leads, every-leads-not}
 use borrow.Author.Needs.{needs}
 use Rattle.words.proofs.all_of.Statement.{statement}
 use Rattle.words.proofs.all_of.Tie as tie

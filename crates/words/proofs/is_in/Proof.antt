@@ -5,7 +5,7 @@ use mathlib.Core.Path.{_≡_, sym, _∙_}
 use native.Mathlib.Omega.{arith}
 use lib.ListN.{length, drop}
 use Rattle.words.specs.Words.{has}
-use Rattle.words.specs.WordLaws.{has-here, has-later, has-end}
+use Rattle.words.proofs.WordLaws.{has-here, has-later, has-end}
 use Rattle.words.proofs.is_in.Statement.{statement}
 use Rattle.words.proofs.is_in.Tie as tie
 

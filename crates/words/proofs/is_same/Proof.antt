@@ -5,7 +5,7 @@ use Prim.Native.Nat.{_≤_, _-_}
 use native.Mathlib.Omega.{arith}
 use lib.ListN.{length, drop}
 use Rattle.words.specs.Words.{same}
-use Rattle.words.specs.WordLaws.{same-pass, same-fail, same-end, same-long}
+use Rattle.words.proofs.WordLaws.{same-pass, same-fail, same-end, same-long}
 use Rattle.words.proofs.is_same.Statement.{statement}
 use Rattle.words.proofs.is_same.Tie as tie
 

@@ -5,7 +5,7 @@ use mathlib.Core.Path.{_≡_, sym, _∙_}
 use native.Mathlib.Omega.{arith}
 use lib.ListN.{length, drop}
 use Rattle.words.specs.Words.{passes, leading}
-use Rattle.words.specs.WordLaws.{leading-pass, leading-stop, leading-end}
+use Rattle.words.proofs.WordLaws.{leading-pass, leading-stop, leading-end}
 use Rattle.words.proofs.leading_of.Statement.{statement}
 use Rattle.words.proofs.leading_of.Tie as tie
 

@@ -1,6 +1,6 @@
 -- `words::number` meets its contract: a text of over six bytes is 0, any other is what its digits write. Assumes nothing.
 use mathlib.Core.Path.{sym, _∙_}
-use Rattle.words.specs.WordLaws.{number-short, number-long}
+use Rattle.words.proofs.WordLaws.{number-short, number-long}
 use borrow.Author.Needs.{needs}
 use Rattle.words.proofs.number.Statement.{statement}
 use Rattle.words.proofs.number.Tie as tie

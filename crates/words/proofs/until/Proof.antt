@@ -7,7 +7,7 @@ use mathlib.Core.Path.{_≡_, sym, ap, _∙_}
 use native.Mathlib.Omega.{arith}
 use lib.ListN.{length, drop}
 use Rattle.words.specs.Words.{leading, isnt}
-use Rattle.words.specs.WordLaws.{leading-pass, leading-stop, leading-end}
+use Rattle.words.proofs.WordLaws.{leading-pass, leading-stop, leading-end}
 use Rattle.words.proofs.until.Statement.{statement}
 use Rattle.words.proofs.until.Tie as tie
 

@@ -6,7 +6,7 @@ use Prim.Native.Nat.{_≤_, _-_}
 use native.Mathlib.Omega.{arith}
 use lib.ListN.{length, drop}
 use Rattle.words.specs.Words.{value, valueFrom}
-use Rattle.words.specs.WordLaws.{cap, cap-most, value-step, value-end}
+use Rattle.words.proofs.WordLaws.{cap, cap-most, value-step, value-end}
 use Rattle.words.proofs.value_of.Statement.{statement}
 use Rattle.words.proofs.value_of.Tie as tie
 

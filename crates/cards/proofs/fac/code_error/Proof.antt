@@ -3,9 +3,9 @@ use native.Mathlib.Omega.{arith}
 use mathlib.Core.Path.{_≡_, sym, ap, _∙_}
 use lib.Seq.{length-take-le}
 use Rattle.text.specs.Class.{isLetter}
-use Rattle.words.specs.WordLaws.{leading-front, leading-most}
+use Rattle.words.proofs.WordLaws.{leading-front, leading-most}
 use Rattle.cards.specs.Fac.{codes, placeIn, codeOf}
-use Rattle.cards.specs.EntryLaws.{code-long, code-unknown, code-known}
+use Rattle.cards.proofs.EntryLaws.{code-long, code-unknown, code-known}
 use borrow.Author.Needs.{needs}
 use Rattle.cards.proofs.fac.code_error.Statement.{statement}
 use Rattle.cards.proofs.fac.code_error.Tie as tie

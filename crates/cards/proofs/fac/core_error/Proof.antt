@@ -2,7 +2,7 @@
 use native.Mathlib.Omega.{arith}
 use mathlib.Core.Path.{sym}
 use Rattle.cards.specs.Fac.{asksOf}
-use Rattle.cards.specs.AskLaws.{core-many, core-none, core-good}
+use Rattle.cards.proofs.AskLaws.{core-many, core-none, core-good}
 use Rattle.cards.proofs.fac.core_error.Statement.{statement}
 use Rattle.cards.proofs.fac.core_error.Tie as tie
 

@@ -4,12 +4,12 @@ use mathlib.Core.Path.{sym, ap, _∙_}
 use native.Mathlib.Omega.{arith}
 use lib.Seq.{length-take-le}
 use borrow.Author.Tests.{not-true, not-false}
-use Rattle.fields.specs.Fields.{field}
-use Rattle.fields.specs.FieldLaws.{whole, within}
-use Rattle.fields.specs.declared.Field.{Field}
-use Rattle.cards.specs.ErrorLaws.{good-is}
+use Rattle.cards_fields.specs.Fields.{field}
+use Rattle.cards_fields.proofs.FieldLaws.{whole, within}
+use Rattle.cards_fields.specs.declared.Field.{Field}
+use Rattle.cards.proofs.ErrorLaws.{good-is}
 use Rattle.cards.specs.Fac.{codeError, entryOf}
-use Rattle.cards.specs.EntryLaws.{code-padded, entry-error, entry-long}
+use Rattle.cards.proofs.EntryLaws.{code-padded, entry-error, entry-long}
 use borrow.Author.Needs.{needs}
 use Rattle.cards.proofs.fac.entry_at.Statement.{statement}
 use Rattle.cards.proofs.fac.entry_at.Tie as tie

@@ -5,9 +5,9 @@ use mathlib.Core.Path.{_≡_, sym, ap, _∙_}
 use native.Mathlib.Omega.{arith}
 use lib.ListN.{length, drop}
 use borrow.Author.Tests.{not-true, not-false}
-use Rattle.fields.specs.Fields.{fields}
+use Rattle.cards_fields.specs.Fields.{fields}
 use Rattle.cards.specs.Fac.{nothing, asksOf, askedOf}
-use Rattle.cards.specs.AskLaws.{entry-wrong, entry-twice, entry-next, entries-done}
+use Rattle.cards.proofs.AskLaws.{entry-wrong, entry-twice, entry-next, entries-done}
 use Rattle.cards.specs.declared.Facilities.{Facilities}
 use borrow.Author.Needs.{needs}
 use Rattle.cards.proofs.fac.facilities.Statement.{statement}

@@ -2,7 +2,7 @@
 use native.Mathlib.Omega.{arith}
 use mathlib.Core.Path.{sym, _∙_}
 use borrow.Author.Tests.{lt-ltb, le-ltb, lt-leb, le-leb}
-use Rattle.words.specs.WordLaws.{number-short}
+use Rattle.words.proofs.WordLaws.{number-short}
 use borrow.Author.Needs.{needs}
 use Rattle.cards.proofs.fac.is_channel.Statement.{statement}
 use Rattle.cards.proofs.fac.is_channel.Tie as tie

@@ -7,10 +7,10 @@ use lib.Seq.{length-take-le}
 use borrow.Author.Tests.{not-true, not-false}
 use Rattle.text.specs.Class.{isLetter}
 use Rattle.words.specs.Words.{isnt}
-use Rattle.words.specs.WordLaws.{leading-most, number-short}
+use Rattle.words.proofs.WordLaws.{leading-most, number-short}
 use Rattle.cards.specs.Fac.{slot}
-use Rattle.cards.specs.EntryLaws.{channel-short, channel-low, number-few, code-low, code-is, no-slash, bad-channel, bad-number, good-entry}
-use Rattle.cards.specs.AskLaws.{small-entry}
+use Rattle.cards.proofs.EntryLaws.{channel-short, channel-low, number-few, code-low, code-is, no-slash, bad-channel, bad-number, good-entry}
+use Rattle.cards.proofs.AskLaws.{small-entry}
 use Rattle.cards.specs.declared.Verdict.the-variants.{Good}
 use borrow.Author.Needs.{needs}
 use Rattle.cards.proofs.fac.known_entry.Statement.{statement}

@@ -1,6 +1,6 @@
 -- `cards::fac::no_entry` meets its contract. Assumes nothing.
 use mathlib.Core.Path.{refl}
-use Rattle.cards.specs.AskLaws.{entry-alone}
+use Rattle.cards.proofs.AskLaws.{entry-alone}
 use Rattle.cards.proofs.fac.no_entry.Statement.{statement}
 use Rattle.cards.proofs.fac.no_entry.Tie as tie
 

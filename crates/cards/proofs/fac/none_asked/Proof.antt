@@ -1,5 +1,5 @@
 -- `cards::fac::none_asked` meets its contract. Assumes nothing.
-use Rattle.cards.specs.AskLaws.{none-alone}
+use Rattle.cards.proofs.AskLaws.{none-alone}
 use borrow.Author.Needs.{needs}
 use Rattle.cards.proofs.fac.none_asked.Statement.{statement}
 use Rattle.cards.proofs.fac.none_asked.Tie as tie

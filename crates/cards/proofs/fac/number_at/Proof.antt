@@ -1,6 +1,6 @@
 -- `cards::fac::number_at` meets its contract, slot by slot. Assumes nothing.
 use mathlib.Core.Path.{sym, _∙_}
-use Rattle.cards.specs.AskLaws.{past-md}
+use Rattle.cards.proofs.AskLaws.{past-md}
 use borrow.Author.Needs.{needs}
 use Rattle.cards.proofs.fac.number_at.Statement.{statement}
 use Rattle.cards.proofs.fac.number_at.Tie as tie

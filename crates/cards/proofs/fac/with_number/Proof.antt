@@ -1,6 +1,6 @@
 -- `cards::fac::with_number` meets its contract, slot by slot. Assumes nothing.
 use native.Mathlib.Omega.{arith}
-use Rattle.cards.specs.AskLaws.{set-past-md}
+use Rattle.cards.proofs.AskLaws.{set-past-md}
 use borrow.Author.Needs.{needs}
 use Rattle.cards.proofs.fac.with_number.Statement.{statement}
 use Rattle.cards.proofs.fac.with_number.Tie as tie

@@ -4,11 +4,11 @@ use mathlib.Core.Path.{sym, _∙_}
 use native.Mathlib.Omega.{arith}
 use lib.ListN.{length}
 use borrow.Author.Tests.{not-true, not-false}
-use Rattle.fields.specs.Fields.{field, fields}
+use Rattle.cards_fields.specs.Fields.{field, fields}
 use Rattle.cards.specs.Pty.{rules}
-use Rattle.cards.specs.ErrorLaws.{good-is}
-use Rattle.cards.specs.PtyLaws.{not-longer}
-use Rattle.cards.specs.GroupLaws.{fields-good, front-pty, front-count, front-fac, front-third, front-id, front-good}
+use Rattle.cards.proofs.ErrorLaws.{good-is}
+use Rattle.cards.proofs.PtyLaws.{not-longer}
+use Rattle.cards.proofs.GroupLaws.{fields-good, front-pty, front-count, front-fac, front-third, front-id, front-good}
 use borrow.Author.Needs.{needs}
 use Rattle.cards.proofs.group.front_error.Statement.{statement}
 use Rattle.cards.proofs.group.front_error.Tie as tie

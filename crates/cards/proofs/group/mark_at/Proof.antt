@@ -1,6 +1,6 @@
 -- `cards::group::mark_at` meets its contract: the first byte of a gathered field. Assumes nothing.
-use Rattle.fields.specs.Fields.{field}
-use Rattle.cards.specs.GroupLaws.{mark-padded}
+use Rattle.cards_fields.specs.Fields.{field}
+use Rattle.cards.proofs.GroupLaws.{mark-padded}
 use borrow.Author.Needs.{needs}
 use Rattle.cards.proofs.group.mark_at.Statement.{statement}
 use Rattle.cards.proofs.group.mark_at.Tie as tie

@@ -1,8 +1,8 @@
 -- `cards::group::name_at` meets its contract: the first six bytes of a gathered field. Assumes nothing.
 use mathlib.Core.Path.{ap, _∙_}
-use Rattle.fields.specs.Fields.{field}
-use Rattle.fields.specs.declared.Field.{Field}
-use Rattle.cards.specs.GroupLaws.{firstSix, six-padded}
+use Rattle.cards_fields.specs.Fields.{field}
+use Rattle.cards_fields.specs.declared.Field.{Field}
+use Rattle.cards.proofs.GroupLaws.{firstSix, six-padded}
 use borrow.Author.Needs.{needs}
 use Rattle.cards.proofs.group.name_at.Statement.{statement}
 use Rattle.cards.proofs.group.name_at.Tie as tie

@@ -1,5 +1,5 @@
 -- `cards::group::no_reading` meets its contract. Assumes nothing.
-use Rattle.cards.specs.GroupLaws.{error-alone, blank-request}
+use Rattle.cards.proofs.GroupLaws.{error-alone, blank-request}
 use borrow.Author.Needs.{needs}
 use Rattle.cards.proofs.group.no_reading.Statement.{statement}
 use Rattle.cards.proofs.group.no_reading.Tie as tie

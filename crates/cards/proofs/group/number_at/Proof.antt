@@ -2,11 +2,11 @@
 use native.Mathlib.Omega.{arith}
 use mathlib.Core.Path.{sym, ap, _∙_}
 use lib.Seq.{length-take-le}
-use Rattle.fields.specs.Fields.{field}
-use Rattle.fields.specs.FieldLaws.{whole, within}
-use Rattle.fields.specs.declared.Field.{Field}
+use Rattle.cards_fields.specs.Fields.{field}
+use Rattle.cards_fields.proofs.FieldLaws.{whole, within}
+use Rattle.cards_fields.specs.declared.Field.{Field}
 use Rattle.words.specs.Words.{numberIn}
-use Rattle.words.specs.WordLaws.{number-short}
+use Rattle.words.proofs.WordLaws.{number-short}
 use borrow.Author.Needs.{needs}
 use Rattle.cards.proofs.group.number_at.Statement.{statement}
 use Rattle.cards.proofs.group.number_at.Tie as tie

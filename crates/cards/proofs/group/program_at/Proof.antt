@@ -1,6 +1,6 @@
 -- `cards::group::program_at` meets its contract: the bytes of a gathered field. Assumes nothing.
 use mathlib.Core.Path.{ap}
-use Rattle.fields.specs.declared.Field.{Field}
+use Rattle.cards_fields.specs.declared.Field.{Field}
 use borrow.Author.Needs.{needs}
 use Rattle.cards.proofs.group.program_at.Statement.{statement}
 use Rattle.cards.proofs.group.program_at.Tie as tie

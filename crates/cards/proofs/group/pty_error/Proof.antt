@@ -2,7 +2,7 @@
 use native.Mathlib.Omega.{arith}
 use mathlib.Core.Path.{sym, _∙_}
 use borrow.Author.Tests.{not-true, not-false}
-use Rattle.cards.specs.GroupLaws.{not-pty, pty-malformed, pty-many, pty-fields}
+use Rattle.cards.proofs.GroupLaws.{not-pty, pty-malformed, pty-many, pty-fields}
 use borrow.Author.Needs.{needs}
 use Rattle.cards.proofs.group.pty_error.Statement.{statement}
 use Rattle.cards.proofs.group.pty_error.Tie as tie

@@ -1,7 +1,7 @@
 -- `cards::group::read_cards` meets its contract: the errors up to the FAC card's ID, then the FAC card's, then the request. Assumes nothing.
 use mathlib.Core.Path.{sym, _∙_}
 use borrow.Author.Tests.{not-true, not-false}
-use Rattle.cards.specs.GroupLaws.{fields-good, front-pty-good, read-front, read-wrong, read-good}
+use Rattle.cards.proofs.GroupLaws.{fields-good, front-pty-good, read-front, read-wrong, read-good}
 use borrow.Author.Needs.{needs}
 use Rattle.cards.proofs.group.read_cards.Statement.{statement}
 use Rattle.cards.proofs.group.read_cards.Tie as tie

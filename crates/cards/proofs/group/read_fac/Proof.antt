@@ -1,7 +1,7 @@
 -- `cards::group::read_fac` meets its contract, one law for each way out. Assumes nothing.
 use mathlib.Core.Path.{sym, _∙_}
 use borrow.Author.Tests.{not-true, not-false}
-use Rattle.cards.specs.GroupLaws.{fac-malformed, fac-entries, fac-core, fac-good}
+use Rattle.cards.proofs.GroupLaws.{fac-malformed, fac-entries, fac-core, fac-good}
 use borrow.Author.Needs.{needs}
 use Rattle.cards.proofs.group.read_fac.Statement.{statement}
 use Rattle.cards.proofs.group.read_fac.Tie as tie

@@ -2,9 +2,9 @@
 use Prim.Native.Nat.{_≤_}
 use native.Mathlib.Omega.{arith}
 use lib.ListN.{length}
-use Rattle.fields.specs.Fields.{field, fields}
+use Rattle.cards_fields.specs.Fields.{field, fields}
 use Rattle.cards.specs.Pty.{rules}
-use Rattle.cards.specs.PtyLaws.{not-longer}
+use Rattle.cards.proofs.PtyLaws.{not-longer}
 use borrow.Author.Needs.{needs}
 use Rattle.cards.proofs.group.request.Statement.{statement}
 use Rattle.cards.proofs.group.request.Tie as tie

@@ -2,12 +2,11 @@
 use native.Mathlib.Omega.{arith}
 use mathlib.Core.Path.{sym, ap, _∙_}
 use lib.Seq.{length-take-le}
-use Rattle.fields.specs.Fields.{field}
-use Rattle.fields.specs.FieldLaws.{whole, within}
-use Rattle.fields.specs.declared.Field.{Field}
+use Rattle.cards_fields.specs.Fields.{field, fieldIs}
+use Rattle.cards_fields.proofs.FieldLaws.{whole, within}
+use Rattle.cards_fields.specs.declared.Field.{Field}
 use borrow.Author.Tests.{le-leb}
 use lib.ListN.{length}
-use Rattle.fields.specs.Fields.{fieldIs}
 use borrow.Author.Needs.{needs}
 use Rattle.cards.proofs.group.same_id.Statement.{statement}
 use Rattle.cards.proofs.group.same_id.Tie as tie

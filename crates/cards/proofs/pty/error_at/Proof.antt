@@ -2,11 +2,11 @@
 use native.Mathlib.Omega.{arith}
 use mathlib.Core.Path.{sym, ap, _∙_}
 use lib.Seq.{length-take-le}
-use Rattle.fields.specs.Fields.{field}
-use Rattle.fields.specs.FieldLaws.{whole, within}
-use Rattle.fields.specs.declared.Field.{Field}
+use Rattle.cards_fields.specs.Fields.{field}
+use Rattle.cards_fields.proofs.FieldLaws.{whole, within}
+use Rattle.cards_fields.specs.declared.Field.{Field}
 use Rattle.cards.specs.Pty.{ruleAt, fieldError}
-use Rattle.cards.specs.PtyLaws.{most-small, much-too-long}
+use Rattle.cards.proofs.PtyLaws.{most-small, much-too-long}
 use Rattle.cards.specs.declared.CardError.{CardError}
 use Rattle.cards.specs.declared.Verdict.the-variants.{Wrong}
 use borrow.Author.Needs.{needs}

@@ -2,7 +2,7 @@
 use native.Mathlib.Omega.{arith}
 use mathlib.Core.Path.{sym, ap, _∙_}
 use Rattle.cards.specs.Pty.{rules, ruleAt}
-use Rattle.cards.specs.PtyLaws.{least-at, most-at, too-short, too-long, right, wrong, none-empty, none-long}
+use Rattle.cards.proofs.PtyLaws.{least-at, most-at, too-short, too-long, right, wrong, none-empty, none-long}
 use Rattle.cards.specs.declared.CardError.{CardError}
 use Rattle.cards.specs.declared.Verdict.the-variants.{Wrong}
 use borrow.Author.Needs.{needs}

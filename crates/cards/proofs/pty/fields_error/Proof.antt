@@ -4,9 +4,9 @@ use Prim.Native.Nat.{_≤_, _-_}
 use mathlib.Core.Path.{_≡_, sym, _∙_}
 use native.Mathlib.Omega.{arith}
 use borrow.Author.Tests.{not-true, not-false}
-use Rattle.fields.specs.Fields.{fields}
+use Rattle.cards_fields.specs.Fields.{fields}
 use Rattle.cards.specs.Pty.{fieldsError}
-use Rattle.cards.specs.PtyLaws.{fromPlace, field-wrong, field-right, fields-done}
+use Rattle.cards.proofs.PtyLaws.{fromPlace, field-wrong, field-right, fields-done}
 use borrow.Author.Needs.{needs}
 use Rattle.cards.proofs.pty.fields_error.Statement.{statement}
 use Rattle.cards.proofs.pty.fields_error.Tie as tie

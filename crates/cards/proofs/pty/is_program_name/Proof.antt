@@ -1,6 +1,6 @@
 -- `cards::pty::is_program_name` meets its contract: a text without a byte has no hyphen first. Assumes nothing.
 use mathlib.Core.Path.{sym, _∙_}
-use Rattle.cards.specs.PriorityLaws.{hyphen-first, no-hyphen}
+use Rattle.cards.proofs.PriorityLaws.{hyphen-first, no-hyphen}
 use borrow.Author.Needs.{needs}
 use Rattle.cards.proofs.pty.is_program_name.Statement.{statement}
 use Rattle.cards.proofs.pty.is_program_name.Tie as tie

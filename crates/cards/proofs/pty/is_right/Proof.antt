@@ -2,7 +2,7 @@
 use mathlib.Core.Path.{_≡_}
 use native.Mathlib.Omega.{arith}
 use Rattle.cards.specs.Pty.{rules}
-use Rattle.cards.specs.PtyLaws.{missed}
+use Rattle.cards.proofs.PtyLaws.{missed}
 use borrow.Author.Needs.{needs}
 use Rattle.cards.proofs.pty.is_right.Statement.{statement}
 use Rattle.cards.proofs.pty.is_right.Tie as tie

@@ -2,7 +2,7 @@
 use native.Mathlib.Omega.{arith}
 use mathlib.Core.Path.{_∙_}
 use borrow.Author.Tests.{eq-eqb, ne-eqb}
-use Rattle.words.specs.WordLaws.{number-short}
+use Rattle.words.proofs.WordLaws.{number-short}
 use borrow.Author.Needs.{needs}
 use Rattle.cards.proofs.pty.precedence_of.Statement.{statement}
 use Rattle.cards.proofs.pty.precedence_of.Tie as tie

@@ -4,10 +4,10 @@ use native.Mathlib.Omega.{arith}
 use lib.ListN.{take}
 use lib.Seq.{length-take-le}
 use borrow.Author.Tests.{not-true, not-false}
-use Rattle.words.specs.WordLaws.{number-short}
-use Rattle.fields.specs.FieldLaws.{rest-is}
+use Rattle.words.proofs.WordLaws.{number-short}
+use Rattle.cards_fields.proofs.FieldLaws.{rest-is}
 use Rattle.cards.specs.Pty.{ranked}
-use Rattle.cards.specs.PriorityLaws.{lettered, short, no-digits, sequence-low, sequence-high, sequenced, empty-letter}
+use Rattle.cards.proofs.PriorityLaws.{lettered, short, no-digits, sequence-low, sequence-high, sequenced, empty-letter}
 use borrow.Author.Needs.{needs}
 use Rattle.cards.proofs.pty.priority.Statement.{statement}
 use Rattle.cards.proofs.pty.priority.Tie as tie

@@ -2,9 +2,9 @@
 use native.Mathlib.Omega.{arith}
 use mathlib.Core.Path.{sym, ap, _∙_}
 use lib.Seq.{length-take-le}
-use Rattle.fields.specs.Fields.{field}
-use Rattle.fields.specs.FieldLaws.{whole, within}
-use Rattle.fields.specs.declared.Field.{Field}
+use Rattle.cards_fields.specs.Fields.{field}
+use Rattle.cards_fields.proofs.FieldLaws.{whole, within}
+use Rattle.cards_fields.specs.declared.Field.{Field}
 use Rattle.cards.specs.Pty.{priorityOf}
 use borrow.Author.Needs.{needs}
 use Rattle.cards.proofs.pty.priority_at.Statement.{statement}

@@ -1,7 +1,7 @@
 -- `cards::pty::rank` meets its contract, one law for each way out. Assumes nothing.
 use mathlib.Core.Path.{sym, _∙_}
 use borrow.Author.Tests.{not-true, not-false}
-use Rattle.cards.specs.PriorityLaws.{rank-letter, rank-long, rank-digits, rank-high, rank-last, rank-good}
+use Rattle.cards.proofs.PriorityLaws.{rank-letter, rank-long, rank-digits, rank-high, rank-last, rank-good}
 use borrow.Author.Needs.{needs}
 use Rattle.cards.proofs.pty.rank.Statement.{statement}
 use Rattle.cards.proofs.pty.rank.Tie as tie

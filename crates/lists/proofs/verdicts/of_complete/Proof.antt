@@ -1,6 +1,6 @@
 -- `lists::verdicts::of_complete` meets its contract, by the tests that led there. Assumes nothing.
 use mathlib.Core.Path.{sym, _∙_}
-use Rattle.packets.specs.Laws.{not-false, not-true}
+use Rattle.packets.proofs.Laws.{not-false, not-true}
 use borrow.Author.Needs.{needs}
 use Rattle.lists.proofs.verdicts.of_complete.Statement.{statement}
 use Rattle.lists.proofs.verdicts.of_complete.Tie as tie

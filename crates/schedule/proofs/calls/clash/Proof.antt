@@ -1,5 +1,5 @@
 -- `schedule::calls::clash` meets its contract: the errors in order, by the tests that led there. Assumes nothing.
-use Rattle.held.specs.Held.{held}
+use Rattle.schedule_list.specs.Held.{held}
 use Rattle.schedule.proofs.Cases.{asked, clash-rank, clash-key, clash-full, clash-none}
 use borrow.Author.Needs.{needs}
 use Rattle.schedule.proofs.calls.clash.Statement.{statement}

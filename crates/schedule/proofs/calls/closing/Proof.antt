@@ -1,8 +1,8 @@
 -- `schedule::calls::closing` meets its contract: the change at the place of the job's request. Assumes nothing.
 use Prim.Native.Nat.{ℕ}
 use mathlib.Core.Path.{ap, _∙_}
-use Rattle.entries.specs.declared.State.the-variants.{Closing}
-use Rattle.held.specs.Held.{held, changedAt}
+use Rattle.schedule_entries.specs.declared.State.the-variants.{Closing}
+use Rattle.schedule_list.specs.Held.{held, changedAt}
 use Rattle.schedule.proofs.Cases.{job-place}
 use borrow.Author.Needs.{needs}
 use Rattle.schedule.proofs.calls.closing.Statement.{statement}

@@ -1,7 +1,7 @@
 -- `schedule::calls::delete` meets its contract: by the tests that led there. Assumes nothing.
 use Prim.Native.Nat.{ℕ}
 use mathlib.Core.Path.{ap, _∙_}
-use Rattle.held.specs.Held.{held}
+use Rattle.schedule_list.specs.Held.{held}
 use Rattle.schedule.specs.Calls.{deletedAt, done}
 use Rattle.schedule.proofs.Cases.{named-place, delete-none, delete-runs, delete-yes}
 use borrow.Author.Needs.{needs}

@@ -2,9 +2,9 @@
 use borrow.Author.Tests.{not-true, not-false}
 use Prim.Native.Nat.{ℕ}
 use mathlib.Core.Path.{ap, _∙_}
-use Rattle.held.specs.Held.{held}
-use Rattle.held.specs.HeldLaws.{held-few}
-use Rattle.held.proofs.Full.{full}
+use Rattle.schedule_list.specs.Held.{held}
+use Rattle.schedule_list.proofs.HeldLaws.{held-few}
+use Rattle.schedule_list.proofs.Full.{full}
 use Rattle.schedule.specs.Calls.{enteringAt}
 use Rattle.schedule.proofs.Cases.{named-place, enter-barred, enter-clash, enter-good}
 use borrow.Author.Needs.{needs}

@@ -1,6 +1,6 @@
 -- `schedule::calls::is_same_there` meets its contract: by whether there is a sequence. Assumes nothing.
 use borrow.Author.Tests.{eq-eqb, ne-eqb}
-use Rattle.held.specs.Held.{held}
+use Rattle.schedule_list.specs.Held.{held}
 use Rattle.schedule.specs.Calls.{sameThere}
 use Rattle.schedule.proofs.Cases.{asked}
 use borrow.Author.Needs.{needs}

@@ -2,7 +2,7 @@
 use borrow.Author.Tests.{not-true, not-false}
 use Prim.Native.Nat.{ℕ}
 use mathlib.Core.Path.{ap, _∙_}
-use Rattle.held.specs.Held.{held}
+use Rattle.schedule_list.specs.Held.{held}
 use Rattle.schedule.specs.Calls.{returnedAt}
 use Rattle.schedule.proofs.Cases.{job-place, return-none, return-normal, return-suspends, return-removes}
 use borrow.Author.Needs.{needs}

@@ -2,7 +2,7 @@
 use Prim.Native.Nat.{_-_}
 use native.Mathlib.Omega.{arith}
 use lib.ListN.{take}
-use Rattle.held.proofs.Full.{full}
+use Rattle.schedule_list.proofs.Full.{full}
 use Rattle.schedule.proofs.Marking.{Marking, few, marks-start, marks-turn, marks-end}
 use borrow.Author.Needs.{needs}
 use Rattle.schedule.proofs.candidates.all.Statement.{statement}

@@ -2,7 +2,7 @@
 use Prim.Native.Nat.{_-_}
 use native.Mathlib.Omega.{arith}
 use lib.ListN.{take}
-use Rattle.held.proofs.Full.{full}
+use Rattle.schedule_list.proofs.Full.{full}
 use Rattle.schedule.proofs.Marking.{Outlining, few, outline-start, outline-turn, outline-end}
 use borrow.Author.Needs.{needs}
 use Rattle.schedule.proofs.candidates.outline_of.Statement.{statement}

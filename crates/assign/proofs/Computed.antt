@@ -1,0 +1,114 @@
+-- An assigner that antt computes: it meets the contract of `assign`, so what `assign` answers is what it computes. Assumes nothing.
+use Prim.Native.Nat.{ℕ, zero, suc, _+_, _*_, _<_}
+use mathlib.Core.Path.{_≡_, refl}
+use mathlib.Core.Bool.{Bool, true, false, cond}
+use mathlib.Core.List.{List}
+use native.Mathlib.Omega.{arith}
+use lib.ListN.{length, set, drop, replicate, length-drop}
+use lib.Seq.{length-take-le}
+use Rattle.units.specs.declared.Unit.{Unit}
+use Rattle.channels.specs.declared.Channel.{Channel}
+use Rattle.assign_core.specs.declared.Pair.{Pair}
+use Rattle.assign_core.specs.declared.Found.{Found}
+use Rattle.assign_core.specs.declared.Found.the-variants as C
+use Rattle.assign_core.specs.Core as Core
+use Rattle.assign_core.proofs.Computed.{searchOf, search-answers}
+use Rattle.assign_drum.specs.declared.Start.{Start}
+use Rattle.assign_drum.specs.declared.Start.the-variants as D
+use Rattle.assign_drum.specs.Drum as Drum
+use Rattle.assign_drum.proofs.Computed.{startOf, start-answers}
+use Rattle.assign_heads.specs.declared.Head.{Head}
+use Rattle.assign_heads.specs.declared.Service.{Service}
+use Rattle.assign_heads.specs.Whose.{blank}
+use Rattle.assign_heads.specs.Serving as Serving
+use Rattle.assign_heads.proofs.ServingLaws.{served-so, lacking-so}
+use Rattle.assign_heads.proofs.Computed.{serveOf, serve-answers}
+use Rattle.assign_free.specs.Assignable.{isFreeOf}
+use Rattle.assign_free.proofs.Computed.{marksOf, marks-answer}
+use Rattle.cards.specs.declared.Facilities.{Facilities}
+use Rattle.assign.specs.declared.KindChannels.{KindChannels}
+use Rattle.assign.specs.declared.Kinds.{Kinds}
+use Rattle.assign.specs.declared.Assigned.{Assigned}
+use Rattle.assign.specs.Assignment.{Cell, unitKinds, drumLength, wantsOf, noChannels, freeOf}
+use Rattle.assign.specs.Kinds.{KindsDone, KindsAnswer, ServesKinds}
+use Rattle.assign.proofs.KindsLaws.{none-yet, one-more, lacking, all-done}
+use Rattle.assign.specs.Chosen.{nothing, Assigns}
+use Rattle.assign.proofs.ChosenLaws.{no-core, no-drum, no-kind, assigned, assigns-one}
+
+-- ---- the kinds, n of them from a row on
+module _ (units : List (List Unit)) (channels : List Channel) (asked : List ℕ) where
+  abbrev pub serviceAt : ℕ → List Head → Service
+  serviceAt row heads = serveOf (marksOf units channels row) (wantsOf asked row) heads
+
+  unfoldable pub kindsFrom : ℕ → ℕ → List KindChannels → List Head → Kinds
+  kindsFrom zero row named heads = record { ok = true; channels = named; heads = heads }
+  kindsFrom (suc n) row named heads =
+      cond (serviceAt row heads .ok) (kindsFrom n (row + 1) (set named row (record { on = serviceAt row heads .on })) (serviceAt row heads .heads)) (record { ok = false; channels = named; heads = heads })
+
+  abbrev pub kindsOf : Kinds
+  kindsOf = kindsFrom unitKinds 0 (replicate unitKinds noChannels) (replicate 256 blank)
+
+  module _ (size : length channels ≡ 16) (full : length asked ≡ 48) where
+    long : (row : ℕ) → row < unitKinds → length (wantsOf asked row) ≡ 16
+    long row h = length-take-le 16 (drop (row * 16) asked) (simp length-drop (omega arith))
+
+    -- the next kind is served, or it is lacking
+    step : (n row : ℕ) (named : List KindChannels) (heads : List Head) → row < unitKinds → (s : Service) → Serving.Serves (marksOf units channels row) (wantsOf asked row) heads s
+        → (KindsDone (isFreeOf units channels) asked (set named row (record { on = s .on })) (s .heads) (row + 1) → ServesKinds (isFreeOf units channels) asked (kindsFrom n (row + 1) (set named row (record { on = s .on })) (s .heads)))
+        → KindsDone (isFreeOf units channels) asked named heads row
+        → ServesKinds (isFreeOf units channels) asked (cond (s .ok) (kindsFrom n (row + 1) (set named row (record { on = s .on })) (s .heads)) (record { ok = false; channels = named; heads = heads }))
+    step n row named heads h s a more k = by-answer (s .ok) refl
+      where
+        by-answer : (b : Bool) → s .ok ≡ b → ServesKinds (isFreeOf units channels) asked (cond (s .ok) (kindsFrom n (row + 1) (set named row (record { on = s .on })) (s .heads)) (record { ok = false; channels = named; heads = heads }))
+        by-answer true e = rw e (more (one-more units channels asked size row h (marks-answer units channels row) refl (served-so (marksOf units channels row) (wantsOf asked row) heads s e a) k))
+        by-answer false e = rw e (lacking units channels asked size row h (marks-answer units channels row) refl (lacking-so (marksOf units channels row) (wantsOf asked row) heads s e a))
+
+    kinds-from : (n row : ℕ) (named : List KindChannels) (heads : List Head) → row + n ≡ unitKinds → KindsDone (isFreeOf units channels) asked named heads row
+        → ServesKinds (isFreeOf units channels) asked (kindsFrom n row named heads)
+    unfolding kindsFrom
+    kinds-from zero row named heads e k = all-done (omega arith) k
+    kinds-from (suc n) row named heads e k =
+        step n row named heads (omega arith) (serviceAt row heads) (serve-answers (marksOf units channels row) (wantsOf asked row) heads refl (long row (omega arith)) (k .wide))
+        (kinds-from n (row + 1) (set named row (record { on = serviceAt row heads .on })) (serviceAt row heads .heads) (omega arith)) k
+
+    pub kinds-answer : ServesKinds (isFreeOf units channels) asked kindsOf
+    kinds-answer = kinds-from unitKinds 0 (replicate unitKinds noChannels) (replicate 256 blank) refl (none-yet (isFreeOf units channels) asked)
+
+-- ---- the whole
+abbrev pub withKinds : Pair → ℕ → Kinds → Assigned
+withKinds p s k = cond (k .ok) (record { found = true; ib = p .0; db = p .1; drum = s; channels = k .channels; heads = k .heads }) nothing
+
+abbrev pub withDrum : Cell → Facilities → Pair → Start → Assigned
+withDrum cell wanted p (D.At s) = withKinds p s (kindsOf (cell .units) (cell .channels) (wanted .units))
+withDrum cell wanted p D.Nothing = nothing
+
+abbrev pub withCore : Cell → Facilities → Found → Assigned
+withCore cell wanted (C.At p) = withDrum cell wanted p (startOf (cell .areas) (drumLength (cell .channels)) (wanted .md))
+withCore cell wanted C.Nothing = nothing
+
+unfoldable pub assignOf : Cell → Facilities → Assigned
+assignOf cell wanted = withCore cell wanted (searchOf (cell .occupancy) (wanted .ib) (wanted .db))
+
+module _ (cell : Cell) (wanted : Facilities) (size : length (cell .channels) ≡ 16) (full : length (wanted .units) ≡ 48) where
+  with-kinds : (p : Pair) (s : ℕ) → Core.Answers (cell .occupancy) (wanted .ib) (wanted .db) (C.At p) → Drum.Answers (cell .areas) (drumLength (cell .channels)) (wanted .md) (D.At s)
+      → (k : Kinds) (b : Bool) → k .ok ≡ b → KindsAnswer b (freeOf cell) (wanted .units) (k .channels) (k .heads) → Assigns cell wanted (withKinds p s k)
+  with-kinds p s c d k true e a = rw e (assigned cell wanted p s (k .channels) (k .heads) c d a)
+  with-kinds p s c d k false e a = rw e (no-kind cell wanted a refl)
+
+  with-drum : (p : Pair) → Core.Answers (cell .occupancy) (wanted .ib) (wanted .db) (C.At p) → (r : Start) → Drum.Answers (cell .areas) (drumLength (cell .channels)) (wanted .md) r → Assigns cell wanted (withDrum cell wanted p r)
+  with-drum p c (D.At s) d =
+      let k = kindsOf (cell .units) (cell .channels) (wanted .units) in
+      with-kinds p s c d k (k .ok) refl (kinds-answer (cell .units) (cell .channels) (wanted .units) size full)
+  with-drum p c D.Nothing d = no-drum cell wanted d refl
+
+  with-core : (r : Found) → Core.Answers (cell .occupancy) (wanted .ib) (wanted .db) r → Assigns cell wanted (withCore cell wanted r)
+  with-core (C.At p) c = with-drum p c (startOf (cell .areas) (drumLength (cell .channels)) (wanted .md)) (start-answers (cell .areas) (drumLength (cell .channels)) (wanted .md))
+  with-core C.Nothing c = no-core cell wanted c refl
+
+  -- there is always an answer, and it is the computed one
+  pub assign-answers : Assigns cell wanted (assignOf cell wanted)
+  unfolding assignOf
+  assign-answers = with-core (searchOf (cell .occupancy) (wanted .ib) (wanted .db)) (search-answers (cell .occupancy) (wanted .ib) (wanted .db))
+
+  pub computed : (a : Assigned) → Assigns cell wanted a → a ≡ assignOf cell wanted
+  computed a p = assigns-one cell wanted a (assignOf cell wanted) p assign-answers

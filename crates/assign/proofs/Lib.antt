@@ -1,0 +1,4 @@
+pub mod KindsLaws
+pub mod ChosenLaws
+pub mod Computed
+pub mod Parts

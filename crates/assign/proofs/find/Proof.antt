@@ -1,0 +1,82 @@
+-- `facilities::find` meets its contract: the answers of its parts make the whole. Assumes nothing.
+use mathlib.Core.Path.{subst}
+use borrow.Author.Tests.{not-true, not-false}
+use Rattle.assign_core.specs.Core as Core
+use Rattle.assign.specs.Assignment.{cellOf}
+use Rattle.assign.proofs.ChosenLaws.{no-core, no-drum, no-kind, assigned, kinds-served, kinds-lacking, for-length}
+use borrow.Author.Needs.{needs}
+use Rattle.assign.proofs.find.Statement.{statement}
+use Rattle.assign.proofs.find.Tie as tie
+
+cast-search : tie.Need-cast-search
+cast-search c = search needs
+
+cast-search-2 : tie.Need-cast-search-2
+cast-search-2 c = search needs
+
+search-requires : tie.Need-search-requires
+search-requires c κs = search needs
+
+enum-known-pair : tie.Need-enum-known-pair
+enum-known-pair c = search needs
+
+enum-told : tie.Need-enum-told
+enum-told c = search needs
+
+nothing-requires : tie.Need-nothing-requires
+nothing-requires c κs = search needs
+
+returns : tie.Need-returns
+returns c = no-core (cellOf (c .before .before .before .before .before .before .args .units .of) (c .before .before .before .before .before .before .args .occupancy) (c .before .before .before .before .before .before .args .areas) (c .before .before .before .before .before .before .args .channels)) (c .before .before .before .before .before .before .args .wanted) (subst (Core.Answers (c .before .before .before .before .before .before .args .occupancy) (c .before .before .before .before .before .before .args .wanted .ib) (c .before .before .before .before .before .before .args .wanted .db)) (c .before .enum-told .given .1) (c .before .before .before .search .ensures)) (c .nothing .ensures)
+
+drum-length-requires : tie.Need-drum-length-requires
+drum-length-requires c κs = search needs
+
+lowest-start-requires : tie.Need-lowest-start-requires
+lowest-start-requires c κs = search needs
+
+enum-known-start : tie.Need-enum-known-start
+enum-known-start c = search needs
+
+enum-told-2 : tie.Need-enum-told-2
+enum-told-2 c = search needs
+
+nothing-requires-2 : tie.Need-nothing-requires-2
+nothing-requires-2 c κs = search needs
+
+returns-2 : tie.Need-returns-2
+returns-2 c = no-drum (cellOf (c .before .before .before .before .before .before .before .before .before .before .before .args .units .of) (c .before .before .before .before .before .before .before .before .before .before .before .args .occupancy) (c .before .before .before .before .before .before .before .before .before .before .before .args .areas) (c .before .before .before .before .before .before .before .before .before .before .before .args .channels)) (c .before .before .before .before .before .before .before .before .before .before .before .args .wanted) (for-length (c .before .before .before .before .before .before .before .before .before .before .before .args .areas) (c .before .before .before .before .before .before .before .before .before .before .before .args .wanted .md) (c .before .before .before .before .drum-length .ensures) (c .before .enum-told2 .given .1) (c .before .before .before .lowest-start .ensures)) (c .nothing2 .ensures)
+
+serve-kinds-requires : tie.Need-serve-kinds-requires
+serve-kinds-requires c κs = search needs
+
+nothing-requires-3 : tie.Need-nothing-requires-3
+nothing-requires-3 c κs = search needs
+
+returns-3 : tie.Need-returns-3
+returns-3 c = no-kind (cellOf (c .before .before .before .before .before .before .before .before .before .before .before .before .before .before .before .before .args .units .of) (c .before .before .before .before .before .before .before .before .before .before .before .before .before .before .before .before .args .occupancy) (c .before .before .before .before .before .before .before .before .before .before .before .before .before .before .before .before .args .areas) (c .before .before .before .before .before .before .before .before .before .before .before .before .before .before .before .before .args .channels)) (c .before .before .before .before .before .before .before .before .before .before .before .before .before .before .before .before .args .wanted) (kinds-lacking (c .before .before .before .serve-kinds .result) (not-true (c .before .before .before .serve-kinds .result .ok) (c .before .if1 .taken)) (c .before .before .before .serve-kinds .ensures)) (c .nothing3 .ensures)
+
+returns-4 : tie.Need-returns-4
+returns-4 c = assigned (cellOf (c .before .before .before .before .before .before .before .before .before .before .before .before .before .before .before .before .before .args .units .of) (c .before .before .before .before .before .before .before .before .before .before .before .before .before .before .before .before .before .args .occupancy) (c .before .before .before .before .before .before .before .before .before .before .before .before .before .before .before .before .before .args .areas) (c .before .before .before .before .before .before .before .before .before .before .before .before .before .before .before .before .before .args .channels)) (c .before .before .before .before .before .before .before .before .before .before .before .before .before .before .before .before .before .args .wanted) (c .before .before .before .before .before .before .before .before .before .before .before .before .pair .given .0 .0) (c .before .before .before .before .before .before .before .start .given .0 .0) (c .before .before .before .before .serve-kinds .result .channels) (c .before .before .before .before .serve-kinds .result .heads) (subst (Core.Answers (c .before .before .before .before .before .before .before .before .before .before .before .before .before .before .before .before .before .args .occupancy) (c .before .before .before .before .before .before .before .before .before .before .before .before .before .before .before .before .before .args .wanted .ib) (c .before .before .before .before .before .before .before .before .before .before .before .before .before .before .before .before .before .args .wanted .db)) (c .before .before .before .before .before .before .before .before .before .before .before .before .pair .given .1) (c .before .before .before .before .before .before .before .before .before .before .before .before .before .before .search .ensures)) (for-length (c .before .before .before .before .before .before .before .before .before .before .before .before .before .before .before .before .before .args .areas) (c .before .before .before .before .before .before .before .before .before .before .before .before .before .before .before .before .before .args .wanted .md) (c .before .before .before .before .before .before .before .before .before .before .drum-length .ensures) (c .before .before .before .before .before .before .before .start .given .1) (c .before .before .before .before .before .before .before .before .before .lowest-start .ensures)) (kinds-served (c .before .before .before .before .serve-kinds .result) (not-false (c .before .before .before .before .serve-kinds .result .ok) (c .before .before .if1 .left)) (c .before .before .before .before .serve-kinds .ensures))
+
+pub find-spec : {M : Type 1} → statement M
+find-spec =
+    tie.close
+    (tie.spec
+    cast-search
+    cast-search-2
+    search-requires
+    enum-known-pair
+    enum-told
+    nothing-requires
+    returns
+    drum-length-requires
+    lowest-start-requires
+    enum-known-start
+    enum-told-2
+    nothing-requires-2
+    returns-2
+    serve-kinds-requires
+    nothing-requires-3
+    returns-3
+    returns-4)

@@ -1,0 +1,68 @@
+-- `facilities::serve_kinds` meets its contract. The loop's invariant is `KindsDone`. Assumes nothing.
+use Prim.Native.Nat.{_-_}
+use native.Mathlib.Omega.{arith}
+use borrow.Author.Tests.{not-true, not-false}
+use Rattle.assign_heads.proofs.ServingLaws.{served-so, lacking-so}
+use Rattle.assign_free.specs.Assignable.{isFreeOf}
+use Rattle.assign.specs.Kinds.{KindsDone}
+use Rattle.assign.proofs.KindsLaws.{none-yet, one-more, lacking, all-done}
+use borrow.Author.Needs.{needs}
+use Rattle.assign.proofs.serve_kinds.Statement.{statement}
+use Rattle.assign.proofs.serve_kinds.Tie as tie
+
+abbrev Inv-loop : tie.InvT-loop
+Inv-loop units channels asked chosen₀ heads₀ row₀ chosen heads row = KindsDone (isFreeOf (units .of) channels) asked chosen heads row
+
+abbrev μ-loop : tie.MeasureT-loop
+μ-loop units channels asked chosen₀ heads₀ row₀ chosen heads row = 3 - row
+
+loop-holds : tie.Need-loop-holds Inv-loop μ-loop
+loop-holds c = none-yet (isFreeOf (c .args .units .of) (c .args .channels)) (c .args .asked)
+
+free-units-requires : tie.Need-free-units-requires Inv-loop μ-loop
+free-units-requires c κs = search needs
+
+wants-of-requires : tie.Need-wants-of-requires Inv-loop μ-loop
+wants-of-requires c κs = search needs
+
+serve-requires : tie.Need-serve-requires Inv-loop μ-loop
+serve-requires c κs = search needs
+
+returns : tie.Need-returns Inv-loop μ-loop
+returns c = lacking (c .before .before .before .before .before .before .before .args .units .of) (c .before .before .before .before .before .before .before .args .channels) (c .before .before .before .before .before .before .before .args .asked) (omega arith) (c .before .before .before .before .before .before .loop .row) (c .before .before .before .before .before .loop-test .taken) (c .before .before .before .before .free-units .ensures) (c .before .before .before .wants-of .ensures) (lacking-so (c .before .before .before .before .free-units .result) (c .before .before .before .wants-of .result) (c .before .before .before .before .before .before .loop .heads) (c .before .before .serve .result) (not-true (c .before .before .serve .result .ok) (c .if1 .taken)) (c .before .before .serve .ensures))
+
+mul-chosen : tie.Need-mul-chosen Inv-loop μ-loop
+mul-chosen c = search needs
+
+array-set-from-chosen : tie.Need-array-set-from-chosen Inv-loop μ-loop
+array-set-from-chosen c = search needs
+
+add-row : tie.Need-add-row Inv-loop μ-loop
+add-row c = search needs
+
+loop-less : tie.Need-loop-less Inv-loop μ-loop
+loop-less c = omega arith
+
+loop-again : tie.Need-loop-again Inv-loop μ-loop
+loop-again c = one-more (c .before .before .before .before .before .before .before .before .before .args .units .of) (c .before .before .before .before .before .before .before .before .before .args .channels) (c .before .before .before .before .before .before .before .before .before .args .asked) (omega arith) (c .before .before .before .before .before .before .before .before .loop .row) (c .before .before .before .before .before .before .before .loop-test .taken) (c .before .before .before .before .before .before .free-units .ensures) (c .before .before .before .before .before .wants-of .ensures) (served-so (c .before .before .before .before .before .before .free-units .result) (c .before .before .before .before .before .wants-of .result) (c .before .before .before .before .before .before .before .before .loop .heads) (c .before .before .before .before .serve .result) (not-false (c .before .before .before .before .serve .result .ok) (c .before .before .if1 .left)) (c .before .before .before .before .serve .ensures)) (c .before .before .before .before .before .before .before .before .loop .inv)
+
+returns-2 : tie.Need-returns-2 Inv-loop μ-loop
+returns-2 c = all-done (c .loop-test .left) (c .before .loop .inv)
+
+pub serve-kinds-spec : {M : Type 1} → statement M
+serve-kinds-spec =
+    tie.close
+    (tie.spec
+    Inv-loop
+    μ-loop
+    loop-holds
+    free-units-requires
+    wants-of-requires
+    serve-requires
+    returns
+    mul-chosen
+    array-set-from-chosen
+    add-row
+    loop-less
+    loop-again
+    returns-2)

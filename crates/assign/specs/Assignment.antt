@@ -1,0 +1,91 @@
+-- What an assignment is, whichever it is.
+use Prim.Native.Nat.{ℕ, _*_, _<_}
+use mathlib.Core.Path.{_≡_}
+use mathlib.Core.Bool.{Bool, true, cond}
+use mathlib.Core.List.{List, [], _∷_}
+use lib.ListN.{length, getD, take, drop, replicate}
+use Rattle.numbers.specs.declared.ChannelNumber.{ChannelNumber}
+use Rattle.numbers.specs.Kinds.{isDrum}
+use Rattle.units.specs.declared.Unit.{Unit}
+use Rattle.channels.specs.declared.Fitted.{Fitted}
+use Rattle.channels.specs.declared.Fitted.the-variants as F
+use Rattle.channels.specs.declared.Channel.{Channel}
+use Rattle.assign_core.specs.Core as Core
+use Rattle.assign_drum.specs.declared.Area.{Area}
+use Rattle.assign_drum.specs.Drum as Drum
+use Rattle.assign_channels.specs.Choice.{channel, want, on}
+use Rattle.assign_heads.specs.declared.Given.{Given}
+use Rattle.assign_heads.specs.declared.Given.the-variants.{Nothing}
+use Rattle.assign_heads.specs.Heads.{isGiven, Served}
+use Rattle.assign_heads.specs.Whose.{blank}
+use Rattle.assign_free.specs.Assignable.{isFreeOf}
+use Rattle.cards.specs.declared.Facilities.{Facilities}
+use Rattle.assign.specs.declared.KindChannels.{KindChannels}
+use Rattle.assign.specs.declared.Assigned.{Assigned}
+
+-- what the assigner looks at: the units, the core blocks that are taken, the drum areas held by the 16 places, the configured channels
+pub record Cell : Type 0 where
+  pub units : List (List Unit)
+  pub occupancy : ℕ
+  pub areas : List Area
+  pub channels : List Channel
+
+abbrev pub cellOf : List (List Unit) → ℕ → List Area → List Channel → Cell
+cellOf units occupancy areas channels = record { units = units; occupancy = occupancy; areas = areas; channels = channels }
+
+-- the kinds that have units: MA, MT and PR, by their rows
+abbrev pub unitKinds : ℕ
+unitKinds = 3
+
+-- the drum's length, of the one drum channel; 0 without
+abbrev pub lengthIn : Fitted → ℕ → ℕ
+lengthIn F.Nothing other = other
+lengthIn (F.With kind n) other = cond (isDrum kind) n other
+
+unfoldable pub drumLength : List Channel → ℕ
+drumLength [] = 0
+drumLength (c ∷ cs) = lengthIn (c .has) (drumLength cs)
+
+-- what the entries of a kind ask for, by logical channel
+abbrev pub wantsOf : List ℕ → ℕ → List ℕ
+wantsOf asked kind = take 16 (drop (kind * 16) asked)
+
+-- the channels that the entries of a kind have, by logical channel
+abbrev pub noChannels : KindChannels
+noChannels = record { on = replicate 16 (channel 0) }
+
+abbrev pub channelsOf : Assigned → ℕ → List ChannelNumber
+channelsOf a kind = getD (a .channels) kind noChannels .on
+
+-- unit i is of the kind and assignable
+abbrev pub freeOf : Cell → ℕ → ℕ → Bool
+freeOf cell kind i = isFreeOf (cell .units) (cell .channels) kind i
+
+-- to which entry unit i is given
+abbrev pub given : Assigned → ℕ → Given
+given a i = getD (a .heads) i blank .to
+
+-- to which entry of the kind unit i is given, nothing where it is of another kind
+abbrev pub givenOf : Cell → ℕ → Assigned → ℕ → Given
+givenOf cell kind a i = cond (freeOf cell kind i) (given a i) Nothing
+
+-- a unit is of one of the kinds, and assignable
+pub record Assignable (cell : Cell) (i : ℕ) : Type 0 where
+  pub kind : ℕ
+  pub is-kind : kind < unitKinds
+  pub free : freeOf cell kind i ≡ true
+
+-- every facility has its place in the lists
+pub record Shaped (a : Assigned) : Type 0 where
+  pub kinds : length (a .channels) ≡ unitKinds
+  pub entries : (kind : ℕ) → kind < unitKinds → length (channelsOf a kind) ≡ 16
+  pub units : length (a .heads) ≡ 256
+
+-- An assignment: a run of IB blocks and, if DB is asked for, a disjoint run of DB blocks; a drum area if asked for; for each kind, every entry
+-- with logical channel 1-15 on a channel of its own, all its units there; the logical channel 0 entry on any remaining units of that kind.
+pub record IsAssignment (cell : Cell) (wanted : Facilities) (a : Assigned) : Type 0 where
+  pub shaped : Shaped a
+  pub core : Core.Fits (cell .occupancy) (wanted .ib) (wanted .db) (a .ib) (a .db)
+  pub drum : Drum.Fits (cell .areas) (drumLength (cell .channels)) (wanted .md) (a .drum)
+  pub only : (i : ℕ) → isGiven (given a i) ≡ true → Assignable cell i
+  pub kinds : (kind : ℕ) → kind < unitKinds → Served (freeOf cell kind) (want (wantsOf (wanted .units) kind)) (on (channelsOf a kind)) (givenOf cell kind a)

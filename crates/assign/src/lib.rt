@@ -1,0 +1,169 @@
+// The facilities that a job gets: core, drum area, and units of each kind.
+use assign_core::Found;
+use assign_drum::Area;
+use assign_drum::Start;
+use assign_heads::Given;
+use assign_heads::Head;
+use cards::Facilities;
+use cards::Request;
+use channels::Channel;
+use channels::Fitted;
+use numbers::ChannelNumber;
+use units::Units;
+ghost use mathlib.Core.Path.{_≡_};
+ghost use Prim.Native.Nat.{_<_, _*_};
+ghost use lib.ListN.{take, drop};
+ghost use Rattle.assign_free.specs.Assignable.{isFreeOf};
+ghost use Rattle.assign.specs.Assignment.{drumLength, cellOf};
+ghost use Rattle.assign.specs.Kinds.{ServesKinds};
+ghost use Rattle.assign.specs.Chosen.{nothing, Assigns};
+
+// The channels of a kind's entries, by logical channel; 0 where there is no entry.
+pub struct KindChannels {
+    pub on: [ChannelNumber; 16],
+}
+
+// Whether there is an assignment; then the starts of its blocks and drum area, 0 where none are asked for, the channels of each kind's entries,
+// and to which entry of its channel's kind each unit is given, unit u of channel c at c * 16 + u.
+pub struct Assigned {
+    pub found: bool,
+    pub ib: u32,
+    pub db: u32,
+    pub drum: u32,
+    pub channels: [KindChannels; 3],
+    pub heads: [Head; 256],
+}
+
+// Whether every kind is served; then as in Assigned.
+struct Kinds {
+    ok: bool,
+    channels: [KindChannels; 3],
+    heads: [Head; 256],
+}
+
+// No facility is named.
+fn nothing() -> Assigned
+    ensures { λ r. ⌜ r ≡ nothing ⌝ }
+{
+    let none = [ChannelNumber(0); 16];
+    Assigned {
+        found: false,
+        ib: 0,
+        db: 0,
+        drum: 0,
+        channels: [KindChannels { on: none }; 3],
+        heads: [Head { to: Given::Nothing }; 256],
+    }
+}
+
+// The drum's length; 0 without a drum.
+fn drum_length(channels: [Channel; 16]) -> u32
+    ensures { λ r. ⌜ r ≡ drumLength channels ⌝ }
+{
+    let mut c: usize = 0;
+    while c < 16 {
+        let channel = channels[c];
+        let has = channel.has;
+        if let Fitted::With(kind, n) = has {
+            if numbers::is_drum(kind) {
+                return n;
+            }
+        }
+        c += 1;
+    }
+    0
+}
+
+// What the entries of a kind ask for.
+fn wants_of(units: [u8; 48], row: usize) -> [u8; 16]
+    requires { ⌜ row < 3 ⌝ }
+    ensures { λ r. ⌜ r ≡ take 16 (drop (row * 16) units) ⌝ }
+{
+    let mut wants = [0u8; 16];
+    let mut l: usize = 0;
+    while l < 16 {
+        wants[l] = units[row * 16 + l];
+        l += 1;
+    }
+    wants
+}
+
+// Serves the kinds in the order of their rows, MA, MT, PR; the first that is lacking ends it.
+fn serve_kinds(units: Units, channels: [Channel; 16], asked: [u8; 48]) -> Kinds
+    ensures { λ r. ⌜ ServesKinds (isFreeOf (units .of) channels) asked r ⌝ }
+{
+    let none = [ChannelNumber(0); 16];
+    let mut chosen = [KindChannels { on: none }; 3];
+    let mut heads = [Head { to: Given::Nothing }; 256];
+    let mut row: usize = 0;
+    while row < 3 {
+        let free = assign_free::free_units(units, channels, row);
+        let wants = wants_of(asked, row);
+        let service = assign_heads::serve(free, wants, heads);
+        if !service.ok {
+            return Kinds {
+                ok: false,
+                channels: chosen,
+                heads,
+            };
+        }
+        let on = service.on;
+        let next = service.heads;
+        chosen[row] = KindChannels { on };
+        heads = next;
+        row += 1;
+    }
+    Kinds {
+        ok: true,
+        channels: chosen,
+        heads,
+    }
+}
+
+// The assignment that is chosen for what a job asks for, or nothing where there is none. The parts are looked for in the order core, drum,
+// MA, MT, PR.
+fn find(
+    units: Units,
+    occupancy: u32,
+    areas: [Area; 16],
+    channels: [Channel; 16],
+    wanted: Facilities,
+) -> Assigned
+    ensures { λ r. ⌜ Assigns (cellOf (units .of) occupancy areas channels) wanted r ⌝ }
+{
+    let Found::At(pair) = assign_core::search(occupancy, wanted.ib as u32, wanted.db as u32) else {
+        return nothing();
+    };
+    let Start::At(start) = assign_drum::lowest_start(areas, drum_length(channels), wanted.md) else {
+        return nothing();
+    };
+    let asked = wanted.units;
+    let kinds = serve_kinds(units, channels, asked);
+    if !kinds.ok {
+        return nothing();
+    }
+    let named = kinds.channels;
+    let heads = kinds.heads;
+    Assigned {
+        found: true,
+        ib: pair.0,
+        db: pair.1,
+        drum: start,
+        channels: named,
+        heads,
+    }
+}
+
+// The assignment that is chosen for a job request, or nothing where there is none.
+pub fn assign(
+    units: Units,
+    occupancy: u32,
+    areas: [Area; 16],
+    channels: [Channel; 16],
+    request: Request,
+) -> Assigned
+    ensures { λ r. ⌜ Assigns (cellOf (units .of) occupancy areas channels) (request .facilities) r ⌝ }
+{
+    let wanted = request.facilities;
+    find(units, occupancy, areas, channels, wanted)
+}

@@ -1,0 +1,5 @@
+pub mod HallLaws
+pub mod GreedyLaws
+pub mod ChoiceLaws
+pub mod Marked
+pub mod Loops

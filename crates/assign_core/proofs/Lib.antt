@@ -1,0 +1,3 @@
+pub mod CoreLaws
+pub mod Computed
+pub mod Marked

@@ -1,0 +1,74 @@
+// The core that a job gets: two runs of free blocks, found in the occupancy word.
+ghost use Prim.Native.Nat.{_+_, _≤_};
+ghost use Rattle.numbers.specs.Decides.{Decides};
+ghost use Rattle.assign_core.specs.Core.{Run, Beside, Answers};
+
+// The starts of a job's two runs of blocks, IB's and DB's.
+pub struct Pair(pub u32, pub u32);
+
+pub enum Found {
+    At(Pair),
+    Nothing,
+}
+
+// Whether n blocks from a start are a run: assignable blocks, all free. A set bit of the word is a taken block.
+pub fn is_run(word: u32, n: u32, from: u32) -> bool
+    ensures { λ r. ⌜ Decides (Run word n from) r ⌝ }
+{
+    if from < 2 {
+        return false;
+    }
+    if 30 < from {
+        return false;
+    }
+    if 30 - from < n {
+        return false;
+    }
+    let end = from + n;
+    let mut b = from;
+    while b < end {
+        if (word >> b) % 2 == 1 {
+            return false;
+        }
+        b += 1;
+    }
+    true
+}
+
+// Whether db blocks from j are a run that shares no block with the ib blocks from i.
+fn is_beside(word: u32, i: u32, ib: u32, db: u32, j: u32) -> bool
+    requires { ⌜ i + ib ≤ 30 ⌝ }
+    ensures { λ r. ⌜ Decides (Beside word i ib db j) r ⌝ }
+{
+    if !is_run(word, db, j) {
+        return false;
+    }
+    if j + db <= i {
+        return true;
+    }
+    i + ib <= j
+}
+
+// The least pair of starts at which ib blocks and db blocks are free and apart.
+pub fn search(word: u32, ib: u32, db: u32) -> Found
+    ensures { λ r. ⌜ Answers word ib db r ⌝ }
+{
+    let mut i: u32 = 2;
+    let found = 'search: loop {
+        if 30 < i {
+            break Found::Nothing;
+        }
+        if is_run(word, ib, i) {
+            let mut j: u32 = 0;
+            while j <= 30 {
+                // A DB that is not asked for fits anywhere.
+                if db == 0 || is_beside(word, i, ib, db, j) {
+                    break 'search Found::At(Pair(i, j));
+                }
+                j += 1;
+            }
+        }
+        i += 1;
+    };
+    found
+}

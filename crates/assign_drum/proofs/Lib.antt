@@ -1,0 +1,4 @@
+pub mod BlocksLaws
+pub mod DrumLaws
+pub mod Marked
+pub mod Computed

@@ -1,0 +1,2 @@
+pub mod Drum
+pub mod Blocks

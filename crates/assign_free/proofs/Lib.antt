@@ -1,0 +1,3 @@
+pub mod AssignableLaws
+pub mod Computed
+pub mod Marking

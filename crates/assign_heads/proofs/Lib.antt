@@ -1,0 +1,10 @@
+pub mod SumsLaws
+pub mod GivingLaws
+pub mod PassedLaws
+pub mod Counting
+pub mod HeadsLaws
+pub mod HeadsOne
+pub mod GaveOutLaws
+pub mod ServingLaws
+pub mod Computed
+pub mod Turns

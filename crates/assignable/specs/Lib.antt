@@ -1,4 +1,0 @@
-pub mod Assignable
-pub mod Counts
-pub mod AssignableLaws
-pub mod Computed

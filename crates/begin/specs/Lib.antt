@@ -1,3 +1,0 @@
-pub mod Opening
-pub mod LineLaws
-pub mod Meaning

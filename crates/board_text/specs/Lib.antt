@@ -1,3 +1,0 @@
-pub mod Board
-pub mod Bounds
-pub mod Example

@@ -1,0 +1,68 @@
+-- `unit_lines::put_state` meets its contract: one piece after the other. Assumes nothing.
+use Rattle.text.proofs.RoomLaws.{andThen}
+use Rattle.board_units.specs.Units.{stateText}
+use borrow.Author.Needs.{needs}
+use Rattle.board_units.proofs.put_state.Statement.{statement}
+use Rattle.board_units.proofs.put_state.Tie as tie
+
+slice-aggregate-put-bytes : tie.Need-slice-aggregate-put-bytes
+slice-aggregate-put-bytes c = search needs
+
+put-bytes-requires : tie.Need-put-bytes-requires
+put-bytes-requires c κs = search needs
+
+put-unit-requires : tie.Need-put-unit-requires
+put-unit-requires c κs = search needs
+
+put-holder-requires : tie.Need-put-holder-requires
+put-holder-requires c κs = search needs
+
+slice-aggregate-put-word : tie.Need-slice-aggregate-put-word
+slice-aggregate-put-word c = search needs
+
+put-word-requires : tie.Need-put-word-requires
+put-word-requires c κs = search needs
+
+slice-aggregate-put-word-2 : tie.Need-slice-aggregate-put-word-2
+slice-aggregate-put-word-2 c = search needs
+
+put-word-requires-2 : tie.Need-put-word-requires-2
+put-word-requires-2 c κs = search needs
+
+is-locked-requires : tie.Need-is-locked-requires
+is-locked-requires c κs = search needs
+
+slice-aggregate-put-word-3 : tie.Need-slice-aggregate-put-word-3
+slice-aggregate-put-word-3 c = search needs
+
+put-word-requires-3 : tie.Need-put-word-requires-3
+put-word-requires-3 c κs = search needs
+
+put-byte-requires : tie.Need-put-byte-requires
+put-byte-requires c κs = search needs
+
+same-length : tie.Need-same-length
+same-length c = search needs
+
+returns : tie.Need-returns
+unfolding stateText
+returns c = andThen (c .before .before .before .before .before .before .before .before .before .before .before .before .before .before .before .before .before .before .before .before .before .before .before .before .before .before .before .before .before .before .put-bytes .ensures) (andThen (c .before .before .before .before .before .before .before .before .before .before .before .before .before .before .before .before .before .before .before .before .before .before .before .before .before .before .put-unit .ensures) (andThen (c .before .before .before .before .before .before .before .before .before .before .before .before .before .before .before .before .before .before .before .before .before .before .put-holder .ensures) (andThen (c .before .before .before .before .before .before .before .before .before .before .before .before .before .before .before .before .before .put-word .ensures) (andThen (c .before .before .before .before .before .before .before .before .before .before .before .before .put-word2 .ensures) (andThen (rw (c .before .before .before .before .before .before .before .before .is-locked .ensures) at (c .before .before .before .before .before .before .put-word3 .ensures)) (c .before .before .put-byte .ensures))))))
+
+pub put-state-spec : {M : Type 1} → statement M
+put-state-spec =
+    tie.close
+    (tie.spec
+    slice-aggregate-put-bytes
+    put-bytes-requires
+    put-unit-requires
+    put-holder-requires
+    slice-aggregate-put-word
+    put-word-requires
+    slice-aggregate-put-word-2
+    put-word-requires-2
+    is-locked-requires
+    slice-aggregate-put-word-3
+    put-word-requires-3
+    put-byte-requires
+    same-length
+    returns)

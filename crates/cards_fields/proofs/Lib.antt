@@ -1,0 +1,3 @@
+pub mod FieldLaws
+pub mod DeckLaws
+pub mod Groups

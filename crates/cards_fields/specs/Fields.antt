@@ -1,0 +1,70 @@
+-- A card: its fields, read loosely on any bytes, and whether it is malformed.
+use Prim.Native.Nat.{ℕ, zero, suc}
+use mathlib.Core.Bool.{Bool, true, false, cond, _&&_, _||_, not}
+use mathlib.Core.List.{List, [], _∷_}
+use lib.Dec.{eqb, ltb, leb}
+use lib.ListN.{length, getD}
+use Rattle.numbers.specs.Quoted.{byte, bytes}
+use Rattle.text.specs.Class.{isAlnum}
+use Rattle.words.specs.Words.{has, same}
+use Rattle.cards_fields.specs.declared.Field.{Field}
+
+-- "a period or line end ends all fields": what stands before the first period
+abbrev pub upToPeriod : List ℕ → List ℕ
+upToPeriod [] = []
+upToPeriod (b ∷ s) = cond (eqb b (byte ".")) [] (b ∷ upToPeriod s)
+
+-- "Spaces are dropped"
+abbrev pub spaceless : List ℕ → List ℕ
+spaceless [] = []
+spaceless (b ∷ s) = cond (eqb b (byte " ")) (spaceless s) (b ∷ spaceless s)
+
+-- one byte more in front of the first field
+abbrev pub onto : ℕ → List (List ℕ) → List (List ℕ)
+onto b [] = (b ∷ []) ∷ []
+onto b (f ∷ fs) = (b ∷ f) ∷ fs
+
+-- "fields split by commas"
+abbrev pub split : List ℕ → List (List ℕ)
+split [] = [] ∷ []
+split (b ∷ s) = cond (eqb b (byte ",")) ([] ∷ split s) (onto b (split s))
+
+-- a card's fields
+unfoldable pub fields : List ℕ → List (List ℕ)
+fields s = split (spaceless (upToPeriod s))
+
+-- the field at a place, the first at 0; a missing field is empty
+abbrev pub field : List ℕ → ℕ → List ℕ
+field s k = getD (fields s) k []
+
+-- the field at a place is a word of at most twelve bytes
+abbrev pub fieldIs : List ℕ → ℕ → List ℕ → Bool
+fieldIs s k word = leb (length word) 12 && same (field s k) word
+
+-- "A card whose second field is PTY opens a group"
+abbrev pub isPty : List ℕ → Bool
+isPty s = same (field s 1) (bytes "PTY")
+
+-- "A-Z, 0-9, space and - / * = : , ."
+unfoldable pub cardByte : ℕ → Bool
+cardByte b = isAlnum b || has (bytes " -/*=:,.") b
+
+-- such characters alone, and a period with only spaces after it; `over`: the period was passed
+abbrev pub closed : Bool → List ℕ → Bool
+closed over [] = over
+closed true (b ∷ s) = cardByte b && (eqb b (byte " ") && closed true s)
+closed false (b ∷ s) = cardByte b && closed (eqb b (byte ".")) s
+
+-- "a card is at most 80 characters of .., with a period and only spaces after it; else it is malformed"
+unfoldable pub malformed : List ℕ → Bool
+malformed s = ltb 80 (length s) || not (closed false s)
+
+-- a name or a text in a fixed width: blanks fill what is left
+abbrev pub padded : ℕ → List ℕ → List ℕ
+padded zero s = []
+padded (suc w) [] = byte " " ∷ padded w []
+padded (suc w) (b ∷ s) = b ∷ padded w s
+
+-- a field as the code holds it: its first twelve bytes, and how long it is
+abbrev pub fieldOf : List ℕ → Field
+fieldOf t = record { bytes = padded 12 t; len = length t }

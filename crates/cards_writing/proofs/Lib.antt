@@ -1,0 +1,6 @@
+pub mod PutLaws
+pub mod CheckLaws
+pub mod Back
+pub mod Again
+pub mod Round
+pub mod Kept

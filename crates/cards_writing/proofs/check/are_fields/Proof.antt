@@ -1,0 +1,55 @@
+-- `writing::check::are_fields` meets its contract. The loop's invariant: the fields before place k are right, so whether all are is said by those from there on.
+-- Assumes nothing.
+use Prim.Native.Nat.{_-_, _≤_}
+use mathlib.Core.Path.{_≡_, refl, sym, ap, _∙_}
+use native.Mathlib.Omega.{arith}
+use borrow.Author.Tests.{not-true, not-false}
+use Rattle.cards.specs.Errors.{good}
+use Rattle.cards.specs.Pty.{fieldsError}
+use Rattle.cards.proofs.PtyLaws.{fromPlace, fields-done}
+use Rattle.cards_writing.specs.Writing.{ptyFields}
+use Rattle.cards_writing.proofs.CheckLaws.{fields-wrong, fields-right}
+use borrow.Author.Needs.{needs}
+use Rattle.cards_writing.proofs.check.are_fields.Statement.{statement}
+use Rattle.cards_writing.proofs.check.are_fields.Tie as tie
+
+abbrev Inv-loop : tie.InvT-loop
+Inv-loop r k₀ k = (k ≤ 14) × (good (fromPlace k (ptyFields r)) ≡ good (fieldsError (ptyFields r)))
+
+abbrev μ-loop : tie.MeasureT-loop
+μ-loop r k₀ k = 14 - k
+
+loop-holds : tie.Need-loop-holds Inv-loop μ-loop
+loop-holds c = (omega arith, refl)
+
+is-field-requires : tie.Need-is-field-requires Inv-loop μ-loop
+is-field-requires c κs = search needs
+
+returns : tie.Need-returns Inv-loop μ-loop
+returns c = sym (fields-wrong (ptyFields (c .before .before .before .before .args .r)) (c .before .before .before .loop .k) (c .before .before .loop-test .taken) (c .before .is-field .result) (c .before .is-field .ensures) (not-true _ (c .if1 .taken))) ∙ c .before .before .before .loop .inv .1
+
+add-k : tie.Need-add-k Inv-loop μ-loop
+add-k c = search needs
+
+loop-less : tie.Need-loop-less Inv-loop μ-loop
+loop-less c = search needs
+
+loop-again : tie.Need-loop-again Inv-loop μ-loop
+loop-again c = (omega arith, sym (fields-right (ptyFields (c .before .before .before .before .args .r)) (c .before .before .before .loop .k) (c .before .before .loop-test .taken) (c .before .is-field .result) (c .before .is-field .ensures) (not-false _ (c .if1 .left))) ∙ c .before .before .before .loop .inv .1)
+
+returns-2 : tie.Need-returns-2 Inv-loop μ-loop
+returns-2 c = sym (ap good (fields-done (ptyFields (c .before .before .args .r)) (c .before .loop .k) (c .loop-test .left))) ∙ c .before .loop .inv .1
+
+pub are-fields-spec : {M : Type 1} → statement M
+are-fields-spec =
+    tie.close
+    (tie.spec
+    Inv-loop
+    μ-loop
+    loop-holds
+    is-field-requires
+    returns
+    add-k
+    loop-less
+    loop-again
+    returns-2)

@@ -1,0 +1,145 @@
+-- A request as its two cards, and the requests that the writer takes.
+use Prim.Native.Nat.{ℕ, suc, _+_, _-_, _/_, _%_}
+use mathlib.Core.Bool.{Bool, true, false, cond, _&&_}
+use mathlib.Core.List.{List, [], _∷_, _++_}
+use lib.Dec.{eqb, ltb, leb}
+use lib.ListN.{length, getD, drop}
+use Rattle.numbers.specs.Quoted.{byte, bytes}
+use Rattle.numbers.specs.declared.Refusal.the-variants.{NoRoom, WrongRequest}
+use Rattle.text.specs.Class.{isLetter}
+use Rattle.text.specs.Writing.{twoText, decimalText}
+use Rattle.cards_fields.specs.Fields.{spaceless}
+use Rattle.cards_fields.specs.Deck.{lf}
+use Rattle.cards.specs.Errors.{good}
+use Rattle.cards.specs.Pty.{fieldsError}
+use Rattle.cards.specs.Fac.{codes, slots, coreError, asksOf}
+use Rattle.cards.specs.declared.Request.{Request}
+use Rattle.cards_writing.specs.declared.Wrote.{Wrote}
+use Rattle.cards_writing.specs.declared.Wrote.the-variants.{Cards, Refused}
+
+-- "sequence two digits or absent, precedence always two digits"
+unfoldable pub priorityText : Request → List ℕ
+priorityText r = cond (eqb (r .sequence) 0) [] (twoText (r .sequence)) ++ (r .letter ∷ twoText (r .precedence))
+
+-- "no spaces": a mark that is a blank is an empty field
+abbrev pub markText : ℕ → List ℕ
+markText b = spaceless (b ∷ [])
+
+-- the fields of the PTY card; it is one of two cards; "numbers without leading zeros"
+unfoldable pub ptyFields : Request → List (List ℕ)
+ptyFields r =
+    spaceless (r .id)
+    ∷ bytes "PTY"
+    ∷ bytes "2"
+    ∷ markText (r .rush)
+    ∷ spaceless (r .program)
+    ∷ markText (r .immediate)
+    ∷ markText (r .device)
+    ∷ spaceless (r .medium)
+    ∷ markText (r .mode)
+    ∷ priorityText r
+    ∷ markText (r .mix)
+    ∷ decimalText (r .minutes)
+    ∷ markText (r .store)
+    ∷ spaceless (r .library)
+    ∷ []
+
+-- a field in front of others; an empty one in front of none is left off
+abbrev pub front : List ℕ → List (List ℕ) → List (List ℕ)
+front [] [] = []
+front [] (g ∷ gs) = [] ∷ g ∷ gs
+front (b ∷ f) gs = (b ∷ f) ∷ gs
+
+-- "no trailing empty fields"
+abbrev pub trimmed : List (List ℕ) → List (List ℕ)
+trimmed [] = []
+trimmed (f ∷ fs) = front f (trimmed fs)
+
+-- the code of a slot
+abbrev pub codeAt : ℕ → ℕ
+codeAt k = cond (ltb k 3) k (3 + (k - 3) / 16)
+
+-- the logical channel of a slot
+abbrev pub channelAt : ℕ → ℕ
+channelAt k = cond (ltb k 3) 0 ((k - 3) % 16)
+
+-- an entry: its code, its logical channel, "0 unwritten", and its number
+unfoldable pub entryText : ℕ → ℕ → List ℕ
+entryText k n = getD codes (codeAt k) [] ++ (cond (eqb (channelAt k) 0) [] (decimalText (channelAt k)) ++ (byte "/" ∷ decimalText n))
+
+-- "entries in order IB, DB, MD, MA, MT, PR, then by logical channel": the order of the slots, from slot k on
+abbrev pub entryTexts : ℕ → List ℕ → List (List ℕ)
+entryTexts k [] = []
+entryTexts k (n ∷ ns) = cond (eqb n 0) (entryTexts (suc k) ns) (entryText k n ∷ entryTexts (suc k) ns)
+
+-- the fields of the FAC card
+abbrev pub facFields : Request → List (List ℕ)
+facFields r = spaceless (r .id) ∷ bytes "FAC" ∷ entryTexts 0 (asksOf (r .facilities))
+
+-- what follows a card's first field: a comma before each other, a period behind the last
+abbrev pub tailText : List (List ℕ) → List ℕ
+tailText [] = byte "." ∷ []
+tailText (f ∷ fs) = byte "," ∷ (f ++ tailText fs)
+
+-- fields as a card
+abbrev pub cardText : List (List ℕ) → List ℕ
+cardText [] = byte "." ∷ []
+cardText (f ∷ fs) = f ++ tailText fs
+
+-- the PTY card
+unfoldable pub ptyText : Request → List ℕ
+ptyText r = cardText (trimmed (ptyFields r))
+
+-- the FAC card
+unfoldable pub facText : Request → List ℕ
+facText r = cardText (facFields r)
+
+-- THE TEXT OF A REQUEST: its two cards, each with its LF
+unfoldable pub textOf : Request → List ℕ
+textOf r = ptyText r ++ (lf ∷ (facText r ++ (lf ∷ [])))
+
+-- in the one form: blanks only behind a name; `over`: a blank was passed
+abbrev pub formedFrom : Bool → List ℕ → Bool
+formedFrom over [] = true
+formedFrom true (b ∷ s) = eqb b (byte " ") && formedFrom true s
+formedFrom false (b ∷ s) = formedFrom (eqb b (byte " ")) s
+
+-- and as many bytes as its array has
+abbrev pub formed : ℕ → List ℕ → Bool
+formed w s = eqb (length s) w && formedFrom false s
+
+-- the numbers that a card can hold: under 100, for MD under 1,000,000
+abbrev pub limit : ℕ → ℕ
+limit k = cond (eqb k 2) 1000000 100
+
+-- every number of the slots from k on is one of those
+abbrev pub numbersFit : ℕ → List ℕ → Bool
+numbersFit k [] = eqb k slots
+numbersFit k (n ∷ ns) = ltb n (limit k) && numbersFit (suc k) ns
+
+-- the names are in the one form
+abbrev pub namesFormed : Request → Bool
+namesFormed r = formed 6 (r .id) && (formed 12 (r .program) && (formed 6 (r .medium) && formed 6 (r .library)))
+
+-- the priority's parts and the minutes are ones that a card can hold
+abbrev pub rangesGood : Request → Bool
+rangesGood r = isLetter (r .letter) && (ltb (r .sequence) 64 && (ltb (r .precedence) 64 && ltb (r .minutes) 10000))
+
+-- 13: "request to write against a field, entry, 14 or 27 rule above"
+unfoldable pub takes : Request → Bool
+takes r =
+    namesFormed r
+    && (rangesGood r
+    && (good (fieldsError (ptyFields r)) && (numbersFit 0 (asksOf (r .facilities)) && good (coreError (asksOf (r .facilities))))))
+
+-- 12: "card to write over 80 characters, or lent room too short"
+unfoldable pub fits : Request → ℕ → Bool
+fits r room = leb (length (ptyText r)) 80 && (leb (length (facText r)) 80 && leb (length (textOf r)) room)
+
+-- WHAT WRITING ANSWERS: 13 before 12, else how many bytes the cards take
+unfoldable pub writeAnswer : Request → ℕ → Wrote
+writeAnswer r room = cond (takes r) (cond (fits r room) (Cards (length (textOf r))) (Refused NoRoom)) (Refused WrongRequest)
+
+-- and what the lent room then holds: the cards, and behind them what was there; all of what was there on refusal
+unfoldable pub written : Request → List ℕ → List ℕ
+written r room = cond (takes r && fits r (length room)) (textOf r ++ drop (length (textOf r)) room) room

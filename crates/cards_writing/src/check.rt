@@ -1,0 +1,135 @@
+// Whether a request is one that a card can hold.
+use crate::put;
+use cards::Facilities;
+use cards::Request;
+use cards::error;
+use cards::fac;
+use cards::pty;
+ghost use mathlib.Core.Path.{_≡_};
+ghost use mathlib.Core.Bool.{false};
+ghost use mathlib.Core.List.{[]};
+ghost use Prim.Native.Nat.{_<_};
+ghost use lib.ListN.{getD};
+ghost use Rattle.cards.specs.Errors.{good};
+ghost use Rattle.cards.specs.Pty.{ruleAt, fieldError, fieldsError};
+ghost use Rattle.cards.specs.Fac.{asksOf};
+ghost use Rattle.cards_writing.specs.Writing.{ptyFields, formedFrom, limit, numbersFit, namesFormed, rangesGood, takes};
+
+// Whether a name has blanks only behind it.
+fn is_formed(name: &[u8]) -> bool
+    ensures { λ r. ⌜ r ≡ formedFrom false (now (name .entry)) ⌝ }
+{
+    let mut over = false;
+    let mut i: usize = 0;
+    while i < name.len() {
+        let b = name[i];
+        i += 1;
+        if over {
+            if b != b' ' {
+                return false;
+            }
+        } else {
+            over = b == b' ';
+        }
+    }
+    true
+}
+
+fn are_formed(r: Request) -> bool
+    ensures { λ b. ⌜ b ≡ namesFormed r ⌝ }
+{
+    let id = r.id;
+    if !is_formed(&id) {
+        return false;
+    }
+    let program = r.program;
+    if !is_formed(&program) {
+        return false;
+    }
+    let medium = r.medium;
+    if !is_formed(&medium) {
+        return false;
+    }
+    let library = r.library;
+    is_formed(&library)
+}
+
+// Whether the text of a field is right; it is put into an array one byte longer than any may be, so that a longer one shows.
+fn is_field(r: Request, k: usize) -> bool
+    ensures { λ b. ⌜ b ≡ good (fieldError k (ruleAt k) (getD (ptyFields r) k [])) ⌝ }
+{
+    let mut text = [0u8; 13];
+    let n = put::put_field(&mut text, 0, r, k);
+    error::is_good(pty::field_error(k, &text[..n]))
+}
+
+fn are_fields(r: Request) -> bool
+    ensures { λ b. ⌜ b ≡ good (fieldsError (ptyFields r)) ⌝ }
+{
+    let mut k: usize = 0;
+    while k < 14 {
+        if !is_field(r, k) {
+            return false;
+        }
+        k += 1;
+    }
+    true
+}
+
+// What a number must stay below.
+fn limit_at(k: usize) -> u32
+    ensures { λ r. ⌜ r ≡ limit k ⌝ }
+{
+    if k == 2 {
+        return 1000000;
+    }
+    100
+}
+
+fn are_numbers(f: Facilities) -> bool
+    ensures { λ b. ⌜ b ≡ numbersFit 0 (asksOf f) ⌝ }
+{
+    let mut k: usize = 0;
+    while k < 51 {
+        if limit_at(k) <= fac::number_at(f, k) {
+            return false;
+        }
+        k += 1;
+    }
+    true
+}
+
+fn are_ranges(r: Request) -> bool
+    ensures { λ b. ⌜ b ≡ rangesGood r ⌝ }
+{
+    if !text::is_letter(r.letter) {
+        return false;
+    }
+    if 63 < r.sequence {
+        return false;
+    }
+    if 63 < r.precedence {
+        return false;
+    }
+    r.minutes < 10000
+}
+
+// Whether the writer takes a request.
+pub fn is_taken(r: Request) -> bool
+    ensures { λ b. ⌜ b ≡ takes r ⌝ }
+{
+    if !are_formed(r) {
+        return false;
+    }
+    if !are_ranges(r) {
+        return false;
+    }
+    if !are_fields(r) {
+        return false;
+    }
+    let f = r.facilities;
+    if !are_numbers(f) {
+        return false;
+    }
+    error::is_good(fac::core_error(f))
+}

@@ -1,0 +1,184 @@
+-- SCHEDULE AND PLACES AGREE, call by call: a selection puts a waiting request into the empty place that its job takes, the calls on the request lists
+-- keep the agreement, and the calls on the schedule alone touch no request whose job runs or closes. Assumes nothing.
+use Prim.Native.Nat.{ℕ, _<_}
+use mathlib.Core.Path.{_≡_, refl, sym, ap, subst, _∙_}
+use mathlib.Core.Bool.{Bool, true, false, not, _&&_}
+use mathlib.Core.List.{List, [], _∷_}
+use native.Mathlib.Decide.{decLt}
+use native.Mathlib.Omega.{arith}
+use lib.ListN.{length}
+use borrow.Author.Tests.{eq-eqb}
+use Rattle.numbers.proofs.Tests.{both}
+use Rattle.numbers.specs.declared.Refusal.{Refusal}
+use Rattle.schedule_entries.specs.Entries.{inPlace, serial, waiting}
+use Rattle.schedule_entries.specs.declared.Entry.{Entry}
+use Rattle.schedule_entries.specs.declared.State.{State as RequestState}
+use Rattle.schedule_entries.specs.declared.State.the-variants as Request
+use Rattle.schedule_list.specs.Held.{entryAt, held, scheduleOf}
+use Rattle.schedule_list.specs.declared.Schedule.{Schedule}
+use Rattle.schedule.specs.Calls as Schedules
+use Rattle.schedule.specs.Candidates.{candidate, headed, running, runningAlone}
+use Rattle.channels.specs.declared.Configuration.{Configuration}
+use Rattle.packets.specs.Demand.{emptyPlace, fresh}
+use Rattle.packets.proofs.Inv.{Inv}
+use Rattle.packets.specs.Rules as Rules
+use Rattle.packets.specs.Rules.{accept, answer, refusal, step}
+use Rattle.packets.specs.State.{State, isClosing, stateIn}
+use Rattle.packets.proofs.Steps.{fresh-state, run-inv}
+use Rattle.packets.proofs.Store.{state-fresh}
+use Rattle.packets.specs.declared.Answer.{Answer}
+use Rattle.packets.specs.declared.Answer.the-variants.{Refused}
+use Rattle.packets.specs.declared.JobState.{JobState}
+use Rattle.packets.specs.declared.JobState.the-variants.{ClosingError, ClosingNormal, Empty, Running}
+use Rattle.packets.specs.declared.Lists.{Lists}
+use Rattle.packets.specs.declared.Verdict.the-variants.{Granted}
+use Rattle.lists.proofs.History.{outcome-is}
+use Rattle.lists.specs.Outcomes.{outcome, stateOf}
+use Rattle.cell_selection.specs.Selecting as Selecting
+use Rattle.cell_selection.specs.Selecting.{Selected, SelectsBy, assignmentOf, takingOf}
+use Rattle.cell_selection.proofs.SelectingLaws.{taking-granted}
+use Rattle.cell_selection.specs.declared.Selection.{Selection}
+use Rattle.cell.specs.Calls.{acted, follows, freshCell}
+use Rattle.cell.specs.declared.Cell.{Cell}
+use Rattle.cell_history.proofs.HeardLaws.{does-heard}
+use Rattle.cell_history.specs.Heard.{heardOf, inside}
+use Rattle.cell_history.specs.History.{Call, Complete, Deck, Delete, Does, End, Event, Leads, Mark, Release, Reply, Select, Start, Status, Submit}
+use Rattle.cell_agreement.specs.Agreement.{AgreesAlways, HasItsJob, standing}
+use Rattle.cell_agreement.proofs.PlaceLaws.{fresh-cell-inv, states-beyond}
+use Rattle.cell_agreement.proofs.ScheduleLaws.{kept-deck, kept-deleted, kept-released, put-taken, seen}
+use Rattle.cell_agreement.proofs.StandingLaws.{is-alone, not-none}
+use Rattle.cell_agreement.proofs.StepLaws.{Agree, agree-complete, agree-end, agree-kept, agree-mark, agree-put, agree-start, agree-step, agree-submit, stands-empty}
+
+-- ---- a selection
+
+candidate-waits : (es : List Entry) (e : Entry) → candidate es e ≡ true → waiting (e .state) ≡ true
+unfolding candidate
+candidate-waits es e h =
+    both (waiting (e .state)) (not (headed es e) && (not (runningAlone es) && not (serial (e .request) && running es))) h .0
+
+module _ (s : Schedule) (lists : Lists) (I : Inv (stateOf lists)) (A : Agree s (stateOf lists)) where
+  agree-taken : (r : Selection) → Selected (held s) lists r → Agree (Schedules.taken s (r .at) (r .place)) (stateOf (outcome lists (takingOf r) .lists))
+  agree-taken r h =
+      let asg = assignmentOf (r .request .facilities) (r .assigned) in
+      rw (outcome-is lists (takingOf r) .1) (unfold step accept in
+      rw (taking-granted s lists r h)
+      (agree-put (r .place) Running s (Schedules.taken s (r .at) (r .place)) (stateOf lists) (Rules.assigned (stateOf lists) (r .place) asg)
+      (put-taken s (r .at) (r .place) (h .fit .candidate .0) (candidate-waits (held s) (entryAt (held s) (r .at)) (h .fit .candidate .1))
+      (A (r .place) ∙ stands-empty (stateIn (lists .jobs) (r .place)) (r .place) (h .place .1 .0)))
+      (λ j. state-fresh (lists .jobs) (r .place) asg j (rw (I .places) (h .place .0)))
+      (λ j q. A j)))
+
+  agree-select : (found : Bool) (r : Selection) → SelectsBy found (held s) lists r
+      → Agree (Selecting.leftBy found s lists r .0) (stateOf (Selecting.leftBy found s lists r .1))
+  agree-select true r h = agree-taken r h
+  agree-select false r h = A
+
+-- ---- the calls on the cell
+
+abbrev AgreeIn : Cell → Type 0
+AgreeIn c = Agree (c .schedule) (inside c)
+
+agree-acts : (c d : Cell) (x : Rules.Call) → d ≡ acted c x .cell → ((n : Refusal) → follows (c .schedule) x (Refused n) ≡ c .schedule)
+    → (refusal (inside c) x ≡ Granted → Agree (follows (c .schedule) x (answer (inside c) x)) (accept (inside c) x)) → AgreeIn c → AgreeIn d
+unfolding acted
+agree-acts c d x e same f A =
+    subst AgreeIn (sym e)
+    (λ j. ap (λ (a : Answer). seen j (follows (c .schedule) x a)) (outcome-is (c .lists) x .0)
+    ∙ agree-step (c .schedule) (inside c) A x same f j
+    ∙ ap (λ (st : State). standing (stateIn (st .jobs) j) j) (sym (outcome-is (c .lists) x .1)))
+
+agree-does : (c d : Cell) (x : Call) (reply : Reply) → Does c x reply d → Inv (inside c) → AgreeIn c → AgreeIn d
+agree-does c d (Deck bytes) reply h I A =
+    subst AgreeIn (sym (h .2 .1 .1 .1))
+    (agree-kept (c .schedule) (h .2 .0 .cell .schedule) (inside c) (inside (h .2 .0 .cell))
+    (λ j. ap (seen j) (h .2 .1 .0 .deck .then) ∙ kept-deck j (c .schedule) bytes) (λ j. rw (h .2 .1 .0 .lists)) A)
+agree-does c d Select reply h I A =
+    let r = h .0 in
+    subst AgreeIn (sym (h .1 .1 .1))
+    (subst (λ (t : Schedule × Lists). Agree (t .0) (stateOf (t .1))) (sym (h .1 .0 .takes .leaves))
+    (agree-select (c .schedule) (c .lists) I A (r .selection .found) (r .selection) (h .1 .0 .takes .selects)))
+agree-does c d (Submit place packet function channel spot) reply h I A =
+    agree-acts c d (Rules.Submit place packet function channel spot) (h .1) (λ n. refl) (λ r. agree-submit (c .schedule) (inside c) A place packet function channel spot) A
+agree-does c d (Start channel) reply h I A =
+    agree-acts c d (Rules.Start channel) (h .1) (λ n. refl) (λ r. agree-start (c .schedule) (inside c) A channel) A
+agree-does c d (Complete channel how) reply h I A =
+    agree-acts c d (Rules.Complete channel how) (h .1) (λ n. refl) (agree-complete (c .schedule) (inside c) A channel how) A
+agree-does c d (End place inError) reply h I A =
+    agree-acts c d (Rules.End place inError) (h .1) (λ n. refl) (agree-end (c .schedule) (inside c) A place inError) A
+agree-does c d (Mark channel unit mark on) reply h I A =
+    agree-acts c d (Rules.Mark channel unit mark on) (h .1) (λ n. refl)
+    (λ r. agree-mark (c .schedule) (inside c) A (Rules.Mark channel unit mark on) (unfold accept in refl)) A
+agree-does c d (Release id) reply h I A =
+    subst AgreeIn (sym (h .1))
+    (agree-kept (c .schedule) (Schedules.released (c .schedule) id .schedule) (inside c) (inside c) (λ j. kept-released j (c .schedule) id) (λ j. refl) A)
+agree-does c d (Delete id) reply h I A =
+    subst AgreeIn (sym (h .1))
+    (agree-kept (c .schedule) (Schedules.deleted (c .schedule) id .schedule) (inside c) (inside c) (λ j. kept-deleted j (c .schedule) id) (λ j. refl) A)
+agree-does c d (Status place packet) reply h I A = subst AgreeIn (sym (h .1)) A
+
+-- ---- a history
+
+inv-does : (c d : Cell) (x : Call) (reply : Reply) → Does c x reply d → Inv (inside c) → Inv (inside d)
+inv-does c d x reply h I = rw (does-heard c d x reply h) (run-inv (inside c) I (heardOf x reply))
+
+agree-leads : (c d : Cell) (es : List Event) → Leads c es d → Inv (inside c) → AgreeIn c → Inv (inside d) × AgreeIn d
+agree-leads c d [] h I A = (subst (λ (m : Cell). Inv (inside m)) (sym h) I, subst AgreeIn (sym h) A)
+agree-leads c d (e ∷ es) h I A =
+    agree-leads (h .0) d es (h .1 .1) (inv-does c (h .0) (e .call) (e .reply) (h .1 .0) I) (agree-does c (h .0) (e .call) (e .reply) (h .1 .0) I A)
+
+agree-fresh : (configuration : Configuration) → AgreeIn (freshCell configuration)
+unfolding freshCell fresh scheduleOf
+agree-fresh configuration j = ap (λ (x : JobState). standing x j) (sym (fresh-state 16 emptyPlace refl j))
+
+-- ---- what the agreement says of one request
+
+module _ (s : Schedule) (st : State) (I : Inv st) (A : Agree s st) (k : ℕ) (h : k < length (held s)) where
+  -- it is in a place that there is
+  inside-place : (p : ℕ) → inPlace p (entryAt (held s) k .state) ≡ true → p < 16
+  inside-place p i =
+      elim (decLt p 16) [
+        | yes q ↦ q
+        | no q ↦ absurd (not-none p k (held s) h i (A p ∙ ap (λ (x : JobState). standing x p) (states-beyond st I p (omega arith))))
+      ]
+
+  runs-there : (p : ℕ) → entryAt (held s) k .state ≡ Request.Running p → stateIn (st .jobs) p ≡ Running
+  runs-there p e = by (stateIn (st .jobs) p) (A p)
+    where
+      i : inPlace p (entryAt (held s) k .state) ≡ true
+      i = rw e (eq-eqb p p refl)
+
+      by : (t : JobState) → seen p s ≡ standing t p → t ≡ Running
+      by Empty a = absurd (not-none p k (held s) h i a)
+      by Running a = refl
+      by ClosingNormal a = let z : Request.Running p ≡ Request.Closing p = sym e ∙ is-alone p k (Request.Closing p) (held s) h i a in cc
+      by ClosingError a = let z : Request.Running p ≡ Request.Closing p = sym e ∙ is-alone p k (Request.Closing p) (held s) h i a in cc
+
+  closes-there : (p : ℕ) → entryAt (held s) k .state ≡ Request.Closing p → isClosing (stateIn (st .jobs) p) ≡ true
+  closes-there p e = by (stateIn (st .jobs) p) (A p)
+    where
+      i : inPlace p (entryAt (held s) k .state) ≡ true
+      i = rw e (eq-eqb p p refl)
+
+      by : (t : JobState) → seen p s ≡ standing t p → isClosing t ≡ true
+      by Empty a = absurd (not-none p k (held s) h i a)
+      by Running a = let z : Request.Closing p ≡ Request.Running p = sym e ∙ is-alone p k (Request.Running p) (held s) h i a in cc
+      by ClosingNormal a = refl
+      by ClosingError a = refl
+
+  has-its-job : HasItsJob (st .jobs) (entryAt (held s) k .state)
+  has-its-job = by (entryAt (held s) k .state) refl
+    where
+      by : (x : RequestState) → entryAt (held s) k .state ≡ x → HasItsJob (st .jobs) x
+      by Request.Waiting e = tt
+      by Request.Suspended e = tt
+      by (Request.Running p) e = (inside-place p (rw e (eq-eqb p p refl)), runs-there p e)
+      by (Request.Closing p) e = (inside-place p (rw e (eq-eqb p p refl)), closes-there p e)
+
+pub agrees-always : AgreesAlways
+agrees-always configuration es c h =
+    let r = agree-leads (freshCell configuration) c es h (fresh-cell-inv configuration) (agree-fresh configuration) in
+    record {
+      places = λ j k. r .1 j;
+      beyond = λ j k. r .1 j ∙ ap (λ (x : JobState). standing x j) (states-beyond (inside c) (r .0) j k);
+      requests = λ k g. has-its-job (c .schedule) (inside c) (r .0) (r .1) k g;
+    }

@@ -1,0 +1,64 @@
+-- THE LISTS' STATE AFTER A HISTORY of the cell is what the calls that they heard lead to by the rules. So all that holds of any
+-- history of the rules holds of any history of the cell. Assumes nothing.
+use mathlib.Core.Path.{_≡_, refl, sym, ap, _∙_}
+use mathlib.Core.Bool.{cond}
+use mathlib.Core.List.{List, [], _∷_, _++_}
+use Rattle.numbers.proofs.Tests.{by-bool}
+use Rattle.schedule_list.specs.declared.Schedule.{Schedule}
+use Rattle.packets.specs.Rules as Rules
+use Rattle.packets.specs.State.{State}
+use Rattle.packets.specs.declared.Lists.{Lists}
+use Rattle.lists.specs.Outcomes.{stateOf}
+use Rattle.lists.proofs.History.{outcome-is}
+use Rattle.cell_selection.specs.Selecting.{leftBy, takingOf}
+use Rattle.cell_selection.specs.declared.Selection.{Selection}
+use Rattle.cell.specs.Calls.{acted}
+use Rattle.cell.specs.declared.Cell.{Cell}
+use Rattle.cell_history.specs.History.{Call, Chosen, Complete, Deck, Delete, Does, End, Entered, Event, Leads, Mark, Release, Reply, Said, Select, Shown, Start, Status, Submit}
+use Rattle.cell_history.specs.Heard.{heardOf, heard, inside}
+
+-- ---- one call
+
+acts-heard : (c d : Cell) (x : Rules.Call) → d ≡ acted c x .cell → inside d ≡ Rules.run (inside c) (x ∷ [])
+unfolding acted Rules.run
+acts-heard c d x e = ap inside e ∙ outcome-is (c .lists) x .1
+
+select-heard : (c : Cell) (selection : Selection) (schedule : Schedule) (lists : Lists)
+    → _≡_ {A = Schedule × Lists} (schedule, lists) (leftBy (selection .found) (c .schedule) (c .lists) selection)
+    → stateOf lists ≡ Rules.run (inside c) (cond (selection .found) (takingOf selection ∷ []) [])
+unfolding Rules.run
+select-heard c selection schedule lists e =
+    by-bool (selection .found)
+    (λ t. rw t (ap (λ (x : Schedule × Lists). stateOf (x .1)) e ∙ rw t (outcome-is (c .lists) (takingOf selection) .1)))
+    (λ t. rw t (ap (λ (x : Schedule × Lists). stateOf (x .1)) e ∙ rw t refl))
+
+-- EACH CALL IS AT MOST ONE CALL OF THE LISTS
+pub does-heard : (c d : Cell) (x : Call) (reply : Reply) → Does c x reply d → inside d ≡ Rules.run (inside c) (heardOf x reply)
+unfolding Rules.run
+does-heard c d (Deck bytes) reply h = ap inside (h .2 .1 .1 .1) ∙ ap stateOf (h .2 .1 .0 .lists)
+does-heard c d Select reply h =
+    rw (h .1 .1 .0) (ap inside (h .1 .1 .1) ∙ select-heard c (h .0 .selection) (h .0 .cell .schedule) (h .0 .cell .lists) (h .1 .0 .takes .leaves))
+does-heard c d (Submit place packet function channel spot) reply h = acts-heard c d (Rules.Submit place packet function channel spot) (h .1)
+does-heard c d (Start channel) reply h = acts-heard c d (Rules.Start channel) (h .1)
+does-heard c d (Complete channel how) reply h = acts-heard c d (Rules.Complete channel how) (h .1)
+does-heard c d (End place inError) reply h = acts-heard c d (Rules.End place inError) (h .1)
+does-heard c d (Mark channel unit mark on) reply h = acts-heard c d (Rules.Mark channel unit mark on) (h .1)
+does-heard c d (Release id) reply h = ap inside (h .1)
+does-heard c d (Delete id) reply h = ap inside (h .1)
+does-heard c d (Status place packet) reply h = ap inside (h .1)
+
+-- ---- a history
+
+run-append : (s : State) (l m : List Rules.Call) → Rules.run s (l ++ m) ≡ Rules.run (Rules.run s l) m
+unfolding Rules.run
+run-append s [] m = refl
+run-append s (x ∷ l) m = run-append (Rules.step s x .state) l m
+
+-- THE LISTS' STATE AFTER A HISTORY is what the calls that they heard lead to by the rules
+pub leads-heard : (c d : Cell) (es : List Event) → Leads c es d → inside d ≡ Rules.run (inside c) (heard es)
+unfolding Rules.run
+leads-heard c d [] h = ap inside h
+leads-heard c d (e ∷ es) h =
+    leads-heard (h .0) d es (h .1 .1)
+    ∙ ap (λ (s : State). Rules.run s (heard es)) (does-heard c (h .0) (e .call) (e .reply) (h .1 .0))
+    ∙ sym (run-append (inside c) (heardOf (e .call) (e .reply)) (heard es))

@@ -1,0 +1,142 @@
+-- EVERY CELL THAT A HISTORY LEADS TO has what the page Reached says. Each selection is a taking that fits, so what the request lists' own theorems say
+-- under that condition holds of every history of the cell. Assumes nothing.
+use Prim.Native.Nat.{ℕ}
+use mathlib.Core.Path.{sym, subst}
+use mathlib.Core.Bool.{Bool, cond}
+use mathlib.Core.List.{List, [], _∷_, _++_}
+use Rattle.numbers.proofs.Tests.{by-bool}
+use Rattle.configuration_units.specs.Fresh.{freshUnits}
+use Rattle.configuration_units.proofs.FreshLaws.{fresh-square}
+use Rattle.schedule_list.specs.Held.{held}
+use Rattle.packets.specs.Always.{Always}
+use Rattle.packets.proofs.AlwaysProof.{invariants}
+use Rattle.packets.specs.Apart.{Apart, Fits, Fitting, Part, inCore}
+use Rattle.packets.proofs.ApartProof.{disjoint}
+use Rattle.packets.specs.Demand.{events, fresh}
+use Rattle.packets.specs.Rules as Rules
+use Rattle.packets.specs.State.{State}
+use Rattle.packets.specs.declared.How.{How}
+use Rattle.packets.specs.declared.Spot.{Spot}
+use Rattle.units.specs.declared.Mark.{Mark as UnitMark}
+use Rattle.packets_given.specs.Given.{AsGiven, Wanting, Wants, taking}
+use Rattle.packets_given.proofs.GivenProof.{holds-what-it-was-given}
+use Rattle.cell_selection.specs.Selecting.{Selected, SelectsBy, takingOf}
+use Rattle.cell_selection.specs.declared.Selection.{Selection}
+use Rattle.cell.specs.Calls.{freshCell}
+use Rattle.cell.specs.declared.Cell.{Cell}
+use Rattle.cell_history.proofs.HeardLaws.{does-heard}
+use Rattle.cell_history.specs.Heard.{heard, heardOf, inside}
+use Rattle.cell_history.specs.History.{Call, Complete, Deck, Delete, Does, End, Event, Leads, Mark, Release, Reply, Select, Start, Status, Submit}
+use Rattle.demands.proofs.Proved.{fresh-inside, none-held, reached}
+use Rattle.cell_reached.proofs.Fitting.{area-fits, core-fits, units-fit}
+use Rattle.cell_reached.specs.Reached.{Invariants, Reached}
+
+-- each call of a list has a property, in the state before it; kept when lists are joined
+Each : (State → Rules.Call → Type 0) → State → List Rules.Call → Type 0
+Each P s [] = Unit {0}
+Each P s (x ∷ l) = P s x × Each P (Rules.step s x .state) l
+
+each-append : (P : State → Rules.Call → Type 0) (s : State) (l m : List Rules.Call) → Each P s l → Each P (Rules.run s l) m → Each P s (l ++ m)
+unfolding Each Rules.run
+each-append P s [] m a b = b
+each-append P s (x ∷ l) m a b = (a .0, each-append P (Rules.step s x .state) l m (a .1) b)
+
+-- a property of takings: any other call has it, and so has the taking of every selection
+pub record OfTakings (P : State → Rules.Call → Type 0) : Type 0 where
+  pub submit : (s : State) (j p f c : ℕ) (w : Spot) → P s (Rules.Submit j p f c w)
+  pub start : (s : State) (c : ℕ) → P s (Rules.Start c)
+  pub complete : (s : State) (c : ℕ) (how : How) → P s (Rules.Complete c how)
+  pub end : (s : State) (j : ℕ) (e : Bool) → P s (Rules.End j e)
+  pub mark : (s : State) (c u : ℕ) (m : UnitMark) (on : Bool) → P s (Rules.Mark c u m on)
+  pub selection : (c : Cell) (s : Selection) → Selected (held (c .schedule)) (c .lists) s → P (inside c) (takingOf s)
+
+module _ (P : State → Rules.Call → Type 0) (T : OfTakings P) where
+  select-each : (c : Cell) (s : Selection) → SelectsBy (s .found) (held (c .schedule)) (c .lists) s → Each P (inside c) (cond (s .found) (takingOf s ∷ []) [])
+  unfolding Each
+  select-each c s h =
+      by-bool (s .found)
+      (λ t. rw t (T .selection c s (subst (λ (b : Bool). SelectsBy b (held (c .schedule)) (c .lists) s) t h), tt))
+      (λ t. rw t tt)
+
+  does-each : (c d : Cell) (x : Call) (reply : Reply) → Does c x reply d → Each P (inside c) (heardOf x reply)
+  unfolding Each
+  does-each c d (Deck bytes) reply h = tt
+  does-each c d Select reply h = rw (h .1 .1 .0) (select-each c (h .0 .selection) (h .1 .0 .takes .selects))
+  does-each c d (Submit j p f k w) reply h = (T .submit (inside c) j p f k w, tt)
+  does-each c d (Start k) reply h = (T .start (inside c) k, tt)
+  does-each c d (Complete k how) reply h = (T .complete (inside c) k how, tt)
+  does-each c d (End j e) reply h = (T .end (inside c) j e, tt)
+  does-each c d (Mark k u m on) reply h = (T .mark (inside c) k u m on, tt)
+  does-each c d (Release id) reply h = tt
+  does-each c d (Delete id) reply h = tt
+  does-each c d (Status j p) reply h = tt
+
+  leads-each : (c d : Cell) (es : List Event) → Leads c es d → Each P (inside c) (heard es)
+  unfolding Each
+  leads-each c d [] h = tt
+  leads-each c d (e ∷ es) h =
+      each-append P (inside c) (heardOf (e .call) (e .reply)) (heard es) (does-each c (h .0) (e .call) (e .reply) (h .1 .0))
+      (subst (λ (s : State). Each P s (heard es)) (does-heard c (h .0) (e .call) (e .reply) (h .1 .0)) (leads-each (h .0) d es (h .1 .1)))
+
+-- the same, in the words of the pages on drum and core, and on what was given
+fits-each : (part : Part) (s : State) (l : List Rules.Call) → Each (Fits part) s l → Fitting part s l
+unfolding Each
+fits-each part s [] h = tt
+fits-each part s (x ∷ l) h = (h .0, fits-each part (Rules.step s x .state) l (h .1))
+
+wants-each : (s : State) (l : List Rules.Call) → Each Wants s l → Wanting s l
+unfolding Each
+wants-each s [] h = tt
+wants-each s (x ∷ l) h = (h .0, wants-each (Rules.step s x .state) l (h .1))
+
+area-takings : OfTakings (Fits Rules.inArea)
+area-takings =
+    record {
+      submit = λ s j p f c w. tt;
+      start = λ s c. tt;
+      complete = λ s c how. tt;
+      end = λ s j e. tt;
+      mark = λ s c u m on. tt;
+      selection = λ c s d. area-fits (held (c .schedule)) (c .lists) s d;
+    }
+
+core-takings : OfTakings (Fits inCore)
+core-takings =
+    record {
+      submit = λ s j p f c w. tt;
+      start = λ s c. tt;
+      complete = λ s c how. tt;
+      end = λ s j e. tt;
+      mark = λ s c u m on. tt;
+      selection = λ c s d. core-fits (held (c .schedule)) (c .lists) s d;
+    }
+
+unit-takings : OfTakings Wants
+unit-takings =
+    record {
+      submit = λ s j p f c w. tt;
+      start = λ s c. tt;
+      complete = λ s c how. tt;
+      end = λ s j e. tt;
+      mark = λ s c u m on. tt;
+      selection = λ c s d a k u h l w. units-fit (held (c .schedule)) (c .lists) s d k u h l w;
+    }
+
+-- EVERY CELL THAT A HISTORY LEADS TO
+pub every-cell : Invariants
+every-cell configuration es c h =
+    let channels = configuration .channels in
+    let units = freshUnits (configuration .down) in
+    let free = none-held (configuration .down) in
+    let is = reached configuration es c h in
+    let apart = disjoint channels units free (heard es) in
+    record {
+      always = subst Always (sym is) (invariants channels units free (heard es));
+      drum = subst (Apart Rules.inArea) (sym is) (apart .0 (fits-each Rules.inArea (fresh channels units) (heard es) (from-fresh (Fits Rules.inArea) area-takings)));
+      core = subst (Apart inCore) (sym is) (apart .1 (fits-each inCore (fresh channels units) (heard es) (from-fresh (Fits inCore) core-takings)));
+      given = λ place. subst (λ (s : State). AsGiven s place (taking (events (fresh channels units) (heard es)) place)) (sym is)
+          (holds-what-it-was-given channels units free (fresh-square (configuration .down)) (heard es) (wants-each (fresh channels units) (heard es) (from-fresh Wants unit-takings)) place);
+    }
+  where
+    from-fresh : (P : State → Rules.Call → Type 0) → OfTakings P → Each P (fresh (configuration .channels) (freshUnits (configuration .down))) (heard es)
+    from-fresh P T = subst (λ (s : State). Each P s (heard es)) (fresh-inside configuration) (leads-each P T (freshCell configuration) c es h)

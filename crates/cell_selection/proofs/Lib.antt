@@ -1,0 +1,2 @@
+pub mod SelectingLaws
+pub mod Walk

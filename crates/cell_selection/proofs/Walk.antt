@@ -1,0 +1,109 @@
+-- The walk over the candidates, and what an assignment's core says of its starts. Assumes nothing.
+use Prim.Native.Nat.{ℕ, _+_, _≤_, _<_}
+use mathlib.Core.Path.{_≡_, refl, sym, ap, subst, _∙_}
+use mathlib.Core.Bool.{Bool, true, false}
+use mathlib.Core.List.{List}
+use mathlib.Core.Logic.{inl, inr}
+use native.Mathlib.Omega.{arith}
+use lib.Dec.{eqb}
+use lib.ListN.{length, getD, take}
+use borrow.Author.Tests.{eqb-false, eqb-true}
+use Rattle.numbers.proofs.Tests.{by-bool, never}
+use Rattle.schedule_entries.specs.Entries.{blank}
+use Rattle.schedule_entries.specs.declared.Entry.{Entry}
+use Rattle.schedule_list.specs.Held.{held, entryAt}
+use Rattle.schedule_list.proofs.HeldLaws.{held-at, held-few, held-sized}
+use Rattle.schedule_list.specs.declared.Schedule.{Schedule}
+use Rattle.schedule.specs.Candidates.{Marks}
+use Rattle.assign.specs.Assignment.{Cell}
+use Rattle.assign.specs.Chosen.{Answer, Assigns, NoAssignment}
+use Rattle.assign.specs.declared.Assigned.{Assigned}
+use Rattle.packets.specs.declared.Lists.{Lists}
+use Rattle.cell_taken.specs.Taken.{LowestFree}
+use Rattle.cell_taken.specs.declared.FreePlace.the-variants.{At, Full}
+use Rattle.cell_selection.specs.Selecting.{Candidate, FirstFit, HasNone, NoFit, Picks, PicksBy, Selected, SelectsBy, Starts, noSelection, seenIn}
+use Rattle.cell_selection.specs.declared.Pick.{Pick}
+use Rattle.cell_selection.specs.declared.Selection.{Selection}
+
+-- the candidates before k have no assignment
+pub record Walked (es : List Entry) (cell : Cell) (k : ℕ) : Type 0 where
+  pub passed : (i : ℕ) → i < k → Candidate es i → HasNone cell (entryAt es i .request)
+
+pub walk-start : (es : List Entry) (cell : Cell) → Walked es cell 0
+walk-start es cell = record { passed = λ i h c. absurd (omega arith) }
+
+-- one more has none, or is no candidate
+walk-more : {es : List Entry} {cell : Cell} {k : ℕ} → Walked es cell k → (Candidate es k → HasNone cell (entryAt es k .request)) → Walked es cell (k + 1)
+walk-more {es} {cell} {k} w f =
+    record {
+      passed = λ i h c. by-bool (eqb i k) (λ q. let e : i ≡ k = eqb-true i k q in rw e (f (rw e at c)))
+          (λ q. w .passed i (less i h (eqb-false i k q)) c);
+    }
+  where
+    less : (i : ℕ) → i < k + 1 → (i ≡ k → ⊥) → i < k
+    less i h q = omega arith
+
+-- the walk over a schedule's array, by the marks of its candidates
+module _ (s : Schedule) (wide : length (s .entries) ≡ 64) {n : ℕ} (size : n ≡ length (held s)) {may : List Bool} (marks : Marks (held s) may) (cell : Cell) where
+  part : take n (s .entries) ≡ held s
+  part = held-sized s size
+
+  pub few : n ≤ 64
+  few = omega (arith, held-few s wide)
+
+  walk-in : {k : ℕ} → Walked (take n (s .entries)) cell k → Walked (held s) cell k
+  walk-in {k} w = subst (λ (es : List Entry). Walked es cell k) part w
+
+  pub walk-found : {k : ℕ} (d : Entry) (a : Assigned) → Walked (take n (s .entries)) cell k → k < n → getD may k false ≡ true → a .found ≡ true
+      → Assigns cell (getD (s .entries) k d .request .facilities) a → FirstFit (held s) cell k a
+  walk-found {k} d a w h m f r =
+      let l : k < length (held s) = omega arith in
+      record {
+        candidate = (l, sym (marks .each k l) ∙ m);
+        found = f;
+        chosen = rw (sym (held-at s k d l)) (subst (λ (b : Bool). Answer b cell (getD (s .entries) k d .request .facilities) a) f r);
+        first = walk-in w .passed;
+      }
+
+  pub walk-none : {k : ℕ} (d : Entry) (a : Assigned) → Walked (take n (s .entries)) cell k → k < n → a .found ≡ false → Assigns cell (getD (s .entries) k d .request .facilities) a
+      → Walked (take n (s .entries)) cell (k + 1)
+  walk-none {k} d a w h f r =
+      let l : k < length (held s) = omega arith in
+      subst (λ (es : List Entry). Walked es cell (k + 1)) (sym part) (walk-more (walk-in w) λ c. rw (sym (held-at s k d l)) (none .never))
+    where
+      none : NoAssignment cell (getD (s .entries) k d .request .facilities) a
+      none = subst (λ (b : Bool). Answer b cell (getD (s .entries) k d .request .facilities) a) f r
+
+  pub walk-past : {k : ℕ} → Walked (take n (s .entries)) cell k → k < n → getD may k false ≡ false → Walked (take n (s .entries)) cell (k + 1)
+  walk-past {k} w h m =
+      let l : k < length (held s) = omega arith in
+      subst (λ (es : List Entry). Walked es cell (k + 1)) (sym part) (walk-more (walk-in w) λ c b a. never (c .1) (sym (marks .each k l) ∙ m))
+
+  pub walk-end : {k : ℕ} → Walked (take n (s .entries)) cell k → n ≤ k → NoFit (held s) cell
+  walk-end w h i c = walk-in w .passed i (omega (arith, c .0)) c
+
+-- ---- the whole selection
+
+-- no place is free
+pub refused-full : (es : List Entry) (lists : Lists) (r : Selection) → LowestFree (lists .jobs) Full → r ≡ noSelection → SelectsBy (r .found) es lists r
+refused-full es lists r f e = rw e (record { why = inl f; blank = refl })
+
+-- no candidate has an assignment
+pub refused-none : (es : List Entry) (lists : Lists) (p : Pick) (r : Selection) → p .found ≡ false → Picks es (seenIn lists) p → r ≡ noSelection → SelectsBy (r .found) es lists r
+refused-none es lists p r f s e = rw e (record { why = inr (subst (λ (b : Bool). PicksBy b es (seenIn lists) p) f s .0); blank = refl })
+
+-- the first that has one, for the lowest free place
+pub selected : (es : List Entry) (lists : Lists) (p : Pick) (place : ℕ) (entry : Entry) → p .found ≡ true → Picks es (seenIn lists) p → LowestFree (lists .jobs) (At place)
+    → entry ≡ entryAt es (p .at) → Selected es lists (record { found = true; place = place; at = p .at; request = entry .request; assigned = p .assigned })
+selected es lists p place entry f s l e =
+    record { place = l; fit = subst (λ (b : Bool). PicksBy b es (seenIn lists) p) f s; request = ap (λ (x : Entry). x .request) e }
+
+-- the starts of an assignment's blocks are numbers of blocks
+pub starts : (es : List Entry) (lists : Lists) (r : Selection) → r .found ≡ true → SelectsBy (r .found) es lists r → Starts (r .request .facilities) (r .assigned)
+starts es lists r f s =
+    let d : Selected es lists r = subst (λ (b : Bool). SelectsBy b es lists r) f s in
+    let k = d .fit .chosen .is .core in
+    rw (d .request) (record {
+      ib = λ n. omega (arith, k .instructions .high);
+      db = λ n. omega (arith, k .data-run (omega arith) .run .high);
+    })

@@ -1,0 +1,60 @@
+-- `selection::units_of` meets its contract. The loop's invariant stands first; the lemmas of its turns are in this folder's other files. Assumes nothing.
+use Prim.Native.Nat.{_-_}
+use mathlib.Core.Bool.{false}
+use mathlib.Core.Path.{refl}
+use native.Mathlib.Omega.{arith}
+use Rattle.assign_heads.specs.Whose.{blank}
+use Rattle.cell_taken.proofs.Filling.{Filled, fill-turn, fill-end}
+use Rattle.cell_selection.specs.Selecting.{isTaken}
+use borrow.Author.Needs.{needs}
+use Rattle.cell_selection.proofs.units_of.Statement.{statement}
+use Rattle.cell_selection.proofs.units_of.Tie as tie
+
+abbrev Inv-loop : tie.InvT-loop
+Inv-loop heads next₀ i₀ next i = Filled isTaken blank false heads 256 next i
+
+abbrev μ-loop : tie.MeasureT-loop
+μ-loop heads next₀ i₀ next i = 256 - i
+
+loop-holds : tie.Need-loop-holds Inv-loop μ-loop
+loop-holds c = record { high = omega arith; source = search needs; wide = search needs; each = λ d h. absurd (omega arith) }
+
+mul-is-taken : tie.Need-mul-is-taken Inv-loop μ-loop
+mul-is-taken c = search needs
+
+array-copy-out-is-taken : tie.Need-array-copy-out-is-taken Inv-loop μ-loop
+array-copy-out-is-taken c = search needs
+
+is-taken-requires : tie.Need-is-taken-requires Inv-loop μ-loop
+is-taken-requires c κs = search needs
+
+array-write-next : tie.Need-array-write-next Inv-loop μ-loop
+array-write-next c = search needs
+
+add-i : tie.Need-add-i Inv-loop μ-loop
+add-i c = search needs
+
+loop-less : tie.Need-loop-less Inv-loop μ-loop
+loop-less c = omega arith
+
+loop-again : tie.Need-loop-again Inv-loop μ-loop
+loop-again c = fill-turn isTaken blank false (c .before .before .before .before .args .t1) 256 (c .is-taken .result) (c .before .before .before .loop .inv) (omega arith) (c .is-taken .ensures)
+
+returns : tie.Need-returns Inv-loop μ-loop
+returns c = fill-end isTaken blank false (c .before .before .args .t1) 256 refl (c .before .loop .inv) (omega arith)
+
+pub units-of-spec : {M : Type 1} → statement M
+units-of-spec =
+    tie.close
+    (tie.spec
+    Inv-loop
+    μ-loop
+    loop-holds
+    mul-is-taken
+    array-copy-out-is-taken
+    is-taken-requires
+    array-write-next
+    add-i
+    loop-less
+    loop-again
+    returns)

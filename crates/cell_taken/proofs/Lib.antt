@@ -1,0 +1,3 @@
+pub mod TakenLaws
+pub mod Filling
+pub mod Loops

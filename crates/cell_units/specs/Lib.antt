@@ -1,2 +1,0 @@
-pub mod Fresh
-pub mod FreshLaws

@@ -1,0 +1,48 @@
+-- `listing_text::listing` meets its contract: the text of the answer that the reader gave, whole in a room of 96 bytes. Assumes nothing.
+use Rattle.configuration.specs.declared.Verdict.the-variants.{Good, Bad}
+use Rattle.configuration_listing.proofs.Lines.{answered}
+use Rattle.configuration_listing.proofs.Bounds.{listed}
+use borrow.Author.Needs.{needs}
+use Rattle.configuration_listing.proofs.listing.Statement.{statement}
+use Rattle.configuration_listing.proofs.listing.Tie as tie
+
+read-requires : tie.Need-read-requires
+read-requires c κs = search needs
+
+enum-told : tie.Need-enum-told
+enum-told c = search needs
+
+put-lines-requires : tie.Need-put-lines-requires
+put-lines-requires c κs = search needs
+
+enum-known-verdict : tie.Need-enum-known-verdict
+enum-known-verdict c = search needs
+
+put-error-requires : tie.Need-put-error-requires
+put-error-requires c κs = search needs
+
+same-length : tie.Need-same-length
+same-length c = search needs
+
+returns : tie.Need-returns
+returns c = listed (c .before .before .before .before .before .before .before .before .before .before .args .config .now) (rw (answered (c .before .before .before .before .before .before .before .before .before .before .args .config .now) Good (c .before .before .before .before .before .before .before .read .ensures) (c .before .before .before .before .enum-told .given .1)) at (c .before .before .put-lines .ensures))
+
+same-length-2 : tie.Need-same-length-2
+same-length-2 c = search needs
+
+returns-2 : tie.Need-returns-2
+returns-2 c = listed (c .before .before .before .before .before .before .before .before .before .before .before .args .config .now) (rw (answered (c .before .before .before .before .before .before .before .before .before .before .before .args .config .now) (Bad (c .before .before .before .before .before .verdict .given .0 .0)) (c .before .before .before .before .before .before .before .before .read .ensures) (c .before .before .before .before .before .verdict .given .1)) at (c .before .before .put-error .ensures))
+
+pub listing-spec : {M : Type 1} → statement M
+listing-spec =
+    tie.close
+    (tie.spec
+    read-requires
+    enum-told
+    put-lines-requires
+    enum-known-verdict
+    put-error-requires
+    same-length
+    returns
+    same-length-2
+    returns-2)

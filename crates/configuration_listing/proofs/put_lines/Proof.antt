@@ -1,0 +1,54 @@
+-- `listing_text::put_lines` meets its contract. The loop's invariant is `Going`: whoever puts the lines that are left has put them all. Assumes nothing.
+use Prim.Native.Nat.{_-_, _≤_}
+use native.Mathlib.Omega.{arith}
+use Rattle.text.proofs.RoomLaws.{Going, start, turn, end, same-room}
+use Rattle.configuration_listing.specs.Listing.{linesFrom}
+use Rattle.configuration_listing.proofs.Lines.{lines-turn, lines-end}
+use borrow.Author.Needs.{needs}
+use Rattle.configuration_listing.proofs.put_lines.Statement.{statement}
+use Rattle.configuration_listing.proofs.put_lines.Tie as tie
+
+abbrev Inv-loop : tie.InvT-loop
+Inv-loop out₀ configuration state at₀ c₀ out at c = (c ≤ 16) × Going out₀ 0 (linesFrom configuration 16 0) out at (linesFrom configuration (16 - c) c)
+
+abbrev μ-loop : tie.MeasureT-loop
+μ-loop out₀ configuration state at₀ c₀ out at c = 16 - c
+
+fresh-requires : tie.Need-fresh-requires Inv-loop μ-loop
+fresh-requires c κs = search needs
+
+loop-holds : tie.Need-loop-holds Inv-loop μ-loop
+loop-holds c = (omega arith, start _ _ _)
+
+put-channel-requires : tie.Need-put-channel-requires Inv-loop μ-loop
+put-channel-requires c κs = search needs
+
+add-c : tie.Need-add-c Inv-loop μ-loop
+add-c c = search needs
+
+loop-less : tie.Need-loop-less Inv-loop μ-loop
+loop-less c = search needs
+
+loop-again : tie.Need-loop-again Inv-loop μ-loop
+loop-again c = (omega arith, turn (rw (lines-turn (c .before .before .before .before .before .before .before .before .args .configuration) (c .before .before .before .before .before .loop .c) (c .before .before .before .before .loop-test .taken)) at (c .before .before .before .before .before .loop .inv .1)) (c .before .before .put-channel .ensures))
+
+same-length : tie.Need-same-length Inv-loop μ-loop
+same-length c = same-room (end (rw (lines-end (c .before .before .before .before .args .configuration) (c .before .loop .c) (c .loop-test .left)) at (c .before .loop .inv .1)))
+
+returns : tie.Need-returns Inv-loop μ-loop
+returns c = end (rw (lines-end (c .before .before .before .before .args .configuration) (c .before .loop .c) (c .loop-test .left)) at (c .before .loop .inv .1))
+
+pub put-lines-spec : {M : Type 1} → statement M
+put-lines-spec =
+    tie.close
+    (tie.spec
+    Inv-loop
+    μ-loop
+    fresh-requires
+    loop-holds
+    put-channel-requires
+    add-c
+    loop-less
+    loop-again
+    same-length
+    returns)

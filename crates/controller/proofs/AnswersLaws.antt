@@ -1,0 +1,78 @@
+-- What the definitions of Answers mean: 0 is the answer for a configuration and for nothing else, any other number is that of the first bad or missing
+-- line, and `Placed` leaves one outcome. Assumes nothing.
+use Prim.Native.Nat.{ℕ, _≤_}
+use mathlib.Core.Path.{_≡_, refl, sym, ap, subst, _∙_}
+use mathlib.Core.Bool.{Bool, true, false}
+use mathlib.Core.List.{List}
+use native.Mathlib.Omega.{arith}
+use Rattle.channels.specs.declared.Channel.{Channel}
+use Rattle.configuration.specs.declared.Answer.{Answer}
+use Rattle.configuration.specs.Configured.{configurationOf}
+use Rattle.assign_core.specs.declared.Found.{Found}
+use Rattle.assign_core.specs.declared.Found.the-variants.{At, Nothing}
+use Rattle.assign_core.proofs.CoreLaws.{answers-one}
+use Rattle.configuration_form.specs.Form.{InForm, FirstBad}
+use Rattle.configuration_form.specs.Means.{Said}
+use Rattle.configuration_form.proofs.Meaning.{meaning}
+use Rattle.configuration_form.proofs.Unique.{read-back, first-named}
+use Rattle.controller.specs.Answers.{lineOf, Placed}
+
+-- one answer of the reader has one line
+same-line : {a b : Answer} → a ≡ b → lineOf (a .verdict) ≡ lineOf (b .verdict)
+same-line e = ap (λ (a : Answer). lineOf (a .verdict)) e
+
+-- the number that a text gets
+abbrev pub badLine : List ℕ → ℕ
+badLine s = lineOf (configurationOf s .verdict)
+
+-- a text in the written form of some channels and down units
+pub record Configures (s : List ℕ) : Type 0 where
+  pub of : List Channel
+  pub marks : List Bool
+  pub form : InForm s of marks
+
+-- the written form of a configuration gets 0
+pub form-0 : (s : List ℕ) → Configures s → badLine s ≡ 0
+form-0 s w = same-line (read-back s (w .of) (w .marks) (w .form))
+
+-- and the first bad or missing line of a text is the number that it gets
+pub first-bad : (s : List ℕ) (number : ℕ) → FirstBad s number → badLine s ≡ number
+first-bad s number f = same-line (first-named s number f)
+
+-- conversely, 0 is given for that form alone, and any other number for the first bad line alone
+pub 0-form : (s : List ℕ) → badLine s ≡ 0 → Configures s
+0-form s z = by (meaning s .said)
+  where
+    by : Said (configurationOf s) → Configures s
+    by (Said.goods o m e) = record { of = o; marks = m; form = meaning s .written o m e }
+    by (Said.bads n e) =
+        let f = meaning s .first n e in
+        let same : badLine s ≡ n = same-line e in
+        absurd (omega (arith, z, same, f .next))
+
+pub bad-first : (s : List ℕ) → 1 ≤ badLine s → FirstBad s (badLine s)
+bad-first s p = by (meaning s .said)
+  where
+    by : Said (configurationOf s) → FirstBad s (badLine s)
+    by (Said.goods o m e) =
+        let same : badLine s ≡ 0 = same-line e in
+        absurd (omega (arith, p, same))
+    by (Said.bads n e) = subst (FirstBad s) (sym (same-line e)) (meaning s .first n e)
+
+-- two outcomes of the core's search are one: what is answered, and what i and j then hold
+pub placed-one : {taken ib db i j a b x y : ℕ} (r s : Bool) → Placed taken ib db i j a b r → Placed taken ib db i j x y s
+    → (r ≡ s) × (a ≡ x) × (b ≡ y)
+placed-one {taken} {ib} {db} {a = a} {b = b} {x = x} {y = y} true true p q =
+    let e = answers-one taken ib db (At (record { 0 = a; 1 = b })) (At (record { 0 = x; 1 = y })) (p .found refl) (q .found refl) in
+    (refl, ap first e, ap second e)
+  where
+    first : Found → ℕ
+    first (At pair) = pair .0
+    first Nothing = 0
+
+    second : Found → ℕ
+    second (At pair) = pair .1
+    second Nothing = 0
+placed-one {a = a} {b = b} true false p q = absurd (q .none refl .0 a b (p .found refl .0))
+placed-one {x = x} {y = y} false true p q = absurd (p .none refl .0 x y (q .found refl .0))
+placed-one false false p q = (refl, p .none refl .1 ∙ sym (q .none refl .1), p .none refl .2 ∙ sym (q .none refl .2))

@@ -1,4 +1,0 @@
-pub mod Core
-pub mod CoreLaws
-pub mod Computed
-pub mod Marked

@@ -1,4 +1,0 @@
-pub mod Few
-pub mod Pieces
-pub mod InTurn
-pub mod Bounds

@@ -1,4 +1,0 @@
-pub mod Report
-pub mod Reading
-pub mod Enough
-pub mod DeckLaws

@@ -1,0 +1,148 @@
+-- DEMAND 1: after a refused call everything stands. By the kinds of call; an accepted call's answer is never a refusal. Assumes nothing.
+use Prim.Native.Nat.{ℕ}
+use mathlib.Core.Path.{_≡_, refl, sym, ap, subst, _∙_}
+use mathlib.Core.Bool.{Bool, true, false, _&&_}
+use mathlib.Core.List.{List, []}
+use mathlib.Core.Option.{Option, none, some}
+use Rattle.numbers.proofs.Tests.{by-bool}
+use Rattle.numbers.specs.declared.Outcome.the-variants as Outcomes
+use Rattle.numbers.specs.declared.Refusal.{Refusal}
+use Rattle.cards_fields.specs.Deck.{deckEnd}
+use Rattle.cards_fields.specs.declared.DeckEnd.{DeckEnd}
+use Rattle.cards_fields.specs.declared.DeckEnd.the-variants as Ends
+use Rattle.text.specs.Room as Room
+use Rattle.schedule_entries.specs.Entries.{active, suspended}
+use Rattle.schedule_list.specs.Held.{entryAt, held, there}
+use Rattle.schedule_list.specs.declared.Schedule.{Schedule}
+use Rattle.schedule.specs.Calls.{deletedAt, ofName, releasedAt}
+use Rattle.schedule.specs.declared.Changed.{Changed}
+use Rattle.schedule_deck.specs.Report.{notesBy, outcomeBy, scheduleBy}
+use Rattle.packets.specs.Picks.{find}
+use Rattle.packets.specs.Rules as Rules
+use Rattle.packets.specs.State.{State, motionOn}
+use Rattle.packets.specs.declared.Answer.the-variants as Answers
+use Rattle.packets.specs.declared.How.{How}
+use Rattle.packets.specs.declared.Lists.{Lists}
+use Rattle.packets.specs.declared.Motion.{Motion}
+use Rattle.packets.specs.declared.Motion.the-variants.{Busy, Idle}
+use Rattle.packets.specs.declared.Verdict.{Verdict}
+use Rattle.packets.specs.declared.Verdict.the-variants.{Denied, Granted}
+use Rattle.lists.specs.Outcomes.{outcome, settled, stateOf}
+use Rattle.cell_selection.specs.Selecting.{leftBy}
+use Rattle.cell.specs.Calls.{acted, answerOf, cellOf, follows, outcomeOf, Enters, SelectsIn}
+use Rattle.cell.specs.declared.Cell.{Cell}
+use Rattle.cell.specs.declared.DeckAnswer.{DeckAnswer}
+use Rattle.cell.specs.declared.SelectAnswer.{SelectAnswer}
+use Rattle.cell_history.specs.History.{Call, Complete, Deck, Delete, Does, End, Mark, Release, Reply, Select, Start, Status, Submit}
+use Rattle.demands.specs.Refusing.{ofAnswer, ofOutcome, refusalIn}
+
+-- an option is not both
+not-some : {A : Type 0} {x : A} → _≡_ {A = Option A} none (some x) → ⊥
+not-some {A} {x} e = subst (λ (o : Option A). is o) e tt
+  where
+    is : Option A → Type 0
+    is none = Unit {0}
+    is (some y) = ⊥
+
+-- ---- the lists: an accepted call's answer is no refusal
+
+begins-some : (s : State) (o : Option ℕ) (n : Refusal) → ofAnswer (Rules.begins s o) ≡ some n → ⊥
+begins-some s none n e = not-some e
+begins-some s (some x) n e = not-some e
+
+completes-some : (s : State) (c : ℕ) (how : How) (m : Motion) (n : Refusal) → ofAnswer (Rules.completes s c how m) ≡ some n → ⊥
+completes-some s c how Idle n e = not-some e
+completes-some s c how (Busy j p) n e = not-some e
+
+accepted : (s : State) (x : Rules.Call) (n : Refusal) → ofAnswer (Rules.answer s x) ≡ some n → ⊥
+unfolding Rules.answer
+accepted s (Rules.Take j asg) n e = not-some e
+accepted s (Rules.Submit j p f c w) n e = not-some e
+accepted s (Rules.Start c) n e = begins-some s (find (Rules.startable s c) (s .queue)) n e
+accepted s (Rules.Complete c how) n e = completes-some s c how (motionOn s c) n e
+accepted s (Rules.End j b) n e = not-some e
+accepted s (Rules.Mark c u m on) n e = not-some e
+
+-- a refusal moves the schedule nowhere
+follows-refused : (s : Schedule) (x : Rules.Call) (n : Refusal) → follows s x (Answers.Refused n) ≡ s
+follows-refused s (Rules.Take j asg) n = refl
+follows-refused s (Rules.Submit j p f c w) n = refl
+follows-refused s (Rules.Start c) n = refl
+follows-refused s (Rules.Complete c how) n = refl
+follows-refused s (Rules.End j b) n = refl
+follows-refused s (Rules.Mark c u m on) n = refl
+
+acts-stand : (c : Cell) (x : Rules.Call) (n : Refusal) → ofAnswer (acted c x .answer) ≡ some n → acted c x .cell ≡ c
+unfolding acted outcome
+acts-stand c x n e = go (Rules.refusal (stateOf (c .lists)) x) e
+  where
+    go : (v : Verdict) → ofAnswer (settled (c .lists) x v .answer) ≡ some n
+        → cellOf (follows (c .schedule) x (settled (c .lists) x v .answer)) (settled (c .lists) x v .lists) ≡ c
+    go Granted k = absurd (accepted (stateOf (c .lists)) x n k)
+    go (Denied m) k = ap (λ (s : Schedule). cellOf s (c .lists)) (follows-refused (c .schedule) x m)
+
+-- ---- release and delete
+
+module _ (c : Cell) (k : ℕ) (n : Refusal) where
+  abbrev back : Changed → Cell
+  back r = cellOf (r .schedule) (c .lists)
+
+  release-stands : ofAnswer (answerOf (releasedAt k (c .schedule) .outcome)) ≡ some n → back (releasedAt k (c .schedule)) ≡ c
+  unfolding releasedAt
+  release-stands e = by-bool (there k (held (c .schedule)) && suspended (entryAt (held (c .schedule)) k .state)) (λ t. absurd (not-some (rw t at e))) (λ t. rw t refl)
+
+  delete-stands : ofAnswer (answerOf (deletedAt k (c .schedule) .outcome)) ≡ some n → back (deletedAt k (c .schedule)) ≡ c
+  unfolding deletedAt
+  delete-stands e =
+      by-bool (there k (held (c .schedule)))
+      (λ t. by-bool (active (entryAt (held (c .schedule)) k .state)) (λ u. rw (t, u) refl) (λ u. absurd (not-some (rw (t, u) at e))))
+      (λ t. rw t refl)
+
+-- ---- a deck
+
+deck-schedule : (end : DeckEnd) (s : Schedule) (bytes : List ℕ) (n : Refusal) → ofOutcome (outcomeBy end) ≡ some n → scheduleBy end s bytes ≡ s
+deck-schedule (Ends.At k) s bytes n e = absurd (not-some e)
+deck-schedule (Ends.Refused m) s bytes n e = refl
+
+deck-notes : (end : DeckEnd) (s : Schedule) (bytes : List ℕ) (n : Refusal) → outcomeBy end ≡ Outcomes.Refused n → notesBy end s bytes ≡ []
+deck-notes (Ends.At k) s bytes n e = absurd (not-some (ap ofOutcome e))
+deck-notes (Ends.Refused m) s bytes n e = refl
+
+deck-stands : (c : Cell) (bytes room after : List ℕ) (r : DeckAnswer) (n : Refusal) → Enters c bytes room after r → ofOutcome (r .outcome) ≡ some n → r .cell ≡ c
+deck-stands c bytes room after r n h e =
+    let s : r .cell .schedule ≡ c .schedule = h .deck .then ∙ deck-schedule (deckEnd bytes) (c .schedule) bytes n (sym (ap ofOutcome (h .deck .outcome)) ∙ e) in
+    let l : r .cell .lists ≡ c .lists = h .lists in
+    λ i. record { schedule = s i; lists = l i }
+
+-- the lent room: nothing is put
+pub deck-lent : (c : Cell) (bytes room after : List ℕ) (r : DeckAnswer) (n : Refusal) → Enters c bytes room after r → r .outcome ≡ Outcomes.Refused n → after ≡ room
+deck-lent c bytes room after r n h e =
+    let none : notesBy (deckEnd bytes) (c .schedule) bytes ≡ [] = deck-notes (deckEnd bytes) (c .schedule) bytes n (sym (h .deck .outcome) ∙ e) in
+    let w : Room.Written room 0 [] after (r .at) = rw none at (h .deck .text) in
+    w .bytes
+
+-- ---- selection
+
+outcome-found : (b : Bool) (n : Refusal) → ofOutcome (outcomeOf b) ≡ some n → b ≡ false
+outcome-found true n e = absurd (not-some e)
+outcome-found false n e = refl
+
+select-stands : (c : Cell) (r : SelectAnswer) (n : Refusal) → SelectsIn c r → ofOutcome (r .outcome) ≡ some n → r .cell ≡ c
+select-stands c r n h e =
+    let f : r .selection .found ≡ false = outcome-found (r .selection .found) n (sym (ap ofOutcome (h .outcome)) ∙ e) in
+    let l : _≡_ {A = Schedule × Lists} (r .cell .schedule, r .cell .lists) (c .schedule, c .lists) =
+    h .takes .leaves ∙ ap (λ (b : Bool). leftBy b (c .schedule) (c .lists) (r .selection)) f in
+    λ i. record { schedule = l i .0; lists = l i .1 }
+
+-- AFTER A REFUSED CALL THE CELL STANDS
+pub stands : (c d : Cell) (x : Call) (reply : Reply) (n : Refusal) → Does c x reply d → refusalIn reply ≡ some n → d ≡ c
+stands c d (Deck bytes) reply n h e = h .2 .1 .1 .1 ∙ deck-stands c bytes (h .0) (h .1) (h .2 .0) n (h .2 .1 .0) (sym (ap refusalIn (h .2 .1 .1 .0)) ∙ e)
+stands c d Select reply n h e = h .1 .1 .1 ∙ select-stands c (h .0) n (h .1 .0) (sym (ap refusalIn (h .1 .1 .0)) ∙ e)
+stands c d (Submit j p f k w) reply n h e = h .1 ∙ acts-stand c (Rules.Submit j p f k w) n (sym (ap refusalIn (h .0)) ∙ e)
+stands c d (Start k) reply n h e = h .1 ∙ acts-stand c (Rules.Start k) n (sym (ap refusalIn (h .0)) ∙ e)
+stands c d (Complete k how) reply n h e = h .1 ∙ acts-stand c (Rules.Complete k how) n (sym (ap refusalIn (h .0)) ∙ e)
+stands c d (End j b) reply n h e = h .1 ∙ acts-stand c (Rules.End j b) n (sym (ap refusalIn (h .0)) ∙ e)
+stands c d (Mark k u m on) reply n h e = h .1 ∙ acts-stand c (Rules.Mark k u m on) n (sym (ap refusalIn (h .0)) ∙ e)
+stands c d (Release id) reply n h e = h .1 ∙ release-stands c (ofName id (held (c .schedule))) n (sym (ap refusalIn (h .0)) ∙ e)
+stands c d (Delete id) reply n h e = h .1 ∙ delete-stands c (ofName id (held (c .schedule))) n (sym (ap refusalIn (h .0)) ∙ e)
+stands c d (Status j p) reply n h e = h .1

@@ -1,6 +1,0 @@
-pub mod Drum
-pub mod Blocks
-pub mod BlocksLaws
-pub mod DrumLaws
-pub mod Marked
-pub mod Computed

@@ -1,5 +1,0 @@
-pub mod Fields
-pub mod FieldLaws
-pub mod Deck
-pub mod DeckLaws
-pub mod Groups

@@ -1,8 +1,0 @@
-pub mod Form
-pub mod LineLaws
-pub mod ReadLaws
-pub mod ChannelLaws
-pub mod DownLaws
-pub mod Meaning
-pub mod Unique
-pub mod Enough

@@ -1,3 +1,0 @@
-pub mod History
-pub mod Heard
-pub mod One

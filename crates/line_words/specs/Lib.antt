@@ -1,3 +1,0 @@
-pub mod Forms
-pub mod SplitLaws
-pub mod FormLaws

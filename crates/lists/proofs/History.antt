@@ -1,0 +1,69 @@
+-- The code's outcomes are the steps of the rules: a history of calls of the code is a history of the rules, so that demand 3, the codes and
+-- the invariants, which are of any history of the rules, are of the code. Assumes nothing.
+use mathlib.Core.Path.{_≡_, refl, ap, _∙_}
+use mathlib.Core.List.{List, [], _∷_, _++_}
+use Rattle.units.specs.declared.Holder.the-variants.{Free, Held}
+use Rattle.packets.specs.Demand.{Event, events}
+use Rattle.packets.specs.EndsMoving.{cell, holder, moving}
+use Rattle.packets.proofs.EndsMovingProof.{k9-after, k9-before}
+use Rattle.packets.specs.Rules.{Call, Complete, End, Mark, Start, Submit, Take, accept, decided, refusal, run, step}
+use Rattle.packets.specs.State.{State}
+use Rattle.packets.specs.declared.Answer.{Answer}
+use Rattle.packets.specs.declared.How.the-variants.{Full}
+use Rattle.packets.specs.declared.Lists.{Lists}
+use Rattle.packets.specs.declared.Verdict.{Verdict}
+use Rattle.packets.specs.declared.Verdict.the-variants.{Denied, Granted}
+use Rattle.packets_queue.proofs.PaddedLaws.{list-padded}
+use Rattle.lists.specs.Outcomes.{leaves, listsOf, outcome, settled, stateOf}
+
+-- the rules' state of what the code holds of a state
+pub state-of : (s : State) → stateOf (listsOf s) ≡ s
+state-of s = rw (list-padded (s .queue))
+
+leaves-is : (r : Lists) (x : Call) → stateOf (leaves r x) ≡ accept (stateOf r) x
+unfolding accept
+leaves-is r (Take j asg) = refl
+leaves-is r (Submit j p f c w) = state-of (accept (stateOf r) (Submit j p f c w))
+leaves-is r (Start c) = state-of (accept (stateOf r) (Start c))
+leaves-is r (Complete c how) = state-of (accept (stateOf r) (Complete c how))
+leaves-is r (End j e) = state-of (accept (stateOf r) (End j e))
+leaves-is r (Mark c u m on) = refl
+
+-- one call: the rules' answer, and the rules' state
+pub outcome-is : (r : Lists) (x : Call) → (outcome r x .answer ≡ step (stateOf r) x .answer) × (stateOf (outcome r x .lists) ≡ step (stateOf r) x .state)
+unfolding outcome step
+outcome-is r x = go (refusal (stateOf r) x)
+  where
+    go : (v : Verdict) → (settled r x v .answer ≡ decided (stateOf r) x v .answer) × (stateOf (settled r x v .lists) ≡ decided (stateOf r) x v .state)
+    go Granted = (refl, leaves-is r x)
+    go (Denied n) = (refl, refl)
+
+-- the calls of the code one after the other: the state then, and each call with its answer
+unfoldable pub runs : Lists → List Call → Lists
+runs r [] = r
+runs r (x ∷ l) = runs (outcome r x .lists) l
+
+pub runs-is : (r : Lists) (l : List Call) → stateOf (runs r l) ≡ run (stateOf r) l
+unfolding runs run
+runs-is r [] = refl
+runs-is r (x ∷ l) = runs-is (outcome r x .lists) l ∙ ap (λ (s : State). run s l) (outcome-is r x .1)
+
+unfoldable pub happened : Lists → List Call → List Event
+happened r [] = []
+happened r (x ∷ l) = record { call = x; answer = outcome r x .answer } ∷ happened (outcome r x .lists) l
+
+pub happened-is : (r : Lists) (l : List Call) → happened r l ≡ events (stateOf r) l
+unfolding happened events
+happened-is r [] = refl
+happened-is r (x ∷ l) =
+    ap (λ (a : Answer). record { call = x; answer = a } ∷ happened (outcome r x .lists) l) (outcome-is r x .0)
+    ∙ ap (λ (m : List Event). record { call = x; answer = step (stateOf r) x .answer } ∷ m)
+    (happened-is (outcome r x .lists) l ∙ ap (λ (s : State). events s l) (outcome-is r x .1))
+
+-- the marked case K9, of the code: the unit is the job's after the end, and free after the completion
+pub k9-runs : (holder (stateOf (runs (listsOf cell) moving)) ≡ Held 0) × (holder (stateOf (runs (listsOf cell) (moving ++ (Complete 3 Full ∷ [])))) ≡ Free)
+k9-runs =
+    let calls : List Call = moving ++ (Complete 3 Full ∷ []) in (
+      ap holder (runs-is (listsOf cell) moving) ∙ ap (λ (s : State). holder (run s moving)) (state-of cell) ∙ k9-before,
+      ap holder (runs-is (listsOf cell) calls) ∙ ap (λ (s : State). holder (run s calls)) (state-of cell) ∙ k9-after,
+    )

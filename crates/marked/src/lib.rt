@@ -1,1 +1,0 @@
-// The marked cases of the assigner, as theorems: there is no code here.

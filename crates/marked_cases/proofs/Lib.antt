@@ -1,0 +1,2 @@
+pub mod FacilitiesProof
+pub mod CasesProof

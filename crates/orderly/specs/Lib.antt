@@ -1,4 +1,0 @@
-pub mod Orderly
-pub mod OrderLaws
-pub mod ListLaws
-pub mod Reachable

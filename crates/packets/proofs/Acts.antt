@@ -1,0 +1,97 @@
+-- Every accepted call either acts on the holding, and then its lone unit makes the same step and the same start, or the lone unit stands still.
+-- Assumes nothing.
+use Prim.Native.Nat.{ℕ}
+use mathlib.Core.Path.{_≡_, refl, sym}
+use mathlib.Core.Bool.{Bool, true, false, _&&_}
+use lib.Dec.{eqb}
+use borrow.Author.Tests.{eqb-true}
+use Rattle.packets.specs.Demand.{Holding, Holds, isThere, startIn, there}
+use Rattle.packets.proofs.Inv.{Inv}
+use Rattle.packets.proofs.Laws.{and-left, and-right, clash}
+use Rattle.packets.specs.Lone.{Lone, loneStart, loneStep}
+use Rattle.packets.specs.Picks.{find}
+use Rattle.packets.specs.Rules.{Call, Complete, End, Mark, Start, Submit, Take, accept, answer, atOf, refusal, startable, toOf}
+use Rattle.packets.proofs.Sim.{Sim}
+use Rattle.packets.proofs.SimEnd.{sim-assign-away, sim-complete, sim-complete-away, sim-end, sim-end-away, sim-mark}
+use Rattle.packets.proofs.SimStart.{on-channel, same-start, sim-start, sim-start-away}
+use Rattle.packets.proofs.SimSubmit.{eqb-flip, sim-submit, sim-submit-away}
+use Rattle.packets.specs.State.{State, motionOn, packetIn, packetOf, placeOf}
+use Rattle.packets.proofs.Steps.{busy-of, find-some}
+use Rattle.packets.proofs.Told.{assigns-to, completes-on, ends-of, starts-on, submits}
+use Rattle.packets.specs.declared.Answer.{Answer}
+use Rattle.packets.specs.declared.Answer.the-variants.{Closed, Completed, Done, Refused, Started}
+use Rattle.packets.specs.declared.Verdict.the-variants.{Granted}
+
+-- ---- every accepted call
+
+-- does an accepted call act on the holding, by what the cell knows?
+unfoldable pub answersThere : Holding → State → ℕ → Answer → Bool
+answersThere h s c Done = false
+answersThere h s c (Started b) = eqb (b .place) (h .place) && isThere h c (b .at)
+answersThere h s c (Completed j p r) = eqb j (h .place) && there h (packetIn (s .jobs) j p)
+answersThere h s c (Closed r) = false
+answersThere h s c (Refused n) = false
+
+unfoldable pub actsNow : Holding → State → Call → Bool
+actsNow h s (Take j asg) = false
+actsNow h s (Submit j p f c w) = eqb j (h .place) && isThere h c (atOf w)
+actsNow h s (Start c) = answersThere h s c (answer s (Start c))
+actsNow h s (Complete c how) = answersThere h s c (answer s (Complete c how))
+actsNow h s (End j e) = eqb j (h .place)
+actsNow h s (Mark c u m on) = false
+
+-- the call acts on the holding, and the lone unit makes the same step and the same start; or it doesn't, and the lone unit stands still
+pub record Acted (h : Holding) (s : State) (l : Lone) (x : Call) : Type 0 where
+  pub sim : Sim h (accept s x) (loneStep (h .drum) l x)
+  pub start : loneStart (h .place) l x ≡ startIn (answer s x)
+
+pub sim-acts : (h : Holding) (s : State) → Inv s → Holds s h → (l : Lone) → Sim h s l → (x : Call) → refusal s x ≡ Granted → actsNow h s x ≡ true → Acted h s l x
+unfolding accept actsNow answersThere answer loneStart loneStep
+sim-acts h s I H l S (Take j asg) r t = clash false t refl
+sim-acts h s I H l S (Submit j p f c w) r t =
+    record {
+      sim = sim-submit h s I H l S j p f c (atOf w) (toOf w) (submits s j p f c w r) (sym (eqb-true j (h .place) (and-left (eqb j (h .place)) _ t))) (and-right (eqb j (h .place)) _ t);
+      start = refl;
+    }
+sim-acts h s I H l S (Start c) r t =
+    let k = starts-on s c r in
+    let o = find-some (find (startable s c) (s .queue)) (k .2) in
+    let e = o .0 in
+    let t′ : eqb (placeOf e) (h .place) && isThere h c (packetIn (s .jobs) (placeOf e) (packetOf e) .at) ≡ true = rw (o .1) at t in
+    let at-e : placeOf e ≡ h .place = eqb-true (placeOf e) (h .place) (and-left (eqb (placeOf e) (h .place)) _ t′) in
+    let on-c = on-channel h s I H l S c (k .0) (k .1) e (o .1) in
+    let y : there h (packetIn (s .jobs) (h .place) (packetOf e)) ≡ true = rw (← at-e, on-c) (and-right (eqb (placeOf e) (h .place)) _ t′) in
+    record {
+      sim = rw (o .1) (sim-start h s I H l S c (k .0) (k .1) e (o .1) at-e y);
+      start = same-start h s I H l S c (k .0) (k .1) e (o .1) at-e y;
+    }
+sim-acts h s I H l S (Complete c how) r t =
+    let k = completes-on s c how r in
+    let o = busy-of (motionOn s c) (k .1) in
+    let t′ : eqb (o .0) (h .place) && there h (packetIn (s .jobs) (o .0) (o .1)) ≡ true = rw (o .2) at t in
+    record {
+      sim = rw (o .2) (sim-complete h s I H l S c (k .0) (o .0) (o .1) (o .2) (sym (eqb-true (o .0) (h .place) (and-left (eqb (o .0) (h .place)) _ t′))) (and-right (eqb (o .0) (h .place)) _ t′) how);
+      start = rw (o .2);
+    }
+sim-acts h s I H l S (End j e) r t =
+    record { sim = sim-end h s I l S j e (ends-of s j e r) (sym (eqb-true j (h .place) t)); start = refl }
+sim-acts h s I H l S (Mark c u m on) r t = clash false t refl
+
+pub sim-away : (h : Holding) (s : State) → Inv s → Holds s h → (l : Lone) → Sim h s l → (x : Call) → refusal s x ≡ Granted → actsNow h s x ≡ false → Sim h (accept s x) l
+unfolding accept actsNow answersThere answer
+sim-away h s I H l S (Take j asg) r t = sim-assign-away h s I H l S j (assigns-to s j asg r .0) (assigns-to s j asg r .1) asg
+sim-away h s I H l S (Submit j p f c w) r t = sim-submit-away h s I H l S j p f c (atOf w) (toOf w) (submits s j p f c w r) (rw (eqb-flip j (h .place)) at t)
+sim-away h s I H l S (Start c) r t =
+    let k = starts-on s c r in
+    let o = find-some (find (startable s c) (s .queue)) (k .2) in
+    let e = o .0 in
+    let t′ : eqb (placeOf e) (h .place) && isThere h c (packetIn (s .jobs) (placeOf e) (packetOf e) .at) ≡ false = rw (o .1) at t in
+    let on-c = on-channel h s I H l S c (k .0) (k .1) e (o .1) in
+    rw (o .1) (sim-start-away h s I H l S c (k .0) (k .1) e (o .1) (rw (eqb-flip (h .place) (placeOf e), on-c) t′))
+sim-away h s I H l S (Complete c how) r t =
+    let k = completes-on s c how r in
+    let o = busy-of (motionOn s c) (k .1) in
+    let t′ : eqb (o .0) (h .place) && there h (packetIn (s .jobs) (o .0) (o .1)) ≡ false = rw (o .2) at t in
+    rw (o .2) (sim-complete-away h s I H l S c (k .0) (o .0) (o .1) (o .2) (rw (eqb-flip (h .place) (o .0)) t′) how)
+sim-away h s I H l S (End j e) r t = sim-end-away h s I l S j e (ends-of s j e r) (rw (eqb-flip (h .place) j) t)
+sim-away h s I H l S (Mark c u m on) r t = sim-mark h s I l S c u m on

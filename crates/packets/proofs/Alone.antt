@@ -1,0 +1,168 @@
+-- A held unit changes hands only through being free, so nothing of another job starts or moves there. Assumes nothing.
+use Prim.Native.Nat.{ℕ}
+use mathlib.Core.Path.{_≡_, refl, sym, ap, _∙_}
+use mathlib.Core.Bool.{Bool, true, false, not, cond, _&&_}
+use mathlib.Core.List.{List, [], _∷_}
+use mathlib.Core.Option.{Option, none, some}
+use native.Mathlib.Omega.{arith}
+use lib.Dec.{eqb}
+use Rattle.units.specs.declared.Unit.{Unit as UnitState}
+use Rattle.numbers.proofs.Tests.{by-bool}
+use Rattle.units.specs.State.{unitIn, markedUnit}
+use Rattle.units.specs.declared.Holder.{Holder}
+use Rattle.units.specs.declared.Holder.the-variants.{Free}
+use Rattle.packets.specs.Demand.{Holding, Holds, OwnStart, Quiet, Stretch, Undisturbed}
+use Rattle.packets.proofs.Inv.{EntryOk, Inv}
+use Rattle.packets.proofs.InvJobs.{held-once, take-held}
+use Rattle.packets.proofs.InvStores.{mark-holder}
+use Rattle.packets.proofs.Laws.{clash, find-holds}
+use Rattle.packets.specs.Picks.{find}
+use Rattle.packets.specs.Rules.{Call, Complete, End, Mark, Start, Submit, Take, accept, always, answer, atOf, begins, begun, closing, completed, cut, decided, finished, isFailure, locked, marked, packet, refusal, returnIfDone, startable, started, step, submitted, toOf}
+use Rattle.packets.proofs.SimSubmit.{unit-held}
+use Rattle.packets.specs.State.{State, anyMoves, close, drumOn, heldBy, isClosing, motionOn, packetIn, packetOf, placeOf, setLock, stateIn, sweep, withLock}
+use Rattle.packets.proofs.Steps.{startable-on, step-inv}
+use Rattle.packets.proofs.Store.{unit-keep, unit-release}
+use Rattle.packets.proofs.Told.{assigns-to}
+use Rattle.packets.specs.declared.Answer.the-variants.{Started}
+use Rattle.packets.specs.declared.Begun.{Begun}
+use Rattle.packets.specs.declared.How.{How}
+use Rattle.packets.specs.declared.Motion.{Motion}
+use Rattle.packets.specs.declared.Motion.the-variants.{Busy, Idle}
+use Rattle.packets.specs.declared.Verdict.{Verdict}
+use Rattle.packets.specs.declared.Verdict.the-variants.{Denied, Granted}
+
+-- ---- nothing of another job
+
+-- a held unit changes hands only through being free
+abbrev pub Same : State → State → Type 0
+Same s s′ = (c u i j : ℕ) → heldBy (unitIn (s .units) c u .holder) i ≡ true → heldBy (unitIn (s′ .units) c u .holder) j ≡ true → j ≡ i
+
+pub same-kept : (s s′ : State) → ((c u : ℕ) → unitIn (s′ .units) c u .holder ≡ unitIn (s .units) c u .holder) → Same s s′
+same-kept s s′ e c u i j a b = held-once (unitIn (s .units) c u .holder) j i (rw e at b) a
+
+pub lock-keeps : (units : List (List UnitState)) (c a : ℕ) (b : Bool) (d u : ℕ) → unitIn (setLock units c a b) d u .holder ≡ unitIn units d u .holder
+lock-keeps units c a b d u = unit-keep (λ (v : UnitState). v .holder) units c a (withLock (unitIn units c a) b) d u refl
+
+pub released : (v : Holder) (k j : ℕ) → heldBy (cond (heldBy v k) Free v) j ≡ true → heldBy v j ≡ true
+released v k j e = by-bool (heldBy v k) (λ t. clash false (rw t at e) refl) (λ t. rw t at e)
+
+pub return-keeps : (s s′ : State) (k : ℕ) → ((c u : ℕ) → unitIn (s′ .units) c u .holder ≡ unitIn (s .units) c u .holder) → Same s (returnIfDone k s′)
+return-keeps s s′ k e =
+    by-bool (isClosing (stateIn (s′ .jobs) k) && not (anyMoves k (s′ .moving)))
+    (λ t. rw t (λ c u i j a b. held-once (unitIn (s .units) c u .holder) j i
+    (rw e at (released (unitIn (s′ .units) c u .holder) k j (rw (unit-release (s′ .units) k c u) at b))) a))
+    (λ t. rw t (same-kept s s′ e))
+
+pub submit-keeps : (s : State) (j p f c a b d u : ℕ) → unitIn (submitted s j p f c a b .units) d u .holder ≡ unitIn (s .units) d u .holder
+submit-keeps s j p f c a b d u =
+    by-bool (eqb f 0o07)
+    (λ e. by-bool (locked s c a) (λ l. rw (e, l) (lock-keeps (s .units) c a false d u)) (λ l. rw (e, l)))
+    (λ e. by-bool (eqb f 0o23) (λ l. rw (e, l)) (λ l. rw (e, l)))
+
+pub finish-keeps : (s : State) (c : ℕ) (how : How) (j p d u : ℕ) → unitIn (finished s c how j p .units) d u .holder ≡ unitIn (s .units) d u .holder
+finish-keeps s c how j p d u =
+    by-bool (isFailure how && not (drumOn (s .channels) c))
+    (λ e. rw e (lock-keeps (s .units) c (packetIn (s .jobs) j p .at) true d u))
+    (λ e. rw e)
+
+pub accept-same : (s : State) → Inv s → (x : Call) → refusal s x ≡ Granted → Same s (accept s x)
+unfolding accept
+accept-same s I (Take k asg) r =
+    λ c u i j a b. held-once (unitIn (s .units) c u .holder) j i
+    (rw (take-held s I k (assigns-to s k asg r .0) (assigns-to s k asg r .1) asg c u i a) at b) a
+accept-same s I (Submit k p f c w) r = same-kept s (submitted s k p f c (atOf w) (toOf w)) (submit-keeps s k p f c (atOf w) (toOf w))
+accept-same s I (Start c) r = go (find (startable s c) (s .queue))
+  where
+    go : (o : Option ℕ) → Same s (started s c o)
+    go none = same-kept s s (λ c u. refl)
+    go (some e) = same-kept s (begun s c e) (λ c u. refl)
+accept-same s I (Complete c how) r = go (motionOn s c)
+  where
+    go : (m : Motion) → Same s (completed s c how m)
+    go Idle = same-kept s s (λ c u. refl)
+    go (Busy j p) = return-keeps s (finished s c how j p) j (finish-keeps s c how j p)
+accept-same s I (End k e) r = return-keeps s (close (sweep s k always cut) k (closing e)) k (λ c u. refl)
+accept-same s I (Mark c u m on) r =
+    same-kept s (marked s c u m on) (λ e w. unit-keep (λ (v : UnitState). v .holder) (s .units) c u (markedUnit m on (unitIn (s .units) c u)) e w (mark-holder m on (unitIn (s .units) c u)))
+
+pub step-same : (s : State) → Inv s → (x : Call) → Same s (step s x .state)
+unfolding step
+step-same s I x = go (refusal s x) refl
+  where
+    go : (n : Verdict) → refusal s x ≡ n → Same s (decided s x n .state)
+    go Granted e = accept-same s I x e
+    go (Denied n) e = same-kept s s (λ c u. refl)
+
+-- the configuration never changes
+pub return-config : (s : State) (j : ℕ) → returnIfDone j s .channels ≡ s .channels
+return-config s j = by-bool (isClosing (stateIn (s .jobs) j) && not (anyMoves j (s .moving))) (λ e. rw e) (λ e. rw e)
+
+pub accept-config : (s : State) (x : Call) → accept s x .channels ≡ s .channels
+unfolding accept
+accept-config s (Take j asg) = refl
+accept-config s (Submit j p f c w) =
+    by-bool (eqb f 0o07)
+    (λ e. by-bool (locked s c (atOf w)) (λ l. rw (e, l)) (λ l. rw (e, l)))
+    (λ e. by-bool (eqb f 0o23) (λ l. rw (e, l)) (λ l. rw (e, l)))
+accept-config s (Start c) = go (find (startable s c) (s .queue))
+  where
+    go : (o : Option ℕ) → started s c o .channels ≡ s .channels
+    go none = refl
+    go (some e) = refl
+accept-config s (Complete c how) = go (motionOn s c)
+  where
+    go : (m : Motion) → completed s c how m .channels ≡ s .channels
+    go Idle = refl
+    go (Busy j p) =
+        return-config (finished s c how j p) j
+        ∙ by-bool (isFailure how && not (drumOn (s .channels) c)) (λ e. rw e) (λ e. rw e)
+accept-config s (End j e) = return-config (close (sweep s j always cut) j (closing e)) j
+accept-config s (Mark c u m on) = refl
+
+pub step-config : (s : State) (x : Call) → step s x .state .channels ≡ s .channels
+unfolding step
+step-config s x = go (refusal s x)
+  where
+    go : (n : Verdict) → decided s x n .state .channels ≡ s .channels
+    go Granted = accept-config s x
+    go (Denied n) = refl
+
+-- who moves on the unit holds it
+pub mover : (h : Holding) (s : State) → Inv s → drumOn (s .channels) (h .channel) ≡ false → (j p : ℕ) → motionOn s (h .channel) ≡ Busy j p → packetIn (s .jobs) j p .at ≡ h .unit
+    → heldBy (unitIn (s .units) (h .channel) (h .unit) .holder) j ≡ true
+mover h s I nd j p e u =
+    let k = I .motion (h .channel) j p e in
+    let o : drumOn (s .channels) (h .channel) ≡ false → heldBy (unitIn (s .units) (h .channel) (h .unit) .holder) j ≡ true = rw (k .channel, u) at (k .owned) in
+    o nd
+
+pub own-start : (h : Holding) (s : State) → Inv s → Holds s h → h .drum ≡ false → (x : Call) → OwnStart h s x
+unfolding step answer
+own-start h s I H d x b e a u = go (refusal s (Start (h .channel))) (rw e at a)
+  where
+    by-entry : (o : Option ℕ) → find (startable s (h .channel)) (s .queue) ≡ o → begins s o ≡ Started b → b .place ≡ h .place
+    by-entry none f g = absurd (let z : _≡_ {A = ℕ} 0 1 = cc in omega arith)
+    by-entry (some y) f g =
+        let q = packetIn (s .jobs) (placeOf y) (packetOf y) in
+        let z : record { place = placeOf y; packet = packetOf y; function = q .function; at = q .at } ≡ b = cc in
+        let k = find-holds (EntryOk s) (startable s (h .channel)) (s .queue) y (I .queued) f in
+        let v : q .at ≡ h .unit = ap (λ (r : Begun). r .at) z ∙ u in
+        let o : drumOn (s .channels) (h .channel) ≡ false → heldBy (unitIn (s .units) (h .channel) (h .unit) .holder) (placeOf y) ≡ true = rw (startable-on s (h .channel) y (k .1), v) at (k .0 .owned) in
+        sym (ap (λ (r : Begun). r .place) z) ∙ held-once (unitIn (s .units) (h .channel) (h .unit) .holder) (placeOf y) (h .place) (o (H .kind ∙ d)) (unit-held h s H d)
+
+    go : (n : Verdict) → decided s (Start (h .channel)) n .answer ≡ Started b → b .place ≡ h .place
+    go Granted g = by-entry (find (startable s (h .channel)) (s .queue)) refl g
+    go (Denied n) g = absurd (let z : _≡_ {A = ℕ} 0 1 = cc in omega arith)
+
+pub quiet-held : (h : Holding) (s : State) → Inv s → Holds s h → h .drum ≡ false → Quiet h s
+quiet-held h s I H d j p e u =
+    held-once (unitIn (s .units) (h .channel) (h .unit) .holder) j (h .place) (mover h s I (H .kind ∙ d) j p e u) (unit-held h s H d)
+
+pub quiet-after : (h : Holding) (s : State) → Inv s → Holds s h → h .drum ≡ false → (x : Call) → Quiet h (step s x .state)
+quiet-after h s I H d x j p e u =
+    step-same s I x (h .channel) (h .unit) (h .place) j (unit-held h s H d)
+    (mover h (step s x .state) (step-inv s I x) (rw (step-config s x) (H .kind ∙ d)) j p e u)
+
+pub undisturbed : (h : Holding) (s : State) → Inv s → Quiet h s → h .drum ≡ false → (during : List Call) → Stretch h s during → Undisturbed h s during
+undisturbed h s I q d [] H = q
+undisturbed h s I q d (x ∷ during) H =
+    (q, own-start h s I (H .0) d x, undisturbed h (step s x .state) (step-inv s I x) (quiet-after h s I (H .0) d x) d during (H .1))

@@ -1,0 +1,69 @@
+-- The page Always holds: from the invariant and from soundness, of every cell that calls lead to. Assumes nothing.
+use Prim.Native.Nat.{ℕ, _<_}
+use mathlib.Core.Path.{_≡_, refl, sym, subst}
+use mathlib.Core.Bool.{true, false}
+use mathlib.Core.List.{List, [], _∷_}
+use native.Mathlib.Omega.{arith}
+use lib.Dec.{eqb}
+use borrow.Author.Tests.{eqb-true}
+use Rattle.numbers.proofs.Tests.{by-bool}
+use Rattle.packets.specs.Always.{Always, Invariants, NoEarlyHandOver, packetAt}
+use Rattle.packets.specs.Demand.{fresh}
+use Rattle.packets.proofs.Inv.{EntryOk, Inv, OkEntry, Owned, motion-busy}
+use Rattle.packets.specs.State.{inMotion, State, entryOf, isBusy, isListed, isStill, packetOf, placeOf}
+use Rattle.packets.proofs.InvStores.{entry-packet, entry-place}
+use Rattle.packets.specs.Picks.{All, any}
+use Rattle.packets.proofs.Laws.{all-imp, clash}
+use Rattle.packets.specs.Rules.{run}
+use Rattle.packets.proofs.Sound.{Sound, noPacket}
+use Rattle.packets.proofs.SoundSteps.{fresh-sound, run-sound}
+use Rattle.packets.proofs.Steps.{fresh-inv, run-inv}
+use Rattle.packets.proofs.Store.{busy-in}
+use Rattle.packets.specs.declared.Status.{Status}
+use Rattle.packets.specs.declared.Status.the-variants.{Blank, Ended, InProgress, Listed, Stopping}
+
+-- one of a list's elements has what all have
+all-any : (P : ℕ → Type 0) (e : ℕ) (l : List ℕ) → All P l → any (eqb e) l ≡ true → P e
+all-any P e [] h t = clash false t refl
+all-any P e (x ∷ l) h t =
+    by-bool (eqb e x)
+    (λ d. subst P (sym (eqb-true e x d)) (h .0))
+    (λ d. all-any P e l (h .1) (rw d at t))
+
+-- a busy packet is listed or moves
+busy-either : (t : Status) → isBusy t ≡ true → isListed t ≡ false → inMotion t ≡ true
+busy-either Blank b l = b
+busy-either Listed b l = clash true refl l
+busy-either InProgress b l = refl
+busy-either Stopping b l = refl
+busy-either (Ended k) b l = b
+
+holds-always : (s : State) → Inv s → Sound s noPacket → Always s
+holds-always s I S =
+    record {
+      moving = λ c j p e. (I .motion c j p e .going, I .motion c j p e .channel);
+      movers = λ j p h. S .mover j p refl h;
+      entries = all-imp (EntryOk s) (λ (e : ℕ). isStill (s .jobs) e ≡ true) (λ e k. k .listed) (s .queue) (I .queued);
+      members = λ j p h. S .member j p refl h;
+      once = I .single;
+      held = held-by;
+    }
+  where
+    held-by : (j p : ℕ) → isBusy (packetAt s j p .status) ≡ true → Owned s j (packetAt s j p)
+    held-by j p b d =
+        by-bool (isListed (packetAt s j p .status))
+        (λ l. let small : p < 16 = (let k = busy-in (s .jobs) j p b in omega (arith, S .sixteen j)) in
+        let k : OkEntry s (placeOf (entryOf j p)) (packetOf (entryOf j p)) = all-any (EntryOk s) (entryOf j p) (s .queue) (I .queued) (S .member j p refl l) in
+        let k′ : OkEntry s j p = rw (entry-place j p small, entry-packet j p small) at k in
+        k′ .owned d)
+        (λ l. I .motion (packetAt s j p .channel .0) j p (S .mover j p refl (busy-either (packetAt s j p .status) b l)) .owned d)
+
+pub invariants : Invariants
+invariants channels units free calls =
+    holds-always (run (fresh channels units) calls)
+    (run-inv (fresh channels units) (fresh-inv channels units free) calls)
+    (run-sound (fresh channels units) (fresh-inv channels units free) (fresh-sound channels units) calls)
+
+pub no-early-hand-over : NoEarlyHandOver
+no-early-hand-over channels units free calls j p h d =
+    invariants channels units free calls .held j p (motion-busy (packetAt (run (fresh channels units) calls) j p .status) h) d

@@ -1,0 +1,175 @@
+-- The page Codes holds: each store's effect on each packet, call by call. Assumes nothing.
+use Prim.Native.Nat.{ℕ, _<_}
+use mathlib.Core.Path.{_≡_, refl, ap, _∙_}
+use mathlib.Core.Bool.{Bool, false, not, cond, _&&_}
+use lib.ListN.{length}
+use lib.Dec.{eqb}
+use borrow.Author.Tests.{eqb-true}
+use Rattle.numbers.proofs.Tests.{by-bool}
+use Rattle.packets.specs.Codes.{Codes, Kept, afterComplete, afterSubmit, renews, statusAfter}
+use Rattle.packets.specs.Demand.{fresh}
+use Rattle.packets.proofs.Inv.{EntryOk, Inv, running-alive}
+use Rattle.packets.proofs.InvStores.{sweep-inv}
+use Rattle.packets.proofs.Laws.{and-left, and-right, clash, find-holds}
+use Rattle.packets.specs.Picks.{find}
+use Rattle.packets.specs.Rules.{Call, Complete, End, Mark, Start, Submit, Take, accept, aimed, always, atOf, atUnit, closed, closing, codeFor, cut, decided, failed, finished, isDone, isFailure, locked, over, packet, refusal, returnIfDone, run, startable, step, submitted, toOf}
+use Rattle.packets.specs.State.{isPacket, State, drumOn, motionOn, packetIn, packetOf, placeOf, put, restatusAll, stateIn, sweep, withStatus}
+use Rattle.packets.proofs.Steps.{Ready, busy-of, find-some, fresh-inv, over-fits, over-inside, ready-fits, ready-inside, ready-sweep, run-inv, start-fits, startable-on}
+use Rattle.packets.proofs.Store.{alive-in, packet-fresh, packet-put, packet-restatus, packet-state, sizeIn}
+use Rattle.packets.proofs.Told.{Submits, assigns-to, completes-on, cut-going, cut-idle, ends-of, failed-going, failed-idle, starts-on, submits}
+use Rattle.packets.specs.declared.How.{How}
+use Rattle.packets.specs.declared.JobState.the-variants.{Empty}
+use Rattle.packets.specs.declared.Motion.the-variants.{Busy}
+use Rattle.packets.specs.declared.Packet.{Packet}
+use Rattle.packets.specs.declared.Status.{Status}
+use Rattle.packets.specs.declared.Status.the-variants.{Blank, Ended, InProgress, Listed}
+use Rattle.packets.specs.declared.Verdict.{Verdict}
+use Rattle.packets.specs.declared.Verdict.the-variants.{Denied, Granted}
+
+-- one packet stored, and the packets of a job changed
+stored-status : (s : State) (j p : ℕ) (q : Packet) → p < sizeIn (s .jobs) j → (i n : ℕ)
+    → packetIn (put (s .jobs) j p q) i n .status ≡ cond (isPacket j p i n) (q .status) (packetIn (s .jobs) i n .status)
+stored-status s j p q fits i n = rw (packet-put (s .jobs) j p q i n fits) (by-bool (isPacket j p i n) (λ e. rw e) (λ e. rw e))
+
+swept-status : (s : State) (j : ℕ) (t : Packet → Bool) (f : Status → Status) → j < length (s .jobs) → f Blank ≡ Blank → (i n : ℕ)
+    → packetIn (restatusAll (s .jobs) j t f) i n .status
+    ≡ cond (eqb i j && t (packetIn (s .jobs) i n)) (f (packetIn (s .jobs) i n .status)) (packetIn (s .jobs) i n .status)
+swept-status s j t f inside fb i n =
+    rw (packet-restatus (s .jobs) j t f i n inside fb)
+    (by-bool (eqb i j) (λ e. rw e (by-bool (t (packetIn (s .jobs) i n)) (λ d. rw d) (λ d. rw d))) (λ e. rw e))
+
+module _ (s : State) (I : Inv s) (j p f c a b : ℕ) (k : Submits s j p f c a) (i n : ℕ) where
+  now-ready : Ready s j p
+  now-ready = record { small = k .small; running = k .running; idle = k .idle }
+
+  submit-status : packetIn (submitted s j p f c a b .jobs) i n .status ≡ afterSubmit s j p f c a b i n
+  submit-status =
+      let inside = ready-inside s j p now-ready in
+      by-bool (eqb f 0o07)
+      (λ e. by-bool (locked s c a)
+      (λ d. let s₁ = sweep s j (atUnit c a) failed in
+      let I₁ : Inv s₁ = sweep-inv s I j (atUnit c a) failed inside refl failed-going in
+      let r₁ : Ready s₁ j p = ready-sweep s j p (atUnit c a) failed refl failed-idle now-ready in
+      rw (e, d)
+      (stored-status s₁ j p (packet (Ended 0o00) f c a) (ready-fits s₁ I₁ j p r₁) i n
+      ∙ rw (swept-status s j (atUnit c a) failed inside refl i n)
+      (by-bool (isPacket j p i n) (λ g. rw g)
+      (λ g. rw g (by-bool (eqb i j) (λ h. rw h (by-bool (atUnit c a (packetIn (s .jobs) i n)) (λ m. rw m) (λ m. rw m))) (λ h. rw h))))))
+      (λ d. rw (e, d)
+      (stored-status s j p (packet (Ended 0o00) f c a) (ready-fits s I j p now-ready) i n
+      ∙ by-bool (isPacket j p i n) (λ g. rw g) (λ g. rw g (by-bool (eqb i j) (λ h. rw h) (λ h. rw h))))))
+      (λ e. by-bool (eqb f 0o23)
+      (λ d. let t = aimed (drumOn (s .channels) c) c a b in
+      let s₁ = sweep s j t cut in
+      let I₁ : Inv s₁ = sweep-inv s I j t cut inside refl cut-going in
+      let r₁ : Ready s₁ j p = ready-sweep s j p t cut refl cut-idle now-ready in
+      rw (e, d)
+      (stored-status s₁ j p (packet (Ended 0o00) f c a) (ready-fits s₁ I₁ j p r₁) i n
+      ∙ rw (swept-status s j t cut inside refl i n)
+      (by-bool (isPacket j p i n) (λ g. rw g)
+      (λ g. rw g (by-bool (eqb i j) (λ h. rw h (by-bool (aimed (drumOn (s .channels) c) c a b (packetIn (s .jobs) i n)) (λ m. rw m) (λ m. rw m))) (λ h. rw h))))))
+      (λ d. rw (e, d)
+      (stored-status s j p (packet Listed f c a) (ready-fits s I j p now-ready) i n
+      ∙ by-bool (isPacket j p i n) (λ g. rw g) (λ g. rw g (by-bool (eqb i j) (λ h. rw h) (λ h. rw h))))))
+
+returned-status : (s : State) (j i n : ℕ) → packetIn (returnIfDone j s .jobs) i n .status ≡ packetIn (s .jobs) i n .status
+returned-status s j i n = by-bool (isDone s j) (λ e. rw (e, packet-state (s .jobs) j Empty i n)) (λ e. rw e)
+
+module _ (s : State) (I : Inv s) (c : ℕ) (small : c < 16) (how : How) (j p : ℕ) (is : motionOn s c ≡ Busy j p) (i n : ℕ) where
+  finished-status : packetIn (finished s c how j p .jobs) i n .status ≡ afterComplete s c how (Busy j p) i n
+  finished-status =
+      let q = withStatus (packetIn (s .jobs) j p) (Ended (codeFor how)) in
+      let s₁ = over s c j p (codeFor how) in
+      let a = packetIn (s .jobs) j p .at in
+      let read : packetIn (s₁ .jobs) i n ≡ cond (isPacket j p i n) q (packetIn (s .jobs) i n) = packet-put (s .jobs) j p q i n (over-fits s I c small j p is) in
+      by-bool (isFailure how && not (drumOn (s .channels) c))
+      (λ e. rw e
+      (swept-status s₁ j (atUnit c a) failed (over-inside s I c small j p is (codeFor how)) refl i n
+      ∙ rw read
+      (by-bool (isPacket j p i n)
+      (λ g. rw g (by-bool (eqb i j && atUnit c a q) (λ m. rw m) (λ m. rw m)))
+      (λ g. rw g))))
+      (λ e. rw (e, read)
+      (by-bool (isPacket j p i n) (λ g. rw g) (λ g. rw g (by-bool (eqb i j) (λ h. rw h) (λ h. rw h)))))
+
+status-after : (s : State) → Inv s → (x : Call) → refusal s x ≡ Granted → (i n : ℕ) → packetIn (accept s x .jobs) i n .status ≡ statusAfter s x i n
+unfolding accept statusAfter
+status-after s I (Take j asg) r i n =
+    rw (packet-fresh (s .jobs) j asg i (rw (I .places) (assigns-to s j asg r .0)) n) (by-bool (eqb i j) (λ e. rw e) (λ e. rw e))
+status-after s I (Submit j p f c w) r i n = submit-status s I j p f c (atOf w) (toOf w) (submits s j p f c w r) i n
+status-after s I (Start c) r i n =
+    let k = starts-on s c r in
+    let o = find-some (find (startable s c) (s .queue)) (k .2) in
+    let e = o .0 in
+    let z = find-holds (EntryOk s) (startable s c) (s .queue) e (I .queued) (o .1) in
+    rw (o .1)
+    (stored-status s (placeOf e) (packetOf e) (withStatus (packetIn (s .jobs) (placeOf e) (packetOf e)) InProgress)
+    (start-fits s I c (k .0) e (z .0) (startable-on s c e (z .1))) i n)
+status-after s I (Complete c how) r i n =
+    let k = completes-on s c how r in
+    let o = busy-of (motionOn s c) (k .1) in
+    rw (o .2) (returned-status (finished s c how (o .0) (o .1)) (o .0) i n ∙ finished-status s I c (k .0) how (o .0) (o .1) (o .2) i n)
+status-after s I (End j e) r i n =
+    let h = alive-in (s .jobs) j (running-alive (stateIn (s .jobs) j) (ends-of s j e r)) in
+    returned-status (closed s j e) j i n
+    ∙ ap (λ (q : Packet). q .status) (packet-state (restatusAll (s .jobs) j always cut) j (closing e) i n)
+    ∙ swept-status s j always cut h refl i n
+    ∙ by-bool (eqb i j) (λ d. rw d) (λ d. rw d)
+status-after s I (Mark c u m on) r i n = refl
+
+pub codes : Codes
+codes channels units free before x r i n =
+    status-after (run (fresh channels units) before) (run-inv (fresh channels units) (fresh-inv channels units free) before) x r i n
+
+-- ---- an ended packet keeps its code
+
+-- of the changes only a renewal changes an ended status; what starts or completes was listed or moved
+keeps-code : (s : State) → Inv s → (x : Call) → refusal s x ≡ Granted → (i n k : ℕ) → packetIn (s .jobs) i n .status ≡ Ended k → renews x i n ≡ false
+    → statusAfter s x i n ≡ Ended k
+unfolding statusAfter
+keeps-code s I (Take j asg) r i n k e b = rw b e
+keeps-code s I (Submit j p f c w) r i n k e b =
+    rw (b, e)
+    (by-bool (eqb i j && (eqb f 0o07 && (locked s c (atOf w) && atUnit c (atOf w) (packetIn (s .jobs) i n))))
+    (λ d. rw d)
+    (λ d. rw d (by-bool (eqb i j && (not (eqb f 0o07) && (eqb f 0o23 && aimed (drumOn (s .channels) c) c (atOf w) (toOf w) (packetIn (s .jobs) i n)))) (λ g. rw g) (λ g. rw g))))
+keeps-code s I (Start c) r i n k e b =
+    let z = starts-on s c r in
+    let o = find-some (find (startable s c) (s .queue)) (z .2) in
+    let l = find-holds (EntryOk s) (startable s c) (s .queue) (o .0) (I .queued) (o .1) .0 .listed in
+    rw (o .1)
+    (by-bool (isPacket (placeOf (o .0)) (packetOf (o .0)) i n)
+    (λ t. let x : i ≡ placeOf (o .0) = eqb-true i (placeOf (o .0)) (and-left (eqb i (placeOf (o .0))) _ t) in
+    let y : n ≡ packetOf (o .0) = eqb-true n (packetOf (o .0)) (and-right (eqb i (placeOf (o .0))) _ t) in
+    let e′ : packetIn (s .jobs) (placeOf (o .0)) (packetOf (o .0)) .status ≡ Ended k = rw (x, y) at e in
+    clash false (rw e′ at l) refl)
+    (λ t. rw (t, e)))
+keeps-code s I (Complete c how) r i n k e b =
+    let z = completes-on s c how r in
+    let o = busy-of (motionOn s c) (z .1) in
+    let g = I .motion c (o .0) (o .1) (o .2) .going in
+    rw (o .2)
+    (by-bool (isPacket (o .0) (o .1) i n)
+    (λ t. let x : i ≡ o .0 = eqb-true i (o .0) (and-left (eqb i (o .0)) _ t) in
+    let y : n ≡ o .1 = eqb-true n (o .1) (and-right (eqb i (o .0)) _ t) in
+    let e′ : packetIn (s .jobs) (o .0) (o .1) .status ≡ Ended k = rw (x, y) at e in
+    clash false (rw e′ at g) refl)
+    (λ t. rw (t, e)
+    (by-bool (eqb i (o .0) && ((isFailure how && not (drumOn (s .channels) c)) && atUnit c (packetIn (s .jobs) (o .0) (o .1) .at) (packetIn (s .jobs) i n)))
+    (λ d. rw d) (λ d. rw d))))
+keeps-code s I (End j err) r i n k e b = rw e (by-bool (eqb i j) (λ d. rw d) (λ d. rw d))
+keeps-code s I (Mark c u m on) r i n k e b = e
+
+pub kept : Kept
+unfolding step
+kept channels units free before x i n k e b = go (refusal s x) refl
+  where
+    s : State
+    s = run (fresh channels units) before
+
+    I : Inv s
+    I = run-inv (fresh channels units) (fresh-inv channels units free) before
+
+    go : (v : Verdict) → refusal s x ≡ v → packetIn (decided s x v .state .jobs) i n .status ≡ Ended k
+    go Granted r = status-after s I x r i n ∙ keeps-code s I x r i n k e b
+    go (Denied m) r = e

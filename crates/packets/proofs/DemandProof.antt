@@ -1,0 +1,153 @@
+-- Demand 3 holds: the holding and its lone unit begin alike at the taking, and stay alike through the stretch. Assumes nothing.
+use Prim.Native.Nat.{ℕ, _<_}
+use mathlib.Core.Path.{_≡_, refl, sym, ap, _∙_}
+use mathlib.Core.Bool.{Bool, true, false, cond, _&&_}
+use mathlib.Core.List.{List, [], _∷_, map}
+use mathlib.Core.Option.{none}
+use lib.Dec.{eqb}
+use borrow.Author.Tests.{eqb-true}
+use Rattle.units.specs.declared.Unit.{Unit as UnitState}
+use Rattle.numbers.proofs.Tests.{by-bool}
+use Rattle.units.specs.State.{assignable, unitIn}
+use Rattle.units.specs.declared.Holder.the-variants.{Held}
+use Rattle.packets.proofs.Acts.{Acted, sim-acts, sim-away}
+use Rattle.packets.proofs.Alone.{quiet-held, undisturbed}
+use Rattle.packets.specs.Demand.{Demand3, Holding, Holds, Seen, Stretch, acting, acts, events, fresh, noneSeen, noted, seenAfter, startIn, startsIn}
+use Rattle.packets.proofs.Inv.{EntryOk, Inv, running-alive}
+use Rattle.packets.proofs.Laws.{all-imp, clash, eqb-self, keep-none}
+use Rattle.packets.specs.Lone.{Lone, Request, loneRun, loneStart, loneStarts, loneStep, newLone}
+use Rattle.packets.specs.Rules.{Call, Take, accept, answer, assigned, decided, refusal, run, step}
+use Rattle.packets.proofs.SeenLaws.{SeenOk, accept-seen, acts-refused, acts-same, noted-refused}
+use Rattle.packets.proofs.Sim.{Sim, lockThere, movingThere, num, on}
+use Rattle.packets.proofs.SimSubmit.{unit-held}
+use Rattle.packets.specs.State.{State, blank, heldBy, isEmpty, lock, motionOn, packetIn, placeOf, stateIn, takeAll, wanted}
+use Rattle.packets.proofs.Steps.{fresh-inv, run-inv, step-inv}
+use Rattle.packets.proofs.Store.{packet-fresh, unit-take}
+use Rattle.packets.proofs.Told.{assigns-to}
+use Rattle.packets.specs.declared.Answer.{Answer}
+use Rattle.packets.specs.declared.Answer.the-variants.{Refused}
+use Rattle.packets.specs.declared.Assignment.{Assignment}
+use Rattle.packets.specs.declared.Motion.{Motion}
+use Rattle.packets.specs.declared.Motion.the-variants.{Busy, Idle}
+use Rattle.packets.specs.declared.Verdict.{Verdict}
+use Rattle.packets.specs.declared.Verdict.the-variants.{Denied, Granted}
+
+-- ---- a stretch
+
+pub step-accepted : (s : State) (x : Call) → refusal s x ≡ Granted → step s x ≡ record { answer = answer s x; state = accept s x }
+unfolding step
+step-accepted s x e = ap (decided s x) e
+
+-- one step of the cell, and of the lone unit if the call acted
+pub record Next (h : Holding) (l : Lone) (t : Seen) (x : Call) (r : Answer) (s : State) : Type 0 where
+  pub acted : acts h t x r ≡ true → (loneStart (h .place) l x ≡ startIn r) × Sim h s (loneStep (h .drum) l x)
+  pub idled : acts h t x r ≡ false → Sim h s l
+  pub seen : SeenOk h s (noted h t x r)
+
+pub next : (h : Holding) (s : State) → Inv s → Holds s h → (l : Lone) → Sim h s l → (t : Seen) → SeenOk h s t → (x : Call) → Next h l t x (step s x .answer) (step s x .state)
+unfolding step
+next h s I H l S t k x = go (refusal s x) refl
+  where
+    go : (n : Verdict) → refusal s x ≡ n → Next h l t x (decided s x n .answer) (decided s x n .state)
+    go Granted e =
+        record {
+          acted = λ a. let d : Acted h s l x = sim-acts h s I H l S x e (sym (acts-same h s I t k x) ∙ a) in (d .start, d .sim);
+          idled = λ a. sim-away h s I H l S x e (sym (acts-same h s I t k x) ∙ a);
+          seen = accept-seen h s I H t k x e;
+        }
+    go (Denied n) e =
+        record {
+          acted = λ a. clash (acts h t x (Refused n)) a (acts-refused h t x n);
+          idled = λ a. S;
+          seen = rw (noted-refused h t x n) k;
+        }
+
+pub record Through (h : Holding) (s : State) (l : Lone) (t : Seen) (during : List Call) : Type 0 where
+  pub starts : startsIn h t (events s during) ≡ loneStarts (h .drum) (h .place) l (acting h t (events s during))
+  pub sim : Sim h (run s during) (loneRun (h .drum) l (acting h t (events s during)))
+  pub seen : SeenOk h (run s during) (seenAfter h t (events s during))
+
+pub through : (h : Holding) (s : State) → Inv s → (l : Lone) → Sim h s l → (t : Seen) → SeenOk h s t → (during : List Call) → Stretch h s during → Through h s l t during
+unfolding startsIn acting seenAfter events loneStarts loneRun run
+through h s I l S t k [] H = record { starts = refl; sim = S; seen = k }
+through h s I l S t k (x ∷ during) H =
+    let y = next h s I (H .0) l S t k x in
+    let s′ = step s x .state in
+    let t′ = noted h t x (step s x .answer) in
+    by-bool (acts h t x (step s x .answer))
+    (λ a. let z = y .acted a in
+    let r : Through h s′ (loneStep (h .drum) l x) t′ during = through h s′ (step-inv s I x) (loneStep (h .drum) l x) (z .1) t′ (y .seen) during (H .1) in
+    record { starts = rw (a, z .0, r .starts); sim = rw a (r .sim); seen = r .seen })
+    (λ a. let r : Through h s′ l t′ during = through h s′ (step-inv s I x) l (y .idled a) t′ (y .seen) during (H .1) in
+    record { starts = rw (a, r .starts); sim = rw a (r .sim); seen = r .seen })
+
+-- ---- the assignment
+
+module _ (s : State) (I : Inv s) (j : ℕ) (asg : Assignment) (small : j < 16) (empty : isEmpty (stateIn (s .jobs) j) ≡ true)
+    (h : Holding) (at-j : h .place ≡ j) where
+  after-assign : State
+  after-assign = assigned s j asg
+
+  not-j : (i : ℕ) → isEmpty (stateIn (s .jobs) i) ≡ false → eqb i (h .place) ≡ false
+  not-j i a = by-bool (eqb i (h .place)) (λ e. clash (isEmpty (stateIn (s .jobs) j)) empty (rw (eqb-true i (h .place) e ∙ at-j) at a)) (λ e. e)
+
+  pub new-sim : Holds (assigned s j asg) h → Sim h (assigned s j asg) newLone
+  new-sim H =
+      record {
+        order = ap (λ (x : List ℕ). map num x) (sym (keep-none (on h (assigned s j asg .jobs)) (s .queue)
+            (all-imp (EntryOk s) (λ (e : ℕ). on h (assigned s j asg .jobs) e ≡ false)
+            (λ e k. rw (not-j (placeOf e) (running-alive (stateIn (s .jobs) (placeOf e)) (k .running)))) (s .queue) (I .queued))));
+        table = λ n t. rw (packet-fresh (s .jobs) j asg (h .place) (rw (I .places) small) n, at-j, eqb-self j);
+        moving = sym (no-motion (motionOn s (h .channel)) refl);
+        lock = sym no-lock-yet;
+      }
+    where
+      no-motion : (m : Motion) → motionOn s (h .channel) ≡ m → movingThere h (assigned s j asg .jobs) m ≡ none
+      no-motion Idle e = refl
+      no-motion (Busy i p) e = rw (not-j i (I .motion (h .channel) i p e .alive))
+
+      no-lock-yet : lockThere h (takeAll (s .units) j (wanted asg)) ≡ false
+      no-lock-yet =
+          by-bool (h .drum)
+          (λ d. rw d)
+          (λ d. let g : heldBy (unitIn (takeAll (s .units) j (wanted asg)) (h .channel) (h .unit) .holder) (h .place) ≡ true = unit-held h (assigned s j asg) H d in
+          let m = unit-take (s .units) j (wanted asg) (h .channel) (h .unit) in
+          rw (d, m .1) (go (m .0 && assignable v) (rw (m .1) at g)))
+        where
+          v : UnitState
+          v = unitIn (s .units) (h .channel) (h .unit)
+
+          go : (w : Bool) → heldBy ((cond w (record { holder = Held j; down = v .down; reserved = v .reserved; interlock = false }) v) .holder) (h .place) ≡ true
+              → (cond w (record { holder = Held j; down = v .down; reserved = v .reserved; interlock = false }) v) .interlock ≡ false
+          go true g = refl
+          go false g = clash (isEmpty (stateIn (s .jobs) j)) empty (rw at-j at (I .holders (h .channel) (h .unit) (h .place) g))
+
+pub assigned-sim : (s : State) → Inv s → (j : ℕ) (asg : Assignment) → refusal s (Take j asg) ≡ Granted → (h : Holding) → h .place ≡ j
+    → Holds (step s (Take j asg) .state) h → Sim h (step s (Take j asg) .state) newLone
+unfolding accept
+assigned-sim s I j asg r h at-j H =
+    let k = assigns-to s j asg r in
+    let e : step s (Take j asg) .state ≡ assigned s j asg = ap (λ a. a .state) (step-accepted s (Take j asg) r) in
+    rw e (new-sim s I j asg (k .0) (k .1) h at-j (rw e at H))
+
+pub assigned-seen : (s : State) → Inv s → (j : ℕ) (asg : Assignment) → refusal s (Take j asg) ≡ Granted → (h : Holding) → h .place ≡ j
+    → SeenOk h (step s (Take j asg) .state) noneSeen
+unfolding accept
+assigned-seen s I j asg r h at-j n =
+    let k = assigns-to s j asg r in
+    let e : step s (Take j asg) .state ≡ assigned s j asg = ap (λ a. a .state) (step-accepted s (Take j asg) r) in
+    let z : packetIn (assigned s j asg .jobs) (h .place) n ≡ blank = packet-fresh (s .jobs) j asg (h .place) (rw (I .places) (k .0)) n ∙ rw (at-j, eqb-self j) in
+    (λ x. clash false x refl, λ b. clash false (rw (e, z) at b) refl)
+
+pub demand3 : Demand3
+demand3 channels units free before j asg r h at-j H during stretch =
+    let s₀ = run (fresh channels units) before in
+    let I₀ : Inv s₀ = run-inv (fresh channels units) (fresh-inv channels units free) before in
+    let s = step s₀ (Take j asg) .state in
+    let I : Inv s = step-inv s₀ I₀ (Take j asg) in
+    let k = through h s I newLone (assigned-sim s₀ I₀ j asg r h at-j H) noneSeen (assigned-seen s₀ I₀ j asg r h at-j) during stretch in
+    record {
+      starts = k .starts;
+      status = λ n t. ap (λ (q : Request). q .status) (k .sim .table n (k .seen n .0 t));
+      alone = λ d. undisturbed h s I (quiet-held h s I H d) d during stretch;
+    }

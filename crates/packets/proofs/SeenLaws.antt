@@ -1,0 +1,230 @@
+-- Where the packets of a job were last submitted, read from calls and answers alone, is what the cell holds. Assumes nothing.
+use Prim.Native.Nat.{ℕ, _<_}
+use mathlib.Core.Path.{_≡_, refl, sym, _∙_}
+use mathlib.Core.Bool.{Bool, true, false, not, _&&_}
+use mathlib.Core.Option.{Option, none, some}
+use lib.ListN.{length}
+use lib.Dec.{eqb}
+use borrow.Author.Tests.{eqb-true}
+use Rattle.numbers.proofs.Tests.{by-bool}
+use Rattle.numbers.specs.declared.Refusal.{Refusal}
+use Rattle.packets.proofs.Acts.{actsNow, answersThere}
+use Rattle.packets.specs.Demand.{Holding, Holds, Seen, acts, endedThere, isThere, noted, there, tookThere}
+use Rattle.packets.proofs.Inv.{EntryOk, Inv, listed-busy, motion-busy, running-alive}
+use Rattle.packets.proofs.InvStores.{lock-inv, sweep-inv}
+use Rattle.packets.proofs.Laws.{and-left, and-right, clash, find-holds}
+use Rattle.packets.specs.Picks.{find}
+use Rattle.packets.specs.Rules.{Call, Complete, End, Mark, Start, Submit, Take, accept, aimed, always, answer, assigned, atOf, atUnit, begins, begun, broken, closing, codeFor, completes, cut, ended, failed, finished, isFailure, locked, over, packet, refusal, returnIfDone, returned, startable, submitted, terminate, toOf, unlock}
+use Rattle.packets.proofs.SimSubmit.{eqb-flip, holder-alive}
+use Rattle.packets.specs.State.{State, anyMoves, close, drumOn, isBusy, isClosing, isEmpty, lock, motionOn, packetIn, packetOf, placeOf, put, restatus, restatusAll, stateIn, store, sweep, withStatus}
+use Rattle.packets.proofs.Steps.{Ready, busy-of, find-some, over-fits, over-inside, ready-fits, ready-inside, ready-sweep, start-fits, startable-on, stored-at}
+use Rattle.packets.proofs.Store.{alive-in, packet-fresh, packet-put, packet-restatus, packet-state, sizeIn}
+use Rattle.packets.proofs.Told.{Submits, assigns-to, completes-on, cut-going, cut-idle, ends-of, failed-going, failed-idle, starts-on, submits}
+use Rattle.packets.specs.declared.Answer.the-variants.{Refused}
+use Rattle.packets.specs.declared.How.{How}
+use Rattle.packets.specs.declared.JobState.the-variants.{Empty}
+use Rattle.packets.specs.declared.Motion.{Motion}
+use Rattle.packets.specs.declared.Motion.the-variants.{Busy, Idle}
+use Rattle.packets.specs.declared.Packet.{Packet}
+use Rattle.packets.specs.declared.Status.{Status}
+use Rattle.packets.specs.declared.Status.the-variants.{Blank, Ended, InProgress, Listed}
+use Rattle.packets.specs.declared.Verdict.the-variants.{Granted}
+
+-- ---- where the job's packets were last submitted
+
+-- from one state to the next each packet of the holding's job stays where it was submitted, and none becomes busy
+abbrev pub Calm : Holding → State → State → ℕ → Type 0
+Calm h s s′ n =
+    (there h (packetIn (s′ .jobs) (h .place) n) ≡ there h (packetIn (s .jobs) (h .place) n))
+    × (isBusy (packetIn (s′ .jobs) (h .place) n .status) ≡ true → isBusy (packetIn (s .jobs) (h .place) n .status) ≡ true)
+
+pub calm-refl : (h : Holding) (s : State) (n : ℕ) → Calm h s s n
+calm-refl h s n = (refl, λ b. b)
+
+pub calm-trans : (h : Holding) (a b c : State) (n : ℕ) → Calm h a b n → Calm h b c n → Calm h a c n
+calm-trans h a b c n p q = (q .0 ∙ p .0, λ x. p .1 (q .1 x))
+
+pub calm-same : (h : Holding) (s s′ : State) (n : ℕ) → packetIn (s′ .jobs) (h .place) n ≡ packetIn (s .jobs) (h .place) n → Calm h s s′ n
+calm-same h s s′ n e = (rw e, λ b. rw e at b)
+
+-- a packet other than the one that is stored
+pub calm-other : (h : Holding) (s : State) (j p : ℕ) (q : Packet) → p < sizeIn (s .jobs) j → (n : ℕ) → eqb (h .place) j && eqb n p ≡ false → Calm h s (store s j p q) n
+calm-other h s j p q fits n e = calm-same h s (store s j p q) n (packet-put (s .jobs) j p q (h .place) n fits ∙ rw e)
+
+-- a busy packet that gets another status
+pub calm-status : (h : Holding) (s : State) (j p : ℕ) (t : Status) → p < sizeIn (s .jobs) j → isBusy (packetIn (s .jobs) j p .status) ≡ true
+    → (n : ℕ) → Calm h s (store s j p (withStatus (packetIn (s .jobs) j p) t)) n
+calm-status h s j p t fits b n =
+    by-bool (eqb (h .place) j && eqb n p)
+    (λ e. let x : h .place ≡ j = eqb-true (h .place) j (and-left (eqb (h .place) j) (eqb n p) e) in
+    let y : n ≡ p = eqb-true n p (and-right (eqb (h .place) j) (eqb n p) e) in
+    let z : packetIn (put (s .jobs) j p (withStatus (packetIn (s .jobs) j p) t)) (h .place) n ≡ withStatus (packetIn (s .jobs) j p) t = packet-put (s .jobs) j p _ (h .place) n fits ∙ rw e in
+    (rw (z, x, y), λ w. rw (x, y) b))
+    (λ e. calm-other h s j p (withStatus (packetIn (s .jobs) j p) t) fits n e)
+
+pub calm-sweep : (h : Holding) (s : State) (j : ℕ) (t : Packet → Bool) (f : Status → Status) → j < length (s .jobs) → f Blank ≡ Blank
+    → ((x : Status) → isBusy x ≡ false → f x ≡ x) → (n : ℕ) → Calm h s (sweep s j t f) n
+calm-sweep h s j t f inside fb keeps n =
+    let q = packetIn (s .jobs) (h .place) n in
+    by-bool (eqb (h .place) j)
+    (λ e. let z : packetIn (restatusAll (s .jobs) j t f) (h .place) n ≡ restatus t f q = packet-restatus (s .jobs) j t f (h .place) n inside fb ∙ rw e in
+    (rw z, λ b. go (isBusy (q .status)) refl (rw z at b)))
+    (λ e. calm-same h s (sweep s j t f) n (packet-restatus (s .jobs) j t f (h .place) n inside fb ∙ rw e))
+  where
+    go : (x : Bool) → isBusy (packetIn (s .jobs) (h .place) n .status) ≡ x → isBusy (restatus t f (packetIn (s .jobs) (h .place) n) .status) ≡ true → isBusy (packetIn (s .jobs) (h .place) n .status) ≡ true
+    go true e b = e
+    go false e b =
+        by-bool (t (packetIn (s .jobs) (h .place) n))
+        (λ d. let b′ : isBusy (f (packetIn (s .jobs) (h .place) n .status)) ≡ true = rw d at b in rw (keeps (packetIn (s .jobs) (h .place) n .status) e) at b′)
+        (λ d. rw d at b)
+
+pub calm-return : (h : Holding) (s : State) (j n : ℕ) → Calm h s (returnIfDone j s) n
+calm-return h s j n =
+    by-bool (isClosing (stateIn (s .jobs) j) && not (anyMoves j (s .moving)))
+    (λ e. rw e (calm-same h s (returned s j) n (packet-state (s .jobs) j Empty (h .place) n)))
+    (λ e. rw e (calm-refl h s n))
+
+-- a submission, of another packet
+pub calm-submit : (h : Holding) (s : State) → Inv s → (j p f c a b : ℕ) → Submits s j p f c a → (n : ℕ) → eqb (h .place) j && eqb n p ≡ false → Calm h s (submitted s j p f c a b) n
+calm-submit h s I j p f c a b k n o =
+    let r : Ready s j p = record { small = k .small; running = k .running; idle = k .idle } in
+    let inside = ready-inside s j p r in
+    by-bool (eqb f 0o07)
+    (λ e. rw e (by-bool (locked s c a)
+    (λ d. rw d
+    (let s₁ = sweep s j (atUnit c a) failed in
+    let I₁ : Inv s₁ = sweep-inv s I j (atUnit c a) failed inside refl failed-going in
+    let r₁ : Ready s₁ j p = ready-sweep s j p (atUnit c a) failed refl failed-idle r in
+    calm-trans h s s₁ (unlock s j p f c a) n (calm-sweep h s j (atUnit c a) failed inside refl failed-idle n)
+    (calm-other h (lock s₁ c a false) j p (packet (Ended 0o00) f c a) (ready-fits s₁ I₁ j p r₁) n o)))
+    (λ d. rw d (calm-other h s j p (packet (Ended 0o00) f c a) (ready-fits s I j p r) n o))))
+    (λ e. rw e (by-bool (eqb f 0o23)
+    (λ d. rw d
+    (let t = aimed (drumOn (s .channels) c) c a b in
+    let s₁ = sweep s j t cut in
+    let I₁ : Inv s₁ = sweep-inv s I j t cut inside refl cut-going in
+    let r₁ : Ready s₁ j p = ready-sweep s j p t cut refl cut-idle r in
+    calm-trans h s s₁ (terminate s j p f c a b) n (calm-sweep h s j t cut inside refl cut-idle n)
+    (calm-other h s₁ j p (packet (Ended 0o00) f c a) (ready-fits s₁ I₁ j p r₁) n o)))
+    (λ d. rw d (calm-other h s j p (packet Listed f c a) (ready-fits s I j p r) n o))))
+
+-- the packet that is submitted
+pub submitted-at : (h : Holding) (s : State) → Inv s → (j p f c a b : ℕ) → Submits s j p f c a → there h (packetIn (submitted s j p f c a b .jobs) j p) ≡ isThere h c a
+submitted-at h s I j p f c a b k =
+    let r : Ready s j p = record { small = k .small; running = k .running; idle = k .idle } in
+    let inside = ready-inside s j p r in
+    by-bool (eqb f 0o07)
+    (λ e. rw e (by-bool (locked s c a)
+    (λ d. rw (
+      d,
+      stored-at (lock (sweep s j (atUnit c a) failed) c a false) (lock-inv (sweep s j (atUnit c a) failed) (sweep-inv s I j (atUnit c a) failed inside refl failed-going) c a false) j p (packet (Ended 0o00) f c a)
+          (let r₁ = ready-sweep s j p (atUnit c a) failed refl failed-idle r in record { small = r₁ .small; running = r₁ .running; idle = r₁ .idle }),
+    ))
+    (λ d. rw (d, stored-at s I j p (packet (Ended 0o00) f c a) r))))
+    (λ e. rw e (by-bool (eqb f 0o23)
+    (λ d. rw (
+      d,
+      stored-at (sweep s j (aimed (drumOn (s .channels) c) c a b) cut) (sweep-inv s I j (aimed (drumOn (s .channels) c) c a b) cut inside refl cut-going) j p (packet (Ended 0o00) f c a)
+          (ready-sweep s j p (aimed (drumOn (s .channels) c) c a b) cut refl cut-idle r),
+    ))
+    (λ d. rw (d, stored-at s I j p (packet Listed f c a) r))))
+
+-- what was seen of a packet agrees with the cell
+abbrev pub SeenAt : Holding → State → Bool → ℕ → Type 0
+SeenAt h s b n =
+    (b ≡ true → there h (packetIn (s .jobs) (h .place) n) ≡ true)
+    × (isBusy (packetIn (s .jobs) (h .place) n .status) ≡ true → b ≡ there h (packetIn (s .jobs) (h .place) n))
+
+abbrev pub SeenOk : Holding → State → Seen → Type 0
+SeenOk h s t = (n : ℕ) → SeenAt h s (t n) n
+
+pub seen-calm : (h : Holding) (s s′ : State) (b : Bool) (n : ℕ) → Calm h s s′ n → SeenAt h s b n → SeenAt h s′ b n
+seen-calm h s s′ b n c k = (λ e. c .0 ∙ k .0 e, λ e. k .1 (c .1 e) ∙ sym (c .0))
+
+pub calm-finished : (h : Holding) (s : State) → Inv s → (c : ℕ) → c < 16 → (how : How) (j p : ℕ) → motionOn s c ≡ Busy j p → (n : ℕ) → Calm h s (returnIfDone j (finished s c how j p)) n
+calm-finished h s I c small how j p is n =
+    let b = motion-busy (packetIn (s .jobs) j p .status) (I .motion c j p is .going) in
+    let s₁ = over s c j p (codeFor how) in
+    let k : Calm h s s₁ n = calm-status h s j p (Ended (codeFor how)) (over-fits s I c small j p is) b n in
+    calm-trans h s (finished s c how j p) (returnIfDone j (finished s c how j p)) n
+    (by-bool (isFailure how && not (drumOn (s .channels) c))
+    (λ e. rw e (calm-trans h s s₁ (broken s₁ c (packetIn (s .jobs) j p .at) j) n k
+    (calm-sweep h s₁ j (atUnit c (packetIn (s .jobs) j p .at)) failed (over-inside s I c small j p is (codeFor how)) refl failed-idle n)))
+    (λ e. rw e k))
+    (calm-return h (finished s c how j p) j n)
+
+pub accept-seen : (h : Holding) (s : State) → Inv s → Holds s h → (t : Seen) → SeenOk h s t → (x : Call) → refusal s x ≡ Granted → SeenOk h (accept s x) (noted h t x (answer s x))
+unfolding accept noted answer
+accept-seen h s I H t k (Take j asg) r =
+    λ n. seen-calm h s (assigned s j asg) (t n) n
+    (calm-same h s (assigned s j asg) n
+    (packet-fresh (s .jobs) j asg (h .place) (rw (I .places) (assigns-to s j asg r .0)) n ∙ rw other)) (k n)
+  where
+    other : eqb (h .place) j ≡ false
+    other = by-bool (eqb (h .place) j) (λ e. clash (isEmpty (stateIn (s .jobs) j)) (assigns-to s j asg r .1) (rw (eqb-true (h .place) j e) at (holder-alive h s I H))) (λ e. e)
+accept-seen h s I H t k (Submit j p f c w) r =
+    λ n. by-bool (eqb j (h .place) && eqb n p)
+    (λ e. let x : j ≡ h .place = eqb-true j (h .place) (and-left (eqb j (h .place)) (eqb n p) e) in
+    let y : n ≡ p = eqb-true n p (and-right (eqb j (h .place)) (eqb n p) e) in
+    let z : there h (packetIn (submitted s j p f c (atOf w) (toOf w) .jobs) (h .place) n) ≡ isThere h c (atOf w) = rw (← x, y) (submitted-at h s I j p f c (atOf w) (toOf w) (submits s j p f c w r)) in
+    rw e (λ d. z ∙ d, λ d. sym z))
+    (λ e. rw e (seen-calm h s (submitted s j p f c (atOf w) (toOf w)) (t n) n (calm-submit h s I j p f c (atOf w) (toOf w) (submits s j p f c w r) n (rw (eqb-flip (h .place) j) e)) (k n)))
+accept-seen h s I H t k (Start c) r =
+    let m = starts-on s c r in
+    let o = find-some (find (startable s c) (s .queue)) (m .2) in
+    let e = o .0 in
+    let q = find-holds (EntryOk s) (startable s c) (s .queue) e (I .queued) (o .1) .0 in
+    rw (o .1) (λ n. seen-calm h s (begun s c e) (t n) n
+    (calm-status h s (placeOf e) (packetOf e) InProgress (start-fits s I c (m .0) e q (startable-on s c e (find-holds (EntryOk s) (startable s c) (s .queue) e (I .queued) (o .1) .1))) (listed-busy (packetIn (s .jobs) (placeOf e) (packetOf e) .status) (q .listed)) n) (k n))
+accept-seen h s I H t k (Complete c how) r =
+    let m = completes-on s c how r in
+    let o = busy-of (motionOn s c) (m .1) in
+    rw (o .2) (λ n. seen-calm h s (returnIfDone (o .0) (finished s c how (o .0) (o .1))) (t n) n (calm-finished h s I c (m .0) how (o .0) (o .1) (o .2) n) (k n))
+accept-seen h s I H t k (End j e) r =
+    let inside = alive-in (s .jobs) j (running-alive (stateIn (s .jobs) j) (ends-of s j e r)) in
+    let s₁ = sweep s j always cut in
+    let s₂ = close s₁ j (closing e) in
+    λ n. seen-calm h s (ended s j e) (t n) n
+    (calm-trans h s s₁ (ended s j e) n (calm-sweep h s j always cut inside refl cut-idle n)
+    (calm-trans h s₁ s₂ (ended s j e) n (calm-same h s₁ s₂ n (packet-state (restatusAll (s .jobs) j always cut) j (closing e) (h .place) n)) (calm-return h s₂ j n))) (k n)
+accept-seen h s I H t k (Mark c u m on) r = k
+
+-- what is seen from outside to act on the holding does
+pub acts-same : (h : Holding) (s : State) → Inv s → (t : Seen) → SeenOk h s t → (x : Call) → acts h t x (answer s x) ≡ actsNow h s x
+unfolding acts actsNow answersThere answer
+acts-same h s I t k (Take j asg) = refl
+acts-same h s I t k (Submit j p f c w) = refl
+acts-same h s I t k (Start c) = go (find (startable s c) (s .queue))
+  where
+    go : (o : Option ℕ) → tookThere h c (begins s o) ≡ answersThere h s c (begins s o)
+    go none = refl
+    go (some e) = refl
+acts-same h s I t k (Complete c how) = go (motionOn s c) refl
+  where
+    go : (m : Motion) → motionOn s c ≡ m → endedThere h t (completes s c how m) ≡ answersThere h s c (completes s c how m)
+    go Idle e = refl
+    go (Busy j p) e =
+        by-bool (eqb j (h .place))
+        (λ d. let x : j ≡ h .place = eqb-true j (h .place) d in
+        rw (d, x) (k p .1 (motion-busy (packetIn (s .jobs) (h .place) p .status) (rw x at (I .motion c j p e .going)))))
+        (λ d. rw d)
+acts-same h s I t k (End j e) = refl
+acts-same h s I t k (Mark c u m on) = refl
+
+pub acts-refused : (h : Holding) (t : Seen) (x : Call) (n : Refusal) → acts h t x (Refused n) ≡ false
+unfolding acts
+acts-refused h t (Take j asg) n = refl
+acts-refused h t (Submit j p f c w) n = refl
+acts-refused h t (Start c) n = refl
+acts-refused h t (Complete c how) n = refl
+acts-refused h t (End j e) n = refl
+acts-refused h t (Mark c u m on) n = refl
+
+pub noted-refused : (h : Holding) (t : Seen) (x : Call) (n : Refusal) → noted h t x (Refused n) ≡ t
+unfolding noted
+noted-refused h t (Take j asg) n = refl
+noted-refused h t (Submit j p f c w) n = refl
+noted-refused h t (Start c) n = refl
+noted-refused h t (Complete c how) n = refl
+noted-refused h t (End j e) n = refl
+noted-refused h t (Mark c u m on) n = refl

@@ -1,0 +1,288 @@
+-- A cell, seen from a holding, and a lone unit: when they agree, and that each store of the rules keeps them so.
+use Prim.Native.Nat.{ℕ, _<_}
+use mathlib.Core.Path.{_≡_, refl, sym, ap, _∙_}
+use mathlib.Core.Bool.{Bool, true, false, cond, _&&_}
+use mathlib.Core.List.{List, [], _∷_, _++_, map, append-nil}
+use mathlib.Core.Option.{Option, none, some}
+use lib.ListN.{length}
+use lib.Dec.{eqb}
+use borrow.Author.Tests.{eqb-true}
+use Rattle.units.specs.declared.Unit.{Unit as UnitState}
+use Rattle.numbers.proofs.Tests.{by-bool}
+use Rattle.units.specs.State.{unitIn}
+use Rattle.packets.specs.Demand.{Holding, there}
+use Rattle.packets.proofs.Inv.{Elsewhere, EntryOk, Inv, kept-still, listed-busy, motion-busy}
+use Rattle.packets.proofs.InvStores.{New, enlisted-is, entry-packet, motion-move, put-elsewhere, restatus-elsewhere}
+use Rattle.packets.specs.Picks.{All, keep}
+use Rattle.packets.proofs.Laws.{all-imp, all-keep, and-both, and-left, and-right, clash, eqb-self, keep-all, keep-append, keep-same, settle-eq}
+use Rattle.packets.specs.Lone.{Lone, Request, carries, joins, locks, settle, still, stores, waits, write}
+use Rattle.packets.specs.State.{State, enqueue, entryOf, isBusy, isKept, isListed, motionOn, move, packetIn, packetOf, packetsIn, placeOf, put, relist, restatus, restatusAll, store, sweep}
+use Rattle.packets.proofs.Store.{packet-put, packet-restatus, sizeIn}
+use Rattle.packets.specs.declared.Job.{Job}
+use Rattle.packets.specs.declared.Motion.{Motion}
+use Rattle.packets.specs.declared.Motion.the-variants.{Busy, Idle}
+use Rattle.packets.specs.declared.Packet.{Packet}
+use Rattle.packets.specs.declared.Status.{Status}
+use Rattle.packets.specs.declared.Status.the-variants.{Blank, Ended, InProgress, Listed, Stopping}
+
+-- what a lone unit knows of a packet
+abbrev pub look : Packet → Request
+look p = record { status = p .status; function = p .function; at = p .at }
+
+abbrev pub num : ℕ → ℕ
+num e = packetOf e
+
+-- the entry is one of the holding's
+abbrev pub on : Holding → List Job → ℕ → Bool
+on h jobs e = eqb (placeOf e) (h .place) && there h (packetIn jobs (h .place) (packetOf e))
+
+abbrev pub movingThere : Holding → List Job → Motion → Option ℕ
+movingThere h jobs Idle = none
+movingThere h jobs (Busy j p) = cond (eqb j (h .place) && there h (packetIn jobs (h .place) p)) (some p) none
+
+abbrev pub lockThere : Holding → List (List UnitState) → Bool
+lockThere h units = cond (h .drum) false (unitIn units (h .channel) (h .unit) .interlock)
+
+pub record Sim (h : Holding) (s : State) (l : Lone) : Type 0 where
+  pub order : l .order ≡ map num (keep (on h (s .jobs)) (s .queue))
+  pub table : (n : ℕ) → there h (packetIn (s .jobs) (h .place) n) ≡ true → l .packets n ≡ look (packetIn (s .jobs) (h .place) n)
+  pub moving : l .moving ≡ movingThere h (s .jobs) (motionOn s (h .channel))
+  pub lock : l .interlock ≡ lockThere h (s .units)
+
+waits-listed : (t : Status) → isListed t ≡ waits t
+waits-listed Blank = refl
+waits-listed Listed = refl
+waits-listed InProgress = refl
+waits-listed Stopping = refl
+waits-listed (Ended k) = refl
+
+still-keep : (t : ℕ → Request) (l : List ℕ) → still t l ≡ keep (λ (n : ℕ). waits (t n .status)) l
+still-keep t [] = refl
+still-keep t (n ∷ l) = rw (still-keep t l)
+
+map-append : (f : ℕ → ℕ) (l m : List ℕ) → map f (l ++ m) ≡ map f l ++ map f m
+map-append f [] m = refl
+map-append f (x ∷ l) m = ap (λ (r : List ℕ). f x ∷ r) (map-append f l m)
+
+all-map : (P : ℕ → Type 0) (f : ℕ → ℕ) (l : List ℕ) → All (λ (e : ℕ). P (f e)) l → All P (map f l)
+all-map P f [] h = tt
+all-map P f (x ∷ l) h = (h .0, all-map P f l (h .1))
+
+-- ---- a change of the packets
+
+module _ (h : Holding) (s : State) (I : Inv s) (l : Lone) (S : Sim h s l) where
+  order-waits : still (l .packets) (l .order) ≡ l .order
+  order-waits =
+      still-keep (l .packets) (l .order)
+      ∙ keep-all (λ (n : ℕ). waits (l .packets n .status)) (l .order)
+      (rw (S .order)
+      (all-map (λ (n : ℕ). waits (l .packets n .status) ≡ true) num (keep (on h (s .jobs)) (s .queue))
+      (all-imp (λ (e : ℕ). EntryOk s e × (on h (s .jobs) e ≡ true)) (λ (e : ℕ). waits (l .packets (num e) .status) ≡ true) each
+      (keep (on h (s .jobs)) (s .queue))
+      (all-keep (EntryOk s) (on h (s .jobs)) (s .queue) (I .queued)))))
+    where
+      each : (e : ℕ) → EntryOk s e × (on h (s .jobs) e ≡ true) → waits (l .packets (num e) .status) ≡ true
+      each e k =
+          let p : placeOf e ≡ h .place = eqb-true (placeOf e) (h .place) (and-left (eqb (placeOf e) (h .place)) _ (k .1)) in
+          rw (S .table (packetOf e) (and-right (eqb (placeOf e) (h .place)) _ (k .1)), ← waits-listed (packetIn (s .jobs) (h .place) (packetOf e) .status)) (rw p at (k .0 .listed))
+
+  module _ (j : ℕ) (jobs : List Job) (elsewhere : Elsewhere j (s .jobs) jobs)
+      (kept : (n : ℕ) → isBusy (packetIn (s .jobs) (h .place) n .status) ≡ true → there h (packetIn jobs (h .place) n) ≡ there h (packetIn (s .jobs) (h .place) n)) where
+    abbrev rejob : State
+    rejob = record { channels = s .channels; units = s .units; moving = s .moving; jobs = jobs; queue = relist j (packetsIn jobs j) (s .queue) }
+
+    same-moving : (m : Motion) → motionOn s (h .channel) ≡ m → movingThere h (s .jobs) m ≡ movingThere h jobs m
+    same-moving Idle e = refl
+    same-moving (Busy j p) e =
+        by-bool (eqb j (h .place))
+        (λ t. let q : j ≡ h .place = eqb-true j (h .place) t in
+        rw (t, kept p (motion-busy (packetIn (s .jobs) (h .place) p .status) (rw q at (I .motion (h .channel) j p e .going)))))
+        (λ t. rw t)
+
+    pub sim-jobs : (t : ℕ → Request)
+        → ((n : ℕ) → there h (packetIn jobs (h .place) n) ≡ true → t n ≡ look (packetIn jobs (h .place) n))
+        → Sim h rejob (settle l t)
+    unfolding relist
+    sim-jobs t table =
+        record {
+          order = still-keep t (l .order) ∙ rw (S .order)
+              (settle-eq (on h (s .jobs)) (on h jobs) (isKept j (packetsIn jobs j)) num (λ (n : ℕ). waits (t n .status)) (s .queue)
+              (all-imp (EntryOk s) (λ (e : ℕ). (on h jobs e ≡ on h (s .jobs) e) × (on h (s .jobs) e ≡ true → isKept j (packetsIn jobs j) e ≡ waits (t (num e) .status)))
+              (λ e k. (same e k, λ o. kept-still j (s .jobs) jobs elsewhere e (k .listed) ∙ listens e k o)) (s .queue) (I .queued)));
+          table = table;
+          moving = S .moving ∙ same-moving (motionOn s (h .channel)) refl;
+          lock = S .lock;
+        }
+      where
+        same : (e : ℕ) → EntryOk s e → on h jobs e ≡ on h (s .jobs) e
+        same e k =
+            by-bool (eqb (placeOf e) (h .place))
+            (λ d. let q : placeOf e ≡ h .place = eqb-true (placeOf e) (h .place) d in
+            rw (d, kept (packetOf e) (listed-busy (packetIn (s .jobs) (h .place) (packetOf e) .status) (rw q at (k .listed)))))
+            (λ d. rw d)
+
+        listens : (e : ℕ) → EntryOk s e → on h (s .jobs) e ≡ true → isListed (packetIn jobs (placeOf e) (packetOf e) .status) ≡ waits (t (num e) .status)
+        listens e k o =
+            let p : placeOf e ≡ h .place = eqb-true (placeOf e) (h .place) (and-left (eqb (placeOf e) (h .place)) _ o) in
+            let o′ : on h jobs e ≡ true = same e k ∙ o in
+            rw (table (packetOf e) (and-right (eqb (placeOf e) (h .place)) _ o′), p) (waits-listed (packetIn jobs (h .place) (packetOf e) .status))
+
+    pub sim-jobs-away : ((n : ℕ) → there h (packetIn jobs (h .place) n) ≡ true → l .packets n ≡ look (packetIn jobs (h .place) n)) → Sim h rejob l
+    sim-jobs-away table =
+        record {
+          order = sym order-waits ∙ sim-jobs (l .packets) table .order;
+          table = table;
+          moving = S .moving ∙ same-moving (motionOn s (h .channel)) refl;
+          lock = S .lock;
+        }
+
+  -- ---- one packet
+
+  module _ (j p : ℕ) (q : Packet) (fits : p < sizeIn (s .jobs) j)
+      (same : isBusy (packetIn (s .jobs) j p .status) ≡ true → there h q ≡ there h (packetIn (s .jobs) j p)) where
+    store-kept : (n : ℕ) → isBusy (packetIn (s .jobs) (h .place) n .status) ≡ true → there h (packetIn (put (s .jobs) j p q) (h .place) n) ≡ there h (packetIn (s .jobs) (h .place) n)
+    store-kept n b =
+        rw (packet-put (s .jobs) j p q (h .place) n fits)
+        (by-bool (eqb (h .place) j && eqb n p)
+        (λ e. let x : h .place ≡ j = eqb-true (h .place) j (and-left (eqb (h .place) j) (eqb n p) e) in
+        let y : n ≡ p = eqb-true n p (and-right (eqb (h .place) j) (eqb n p) e) in
+        rw e (rw (x, y) (same (rw (x, y) at b))))
+        (λ e. rw e))
+
+    pub sim-store : h .place ≡ j → (r : Request) → r ≡ look q → Sim h (store s j p q) (stores l p r)
+    sim-store at-j r is =
+        sim-jobs j (put (s .jobs) j p q) (put-elsewhere (s .jobs) j p q fits) store-kept (write (l .packets) p r) table
+      where
+        table : (n : ℕ) → there h (packetIn (put (s .jobs) j p q) (h .place) n) ≡ true → write (l .packets) p r n ≡ look (packetIn (put (s .jobs) j p q) (h .place) n)
+        table n t =
+            let t′ : there h (cond (eqb (h .place) j && eqb n p) q (packetIn (s .jobs) (h .place) n)) ≡ true = rw (packet-put (s .jobs) j p q (h .place) n fits) at t in
+            let m : eqb (h .place) j ≡ true = rw at-j (eqb-self j) in
+            rw (packet-put (s .jobs) j p q (h .place) n fits, m)
+            (by-bool (eqb n p) (λ e. rw e is) (λ e. rw e (S .table n (rw (m, e) at t′))))
+
+    pub sim-store-away : eqb (h .place) j && there h q ≡ false → Sim h (store s j p q) l
+    sim-store-away away =
+        sim-jobs-away j (put (s .jobs) j p q) (put-elsewhere (s .jobs) j p q fits) store-kept table
+      where
+        table : (n : ℕ) → there h (packetIn (put (s .jobs) j p q) (h .place) n) ≡ true → l .packets n ≡ look (packetIn (put (s .jobs) j p q) (h .place) n)
+        table n t =
+            let t′ : there h (cond (eqb (h .place) j && eqb n p) q (packetIn (s .jobs) (h .place) n)) ≡ true = rw (packet-put (s .jobs) j p q (h .place) n fits) at t in
+            rw (packet-put (s .jobs) j p q (h .place) n fits)
+            (by-bool (eqb (h .place) j && eqb n p)
+            (λ e. clash (eqb (h .place) j && there h q) (and-both _ _ (and-left (eqb (h .place) j) (eqb n p) e) (rw e at t′)) away)
+            (λ e. rw e (S .table n (rw e at t′))))
+
+  -- ---- the packets of a job
+
+  module _ (j : ℕ) (test : Packet → Bool) (f : Status → Status) (inside : j < length (s .jobs)) (fb : f Blank ≡ Blank) where
+    sweep-kept : (n : ℕ) → isBusy (packetIn (s .jobs) (h .place) n .status) ≡ true → there h (packetIn (restatusAll (s .jobs) j test f) (h .place) n) ≡ there h (packetIn (s .jobs) (h .place) n)
+    sweep-kept n b = rw (packet-restatus (s .jobs) j test f (h .place) n inside fb) (by-bool (eqb (h .place) j) (λ e. rw e) (λ e. rw e))
+
+    pub sim-sweep : h .place ≡ j → (t : ℕ → Request)
+        → ((n : ℕ) → there h (packetIn (s .jobs) (h .place) n) ≡ true → t n ≡ look (restatus test f (packetIn (s .jobs) (h .place) n)))
+        → Sim h (sweep s j test f) (settle l t)
+    sim-sweep at-j t is =
+        sim-jobs j (restatusAll (s .jobs) j test f) (restatus-elsewhere (s .jobs) j test f inside fb) sweep-kept t table
+      where
+        table : (n : ℕ) → there h (packetIn (restatusAll (s .jobs) j test f) (h .place) n) ≡ true → t n ≡ look (packetIn (restatusAll (s .jobs) j test f) (h .place) n)
+        table n e =
+            let m : eqb (h .place) j ≡ true = rw at-j (eqb-self j) in
+            let e′ : there h (cond (eqb (h .place) j) (restatus test f (packetIn (s .jobs) (h .place) n)) (packetIn (s .jobs) (h .place) n)) ≡ true = rw (packet-restatus (s .jobs) j test f (h .place) n inside fb) at e in
+            rw (packet-restatus (s .jobs) j test f (h .place) n inside fb, m) (is n (rw m at e′))
+
+    pub sim-sweep-away : ((n : ℕ) → h .place ≡ j → there h (packetIn (s .jobs) (h .place) n) ≡ true → test (packetIn (s .jobs) (h .place) n) ≡ false) → Sim h (sweep s j test f) l
+    sim-sweep-away away =
+        sim-jobs-away j (restatusAll (s .jobs) j test f) (restatus-elsewhere (s .jobs) j test f inside fb) sweep-kept table
+      where
+        table : (n : ℕ) → there h (packetIn (restatusAll (s .jobs) j test f) (h .place) n) ≡ true → l .packets n ≡ look (packetIn (restatusAll (s .jobs) j test f) (h .place) n)
+        table n e =
+            let e′ : there h (cond (eqb (h .place) j) (restatus test f (packetIn (s .jobs) (h .place) n)) (packetIn (s .jobs) (h .place) n)) ≡ true = rw (packet-restatus (s .jobs) j test f (h .place) n inside fb) at e in
+            rw (packet-restatus (s .jobs) j test f (h .place) n inside fb)
+            (by-bool (eqb (h .place) j)
+            (λ d. let g : there h (packetIn (s .jobs) (h .place) n) ≡ true = rw d at e′ in
+            rw (d, away n (eqb-true (h .place) j d) g) (S .table n g))
+            (λ d. rw d (S .table n (rw d at e′))))
+
+  -- ---- units, queue, channels; what leaves the packets alone
+
+  pub sim-units : (units : List (List UnitState)) (b : Bool) → lockThere h units ≡ b
+      → Sim h (record { channels = s .channels; units = units; moving = s .moving; jobs = s .jobs; queue = s .queue }) (locks l b)
+  sim-units units b e = record { order = S .order; table = S .table; moving = S .moving; lock = sym e }
+
+  pub sim-units-away : (units : List (List UnitState)) → lockThere h units ≡ lockThere h (s .units)
+      → Sim h (record { channels = s .channels; units = units; moving = s .moving; jobs = s .jobs; queue = s .queue }) l
+  sim-units-away units e = record { order = S .order; table = S .table; moving = S .moving; lock = S .lock ∙ sym e }
+
+  pub sim-same : (units : List (List UnitState)) (jobs : List Job) → lockThere h units ≡ lockThere h (s .units)
+      → ((n : ℕ) → packetIn jobs (h .place) n ≡ packetIn (s .jobs) (h .place) n)
+      → Sim h (record { channels = s .channels; units = units; moving = s .moving; jobs = jobs; queue = s .queue }) l
+  sim-same units jobs e same =
+      record {
+        order = S .order ∙ ap (λ (x : List ℕ). map num x)
+            (keep-same (on h (s .jobs)) (on h jobs) (s .queue) (all-imp (EntryOk s) (λ (e : ℕ). on h (s .jobs) e ≡ on h jobs e) (λ e k. rw same) (s .queue) (I .queued)));
+        table = λ n t. rw same (S .table n (rw same at t));
+        moving = S .moving ∙ again (motionOn s (h .channel));
+        lock = S .lock ∙ sym e;
+      }
+    where
+      again : (m : Motion) → movingThere h (s .jobs) m ≡ movingThere h jobs m
+      again Idle = refl
+      again (Busy j p) = rw same
+
+  pub sim-enqueue : (j p : ℕ) → New s j p → on h (s .jobs) (entryOf j p) ≡ true → Sim h (enqueue s j p) (joins l p)
+  sim-enqueue j p n o =
+      record {
+        order = rw (
+          enlisted-is s I j p n,
+          keep-append (on h (s .jobs)) (s .queue) (entryOf j p ∷ []),
+          o,
+          map-append num (keep (on h (s .jobs)) (s .queue)) (entryOf j p ∷ []),
+          entry-packet j p (n .small),
+          S .order,
+        );
+        table = S .table;
+        moving = S .moving;
+        lock = S .lock;
+      }
+
+  pub sim-enqueue-away : (j p : ℕ) → New s j p → on h (s .jobs) (entryOf j p) ≡ false → Sim h (enqueue s j p) l
+  sim-enqueue-away j p n o =
+      record {
+        order = rw (
+          enlisted-is s I j p n,
+          keep-append (on h (s .jobs)) (s .queue) (entryOf j p ∷ []),
+          o,
+          map-append num (keep (on h (s .jobs)) (s .queue)) [],
+          S .order,
+        )
+            (sym (append-nil (map num (keep (on h (s .jobs)) (s .queue)))));
+        table = S .table;
+        moving = S .moving;
+        lock = S .lock;
+      }
+
+  pub sim-move : (c : ℕ) (m : Motion) (x : Option ℕ) → c < 16 → h .channel ≡ c → movingThere h (s .jobs) m ≡ x → Sim h (move s c m) (carries l x)
+  sim-move c m x small at-c e =
+      record {
+        order = S .order;
+        table = S .table;
+        lock = S .lock;
+        moving = sym (ap (movingThere h (s .jobs)) now ∙ e);
+      }
+    where
+      now : motionOn (move s c m) (h .channel) ≡ m
+      now = motion-move s c m (h .channel) (rw (I .channels) small) ∙ rw (at-c, eqb-self c)
+
+  pub sim-move-away : (c : ℕ) (m : Motion) → c < 16 → (h .channel ≡ c → movingThere h (s .jobs) m ≡ movingThere h (s .jobs) (motionOn s c)) → Sim h (move s c m) l
+  sim-move-away c m small e =
+      record {
+        order = S .order;
+        table = S .table;
+        lock = S .lock;
+        moving = S .moving ∙ sym (ap (movingThere h (s .jobs)) (motion-move s c m (h .channel) (rw (I .channels) small)) ∙ go);
+      }
+    where
+      go : movingThere h (s .jobs) (cond (eqb (h .channel) c) m (motionOn s (h .channel))) ≡ movingThere h (s .jobs) (motionOn s (h .channel))
+      go = by-bool (eqb (h .channel) c)
+          (λ t. let q : h .channel ≡ c = eqb-true (h .channel) c t in rw t (e q ∙ rw q))
+          (λ t. rw t)

@@ -1,0 +1,184 @@
+-- A completion, a job's end, a taking and a mark: the holding and its lone unit stay alike. Assumes nothing.
+use Prim.Native.Nat.{ℕ, _<_}
+use mathlib.Core.Path.{_≡_, refl, sym, ap, _∙_, subst}
+use mathlib.Core.Bool.{Bool, true, false, not, cond, _&&_}
+use mathlib.Core.Option.{Option, none, some}
+use lib.ListN.{length}
+use lib.Dec.{eqb}
+use borrow.Author.Tests.{eqb-true, eqb-false, eq-eqb}
+use Rattle.units.specs.declared.Unit.{Unit as UnitState}
+use Rattle.units.specs.declared.Mark.{Mark as UnitMark}
+use Rattle.units.specs.declared.Mark.the-variants.{Down, Reserved}
+use Rattle.numbers.proofs.Tests.{by-bool}
+use Rattle.units.specs.State.{unitIn, unitSet, markedUnit}
+use Rattle.packets.specs.Demand.{Holding, Holds, isThere, there}
+use Rattle.packets.proofs.Inv.{Inv, running-alive}
+use Rattle.packets.proofs.InvJobs.{held-once, held-taken, take-held}
+use Rattle.packets.proofs.InvStores.{idle-inv, sweep-inv}
+use Rattle.packets.proofs.Laws.{and-left, and-right, clash, eqb-self, not-true}
+use Rattle.packets.specs.Lone.{Lone, become, breaks, carries, completesAs, ends, endsWith, fails, halts, locks, loneStep, stops}
+use Rattle.packets.specs.Rules.{Complete, End, always, assigned, atUnit, broken, closing, codeFor, cut, ended, failed, finished, isFailure, marked, over, returnIfDone}
+use Rattle.packets.proofs.Sim.{Sim, movingThere, sim-move, sim-move-away, sim-same, sim-store, sim-store-away, sim-sweep, sim-sweep-away, sim-units, sim-units-away}
+use Rattle.packets.proofs.SimStart.{sim-return}
+use Rattle.packets.proofs.SimSubmit.{cut-stops, fail-table, holder-alive, is-there, lock-away, lock-here, there-channel, there-unit, unit-held}
+use Rattle.packets.specs.State.{State, close, drumOn, heldBy, isEmpty, isRunning, motionOn, move, packetIn, restatusAll, setLock, setState, stateIn, sweep, takeAll, wanted, withLock, withStatus}
+use Rattle.packets.proofs.Steps.{ending-inv, finished-inv, over-fits, over-inside, over-inv}
+use Rattle.packets.proofs.Store.{alive-in, packet-fresh, packet-state, unit-keep}
+use Rattle.packets.proofs.Told.{cut-going, failed-going}
+use Rattle.packets.specs.declared.Assignment.{Assignment}
+use Rattle.packets.specs.declared.How.{How}
+use Rattle.packets.specs.declared.How.the-variants.{Cut, Failed, Full}
+use Rattle.packets.specs.declared.Motion.the-variants.{Busy, Idle}
+use Rattle.packets.specs.declared.Status.the-variants.{Ended}
+
+-- ---- a completion
+
+module _ (h : Holding) (s : State) (I : Inv s) (H : Holds s h) (l : Lone) (S : Sim h s l) (c : ℕ) (small : c < 16)
+    (j p : ℕ) (is : motionOn s c ≡ Busy j p) where
+  its-channel : packetIn (s .jobs) j p .channel .0 ≡ c
+  its-channel = I .motion c j p is .channel
+
+  module _ (at-j : h .place ≡ j) (t : there h (packetIn (s .jobs) j p) ≡ true) where
+    channel-at : h .channel ≡ c
+    channel-at = sym (there-channel h _ _ t) ∙ its-channel
+
+    moving-is : l .moving ≡ some p
+    moving-is = S .moving ∙ ap (movingThere h (s .jobs)) now ∙ rw (at-j, eqb-self j, t)
+      where
+        now : motionOn s (h .channel) ≡ Busy j p
+        now = rw channel-at is
+
+    sim-over : (k : ℕ) → Sim h (over s c j p k) (ends l p k)
+    sim-over k =
+        sim-store h (move s c Idle) (idle-inv s I c small) (carries l none) (sim-move h s I l S c Idle none small channel-at refl) j p
+        (withStatus (packetIn (s .jobs) j p) (Ended k)) (over-fits s I c small j p is) (λ b. refl) at-j (become (l .packets p) (Ended k))
+        (rw (S .table p (rw at-j t), at-j))
+
+    sim-broken : (k : ℕ) → h .drum ≡ false → Sim h (broken (over s c j p k) c (packetIn (s .jobs) j p .at) j) (locks (fails (ends l p k)) true)
+    sim-broken k d =
+        let a = packetIn (s .jobs) j p .at in
+        let s₁ = over s c j p k in
+        let I₁ : Inv s₁ = over-inv s I c small j p is k in
+        let inside = over-inside s I c small j p is k in
+        let u : a ≡ h .unit = there-unit h _ _ d t in
+        let S₂ : Sim h (sweep s₁ j (atUnit c a) failed) (fails (ends l p k)) =
+        sim-sweep h s₁ I₁ (ends l p k) (sim-over k) j (atUnit c a) failed inside refl at-j (λ m. become (ends l p k .packets m) (endsWith 0o01 (ends l p k .packets m .status)))
+        (fail-table h s₁ (ends l p k) (sim-over k) c a d (sym channel-at) u) in
+        sim-units h (sweep s₁ j (atUnit c a) failed) (sweep-inv s₁ I₁ j (atUnit c a) failed inside refl failed-going) (fails (ends l p k)) S₂
+        (setLock (s .units) c a true) true (lock-here h s H c a true d channel-at (sym u))
+
+    by-kind : (k : ℕ) (x : Bool) → h .drum ≡ x → Sim h (cond (true && not x) (broken (over s c j p k) c (packetIn (s .jobs) j p .at) j) (over s c j p k)) (breaks x (ends l p k))
+    by-kind k true d = sim-over k
+    by-kind k false d = sim-broken k d
+
+    sim-finished : (how : How) → Sim h (finished s c how j p) (completesAs (h .drum) l how (some p))
+    sim-finished Full = sim-over 0o00
+    sim-finished Cut = sim-over 0o17
+    sim-finished (Failed k) =
+        let g : drumOn (s .channels) c ≡ h .drum = rw (← channel-at) (H .kind) in
+        subst (λ (x : Bool). Sim h (cond (true && not x) (broken (over s c j p k) c (packetIn (s .jobs) j p .at) j) (over s c j p k)) (breaks (h .drum) (ends l p k)))
+        (sym g) (by-kind k (h .drum) refl)
+
+    pub sim-complete : (how : How) → Sim h (returnIfDone j (finished s c how j p)) (loneStep (h .drum) l (Complete c how))
+    unfolding loneStep
+    sim-complete how =
+        subst (λ (x : Option ℕ). Sim h (returnIfDone j (finished s c how j p)) (completesAs (h .drum) l how x)) (sym moving-is)
+        (sim-return h (finished s c how j p) (finished-inv s I c small j p is how) (completesAs (h .drum) l how (some p)) (sim-finished how) j)
+
+  module _ (away : eqb (h .place) j && there h (packetIn (s .jobs) j p) ≡ false) where
+    none-here : (h .place ≡ j → there h (packetIn (s .jobs) j p) ≡ false)
+    none-here e = rw (eq-eqb (h .place) j e) at away
+
+    sim-over-away : (k : ℕ) → Sim h (over s c j p k) l
+    sim-over-away k =
+        sim-store-away h (move s c Idle) (idle-inv s I c small) l (sim-move-away h s I l S c Idle small (λ x. sym gone)) j p
+        (withStatus (packetIn (s .jobs) j p) (Ended k)) (over-fits s I c small j p is) (λ b. refl) away
+      where
+        gone : movingThere h (s .jobs) (motionOn s c) ≡ none
+        gone =
+            rw is
+            (by-bool (eqb j (h .place))
+            (λ x. let y : h .place ≡ j = sym (eqb-true j (h .place) x) in rw (x, y, none-here y))
+            (λ x. rw x))
+
+    sim-broken-away : (k : ℕ) → drumOn (s .channels) c ≡ false → Sim h (broken (over s c j p k) c (packetIn (s .jobs) j p .at) j) l
+    sim-broken-away k nd =
+        let a = packetIn (s .jobs) j p .at in
+        let s₁ = over s c j p k in
+        let I₁ : Inv s₁ = over-inv s I c small j p is k in
+        let inside = over-inside s I c small j p is k in
+        sim-units-away h (sweep s₁ j (atUnit c a) failed) (sweep-inv s₁ I₁ j (atUnit c a) failed inside refl failed-going) l
+        (sim-sweep-away h s₁ I₁ l (sim-over-away k) j (atUnit c a) failed inside refl miss)
+        (setLock (s .units) c a true) (lock-away h (s .units) c a (withLock (unitIn (s .units) c a) true) (held-taken (unitIn (s .units) c a .holder) j theirs) other)
+      where
+        theirs : heldBy (unitIn (s .units) c (packetIn (s .jobs) j p .at) .holder) j ≡ true
+        theirs = let o : drumOn (s .channels) c ≡ false → heldBy (unitIn (s .units) c (packetIn (s .jobs) j p .at) .holder) j ≡ true = rw its-channel at (I .motion c j p is .owned) in o nd
+
+        other : h .drum ≡ false → h .channel ≡ c → h .unit ≡ packetIn (s .jobs) j p .at → ⊥
+        other o x y =
+            clash (there h (packetIn (s .jobs) j p))
+            (is-there h _ _ (its-channel ∙ sym x) (sym y))
+            (none-here (held-once (unitIn (s .units) c (packetIn (s .jobs) j p .at) .holder) (h .place) j (rw (x, y) at (unit-held h s H o)) theirs))
+
+        miss : (n : ℕ) → h .place ≡ j → there h (packetIn (over s c j p k .jobs) (h .place) n) ≡ true → atUnit c (packetIn (s .jobs) j p .at) (packetIn (over s c j p k .jobs) (h .place) n) ≡ false
+        miss n e y =
+            let q = packetIn (over s c j p k .jobs) (h .place) n in
+            let a = packetIn (s .jobs) j p .at in
+            by-bool (atUnit c a q)
+            (λ z. let y′ : isThere h c a ≡ true = rw (eqb-true (q .channel .0) c (and-left (eqb (q .channel .0) c) (eqb (q .at) a) z), eqb-true (q .at) a (and-right (eqb (q .channel .0) c) (eqb (q .at) a) z)) at y in
+            clash (there h (packetIn (s .jobs) j p)) (rw its-channel y′) (none-here e))
+            (λ z. z)
+
+    pub sim-complete-away : (how : How) → Sim h (returnIfDone j (finished s c how j p)) l
+    sim-complete-away how =
+        sim-return h (finished s c how j p) (finished-inv s I c small j p is how) l
+        (by-bool (isFailure how && not (drumOn (s .channels) c))
+        (λ e. rw e (sim-broken-away (codeFor how) (not-true _ (and-right (isFailure how) _ e))))
+        (λ e. rw e (sim-over-away (codeFor how))))
+        j
+
+-- ---- a job's end
+
+module _ (h : Holding) (s : State) (I : Inv s) (l : Lone) (S : Sim h s l) (j : ℕ) (err : Bool) (r : isRunning (stateIn (s .jobs) j) ≡ true) where
+  its-place : j < length (s .jobs)
+  its-place = alive-in (s .jobs) j (running-alive (stateIn (s .jobs) j) r)
+
+  sim-close : (l′ : Lone) → Sim h (sweep s j always cut) l′ → Sim h (ended s j err) l′
+  sim-close l′ S′ =
+      sim-return h (close (sweep s j always cut) j (closing err)) (ending-inv s I j err r) l′
+      (sim-same h (sweep s j always cut) (sweep-inv s I j always cut its-place refl cut-going) l′ S′ (s .units) (setState (restatusAll (s .jobs) j always cut) j (closing err)) refl
+      (packet-state (restatusAll (s .jobs) j always cut) j (closing err) (h .place)))
+      j
+
+  pub sim-end : h .place ≡ j → Sim h (ended s j err) (loneStep (h .drum) l (End j err))
+  unfolding loneStep
+  sim-end at-j =
+      sim-close (halts (λ x. true) l)
+      (sim-sweep h s I l S j always cut its-place refl at-j (λ m. become (l .packets m) (stops (endsWith 0o16 (l .packets m .status))))
+      (λ n y. rw (S .table n y, cut-stops (packetIn (s .jobs) (h .place) n .status))))
+
+  pub sim-end-away : eqb (h .place) j ≡ false → Sim h (ended s j err) l
+  sim-end-away away =
+      sim-close l (sim-sweep-away h s I l S j always cut its-place refl (λ n e y. absurd (eqb-false (h .place) j away e)))
+
+-- ---- a new job, a mark
+
+pub sim-assign-away : (h : Holding) (s : State) (I : Inv s) → Holds s h → (l : Lone) → Sim h s l → (j : ℕ) → j < 16 → isEmpty (stateIn (s .jobs) j) ≡ true
+    → (asg : Assignment) → Sim h (assigned s j asg) l
+sim-assign-away h s I H l S j small empty asg =
+    sim-same h s I l S (takeAll (s .units) j (wanted asg)) (assigned s j asg .jobs)
+    (by-bool (h .drum) (λ d. rw d) (λ d. rw (d, take-held s I j small empty asg (h .channel) (h .unit) (h .place) (unit-held h s H d))))
+    (λ n. rw (packet-fresh (s .jobs) j asg (h .place) (rw (I .places) small) n, other))
+  where
+    other : eqb (h .place) j ≡ false
+    other = by-bool (eqb (h .place) j) (λ e. clash (isEmpty (stateIn (s .jobs) j)) empty (rw (eqb-true (h .place) j e) at (holder-alive h s I H))) (λ e. e)
+
+pub sim-mark : (h : Holding) (s : State) → Inv s → (l : Lone) → Sim h s l → (c u : ℕ) (m : UnitMark) (on : Bool) → Sim h (marked s c u m on) l
+sim-mark h s I l S c u m on =
+    sim-units-away h s I l S (unitSet (s .units) c u (markedUnit m on (unitIn (s .units) c u)))
+    (by-bool (h .drum) (λ e. rw e)
+    (λ e. rw (e, unit-keep (λ (v : UnitState). v .interlock) (s .units) c u (markedUnit m on (unitIn (s .units) c u)) (h .channel) (h .unit) (mark-lock m on (unitIn (s .units) c u)))))
+  where
+    mark-lock : (m : UnitMark) (on : Bool) (v : UnitState) → markedUnit m on v .interlock ≡ v .interlock
+    mark-lock Down on v = refl
+    mark-lock Reserved on v = refl

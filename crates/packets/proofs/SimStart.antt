@@ -1,0 +1,128 @@
+-- A start and a return: the holding and its lone unit stay alike, and make the same start. Assumes nothing.
+use Prim.Native.Nat.{ℕ, _<_}
+use mathlib.Core.Path.{_≡_, refl, sym, ap, _∙_, subst}
+use mathlib.Core.Bool.{Bool, true, false, not, cond, _&&_, _||_}
+use mathlib.Core.List.{List, [], _∷_, map}
+use mathlib.Core.Option.{none, some}
+use lib.Dec.{eqb}
+use borrow.Author.Tests.{eqb-true, eq-eqb}
+use Rattle.numbers.proofs.Tests.{by-bool}
+use Rattle.units.specs.State.{unitIn}
+use Rattle.packets.specs.Demand.{Holding, Holds, startIn, there}
+use Rattle.packets.proofs.Inv.{EntryOk, Inv}
+use Rattle.packets.proofs.InvStores.{idle-is}
+use Rattle.packets.proofs.Laws.{all-imp, and-left, and-right, eqb-self, find-holds, find-keep, not-true, or-right}
+use Rattle.packets.specs.Lone.{Lone, become, carries, loneStart, loneStep, setsOff, startOf, stores}
+use Rattle.packets.specs.Picks.{find, keep}
+use Rattle.packets.specs.Rules.{Start, answer, begun, returnIfDone, startable}
+use Rattle.packets.proofs.Sim.{Sim, lockThere, movingThere, num, on, sim-move, sim-move-away, sim-same, sim-store, sim-store-away}
+use Rattle.packets.proofs.SimSubmit.{there-channel, there-unit}
+use Rattle.packets.specs.State.{State, anyMoves, drumOn, isClosing, isIdle, motionOn, packetIn, packetOf, placeOf, put, releaseAll, setState, stateIn, store, withStatus}
+use Rattle.packets.proofs.Steps.{start-at, start-fits, start-store, startable-on}
+use Rattle.packets.proofs.Store.{packet-state, unit-release}
+use Rattle.packets.specs.declared.Job.{Job}
+use Rattle.packets.specs.declared.JobState.the-variants.{Empty}
+use Rattle.packets.specs.declared.Motion.the-variants.{Busy}
+use Rattle.packets.specs.declared.Status.the-variants.{InProgress}
+
+-- ---- a return
+
+pub sim-return : (h : Holding) (s : State) → Inv s → (l : Lone) → Sim h s l → (j : ℕ) → Sim h (returnIfDone j s) l
+sim-return h s I l S j =
+    by-bool (isClosing (stateIn (s .jobs) j) && not (anyMoves j (s .moving)))
+    (λ e. rw e (sim-same h s I l S (releaseAll (s .units) j) (setState (s .jobs) j Empty)
+    (by-bool (h .drum) (λ d. rw d) (λ d. rw (d, unit-release (s .units) j (h .channel) (h .unit))))
+    (packet-state (s .jobs) j Empty (h .place))))
+    (λ e. rw e S)
+
+-- ---- a start
+
+module _ (h : Holding) (s : State) (I : Inv s) (H : Holds s h) (l : Lone) (S : Sim h s l) (c : ℕ) (small : c < 16)
+    (idle : isIdle (motionOn s c) ≡ true) (e : ℕ) (found : find (startable s c) (s .queue) ≡ some e) where
+  entry-ok : EntryOk s e
+  entry-ok = find-holds (EntryOk s) (startable s c) (s .queue) e (I .queued) found .0
+
+  can-start : startable s c e ≡ true
+  can-start = find-holds (EntryOk s) (startable s c) (s .queue) e (I .queued) found .1
+
+  pub on-channel : packetIn (s .jobs) (placeOf e) (packetOf e) .channel .0 ≡ c
+  on-channel = startable-on s c e can-start
+
+  module _ (at-e : placeOf e ≡ h .place) (t : there h (packetIn (s .jobs) (h .place) (packetOf e)) ≡ true) where
+    channel-is : h .channel ≡ c
+    channel-is = sym (there-channel h _ _ t) ∙ rw at-e at on-channel
+
+    no-lock : lockThere h (s .units) ≡ false
+    no-lock =
+        by-bool (h .drum)
+        (λ d. rw d)
+        (λ d. let w : drumOn (s .channels) c || not (unitIn (s .units) c (packetIn (s .jobs) (placeOf e) (packetOf e) .at) .interlock) ≡ true = and-right (eqb (packetIn (s .jobs) (placeOf e) (packetOf e) .channel .0) c) _ can-start in
+        let g : drumOn (s .channels) c ≡ false = rw (← channel-is) (H .kind ∙ d) in
+        let v : not (unitIn (s .units) c (packetIn (s .jobs) (placeOf e) (packetOf e) .at) .interlock) ≡ true = or-right (drumOn (s .channels) c) _ g w in
+        let u : packetIn (s .jobs) (h .place) (packetOf e) .at ≡ h .unit = there-unit h _ _ d t in
+        rw d (not-true _ (rw (at-e, u, ← channel-is) at v)))
+
+    others : (x : ℕ) → on h (s .jobs) x ≡ true → startable s c x ≡ true
+    others x o =
+        let p : placeOf x ≡ h .place = eqb-true (placeOf x) (h .place) (and-left (eqb (placeOf x) (h .place)) _ o) in
+        let y : there h (packetIn (s .jobs) (h .place) (packetOf x)) ≡ true = and-right (eqb (placeOf x) (h .place)) _ o in
+        rw (p, there-channel h _ _ y, channel-is, eqb-self c)
+        (by-bool (h .drum)
+        (λ d. let g : drumOn (s .channels) c ≡ true = rw (← channel-is) (H .kind ∙ d) in rw g)
+        (λ d. let n : unitIn (s .units) c (h .unit) .interlock ≡ false = rw (d, channel-is) at no-lock in
+        rw (there-unit h _ _ d y, n) (by-bool (drumOn (s .channels) c) (λ g. rw g) (λ g. rw g))))
+
+    first-is : (r : List ℕ) × (keep (on h (s .jobs)) (s .queue) ≡ e ∷ r)
+    first-is =
+        find-keep (startable s c) (on h (s .jobs)) (s .queue) e found (rw (at-e, eqb-self (h .place)) t)
+        (all-imp (EntryOk s) (λ (x : ℕ). on h (s .jobs) x ≡ true → startable s c x ≡ true) (λ x k. others x) (s .queue) (I .queued))
+
+    order-is : l .order ≡ packetOf e ∷ map num (first-is .0)
+    order-is = S .order ∙ ap (λ (x : List ℕ). map num x) (first-is .1)
+
+    lone-start : loneStep (h .drum) l (Start c) ≡ carries (stores l (packetOf e) (become (l .packets (packetOf e)) InProgress)) (some (packetOf e))
+    unfolding loneStep
+    lone-start =
+        ap (λ (b : Bool). cond b l (setsOff l (l .order))) (S .lock ∙ no-lock)
+        ∙ ap (setsOff l) order-is
+
+    pub same-start : loneStart (h .place) l (Start c) ≡ startIn (answer s (Start c))
+    unfolding loneStart answer
+    same-start =
+        ap (λ (b : Bool). cond b [] (startOf (h .place) l (l .order))) (S .lock ∙ no-lock)
+        ∙ ap (startOf (h .place) l) order-is
+        ∙ rw (found, at-e, S .table (packetOf e) t)
+
+    pub sim-start : Sim h (begun s c e) (loneStep (h .drum) l (Start c))
+    sim-start =
+        let q = withStatus (packetIn (s .jobs) (placeOf e) (packetOf e)) InProgress in
+        let s₁ = store s (placeOf e) (packetOf e) q in
+        let l₁ = stores l (packetOf e) (become (l .packets (packetOf e)) InProgress) in
+        let S₁ : Sim h s₁ l₁ = sim-store h s I l S (placeOf e) (packetOf e) q (start-fits s I c small e entry-ok on-channel) (λ b. refl) (sym at-e) (become (l .packets (packetOf e)) InProgress)
+        (rw (S .table (packetOf e) t, at-e)) in
+        subst (λ (x : Lone). Sim h (begun s c e) x) (sym lone-start)
+        (sim-move h s₁ (start-store s I c small e entry-ok on-channel) l₁ S₁ c (Busy (placeOf e) (packetOf e)) (some (packetOf e)) small channel-is now-moving)
+      where
+        now-moving : movingThere h (put (s .jobs) (placeOf e) (packetOf e) (withStatus (packetIn (s .jobs) (placeOf e) (packetOf e)) InProgress)) (Busy (placeOf e) (packetOf e)) ≡ some (packetOf e)
+        now-moving =
+            let t′ : there h (packetIn (s .jobs) (placeOf e) (packetOf e)) ≡ true = rw at-e t in
+            rw (← at-e, eqb-self (placeOf e), start-at s I c small e entry-ok on-channel, t′)
+
+  module _ (away : eqb (h .place) (placeOf e) && there h (packetIn (s .jobs) (placeOf e) (packetOf e)) ≡ false) where
+    pub sim-start-away : Sim h (begun s c e) l
+    sim-start-away =
+        let q = withStatus (packetIn (s .jobs) (placeOf e) (packetOf e)) InProgress in
+        let s₁ = store s (placeOf e) (packetOf e) q in
+        let S₁ : Sim h s₁ l = sim-store-away h s I l S (placeOf e) (packetOf e) q (start-fits s I c small e entry-ok on-channel) (λ b. refl) away in
+        sim-move-away h s₁ (start-store s I c small e entry-ok on-channel) l S₁ c (Busy (placeOf e) (packetOf e)) small (λ x. not-moving ∙ sym (ap (movingThere h after) (idle-is s I c idle)))
+      where
+        after : List Job
+        after = put (s .jobs) (placeOf e) (packetOf e) (withStatus (packetIn (s .jobs) (placeOf e) (packetOf e)) InProgress)
+
+        not-moving : movingThere h after (Busy (placeOf e) (packetOf e)) ≡ none
+        not-moving =
+            by-bool (eqb (placeOf e) (h .place))
+            (λ x. let y : h .place ≡ placeOf e = sym (eqb-true (placeOf e) (h .place) x) in
+            let g : there h (packetIn (s .jobs) (placeOf e) (packetOf e)) ≡ false = rw (eq-eqb (h .place) (placeOf e) y) at away in
+            rw (x, y, start-at s I c small e entry-ok on-channel, g))
+            (λ x. rw x)

@@ -1,0 +1,256 @@
+-- A submission: the holding and its lone unit stay alike, whether it acts there or elsewhere. Assumes nothing.
+use Prim.Native.Nat.{ℕ}
+use mathlib.Core.Path.{_≡_, refl, sym, _∙_, subst}
+use mathlib.Core.Bool.{Bool, true, false, not, cond, _&&_}
+use mathlib.Core.List.{List}
+use lib.Dec.{ltb, leb, eqb}
+use borrow.Author.Tests.{eqb-true, eq-eqb}
+use Rattle.units.specs.declared.Unit.{Unit as UnitState}
+use Rattle.numbers.proofs.Tests.{by-bool}
+use Rattle.units.specs.State.{isFree, unitIn, unitSet}
+use Rattle.packets.specs.Demand.{Holding, Holds, isThere, there}
+use Rattle.packets.proofs.Inv.{Inv}
+use Rattle.packets.proofs.InvJobs.{held-once, held-taken}
+use Rattle.packets.proofs.InvStores.{entry-packet, entry-place, lock-inv, sweep-inv}
+use Rattle.packets.proofs.Laws.{and-both, and-left, and-right, bool-iff, clash, eqb-self, not-true, or-right}
+use Rattle.packets.specs.Lone.{Lone, become, endsWith, fails, halts, hears, lists, locks, meant, request, stops, stores, unlocks}
+use Rattle.packets.specs.Rules.{aimed, atUnit, cut, enlist, failed, locked, packet, pass, submitted, terminate, unlock}
+use Rattle.packets.proofs.Sim.{Sim, lockThere, look, on, sim-enqueue, sim-enqueue-away, sim-store, sim-store-away, sim-sweep, sim-sweep-away, sim-units, sim-units-away}
+use Rattle.packets.specs.State.{State, drumOn, entryOf, heldBy, isBusy, isEmpty, jobIn, lock, packetIn, put, restatus, setLock, stateIn, store, sweep, withLock}
+use Rattle.packets.proofs.Steps.{Ready, listed-new, ready-fits, ready-inside, ready-store, ready-sweep, stored-at}
+use Rattle.packets.proofs.Store.{unit-set}
+use Rattle.packets.proofs.Told.{Submits, cut-going, cut-idle, failed-going, failed-idle}
+use Rattle.packets.specs.declared.Status.{Status}
+use Rattle.packets.specs.declared.Status.the-variants.{Blank, Ended, InProgress, Listed, Stopping}
+
+-- ---- the two tables of statuses say the same
+
+pub failed-ends : (x : Status) → endsWith 0o01 x ≡ failed x
+failed-ends Blank = refl
+failed-ends Listed = refl
+failed-ends InProgress = refl
+failed-ends Stopping = refl
+failed-ends (Ended k) = refl
+
+pub cut-stops : (x : Status) → stops (endsWith 0o16 x) ≡ cut x
+cut-stops Blank = refl
+cut-stops Listed = refl
+cut-stops InProgress = refl
+cut-stops Stopping = refl
+cut-stops (Ended k) = refl
+
+pub eqb-flip : (a b : ℕ) → eqb a b ≡ eqb b a
+eqb-flip a b =
+    bool-iff (eqb a b) (eqb b a) (λ e. eq-eqb b a (sym (eqb-true a b e))) (λ e. eq-eqb a b (sym (eqb-true b a e)))
+
+-- a job that holds something is there
+pub holder-alive : (h : Holding) (s : State) → Inv s → Holds s h → isEmpty (stateIn (s .jobs) (h .place)) ≡ false
+holder-alive h s I H = go (h .drum) (H .held)
+  where
+    go : (d : Bool) → cond d (not (isEmpty (stateIn (s .jobs) (h .place))) && ltb 0 (jobIn (s .jobs) (h .place) .words)) (heldBy (unitIn (s .units) (h .channel) (h .unit) .holder) (h .place)) ≡ true
+        → isEmpty (stateIn (s .jobs) (h .place)) ≡ false
+    go true e = not-true _ (and-left (not (isEmpty (stateIn (s .jobs) (h .place)))) _ e)
+    go false e = I .holders (h .channel) (h .unit) (h .place) e
+
+-- a unit that is held, off the drum
+pub unit-held : (h : Holding) (s : State) → Holds s h → h .drum ≡ false → heldBy (unitIn (s .units) (h .channel) (h .unit) .holder) (h .place) ≡ true
+unit-held h s H d = rw d at (H .held)
+
+-- the channel and the unit of what is there, off the drum
+pub there-channel : (h : Holding) (c a : ℕ) → isThere h c a ≡ true → c ≡ h .channel
+there-channel h c a t = eqb-true c (h .channel) (and-left (eqb c (h .channel)) _ t)
+
+pub there-unit : (h : Holding) (c a : ℕ) → h .drum ≡ false → isThere h c a ≡ true → a ≡ h .unit
+there-unit h c a d t = eqb-true a (h .unit) (or-right (h .drum) (eqb a (h .unit)) d (and-right (eqb c (h .channel)) _ t))
+
+pub is-there : (h : Holding) (c a : ℕ) → c ≡ h .channel → a ≡ h .unit → isThere h c a ≡ true
+is-there h c a p q = rw (p, q, eqb-self (h .channel), eqb-self (h .unit)) (by-bool (h .drum) (λ d. rw d) (λ d. rw d))
+
+-- the interlock after a change at a unit that the holding isn't on
+pub lock-away : (h : Holding) (units : List (List UnitState)) (c a : ℕ) (v : UnitState) → isFree (unitIn units c a .holder) ≡ false
+    → (h .drum ≡ false → h .channel ≡ c → h .unit ≡ a → ⊥) → lockThere h (unitSet units c a v) ≡ lockThere h units
+lock-away h units c a v f away =
+    by-bool (h .drum)
+    (λ d. rw d)
+    (λ d. rw (d, unit-set units c a v (h .channel) (h .unit) f)
+    (by-bool (eqb (h .channel) c && eqb (h .unit) a)
+    (λ t. absurd (away d (eqb-true (h .channel) c (and-left (eqb (h .channel) c) _ t)) (eqb-true (h .unit) a (and-right (eqb (h .channel) c) _ t))))
+    (λ t. rw t)))
+
+pub lock-here : (h : Holding) (s : State) → Holds s h → (c a : ℕ) (b : Bool) → h .drum ≡ false → h .channel ≡ c → h .unit ≡ a → lockThere h (setLock (s .units) c a b) ≡ b
+lock-here h s H c a b d p q =
+    rw (
+      d,
+      unit-set (s .units) c a (withLock (unitIn (s .units) c a) b) (h .channel) (h .unit)
+          (held-taken (unitIn (s .units) c a .holder) (h .place) (rw (← p, ← q) (unit-held h s H d))),
+      p,
+      q,
+      eqb-self c,
+      eqb-self a,
+    )
+
+-- what a failure does to what is listed on a unit
+pub fail-table : (h : Holding) (s : State) (l : Lone) → Sim h s l → (c a : ℕ) → h .drum ≡ false → c ≡ h .channel → a ≡ h .unit
+    → (n : ℕ) → there h (packetIn (s .jobs) (h .place) n) ≡ true
+    → become (l .packets n) (endsWith 0o01 (l .packets n .status)) ≡ look (restatus (atUnit c a) failed (packetIn (s .jobs) (h .place) n))
+fail-table h s l S c a d e f n y =
+    let q = packetIn (s .jobs) (h .place) n in
+    rw (
+      S .table n y,
+      failed-ends (q .status),
+      and-both (eqb (q .channel .0) c) (eqb (q .at) a) (eq-eqb _ c (there-channel h (q .channel .0) (q .at) y ∙ sym e)) (eq-eqb _ a (there-unit h (q .channel .0) (q .at) d y ∙ sym f)),
+    )
+
+-- ---- a submission there
+
+module _ (h : Holding) (s : State) (I : Inv s) (H : Holds s h) (l : Lone) (S : Sim h s l) (j p f c a b : ℕ) (k : Submits s j p f c a) where
+  ready : Ready s j p
+  ready = record { small = k .small; running = k .running; idle = k .idle }
+
+  -- what is listed, or stored, where the submission says
+  store-here : (s′ : State) → Inv s′ → (l′ : Lone) → Sim h s′ l′ → Ready s′ j p → h .place ≡ j → (t : Status) → Sim h (store s′ j p (packet t f c a)) (stores l′ p (request t f a))
+  store-here s′ I′ l′ S′ r at-j t =
+      sim-store h s′ I′ l′ S′ j p (packet t f c a) (ready-fits s′ I′ j p r) (λ y. clash (isBusy (packetIn (s′ .jobs) j p .status)) y (r .idle)) at-j (request t f a) refl
+
+  store-gone : (s′ : State) → Inv s′ → Sim h s′ l → Ready s′ j p → eqb (h .place) j && isThere h c a ≡ false → (t : Status) → Sim h (store s′ j p (packet t f c a)) l
+  store-gone s′ I′ S′ r away t =
+      sim-store-away h s′ I′ l S′ j p (packet t f c a) (ready-fits s′ I′ j p r) (λ y. clash (isBusy (packetIn (s′ .jobs) j p .status)) y (r .idle)) away
+
+  module _ (at-j : h .place ≡ j) (t : isThere h c a ≡ true) where
+    drum-is : drumOn (s .channels) c ≡ h .drum
+    drum-is = rw (there-channel h c a t) (H .kind)
+
+    locked-is : locked s c a ≡ l .interlock
+    locked-is =
+        rw (S .lock, drum-is)
+        (by-bool (h .drum) (λ d. rw d) (λ d. rw (d, there-channel h c a t, there-unit h c a d t)))
+
+    drum-off : locked s c a ≡ true → h .drum ≡ false
+    drum-off d = sym drum-is ∙ not-true _ (and-left (not (drumOn (s .channels) c)) _ d)
+
+    sim-unlock : locked s c a ≡ true → Sim h (unlock s j p f c a) (stores (locks (fails l) false) p (request (Ended 0o00) f a))
+    sim-unlock d =
+        let inside = ready-inside s j p ready in
+        let s₁ = sweep s j (atUnit c a) failed in
+        let I₁ : Inv s₁ = sweep-inv s I j (atUnit c a) failed inside refl failed-going in
+        let r₁ : Ready s₁ j p = ready-sweep s j p (atUnit c a) failed refl failed-idle ready in
+        let S₁ : Sim h s₁ (fails l) = sim-sweep h s I l S j (atUnit c a) failed inside refl at-j (λ m. become (l .packets m) (endsWith 0o01 (l .packets m .status))) (fail-table h s l S c a (drum-off d) (there-channel h c a t) (there-unit h c a (drum-off d) t)) in
+        store-here (lock s₁ c a false) (lock-inv s₁ I₁ c a false) (locks (fails l) false)
+        (sim-units h s₁ I₁ (fails l) S₁ (setLock (s .units) c a false) false (lock-here h s H c a false (drum-off d) (sym (there-channel h c a t)) (sym (there-unit h c a (drum-off d) t))))
+        (record { small = r₁ .small; running = r₁ .running; idle = r₁ .idle }) at-j (Ended 0o00)
+
+    -- what a 23 there aims at
+    aimed-is : (n : ℕ) → there h (packetIn (s .jobs) (h .place) n) ≡ true
+        → aimed (drumOn (s .channels) c) c a b (packetIn (s .jobs) (h .place) n) ≡ meant (h .drum) a b (packetIn (s .jobs) (h .place) n .at)
+    aimed-is n y =
+        let q = packetIn (s .jobs) (h .place) n in
+        rw (drum-is, eq-eqb (q .channel .0) c (there-channel h (q .channel .0) (q .at) y ∙ sym (there-channel h c a t)))
+        (by-bool (h .drum) (λ d. rw d) (λ d. rw (d, eq-eqb (q .at) a (there-unit h (q .channel .0) (q .at) d y ∙ sym (there-unit h c a d t)))))
+
+    cut-table : (n : ℕ) → there h (packetIn (s .jobs) (h .place) n) ≡ true
+        → cond (meant (h .drum) a b (l .packets n .at)) (become (l .packets n) (stops (endsWith 0o16 (l .packets n .status)))) (l .packets n)
+        ≡ look (restatus (aimed (drumOn (s .channels) c) c a b) cut (packetIn (s .jobs) (h .place) n))
+    cut-table n y =
+        let q = packetIn (s .jobs) (h .place) n in
+        rw (S .table n y, cut-stops (q .status), aimed-is n y)
+        (by-bool (meant (h .drum) a b (q .at)) (λ e. rw e) (λ e. rw e))
+
+    sim-terminate : Sim h (terminate s j p f c a b) (stores (halts (meant (h .drum) a b) l) p (request (Ended 0o00) f a))
+    sim-terminate =
+        let inside = ready-inside s j p ready in
+        let test = aimed (drumOn (s .channels) c) c a b in
+        store-here (sweep s j test cut) (sweep-inv s I j test cut inside refl cut-going) (halts (meant (h .drum) a b) l)
+        (sim-sweep h s I l S j test cut inside refl at-j (λ m. cond (meant (h .drum) a b (l .packets m .at)) (become (l .packets m) (stops (endsWith 0o16 (l .packets m .status)))) (l .packets m)) cut-table)
+        (ready-sweep s j p test cut refl cut-idle ready) at-j (Ended 0o00)
+
+    sim-enlist : Sim h (enlist s j p f c a) (lists l p f a)
+    sim-enlist =
+        sim-enqueue h (store s j p (packet Listed f c a)) (ready-store s I j p (packet Listed f c a) ready) (stores l p (request Listed f a))
+        (store-here s I l S ready at-j Listed) j p (listed-new s I j p f c a k)
+        (rw (entry-place j p (k .small), entry-packet j p (k .small), at-j, eqb-self j, stored-at s I j p (packet Listed f c a) ready) t)
+
+    sim-seven : (x : Bool) → locked s c a ≡ x → Sim h (cond x (unlock s j p f c a) (pass s j p f c a)) (unlocks l p f a x)
+    sim-seven true d = sim-unlock d
+    sim-seven false d = store-here s I l S ready at-j (Ended 0o00)
+
+    pub sim-submit : Sim h (submitted s j p f c a b) (hears (h .drum) l p f a b)
+    sim-submit =
+        by-bool (eqb f 0o07)
+        (λ e. rw e (subst (λ (x : Bool). Sim h (cond (locked s c a) (unlock s j p f c a) (pass s j p f c a)) (unlocks l p f a x)) locked-is (sim-seven (locked s c a) refl)))
+        (λ e. rw e (by-bool (eqb f 0o23) (λ d. rw d sim-terminate) (λ d. rw d sim-enlist)))
+
+  module _ (away : eqb (h .place) j && isThere h c a ≡ false) where
+    not-there : h .place ≡ j → isThere h c a ≡ true → ⊥
+    not-there e t = clash (eqb (h .place) j && isThere h c a) (and-both _ _ (eq-eqb (h .place) j e) t) away
+
+    sim-unlock-away : locked s c a ≡ true → Sim h (unlock s j p f c a) l
+    sim-unlock-away d =
+        let inside = ready-inside s j p ready in
+        let s₁ = sweep s j (atUnit c a) failed in
+        let I₁ : Inv s₁ = sweep-inv s I j (atUnit c a) failed inside refl failed-going in
+        let r₁ : Ready s₁ j p = ready-sweep s j p (atUnit c a) failed refl failed-idle ready in
+        let S₁ : Sim h s₁ l = sim-sweep-away h s I l S j (atUnit c a) failed inside refl miss in
+        store-gone (lock s₁ c a false) (lock-inv s₁ I₁ c a false)
+        (sim-units-away h s₁ I₁ l S₁ (setLock (s .units) c a false) (lock-away h (s .units) c a (withLock (unitIn (s .units) c a) false) (held-taken (unitIn (s .units) c a .holder) j theirs) other))
+        (record { small = r₁ .small; running = r₁ .running; idle = r₁ .idle }) away (Ended 0o00)
+      where
+        theirs : heldBy (unitIn (s .units) c a .holder) j ≡ true
+        theirs = rw (not-true (drumOn (s .channels) c) (and-left (not (drumOn (s .channels) c)) _ d)) at (k .owned)
+
+        other : h .drum ≡ false → h .channel ≡ c → h .unit ≡ a → ⊥
+        other o x y =
+            not-there
+            (held-once (unitIn (s .units) c a .holder) (h .place) j (rw (x, y) at (unit-held h s H o)) theirs)
+            (is-there h c a (sym x) (sym y))
+
+        miss : (n : ℕ) → h .place ≡ j → there h (packetIn (s .jobs) (h .place) n) ≡ true → atUnit c a (packetIn (s .jobs) (h .place) n) ≡ false
+        miss n e y =
+            let q = packetIn (s .jobs) (h .place) n in
+            by-bool (atUnit c a q)
+            (λ z. absurd (not-there e (rw (eqb-true (q .channel .0) c (and-left (eqb (q .channel .0) c) (eqb (q .at) a) z), eqb-true (q .at) a (and-right (eqb (q .channel .0) c) (eqb (q .at) a) z)) at y)))
+            (λ z. z)
+
+    sim-terminate-away : Sim h (terminate s j p f c a b) l
+    sim-terminate-away =
+        let inside = ready-inside s j p ready in
+        let test = aimed (drumOn (s .channels) c) c a b in
+        store-gone (sweep s j test cut) (sweep-inv s I j test cut inside refl cut-going)
+        (sim-sweep-away h s I l S j test cut inside refl miss)
+        (ready-sweep s j p test cut refl cut-idle ready) away (Ended 0o00)
+      where
+        miss : (n : ℕ) → h .place ≡ j → there h (packetIn (s .jobs) (h .place) n) ≡ true → aimed (drumOn (s .channels) c) c a b (packetIn (s .jobs) (h .place) n) ≡ false
+        miss n e y =
+            let q = packetIn (s .jobs) (h .place) n in
+            by-bool (aimed (drumOn (s .channels) c) c a b q)
+            (λ z. let x : q .channel .0 ≡ c = eqb-true (q .channel .0) c (and-left (eqb (q .channel .0) c) _ z) in
+            let w : cond (drumOn (s .channels) c) (leb a (q .at) && leb (q .at) b) (eqb (q .at) a) ≡ true = and-right (eqb (q .channel .0) c) _ z in
+            let y′ : isThere h c (q .at) ≡ true = rw x at y in
+            let g : c ≡ h .channel = there-channel h c (q .at) y′ in
+            absurd (not-there e
+            (by-bool (h .drum)
+            (λ d. rw (d, eq-eqb c (h .channel) g))
+            (λ d. let v : drumOn (s .channels) c ≡ false = rw g (H .kind ∙ d) in
+            let u : eqb (q .at) a ≡ true = rw v at w in
+            rw (eqb-true (q .at) a u) at y′))))
+            (λ z. z)
+
+    pub sim-submit-away : Sim h (submitted s j p f c a b) l
+    sim-submit-away =
+        by-bool (eqb f 0o07)
+        (λ e. rw e
+        (by-bool (locked s c a)
+        (λ d. rw d (sim-unlock-away d))
+        (λ d. rw d (store-gone s I S ready away (Ended 0o00)))))
+        (λ e. rw e (by-bool (eqb f 0o23) (λ d. rw d sim-terminate-away)
+        (λ d. rw d
+        (sim-enqueue-away h (store s j p (packet Listed f c a)) (ready-store s I j p (packet Listed f c a) ready) l
+        (store-gone s I S ready away Listed) j p (listed-new s I j p f c a k) listed-away))))
+      where
+        listed-away : on h (put (s .jobs) j p (packet Listed f c a)) (entryOf j p) ≡ false
+        listed-away =
+            rw (entry-place j p (k .small), entry-packet j p (k .small))
+            (by-bool (eqb j (h .place))
+            (λ e. let x : j ≡ h .place = eqb-true j (h .place) e in
+            rw (e, ← x, stored-at s I j p (packet Listed f c a) ready)
+            (by-bool (isThere h c a) (λ t. absurd (not-there (sym x) t)) (λ t. t)))
+            (λ e. rw e))

@@ -1,0 +1,117 @@
+-- What a call's acceptance tells, and what the two changes of status leave alone. Assumes nothing.
+use Prim.Native.Nat.{ℕ, _<_}
+use mathlib.Core.Path.{_≡_, refl}
+use mathlib.Core.Bool.{Bool, true, false, not, _&&_}
+use mathlib.Core.List.{List}
+use lib.Dec.{ltb}
+use borrow.Author.Tests.{ltb-true}
+use Rattle.numbers.specs.declared.Refusal.the-variants.{ChannelBusy, NoJob, NotLegal, NotTheJobs, NothingInProgress, NothingSelected, NothingStartable, OutOfRange, PacketInUse}
+use Rattle.units.specs.State.{unitIn}
+use Rattle.packets.specs.State.{inMotion, State, configured, drumOn, fittedOn, isBusy, isEmpty, isIdle, isListed, isRunning, jobIn, legalFor, motionOn, packetIn, stateIn}
+use Rattle.packets.proofs.Laws.{and-left, and-right, clash, not-false, passes}
+use Rattle.packets.specs.Picks.{find}
+use Rattle.packets.specs.Rules.{Complete, End, Start, Submit, Take, atOf, cut, failed, inRange, isNone, isOwn, refusal, startable}
+use Rattle.packets.specs.declared.Assignment.{Assignment}
+use Rattle.channels.specs.declared.Channel.{Channel}
+use Rattle.packets.specs.declared.How.{How}
+use Rattle.packets.specs.declared.Spot.{Spot}
+use Rattle.packets.specs.declared.Status.{Status}
+use Rattle.packets.specs.declared.Status.the-variants.{Blank, Ended, InProgress, Listed, Stopping}
+use Rattle.packets.specs.declared.Verdict.the-variants.{Granted}
+
+pub configured-in : (g : List Channel) (c : ℕ) → configured g c ≡ true → c < 16
+unfolding configured
+configured-in g c e = ltb-true c 16 (and-left (ltb c 16) _ e)
+
+-- ---- what a call's acceptance tells
+
+-- the unit or drum address is the job's
+abbrev pub owns : State → ℕ → ℕ → ℕ → ℕ → Bool
+owns s j f c a = isOwn (drumOn (s .channels) c) (jobIn (s .jobs) j) (unitIn (s .units) c a .holder) j f a
+
+pub record Submits (s : State) (j p f c a : ℕ) : Type 0 where
+  pub small : p < 16
+  pub running : isRunning (stateIn (s .jobs) j) ≡ true
+  pub owned : owns s j f c a ≡ true
+  pub idle : isBusy (packetIn (s .jobs) j p .status) ≡ false
+
+pub submits : (s : State) (j p f c : ℕ) (w : Spot) → refusal s (Submit j p f c w) ≡ Granted → Submits s j p f c (atOf w)
+unfolding refusal drumOn stateIn packetIn
+submits s j p f c w e =
+    let r₁ = passes (not (inRange (fittedOn (s .channels) c) j p f c w)) OutOfRange _ e in
+    let r₂ = passes (not (isRunning (stateIn (s .jobs) j))) NoJob _ (r₁ .1) in
+    let r₃ = passes (not (owns s j f c (atOf w))) NotTheJobs _ (r₂ .1) in
+    let r₄ = passes (not (legalFor (fittedOn (s .channels) c) f)) NotLegal _ (r₃ .1) in
+    let r₅ = passes (isBusy (packetIn (s .jobs) j p .status)) PacketInUse Granted (r₄ .1) in
+    let t₁ = and-right (ltb j 16) _ (not-false (inRange (fittedOn (s .channels) c) j p f c w) (r₁ .0)) in
+    record {
+      small = ltb-true p 16 (and-left (ltb p 16) _ t₁);
+      running = not-false _ (r₂ .0);
+      owned = not-false _ (r₃ .0);
+      idle = r₅ .0;
+    }
+
+pub starts-on : (s : State) (c : ℕ) → refusal s (Start c) ≡ Granted → (c < 16) × (isIdle (motionOn s c) ≡ true) × (isNone (find (startable s c) (s .queue)) ≡ false)
+unfolding refusal
+starts-on s c e =
+    let r₁ = passes (not (configured (s .channels) c)) OutOfRange _ e in
+    let r₂ = passes (not (isIdle (motionOn s c))) ChannelBusy _ (r₁ .1) in
+    let r₃ = passes (isNone (find (startable s c) (s .queue))) NothingStartable Granted (r₂ .1) in
+    (configured-in (s .channels) c (not-false _ (r₁ .0)), not-false _ (r₂ .0), r₃ .0)
+
+pub completes-on : (s : State) (c : ℕ) (how : How) → refusal s (Complete c how) ≡ Granted → (c < 16) × (isIdle (motionOn s c) ≡ false)
+unfolding refusal
+completes-on s c how e =
+    let r₁ = passes (not (configured (s .channels) c)) OutOfRange _ e in
+    let r₂ = passes (isIdle (motionOn s c)) NothingInProgress _ (r₁ .1) in
+    (configured-in (s .channels) c (not-false _ (r₁ .0)), r₂ .0)
+
+pub ends-of : (s : State) (j : ℕ) (e : Bool) → refusal s (End j e) ≡ Granted → isRunning (stateIn (s .jobs) j) ≡ true
+unfolding refusal
+ends-of s j e r =
+    let r₁ = passes (not (ltb j 16)) OutOfRange _ r in
+    let r₂ = passes (not (isRunning (stateIn (s .jobs) j))) NoJob Granted (r₁ .1) in
+    not-false _ (r₂ .0)
+
+pub assigns-to : (s : State) (j : ℕ) (asg : Assignment) → refusal s (Take j asg) ≡ Granted → (j < 16) × (isEmpty (stateIn (s .jobs) j) ≡ true)
+unfolding refusal
+assigns-to s j asg e =
+    let r₁ = passes (not (ltb j 16 && isEmpty (stateIn (s .jobs) j))) NothingSelected Granted e in
+    (ltb-true j 16 (and-left (ltb j 16) _ (not-false _ (r₁ .0))), and-right (ltb j 16) _ (not-false _ (r₁ .0)))
+
+-- ---- statuses under the two sweeps
+
+pub failed-going : (x : Status) → inMotion x ≡ true → inMotion (failed x) ≡ true
+failed-going Blank e = e
+failed-going Listed e = e
+failed-going InProgress e = e
+failed-going Stopping e = e
+failed-going (Ended k) e = e
+
+pub cut-going : (x : Status) → inMotion x ≡ true → inMotion (cut x) ≡ true
+cut-going Blank e = e
+cut-going Listed e = e
+cut-going InProgress e = refl
+cut-going Stopping e = refl
+cut-going (Ended k) e = e
+
+pub failed-idle : (x : Status) → isBusy x ≡ false → failed x ≡ x
+failed-idle Blank e = refl
+failed-idle Listed e = clash true refl e
+failed-idle InProgress e = refl
+failed-idle Stopping e = refl
+failed-idle (Ended k) e = refl
+
+pub cut-idle : (x : Status) → isBusy x ≡ false → cut x ≡ x
+cut-idle Blank e = refl
+cut-idle Listed e = clash true refl e
+cut-idle InProgress e = clash true refl e
+cut-idle Stopping e = refl
+cut-idle (Ended k) e = refl
+
+pub cut-unlisted : (x : Status) → isListed (cut x) ≡ false
+cut-unlisted Blank = refl
+cut-unlisted Listed = refl
+cut-unlisted InProgress = refl
+cut-unlisted Stopping = refl
+cut-unlisted (Ended k) = refl

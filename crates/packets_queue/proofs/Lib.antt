@@ -1,0 +1,3 @@
+pub mod PaddedLaws
+pub mod Relist
+pub mod Startable

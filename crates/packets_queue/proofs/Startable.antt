@@ -1,0 +1,50 @@
+-- Looking for the oldest packet that can start, on one channel's units. Assumes nothing.
+use Prim.Native.Nat.{ℕ, _<_}
+use mathlib.Core.Path.{_≡_, refl, ap, sym, _∙_}
+use mathlib.Core.Bool.{Bool, false, not, _&&_, _||_}
+use mathlib.Core.List.{List, [], _∷_}
+use lib.ListN.{getD, replicate}
+use lib.Dec.{eqb}
+use Rattle.units.specs.declared.Unit.{Unit as UnitState}
+use Rattle.packets_queue.proofs.Relist.{entry-is}
+use Rattle.units.specs.State.{Square, freshUnit, unitIn}
+use Rattle.units.proofs.StateLaws.{read-past}
+use Rattle.packets.proofs.Laws.{getD-replicate-same}
+use Rattle.packets.specs.Lone.{locks}
+use Rattle.packets.specs.Picks.{find}
+use Rattle.packets.specs.Rules.{startableOn}
+use Rattle.packets.specs.State.{blank, jobIn, packetIn, packetOf, placeOf}
+use Rattle.packets.specs.declared.Job.{Job}
+use Rattle.packets.specs.declared.Packet.{Packet}
+use Rattle.packets_queue.specs.Padded.{RowOf, canStart, foundOf}
+
+-- the packet of an entry can start
+abbrev pub canStartAt : Bool → List UnitState → List Job → ℕ → ℕ → Bool
+canStartAt drum row jobs c e = canStart drum row c (packetIn jobs (placeOf e) (packetOf e))
+
+-- as the code tests it
+pub starts-is : (drum : Bool) (row : List UnitState) (jobs : List Job) (c e a b : ℕ) → a ≡ placeOf e → b ≡ packetOf e
+    → (r : Bool) → r ≡ canStart drum row c (getD (jobIn jobs a .packets) b blank) → canStartAt drum row jobs c e ≡ r
+starts-is drum row jobs c e a b p q r t = ap (λ (k : Packet). canStart drum row c k) (entry-is jobs e a b p q) ∙ sym t
+
+find-same : (f g : ℕ → Bool) → ((e : ℕ) → f e ≡ g e) → (l : List ℕ) → find f l ≡ find g l
+find-same f g k [] = refl
+find-same f g k (x ∷ l) = rw (k x, find-same f g k l)
+
+-- as the rules test it
+pub found-is : (drum : Bool) (units : List (List UnitState)) (jobs : List Job) (c : ℕ) (row : List UnitState) → RowOf units c row → (l : List ℕ)
+    → foundOf (find (canStartAt drum row jobs c) l) ≡ foundOf (find (startableOn drum units jobs c) l)
+found-is drum units jobs c row R l =
+    ap foundOf (find-same (canStartAt drum row jobs c) (startableOn drum units jobs c)
+    (λ e. ap (λ (b : Bool). eqb (packetIn jobs (placeOf e) (packetOf e) .channel .0) c && (drum || not b)) (R .locks (packetIn jobs (placeOf e) (packetOf e) .at))) l)
+
+-- the units of a channel that the cell has not have no interlock
+pub row-out : (units : List (List UnitState)) → Square units → (c : ℕ) → 15 < c → (row : List UnitState) → row ≡ replicate 16 (freshUnit false) → RowOf units c row
+row-out units s c h row e =
+    record {
+      locks = λ a. rw (e, read-past units s c a h) (ap (λ (v : UnitState). v .interlock) (getD-replicate-same 16 a (freshUnit false)));
+    }
+
+pub row-in : (units : List (List UnitState)) (c : ℕ) (row : List UnitState) → row ≡ getD units c [] → RowOf units c row
+unfolding unitIn
+row-in units c row e = record { locks = λ a. rw e }

@@ -1,0 +1,22 @@
+-- `queue::relisted_with` meets its contract. Assumes nothing.
+use Prim.Native.Nat.{ℕ}
+use mathlib.Core.Path.{ap, _∙_}
+use mathlib.Core.List.{List}
+use Rattle.packets.specs.State.{relist, enlisted}
+use Rattle.packets_queue.specs.Padded.{listOf, padded}
+use Rattle.packets_queue.proofs.PaddedLaws.{list-padded}
+use borrow.Author.Needs.{needs}
+use Rattle.packets_queue.proofs.relisted_with.Statement.{statement}
+use Rattle.packets_queue.proofs.relisted_with.Tie as tie
+
+relisted-requires : tie.Need-relisted-requires
+relisted-requires c κs = search needs
+
+with-entry-requires : tie.Need-with-entry-requires
+with-entry-requires c κs = c .relisted .ensures .tidy
+
+returns : tie.Need-returns
+returns c = c .with-entry .ensures ∙ ap (λ (l : List ℕ). padded (enlisted l (c .before .before .args .e))) (ap listOf (c .before .relisted .ensures .is) ∙ list-padded (relist (c .before .before .args .j) (c .before .before .args .job .packets) (listOf (c .before .before .args .list))))
+
+pub relisted-with-spec : {M : Type 1} → statement M
+relisted-with-spec = tie.close (tie.spec relisted-requires with-entry-requires returns)

@@ -1,0 +1,194 @@
+// The list of the listed packets of all channels, the oldest first.
+use numbers::ChannelNumber;
+use packets::Found;
+use packets::Job;
+use packets::Packet;
+use packets::RequestList;
+use packets::Status;
+use units::Unit;
+use units::Units;
+ghost use mathlib.Core.Path.{_≡_};
+ghost use mathlib.Core.Bool.{not, _||_};
+ghost use mathlib.Core.List.{[]};
+ghost use lib.Dec.{eqb};
+ghost use lib.ListN.{replicate};
+ghost use Rattle.packets.specs.Picks.{find};
+ghost use Rattle.packets.specs.State.{isListed, placeOf, packetOf, relist, enlisted};
+ghost use Rattle.packets.specs.Rules.{startableOn};
+ghost use Rattle.packets_queue.specs.Padded.{listOf, padded, Within, Sized, Relisted, Tidy, canStart, lockIn, foundOf, RowOf};
+
+// The place of a listed packet.
+fn place_of(e: u8) -> usize
+    ensures { λ r. ⌜ Within (placeOf e) r ⌝ }
+{
+    (e / 16) as usize
+}
+
+// The number of a listed packet.
+fn number_of(e: u8) -> usize
+    ensures { λ r. ⌜ Within (packetOf e) r ⌝ }
+{
+    (e % 16) as usize
+}
+
+// A list's entries before it has any.
+fn no_entries() -> [u8; 256]
+    ensures { λ r. ⌜ r ≡ replicate 256 0 ⌝ }
+{
+    [0u8; 256]
+}
+
+// A list before it has any packet.
+pub fn empty() -> RequestList
+    ensures { λ r. ⌜ r ≡ padded [] ⌝ }
+{
+    RequestList {
+        entries: no_entries(),
+        count: 0,
+    }
+}
+
+// How many packets the list has.
+fn size_of(list: RequestList) -> usize
+    ensures { λ r. ⌜ Sized list r ⌝ }
+{
+    let count = list.count;
+    if 256 < count {
+        return 256;
+    }
+    count
+}
+
+fn is_listed(status: Status) -> bool
+    ensures { λ r. ⌜ r ≡ isListed status ⌝ }
+{
+    match status {
+        Status::Blank => false,
+        Status::Listed => true,
+        Status::InProgress => false,
+        Status::Stopping => false,
+        Status::Ended(_) => false,
+    }
+}
+
+// Whether an entry stays in the list after a change in place j, if its packet there has this status.
+fn stays(e: u8, j: u8, status: Status) -> bool
+    ensures { λ r. ⌜ r ≡ not (eqb (placeOf e) j) || isListed status ⌝ }
+{
+    if e / 16 != j {
+        return true;
+    }
+    is_listed(status)
+}
+
+// The list without those packets of the job, which is in place j, that are no longer listed.
+pub fn relisted(job: Job, j: u8, list: RequestList) -> RequestList
+    ensures { λ r. ⌜ Relisted j (job .packets) list r ⌝ }
+{
+    let ps = job.packets;
+    let old = list.entries;
+    let end = size_of(list);
+    let mut entries = no_entries();
+    let mut count: usize = 0;
+    let mut i: usize = 0;
+    while i < end {
+        let e = old[i];
+        let number = number_of(e);
+        let p = ps[number];
+        let status = p.status;
+        if stays(e, j, status) {
+            entries[count] = e;
+            count += 1;
+        }
+        i += 1;
+    }
+    RequestList { entries, count }
+}
+
+// The list with one packet more, the youngest, where there is room.
+fn with_entry(list: RequestList, e: u8) -> RequestList
+    requires { ⌜ Tidy list ⌝ }
+    ensures { λ r. ⌜ r ≡ padded (enlisted (listOf list) e) ⌝ }
+{
+    let count = list.count;
+    if 255 < count {
+        return list;
+    }
+    let mut next = list;
+    next.entries[count] = e;
+    next.count = count + 1;
+    next
+}
+
+// The same, and with one packet more, the youngest, where there is room.
+pub fn relisted_with(job: Job, j: u8, list: RequestList, e: u8) -> RequestList
+    ensures { λ r. ⌜ r ≡ padded (enlisted (relist j (job .packets) (listOf list)) e) ⌝ }
+{
+    let left = relisted(job, j, list);
+    with_entry(left, e)
+}
+
+// The interlock of unit a of a channel; none where the channel has no such unit.
+fn lock_in(row: [Unit; 16], a: u32) -> bool
+    ensures { λ r. ⌜ r ≡ lockIn row a ⌝ }
+{
+    let i = a as usize;
+    if 15 < i {
+        return false;
+    }
+    let unit = row[i];
+    unit.interlock
+}
+
+// Whether a listed packet can start on channel c: its unit has no interlock.
+fn can_start(p: Packet, row: [Unit; 16], drum: bool, c: ChannelNumber) -> bool
+    ensures { λ r. ⌜ r ≡ canStart drum row (c .0) p ⌝ }
+{
+    if p.channel.0 != c.0 {
+        return false;
+    }
+    if drum {
+        return true;
+    }
+    !lock_in(row, p.at)
+}
+
+// The units of channel c; units without interlock where the cell has no such channel.
+fn row_of(units: Units, c: ChannelNumber) -> [Unit; 16]
+    ensures { λ r. ⌜ RowOf (units .of) (c .0) r ⌝ }
+{
+    let grid = units::grid_of(units);
+    let i = c.0 as usize;
+    if 15 < i {
+        return [units::fresh_unit(false); 16];
+    }
+    grid[i]
+}
+
+// The oldest packet of the list that can start on channel c.
+pub fn oldest(
+    units: Units,
+    jobs: [Job; 16],
+    list: RequestList,
+    drum: bool,
+    c: ChannelNumber,
+) -> Found
+    ensures { λ r. ⌜ r ≡ foundOf (find (startableOn drum (units .of) jobs (c .0)) (listOf list)) ⌝ }
+{
+    let row = row_of(units, c);
+    let entries = list.entries;
+    let end = size_of(list);
+    let mut i: usize = 0;
+    while i < end {
+        let e = entries[i];
+        let place = place_of(e);
+        let number = number_of(e);
+        let job = jobs[place];
+        let p = job.packets[number];
+        if can_start(p, row, drum, c) {
+            return Found::At(e);
+        }
+        i += 1;
+    }
+    Found::Nowhere
+}

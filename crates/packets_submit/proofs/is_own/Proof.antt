@@ -1,0 +1,23 @@
+-- `submission::is_own` meets its contract, by the tests that led there. Assumes nothing.
+use borrow.Author.Tests.{eq-eqb, ne-eqb}
+use borrow.Author.Needs.{needs}
+use Rattle.packets_submit.proofs.is_own.Statement.{statement}
+use Rattle.packets_submit.proofs.is_own.Tie as tie
+
+returns : tie.Need-returns
+returns c = rw (c .before .before .if1 .taken, eq-eqb _ _ (c .before .if2 .taken))
+
+in-area-requires : tie.Need-in-area-requires
+in-area-requires c κs = search needs
+
+returns-2 : tie.Need-returns-2
+returns-2 c = rw (c .before .before .if1 .taken, ne-eqb _ _ (c .before .if2 .left)) (c .in-area .ensures)
+
+is-held-by-requires : tie.Need-is-held-by-requires
+is-held-by-requires c κs = search needs
+
+returns-3 : tie.Need-returns-3
+returns-3 c = rw (c .before .if1 .left) (c .is-held-by .ensures)
+
+pub is-own-spec : {M : Type 1} → statement M
+is-own-spec = tie.close (tie.spec returns in-area-requires returns-2 is-held-by-requires returns-3)

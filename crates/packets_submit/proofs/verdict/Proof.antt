@@ -1,0 +1,49 @@
+-- `submission::verdict` meets its contract: each test is the rules' own. Assumes nothing.
+use borrow.Author.Needs.{needs}
+use Rattle.packets_submit.proofs.verdict.Statement.{statement}
+use Rattle.packets_submit.proofs.verdict.Tie as tie
+
+packet-in-requires : tie.Need-packet-in-requires
+packet-in-requires c κs = search needs
+
+in-range-requires : tie.Need-in-range-requires
+in-range-requires c κs = search needs
+
+is-running-requires : tie.Need-is-running-requires
+is-running-requires c κs = search needs
+
+is-drum-requires : tie.Need-is-drum-requires
+is-drum-requires c κs = search needs
+
+at-of-requires : tie.Need-at-of-requires
+at-of-requires c κs = search needs
+
+is-own-requires : tie.Need-is-own-requires
+is-own-requires c κs = search needs
+
+is-legal-requires : tie.Need-is-legal-requires
+is-legal-requires c κs = search needs
+
+is-busy-requires : tie.Need-is-busy-requires
+is-busy-requires c κs = search needs
+
+lowest-requires : tie.Need-lowest-requires
+lowest-requires c κs = search needs
+
+returns : tie.Need-returns
+returns c = rw (c .lowest .ensures, c .before .is-busy .ensures, c .before .before .is-legal .ensures, c .before .before .before .is-own .ensures, c .before .before .before .before .at-of .ensures, c .before .before .before .before .before .is-drum .ensures, c .before .before .before .before .before .before .is-running .ensures, c .before .before .before .before .before .before .before .in-range .ensures, c .before .before .before .before .before .before .before .before .packet-in .ensures)
+
+pub verdict-spec : {M : Type 1} → statement M
+verdict-spec =
+    tie.close
+    (tie.spec
+    packet-in-requires
+    in-range-requires
+    is-running-requires
+    is-drum-requires
+    at-of-requires
+    is-own-requires
+    is-legal-requires
+    is-busy-requires
+    lowest-requires
+    returns)

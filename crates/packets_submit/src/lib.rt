@@ -1,0 +1,247 @@
+// Submission, on the parts that it reads and changes: whether it is refused, and the job then.
+use channels::Fitted;
+use numbers::ChannelNumber;
+use numbers::Refusal;
+use packets::Aim;
+use packets::Job;
+use packets::Packet;
+use packets::Spot;
+use packets::Status;
+use packets::Verdict;
+use units::Holder;
+use units::Unit;
+ghost use mathlib.Core.Path.{_≡_};
+ghost use mathlib.Core.Bool.{not, _&&_};
+ghost use Rattle.numbers.specs.declared.Refusal.the-variants.{OutOfRange, NoJob, NotTheJobs, NotLegal, PacketInUse};
+ghost use Rattle.packets.specs.declared.Verdict.the-variants.{Granted};
+ghost use Rattle.packets.specs.State.{isBusy, isDrumOf, legalFor};
+ghost use Rattle.packets.specs.Rules.{atOf, toOf, first, inRange, inArea, isOwn, submitRefusal};
+ghost use Rattle.packets_submit.specs.After.{isListing, isUnlocking, madeFor, sweptFor, jobAfter};
+
+// The unit, or the address X or L.
+pub fn at_of(spot: Spot) -> u32
+    ensures { λ r. ⌜ r ≡ atOf spot ⌝ }
+{
+    match spot {
+        Spot::OnUnit(u) => u.0 as u32,
+        Spot::OnDrum(x, _) => x,
+    }
+}
+
+// H, which only 23 on the drum reads.
+fn to_of(spot: Spot) -> u32
+    ensures { λ r. ⌜ r ≡ toOf spot ⌝ }
+{
+    match spot {
+        Spot::OnUnit(_) => 0,
+        Spot::OnDrum(_, h) => h,
+    }
+}
+
+// Whether place, packet, function, channel and unit are in range and configured.
+fn in_range(has: Fitted, j: u8, p: u8, f: u8, c: ChannelNumber, spot: Spot) -> bool
+    ensures { λ r. ⌜ r ≡ inRange has j p f (c .0) spot ⌝ }
+{
+    if 15 < j {
+        return false;
+    }
+    if 15 < p {
+        return false;
+    }
+    if 63 < f {
+        return false;
+    }
+    if 15 < c.0 {
+        return false;
+    }
+    packets_channels::has_spot(has, spot)
+}
+
+// Whether an address is inside the job's area.
+fn in_area(job: Job, x: u32) -> bool
+    ensures { λ r. ⌜ r ≡ inArea job x ⌝ }
+{
+    if x < job.from {
+        return false;
+    }
+    x - job.from < job.words
+}
+
+// Whether the unit or the drum address is the job's; for 23 on the drum having an area is enough.
+fn is_own(drum: bool, job: Job, holder: Holder, j: u8, f: u8, a: u32) -> bool
+    ensures { λ r. ⌜ r ≡ isOwn drum job holder j f a ⌝ }
+{
+    if drum {
+        if f == 0o23 {
+            return 0 < job.words;
+        }
+        return in_area(job, a);
+    }
+    packets_units::is_held_by(holder, j)
+}
+
+// Whether a function is legal on what the channel has.
+fn is_legal(has: Fitted, f: u8) -> bool
+    ensures { λ r. ⌜ r ≡ legalFor has f ⌝ }
+{
+    match has {
+        Fitted::Nothing => false,
+        Fitted::With(kind, _) => functions::legal(kind, f),
+    }
+}
+
+// Listed, in progress or stopping.
+fn is_busy(status: Status) -> bool
+    ensures { λ r. ⌜ r ≡ isBusy status ⌝ }
+{
+    match status {
+        Status::Blank => false,
+        Status::Listed => true,
+        Status::InProgress => true,
+        Status::Stopping => true,
+        Status::Ended(_) => false,
+    }
+}
+
+// The lowest number answers.
+fn lowest(in_range: bool, running: bool, own: bool, legal: bool, busy: bool) -> Verdict
+    ensures { λ r. ⌜ r ≡ first (not in_range) OutOfRange (first (not running) NoJob (first (not own) NotTheJobs (first (not legal) NotLegal (first busy PacketInUse Granted)))) ⌝ }
+{
+    if !in_range {
+        return Verdict::Denied(Refusal::OutOfRange);
+    }
+    if !running {
+        return Verdict::Denied(Refusal::NoJob);
+    }
+    if !own {
+        return Verdict::Denied(Refusal::NotTheJobs);
+    }
+    if !legal {
+        return Verdict::Denied(Refusal::NotLegal);
+    }
+    if busy {
+        return Verdict::Denied(Refusal::PacketInUse);
+    }
+    Verdict::Granted
+}
+
+// Whether a submission is refused, by what the channel has, the job and the unit.
+pub fn verdict(
+    has: Fitted,
+    job: Job,
+    unit: Unit,
+    j: u8,
+    p: u8,
+    f: u8,
+    c: ChannelNumber,
+    spot: Spot,
+) -> Verdict
+    ensures { λ r. ⌜ r ≡ submitRefusal has job unit j p f (c .0) spot ⌝ }
+{
+    let state = job.state;
+    let ps = job.packets;
+    let holder = unit.holder;
+    let last = packets_job::packet_in(ps, p);
+    let status = last.status;
+    lowest(
+        in_range(has, j, p, f, c, spot),
+        packets_job::is_running(state),
+        is_own(
+            packets_channels::is_drum(has),
+            job,
+            holder,
+            j,
+            f,
+            at_of(spot),
+        ),
+        is_legal(has, f),
+        is_busy(status),
+    )
+}
+
+// Whether 07 has an interlock to remove, by what the channel has and the unit: the drum never has one.
+pub fn is_unlocking(f: u8, has: Fitted, unit: Unit) -> bool
+    ensures { λ r. ⌜ r ≡ isUnlocking f (isDrumOf has) (unit .interlock) ⌝ }
+{
+    if f != 0o07 {
+        return false;
+    }
+    if packets_channels::is_drum(has) {
+        return false;
+    }
+    unit.interlock
+}
+
+// Whether a function is listed: any but 07 and 23.
+pub fn is_listing(f: u8) -> bool
+    ensures { λ r. ⌜ r ≡ isListing f ⌝ }
+{
+    if f == 0o07 {
+        return false;
+    }
+    f != 0o23
+}
+
+// The packet as it is submitted: listed, or ended with 00.
+fn made(f: u8, c: ChannelNumber, a: u32) -> Packet
+    ensures { λ r. ⌜ r ≡ madeFor f (c .0) a ⌝ }
+{
+    if is_listing(f) {
+        return Packet {
+            status: Status::Listed,
+            function: f,
+            channel: c,
+            at: a,
+        };
+    }
+    Packet {
+        status: Status::Ended(0),
+        function: f,
+        channel: c,
+        at: a,
+    }
+}
+
+// The job's other packets: 07 under interlock ends the unit's listed ones with 01, 23 those that it is for with 16 octal.
+fn swept(
+    ps: [Packet; 16],
+    f: u8,
+    c: ChannelNumber,
+    a: u32,
+    b: u32,
+    drum: bool,
+    unlocking: bool,
+) -> [Packet; 16]
+    ensures { λ r. ⌜ r ≡ sweptFor ps f (c .0) a b drum unlocking ⌝ }
+{
+    if unlocking {
+        return packets_job::all_changed(ps, Aim::Failing(c, a));
+    }
+    if f == 0o23 {
+        return packets_job::all_changed(ps, Aim::Cutting(drum, c, a, b));
+    }
+    ps
+}
+
+// The job after an accepted submission of packet p, by what the channel has.
+pub fn job_after(
+    job: Job,
+    p: u8,
+    f: u8,
+    c: ChannelNumber,
+    spot: Spot,
+    has: Fitted,
+    unlocking: bool,
+) -> Job
+    ensures { λ r. ⌜ r ≡ jobAfter job p f (c .0) (atOf spot) (toOf spot) (isDrumOf has) unlocking ⌝ }
+{
+    let ps = job.packets;
+    let at = at_of(spot);
+    let drum = packets_channels::is_drum(has);
+    let others = swept(ps, f, c, at, to_of(spot), drum, unlocking);
+    let packet = made(f, c, at);
+    let qs = packets_job::with_packet(others, p, packet);
+    let mut next = job;
+    next.packets = qs;
+    next
+}

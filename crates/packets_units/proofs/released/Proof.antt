@@ -1,0 +1,103 @@
+-- `holders::released` meets its contract. The invariant: the units passed are changed, the others as they were. Assumes nothing.
+use Rattle.packets_units.proofs.EachUnit.{Passed, passed-none, passed-set, passed-left, passed-all, release-square, released-here, released-not}
+use Prim.Native.Nat.{ℕ, _≤_, _-_, _+_, _/_, _%_}
+use mathlib.Core.Path.{sym, ap, subst, _∙_}
+use mathlib.Core.Logic.{⊎-elim}
+use native.Mathlib.Omega.{arith}
+use Rattle.units.specs.declared.Unit.{Unit}
+use Rattle.units.specs.declared.Units.{Units}
+use Rattle.units.specs.State.{unitIn, unitsFrom, Square}
+use Rattle.units.proofs.StateLaws.{of-square}
+use Rattle.packets.specs.State.{release, releaseAll}
+use Rattle.packets.proofs.Store.{unit-release}
+use mathlib.Core.List.{List}
+use borrow.Author.Needs.{needs}
+use Rattle.packets_units.proofs.released.Statement.{statement}
+use Rattle.packets_units.proofs.released.Tie as tie
+
+abbrev Inv-loop : tie.InvT-loop
+Inv-loop j grid next₀ i₀ next i = (i ≤ 256) × Passed (λ (c u : ℕ) (v : Unit). release j v) grid (next .of) i
+
+abbrev μ-loop : tie.MeasureT-loop
+μ-loop j grid next₀ i₀ next i = 256 - i
+
+grid-of-requires : tie.Need-grid-of-requires Inv-loop μ-loop
+grid-of-requires c κs = search needs
+
+loop-holds : tie.Need-loop-holds Inv-loop μ-loop
+loop-holds c = (omega arith, subst (λ (g : List (List Unit)). Passed (λ (d u : ℕ) (v : Unit). release (c .before .args .j) v) g (c .before .args .units .of) 0) (sym (c .grid-of .ensures .is)) (passed-none (λ (d u : ℕ) (v : Unit). release (c .before .args .j) v) (c .before .args .units .of) (of-square (c .grid-of .ensures))))
+
+mul-unit : tie.Need-mul-unit Inv-loop μ-loop
+mul-unit c = search needs
+
+mul-unit-2 : tie.Need-mul-unit-2 Inv-loop μ-loop
+mul-unit-2 c = search needs
+
+index-1-unit : tie.Need-index-1-unit Inv-loop μ-loop
+index-1-unit c = search needs
+
+index-2-unit : tie.Need-index-2-unit Inv-loop μ-loop
+index-2-unit c = search needs
+
+is-held-by-requires : tie.Need-is-held-by-requires Inv-loop μ-loop
+is-held-by-requires c κs = search needs
+
+handed-requires : tie.Need-handed-requires Inv-loop μ-loop
+handed-requires c κs = search needs
+
+cast-t22 : tie.Need-cast-t22 Inv-loop μ-loop
+cast-t22 c = search needs
+
+cast-t24 : tie.Need-cast-t24 Inv-loop μ-loop
+cast-t24 c = search needs
+
+with-unit-requires : tie.Need-with-unit-requires Inv-loop μ-loop
+with-unit-requires c κs = search needs
+
+add-i : tie.Need-add-i Inv-loop μ-loop
+add-i c = search needs
+
+loop-less : tie.Need-loop-less Inv-loop μ-loop
+loop-less c = omega (arith, c .before .before .before .loop-test .taken)
+
+loop-again : tie.Need-loop-again Inv-loop μ-loop
+unfolding unitIn
+loop-again c = let l = c .before .before .before .before .loop in
+    let grid = c .before .before .before .before .before .grid-of .result in
+    let unit = unitIn grid (l .i / 16) (l .i % 16) in
+    let less = c .before .before .before .loop-test .taken in
+    let f : ℕ → ℕ → Unit → Unit = (λ (d u : ℕ) (v : Unit). release (c .before .before .before .before .before .before .args .j) v) in (
+      omega arith,
+      ⊎-elim
+          (λ w. subst (λ (n : Units). Passed f grid (n .of) (l .i + 1)) (sym (w .3 ∙ w .2 .ensures)) (passed-set f grid (l .next .of) (l .i) (l .inv .1) less (w .1 .result) (w .1 .ensures ∙ released-here unit (c .before .before .before .before .before .before .args .j) (sym (c .before .is-held-by .ensures) ∙ w .0 .taken))))
+          (λ w. subst (λ (n : Units). Passed f grid (n .of) (l .i + 1)) (sym (w .1)) (passed-left f grid (l .next .of) (l .i) (l .inv .1) less (released-not unit (c .before .before .before .before .before .before .args .j) (sym (c .before .is-held-by .ensures) ∙ w .0 .left))))
+          (c .if1 .came),
+    )
+
+returns : tie.Need-returns Inv-loop μ-loop
+returns c = let l = c .before .loop in
+    let square : Square (c .before .before .before .args .units .of) = of-square (c .before .before .grid-of .ensures) in
+    let P : Passed (λ (d u : ℕ) (v : Unit). release (c .before .before .before .args .j) v) (c .before .before .before .args .units .of) (l .next .of) (l .i) = subst (λ (g : List (List Unit)). Passed (λ (d u : ℕ) (v : Unit). release (c .before .before .before .args .j) v) g (l .next .of) (l .i)) (c .before .before .grid-of .ensures .is) (l .inv .1) in
+    ap unitsFrom (passed-all (λ (d u : ℕ) (v : Unit). release (c .before .before .before .args .j) v) (c .before .before .before .args .units .of) (l .next .of) (releaseAll (c .before .before .before .args .units .of) (c .before .before .before .args .j)) (l .i) (c .loop-test .left) P (release-square (c .before .before .before .args .units .of) (c .before .before .before .args .j) square) (λ d u h k. unit-release (c .before .before .before .args .units .of) (c .before .before .before .args .j) d u))
+
+pub released-spec : {M : Type 1} → statement M
+released-spec =
+    tie.close
+    (tie.spec
+    Inv-loop
+    μ-loop
+    grid-of-requires
+    loop-holds
+    mul-unit
+    mul-unit-2
+    index-1-unit
+    index-2-unit
+    is-held-by-requires
+    handed-requires
+    cast-t22
+    cast-t24
+    with-unit-requires
+    add-i
+    loop-less
+    loop-again
+    returns)

@@ -1,0 +1,126 @@
+// Who holds the units: reading one, its interlock, and the units that a job is given and returns.
+use numbers::ChannelNumber;
+use numbers::UnitNumber;
+use units::Holder;
+use units::Unit;
+use units::Units;
+ghost use mathlib.Core.Path.{_≡_};
+ghost use mathlib.Core.Bool.{_&&_};
+ghost use Rattle.units.specs.State.{unitIn, unitSet, unitsFrom, assignable};
+ghost use Rattle.packets.specs.State.{heldBy, setLock, releaseAll, takeAll};
+ghost use Rattle.packets_units.specs.Handed.{handedTo, wantedIn};
+
+// Unit a of channel c; free and unmarked where the cell has none.
+pub fn unit_of(units: Units, c: ChannelNumber, a: u32) -> Unit
+    ensures { λ r. ⌜ r ≡ unitIn (units .of) (c .0) a ⌝ }
+{
+    let grid = units::grid_of(units);
+    let i = c.0 as usize;
+    let k = a as usize;
+    if 15 < i {
+        return units::fresh_unit(false);
+    }
+    if 15 < k {
+        return units::fresh_unit(false);
+    }
+    grid[i][k]
+}
+
+// The units with unit a of channel c changed; where the cell has none nothing changes.
+fn with_state(units: Units, c: ChannelNumber, a: u32, state: Unit) -> Units
+    ensures { λ r. ⌜ r ≡ unitsFrom (unitSet (units .of) (c .0) a state) ⌝ }
+{
+    let grid = units::grid_of(units);
+    if 15 < a {
+        return units::units_from(grid);
+    }
+    units::with_unit(units, c, UnitNumber(a as u8), state)
+}
+
+// The units with the interlock of unit a of channel c set or cleared.
+pub fn with_lock(units: Units, c: ChannelNumber, a: u32, on: bool) -> Units
+    ensures { λ r. ⌜ r ≡ unitsFrom (setLock (units .of) (c .0) a on) ⌝ }
+{
+    let unit = unit_of(units, c, a);
+    let holder = unit.holder;
+    let state = Unit {
+        holder,
+        down: unit.down,
+        reserved: unit.reserved,
+        interlock: on,
+    };
+    with_state(units, c, a, state)
+}
+
+// Whether the job in place j holds it.
+pub fn is_held_by(holder: Holder, j: u8) -> bool
+    ensures { λ r. ⌜ r ≡ heldBy holder j ⌝ }
+{
+    match holder {
+        Holder::Free => false,
+        Holder::Held(k) => k == j,
+    }
+}
+
+// The unit in other hands.
+fn handed(unit: Unit, holder: Holder, interlock: bool) -> Unit
+    ensures { λ r. ⌜ r ≡ handedTo unit holder interlock ⌝ }
+{
+    Unit {
+        holder,
+        down: unit.down,
+        reserved: unit.reserved,
+        interlock,
+    }
+}
+
+// The units with those of the job in place j free again.
+pub fn released(units: Units, j: u8) -> Units
+    ensures { λ r. ⌜ r ≡ unitsFrom (releaseAll (units .of) j) ⌝ }
+{
+    let grid = units::grid_of(units);
+    let mut next = units;
+    let mut i: usize = 0;
+    while i < 256 {
+        let c = i / 16;
+        let u = i % 16;
+        let unit = grid[c][u];
+        let holder = unit.holder;
+        if is_held_by(holder, j) {
+            let state = handed(unit, Holder::Free, unit.interlock);
+            next = units::with_unit(next, ChannelNumber(c as u8), UnitNumber(u as u8), state);
+        }
+        i += 1;
+    }
+    next
+}
+
+// Whether a unit is taken: it is wanted and assignable.
+fn is_taken(unit: Unit, wanted: bool) -> bool
+    ensures { λ r. ⌜ r ≡ wanted && assignable unit ⌝ }
+{
+    if wanted {
+        return units::is_assignable(unit);
+    }
+    false
+}
+
+// The units with those of an assignment that are assignable held by the job in place j, without interlock.
+pub fn taken(units: Units, j: u8, wanted: [bool; 256]) -> Units
+    ensures { λ r. ⌜ r ≡ unitsFrom (takeAll (units .of) j (wantedIn wanted)) ⌝ }
+{
+    let grid = units::grid_of(units);
+    let mut next = units;
+    let mut i: usize = 0;
+    while i < 256 {
+        let c = i / 16;
+        let u = i % 16;
+        let unit = grid[c][u];
+        if is_taken(unit, wanted[i]) {
+            let state = handed(unit, Holder::Held(j), false);
+            next = units::with_unit(next, ChannelNumber(c as u8), UnitNumber(u as u8), state);
+        }
+        i += 1;
+    }
+    next
+}

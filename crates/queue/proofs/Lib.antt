@@ -1,2 +1,0 @@
-pub mod Relist
-pub mod Startable

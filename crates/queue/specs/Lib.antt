@@ -1,2 +1,0 @@
-pub mod Padded
-pub mod PaddedLaws

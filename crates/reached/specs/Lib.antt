@@ -1,4 +1,0 @@
-pub mod Reached
-pub mod Fitting
-pub mod ReachedProof
-pub mod InOrder

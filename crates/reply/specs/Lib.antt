@@ -1,3 +1,0 @@
-pub mod Replies
-pub mod ReplyLaws
-pub mod OneReply

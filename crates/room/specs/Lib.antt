@@ -1,3 +1,0 @@
-pub mod Taken
-pub mod TakenLaws
-pub mod Filling

@@ -1,0 +1,214 @@
+-- How long the texts are: 53,248 bytes of room hold every report, and what entering any deck puts. An error's line has at most 16 bytes, a request's
+-- 13, the last 15, and there are at most 3,261 groups and 64 requests. Assumes nothing.
+use Prim.Native.Nat.{ℕ, _+_, _*_, _≤_, _<_}
+use mathlib.Core.Path.{_≡_, refl, ap, subst, _∙_}
+use mathlib.Core.Bool.{Bool, true, false, cond, _&&_}
+use mathlib.Core.List.{List, [], _∷_, _++_}
+use native.Mathlib.Omega.{arith}
+use lib.Dec.{eqb, leb}
+use lib.ListN.{length, getD, take, drop, length-append}
+use lib.Seq.{take-at, drop-at}
+use Rattle.numbers.proofs.Tests.{by-bool}
+use Rattle.numbers.specs.Quoted.{bytes}
+use Rattle.numbers.specs.declared.Refusal.{Refusal}
+use Rattle.numbers.specs.declared.Refusal.the-variants.{BadDeck}
+use Rattle.text.specs.Room.{Written}
+use Rattle.text.proofs.RoomLaws.{fitted}
+use Rattle.text.specs.Writing.{twoText, decimalText}
+use Rattle.text.proofs.Undo.{few-digits}
+use Rattle.cards_fields.specs.Fields.{field, isPty, spaceless, padded}
+use Rattle.cards_fields.proofs.FieldLaws.{padded-length}
+use Rattle.cards_fields.specs.Deck.{cardsOf, before, terminated, size, deckEnd}
+use Rattle.cards_fields.specs.declared.DeckEnd.{DeckEnd}
+use Rattle.cards_fields.specs.declared.DeckEnd.the-variants.{At, Refused}
+use Rattle.cards.specs.Errors.{errorNumber}
+use Rattle.cards.specs.Group.{readGroup, readCards, orderedError, requestOf, asked, answer}
+use Rattle.cards.specs.declared.CardError.{CardError}
+use Rattle.cards.specs.declared.CardError.the-variants.{
+  NotPty,
+  PtyMalformed,
+  IdLength,
+  WrongRush,
+  WrongLength,
+  WrongContent,
+  WrongCount,
+  NoFac,
+  SecondFac,
+  OtherCard,
+  OtherId,
+  FacMalformed,
+  LongCode,
+  UnknownCode,
+  WrongEntry,
+  TooMuchCore,
+  NoIb,
+  InSchedule,
+  SamePriority,
+  SameSequence,
+  ScheduleFull,
+}
+use Rattle.cards.specs.declared.Verdict.{Verdict}
+use Rattle.cards.specs.declared.Verdict.the-variants.{Good, Wrong}
+use Rattle.cards.specs.declared.Request.{Request}
+use Rattle.cards_writing.specs.Writing.{priorityText}
+use Rattle.schedule_entries.specs.declared.Entry.{Entry}
+use Rattle.schedule_list.specs.Held.{held, scheduleOf}
+use Rattle.schedule_list.specs.declared.Schedule.{Schedule}
+use Rattle.schedule_orderly.specs.Orderly.{Each, requests}
+use Rattle.schedule_orderly.proofs.Reachable.{sound-empty}
+use Rattle.schedule_deck.specs.Report.{shownBy, formed, errorLine, requestLine, scheduleText, lastLine, begin, lineBy, lastBy, shownAt, triedAt, groupText, after, errorsFrom, endFrom, closingText, reportText, refusedText, deckGroups, textBy, deckText, notesText, notesBy, deckNotes, deckRoom}
+use Rattle.schedule_deck.specs.Reading.{Whole, Reported}
+use Rattle.schedule_deck.proofs.DeckLaws.{sound-groups, each-groups}
+use Rattle.schedule_deck.specs.declared.Progress.{Progress}
+use Rattle.schedule_deck.proofs.Few.{spaceless-short, deck-few}
+
+-- the lines
+below-100 : (e : CardError) → errorNumber e < 100
+below-100 NotPty = omega arith
+below-100 PtyMalformed = omega arith
+below-100 IdLength = omega arith
+below-100 WrongRush = omega arith
+below-100 WrongLength = omega arith
+below-100 WrongContent = omega arith
+below-100 WrongCount = omega arith
+below-100 NoFac = omega arith
+below-100 SecondFac = omega arith
+below-100 OtherCard = omega arith
+below-100 OtherId = omega arith
+below-100 FacMalformed = omega arith
+below-100 LongCode = omega arith
+below-100 UnknownCode = omega arith
+below-100 WrongEntry = omega arith
+below-100 TooMuchCore = omega arith
+below-100 NoIb = omega arith
+below-100 InSchedule = omega arith
+below-100 SamePriority = omega arith
+below-100 SameSequence = omega arith
+below-100 ScheduleFull = omega arith
+
+error-short : (id : List ℕ) (e : CardError) → length id ≤ 6 → length (errorLine id e) ≤ 16
+error-short id e h =
+    omega (arith, length-append (spaceless id) (bytes " ER " ++ (decimalText (errorNumber e) ++ bytes "\n")), length-append (decimalText (errorNumber e)) (bytes "\n"), spaceless-short id, few-digits 1 (errorNumber e) (below-100 e))
+
+priority-short : (r : Request) → length (priorityText r) ≤ 5
+unfolding priorityText
+priority-short r = by (eqb (r .sequence) 0)
+  where
+    by : (b : Bool) → length (cond b [] (twoText (r .sequence)) ++ (r .letter ∷ twoText (r .precedence))) ≤ 5
+    by true = omega arith
+    by false = omega arith
+
+abbrev Short : Request → Type 0
+Short r = length (r .id) ≤ 6
+
+request-short : (r : Request) → Short r → length (requestLine r) ≤ 13
+request-short r h =
+    omega (arith, length-append (spaceless (r .id)) (bytes " " ++ (priorityText r ++ bytes "\n")), length-append (priorityText r) (bytes "\n"), spaceless-short (r .id), priority-short r)
+
+lines-short : (es : List Entry) → Each Short (requests es) → length (scheduleText es) ≤ 13 * length es
+lines-short [] h = omega arith
+lines-short (e ∷ es) h = omega (arith, length-append (requestLine (e .request)) (scheduleText es), request-short (e .request) (h .0), lines-short es (h .1))
+
+last-short : (id : List ℕ) → length id ≤ 6 → length (lastLine id) ≤ 15
+last-short id h = omega (arith, length-append (spaceless id) (bytes " SCH ACK\n"), spaceless-short id)
+
+-- the IDs shown and last have six bytes at most, as that of every request read
+read-short : (g : List (List ℕ)) → Short (readGroup g .request)
+unfolding readCards
+read-short g = by (orderedError (length g) (getD g 0 []) (getD g 1 []) (getD g 2 []))
+  where
+    by : (v : Verdict) → Short (answer v (requestOf (getD g 0 []) (asked (getD g 1 []))) .request)
+    by Good = omega (arith, padded-length 6 (field (getD g 0 []) 0))
+    by (Wrong e) = omega arith
+
+record Ids (p : Progress) : Type 0 where
+  shown : length (p .shown) ≤ 6
+  last : length (p .last) ≤ 6
+
+shown-short : (card shown : List ℕ) → length shown ≤ 6 → length (shownBy card shown) ≤ 6
+unfolding shownBy
+shown-short card shown h = by (isPty card && formed (field card 0))
+  where
+    by : (b : Bool) → length (cond b (padded 6 (field card 0)) shown) ≤ 6
+    by true = omega (arith, padded-length 6 (field card 0))
+    by false = h
+
+ids-after : (p : Progress) (g : List (List ℕ)) → Ids p → Ids (after p g)
+unfolding after
+ids-after p g i = record { shown = shown-short (getD g 0 []) (p .shown) (i .shown); last = by (triedAt p g .verdict) }
+  where
+    by : (v : Verdict) → length (lastBy v (p .last) (readGroup g .request .id)) ≤ 6
+    by Good = read-short g
+    by (Wrong e) = i .last
+
+ids-end : (p : Progress) (gs : List (List (List ℕ))) → Ids p → Ids (endFrom p gs)
+ids-end p [] i = i
+ids-end p (g ∷ gs) i = ids-end (after p g) gs (ids-after p g i)
+
+ids-begin : (s : Schedule) → Ids (begin s)
+ids-begin s = record { shown = omega arith; last = omega arith }
+
+group-short : (p : Progress) (g : List (List ℕ)) → Ids p → length (groupText p g) ≤ 16
+unfolding groupText
+group-short p g i = by (triedAt p g .verdict)
+  where
+    by : (v : Verdict) → length (lineBy v (shownAt p g)) ≤ 16
+    by Good = omega arith
+    by (Wrong e) = error-short (shownAt p g) e (shown-short (getD g 0 []) (p .shown) (i .shown))
+
+errors-short : (p : Progress) (gs : List (List (List ℕ))) → Ids p → length (errorsFrom p gs) ≤ 16 * length gs
+errors-short p [] i = omega arith
+errors-short p (g ∷ gs) i = omega (arith, length-append (groupText p g) (errorsFrom (after p g) gs), group-short p g i, errors-short (after p g) gs (ids-after p g i))
+
+-- the texts
+notes-short : (s : Schedule) (gs : List (List (List ℕ))) → length gs ≤ 3261 → length (notesText s gs) ≤ deckRoom
+unfolding notesText
+notes-short s gs h =
+    omega (arith, length-append (errorsFrom (begin s) gs) (lastLine (endFrom (begin s) gs .last)), errors-short (begin s) gs (ids-begin s), last-short (endFrom (begin s) gs .last) (ids-end (begin s) gs (ids-begin s) .last))
+
+none-held : Each Short (requests (held (scheduleOf [])))
+unfolding scheduleOf
+none-held = tt
+
+report-short : (gs : List (List (List ℕ))) → length gs ≤ 3261 → length (reportText gs) ≤ deckRoom
+unfolding reportText
+report-short gs h =
+    let p = begin (scheduleOf []) in
+    let q = endFrom (begin (scheduleOf [])) gs in
+    let few = sound-groups p gs sound-empty .orderly .few in
+    let short = each-groups Short (λ g e. read-short g) p gs sound-empty none-held in
+    omega (arith, length-append (errorsFrom p gs) (closingText q), length-append (scheduleText (held (q .schedule))) (lastLine (q .last)), errors-short p gs (ids-begin (scheduleOf [])), lines-short (held (q .schedule)) short, few, last-short (q .last) (ids-end p gs (ids-begin (scheduleOf [])) .last))
+
+refused-short : (s : List ℕ) (refusal : Refusal) → deckEnd s ≡ Refused refusal → length (refusedText refusal) ≤ deckRoom
+unfolding deckEnd
+refused-short s refusal e =
+    by-bool (leb (length s) 16384 && terminated (cardsOf s))
+    (λ t. let i : At (size (before (cardsOf s))) ≡ Refused refusal = rw t at e in let z : _≡_ {A = ℕ} 0 1 = cc in absurd (omega arith))
+    (λ t. let i : Refused BadDeck ≡ Refused refusal = rw t at e in
+    let k : BadDeck ≡ refusal = cc in
+    subst (λ (x : Refusal). length (refusedText x) ≤ deckRoom) k (omega (arith, length-append (decimalText 11) (bytes "\n"), few-digits 1 11 (omega arith))))
+
+text-short : (s : List ℕ) → length (deckText s) ≤ deckRoom
+text-short s = by (deckEnd s) refl
+  where
+    by : (end : DeckEnd) → deckEnd s ≡ end → length (textBy end s) ≤ deckRoom
+    by (At n) e = report-short (deckGroups s) (deck-few s n e)
+    by (Refused refusal) e = refused-short s refusal e
+
+pub deck-notes-short : (schedule : Schedule) (s : List ℕ) → length (deckNotes schedule s) ≤ deckRoom
+deck-notes-short schedule s = by (deckEnd s) refl
+  where
+    by : (end : DeckEnd) → deckEnd s ≡ end → length (notesBy end schedule s) ≤ deckRoom
+    by (At n) e = notes-short schedule (deckGroups s) (deck-few s n e)
+    by (Refused refusal) e = omega arith
+
+-- what fits stands in the room whole, and what is past it is kept
+pub entire : {room p after· : List ℕ} {r : ℕ} → Written room 0 p after· r → length p ≤ length room → Whole p room after· r
+entire {room} {p} {after·} {r} w h =
+    let f = fitted w (omega arith) in
+    let e : length p ≡ r = omega (arith, f .0) in
+    let k : 0 + length p ≡ r = omega arith in
+    (ap (take r) (f .1) ∙ take-at p (drop (0 + length p) room) r e, ap (drop r) (f .1) ∙ drop-at p (drop (0 + length p) room) r e ∙ ap (λ (n : ℕ). drop n room) k)
+
+pub reported : (s : List ℕ) {room after· : List ℕ} {r : ℕ} → Written room 0 (deckText s) after· r → Reported s room after· r
+reported s w = record { text = w; whole = λ h. entire w (omega (arith, text-short s)) }

@@ -1,0 +1,99 @@
+-- The lines of the schedule, one group's answer, and the ID shown. Assumes nothing.
+use Prim.Native.Nat.{ℕ, _+_, _≤_, _<_}
+use mathlib.Core.Path.{_≡_, refl, sym, ap, subst, _∙_}
+use mathlib.Core.Bool.{Bool, true, false}
+use mathlib.Core.List.{List, [], _++_}
+use native.Mathlib.Numerals.{add-one}
+use native.Mathlib.Omega.{arith}
+use lib.ListN.{length, getD, take, drop, drop-of-length-le}
+use lib.Seq.{drop-cons}
+use borrow.Author.Tests.{le-leb, lt-leb}
+use Rattle.numbers.proofs.Tests.{never}
+use Rattle.text.specs.Room.{Written}
+use Rattle.text.specs.Class.{isAlnum}
+use Rattle.words.specs.Words.{every}
+use Rattle.cards_fields.specs.Fields.{field, isPty, padded, fieldOf}
+use Rattle.cards_fields.proofs.FieldLaws.{whole}
+use Rattle.cards_fields.specs.declared.Field.{Field}
+use Rattle.cards.specs.Errors.{good}
+use Rattle.cards.proofs.ErrorLaws.{good-is}
+use Rattle.cards.specs.Group.{readGroup}
+use Rattle.cards.specs.declared.Verdict.{Verdict}
+use Rattle.cards.specs.declared.Verdict.the-variants.{Good, Wrong}
+use Rattle.cards.specs.declared.Request.{Request}
+use Rattle.cards.specs.declared.Reading.{Reading}
+use Rattle.schedule_entries.specs.Entries.{blank}
+use Rattle.schedule_entries.specs.declared.Entry.{Entry}
+use Rattle.schedule_list.specs.declared.Schedule.{Schedule}
+use Rattle.schedule.specs.Calls.{entering}
+use Rattle.schedule.specs.declared.Entering.{Entering}
+use Rattle.schedule_deck.specs.Report.{shownBy, requestLine, scheduleText, triedBy, tried, lineBy, lastBy, shownAt, triedAt, groupText, after}
+use Rattle.schedule_deck.specs.Reading.{Read}
+use Rattle.schedule_deck.specs.declared.Progress.{Progress}
+
+-- one request of the schedule further
+pub lines-turn : (es : List Entry) (i : ℕ) {e : Entry} → i < length es → e ≡ getD es i blank → scheduleText (drop i es) ≡ requestLine (e .request) ++ scheduleText (drop (i + 1) es)
+lines-turn es i h a = rw (a, add-one i, drop-cons es i blank h)
+
+pub lines-end : (es : List Entry) (i : ℕ) → length es ≤ i → scheduleText (drop i es) ≡ []
+lines-end es i h = rw (drop-of-length-le es h)
+
+-- a group's own error, or what entering answers
+pub tried-good : (s : Schedule) (r : Reading) {b : Bool} → b ≡ good (r .verdict) → b ≡ true → entering s (r .request) ≡ tried s r
+tried-good s r e t = ap (λ (v : Verdict). triedBy v s (r .request)) (sym (good-is (r .verdict) (sym e ∙ t)))
+
+tried-by : (s : Schedule) (r : Request) (v : Verdict) → good v ≡ false → record { verdict = v; schedule = s } ≡ triedBy v s r
+tried-by s r Good e = never refl e
+tried-by s r (Wrong x) e = refl
+
+pub tried-bad : (s : Schedule) (r : Reading) {b : Bool} → b ≡ good (r .verdict) → b ≡ false → record { verdict = r .verdict; schedule = s } ≡ tried s r
+tried-bad s r e t = tried-by s (r .request) (r .verdict) (sym e ∙ t)
+
+-- one group
+pub group-read : {room out : List ℕ} {at next : ℕ} (p : Progress) (cards : List (List ℕ)) {card shown last : List ℕ} {reading : Reading} {a : Entering}
+    → card ≡ getD cards 0 [] → shown ≡ shownBy card (p .shown) → reading ≡ readGroup cards → a ≡ tried (p .schedule) reading
+    → last ≡ lastBy (a .verdict) (p .last) (reading .request .id) → Written room at (lineBy (a .verdict) shown) out next
+    → Read room at p cards out (record { at = next; progress = record { schedule = a .schedule; shown = shown; last = last } })
+unfolding groupText after
+group-read {room} {out} {at} {next} p cards {card} {shown} {last} {reading} {a} c s r t l w =
+    let s′ : shown ≡ shownAt p cards = s ∙ ap (λ (x : List ℕ). shownBy x (p .shown)) c in
+    let t′ : a ≡ triedAt p cards = t ∙ ap (λ (x : Reading). tried (p .schedule) x) r in
+    let v : a .verdict ≡ triedAt p cards .verdict = ap (λ (x : Entering). x .verdict) t′ in
+    let k : a .schedule ≡ triedAt p cards .schedule = ap (λ (x : Entering). x .schedule) t′ in
+    let i : reading .request .id ≡ readGroup cards .request .id = ap (λ (x : Reading). x .request .id) r in
+    let m : last ≡ lastBy (triedAt p cards .verdict) (p .last) (readGroup cards .request .id) = l ∙ ap (λ (x : Verdict). lastBy x (p .last) (reading .request .id)) v ∙ ap (λ (x : List ℕ). lastBy (triedAt p cards .verdict) (p .last) x) i in
+    record {
+      text = subst (λ (x : List ℕ). Written room at x out next) (ap (λ (x : Verdict). lineBy x shown) v ∙ ap (λ (x : List ℕ). lineBy (triedAt p cards .verdict) x) s′) w;
+      then = cc;
+    }
+
+-- the ID shown
+module _ (card shown : List ℕ) {b : Bool} (a : b ≡ isPty card) where
+  pub shown-none : b ≡ false → shown ≡ shownBy card shown
+  unfolding shownBy
+  shown-none e = rw (sym a ∙ e)
+
+  module _ (e : b ≡ true) {f : Field} (is : f ≡ fieldOf (field card 0)) where
+    long : f .len ≡ length (field card 0)
+    long = ap (λ (x : Field). x .len) is
+
+    pub shown-short : f .len < 1 → shown ≡ shownBy card shown
+    unfolding shownBy
+    shown-short h = rw (sym a ∙ e, lt-leb 1 (length (field card 0)) (omega (arith, long)))
+
+    module _ (h : 1 ≤ f .len) where
+      pub shown-long : 6 < f .len → shown ≡ shownBy card shown
+      unfolding shownBy
+      shown-long g = rw (sym a ∙ e, le-leb 1 (length (field card 0)) (omega (arith, long)), lt-leb (length (field card 0)) 6 (omega (arith, long)))
+
+      module _ (g : f .len ≤ 6) {t : Bool} (al : t ≡ every isAlnum (take (f .len) (f .bytes))) where
+        name-is : every isAlnum (field card 0) ≡ t
+        name-is = ap (λ (x : List ℕ). every isAlnum x) (sym (whole f (field card 0) is (omega arith))) ∙ sym al
+
+        pub shown-other : t ≡ false → shown ≡ shownBy card shown
+        unfolding shownBy
+        shown-other q = rw (sym a ∙ e, le-leb 1 (length (field card 0)) (omega (arith, long)), le-leb (length (field card 0)) 6 (omega (arith, long)), name-is ∙ q)
+
+        pub shown-formed : t ≡ true → {r : List ℕ} → r ≡ padded 6 (field card 0) → r ≡ shownBy card shown
+        unfolding shownBy
+        shown-formed q m = m ∙ rw (sym a ∙ e, le-leb 1 (length (field card 0)) (omega (arith, long)), le-leb (length (field card 0)) 6 (omega (arith, long)), name-is ∙ q)

@@ -1,0 +1,30 @@
+-- `deck_text::put_entered` meets its contract. Assumes nothing.
+use Rattle.cards_fields.specs.Deck.{cardsOf, groupsOf}
+use Rattle.schedule_deck.proofs.InTurn.{noted}
+use borrow.Author.Needs.{needs}
+use Rattle.schedule_deck.proofs.put_entered.Statement.{statement}
+use Rattle.schedule_deck.proofs.put_entered.Tie as tie
+use Rattle.schedule_deck.proofs.put_entered.Reads as reads
+use Rattle.schedule_deck.proofs.put_entered.Lts as lts
+use Rattle.schedule_deck.proofs.begin.Reads as begin-reads
+use Rattle.schedule_deck.proofs.put_groups.Reads as put-groups-reads
+use Rattle.schedule_deck.proofs.put_last.Reads as put-last-reads
+
+begin-requires : tie.Need-begin-requires
+begin-requires c κs = search needs
+
+put-groups-requires : tie.Need-put-groups-requires
+put-groups-requires c κs = search needs
+
+put-last-requires : tie.Need-put-last-requires
+put-last-requires c κs = search needs
+
+same-length : tie.Need-same-length
+same-length c = search needs
+
+returns : tie.Need-returns
+returns c = noted (groupsOf (cardsOf (c .before .before .before .before .before .before .before .before .before .before .before .before .before .before .args .part .now))) (c .before .before .before .before .before .before .before .before .before .before .begin .ensures) (c .before .before .before .before .before .before .before .before .before .put-groups .ensures) (c .before .before .put-last .ensures)
+
+pub put-entered-spec : {M : Type 1} → statement M
+put-entered-spec =
+    tie.close (tie.spec begin-requires put-groups-requires put-last-requires same-length returns)

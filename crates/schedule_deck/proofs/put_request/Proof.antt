@@ -1,0 +1,38 @@
+-- `deck_text::put_request` meets its contract. Assumes nothing.
+use Rattle.text.proofs.RoomLaws.{andThen}
+use borrow.Author.Needs.{needs}
+use Rattle.schedule_deck.proofs.put_request.Statement.{statement}
+use Rattle.schedule_deck.proofs.put_request.Tie as tie
+
+slice-aggregate-put-name : tie.Need-slice-aggregate-put-name
+slice-aggregate-put-name c = search needs
+
+put-name-requires : tie.Need-put-name-requires
+put-name-requires c κs = search needs
+
+put-byte-requires : tie.Need-put-byte-requires
+put-byte-requires c κs = search needs
+
+put-priority-requires : tie.Need-put-priority-requires
+put-priority-requires c κs = search needs
+
+put-byte-requires-2 : tie.Need-put-byte-requires-2
+put-byte-requires-2 c κs = search needs
+
+same-length : tie.Need-same-length
+same-length c = search needs
+
+returns : tie.Need-returns
+returns c = andThen (c .before .before .before .before .before .before .before .before .before .before .before .before .before .before .put-name .ensures) (andThen (c .before .before .before .before .before .before .before .before .before .before .put-byte .ensures) (andThen (c .before .before .before .before .before .before .put-priority .ensures) (c .before .before .put-byte2 .ensures)))
+
+pub put-request-spec : {M : Type 1} → statement M
+put-request-spec =
+    tie.close
+    (tie.spec
+    slice-aggregate-put-name
+    put-name-requires
+    put-byte-requires
+    put-priority-requires
+    put-byte-requires-2
+    same-length
+    returns)

@@ -1,0 +1,264 @@
+// The report of a deck, as text in lent room: the errors in deck order, the schedule, and the last good ID.
+use cards::CardError;
+use cards::Reading;
+use cards::Request;
+use cards::Verdict;
+use cards::error;
+use cards::group;
+use cards_fields::DeckEnd;
+use cards_fields::card;
+use cards_fields::deck;
+use cards_writing::put;
+use numbers::Outcome;
+use numbers::Refusal;
+use schedule::Entering;
+use schedule::calls;
+use schedule_list::Schedule;
+use words::Class;
+ghost use mathlib.Core.Path.{_≡_};
+ghost use Rattle.text.specs.Room.{Written};
+ghost use Rattle.cards_fields.specs.Deck.{cardsOf, groupsOf};
+ghost use Rattle.schedule_list.specs.Held.{held};
+ghost use Rattle.schedule_deck.specs.Report.{shownBy, errorLine, requestLine, scheduleText, lastLine, lineBy, lastBy, tried, begin, reportText, refusedText};
+ghost use Rattle.schedule_deck.specs.Reading.{Read, ReadAll, Noted, Reported, DeckEntered};
+
+// What has been read so far: the schedule, the ID that an error line shows, and the last good one.
+pub struct Progress {
+    pub schedule: Schedule,
+    pub shown: [u8; 6],
+    pub last: [u8; 6],
+}
+
+// Where a piece of text ends, and what has been read by then.
+pub struct Step {
+    pub at: usize,
+    pub progress: Progress,
+}
+
+// What entering a deck answers: a refusal and the schedule as it was, or the schedule that follows and where the text in the lent room ends.
+pub struct Entered {
+    pub outcome: Outcome,
+    pub schedule: Schedule,
+    pub at: usize,
+}
+
+// The ID of a group's PTY card if it is well formed, else the one before.
+fn shown_by(card: &[u8], shown: [u8; 6]) -> [u8; 6]
+    ensures { λ r. ⌜ r ≡ shownBy (now (card .entry)) shown ⌝ }
+{
+    if !card::field_is(card, 1, b"PTY") {
+        return shown;
+    }
+    let f = card::field_at(card, 0);
+    let n = f.len;
+    let b = f.bytes;
+    if n < 1 {
+        return shown;
+    }
+    if 6 < n {
+        return shown;
+    }
+    if words::all_of(Class::Alnum, &b[..n]) {
+        return [b[0], b[1], b[2], b[3], b[4], b[5]];
+    }
+    shown
+}
+
+// Puts the line of an error.
+fn put_error(out: &mut [u8], at: usize, id: [u8; 6], error: CardError) -> usize
+    ensures { λ r. ⌜ Written (now (out .entry)) at (errorLine id error) (now (out .exit)) r ⌝ }
+{
+    let a = text::put_bytes(out, at, b"SP ");
+    let b = put::put_name(out, a, &id);
+    let c = text::put_bytes(out, b, b" ER ");
+    let d = text::put_decimal(out, c, error::number_of(error) as u64);
+    text::put_byte(out, d, b'\n')
+}
+
+// Puts the line of a request in the schedule.
+fn put_request(out: &mut [u8], at: usize, request: Request) -> usize
+    ensures { λ r. ⌜ Written (now (out .entry)) at (requestLine request) (now (out .exit)) r ⌝ }
+{
+    let id = request.id;
+    let a = put::put_name(out, at, &id);
+    let b = text::put_byte(out, a, b' ');
+    let c = put::put_priority(out, b, request);
+    text::put_byte(out, c, b'\n')
+}
+
+// Puts the lines of the schedule.
+fn put_schedule(out: &mut [u8], at: usize, schedule: Schedule) -> usize
+    ensures { λ r. ⌜ Written (now (out .entry)) at (scheduleText (held schedule)) (now (out .exit)) r ⌝ }
+{
+    let n = schedule_list::size(schedule);
+    let mut next = at;
+    let mut i: usize = 0;
+    while i < n {
+        let entry = schedule_list::entry_at(schedule, i);
+        let request = entry.request;
+        next = put_request(out, next, request);
+        i += 1;
+    }
+    next
+}
+
+// Puts the last line.
+fn put_last(out: &mut [u8], at: usize, id: [u8; 6]) -> usize
+    ensures { λ r. ⌜ Written (now (out .entry)) at (lastLine id) (now (out .exit)) r ⌝ }
+{
+    let a = put::put_name(out, at, &id);
+    text::put_bytes(out, a, b" SCH ACK\n")
+}
+
+// Puts the line of an error, nothing where there is none.
+fn put_verdict(out: &mut [u8], at: usize, shown: [u8; 6], verdict: Verdict) -> usize
+    ensures { λ r. ⌜ Written (now (out .entry)) at (lineBy verdict shown) (now (out .exit)) r ⌝ }
+{
+    match verdict {
+        Verdict::Good => at,
+        Verdict::Wrong(e) => put_error(out, at, shown, e),
+    }
+}
+
+// The last good ID: that of a request without error, else the one before.
+fn last_by(verdict: Verdict, last: [u8; 6], id: [u8; 6]) -> [u8; 6]
+    ensures { λ r. ⌜ r ≡ lastBy verdict last id ⌝ }
+{
+    match verdict {
+        Verdict::Good => id,
+        Verdict::Wrong(_) => last,
+    }
+}
+
+// A group's own error, or what entering its request answers.
+fn tried(schedule: Schedule, reading: Reading) -> Entering
+    ensures { λ r. ⌜ r ≡ tried schedule reading ⌝ }
+{
+    let verdict = reading.verdict;
+    let request = reading.request;
+    if error::is_good(verdict) {
+        return calls::enter(schedule, request);
+    }
+    Entering { verdict, schedule }
+}
+
+// Reads one group: puts its line if it has an error, and answers what has been read then.
+fn put_group(out: &mut [u8], at: usize, progress: Progress, group: &[u8]) -> Step
+    ensures { λ r. ⌜ Read (now (out .entry)) at progress (cardsOf (now (group .entry))) (now (out .exit)) r ⌝ }
+{
+    let schedule = progress.schedule;
+    let before = progress.shown;
+    let good = progress.last;
+    let shown = shown_by(deck::card_at(group, 0), before);
+    let reading = group::read_group(group);
+    let answer = tried(schedule, reading);
+    let verdict = answer.verdict;
+    let next = put_verdict(out, at, shown, verdict);
+    let request = reading.request;
+    let id = request.id;
+    let last = last_by(verdict, good, id);
+    let then = answer.schedule;
+    let progress = Progress {
+        schedule: then,
+        shown,
+        last,
+    };
+    Step { at: next, progress }
+}
+
+// What has been read before the first group.
+fn begin(schedule: Schedule) -> Progress
+    ensures { λ r. ⌜ r ≡ begin schedule ⌝ }
+{
+    Progress {
+        schedule,
+        shown: *b"------",
+        last: *b"------",
+    }
+}
+
+// Reads the groups in turn, each as the part of the deck that starts where the last one ended.
+fn put_groups(out: &mut [u8], part: &[u8], start: Progress) -> Step
+    ensures { λ r. ⌜ ReadAll (now (out .entry)) start (groupsOf (cardsOf (now (part .entry)))) (now (out .exit)) r ⌝ }
+{
+    let mut progress = start;
+    let mut at: usize = 0;
+    let mut from: usize = 0;
+    while from < part.len() {
+        let group = deck::first_group(&part[from..]);
+        let n = group.len();
+        if n == 0 {
+            return Step { at, progress };
+        }
+        let step = put_group(out, at, progress, group);
+        let then = step.progress;
+        progress = then;
+        at = step.at;
+        from += n;
+    }
+    Step { at, progress }
+}
+
+// The report of a deck's part before its termination card, read into an empty schedule.
+fn put_report(out: &mut [u8], part: &[u8]) -> usize
+    ensures { λ r. ⌜ Written (now (out .entry)) 0 (reportText (groupsOf (cardsOf (now (part .entry))))) (now (out .exit)) r ⌝ }
+{
+    let step = put_groups(out, part, begin(schedule_list::empty()));
+    let progress = step.progress;
+    let schedule = progress.schedule;
+    let last = progress.last;
+    let next = put_schedule(out, step.at, schedule);
+    put_last(out, next, last)
+}
+
+// The errors of a deck's part before its termination card, read into a schedule, and the last line.
+fn put_entered(out: &mut [u8], part: &[u8], schedule: Schedule) -> Entered
+    ensures { λ r. ⌜ Noted (now (out .entry)) schedule (groupsOf (cardsOf (now (part .entry)))) (now (out .exit)) r ⌝ }
+{
+    let step = put_groups(out, part, begin(schedule));
+    let progress = step.progress;
+    let followed = progress.schedule;
+    let last = progress.last;
+    let at = put_last(out, step.at, last);
+    Entered {
+        outcome: Outcome::Done,
+        schedule: followed,
+        at,
+    }
+}
+
+// The line of a refused deck.
+fn put_refused(out: &mut [u8], refusal: Refusal) -> usize
+    ensures { λ r. ⌜ Written (now (out .entry)) 0 (refusedText refusal) (now (out .exit)) r ⌝ }
+{
+    let words = text::put_bytes(out, 0, b"SCH ER ");
+    let number = text::put_decimal(out, words, numbers::number_of(refusal) as u64);
+    text::put_byte(out, number, b'\n')
+}
+
+// Puts what the deck program prints into lent room and answers its length. 53,248 bytes are enough; a smaller room gets what fits.
+pub fn report(deck: &[u8], out: &mut [u8]) -> usize
+    ensures { λ r. ⌜ Reported (now (deck .entry)) (now (out .entry)) (now (out .exit)) r ⌝ }
+{
+    let end = deck::deck_end(deck);
+    match end {
+        DeckEnd::At(n) => put_report(out, &deck[..n]),
+        DeckEnd::Refused(refusal) => put_refused(out, refusal),
+    }
+}
+
+// Reads a deck into a schedule and puts its error lines and the last line into lent room. 53,248 bytes are enough; a smaller room gets what fits. A
+// refused deck leaves the schedule and the room as they were.
+pub fn enter_deck(schedule: Schedule, deck: &[u8], out: &mut [u8]) -> Entered
+    ensures { λ r. ⌜ DeckEntered schedule (now (deck .entry)) (now (out .entry)) (now (out .exit)) r ⌝ }
+{
+    let end = deck::deck_end(deck);
+    match end {
+        DeckEnd::At(n) => put_entered(out, &deck[..n], schedule),
+        DeckEnd::Refused(refusal) => Entered {
+            outcome: Outcome::Refused(refusal),
+            schedule,
+            at: 0,
+        },
+    }
+}

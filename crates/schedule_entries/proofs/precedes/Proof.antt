@@ -1,0 +1,20 @@
+-- `entries::precedes` meets its contract: letter, precedence and sequence, by the tests that led there. Assumes nothing.
+use borrow.Author.Tests.{eq-eqb, ne-eqb}
+use Rattle.schedule_entries.specs.Entries.{precedes}
+use Rattle.schedule_entries.proofs.precedes.Statement.{statement}
+use Rattle.schedule_entries.proofs.precedes.Tie as tie
+
+returns : tie.Need-returns
+unfolding precedes
+returns c = rw (eq-eqb (c .before .before .before .before .before .before .before .before .args .a .letter) (c .before .before .before .before .before .before .before .before .args .b .letter) (c .before .before .before .before .before .if1 .taken), eq-eqb (c .before .before .before .before .before .before .before .before .args .a .precedence) (c .before .before .before .before .before .before .before .before .args .b .precedence) (c .before .before .if2 .taken))
+
+returns-2 : tie.Need-returns-2
+unfolding precedes
+returns-2 c = rw (eq-eqb (c .before .before .before .before .before .before .before .before .args .a .letter) (c .before .before .before .before .before .before .before .before .args .b .letter) (c .before .before .before .before .before .if1 .taken), ne-eqb (c .before .before .before .before .before .before .before .before .args .a .precedence) (c .before .before .before .before .before .before .before .before .args .b .precedence) (c .before .before .if2 .left))
+
+returns-3 : tie.Need-returns-3
+unfolding precedes
+returns-3 c = rw (ne-eqb (c .before .before .before .before .before .args .a .letter) (c .before .before .before .before .before .args .b .letter) (c .before .before .if1 .left))
+
+pub precedes-spec : {M : Type 1} → statement M
+precedes-spec = tie.close (tie.spec returns returns-2 returns-3)

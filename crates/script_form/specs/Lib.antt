@@ -1,6 +1,0 @@
-pub mod Written
-pub mod SpacedLaws
-pub mod NumberLaws
-pub mod RowLaws
-pub mod TableLaws
-pub mod Meaning

@@ -1,0 +1,54 @@
+-- `answer_text::put_started` meets its contract: one piece after the other. Assumes nothing.
+use Rattle.text.proofs.RoomLaws.{andThen}
+use borrow.Author.Needs.{needs}
+use Rattle.shift_answers.proofs.put_started.Statement.{statement}
+use Rattle.shift_answers.proofs.put_started.Tie as tie
+
+slice-aggregate-put-bytes : tie.Need-slice-aggregate-put-bytes
+slice-aggregate-put-bytes c = search needs
+
+put-bytes-requires : tie.Need-put-bytes-requires
+put-bytes-requires c κs = search needs
+
+put-packet-requires : tie.Need-put-packet-requires
+put-packet-requires c κs = search needs
+
+put-byte-requires : tie.Need-put-byte-requires
+put-byte-requires c κs = search needs
+
+put-octal-requires : tie.Need-put-octal-requires
+put-octal-requires c κs = search needs
+
+put-byte-requires-2 : tie.Need-put-byte-requires-2
+put-byte-requires-2 c κs = search needs
+
+cast-put-decimal : tie.Need-cast-put-decimal
+cast-put-decimal c = search needs
+
+put-decimal-requires : tie.Need-put-decimal-requires
+put-decimal-requires c κs = search needs
+
+put-byte-requires-3 : tie.Need-put-byte-requires-3
+put-byte-requires-3 c κs = search needs
+
+same-length : tie.Need-same-length
+same-length c = search needs
+
+returns : tie.Need-returns
+returns c = andThen (c .before .before .before .before .before .before .before .before .before .before .before .before .before .before .before .before .before .before .before .before .before .before .before .before .before .before .before .put-bytes .ensures) (andThen (c .before .before .before .before .before .before .before .before .before .before .before .before .before .before .before .before .before .before .before .before .before .before .before .put-packet .ensures) (andThen (c .before .before .before .before .before .before .before .before .before .before .before .before .before .before .before .before .before .before .before .put-byte .ensures) (andThen (c .before .before .before .before .before .before .before .before .before .before .before .before .before .before .before .put-octal .ensures) (andThen (c .before .before .before .before .before .before .before .before .before .before .before .put-byte2 .ensures) (andThen (c .before .before .before .before .before .before .put-decimal .ensures) (c .before .before .put-byte3 .ensures))))))
+
+pub put-started-spec : {M : Type 1} → statement M
+put-started-spec =
+    tie.close
+    (tie.spec
+    slice-aggregate-put-bytes
+    put-bytes-requires
+    put-packet-requires
+    put-byte-requires
+    put-octal-requires
+    put-byte-requires-2
+    cast-put-decimal
+    put-decimal-requires
+    put-byte-requires-3
+    same-length
+    returns)

@@ -1,0 +1,77 @@
+// What a call answers, as one line of text in lent room.
+
+use numbers::Refusal;
+use packets::Begun;
+use packets::Status;
+ghost use Rattle.text.specs.Room.{Written};
+ghost use Rattle.shift_answers.specs.Answers.{refusedText, doneText, startedText, completedText, statusWord, statusText, noCallText};
+
+// A refused call.
+pub fn put_refused(out: &mut [u8], at: usize, refusal: Refusal) -> usize
+    ensures { λ r. ⌜ Written (now (out .entry)) at (refusedText refusal) (now (out .exit)) r ⌝ }
+{
+    let word = text::put_bytes(out, at, b"NO ");
+    let number = text::put_decimal(out, word, numbers::number_of(refusal) as u64);
+    text::put_byte(out, number, b'\n')
+}
+
+// A call that answers nothing else.
+pub fn put_done(out: &mut [u8], at: usize) -> usize
+    ensures { λ r. ⌜ Written (now (out .entry)) at doneText (now (out .exit)) r ⌝ }
+{
+    text::put_bytes(out, at, b"ACK\n")
+}
+
+// A start: place, packet, function, unit or address.
+pub fn put_started(out: &mut [u8], at: usize, begun: Begun) -> usize
+    ensures { λ r. ⌜ Written (now (out .entry)) at (startedText begun) (now (out .exit)) r ⌝ }
+{
+    let word = text::put_bytes(out, at, b"ACK ");
+    let packet = shift_pieces::put_packet(out, word, begun.place, begun.packet);
+    let space = text::put_byte(out, packet, b' ');
+    let function = shift_pieces::put_octal(out, space, begun.function);
+    let gap = text::put_byte(out, function, b' ');
+    let spot = text::put_decimal(out, gap, begun.at as u64);
+    text::put_byte(out, spot, b'\n')
+}
+
+// A completion: the place and number of the packet that it ends.
+pub fn put_completed(out: &mut [u8], at: usize, place: u8, packet: u8) -> usize
+    ensures { λ r. ⌜ Written (now (out .entry)) at (completedText place packet) (now (out .exit)) r ⌝ }
+{
+    let word = text::put_bytes(out, at, b"ACK ");
+    let next = shift_pieces::put_packet(out, word, place, packet);
+    text::put_byte(out, next, b'\n')
+}
+
+// The word for a packet's status; an ended one's with its code.
+fn put_status_word(out: &mut [u8], at: usize, status: Status) -> usize
+    ensures { λ r. ⌜ Written (now (out .entry)) at (statusWord status) (now (out .exit)) r ⌝ }
+{
+    match status {
+        Status::Blank => text::put_bytes(out, at, b"BLANK"),
+        Status::Listed => text::put_bytes(out, at, b"LISTED"),
+        Status::InProgress => text::put_bytes(out, at, b"MOVING"),
+        Status::Stopping => text::put_bytes(out, at, b"STOPPING"),
+        Status::Ended(code) => {
+            let word = text::put_bytes(out, at, b"ENDED ");
+            shift_pieces::put_octal(out, word, code)
+        }
+    }
+}
+
+// A packet's status.
+pub fn put_status(out: &mut [u8], at: usize, status: Status) -> usize
+    ensures { λ r. ⌜ Written (now (out .entry)) at (statusText status) (now (out .exit)) r ⌝ }
+{
+    let word = text::put_bytes(out, at, b"ACK ");
+    let next = put_status_word(out, word, status);
+    text::put_byte(out, next, b'\n')
+}
+
+// A line that is no call.
+pub fn put_no_call(out: &mut [u8], at: usize) -> usize
+    ensures { λ r. ⌜ Written (now (out .entry)) at noCallText (now (out .exit)) r ⌝ }
+{
+    text::put_bytes(out, at, b"??\n")
+}

@@ -1,0 +1,112 @@
+-- What is answered to a line of the script, and the cell then: the script's table, last column.
+use Prim.Native.Nat.{ℕ, min}
+use mathlib.Core.Path.{_≡_}
+use mathlib.Core.Bool.{cond}
+use mathlib.Core.List.{List, [], _++_}
+use Rattle.numbers.specs.Quoted.{bytes}
+use Rattle.numbers.specs.declared.Outcome.{Outcome}
+use Rattle.numbers.specs.declared.Outcome.the-variants as Outcome′
+use Rattle.channels.specs.declared.Channel.{Channel}
+use Rattle.text.specs.Room.{Written}
+use Rattle.schedule_deck.specs.Report.{deckNotes, deckSchedule, deckOutcome}
+use Rattle.packets.specs.Rules as Rules
+use Rattle.packets.specs.State.{drumOn}
+use Rattle.packets.specs.declared.Answer.{Answer}
+use Rattle.packets.specs.declared.Answer.the-variants as Answer′
+use Rattle.packets.specs.declared.Spot.{Spot}
+use Rattle.packets.specs.declared.Spot.the-variants.{OnUnit, OnDrum}
+use Rattle.cell_selection.specs.declared.Selection.{Selection}
+use Rattle.cell.specs.Calls.{cellOf, acted, releasing, deleting, statusOf, SelectsIn}
+use Rattle.cell.specs.declared.Answered.{Answered}
+use Rattle.cell.specs.declared.Cell.{Cell}
+use Rattle.cell.specs.declared.SelectAnswer.{SelectAnswer}
+use Rattle.cell.specs.declared.StatusAnswer.{StatusAnswer}
+use Rattle.cell.specs.declared.StatusAnswer.the-variants as Status′
+use Rattle.shift_answers.specs.Answers.{refusedText, doneText, startedText, completedText, statusText, noCallText}
+use Rattle.shift_selected.specs.Selected.{selectedText}
+use Rattle.board.specs.Board.{boardText}
+use Rattle.shift_script.specs.declared.Submission.{Submission}
+use Rattle.shift_script.specs.declared.Line.{Line}
+use Rattle.shift_script.specs.declared.Line.the-variants as Line′
+use Rattle.shift_script.specs.declared.Said.{Said}
+use Rattle.shift_reply.specs.declared.Replied.{Replied}
+
+-- ---- the texts
+
+-- the line of an answer
+abbrev pub answerText : Answer → List ℕ
+answerText Answer′.Done = doneText
+answerText (Answer′.Started begun) = startedText begun
+answerText (Answer′.Completed place packet leaving) = completedText place packet
+answerText (Answer′.Closed leaving) = doneText
+answerText (Answer′.Refused refusal) = refusedText refusal
+
+-- `NO n` for a refused call, nothing else
+abbrev pub refusalText : Outcome → List ℕ
+refusalText Outcome′.Done = []
+refusalText (Outcome′.Refused refusal) = refusedText refusal
+
+-- "`STATUS p k`: a packet's status"
+abbrev pub statusAnswerText : StatusAnswer → List ℕ
+statusAnswerText (Status′.Is status) = statusText status
+statusAnswerText (Status′.Refused refusal) = refusedText refusal
+
+-- "`SELECT`: `ACK p id ` and the assignment"
+abbrev pub selectText : Outcome → Selection → List Channel → List ℕ
+selectText Outcome′.Done selection channels = selectedText (selection .place) (selection .request) (selection .assigned) channels
+selectText (Outcome′.Refused refusal) selection channels = refusedText refusal
+
+-- "echoed as it stands"
+abbrev pub echoText : List ℕ → List ℕ
+echoText line = line ++ bytes "\n"
+
+-- "x the unit, or on the drum channel the address, or for 23 there L, with h as H"; a unit number over 255 is out of range as 255 is
+unfoldable pub spotOf : List Channel → Submission → Spot
+spotOf channels s = cond (drumOn channels (s .channel .0)) (OnDrum (s .at) (s .to)) (OnUnit (record { 0 = min (s .at) 255 }))
+
+-- "submission of packet k by place p"
+abbrev pub submitting : Cell → Submission → Answered
+submitting cell s = acted cell (Rules.Submit (s .place) (s .packet) (s .function) (s .channel .0) (spotOf (cell .lists .channels) s))
+
+-- ---- what a line leaves: the text from the room's start on, cut at its end, and the cell
+
+-- this text, and this cell
+pub record Shows (text : List ℕ) (next : Cell) (room after : List ℕ) (r : Replied) : Type 0 where
+  pub cell : r .cell ≡ next
+  pub put : Written room 0 text after (r .at)
+
+-- the answer of a call, and its cell
+abbrev pub Gives : Answered → List ℕ → List ℕ → Replied → Type 0
+Gives a room after r = Shows (answerText (a .answer)) (a .cell) room after r
+
+-- a selection: what is selected is as cell/specs/Calls.antt says
+pub record Selects (cell : Cell) (room after : List ℕ) (r : Replied) : Type 0 where
+  pub answer : SelectAnswer
+  pub selects : SelectsIn cell answer
+  pub shows : Shows (selectText (answer .outcome) (answer .selection) (cell .lists .channels)) (answer .cell) room after r
+
+-- a deck entered: its error lines and the last line; where it is refused, that
+abbrev pub deckReply : Cell → List ℕ → List ℕ
+deckReply cell deck = deckNotes (cell .schedule) deck ++ refusalText (deckOutcome deck)
+
+abbrev pub deckCell : Cell → List ℕ → Cell
+deckCell cell deck = cellOf (deckSchedule (cell .schedule) deck) (cell .lists)
+
+abbrev pub EntersDeck : Cell → List ℕ → List ℕ → List ℕ → Replied → Type 0
+EntersDeck cell deck room after r = Shows (deckReply cell deck) (deckCell cell deck) room after r
+
+-- THE ANSWER TO A LINE: what it says, the ID that it names, and the line itself; `DECK` is answered when its deck has been gathered
+abbrev pub Replies : Cell → Line → List ℕ → List ℕ → List ℕ → List ℕ → Replied → Type 0
+Replies cell Line′.NoCall id line room after r = Shows noCallText cell room after r
+Replies cell Line′.Echo id line room after r = Shows (echoText line) cell room after r
+Replies cell Line′.Deck id line room after r = Shows [] cell room after r
+Replies cell Line′.Select id line room after r = Selects cell room after r
+Replies cell Line′.Board id line room after r = Shows (boardText (cell .lists) (cell .schedule)) cell room after r
+Replies cell (Line′.Submit s) id line room after r = Gives (submitting cell s) room after r
+Replies cell (Line′.Start channel) id line room after r = Gives (acted cell (Rules.Start (channel .0))) room after r
+Replies cell (Line′.Complete channel how) id line room after r = Gives (acted cell (Rules.Complete (channel .0) how)) room after r
+Replies cell (Line′.End place inError) id line room after r = Gives (acted cell (Rules.End place inError)) room after r
+Replies cell (Line′.Mark channel unit mark on) id line room after r = Gives (acted cell (Rules.Mark (channel .0) (unit .0) mark on)) room after r
+Replies cell Line′.Release id line room after r = Gives (releasing cell id) room after r
+Replies cell Line′.Delete id line room after r = Gives (deleting cell id) room after r
+Replies cell (Line′.Status place packet) id line room after r = Shows (statusAnswerText (statusOf cell place packet)) cell room after r

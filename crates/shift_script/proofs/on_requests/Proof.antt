@@ -1,0 +1,98 @@
+-- `script::on_requests` meets its contract: each answer by the rows that did not fit and the one that did. Assumes nothing.
+use Prim.Native.Nat.{ℕ}
+use mathlib.Core.Path.{sym, _∙_, ap₂}
+use Rattle.shift_script.specs.Script.{said, sayBy, table}
+use Rattle.shift_script.specs.declared.Line.the-variants.{Status}
+use borrow.Author.Needs.{needs}
+use Rattle.shift_script.proofs.on_requests.Statement.{statement}
+use Rattle.shift_script.proofs.on_requests.Tie as tie
+
+slice-aggregate-fits : tie.Need-slice-aggregate-fits
+slice-aggregate-fits c = search needs
+
+fits-requires : tie.Need-fits-requires
+fits-requires c κs = search needs
+
+naming-requires : tie.Need-naming-requires
+naming-requires c κs = search needs
+
+returns : tie.Need-returns
+unfolding sayBy table
+returns c = c .naming .ensures ∙ rw (sym (c .before .before .fits2 .ensures) ∙ c .before .if1 .taken)
+
+slice-aggregate-fits-2 : tie.Need-slice-aggregate-fits-2
+slice-aggregate-fits-2 c = search needs
+
+fits-requires-2 : tie.Need-fits-requires-2
+fits-requires-2 c κs = search needs
+
+naming-requires-2 : tie.Need-naming-requires-2
+naming-requires-2 c κs = search needs
+
+returns-2 : tie.Need-returns-2
+unfolding sayBy table
+returns-2 c = c .naming2 .ensures ∙ rw (sym (c .before .before .before .before .before .fits2 .ensures) ∙ c .before .before .before .before .if1 .left, sym (c .before .before .fits3 .ensures) ∙ c .before .if2 .taken)
+
+slice-aggregate-fits-3 : tie.Need-slice-aggregate-fits-3
+slice-aggregate-fits-3 c = search needs
+
+fits-requires-3 : tie.Need-fits-requires-3
+fits-requires-3 c κs = search needs
+
+small-at-requires : tie.Need-small-at-requires
+small-at-requires c κs = search needs
+
+small-at-requires-2 : tie.Need-small-at-requires-2
+small-at-requires-2 c κs = search needs
+
+plain-requires : tie.Need-plain-requires
+plain-requires c κs = search needs
+
+returns-3 : tie.Need-returns-3
+unfolding sayBy table
+returns-3 c = c .plain .ensures ∙ ap₂ (λ (p k : ℕ). said (Status p k)) (c .before .before .small-at .ensures) (c .before .small-at2 .ensures) ∙ rw (sym (c .before .before .before .before .before .before .before .before .before .before .fits2 .ensures) ∙ c .before .before .before .before .before .before .before .before .before .if1 .left, sym (c .before .before .before .before .before .before .before .fits3 .ensures) ∙ c .before .before .before .before .before .before .if2 .left, sym (c .before .before .before .before .fits4 .ensures) ∙ c .before .before .before .if3 .taken)
+
+slice-aggregate-fits-4 : tie.Need-slice-aggregate-fits-4
+slice-aggregate-fits-4 c = search needs
+
+fits-requires-4 : tie.Need-fits-requires-4
+fits-requires-4 c κs = search needs
+
+plain-requires-2 : tie.Need-plain-requires-2
+plain-requires-2 c κs = search needs
+
+returns-4 : tie.Need-returns-4
+unfolding sayBy table
+returns-4 c = c .plain2 .ensures ∙ rw (sym (c .before .before .before .before .before .before .before .before .before .before .before .fits2 .ensures) ∙ c .before .before .before .before .before .before .before .before .before .before .if1 .left, sym (c .before .before .before .before .before .before .before .before .fits3 .ensures) ∙ c .before .before .before .before .before .before .before .if2 .left, sym (c .before .before .before .before .before .fits4 .ensures) ∙ c .before .before .before .before .if3 .left, sym (c .before .before .fits5 .ensures) ∙ c .before .if4 .taken)
+
+plain-requires-3 : tie.Need-plain-requires-3
+plain-requires-3 c κs = search needs
+
+returns-5 : tie.Need-returns-5
+unfolding sayBy table
+returns-5 c = c .plain3 .ensures ∙ rw (sym (c .before .before .before .before .before .before .before .before .before .before .before .fits2 .ensures) ∙ c .before .before .before .before .before .before .before .before .before .before .if1 .left, sym (c .before .before .before .before .before .before .before .before .fits3 .ensures) ∙ c .before .before .before .before .before .before .before .if2 .left, sym (c .before .before .before .before .before .fits4 .ensures) ∙ c .before .before .before .before .if3 .left, sym (c .before .before .fits5 .ensures) ∙ c .before .if4 .left)
+
+pub on-requests-spec : {M : Type 1} → statement M
+on-requests-spec =
+    tie.close
+    (tie.spec
+    slice-aggregate-fits
+    fits-requires
+    naming-requires
+    returns
+    slice-aggregate-fits-2
+    fits-requires-2
+    naming-requires-2
+    returns-2
+    slice-aggregate-fits-3
+    fits-requires-3
+    small-at-requires
+    small-at-requires-2
+    plain-requires
+    returns-3
+    slice-aggregate-fits-4
+    fits-requires-4
+    plain-requires-2
+    returns-4
+    plain-requires-3
+    returns-5)

@@ -1,0 +1,44 @@
+-- `script::read_line` meets its contract: each answer by the tests that led there. Assumes nothing.
+use mathlib.Core.Path.{sym, _∙_}
+use lib.ListN.{length}
+use borrow.Author.Tests.{lt-ltb, le-ltb}
+use Rattle.shift_script.specs.Script.{lineSays}
+use borrow.Author.Needs.{needs}
+use Rattle.shift_script.proofs.read_line.Statement.{statement}
+use Rattle.shift_script.proofs.read_line.Tie as tie
+
+plain-requires : tie.Need-plain-requires
+plain-requires c κs = search needs
+
+returns : tie.Need-returns
+unfolding lineSays
+returns c = c .plain .ensures ∙ rw (lt-ltb 255 (length (c .before .before .before .args .line .now)) (c .before .if1 .taken))
+
+is-echo-requires : tie.Need-is-echo-requires
+is-echo-requires c κs = search needs
+
+plain-requires-2 : tie.Need-plain-requires-2
+plain-requires-2 c κs = search needs
+
+returns-2 : tie.Need-returns-2
+unfolding lineSays
+returns-2 c = c .plain2 .ensures ∙ rw (le-ltb 255 (length (c .before .before .before .before .before .args .line .now)) (c .before .before .before .if1 .left), sym (c .before .before .is-echo .ensures) ∙ c .before .if2 .taken)
+
+on-packets-requires : tie.Need-on-packets-requires
+on-packets-requires c κs = search needs
+
+returns-3 : tie.Need-returns-3
+unfolding lineSays
+returns-3 c = c .on-packets .ensures ∙ rw (le-ltb 255 (length (c .before .before .before .before .before .args .line .now)) (c .before .before .before .if1 .left), sym (c .before .before .is-echo .ensures) ∙ c .before .if2 .left)
+
+pub read-line-spec : {M : Type 1} → statement M
+read-line-spec =
+    tie.close
+    (tie.spec
+    plain-requires
+    returns
+    is-echo-requires
+    plain-requires-2
+    returns-2
+    on-packets-requires
+    returns-3)

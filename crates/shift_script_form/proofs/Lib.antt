@@ -1,0 +1,5 @@
+pub mod SpacedLaws
+pub mod NumberLaws
+pub mod RowLaws
+pub mod TableLaws
+pub mod Meaning

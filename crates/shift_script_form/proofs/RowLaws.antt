@@ -1,0 +1,102 @@
+-- What the words of each row of the table say, whatever words write its numbers. The table's words are compared by computing. Assumes nothing.
+use Prim.Native.Nat.{ℕ, min, _≤_, _<_}
+use mathlib.Core.Path.{_≡_, refl}
+use mathlib.Core.Bool.{true, false}
+use mathlib.Core.List.{List, [], _∷_}
+use native.Mathlib.Omega.{arith}
+use lib.ListN.{length}
+use borrow.Author.Tests.{lt-ltb}
+use Rattle.numbers.specs.Quoted.{bytes}
+use Rattle.text.specs.Class.{isLetter}
+use Rattle.units.specs.declared.Mark.the-variants as Mark′
+use Rattle.packets.specs.declared.How.the-variants.{Full, Cut, Failed}
+use Rattle.shift_words.specs.declared.Base.the-variants.{Decimal, Octal}
+use Rattle.shift_words.specs.Forms.{wordsOf, wordFits, fitting, idOf}
+use Rattle.shift_script.specs.declared.Submission.{Submission}
+use Rattle.shift_script.specs.declared.Line.the-variants.{Deck, Select, Board, Submit, Start, Complete, End, Mark, Release, Delete, Status}
+use Rattle.shift_script.specs.declared.Said.{Said}
+use Rattle.shift_script.specs.Script.{said, table, sayBy}
+use Rattle.shift_script_form.proofs.NumberLaws.{Writes}
+
+small : (n : ℕ) → n ≤ 255 → min n 255 ≡ n
+small n h = omega arith
+
+pub deck-row : sayBy table (bytes "DECK" ∷ []) ≡ said Deck
+unfolding sayBy table fitting wordFits wordsOf isLetter
+deck-row = refl
+
+pub select-row : sayBy table (bytes "SELECT" ∷ []) ≡ said Select
+unfolding sayBy table fitting wordFits wordsOf isLetter
+select-row = refl
+
+pub board-row : sayBy table (bytes "BOARD" ∷ []) ≡ said Board
+unfolding sayBy table fitting wordFits wordsOf isLetter
+board-row = refl
+
+module _ {a : List ℕ} {m : ℕ} (v : Writes Decimal m a) (h : m ≤ 255) where
+  pub start-row : sayBy table (bytes "START" ∷ a ∷ []) ≡ said (Start (record { 0 = m }))
+  unfolding sayBy table fitting wordFits wordsOf isLetter
+  start-row = rw (v .number, v .value, small m h)
+
+  pub done-row : sayBy table (bytes "DONE" ∷ a ∷ []) ≡ said (Complete (record { 0 = m }) Full)
+  unfolding sayBy table fitting wordFits wordsOf isLetter
+  done-row = rw (v .number, v .value, small m h)
+
+  pub cut-row : sayBy table (bytes "CUT" ∷ a ∷ []) ≡ said (Complete (record { 0 = m }) Cut)
+  unfolding sayBy table fitting wordFits wordsOf isLetter
+  cut-row = rw (v .number, v .value, small m h)
+
+  pub end-row : sayBy table (bytes "END" ∷ a ∷ []) ≡ said (End m false)
+  unfolding sayBy table fitting wordFits wordsOf isLetter
+  end-row = rw (v .number, v .value, small m h)
+
+  pub abort-row : sayBy table (bytes "ABORT" ∷ a ∷ []) ≡ said (End m true)
+  unfolding sayBy table fitting wordFits wordsOf isLetter
+  abort-row = rw (v .number, v .value, small m h)
+
+  module _ {c : List ℕ} {n : ℕ} (w : Writes Decimal n c) (k : n ≤ 255) where
+    pub down-row : sayBy table (bytes "DOWN" ∷ a ∷ c ∷ []) ≡ said (Mark (record { 0 = m }) (record { 0 = n }) Mark′.Down true)
+    unfolding sayBy table fitting wordFits wordsOf isLetter
+    down-row = rw (v .number, v .value, w .number, w .value, small m h, small n k)
+
+    pub up-row : sayBy table (bytes "UP" ∷ a ∷ c ∷ []) ≡ said (Mark (record { 0 = m }) (record { 0 = n }) Mark′.Down false)
+    unfolding sayBy table fitting wordFits wordsOf isLetter
+    up-row = rw (v .number, v .value, w .number, w .value, small m h, small n k)
+
+    pub reserve-row : sayBy table (bytes "RESERVE" ∷ a ∷ c ∷ []) ≡ said (Mark (record { 0 = m }) (record { 0 = n }) Mark′.Reserved true)
+    unfolding sayBy table fitting wordFits wordsOf isLetter
+    reserve-row = rw (v .number, v .value, w .number, w .value, small m h, small n k)
+
+    pub unreserve-row : sayBy table (bytes "UNRESERVE" ∷ a ∷ c ∷ []) ≡ said (Mark (record { 0 = m }) (record { 0 = n }) Mark′.Reserved false)
+    unfolding sayBy table fitting wordFits wordsOf isLetter
+    unreserve-row = rw (v .number, v .value, w .number, w .value, small m h, small n k)
+
+    pub status-row : sayBy table (bytes "STATUS" ∷ a ∷ c ∷ []) ≡ said (Status m n)
+    unfolding sayBy table fitting wordFits wordsOf isLetter
+    status-row = rw (v .number, v .value, w .number, w .value, small m h, small n k)
+
+  pub fail-row : {c : List ℕ} {n : ℕ} → Writes Octal n c → n ≤ 255 → sayBy table (bytes "FAIL" ∷ a ∷ c ∷ []) ≡ said (Complete (record { 0 = m }) (Failed n))
+  unfolding sayBy table fitting wordFits wordsOf isLetter
+  fail-row {n = n} w k = rw (v .number, v .value, w .number, w .value, small m h, small n k)
+
+module _ (a : List ℕ) (h : 0 < length a) where
+  pub release-row : sayBy table (bytes "RELEASE" ∷ a ∷ []) ≡ record { line = Release; id = idOf a }
+  unfolding sayBy table fitting wordFits wordsOf isLetter
+  release-row = rw (lt-ltb 0 (length a) h)
+
+  pub delete-row : sayBy table (bytes "DELETE" ∷ a ∷ []) ≡ record { line = Delete; id = idOf a }
+  unfolding sayBy table fitting wordFits wordsOf isLetter
+  delete-row = rw (lt-ltb 0 (length a) h)
+
+-- a submission with H; without, H is 0
+module _ (s : Submission) (j : s .place ≤ 255) (k : s .packet ≤ 255) (f : s .function ≤ 255) (c : s .channel .0 ≤ 255)
+    {p q r u x : List ℕ} (a : Writes Decimal (s .place) p) (b : Writes Decimal (s .packet) q) (d : Writes Octal (s .function) r) (e : Writes Decimal (s .channel .0) u) (g : Writes Decimal (s .at) x) where
+  pub submit-row : {y : List ℕ} → Writes Decimal (s .to) y → sayBy table (bytes "SUBMIT" ∷ p ∷ q ∷ r ∷ u ∷ x ∷ y ∷ []) ≡ said (Submit s)
+  unfolding sayBy table fitting wordFits wordsOf isLetter
+  submit-row w =
+      rw (a .number, b .number, d .number, e .number, g .number, w .number, a .value, b .value, d .value, e .value, g .value, w .value, small (s .place) j, small (s .packet) k, small (s .function) f, small (s .channel .0) c)
+
+  pub short-row : s .to ≡ 0 → sayBy table (bytes "SUBMIT" ∷ p ∷ q ∷ r ∷ u ∷ x ∷ []) ≡ said (Submit s)
+  unfolding sayBy table fitting wordFits wordsOf isLetter
+  short-row z =
+      rw (a .number, b .number, d .number, e .number, g .number, a .value, b .value, d .value, e .value, g .value, small (s .place) j, small (s .packet) k, small (s .function) f, small (s .channel .0) c, ← z)

@@ -1,0 +1,26 @@
+-- `turns::entered` meets its contract. Assumes nothing.
+use mathlib.Core.Path.{sym}
+use lib.Seq.{length-take-le}
+use Rattle.shift_turns.proofs.TurnLaws.{entered}
+use borrow.Author.Needs.{needs}
+use Rattle.shift_turns.proofs.entered.Statement.{statement}
+use Rattle.shift_turns.proofs.entered.Tie as tie
+
+slice-aggregate-enter : tie.Need-slice-aggregate-enter
+slice-aggregate-enter c = sym (length-take-le (c .before .before .before .args .n) (c .before .before .before .args .room .now) (c .before .before .before .pre))
+
+enter-requires : tie.Need-enter-requires
+enter-requires c κs = search needs
+
+turned-requires : tie.Need-turned-requires
+turned-requires c κs = search needs
+
+same-length : tie.Need-same-length
+same-length c = search needs
+
+returns : tie.Need-returns
+returns c = entered (c .before .before .before .before .enter .ensures) (c .turned .ensures)
+
+pub entered-spec : {M : Type 1} → statement M
+entered-spec =
+    tie.close (tie.spec slice-aggregate-enter enter-requires turned-requires same-length returns)

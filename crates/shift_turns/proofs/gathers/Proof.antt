@@ -1,0 +1,59 @@
+-- `turns::gathers` meets its contract: by whether the deck is too long, and whether the card is the termination card. Assumes nothing.
+use mathlib.Core.Path.{refl, sym, _∙_}
+use Rattle.shift_turns.proofs.TurnLaws.{silent, entered, deck-within, gathered}
+use borrow.Author.Needs.{needs}
+use Rattle.shift_turns.proofs.gathers.Statement.{statement}
+use Rattle.shift_turns.proofs.gathers.Tie as tie
+
+add-requires : tie.Need-add-requires
+add-requires c κs = search needs
+
+enum-known-n : tie.Need-enum-known-n
+enum-known-n c = search needs
+
+enum-told : tie.Need-enum-told
+enum-told c = search needs
+
+passes-requires : tie.Need-passes-requires
+passes-requires c κs = search needs
+
+same-length : tie.Need-same-length
+same-length c = search needs
+
+returns : tie.Need-returns
+returns c = gathered (c .before .before .before .before .before .before .add .ensures) (c .before .before .before .before .enum-told .given .1) refl (c .before .before .passes .ensures)
+
+is-last-requires : tie.Need-is-last-requires
+is-last-requires c κs = search needs
+
+entered-requires : tie.Need-entered-requires
+entered-requires c κs = let d = deck-within (c .before .before .before .before .before .before .before .before .add .ensures) (c .before .before .before .before .before .before .n .given .1) in search needs
+
+same-length-2 : tie.Need-same-length-2
+same-length-2 c = search needs
+
+returns-2 : tie.Need-returns-2
+returns-2 c = gathered (c .before .before .before .before .before .before .before .before .before .before .before .add .ensures) (c .before .before .before .before .before .before .before .before .before .n .given .1) (sym (c .before .before .before .before .before .before .if1 .taken) ∙ c .before .before .before .before .before .before .before .is-last .ensures) (c .before .before .entered .ensures)
+
+turned-requires : tie.Need-turned-requires
+turned-requires c κs = search needs
+
+returns-3 : tie.Need-returns-3
+returns-3 c = gathered (c .before .before .before .before .before .before .add .ensures) (c .before .before .before .before .n .given .1) (sym (c .before .if1 .left) ∙ c .before .before .is-last .ensures) (silent (c .turned .ensures))
+
+pub gathers-spec : {M : Type 1} → statement M
+gathers-spec =
+    tie.close
+    (tie.spec
+    add-requires
+    enum-known-n
+    enum-told
+    passes-requires
+    same-length
+    returns
+    is-last-requires
+    entered-requires
+    same-length-2
+    returns-2
+    turned-requires
+    returns-3)

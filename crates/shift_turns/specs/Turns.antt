@@ -1,0 +1,163 @@
+-- A shift line by line: what each line does, and what is answered to it.
+use Prim.Native.Nat.{ℕ, min, _≤_}
+use mathlib.Core.Path.{_≡_}
+use mathlib.Core.Bool.{Bool, true, false, cond}
+use mathlib.Core.List.{List, [], _∷_, _++_}
+use lib.Dec.{ltb}
+use lib.ListN.{length, take}
+use Rattle.numbers.specs.declared.Refusal.the-variants.{BadDeck}
+use Rattle.text.specs.Room.{Written}
+use Rattle.channels.specs.Channels.{noChannels, noDown}
+use Rattle.cards_fields.specs.Deck.{isTermination}
+use Rattle.shift_begin.specs.Opening.{openingOf}
+use Rattle.shift_begin.specs.declared.Begun.{Begun}
+use Rattle.shift_begin.specs.declared.Begun.the-variants as Begun′
+use Rattle.shift_begin.specs.declared.Beginning.{Beginning}
+use Rattle.shift_deck.specs.Gathering.{cardText, Adds}
+use Rattle.shift_deck.specs.declared.Gathered.{Gathered}
+use Rattle.shift_deck.specs.declared.Gathered.the-variants as Gathered′
+use Rattle.configuration_listing.specs.Listing.{errorText}
+use Rattle.shift_answers.specs.Answers.{refusedText}
+use Rattle.cell.specs.Calls.{freshCell}
+use Rattle.cell.specs.declared.Cell.{Cell}
+use Rattle.shift_script.specs.Script.{lineSays}
+use Rattle.shift_script.specs.declared.Line.{Line}
+use Rattle.shift_script.specs.declared.Line.the-variants as Line′
+use Rattle.shift_reply.specs.Replies.{Replies, deckReply, deckCell}
+use Rattle.shift_reply.specs.declared.Replied.{Replied}
+use Rattle.shift_turns.specs.declared.Phase.{Phase}
+use Rattle.shift_turns.specs.declared.Phase.the-variants as Phase′
+use Rattle.shift_turns.specs.declared.Shift.{Shift}
+use Rattle.shift_turns.specs.declared.Turn.{Turn}
+
+abbrev pub shiftOf : Phase → Cell → Shift
+shiftOf phase cell = record { phase = phase; cell = cell }
+
+-- before the first line: nothing of the configuration is there, and the cell is the fresh one of none
+abbrev pub freshShift : Shift
+freshShift = shiftOf (Phase′.Begins 0) (freshCell (record { channels = noChannels; down = noDown }))
+
+-- this text from the room's start on, cut at its end, and this shift
+pub record Says (text : List ℕ) (next : Shift) (out after : List ℕ) (t : Turn) : Type 0 where
+  pub shift : t .shift ≡ next
+  pub put : Written out 0 text after (t .at)
+
+-- ---- the configuration
+
+-- a text behind what is kept at the room's start, cut at the room's end, and how many bytes are kept then
+pub record Keeps (room : List ℕ) (kept : ℕ) (text after : List ℕ) (n : ℕ) : Type 0 where
+  pub put : Written room (min kept 16384) text after n
+  pub within : n ≤ 16384
+
+-- "A bad one prints `ER 14 LINE n`"
+abbrev pub begunText : Begun → List ℕ
+begunText Begun′.More = []
+begunText Begun′.Good = []
+begunText (Begun′.Bad line) = errorText line
+
+abbrev pub openingText : Beginning → List ℕ
+openingText b = begunText (b .begun)
+
+-- "and the program ends"
+abbrev pub begunShift : Begun → Beginning → ℕ → Cell → Shift
+begunShift Begun′.More b kept cell = shiftOf (Phase′.Begins kept) cell
+begunShift Begun′.Good b kept cell = shiftOf Phase′.Talks (freshCell (b .configuration))
+begunShift (Begun′.Bad line) b kept cell = shiftOf Phase′.Over cell
+
+abbrev pub openingShift : Beginning → ℕ → Cell → Shift
+openingShift b kept cell = begunShift (b .begun) b kept cell
+
+-- a line of the configuration: it is kept with its LF, and what the text so far begins is asked; 2,048 bytes decide
+pub record Begins (cell : Cell) (kept : ℕ) (line room room′ out after : List ℕ) (t : Turn) : Type 0 where
+  pub n : ℕ
+  pub keeps : Keeps room kept (cardText line) room′ n
+  pub says : Says (openingText (openingOf (ltb n 2048) (take n room′))) (openingShift (openingOf (ltb n 2048) (take n room′)) n cell) out after t
+
+-- ---- calls
+
+-- after a line `DECK` a deck is gathered
+abbrev pub afterLine : Line → Phase
+afterLine Line′.NoCall = Phase′.Talks
+afterLine Line′.Echo = Phase′.Talks
+afterLine Line′.Deck = Phase′.Gathers 0
+afterLine Line′.Select = Phase′.Talks
+afterLine Line′.Board = Phase′.Talks
+afterLine (Line′.Submit s) = Phase′.Talks
+afterLine (Line′.Start channel) = Phase′.Talks
+afterLine (Line′.Complete channel how) = Phase′.Talks
+afterLine (Line′.End place inError) = Phase′.Talks
+afterLine (Line′.Mark channel unit mark on) = Phase′.Talks
+afterLine Line′.Release = Phase′.Talks
+afterLine Line′.Delete = Phase′.Talks
+afterLine (Line′.Status place packet) = Phase′.Talks
+
+abbrev pub turnOf : Phase → Cell → ℕ → Turn
+turnOf phase cell at = record { shift = shiftOf phase cell; at = at }
+
+-- a line: its answer, and the cell then
+pub record Talks (cell : Cell) (line out after : List ℕ) (t : Turn) : Type 0 where
+  pub replied : Replied
+  pub replies : Replies cell (lineSays line .line) (lineSays line .id) line out after replied
+  pub is : t ≡ turnOf (afterLine (lineSays line .line)) (replied .cell) (replied .at)
+
+-- ---- decks
+
+-- a card of a deck that is too long: "the answer is `NO 11`; .. reading goes on after the termination card, wherever that comes"
+abbrev pub PassSays : Bool → Cell → List ℕ → List ℕ → Turn → Type 0
+PassSays true cell out after t = Says (refusedText BadDeck) (shiftOf Phase′.Talks cell) out after t
+PassSays false cell out after t = Says [] (shiftOf Phase′.Passes cell) out after t
+
+-- a card of a deck, where it is the last card or not: the deck is entered or goes on
+abbrev pub CardSays : Gathered → Bool → Cell → List ℕ → List ℕ → List ℕ → Turn → Type 0
+CardSays (Gathered′.Kept n) true cell room out after t = Says (deckReply cell (take n room)) (shiftOf Phase′.Talks (deckCell cell (take n room))) out after t
+CardSays (Gathered′.Kept n) false cell room out after t = Says [] (shiftOf (Phase′.Gathers n) cell) out after t
+CardSays Gathered′.TooLong last cell room out after t = PassSays last cell out after t
+
+-- a card of a deck: it is put behind the cards before it
+pub record Gathers (cell : Cell) (kept : ℕ) (line room room′ out after : List ℕ) (t : Turn) : Type 0 where
+  pub gathered : Gathered
+  pub adds : Adds room kept line room′ gathered
+  pub says : CardSays gathered (isTermination line) cell room′ out after t
+
+-- ---- THE TURN: what a line does in each phase
+abbrev pub Turns : Phase → Cell → List ℕ → List ℕ → List ℕ → List ℕ → List ℕ → Turn → Type 0
+Turns (Phase′.Begins kept) cell line room room′ out after t = Begins cell kept line room room′ out after t
+Turns Phase′.Talks cell line room room′ out after t = (room′ ≡ room) × Talks cell line out after t
+Turns (Phase′.Gathers kept) cell line room room′ out after t = Gathers cell kept line room room′ out after t
+Turns Phase′.Passes cell line room room′ out after t = (room′ ≡ room) × PassSays (isTermination line) cell out after t
+Turns Phase′.Over cell line room room′ out after t = (room′ ≡ room) × Says [] (shiftOf Phase′.Over cell) out after t
+
+-- ---- the end of the input
+
+-- "If the input ends before a termination card, .. the answer is `NO 11`"
+abbrev pub endText : Phase → List ℕ
+endText (Phase′.Begins kept) = []
+endText Phase′.Talks = []
+endText (Phase′.Gathers kept) = refusedText BadDeck
+endText Phase′.Passes = refusedText BadDeck
+endText Phase′.Over = []
+
+-- a configuration that is not complete: what there is of it is all, a last line without LF too
+pub record Unfinished (kept : ℕ) (rest room room′ out after : List ℕ) (r : ℕ) : Type 0 where
+  pub n : ℕ
+  pub keeps : Keeps room kept rest room′ n
+  pub put : Written out 0 (openingText (openingOf false (take n room′))) after r
+
+-- "a last line without LF is taken as if it had one"; no line where nothing is left
+abbrev pub LastTurn : Phase → Cell → List ℕ → List ℕ → List ℕ → List ℕ → List ℕ → Turn → Type 0
+LastTurn phase cell [] room room′ out after t = (room′ ≡ room) × (after ≡ out) × (t ≡ turnOf phase cell 0)
+LastTurn phase cell (b ∷ s) room room′ out after t = Turns phase cell (b ∷ s) room room′ out after t
+
+pub record Closes (phase : Phase) (cell : Cell) (rest room room′ out after : List ℕ) (r : ℕ) : Type 0 where
+  pub turn : Turn
+  pub between : List ℕ
+  pub turns : LastTurn phase cell rest room room′ out between turn
+  pub put : Written between (turn .at) (endText (turn .shift .phase)) after r
+
+-- THE END: what is left of the input, and what is answered then
+abbrev pub Ends : Phase → Cell → List ℕ → List ℕ → List ℕ → List ℕ → List ℕ → ℕ → Type 0
+Ends (Phase′.Begins kept) cell rest room room′ out after r = Unfinished kept rest room room′ out after r
+Ends Phase′.Talks cell rest room room′ out after r = Closes Phase′.Talks cell rest room room′ out after r
+Ends (Phase′.Gathers kept) cell rest room room′ out after r = Closes (Phase′.Gathers kept) cell rest room room′ out after r
+Ends Phase′.Passes cell rest room room′ out after r = Closes Phase′.Passes cell rest room room′ out after r
+Ends Phase′.Over cell rest room room′ out after r = Closes Phase′.Over cell rest room room′ out after r

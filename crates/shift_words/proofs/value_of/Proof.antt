@@ -1,0 +1,64 @@
+-- `line_words::value_of` meets its contract. The loop's invariant: n is the number of the first i digits, below ten to their count. Assumes nothing.
+use Prim.Native.Nat.{_≤_, _<_, _-_}
+use mathlib.Core.Path.{_≡_, sym, _∙_}
+use native.Mathlib.Omega.{arith}
+use lib.ListN.{getD, length, drop}
+use Rattle.words.proofs.WordLaws.{tens}
+use Rattle.shift_words.proofs.FormLaws.{value-small, digit-at, tens-nine, value-step, value-end, times}
+use Rattle.shift_words.specs.Forms.{valueIn}
+use borrow.Author.Needs.{needs}
+use Rattle.shift_words.proofs.value_of.Statement.{statement}
+use Rattle.shift_words.proofs.value_of.Tie as tie
+
+abbrev Inv-loop : tie.InvT-loop
+Inv-loop base word n₀ i₀ n i = ((i ≤ length word) × (n < tens i)) × (valueIn base n (drop i word) ≡ valueIn base 0 word)
+
+abbrev μ-loop : tie.MeasureT-loop
+μ-loop base word n₀ i₀ n i = length word - i
+
+loop-holds : tie.Need-loop-holds Inv-loop μ-loop
+loop-holds c = search needs
+
+mul-n : tie.Need-mul-n Inv-loop μ-loop
+mul-n c = omega (arith, times (c .before .loop .n) (c .before .before .args .base) (c .before .before .pre .0), tens-nine (c .before .loop .i) 8 (omega arith))
+
+shared-slice-read-n : tie.Need-shared-slice-read-n Inv-loop μ-loop
+shared-slice-read-n c = search needs
+
+sub-n : tie.Need-sub-n Inv-loop μ-loop
+sub-n c = let d = digit-at (c .before .before .before .args .word .now) (c .before .before .loop .i) (c .before .before .before .pre .1 .1) (c .before .loop-test .taken) in omega arith
+
+cast-n : tie.Need-cast-n Inv-loop μ-loop
+cast-n c = let d = digit-at (c .before .before .before .args .word .now) (c .before .before .loop .i) (c .before .before .before .pre .1 .1) (c .before .loop-test .taken) in omega arith
+
+add-n : tie.Need-add-n Inv-loop μ-loop
+add-n c = let d = digit-at (c .before .before .before .args .word .now) (c .before .before .loop .i) (c .before .before .before .pre .1 .1) (c .before .loop-test .taken) in omega (arith, times (c .before .before .loop .n) (c .before .before .before .args .base) (c .before .before .before .pre .0), tens-nine (c .before .before .loop .i) 8 (omega arith))
+
+add-i : tie.Need-add-i Inv-loop μ-loop
+add-i c = search needs
+
+loop-less : tie.Need-loop-less Inv-loop μ-loop
+loop-less c = search needs
+
+loop-again : tie.Need-loop-again Inv-loop μ-loop
+loop-again c = let d = digit-at (c .before .before .before .args .word .now) (c .before .before .loop .i) (c .before .before .before .pre .1 .1) (c .before .loop-test .taken) in ((omega arith, value-small (c .before .before .loop .n) (c .before .before .before .args .base) (getD (c .before .before .before .args .word .now) (c .before .before .loop .i) 0 - 48) (c .before .before .loop .i) (c .before .before .before .pre .0) (omega arith) (omega arith)), sym (value-step (c .before .before .before .args .base) (c .before .before .before .args .word .now) (c .before .before .loop .i) (c .before .before .loop .n) (c .before .loop-test .taken)) ∙ c .before .before .loop .inv .1)
+
+returns : tie.Need-returns Inv-loop μ-loop
+returns c = sym (value-end (c .before .before .args .base) (c .before .before .args .word .now) (c .before .loop .i) (c .before .loop .n) (c .loop-test .left)) ∙ c .before .loop .inv .1
+
+pub value-of-spec : {M : Type 1} → statement M
+value-of-spec =
+    tie.close
+    (tie.spec
+    Inv-loop
+    μ-loop
+    loop-holds
+    mul-n
+    shared-slice-read-n
+    sub-n
+    cast-n
+    add-n
+    add-i
+    loop-less
+    loop-again
+    returns)

@@ -1,3 +1,0 @@
-pub mod Turns
-pub mod TurnLaws
-pub mod OneTurn

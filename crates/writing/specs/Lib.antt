@@ -1,7 +1,0 @@
-pub mod Writing
-pub mod PutLaws
-pub mod CheckLaws
-pub mod Back
-pub mod Again
-pub mod Round
-pub mod Kept
