@@ -26,7 +26,7 @@ use Rattle.shift_script_form.specs.Written.{spaced, decimal, octal, line
 use Rattle.shift_script_form.proofs.SpacedLaws.{Plain, AllPlain, words-spaced, spaced-words, total, spaced-long, spaced-first}
 use Rattle.shift_script_form.proofs.NumberLaws.{Writes, writes}
 use Rattle.shift_script_form.proofs.TableLaws.{Fitted, says-row}
-use Rattle.shift_script_form.specs.RowLaws.{
+use Rattle.shift_script_form.proofs.RowLaws.{
   deck-row,
   select-row,
   board-row,
