@@ -1,0 +1,98 @@
+-- EQUAL REQUESTS, ENTRY ORDER APART: two FAC cards whose entries are permutations of each other ask for the same, so that the groups read as the
+-- same request. Two neighbouring entries fill different slots, or the second of them would be wrong. Assumes nothing.
+use Prim.Native.Nat.{ℕ, zero, suc, _+_, _*_, _-_, _≤_, _<_}
+use mathlib.Core.Path.{_≡_, refl, sym, ap, subst, _∙_}
+use mathlib.Core.Bool.{Bool, true, false, not, _&&_}
+use mathlib.Core.List.{List, [], _∷_}
+use native.Mathlib.Omega.{arith}
+use lib.Dec.{eqb, ltb, leb}
+use lib.ListN.{length, getD, set, length-set}
+use lib.Seq.{getD-set-same, getD-set-other}
+use borrow.Author.Tests.{eqb-true, eqb-false, leb-true, ltb-true, ltb-false, le-ltb}
+use Rattle.numbers.proofs.Tests.{by-bool, never, both}
+use Rattle.text.specs.Class.{isDigit}
+use Rattle.words.specs.Words.{every, value}
+use Rattle.cards.specs.Errors.{errorIf, orElse}
+use Rattle.cards.proofs.ErrorLaws.{not-good, or-else-none}
+use Rattle.cards.specs.Fac.{channelText, codeError, codeOf, entered, entriesError, entryError, entryGood, allEntered, formError, most, nothing, numberGood, numberText, slot, slotOf, slots}
+use Rattle.cards.proofs.EntryLaws.{channel-low, code-low, good-number}
+use Rattle.cards.specs.Group.{asked, entriesOf, orderedError, requestOf, readCards, readGroup}
+use Rattle.cards.specs.declared.CardError.the-variants.{WrongEntry}
+use Rattle.cards.specs.declared.Request.{Request}
+use Rattle.cards.specs.declared.Verdict.{Verdict}
+use Rattle.cards.specs.declared.Verdict.the-variants.{Good}
+use Rattle.cards_round.specs.Permuted.{Permuted}
+use Rattle.cards_round.proofs.Short.{channelled, known}
+use Rattle.cards_round.proofs.Fits.{answered, entries-good, not-error}
+
+-- two stores at different indices come to the same in either order
+set-swap : (l : List ℕ) (i j a b : ℕ) → (i ≡ j → ⊥) → set (set l i a) j b ≡ set (set l j b) i a
+set-swap [] i j a b n = refl
+set-swap (x ∷ l) zero zero a b n = absurd (n refl)
+set-swap (x ∷ l) zero (suc j) a b n = refl
+set-swap (x ∷ l) (suc i) zero a b n = refl
+set-swap (x ∷ l) (suc i) (suc j) a b n = ap (λ (m : List ℕ). x ∷ m) (set-swap l i j a b (λ e. n (ap suc e)))
+
+-- a good entry has a slot, and asks for something
+slot-low : (t : List ℕ) → formError t ≡ Good → slotOf t < slots
+slot-low t e =
+    let c = code-low t (known t e) in
+    let h = channel-low (codeOf t) (channelText t) (channelled t e) in
+    by-bool (ltb (codeOf t) 3) (λ b. rw b (omega arith)) (λ b. rw b (omega (arith, ltb-false (codeOf t) 3 b)))
+
+number-some : (t : List ℕ) → formError t ≡ Good → 1 ≤ value (numberText t)
+number-some t e =
+    let s = numberText t in
+    let p = both (leb (length s) (most (codeOf t))) (every isDigit s && leb 1 (value s)) (good-number t e) .1 in
+    leb-true 1 (value s) (both (every isDigit s) (leb 1 (value s)) p .1)
+
+-- an entry that is right here: good by itself, and its slot is empty
+right : (asks t : List ℕ) → entryError asks t ≡ Good → (formError t ≡ Good) × (getD asks (slotOf t) 0 ≤ 0)
+right asks t e =
+    let y = or-else-none (formError t) (errorIf (ltb 0 (getD asks (slotOf t) 0)) WrongEntry) e in
+    (y .0, ltb-false 0 (getD asks (slotOf t) 0) (not-error (ltb 0 (getD asks (slotOf t) 0)) WrongEntry (y .1)))
+
+is-right : (asks t : List ℕ) → formError t ≡ Good → getD asks (slotOf t) 0 ≤ 0 → entryError asks t ≡ Good
+is-right asks t e h = rw (e, le-ltb 0 (getD asks (slotOf t) 0) h)
+
+-- ORDER DOES NOT MATTER
+pub permuted : {ts us : List (List ℕ)} → Permuted ts us → (asks : List ℕ) → length asks ≡ slots → entriesError asks ts ≡ Good
+    → (entriesError asks us ≡ Good) × (allEntered asks ts ≡ allEntered asks us)
+permuted Permuted.none asks l e = (refl, refl)
+permuted (Permuted.more {t} {ts} {us} p) asks l e =
+    let x = or-else-none (entryError asks t) (entriesError (entered asks t) ts) e in
+    let q = permuted p (entered asks t) (length-set asks (slotOf t) (value (numberText t)) ∙ l) (x .1) in
+    (rw (x .0) (q .0), q .1)
+permuted (Permuted.swap {t} {u} {ts}) asks l e =
+    let x = or-else-none (entryError asks t) (entriesError (entered asks t) (u ∷ ts)) e in
+    let y = or-else-none (entryError (entered asks t) u) (entriesError (entered (entered asks t) u) ts) (x .1) in
+    let a = right asks t (x .0) in
+    let b = right (entered asks t) u (y .0) in
+    let n : slotOf t ≡ slotOf u → ⊥ = apart t u a (b .1) in
+    let c : entered (entered asks t) u ≡ entered (entered asks u) t = set-swap asks (slotOf t) (slotOf u) (value (numberText t)) (value (numberText u)) n in
+    let o : getD (entered asks t) (slotOf u) 0 ≡ getD asks (slotOf u) 0 = getD-set-other asks (slotOf t) (slotOf u) (value (numberText t)) 0 (λ i. n (sym i)) in
+    let m : getD (entered asks u) (slotOf t) 0 ≡ getD asks (slotOf t) 0 = getD-set-other asks (slotOf u) (slotOf t) (value (numberText u)) 0 n in
+    let f : entryError asks u ≡ Good = is-right asks u (b .0) (omega (arith, o, b .1)) in
+    let g : entryError (entered asks u) t ≡ Good = is-right (entered asks u) t (a .0) (omega (arith, m, a .1)) in
+    (rw (f, g) (subst (λ (z : List ℕ). entriesError z ts ≡ Good) c (y .1)), ap (λ (z : List ℕ). allEntered z ts) c)
+  where
+    apart : (v w : List ℕ) → (formError v ≡ Good) × (getD asks (slotOf v) 0 ≤ 0) → getD (entered asks v) (slotOf w) 0 ≤ 0 → slotOf v ≡ slotOf w → ⊥
+    apart v w a h i =
+        let s : getD (entered asks v) (slotOf v) 0 ≡ value (numberText v) = getD-set-same asks (slotOf v) (value (numberText v)) 0 (omega (arith, slot-low v (a .0))) in
+        let k : getD (entered asks v) (slotOf v) 0 ≤ 0 = subst (λ (x : ℕ). getD (entered asks v) x 0 ≤ 0) (sym i) h in
+        omega (arith, number-some v (a .0))
+permuted (Permuted.next {ts} {us} {vs} p q) asks l e =
+    let x = permuted p asks l e in
+    let y = permuted q asks l (x .0) in
+    (y .0, x .1 ∙ y .1)
+
+-- EQUAL REQUESTS: two groups with the same PTY card whose FAC cards have the same entries in any order read as the same request
+pub same-request : (pty fac other : List ℕ) (r s : Request)
+    → readGroup (pty ∷ fac ∷ []) ≡ record { verdict = Good; request = r } → readGroup (pty ∷ other ∷ []) ≡ record { verdict = Good; request = s }
+    → Permuted (entriesOf fac) (entriesOf other) → r ≡ s
+unfolding readCards
+same-request pty fac other r s e h p =
+    let a = answered (orderedError 2 pty fac []) (requestOf pty (asked fac)) r e in
+    let b = answered (orderedError 2 pty other []) (requestOf pty (asked other)) s h in
+    let g = entries-good 2 pty fac [] (a .0) .1 in
+    sym (a .1) ∙ ap (requestOf pty) (permuted p nothing refl g .1) ∙ b .1

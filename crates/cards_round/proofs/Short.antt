@@ -1,0 +1,215 @@
+-- EVERY REQUEST READ FROM CARDS IS WRITTEN where the room has 162 bytes: the PTY card's fields have at most 50 characters, and each
+-- entry that was read is no longer when it is written again, so that the FAC card is no longer than the one that was read. So 12 never
+-- arises, as 13 never does. Assumes nothing.
+use Prim.Native.Nat.{ℕ, zero, suc, _+_, _-_, _*_, _^_, _/_, _%_, _≤_, _<_}
+use mathlib.Core.Path.{_≡_, refl, sym, ap, subst, _∙_}
+use mathlib.Core.Bool.{Bool, true, false, cond, _&&_, _||_, not}
+use mathlib.Core.List.{List, [], _∷_, _++_}
+use native.Mathlib.Nat.{pow-suc}
+use native.Mathlib.Omega.{arith}
+use lib.Dec.{eqb, ltb, leb}
+use lib.ListN.{length, getD, drop, set, length-append, length-drop}
+use borrow.Author.Tests.{eqb-true, le-leb, leb-true, lt-ltb, ltb-true, ltb-false}
+use Rattle.numbers.proofs.Tests.{by-bool, never, both}
+use Rattle.text.specs.Writing.{decimalText}
+use Rattle.text.proofs.Undo.{few-digits}
+use Rattle.text.specs.Class.{isDigit}
+use Rattle.words.specs.Words.{every, same, value}
+use Rattle.words.proofs.WordLaws.{value-below, tens}
+use Rattle.cards_fields.specs.Fields.{field, fields, split, onto, spaceless, upToPeriod, closed, cardByte, malformed}
+use Rattle.cards.specs.Fac.{codes, placeIn, codeText, codeOf, channelText, slashAt, numberText, channelGood, most, numberGood, entryGood, slot, slotOf, codeError, formError, entryError, entered, entriesError, allEntered, nothing}
+use Rattle.cards.specs.Errors.{errorIf}
+use Rattle.cards.proofs.ErrorLaws.{or-else-none, not-good}
+use Rattle.cards.specs.declared.CardError.the-variants.{WrongEntry}
+use Rattle.cards.specs.declared.Verdict.the-variants.{Good}
+use Rattle.cards.proofs.EntryLaws.{code-low, channel-low}
+use Rattle.cards_writing.specs.Writing.{codeAt, channelAt, entryText, entryTexts, tailText, cardText, front, trimmed}
+
+-- how many characters fields take, each with the comma or period behind it
+abbrev pub total : List (List ℕ) → ℕ
+total [] = 0
+total (f ∷ fs) = length f + 1 + total fs
+
+-- ---- a card that is read
+
+split-total : (s : List ℕ) → total (split s) ≡ length s + 1
+split-total [] = refl
+split-total (b ∷ s) = by-bool (eqb b 44) (λ e. rw e (omega (arith, split-total s))) (λ e. rw e (fronted (split s) (split-total s)))
+  where
+    fronted : (fs : List (List ℕ)) → total fs ≡ length s + 1 → total (onto b fs) ≡ length (b ∷ s) + 1
+    fronted [] h = absurd (omega arith)
+    fronted (f ∷ fs) h = omega arith
+
+spaceless-length : (s : List ℕ) → length (spaceless s) ≤ length s
+spaceless-length [] = omega arith
+spaceless-length (b ∷ s) = by-bool (eqb b 32) (λ e. rw e (omega (arith, spaceless-length s))) (λ e. rw e (omega (arith, spaceless-length s)))
+
+-- a card that is closed has its period behind its fields
+closed-length : (s : List ℕ) → closed false s ≡ true → length (upToPeriod s) + 1 ≤ length s
+closed-length [] e = never e refl
+closed-length (b ∷ s) e =
+    let q = both (cardByte b) (closed (eqb b 46) s) e .1 in
+    by-bool (eqb b 46)
+    (λ t. rw t (omega arith))
+    (λ t. let r : closed false s ≡ true = rw t at q in rw t (omega (arith, closed-length s r)))
+
+-- the fields of a card that is not malformed, with what stands behind each, fit into 80 characters
+pub fields-short : (s : List ℕ) → malformed s ≡ false → total (fields s) ≤ 80
+unfolding malformed fields
+fields-short s m =
+    by-bool (ltb 80 (length s))
+    (λ t. never refl (rw t at m))
+    (λ t. by-bool (closed false s)
+    (λ c. omega (arith, split-total (spaceless (upToPeriod s)), spaceless-length (upToPeriod s), closed-length s c, ltb-false 80 (length s) t))
+    (λ c. never refl (rw (t, c) at m)))
+
+-- ---- an entry, read and written again
+
+-- a number has no more digits than the text that it was read from
+digits-few : (s : List ℕ) → every isDigit s ≡ true → 1 ≤ length s → length (decimalText (value s)) ≤ length s
+digits-few [] d h = absurd (omega arith)
+digits-few (b ∷ s) d h = few-digits (length s) (value (b ∷ s)) (subst (λ (n : ℕ). value (b ∷ s) < n) (tens-is (suc (length s))) (value-below (suc (length s)) (b ∷ s) d (omega arith)))
+  where
+    tens-is : (k : ℕ) → tens k ≡ 10 ^ k
+    tens-is zero = refl
+    tens-is (suc k) = omega (arith, pow-suc 10 k, tens-is k)
+
+-- the slot of a code and a logical channel gives both back
+code-again : (code channel : ℕ) → code ≤ 5 → channel ≤ 15 → codeAt (slot code channel) ≡ code
+code-again code channel h l =
+    by-bool (ltb code 3)
+    (λ t. rw (t, t))
+    (λ t. let n = ltb-false code 3 t in rw t (by-bool (ltb (3 + (code - 3) * 16 + channel) 3) (λ u. absurd (omega (arith, ltb-true (3 + (code - 3) * 16 + channel) 3 u))) (λ u. rw u (omega arith))))
+
+channel-again : (code channel : ℕ) → channel ≤ 15 → (code < 3 → channel ≡ 0) → channelAt (slot code channel) ≡ channel
+channel-again code channel l z =
+    by-bool (ltb code 3)
+    (λ t. let e = z (ltb-true code 3 t) in rw (t, t) (sym e))
+    (λ t. rw t (by-bool (ltb (3 + (code - 3) * 16 + channel) 3) (λ u. absurd (omega (arith, ltb-true (3 + (code - 3) * 16 + channel) 3 u))) (λ u. rw u (omega arith))))
+
+-- a known code is as long as its text
+pub same-length : (s t : List ℕ) → same s t ≡ true → length s ≡ length t
+same-length [] [] e = refl
+same-length [] (y ∷ t) e = never e refl
+same-length (x ∷ s) [] e = never e refl
+same-length (x ∷ s) (y ∷ t) e = ap suc (same-length s t (both (eqb x y) (same s t) e .1))
+
+code-length : (ks : List (List ℕ)) (c : List ℕ) → placeIn ks c < length ks → length (getD ks (placeIn ks c) []) ≡ length c
+code-length [] c h = absurd (omega arith)
+code-length (k ∷ ks) c h =
+    by-bool (same k c) (λ t. rw t (same-length k c t)) (λ t. rw t (code-length ks c (less t)))
+  where
+    less : same k c ≡ false → placeIn ks c < length ks
+    less t = let g : suc (placeIn ks c) < suc (length ks) = rw t at h in omega arith
+
+-- the channel of a good entry, written again; 0 is not written
+channel-few : (code : ℕ) (s : List ℕ) → channelGood code s ≡ true → length (cond (eqb (value s) 0) [] (decimalText (value s))) ≤ length s
+channel-few code s g =
+    by-bool (eqb (value s) 0)
+    (λ e. rw e (omega arith))
+    (λ e. rw e (some s g e))
+  where
+    digits : (t : List ℕ) → channelGood code t ≡ true → every isDigit t ≡ true
+    digits t h =
+        by-bool (ltb code 3)
+        (λ b. none t (eqb-true (length t) 0 (rw b at h)))
+        (λ b. both (every isDigit t) (leb (value t) 15) (both (leb (length t) 2) (every isDigit t && leb (value t) 15) (rw b at h) .1) .0)
+      where
+        none : (u : List ℕ) → length u ≡ 0 → every isDigit u ≡ true
+        none [] z = refl
+        none (x ∷ u) z = absurd (omega arith)
+
+    some : (t : List ℕ) → channelGood code t ≡ true → eqb (value t) 0 ≡ false → length (decimalText (value t)) ≤ length t
+    some [] h e = never refl e
+    some (x ∷ t) h e = digits-few (x ∷ t) (digits (x ∷ t) h) (omega arith)
+
+-- A GOOD ENTRY IS NO LONGER WHEN IT IS WRITTEN AGAIN
+module _ (t : List ℕ) (e : formError t ≡ Good) where
+  pub known : codeError t ≡ Good
+  unfolding formError
+  known = or-else-none (codeError t) (errorIf (not (entryGood (codeOf t) t)) WrongEntry) e .0
+
+  good : entryGood (codeOf t) t ≡ true
+  unfolding formError
+  good = by-bool (entryGood (codeOf t) t) (λ g. g) (λ g. not-good (rw g at (or-else-none (codeError t) (errorIf (not (entryGood (codeOf t) t)) WrongEntry) e .1)))
+
+  slashed : slashAt t < length t
+  slashed = ltb-true (slashAt t) (length t) (both (ltb (slashAt t) (length t)) (channelGood (codeOf t) (channelText t) && numberGood (codeOf t) (numberText t)) good .0)
+
+  pub channelled : channelGood (codeOf t) (channelText t) ≡ true
+  channelled =
+      both (channelGood (codeOf t) (channelText t)) (numberGood (codeOf t) (numberText t))
+      (both (ltb (slashAt t) (length t)) (channelGood (codeOf t) (channelText t) && numberGood (codeOf t) (numberText t)) good .1) .0
+
+  numbered : numberGood (codeOf t) (numberText t) ≡ true
+  numbered =
+      both (channelGood (codeOf t) (channelText t)) (numberGood (codeOf t) (numberText t))
+      (both (ltb (slashAt t) (length t)) (channelGood (codeOf t) (channelText t) && numberGood (codeOf t) (numberText t)) good .1) .1
+
+  -- IB, DB and MD have no channel
+  channelless : codeOf t < 3 → value (channelText t) ≡ 0
+  channelless h = none (channelText t) (eqb-true (length (channelText t)) 0 (rw (lt-ltb (codeOf t) 3 h) at channelled))
+    where
+      none : (s : List ℕ) → length s ≡ 0 → value s ≡ 0
+      none [] z = refl
+      none (b ∷ s) z = absurd (omega arith)
+
+  number-few : length (decimalText (value (numberText t))) ≤ length (numberText t)
+  number-few = some (numberText t) numbered
+    where
+      some : (s : List ℕ) → numberGood (codeOf t) s ≡ true → length (decimalText (value s)) ≤ length s
+      some s g =
+          let p = both (leb (length s) (most (codeOf t))) (every isDigit s && leb 1 (value s)) g .1 in
+          let q = both (every isDigit s) (leb 1 (value s)) p in
+          digits-few s (q .0) (long s (leb-true 1 (value s) (q .1)))
+        where
+          long : (u : List ℕ) → 1 ≤ value u → 1 ≤ length u
+          long [] h = absurd (omega arith)
+          long (b ∷ u) h = omega arith
+
+  pub entry-short : length (entryText (slotOf t) (value (numberText t))) ≤ length t
+  unfolding entryText codes
+  entry-short =
+      let c = code-again (codeOf t) (value (channelText t)) (code-low t known) (channel-low (codeOf t) (channelText t) channelled) in
+      let h = channel-again (codeOf t) (value (channelText t)) (channel-low (codeOf t) (channelText t) channelled) channelless in
+      let l = code-length codes (codeText t) (omega (arith, code-low t known)) in
+      rw (
+        c,
+        h,
+        length-append (getD codes (codeOf t) []) (cond (eqb (value (channelText t)) 0) [] (decimalText (value (channelText t))) ++ (47 ∷ decimalText (value (numberText t)))),
+        length-append (cond (eqb (value (channelText t)) 0) [] (decimalText (value (channelText t)))) (47 ∷ decimalText (value (numberText t))),
+      )
+      (omega (arith, l, channel-few (codeOf t) (channelText t) channelled, number-few, slashed, length-drop (slashAt t + 1) t))
+
+-- ---- all entries
+
+-- how many characters the written entries take, from slot k on, each with the comma or period behind it
+abbrev weight : ℕ → List ℕ → ℕ
+weight k [] = 0
+weight k (n ∷ ns) = cond (eqb n 0) 0 (length (entryText k n) + 1) + weight (suc k) ns
+
+weighed : (k : ℕ) (ns : List ℕ) → total (entryTexts k ns) ≡ weight k ns
+weighed k [] = refl
+weighed k (n ∷ ns) = by-bool (eqb n 0) (λ e. rw e (omega (arith, weighed (suc k) ns))) (λ e. rw e (omega (arith, weighed (suc k) ns)))
+
+weight-set : (k i v : ℕ) (ns : List ℕ) → weight k (set ns i v) ≤ weight k ns + (length (entryText (k + i) v) + 1)
+weight-set k i v [] = omega arith
+weight-set k zero v (n ∷ ns) =
+    let e : k + 0 ≡ k = omega arith in
+    rw e (by-bool (eqb v 0) (λ t. rw t (omega arith)) (λ t. rw t (omega arith)))
+weight-set k (suc i) v (n ∷ ns) =
+    let e : k + suc i ≡ suc k + i = omega arith in
+    rw e (omega (arith, weight-set (suc k) i v ns))
+
+all-short : (asks : List ℕ) (ts : List (List ℕ)) → entriesError asks ts ≡ Good → weight 0 (allEntered asks ts) ≤ weight 0 asks + total ts
+all-short asks [] e = omega arith
+all-short asks (t ∷ ts) e =
+    let x = or-else-none (entryError asks t) (entriesError (entered asks t) ts) e in
+    let y = or-else-none (formError t) (errorIf (ltb 0 (getD asks (slotOf t) 0)) WrongEntry) (x .0) in
+    let w = weight-set 0 (slotOf t) (value (numberText t)) asks in
+    let z : 0 + slotOf t ≡ slotOf t = omega arith in
+    omega (arith, all-short (entered asks t) ts (x .1), rw z at w, entry-short t (y .0))
+
+-- THE WRITTEN ENTRIES ARE NO LONGER than those that were read
+pub entries-short : (ts : List (List ℕ)) → entriesError nothing ts ≡ Good → total (entryTexts 0 (allEntered nothing ts)) ≤ total ts
+entries-short ts e = let z : weight 0 nothing ≡ 0 = refl in omega (arith, weighed 0 (allEntered nothing ts), all-short nothing ts e, z)

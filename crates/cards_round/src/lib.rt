@@ -1,0 +1,1 @@
+// Theorems about cards that are read and written: no function.
