@@ -1,0 +1,144 @@
+-- DEMAND 1: each call is refused with the number of its table's lowest sentence that holds, and accepted if none does. By the kinds of call: the
+-- rules' chain of tests is the chain of rows. Assumes nothing.
+use Prim.Native.Nat.{ℕ}
+use mathlib.Core.Path.{_≡_, refl, sym, ap, subst, _∙_}
+use mathlib.Core.Bool.{Bool, true, false, not, cond, _&&_}
+use mathlib.Core.List.{List, [], _∷_}
+use mathlib.Core.Logic.{_⊎_, inl, inr}
+use mathlib.Core.Option.{Option, none, some}
+use lib.Dec.{leb, ltb}
+use lib.ListN.{length}
+use Rattle.numbers.proofs.Tests.{by-bool, never}
+use Rattle.numbers.specs.declared.Refusal.{Refusal}
+use Rattle.numbers.specs.declared.Refusal.the-variants.{BadDeck, JobRuns, NoSuchRequest, OutOfRange}
+use Rattle.units.specs.declared.Mark.{Mark as Mark′}
+use Rattle.cards_fields.specs.Deck.{cardsOf, deckEnd, terminated}
+use Rattle.schedule_entries.specs.Entries.{active, suspended}
+use Rattle.schedule_entries.specs.declared.Entry.{Entry}
+use Rattle.schedule_list.specs.Held.{entryAt, held, there}
+use Rattle.schedule_list.specs.declared.Schedule.{Schedule}
+use Rattle.schedule_deck.specs.Report.{outcomeBy}
+use Rattle.schedule.specs.Calls.{deletedAt, ofName, releasedAt}
+use Rattle.packets.specs.Picks.{find}
+use Rattle.packets.specs.Rules as Rules
+use Rattle.packets.specs.State.{State, motionOn, stateIn}
+use Rattle.packets.specs.declared.How.{How}
+use Rattle.packets.specs.declared.Motion.{Motion}
+use Rattle.packets.specs.declared.Motion.the-variants.{Busy, Idle}
+use Rattle.packets.specs.declared.Spot.{Spot}
+use Rattle.packets.specs.declared.Verdict.{Verdict}
+use Rattle.packets.specs.declared.Verdict.the-variants.{Denied, Granted}
+use Rattle.lists.specs.Outcomes.{outcome, settled, stateOf}
+use Rattle.cell_selection.proofs.SelectingLaws.{refused-only, refused-when}
+use Rattle.cell.specs.Calls.{SelectsIn, acted, answerOf, statusOf}
+use Rattle.cell.specs.declared.SelectAnswer.{SelectAnswer}
+use Rattle.cell.specs.declared.Cell.{Cell}
+use Rattle.cell_history.specs.Heard.{inside}
+use Rattle.cell_history.specs.History.{Call, Complete, Deck, Delete, Does, End, Mark, Release, Reply, Select, Start, Status, Submit}
+use Rattle.demands.specs.Refusing.{ofAnswer, ofOutcome, ofStatus, refusalIn}
+use Rattle.demands.specs.Table.{RefusedBy, Row, SelectRefused, isSelect, lowest, rowsIn}
+
+-- a verdict as a refusal, if it is one
+abbrev ofVerdict : Verdict → Option Refusal
+ofVerdict Granted = none
+ofVerdict (Denied n) = some n
+
+-- rows as a chain of tests
+abbrev chain : List Row → Verdict
+chain [] = Granted
+chain (r ∷ rs) = Rules.first (r .holds) (r .refusal) (chain rs)
+
+chained : (rs : List Row) → ofVerdict (chain rs) ≡ lowest rs
+chained [] = refl
+chained (r ∷ rs) = by-bool (r .holds) (λ e. rw e refl) (λ e. rw e (chained rs))
+
+-- ---- the calls of the lists
+
+begins-none : (s : State) (o : Option ℕ) → ofAnswer (Rules.begins s o) ≡ none
+begins-none s none = refl
+begins-none s (some x) = refl
+
+completes-none : (s : State) (c : ℕ) (how : How) (m : Motion) → ofAnswer (Rules.completes s c how m) ≡ none
+completes-none s c how Idle = refl
+completes-none s c how (Busy j p) = refl
+
+accepted-none : (s : State) (x : Rules.Call) → ofAnswer (Rules.answer s x) ≡ none
+unfolding Rules.answer
+accepted-none s (Rules.Take j asg) = refl
+accepted-none s (Rules.Submit j p f c w) = refl
+accepted-none s (Rules.Start c) = begins-none s (find (Rules.startable s c) (s .queue))
+accepted-none s (Rules.Complete c how) = completes-none s c how (motionOn s c)
+accepted-none s (Rules.End j b) = refl
+accepted-none s (Rules.Mark c u m on) = refl
+
+-- what is answered is what the rules say
+answers-by : (c : Cell) (x : Rules.Call) → ofAnswer (acted c x .answer) ≡ ofVerdict (Rules.refusal (stateOf (c .lists)) x)
+unfolding acted outcome
+answers-by c x = go (Rules.refusal (stateOf (c .lists)) x)
+  where
+    go : (v : Verdict) → ofAnswer (settled (c .lists) x v .answer) ≡ ofVerdict v
+    go Granted = accepted-none (stateOf (c .lists)) x
+    go (Denied n) = refl
+
+-- the rules' tests of each call are its rows
+rules-rows : (s : State) (es : List Entry) (j p f k : ℕ) (w : Spot) → ofVerdict (Rules.refusal s (Rules.Submit j p f k w)) ≡ lowest (rowsIn s es (Submit j p f k w))
+unfolding Rules.refusal stateIn
+rules-rows s es j p f k w = chained (rowsIn s es (Submit j p f k w))
+
+start-rows : (s : State) (es : List Entry) (k : ℕ) → ofVerdict (Rules.refusal s (Rules.Start k)) ≡ lowest (rowsIn s es (Start k))
+unfolding Rules.refusal
+start-rows s es k = chained (rowsIn s es (Start k))
+
+complete-rows : (s : State) (es : List Entry) (k : ℕ) (how : How) → ofVerdict (Rules.refusal s (Rules.Complete k how)) ≡ lowest (rowsIn s es (Complete k how))
+unfolding Rules.refusal
+complete-rows s es k how = chained (rowsIn s es (Complete k how))
+
+end-rows : (s : State) (es : List Entry) (j : ℕ) (e : Bool) → ofVerdict (Rules.refusal s (Rules.End j e)) ≡ lowest (rowsIn s es (End j e))
+unfolding Rules.refusal
+end-rows s es j e = chained (rowsIn s es (End j e))
+
+mark-rows : (s : State) (es : List Entry) (k u : ℕ) (m : Mark′) (on : Bool) → ofVerdict (Rules.refusal s (Rules.Mark k u m on)) ≡ lowest (rowsIn s es (Mark k u m on))
+unfolding Rules.refusal
+mark-rows s es k u m on = chained (rowsIn s es (Mark k u m on))
+
+-- ---- a deck, release, delete, a status
+
+deck-rows : (bytes : List ℕ) → ofOutcome (outcomeBy (deckEnd bytes)) ≡ cond (not (leb (length bytes) 16384 && terminated (cardsOf bytes))) (some BadDeck) none
+unfolding deckEnd
+deck-rows bytes = by-bool (leb (length bytes) 16384 && terminated (cardsOf bytes)) (λ e. rw e refl) (λ e. rw e refl)
+
+release-rows : (s : Schedule) (k : ℕ) → ofAnswer (answerOf (releasedAt k s .outcome)) ≡ cond (not (there k (held s) && suspended (entryAt (held s) k .state))) (some NoSuchRequest) none
+unfolding releasedAt
+release-rows s k = by-bool (there k (held s) && suspended (entryAt (held s) k .state)) (λ e. rw e refl) (λ e. rw e refl)
+
+delete-rows : (s : Schedule) (k : ℕ) → ofAnswer (answerOf (deletedAt k s .outcome))
+    ≡ cond (not (there k (held s))) (some NoSuchRequest) (cond (active (entryAt (held s) k .state)) (some JobRuns) none)
+unfolding deletedAt
+delete-rows s k =
+    by-bool (there k (held s))
+    (λ e. by-bool (active (entryAt (held s) k .state)) (λ a. rw (e, a) refl) (λ a. rw (e, a) refl))
+    (λ e. rw e refl)
+
+status-rows : (c : Cell) (j p : ℕ) → ofStatus (statusOf c j p) ≡ cond (not (ltb j 16 && ltb p 16)) (some OutOfRange) none
+status-rows c j p = by-bool (ltb j 16 && ltb p 16) (λ e. rw e refl) (λ e. rw e refl)
+
+-- ---- selection
+
+select-by : (c : Cell) (r : SelectAnswer) → SelectsIn c r → SelectRefused c (ofOutcome (r .outcome))
+select-by c r h =
+    by-bool (r .selection .found)
+    (λ t. inr (ap ofOutcome (h .outcome) ∙ rw t refl, λ n. never t (refused-only (c .schedule) (c .lists) (r .selection) (h .takes .selects) n)))
+    (λ t. inl (ap ofOutcome (h .outcome) ∙ rw t refl, refused-when (c .schedule) (c .lists) (r .selection) (h .takes .selects) t))
+
+-- WHICH NUMBER ANSWERS
+pub numbers : (c d : Cell) (x : Call) (reply : Reply) → Does c x reply d → RefusedBy (isSelect x) c x (refusalIn reply)
+numbers c d (Deck bytes) reply h = ap refusalIn (h .2 .1 .1 .0) ∙ ap ofOutcome (h .2 .1 .0 .deck .outcome) ∙ deck-rows bytes
+numbers c d Select reply h = subst (SelectRefused c) (sym (ap refusalIn (h .1 .1 .0))) (select-by c (h .0) (h .1 .0))
+numbers c d (Submit j p f k w) reply h = ap refusalIn (h .0) ∙ answers-by c (Rules.Submit j p f k w) ∙ rules-rows (inside c) (held (c .schedule)) j p f k w
+numbers c d (Start k) reply h = ap refusalIn (h .0) ∙ answers-by c (Rules.Start k) ∙ start-rows (inside c) (held (c .schedule)) k
+numbers c d (Complete k how) reply h = ap refusalIn (h .0) ∙ answers-by c (Rules.Complete k how) ∙ complete-rows (inside c) (held (c .schedule)) k how
+numbers c d (End j e) reply h = ap refusalIn (h .0) ∙ answers-by c (Rules.End j e) ∙ end-rows (inside c) (held (c .schedule)) j e
+numbers c d (Mark k u m on) reply h = ap refusalIn (h .0) ∙ answers-by c (Rules.Mark k u m on) ∙ mark-rows (inside c) (held (c .schedule)) k u m on
+numbers c d (Release id) reply h = ap refusalIn (h .0) ∙ release-rows (c .schedule) (ofName id (held (c .schedule)))
+numbers c d (Delete id) reply h = ap refusalIn (h .0) ∙ delete-rows (c .schedule) (ofName id (held (c .schedule)))
+numbers c d (Status j p) reply h = ap refusalIn (h .0) ∙ status-rows c j p

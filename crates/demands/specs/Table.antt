@@ -1,0 +1,113 @@
+-- THE TABLE OF REFUSED CALLS: for each call the sentences that may refuse it, in the order of their numbers, and whether each of them
+-- holds. The lowest answers. A reader has to believe this page.
+use Prim.Native.Nat.{ℕ}
+use mathlib.Core.Path.{_≡_}
+use mathlib.Core.Bool.{Bool, true, false, not, cond, _&&_}
+use mathlib.Core.List.{List, [], _∷_}
+use mathlib.Core.Logic.{_⊎_}
+use mathlib.Core.Option.{Option, none, some}
+use lib.Dec.{ltb, leb}
+use lib.ListN.{length, getD}
+use Rattle.numbers.specs.declared.Refusal.{Refusal}
+use Rattle.numbers.specs.declared.Refusal.the-variants.{OutOfRange, NoJob, NotTheJobs, NotLegal, PacketInUse, ChannelBusy, NothingStartable}
+use Rattle.numbers.specs.declared.Refusal.the-variants.{NothingInProgress, WrongCompletion, NothingSelected, BadDeck, NoSuchRequest, JobRuns}
+use Rattle.units.specs.State.{unitIn}
+use Rattle.channels.specs.declared.Fitted.{Fitted}
+use Rattle.cards_fields.specs.Deck.{cardsOf, terminated}
+use Rattle.schedule_entries.specs.Entries.{active, suspended}
+use Rattle.schedule_entries.specs.declared.Entry.{Entry}
+use Rattle.schedule_list.specs.Held.{entryAt, held, there}
+use Rattle.schedule.specs.Calls.{ofName}
+use Rattle.packets.specs.Picks.{find}
+use Rattle.packets.specs.Rules.{atOf, inRange, isNone, isOwn, isWrong, movingStatus, reaches, startable}
+use Rattle.packets.specs.State.{State, blank, configured, fittedOn, isBusy, isDrumOf, isIdle, isRunning, jobIn, legalFor, motionOn, stateIn}
+use Rattle.packets.specs.declared.Spot.{Spot}
+use Rattle.packets.specs.declared.Spot.the-variants.{OnUnit}
+use Rattle.cell_selection.specs.Selecting.{NoneToSelect}
+use Rattle.cell.specs.declared.Cell.{Cell}
+use Rattle.cell_history.specs.Heard.{inside}
+use Rattle.cell_history.specs.History.{Call, Complete, Deck, Delete, End, Mark, Release, Select, Start, Status, Submit}
+
+-- a sentence of the table: its refusal, and whether it holds
+pub record Row : Type 0 where
+  pub refusal : Refusal
+  pub holds : Bool
+
+abbrev pub row : Refusal → Bool → Row
+row refusal holds = record { refusal = refusal; holds = holds }
+
+-- "The lowest number answers": of rows in the order of their numbers the first that holds
+abbrev pub lowest : List Row → Option Refusal
+lowest [] = none
+lowest (r ∷ rs) = cond (r .holds) (some (r .refusal)) (lowest rs)
+
+-- a submission, by what the channel has: 1, 2, 3, 4, 5
+abbrev pub submitRows : State → Fitted → ℕ → ℕ → ℕ → ℕ → Spot → List Row
+submitRows s has j p f k w =
+    -- place, channel, unit, packet or function number out of range, or channel or unit not configured
+    row OutOfRange (not (inRange has j p f k w))
+    -- no job in that place, or it is closing
+    ∷ row NoJob (not (isRunning (stateIn (s .jobs) j)))
+    -- unit or drum address not the job's
+    ∷ row NotTheJobs (not (isOwn (isDrumOf has) (jobIn (s .jobs) j) (unitIn (s .units) k (atOf w) .holder) j f (atOf w)))
+    -- function not legal for the kind
+    ∷ row NotLegal (not (legalFor has f))
+    -- packet listed, in progress or stopping
+    ∷ row PacketInUse (isBusy (getD (jobIn (s .jobs) j .packets) p blank .status))
+    ∷ []
+
+-- the sentences of each call
+abbrev pub rowsIn : State → List Entry → Call → List Row
+-- 11: deck too long or without termination card
+rowsIn s es (Deck bytes) = row BadDeck (not (leb (length bytes) 16384 && terminated (cardsOf bytes))) ∷ []
+rowsIn s es Select = []
+rowsIn s es (Submit j p f k w) = submitRows s (fittedOn (s .channels) k) j p f k w
+-- 1; 6: start on a busy channel; 7: start with nothing startable
+rowsIn s es (Start k) =
+    row OutOfRange (not (configured (s .channels) k))
+    ∷ row ChannelBusy (not (isIdle (motionOn s k)))
+    ∷ row NothingStartable (isNone (find (startable s k) (s .queue)))
+    ∷ []
+-- 1; 8: completion with nothing in progress; 9: cut for a packet not stopping, failure code 00, 01, 16o, 17o or over 77o
+rowsIn s es (Complete k how) =
+    row OutOfRange (not (configured (s .channels) k))
+    ∷ row NothingInProgress (isIdle (motionOn s k))
+    ∷ row WrongCompletion (isWrong (movingStatus s (motionOn s k)) how)
+    ∷ []
+-- 1; 2: no job in that place, or it is closing
+rowsIn s es (End j inError) = row OutOfRange (not (ltb j 16)) ∷ row NoJob (not (isRunning (stateIn (s .jobs) j))) ∷ []
+-- 1, on the drum channel too
+rowsIn s es (Mark k u mark on) = row OutOfRange (not (ltb k 16 && reaches (fittedOn (s .channels) k) (OnUnit (record { 0 = u })))) ∷ []
+-- 15: no such ID, or not suspended
+rowsIn s es (Release id) = row NoSuchRequest (not (there (ofName id es) es && suspended (entryAt es (ofName id es) .state))) ∷ []
+-- 15: no such ID; 16: the job runs or closes
+rowsIn s es (Delete id) = row NoSuchRequest (not (there (ofName id es) es)) ∷ row JobRuns (active (entryAt es (ofName id es) .state)) ∷ []
+-- 1
+rowsIn s es (Status j p) = row OutOfRange (not (ltb j 16 && ltb p 16)) ∷ []
+
+-- the sentences of a call on a cell
+abbrev pub rows : Cell → Call → List Row
+rows c x = rowsIn (inside c) (held (c .schedule)) x
+
+-- a call is a selection
+abbrev pub isSelect : Call → Bool
+isSelect (Deck bytes) = false
+isSelect Select = true
+isSelect (Submit j p f k w) = false
+isSelect (Start k) = false
+isSelect (Complete k how) = false
+isSelect (End j inError) = false
+isSelect (Mark k u mark on) = false
+isSelect (Release id) = false
+isSelect (Delete id) = false
+isSelect (Status j p) = false
+
+-- 10: no place free, or no candidate has an assignment
+abbrev pub SelectRefused : Cell → Option Refusal → Type 0
+SelectRefused c o =
+    ((o ≡ some NothingSelected) × NoneToSelect (c .schedule) (c .lists)) ⊎ ((o ≡ none) × (NoneToSelect (c .schedule) (c .lists) → ⊥))
+
+-- WHICH REFUSAL ANSWERS, if any: for a selection 10 exactly when its sentence holds, for any other call the lowest of its sentences that hold
+abbrev pub RefusedBy : Bool → Cell → Call → Option Refusal → Type 0
+RefusedBy true c x o = SelectRefused c o
+RefusedBy false c x o = o ≡ lowest (rows c x)
