@@ -1,22 +1,38 @@
 -- THE THREE DEMANDS ARE MET. What the request lists' own theorems say of any history of the rules is carried to any history of the cell by what the lists
 -- hear of it. Assumes nothing.
-use Prim.Native.Nat.{ℕ}
+use Prim.Native.Nat.{ℕ, zero, suc, _≤_}
 use mathlib.Core.Path.{_≡_, refl, sym, ap, subst, _∙_}
-use mathlib.Core.Bool.{Bool, true, false}
+use mathlib.Core.Bool.{Bool, true, false, _&&_}
 use mathlib.Core.List.{List}
+use native.Mathlib.Omega.{arith}
 use lib.Dec.{ltb}
+use lib.ListN.{length, take}
 use borrow.Author.Tests.{ltb-true, ltb-false}
 use Rattle.numbers.proofs.Tests.{by-bool}
+use Rattle.numbers.specs.declared.ChannelNumber.{ChannelNumber}
 use Rattle.numbers.specs.declared.Outcome.{Outcome}
 use Rattle.numbers.specs.declared.Outcome.the-variants.{Done, Refused}
 use Rattle.numbers.specs.declared.Refusal.{Refusal}
-use Rattle.numbers.specs.declared.Refusal.the-variants.{NothingSelected}
+use Rattle.numbers.specs.declared.Refusal.the-variants.{NothingSelected, OutOfRange}
+use Rattle.units.specs.State.{assignable, unitIn}
 use Rattle.units.proofs.StateLaws.{read-beside, read-past}
 use Rattle.units.specs.declared.Unit.{Unit as UnitState}
+use Rattle.channels.specs.Channels.{hasUnit}
+use Rattle.channels.specs.declared.Channel.{Channel}
 use Rattle.channels.specs.declared.Configuration.{Configuration}
+use Rattle.configuration.specs.declared.Answer.{Answer}
 use Rattle.configuration_units.specs.Fresh.{freshUnits}
 use Rattle.configuration_units.proofs.FreshLaws.{fresh-at, fresh-square}
+use Rattle.configuration_form.specs.Form.{InForm}
 use Rattle.configuration_form.proofs.Meaning.{meaning}
+use Rattle.configuration_form.proofs.Unique.{first-named, read-back}
+use Rattle.configuration_listing.specs.Listing.{Listed, answerText, assignableUnits, counted, linesFrom}
+use Rattle.cards.specs.declared.Request.{Request}
+use Rattle.cards_writing.specs.Writing.{fits, takes, writeAnswer, written}
+use Rattle.cards_writing.specs.declared.Wrote.the-variants as Wrote′
+use Rattle.cards_round.proofs.Fits.{always-written}
+use Rattle.cards_round.proofs.Order.{same-request}
+use Rattle.assign_heads.specs.Sums.{howMany, sumTo}
 use Rattle.cards_writing.proofs.Round.{room-read}
 use Rattle.schedule_list.specs.Held.{held}
 use Rattle.packets.specs.Codes.{statusAfter}
@@ -25,6 +41,7 @@ use Rattle.packets.specs.Demand.{Holds, Isolated, NoneHeld, Stretch, fresh}
 use Rattle.packets.proofs.DemandProof.{demand3}
 use Rattle.packets.specs.Rules as Rules
 use Rattle.packets.specs.State.{State, packetIn}
+use Rattle.packets.specs.declared.Status.{Status}
 use Rattle.packets.specs.declared.Verdict.the-variants.{Granted}
 use Rattle.lists.proofs.History.{state-of}
 use Rattle.cell_selection.specs.Selecting.{Selected, SelectsBy, takingOf}
@@ -32,10 +49,14 @@ use Rattle.cell_selection.proofs.SelectingLaws.{refused-only, refused-when, tak
 use Rattle.cell_selection.specs.declared.Selection.{Selection}
 use Rattle.cell.specs.Calls.{freshCell, outcomeOf}
 use Rattle.cell.specs.declared.Cell.{Cell}
+use Rattle.cell.specs.declared.StatusAnswer.the-variants.{Is}
+use Rattle.cell.specs.declared.StatusAnswer.the-variants as Statuses
 use Rattle.cell_history.proofs.HeardLaws.{does-heard, leads-heard}
 use Rattle.cell_history.specs.Heard.{heard, inside}
-use Rattle.cell_history.specs.History.{Chosen, Does, Event, Leads, Reply, Select}
+use Rattle.cell_history.specs.History.{Call, Chosen, Does, Event, Leads, Reply, Select, Shown}
 use Rattle.demands.specs.Demands.{Demand1, Demand2, Demand3}
+use Rattle.demands.proofs.InOrder.{first-in-order}
+use Rattle.demands.proofs.Numbers.{numbers}
 use Rattle.demands.proofs.Standing.{deck-lent, stands}
 
 -- ---- the fresh cell
@@ -60,8 +81,28 @@ reached configuration es c h = leads-heard (freshCell configuration) c es h ∙ 
 
 -- ---- demand 1
 
+-- the writer keeps every byte where it refuses
+kept-room : (r : Request) (room : List ℕ) (n : Refusal) → writeAnswer r (length room) ≡ Wrote′.Refused n → written r room ≡ room
+unfolding writeAnswer written
+kept-room r room n e =
+    by-bool (takes r)
+    (λ t. by-bool (fits r (length room)) (λ f. absurd (not-cards (rw (t, f) at e))) (λ f. rw (t, f) refl))
+    (λ t. rw t refl)
+  where
+    not-cards : {k : ℕ} → Wrote′.Cards k ≡ Wrote′.Refused n → ⊥
+    not-cards {k} q = let z : _≡_ {A = ℕ} 0 1 = cc in omega arith
+
 pub demand-1 : Demand1
-demand-1 = record { stands = stands; lent = deck-lent; configuration = meaning }
+demand-1 =
+    record {
+      numbers = numbers;
+      stands = stands;
+      lent = deck-lent;
+      kept = kept-room;
+      configuration = meaning;
+      read = read-back;
+      named = first-named;
+    }
 
 -- ---- selection's answer
 
@@ -117,11 +158,50 @@ codes-at configuration es c h x =
     (sym (reached configuration es c h))
     (λ g place packet. rw g (codes (configuration .channels) (freshUnits (configuration .down)) (none-held (configuration .down)) (heard es) x g place packet))
 
+-- a status that is shown is the packet's
+shown-is : (c d : Cell) (place packet : ℕ) (status : Status) → Does c (Call.Status place packet) (Shown (Is status)) d
+    → status ≡ packetIn (inside c .jobs) place packet .status
+shown-is c d place packet status h =
+    by-bool (ltb place 16 && ltb packet 16)
+    (λ t. is (packetIn (c .lists .jobs) place packet .status) (h .0 ∙ rw t refl))
+    (λ t. absurd (not-refused {n = OutOfRange} (h .0 ∙ rw t refl)))
+  where
+    is : (s : Status) → Shown (Is status) ≡ Shown (Is s) → status ≡ s
+    is s e = cc
+
+    not-refused : {n : Refusal} → Shown (Is status) ≡ Shown (Statuses.Refused n) → ⊥
+    not-refused {n} e = let z : _≡_ {A = ℕ} 0 1 = cc in omega arith
+
+-- what the listing program puts for the written form of a configuration
+listed : (s room after : List ℕ) (r : ℕ) (of : List Channel) (marks : List Bool) → InForm s of marks → Listed s room after r
+    → 96 ≤ length room → take r after ≡ linesFrom (record { channels = of; down = marks }) 16 0
+listed s room after r of marks f l h =
+    l .whole h .0 ∙ ap (λ (a : Answer). answerText (a .verdict) (a .configuration)) (read-back s of marks f)
+
+-- the units that it counts are those of the fresh cell
+counted-to : (configuration : Configuration) (grid : List (List UnitState)) (channel : ChannelNumber) (n : ℕ)
+    → assignableUnits configuration grid channel n
+    ≡ howMany n (λ u. hasUnit configuration channel (record { 0 = u }) && assignable (unitIn grid (channel .0) u))
+unfolding assignableUnits counted sumTo
+counted-to configuration grid channel zero = refl
+counted-to configuration grid channel (suc n) = omega (arith, counted-to configuration grid channel n)
+
+counted-fresh : (configuration : Configuration) (channel : ChannelNumber)
+    → assignableUnits configuration (freshUnits (configuration .down)) channel 16
+    ≡ howMany 16 (λ u. hasUnit configuration channel (record { 0 = u }) && assignable (unitIn (inside (freshCell configuration) .units) (channel .0) u))
+unfolding fresh
+counted-fresh configuration channel =
+    counted-to configuration (freshUnits (configuration .down)) channel 16
+    ∙ ap (λ (s : State). howMany 16 (λ u. hasUnit configuration channel (record { 0 = u }) && assignable (unitIn (s .units) (channel .0) u))) (sym (fresh-inside configuration))
+
 pub demand-2 : Demand2
 demand-2 =
     record {
       cards = λ r room t f. room-read r room t f .1;
+      again = always-written;
+      same = same-request;
       selected = selected-of;
+      first = λ configuration es c h d s k. first-in-order configuration es c h s (selected-of c d s k);
       refused = λ c d o s h.
           let e = chosen-is (h .1 .1 .0) in
           let w = h .1 .0 .takes .selects in (
@@ -129,6 +209,9 @@ demand-2 =
             λ n. e .0 ∙ h .1 .0 .outcome ∙ ap outcomeOf (refused-only (c .schedule) (c .lists) (h .0 .selection) w n),
           );
       codes = codes-at;
+      shown = shown-is;
+      listing = listed;
+      counted = counted-fresh;
     }
 
 -- ---- demand 3

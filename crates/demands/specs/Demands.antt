@@ -1,64 +1,109 @@
 -- THE THREE DEMANDS, one page, to be laid beside the words of the people who asked. Each is a theorem, proved in the files named beside it, about any
 -- cell and call as the contracts of the public functions give them, and about any history of calls from a fresh cell. A reader has to believe this page.
-use Prim.Native.Nat.{ℕ}
+use Prim.Native.Nat.{ℕ, _≤_}
 use mathlib.Core.Path.{_≡_}
-use mathlib.Core.Bool.{true}
-use mathlib.Core.List.{List}
+use mathlib.Core.Bool.{Bool, true, _&&_}
+use mathlib.Core.List.{List, [], _∷_}
 use mathlib.Core.Option.{some}
 use lib.ListN.{length, take}
+use Rattle.numbers.specs.declared.ChannelNumber.{ChannelNumber}
 use Rattle.numbers.specs.declared.Outcome.{Outcome}
 use Rattle.numbers.specs.declared.Outcome.the-variants.{Done, Refused}
 use Rattle.numbers.specs.declared.Refusal.{Refusal}
 use Rattle.numbers.specs.declared.Refusal.the-variants.{NothingSelected}
+use Rattle.units.specs.State.{assignable, unitIn}
+use Rattle.channels.specs.Channels.{hasUnit}
+use Rattle.channels.specs.declared.Channel.{Channel}
 use Rattle.channels.specs.declared.Configuration.{Configuration}
-use Rattle.configuration.specs.Configured.{configurationOf}
+use Rattle.configuration.specs.Configured.{configurationOf, good, refused}
+use Rattle.configuration_form.specs.Form.{FirstBad, InForm}
 use Rattle.configuration_form.specs.Means.{Means}
+use Rattle.configuration_units.specs.Fresh.{freshUnits}
+use Rattle.configuration_listing.specs.Listing.{Listed, assignableUnits, linesFrom}
 use Rattle.cards_fields.specs.Deck.{cardsOf}
-use Rattle.cards.specs.Group.{readGroup}
+use Rattle.cards.specs.Group.{entriesOf, readGroup}
 use Rattle.cards.specs.declared.Request.{Request}
 use Rattle.cards.specs.declared.Verdict.the-variants.{Good}
-use Rattle.cards_writing.specs.Writing.{fits, takes, textOf, written}
-use Rattle.schedule_list.specs.Held.{held}
+use Rattle.cards_writing.specs.Writing.{fits, takes, textOf, writeAnswer, written}
+use Rattle.cards_writing.specs.declared.Wrote.the-variants as Wrote′
+use Rattle.cards_round.specs.Permuted.{Permuted}
+use Rattle.schedule_entries.specs.Entries.{keyOf, precedes}
+use Rattle.schedule_list.specs.Held.{entryAt, held}
+use Rattle.assign_heads.specs.Sums.{howMany}
 use Rattle.packets.specs.Codes.{statusAfter}
 use Rattle.packets.specs.Demand.{Holding, Holds, Isolated, Stretch}
 use Rattle.packets.specs.Rules as Rules
 use Rattle.packets.specs.State.{packetIn}
+use Rattle.packets.specs.declared.Status.{Status}
 use Rattle.packets.specs.declared.Verdict.the-variants.{Granted}
-use Rattle.cell_selection.specs.Selecting.{Selected, NoneToSelect}
+use Rattle.cell_selection.specs.Selecting.{Candidate, HasNone, Selected, NoneToSelect, seenIn}
 use Rattle.cell_selection.specs.declared.Selection.{Selection}
 use Rattle.cell.specs.Calls.{Enters, freshCell}
 use Rattle.cell.specs.declared.Cell.{Cell}
 use Rattle.cell.specs.declared.DeckAnswer.{DeckAnswer}
+use Rattle.cell.specs.declared.StatusAnswer.the-variants.{Is}
 use Rattle.cell_history.specs.Heard.{heard, inside}
-use Rattle.cell_history.specs.History.{Call, Chosen, Does, Event, Leads, Reply, Select}
+use Rattle.cell_history.specs.History.{Call, Chosen, Does, Event, Leads, Reply, Select, Shown}
 use Rattle.demands.specs.Refusing.{refusalIn}
+use Rattle.demands.specs.Table.{RefusedBy, isSelect}
 
--- "1. Every card, deck, configuration and call is answered, whatever is in it. Bad input gets document 01's number, and after a refused call
--- everything stands, byte for byte, as before." That each is answered is what the check says of the public functions: none has a condition on its
--- input, and each ends. The numbers are those of the pages that the functions' contracts cite.
+-- "1. Every card, deck, configuration and call is answered, whatever is in it. Bad input gets document 01's number, and after a
+-- refused call everything stands, byte for byte, as before." That each is answered is what the check says of the public functions: none
+-- has a condition on its input, and each ends.
 pub record Demand1 : Type 0 where
-  -- after a refused call the cell is, byte for byte, the cell before
+  -- "Bad input gets document 01's number": a call is refused with the lowest number of the table whose sentence holds, and only then
+  pub numbers : (c d : Cell) (x : Call) (reply : Reply) → Does c x reply d → RefusedBy (isSelect x) c x (refusalIn reply)
+  -- "after a refused call everything stands, byte for byte, as before": the cell,
   pub stands : (c d : Cell) (x : Call) (reply : Reply) (n : Refusal) → Does c x reply d → refusalIn reply ≡ some n → d ≡ c
-  -- and so is the room that was lent for a deck's answer
-  pub lent : (c : Cell) (deck room after : List ℕ) (r : DeckAnswer) (n : Refusal) → Enters c deck room after r → r .outcome ≡ Refused n → after ≡ room
+  -- the room that was lent for a deck's answer,
+  pub lent : (c : Cell) (deck room after : List ℕ) (r : DeckAnswer) (n : Refusal) → Enters c deck room after r
+      → r .outcome ≡ Refused n → after ≡ room
+  -- and the room that was lent for cards to be written, after 13 and after 12
+  pub kept : (r : Request) (room : List ℕ) (n : Refusal) → writeAnswer r (length room) ≡ Wrote′.Refused n → written r room ≡ room
   -- a configuration is read exactly if it is the written form of one; else refusal 14 names the first bad or missing line
   pub configuration : (s : List ℕ) → Means s (configurationOf s)
+  pub read : (s : List ℕ) (of : List Channel) (marks : List Bool) → InForm s of marks → configurationOf s ≡ good of marks
+  pub named : (s : List ℕ) (line : ℕ) → FirstBad s line → configurationOf s ≡ refused line
 
--- "2. It is right: cards written are read back as the same request; the job selected is the first in order, of those allowed to run, for which all
--- facilities can be found; selection is refused exactly when no place is free or no such job exists; packets end with the stated codes."
+-- "2. It is right: cards written are read back as the same request; the job selected is the first in order, of those allowed to run,
+-- for which all facilities can be found; selection is refused exactly when no place is free or no such job exists; packets end with the
+-- stated codes."
 pub record Demand2 : Type 0 where
-  -- cards written are read back as the same request
+  -- "cards written are read back as the same request": whatever request the writer takes,
   pub cards : (r : Request) (room : List ℕ) → takes r ≡ true → fits r (length room) ≡ true
       → readGroup (cardsOf (take (length (textOf r)) (written r room))) ≡ record { verdict = Good; request = r }
-  -- the job selected
+  -- and every request that was read from cards is taken, and written where the room has 162 bytes: neither 13 nor 12 arises
+  pub again : (group : List (List ℕ)) (r : Request) (room : List ℕ) → readGroup group ≡ record { verdict = Good; request = r }
+      → 162 ≤ length room
+      → (writeAnswer r (length room) ≡ Wrote′.Cards (length (textOf r)))
+      × (readGroup (cardsOf (take (length (textOf r)) (written r room))) ≡ record { verdict = Good; request = r })
+  -- "equal requests, entry order apart": the same entries in another order are the same request, so its cards are the same
+  pub same : (pty fac other : List ℕ) (r s : Request) → readGroup (pty ∷ fac ∷ []) ≡ record { verdict = Good; request = r }
+      → readGroup (pty ∷ other ∷ []) ≡ record { verdict = Good; request = s } → Permuted (entriesOf fac) (entriesOf other) → r ≡ s
+  -- "the job selected" is a candidate with an assignment, the one chosen, and the place the lowest that is free,
   pub selected : (c d : Cell) (s : Selection) → Does c Select (Chosen Done s) d → Selected (held (c .schedule)) (c .lists) s
-  -- refused exactly when no place is free or no such job exists
+  -- and it is "the first in order": by letter, then precedence, then sequence no candidate with an assignment comes before it
+  pub first : (configuration : Configuration) (es : List Event) (c : Cell) → Leads (freshCell configuration) es c
+      → (d : Cell) (s : Selection) → Does c Select (Chosen Done s) d
+      → (i : ℕ) → Candidate (held (c .schedule)) i → precedes (keyOf (entryAt (held (c .schedule)) i .request)) (keyOf (s .request)) ≡ true
+      → HasNone (seenIn (c .lists)) (entryAt (held (c .schedule)) i .request)
+  -- "selection is refused exactly when no place is free or no such job exists"
   pub refused : (c d : Cell) (o : Outcome) (s : Selection) → Does c Select (Chosen o s) d
-      → (o ≡ Refused NothingSelected → NoneToSelect (c .schedule) (c .lists)) × (NoneToSelect (c .schedule) (c .lists) → o ≡ Refused NothingSelected)
-  -- over any history: after an accepted call of the lists each packet's status is the stated one
+      → (o ≡ Refused NothingSelected → NoneToSelect (c .schedule) (c .lists))
+      × (NoneToSelect (c .schedule) (c .lists) → o ≡ Refused NothingSelected)
+  -- "packets end with the stated codes": over any history, after an accepted call each packet's status is the stated one,
   pub codes : (configuration : Configuration) (es : List Event) (c : Cell) → Leads (freshCell configuration) es c
       → (x : Rules.Call) → Rules.refusal (inside c) x ≡ Granted → (place packet : ℕ)
       → packetIn (Rules.step (inside c) x .state .jobs) place packet .status ≡ statusAfter (inside c) x place packet
+  -- and that is the status that is shown
+  pub shown : (c d : Cell) (place packet : ℕ) (status : Status) → Does c (Call.Status place packet) (Shown (Is status)) d
+      → status ≡ packetIn (inside c .jobs) place packet .status
+  -- "the second program": for each channel but the drum's its number and how many of its units are assignable in the fresh cell
+  pub listing : (s room after : List ℕ) (r : ℕ) (of : List Channel) (marks : List Bool) → InForm s of marks → Listed s room after r
+      → 96 ≤ length room → take r after ≡ linesFrom (record { channels = of; down = marks }) 16 0
+  pub counted : (configuration : Configuration) (channel : ChannelNumber)
+      → assignableUnits configuration (freshUnits (configuration .down)) channel 16
+      ≡ howMany 16 (λ u. hasUnit configuration channel (record { 0 = u }) && assignable (unitIn (inside (freshCell configuration) .units) (channel .0) u))
 
 -- "3. Take any sequence of calls from a fresh cell and one job's holding of one unit or piece of drum: the accepted calls that acted on it, given to a
 -- lone unit written separately, make the same starts in the same order and leave the same packet statuses; on a unit nothing of another job starts or

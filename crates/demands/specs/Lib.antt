@@ -1,3 +1,3 @@
 pub mod Refusing
-pub mod Demands
 pub mod Table
+pub mod Demands

@@ -10,7 +10,6 @@ use lib.Dec.{eqb, ltb}
 use lib.ListN.{length, getD, length-map, List·getD-map}
 use borrow.Author.Tests.{eq-eqb, eqb-false, eqb-true, le-ltb, ltb-false, ltb-true}
 use Rattle.numbers.proofs.Tests.{by-bool, never}
-use Rattle.numbers.specs.declared.Outcome.the-variants.{Done}
 use Rattle.channels.specs.declared.Configuration.{Configuration}
 use Rattle.cards.specs.declared.Request.{Request}
 use Rattle.schedule_entries.specs.Entries.{blank, keyOf, precedes}
@@ -19,14 +18,12 @@ use Rattle.schedule_entries.specs.declared.Key.{Key}
 use Rattle.schedule_list.specs.Held.{entryAt, held}
 use Rattle.schedule_orderly.specs.Orderly.{Ahead, Each, Pairs, requests}
 use Rattle.schedule_orderly.proofs.OrderLaws.{precedes-on}
-use Rattle.cell_selection.specs.Selecting.{Candidate, HasNone, seenIn}
+use Rattle.cell_selection.specs.Selecting.{Candidate, HasNone, Selected, seenIn}
 use Rattle.cell_selection.specs.declared.Selection.{Selection}
 use Rattle.cell.specs.Calls.{freshCell}
 use Rattle.cell.specs.declared.Cell.{Cell}
-use Rattle.cell_history.specs.History.{Chosen, Does, Event, Leads, Select}
+use Rattle.cell_history.specs.History.{Event, Leads}
 use Rattle.cell_agreement.proofs.SoundProof.{sound-always}
-use Rattle.demands.proofs.Proved.{demand-2}
-use Rattle.cell_reached.specs.InOrder.{FirstInOrder}
 
 -- each of a list, and each two of it, by their places
 each-at : (P : Request → Type 0) (rs : List Request) (j : ℕ) (d : Request) → j < length rs → Each P rs → P (getD rs j d)
@@ -68,9 +65,12 @@ module _ (es : List Entry) (keys : Pairs Ahead (requests es)) where
       past : k ≤ i → (i ≡ k → ⊥) → k < i
       past l n = omega arith
 
-pub first-in-order : FirstInOrder
-first-in-order configuration es c h d job s i k e =
-    let w = demand-2 .selected c d job s in
+-- a candidate that comes before the job selected in the selection order has no assignment
+pub first-in-order : (configuration : Configuration) (es : List Event) (c : Cell) → Leads (freshCell configuration) es c
+    → (job : Selection) → Selected (held (c .schedule)) (c .lists) job
+    → (i : ℕ) → Candidate (held (c .schedule)) i → precedes (keyOf (entryAt (held (c .schedule)) i .request)) (keyOf (job .request)) ≡ true
+    → HasNone (seenIn (c .lists)) (entryAt (held (c .schedule)) i .request)
+first-in-order configuration es c h job w i k e =
     let sound = sound-always configuration es c h in
     let f : precedes (keyOf (entryAt (held (c .schedule)) i .request)) (keyOf (entryAt (held (c .schedule)) (job .at) .request)) ≡ true =
     subst (λ (r : Request). precedes (keyOf (entryAt (held (c .schedule)) i .request)) (keyOf r) ≡ true) (w .request) e in
