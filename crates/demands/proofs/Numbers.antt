@@ -39,7 +39,7 @@ use Rattle.demands.specs.Refusing.{ofAnswer, ofOutcome, ofStatus, refusa
 use Rattle.demands.specs.Table.{RefusedBy, Row, SelectRefused, isSelect, lowest, rowsIn}
 
 -- a verdict as a refusal, if it is one
-abbrev ofVerdict : Verdict → Option Refusal
+abbrev pub ofVerdict : Verdict → Option Refusal
 ofVerdict Granted = none
 ofVerdict (Denied n) = some n
 
@@ -72,7 +72,7 @@ accepted-none s (Rules.End j b) = refl
 accepted-none s (Rules.Mark c u m on) = refl
 
 -- what is answered is what the rules say
-answers-by : (c : Cell) (x : Rules.Call) → ofAnswer (acted c x .answer) ≡ ofVerdict (Rules.refusal (stateOf (c .lists)) x)
+pub answers-by : (c : Cell) (x : Rules.Call) → ofAnswer (acted c x .answer) ≡ ofVerdict (Rules.refusal (stateOf (c .lists)) x)
 unfolding acted outcome
 answers-by c x = go (Rules.refusal (stateOf (c .lists)) x)
   where

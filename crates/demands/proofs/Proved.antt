@@ -2,8 +2,9 @@
 -- hear of it. Assumes nothing.
 use Prim.Native.Nat.{ℕ, zero, suc, _≤_}
 use mathlib.Core.Path.{_≡_, refl, sym, ap, subst, _∙_}
-use mathlib.Core.Bool.{Bool, true, false, _&&_}
-use mathlib.Core.List.{List}
+use mathlib.Core.Bool.{Bool, true, false, cond, _&&_}
+use mathlib.Core.List.{List, [], _∷_}
+use mathlib.Core.Option.{none}
 use native.Mathlib.Omega.{arith}
 use lib.Dec.{ltb}
 use lib.ListN.{length, take}
@@ -42,21 +43,23 @@ use Rattle.packets.proofs.DemandProof.{demand3}
 use Rattle.packets.specs.Rules as Rules
 use Rattle.packets.specs.State.{State, packetIn}
 use Rattle.packets.specs.declared.Status.{Status}
-use Rattle.packets.specs.declared.Verdict.the-variants.{Granted}
+use Rattle.packets.specs.declared.Verdict.{Verdict}
+use Rattle.packets.specs.declared.Verdict.the-variants.{Denied, Granted}
 use Rattle.lists.proofs.History.{state-of}
-use Rattle.cell_selection.specs.Selecting.{Selected, SelectsBy, takingOf}
+use Rattle.cell_selection.specs.Selecting.{Selected, Selects, SelectsBy, takingOf}
 use Rattle.cell_selection.proofs.SelectingLaws.{refused-only, refused-when, taking-granted}
 use Rattle.cell_selection.specs.declared.Selection.{Selection}
-use Rattle.cell.specs.Calls.{freshCell, outcomeOf}
+use Rattle.cell.specs.Calls.{acted, freshCell, outcomeOf}
 use Rattle.cell.specs.declared.Cell.{Cell}
 use Rattle.cell.specs.declared.StatusAnswer.the-variants.{Is}
 use Rattle.cell.specs.declared.StatusAnswer.the-variants as Statuses
 use Rattle.cell_history.proofs.HeardLaws.{does-heard, leads-heard}
-use Rattle.cell_history.specs.Heard.{heard, inside}
-use Rattle.cell_history.specs.History.{Call, Chosen, Does, Event, Leads, Reply, Select, Shown}
+use Rattle.cell_history.specs.Heard.{heard, heardOf, inside, taken}
+use Rattle.cell_history.specs.History.{Call, Chosen, Does, Event, Leads, Reply, Said, Select, Shown}
 use Rattle.demands.specs.Demands.{Demand1, Demand2, Demand3}
 use Rattle.demands.proofs.InOrder.{first-in-order}
-use Rattle.demands.proofs.Numbers.{numbers}
+use Rattle.demands.specs.Refusing.{refusalIn}
+use Rattle.demands.proofs.Numbers.{answers-by, numbers, ofVerdict}
 use Rattle.demands.proofs.Standing.{deck-lent, stands}
 
 -- ---- the fresh cell
@@ -158,6 +161,59 @@ codes-at configuration es c h x =
     (sym (reached configuration es c h))
     (λ g place packet. rw g (codes (configuration .channels) (freshUnits (configuration .down)) (none-held (configuration .down)) (heard es) x g place packet))
 
+-- ---- an accepted call of the lists
+
+granted-of : (v : Verdict) → ofVerdict v ≡ none → v ≡ Granted
+granted-of Granted e = refl
+granted-of (Denied n) e = absurd (let z : _≡_ {A = ℕ} 0 1 = cc in omega arith)
+
+-- what a call of the lists is accepted for
+module _ (c : Cell) (y : Rules.Call) where
+  alone : (x : Rules.Call) (reply : Reply) → reply ≡ Said (acted c x .answer) → refusalIn reply ≡ none → x ∷ [] ≡ y ∷ [] → Rules.refusal (inside c) y ≡ Granted
+  alone x reply h e q =
+      let g : Rules.refusal (inside c) x ≡ Granted = granted-of (Rules.refusal (inside c) x) (sym (answers-by c x) ∙ sym (ap refusalIn h) ∙ e) in
+      let p : x ≡ y = cc in
+      subst (λ (z : Rules.Call). Rules.refusal (inside c) z ≡ Granted) p g
+
+  not-cons : _≡_ {A = List Rules.Call} [] (y ∷ []) → ⊥
+  not-cons q = let z : _≡_ {A = ℕ} 0 1 = cc in omega arith
+
+  taken-one : (s : Selection) → Selects (c .schedule) (c .lists) s → cond (s .found) (takingOf s ∷ []) [] ≡ y ∷ [] → Rules.refusal (inside c) y ≡ Granted
+  taken-one s w q =
+      by-bool (s .found)
+      (λ t. let p : takingOf s ∷ [] ≡ y ∷ [] = rw t at q in
+      let i : takingOf s ≡ y = cc in
+      subst (λ (z : Rules.Call). Rules.refusal (inside c) z ≡ Granted) i
+      (taking-granted (c .schedule) (c .lists) s (subst (λ (b : Bool). SelectsBy b (held (c .schedule)) (c .lists) s) t w)))
+      (λ t. absurd (not-cons (rw t at q)))
+
+heard-granted : (c d : Cell) (x : Call) (reply : Reply) → Does c x reply d → refusalIn reply ≡ none → (y : Rules.Call) → heardOf x reply ≡ y ∷ [] → Rules.refusal (inside c) y ≡ Granted
+heard-granted c d (Call.Deck bytes) reply h e y q = absurd (not-cons c y q)
+heard-granted c d Select reply h e y q = taken-one c y (h .0 .selection) (h .1 .0 .takes .selects) (sym (ap taken (h .1 .1 .0)) ∙ q)
+heard-granted c d (Call.Submit j p f k w) reply h e y q = alone c y (Rules.Submit j p f k w) reply (h .0) e q
+heard-granted c d (Call.Start k) reply h e y q = alone c y (Rules.Start k) reply (h .0) e q
+heard-granted c d (Call.Complete k how) reply h e y q = alone c y (Rules.Complete k how) reply (h .0) e q
+heard-granted c d (Call.End j b) reply h e y q = alone c y (Rules.End j b) reply (h .0) e q
+heard-granted c d (Call.Mark k u m on) reply h e y q = alone c y (Rules.Mark k u m on) reply (h .0) e q
+heard-granted c d (Call.Release id) reply h e y q = absurd (not-cons c y q)
+heard-granted c d (Call.Delete id) reply h e y q = absurd (not-cons c y q)
+heard-granted c d (Call.Status j p) reply h e y q = absurd (not-cons c y q)
+
+-- the stated codes, in the cell that follows
+codes-in : (configuration : Configuration) (es : List Event) (c : Cell) → Leads (freshCell configuration) es c
+    → (d : Cell) (x : Call) (reply : Reply) → Does c x reply d → refusalIn reply ≡ none
+    → (y : Rules.Call) → heardOf x reply ≡ y ∷ []
+    → (place packet : ℕ) → packetIn (inside d .jobs) place packet .status ≡ statusAfter (inside c) y place packet
+unfolding Rules.run
+codes-in configuration es c h d x reply k e y q place packet =
+    let i : inside d ≡ Rules.step (inside c) y .state = does-heard c d x reply k ∙ ap (Rules.run (inside c)) q in
+    ap (λ (s : State). packetIn (s .jobs) place packet .status) i
+    ∙ codes-at configuration es c h y (heard-granted c d x reply k e y q) place packet
+
+others-stay : (c d : Cell) (x : Call) (reply : Reply) → Does c x reply d → heardOf x reply ≡ [] → inside d ≡ inside c
+unfolding Rules.run
+others-stay c d x reply k q = does-heard c d x reply k ∙ ap (Rules.run (inside c)) q
+
 -- a status that is shown is the packet's
 shown-is : (c d : Cell) (place packet : ℕ) (status : Status) → Does c (Call.Status place packet) (Shown (Is status)) d
     → status ≡ packetIn (inside c .jobs) place packet .status
@@ -208,7 +264,8 @@ demand-2 =
             λ q. refused-when (c .schedule) (c .lists) (h .0 .selection) w (refused-found (h .0 .selection .found) (sym (h .1 .0 .outcome) ∙ sym (e .0) ∙ q)),
             λ n. e .0 ∙ h .1 .0 .outcome ∙ ap outcomeOf (refused-only (c .schedule) (c .lists) (h .0 .selection) w n),
           );
-      codes = codes-at;
+      codes = codes-in;
+      others = others-stay;
       shown = shown-is;
       listing = listed;
       counted = counted-fresh;

@@ -4,7 +4,7 @@ use Prim.Native.Nat.{ℕ, _≤_}
 use mathlib.Core.Path.{_≡_}
 use mathlib.Core.Bool.{Bool, true, _&&_}
 use mathlib.Core.List.{List, [], _∷_}
-use mathlib.Core.Option.{some}
+use mathlib.Core.Option.{none, some}
 use lib.ListN.{length, take}
 use Rattle.numbers.specs.declared.ChannelNumber.{ChannelNumber}
 use Rattle.numbers.specs.declared.Outcome.{Outcome}
@@ -35,14 +35,13 @@ use Rattle.packets.specs.Demand.{Holding, Holds, Isolated, Stretch}
 use Rattle.packets.specs.Rules as Rules
 use Rattle.packets.specs.State.{packetIn}
 use Rattle.packets.specs.declared.Status.{Status}
-use Rattle.packets.specs.declared.Verdict.the-variants.{Granted}
 use Rattle.cell_selection.specs.Selecting.{Candidate, HasNone, Selected, NoneToSelect, seenIn}
 use Rattle.cell_selection.specs.declared.Selection.{Selection}
 use Rattle.cell.specs.Calls.{Enters, freshCell}
 use Rattle.cell.specs.declared.Cell.{Cell}
 use Rattle.cell.specs.declared.DeckAnswer.{DeckAnswer}
 use Rattle.cell.specs.declared.StatusAnswer.the-variants.{Is}
-use Rattle.cell_history.specs.Heard.{heard, inside}
+use Rattle.cell_history.specs.Heard.{heard, heardOf, inside}
 use Rattle.cell_history.specs.History.{Call, Chosen, Does, Event, Leads, Reply, Select, Shown}
 use Rattle.demands.specs.Refusing.{refusalIn}
 use Rattle.demands.specs.Table.{RefusedBy, isSelect}
@@ -93,8 +92,11 @@ pub record Demand2 : Type 0 where
       × (NoneToSelect (c .schedule) (c .lists) → o ≡ Refused NothingSelected)
   -- "packets end with the stated codes": over any history, after an accepted call each packet's status is the stated one,
   pub codes : (configuration : Configuration) (es : List Event) (c : Cell) → Leads (freshCell configuration) es c
-      → (x : Rules.Call) → Rules.refusal (inside c) x ≡ Granted → (place packet : ℕ)
-      → packetIn (Rules.step (inside c) x .state .jobs) place packet .status ≡ statusAfter (inside c) x place packet
+      → (d : Cell) (x : Call) (reply : Reply) → Does c x reply d → refusalIn reply ≡ none
+      → (y : Rules.Call) → heardOf x reply ≡ y ∷ []
+      → (place packet : ℕ) → packetIn (inside d .jobs) place packet .status ≡ statusAfter (inside c) y place packet
+  -- and a call that is none of the request lists leaves all packets as they are,
+  pub others : (c d : Cell) (x : Call) (reply : Reply) → Does c x reply d → heardOf x reply ≡ [] → inside d ≡ inside c
   -- and that is the status that is shown
   pub shown : (c d : Cell) (place packet : ℕ) (status : Status) → Does c (Call.Status place packet) (Shown (Is status)) d
       → status ≡ packetIn (inside c .jobs) place packet .status
