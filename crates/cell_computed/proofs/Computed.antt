@@ -1,0 +1,194 @@
+-- A CELL THAT IS COMPUTED: what each call answers and leaves, as functions that compute. Whatever the contracts allow is what they compute, so that
+-- cases are shown by computing. Selection goes through the candidates with the computed assigner. Assumes nothing.
+use Prim.Native.Nat.{ℕ, zero, suc, _+_, _≤_, _<_}
+use mathlib.Core.Path.{_≡_, refl, sym, ap, subst, _∙_}
+use mathlib.Core.Bool.{Bool, true, false, cond, _&&_}
+use mathlib.Core.List.{List, [], _∷_}
+use mathlib.Core.Logic.{_⊎_, inl, inr, ⊎-elim}
+use native.Mathlib.Nat.{eq-or-lt-of-le}
+use native.Mathlib.Omega.{arith}
+use lib.Dec.{eqb, ltb}
+use lib.ListN.{length, getD}
+use borrow.Author.Tests.{eqb-true}
+use Rattle.numbers.proofs.Tests.{by-bool, both, never}
+use Rattle.cards.specs.declared.Request.{Request}
+use Rattle.schedule_entries.specs.Entries.{blank}
+use Rattle.schedule_entries.specs.declared.Entry.{Entry}
+use Rattle.schedule_list.specs.Held.{entryAt, held}
+use Rattle.schedule_list.specs.declared.Schedule.{Schedule}
+use Rattle.schedule.specs.Candidates.{candidate}
+use Rattle.schedule_deck.specs.Report.{deckOutcome, deckSchedule}
+use Rattle.assign.specs.Assignment as Assign
+use Rattle.assign.specs.Chosen.{Answer, nothing}
+use Rattle.assign.proofs.Computed.{assign-answers, assignOf}
+use Rattle.assign.specs.declared.Assigned.{Assigned}
+use Rattle.packets.specs.Rules as Rules
+use Rattle.packets.specs.State.{isEmpty, stateIn}
+use Rattle.packets.specs.declared.Job.{Job}
+use Rattle.packets.specs.declared.Lists.{Lists}
+use Rattle.cell_taken.specs.Taken.{LowestFree}
+use Rattle.cell_taken.specs.declared.FreePlace.{FreePlace}
+use Rattle.cell_taken.specs.declared.FreePlace.the-variants.{At, Full}
+use Rattle.cell_selection.specs.Selecting.{Candidate, HasNone, NoFit, Picks, Selects, leftBy, noSelection, seenIn}
+use Rattle.cell_selection.specs.declared.Pick.{Pick}
+use Rattle.cell_selection.specs.declared.Selection.{Selection}
+use Rattle.cell.specs.Calls.{SelectsIn, acted, cellOf, deleting, outcomeOf, releasing, statusOf}
+use Rattle.cell.specs.declared.Cell.{Cell}
+use Rattle.cell.specs.declared.SelectAnswer.{SelectAnswer}
+use Rattle.cell_history.proofs.One.{selects-in-one}
+use Rattle.cell_history.specs.History.{Call, Chosen, Complete, Deck, Delete, Does, End, Entered, Mark, Release, Reply, Said, Select, Shown, Start, Status, Submit}
+
+-- ---- the first candidate with an assignment, of n from index k on
+
+abbrev orNext : ℕ → Assigned → Pick → Pick
+orNext k a next = cond (a .found) (record { found = true; at = k; assigned = a }) next
+
+abbrev pickFrom : List Entry → Assign.Cell → ℕ → ℕ → Pick
+pickFrom es cell zero k = record { found = false; at = 0; assigned = nothing }
+pickFrom es cell (suc n) k =
+    cond (candidate es (entryAt es k)) (orNext k (assignOf cell (entryAt es k .request .facilities)) (pickFrom es cell n (suc k))) (pickFrom es cell n (suc k))
+
+module _ (es : List Entry) (cell : Assign.Cell) (size : length (cell .channels) ≡ 16) (full : (k : ℕ) → length (entryAt es k .request .facilities .units) ≡ 48) where
+  -- no candidate before k has an assignment
+  abbrev None : ℕ → Type 0
+  None k = (i : ℕ) → i < k → Candidate es i → HasNone cell (entryAt es i .request)
+
+  one-more : (k : ℕ) → None k → (Candidate es k → HasNone cell (entryAt es k .request)) → None (suc k)
+  one-more k before here i h c = ⊎-elim (λ e. subst (λ (x : ℕ). Candidate es x → HasNone cell (entryAt es x .request)) (sym e) here c) (λ l. before i l c) (eq-or-lt-of-le (less i k h))
+    where
+      less : (i k : ℕ) → i < suc k → i ≤ k
+      less i k h = omega arith
+
+  picks-from : (n k : ℕ) → k + n ≡ length es → None k → Picks es cell (pickFrom es cell n k)
+  picks-from zero k e before = (λ i c. before i (omega (arith, c .0)) c, (refl, refl))
+  picks-from (suc n) k e before =
+      by-bool (candidate es (entryAt es k))
+      (λ c. rw c (tried c (assignOf cell (entryAt es k .request .facilities)) (assign-answers cell (entryAt es k .request .facilities) size (full k)) (picks-from n (suc k) (omega arith))))
+      (λ c. rw c (picks-from n (suc k) (omega arith) (one-more k before (λ d. never (d .1) c))))
+    where
+      tried : candidate es (entryAt es k) ≡ true → (a : Assigned) → Answer (a .found) cell (entryAt es k .request .facilities) a
+          → (None (suc k) → Picks es cell (pickFrom es cell n (suc k))) → Picks es cell (orNext k a (pickFrom es cell n (suc k)))
+      tried c a w next = by-found (a .found) refl
+        where
+          by-found : (b : Bool) → a .found ≡ b → Picks es cell (cond b (record { found = true; at = k; assigned = a }) (pickFrom es cell n (suc k)))
+          by-found true t = record { candidate = (omega arith, c); found = t; chosen = subst (λ (b : Bool). Answer b cell (entryAt es k .request .facilities) a) t w; first = before }
+          by-found false t = next (one-more k before (λ d b i. subst (λ (x : Bool). Answer x cell (entryAt es k .request .facilities) a) t w .never b i))
+
+  pub picks : Picks es cell (pickFrom es cell (length es) 0)
+  picks = picks-from (length es) 0 (omega arith) (λ i h. absurd (omega arith))
+
+-- ---- the lowest free place, of n from place p on
+
+abbrev placeFrom : List Job → ℕ → ℕ → FreePlace
+placeFrom jobs zero p = Full
+placeFrom jobs (suc n) p = cond (isEmpty (stateIn jobs p)) (At p) (placeFrom jobs n (suc p))
+
+place-from : (jobs : List Job) (n p : ℕ) → p + n ≡ 16 → ((q : ℕ) → q < p → isEmpty (stateIn jobs q) ≡ false) → LowestFree jobs (placeFrom jobs n p)
+place-from jobs zero p e before = λ q h. before q (omega arith)
+place-from jobs (suc n) p e before =
+    by-bool (isEmpty (stateIn jobs p))
+    (λ t. rw t (omega arith, (t, before)))
+    (λ t. rw t (place-from jobs n (suc p) (omega arith) (λ q h. upto q h t)))
+  where
+    upto : (q : ℕ) → q < suc p → isEmpty (stateIn jobs p) ≡ false → isEmpty (stateIn jobs q) ≡ false
+    upto q h t = ⊎-elim (λ e. ap (λ (x : ℕ). isEmpty (stateIn jobs x)) e ∙ t) (λ l. before q l) (eq-or-lt-of-le (less q h))
+      where
+        less : (q : ℕ) → q < suc p → q ≤ p
+        less q h = omega arith
+
+-- ---- selection
+
+abbrev selectedAs : Schedule → ℕ → Pick → Selection
+selectedAs schedule place p =
+    cond (p .found) (record { found = true; place = place; at = p .at; request = entryAt (held schedule) (p .at) .request; assigned = p .assigned }) noSelection
+
+abbrev selectionBy : Schedule → Lists → FreePlace → Selection
+selectionBy schedule lists Full = noSelection
+selectionBy schedule lists (At place) = selectedAs schedule place (pickFrom (held schedule) (seenIn lists) (length (held schedule)) 0)
+
+abbrev pub selectionOf : Schedule → Lists → Selection
+selectionOf schedule lists = selectionBy schedule lists (placeFrom (lists .jobs) 16 0)
+
+abbrev pub selectOf : Cell → SelectAnswer
+selectOf c =
+    let s = selectionOf (c .schedule) (c .lists) in
+    record { outcome = outcomeOf (s .found); selection = s; cell = cellOf (leftBy (s .found) (c .schedule) (c .lists) s .0) (leftBy (s .found) (c .schedule) (c .lists) s .1) }
+
+-- the request's counts and the cell's channels are as many as they are in every cell of the code
+abbrev countsFull : List Entry → Bool
+countsFull [] = true
+countsFull (e ∷ es) = eqb (length (e .request .facilities .units)) 48 && countsFull es
+
+abbrev pub sized : Cell → Bool
+sized c = eqb (length (c .lists .channels)) 16 && countsFull (held (c .schedule))
+
+counts-full : (es : List Entry) → countsFull es ≡ true → (k : ℕ) → length (entryAt es k .request .facilities .units) ≡ 48
+counts-full [] f k = refl
+counts-full (e ∷ es) f zero = eqb-true (length (e .request .facilities .units)) 48 (both (eqb (length (e .request .facilities .units)) 48) (countsFull es) f .0)
+counts-full (e ∷ es) f (suc k) = counts-full es (both (eqb (length (e .request .facilities .units)) 48) (countsFull es) f .1) k
+
+module _ (c : Cell) (s : sized c ≡ true) where
+  parts : (eqb (length (c .lists .channels)) 16 ≡ true) × (countsFull (held (c .schedule)) ≡ true)
+  parts = both (eqb (length (c .lists .channels)) 16) (countsFull (held (c .schedule))) s
+
+  picked : Picks (held (c .schedule)) (seenIn (c .lists)) (pickFrom (held (c .schedule)) (seenIn (c .lists)) (length (held (c .schedule))) 0)
+  picked = picks (held (c .schedule)) (seenIn (c .lists)) (eqb-true (length (c .lists .channels)) 16 (parts .0)) (counts-full (held (c .schedule)) (parts .1))
+
+  selects-at : (place : ℕ) → LowestFree (c .lists .jobs) (At place) → (p : Pick) → Picks (held (c .schedule)) (seenIn (c .lists)) p → Selects (c .schedule) (c .lists) (selectedAs (c .schedule) place p)
+  selects-at place l p w =
+      by-bool (p .found)
+      (λ t. rw t (record { place = l; fit = rw t at w; request = refl }))
+      (λ t. rw t (record { why = inr ((rw t at w) .0); blank = refl }))
+
+  selects-by : (f : FreePlace) → LowestFree (c .lists .jobs) f → Selects (c .schedule) (c .lists) (selectionBy (c .schedule) (c .lists) f)
+  selects-by Full l = record { why = inl l; blank = refl }
+  selects-by (At place) l = selects-at place l (pickFrom (held (c .schedule)) (seenIn (c .lists)) (length (held (c .schedule))) 0) picked
+
+  pub selects : SelectsIn c (selectOf c)
+  selects = record { outcome = refl; takes = record { selects = selects-by (placeFrom (c .lists .jobs) 16 0) (place-from (c .lists .jobs) 16 0 refl (λ q h. absurd (omega arith))); leaves = refl } }
+
+-- ---- every call
+
+-- what a call answers and leaves
+abbrev pub replyOf : Cell → Call → Reply
+replyOf c (Deck bytes) = Entered (deckOutcome bytes)
+replyOf c Select = Chosen (selectOf c .outcome) (selectOf c .selection)
+replyOf c (Submit j p f k w) = Said (acted c (Rules.Submit j p f k w) .answer)
+replyOf c (Start k) = Said (acted c (Rules.Start k) .answer)
+replyOf c (Complete k how) = Said (acted c (Rules.Complete k how) .answer)
+replyOf c (End j e) = Said (acted c (Rules.End j e) .answer)
+replyOf c (Mark k u m on) = Said (acted c (Rules.Mark k u m on) .answer)
+replyOf c (Release id) = Said (releasing c id .answer)
+replyOf c (Delete id) = Said (deleting c id .answer)
+replyOf c (Status j p) = Shown (statusOf c j p)
+
+abbrev pub cellAfter : Cell → Call → Cell
+cellAfter c (Deck bytes) = cellOf (deckSchedule (c .schedule) bytes) (c .lists)
+cellAfter c Select = selectOf c .cell
+cellAfter c (Submit j p f k w) = acted c (Rules.Submit j p f k w) .cell
+cellAfter c (Start k) = acted c (Rules.Start k) .cell
+cellAfter c (Complete k how) = acted c (Rules.Complete k how) .cell
+cellAfter c (End j e) = acted c (Rules.End j e) .cell
+cellAfter c (Mark k u m on) = acted c (Rules.Mark k u m on) .cell
+cellAfter c (Release id) = releasing c id .cell
+cellAfter c (Delete id) = deleting c id .cell
+cellAfter c (Status j p) = c
+
+-- WHATEVER THE CONTRACTS ALLOW IS WHAT IS COMPUTED
+pub does-computed : (c d : Cell) (x : Call) (reply : Reply) → sized c ≡ true → Does c x reply d → (reply ≡ replyOf c x) × (d ≡ cellAfter c x)
+does-computed c d (Deck bytes) reply s h =
+    let e = h .2 .1 .0 in
+    let k : h .2 .0 .cell .schedule ≡ deckSchedule (c .schedule) bytes = e .deck .then in
+    let l : h .2 .0 .cell .lists ≡ c .lists = e .lists in
+    (h .2 .1 .1 .0 ∙ ap Entered (e .deck .outcome), h .2 .1 .1 .1 ∙ λ i. record { schedule = k i; lists = l i })
+does-computed c d Select reply s h =
+    let e = selects-in-one c (h .0) (selectOf c) (h .1 .0) (selects c s) in
+    (h .1 .1 .0 ∙ ap (λ (r : SelectAnswer). Chosen (r .outcome) (r .selection)) e, h .1 .1 .1 ∙ ap (λ (r : SelectAnswer). r .cell) e)
+does-computed c d (Submit j p f k w) reply s h = h
+does-computed c d (Start k) reply s h = h
+does-computed c d (Complete k how) reply s h = h
+does-computed c d (End j e) reply s h = h
+does-computed c d (Mark k u m on) reply s h = h
+does-computed c d (Release id) reply s h = h
+does-computed c d (Delete id) reply s h = h
+does-computed c d (Status j p) reply s h = h
