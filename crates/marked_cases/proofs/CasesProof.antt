@@ -1,25 +1,62 @@
--- THE MARKED CASES HOLD, all of them: K1 and K3 are computed from the cards' bytes, the assigner's cases and K9 are those of their own pages. Assumes nothing.
-use mathlib.Core.Path.{refl}
-use Rattle.marked_cases.proofs.FacilitiesProof.{k2, k4, k5, k6, k7, k8}
-use Rattle.packets.proofs.EndsMovingProof.{k9}
+-- THE MARKED CASES HOLD, all of them, by computing: decks and cards from their bytes, calls by the computed cell, which is what the contracts allow.
+-- Assumes nothing.
+use mathlib.Core.Path.{_≡_, refl, sym, ap, subst, _∙_}
+use mathlib.Core.Bool.{true}
+use mathlib.Core.List.{List, [], _∷_}
+use Rattle.numbers.specs.declared.Refusal.the-variants.{NothingSelected}
+use Rattle.units.specs.State.{unitIn, unitSet, assignable}
+use Rattle.channels.specs.Channels.{noChannels}
+use Rattle.packets.specs.Demand.{fresh}
+use Rattle.cell.specs.Calls.{acted, freshCell}
+use Rattle.cell.specs.declared.Cell.{Cell}
+use Rattle.cell_computed.proofs.Computed.{cellAfter, does-computed, replyOf, sized}
+use Rattle.cell_history.specs.History.{Does, Reply}
 use Rattle.schedule_deck.specs.Report.{after, groupText, reportText, shownBy}
+use Rattle.cards_writing.specs.Writing.{priorityText}
+use Rattle.packets.proofs.EndsMovingProof.{k9}
 use Rattle.cards.specs.Fac.{askedOf, codeError, codes, entryOf, formError}
-use Rattle.schedule.specs.Calls.{barred, clashError, enterError, sameThere}
+use Rattle.schedule.specs.Calls.{barred, clashError, enterError, returnedAt, sameThere}
+use Rattle.schedule.specs.Candidates.{candidate}
 use Rattle.cards_fields.specs.Fields.{cardByte, fields, malformed}
 use Rattle.cards_fields.specs.Deck.{deckEnd}
 use Rattle.text.specs.Writing.{digitsText}
 use Rattle.cards.specs.Group.{facError, facOf, frontError, orderedError, ptyError, readCards}
-use Rattle.schedule_list.specs.Held.{inserted, insertedInto, scheduleOf, spliced, without}
+use Rattle.schedule_list.specs.Held.{changedAt, inserted, insertedInto, scheduleOf, spliced, withState, without}
 use Rattle.numbers.specs.Quoted.{is2, bytes}
 use Rattle.text.specs.Class.{isAlnum, isDigit, isLetter}
 use Rattle.numbers.specs.Kinds.{kindOf}
 use Rattle.schedule_entries.specs.Entries.{lowerSequence, precedes, sameKey, sameRank}
 use Rattle.words.specs.Words.{numberIn as numberOfText}
 use Rattle.cards.specs.Pty.{priorityOf, programName, ranked, rules}
-use Rattle.cards_writing.specs.Writing.{priorityText}
 use Rattle.text.specs.Reading.{twoDigitsOf}
-use Rattle.marked_cases.specs.Cases.{All, Holds, Prints, Errs, k1Deck, marked}
-use mathlib.Core.List.{[], _∷_}
+use Rattle.functions.specs.Legal.{legalOf}
+use Rattle.configuration_units.specs.Fresh.{freshUnits}
+use Rattle.assign_core.proofs.Computed.{searchOf, runB, fitsB}
+use Rattle.assign_drum.proofs.Computed.{startOf, areaB}
+use Rattle.assign_channels.specs.Greedy.{ge, testsB, lowestFrom, picks, chooseOf}
+use Rattle.assign_heads.specs.Sums.{sumTo}
+use Rattle.assign_heads.proofs.Computed.{giveFrom, serviceOf, serveOf}
+use Rattle.assign_free.specs.Assignable.{isFreeOf}
+use Rattle.assign.specs.Assignment.{drumLength}
+use Rattle.assign.proofs.Computed.{kindsFrom, assignOf}
+use Rattle.packets.specs.Rules.{accept, answer, refusal}
+use Rattle.packets.specs.State.{configured, drumOn, enlisted, entryOf as entryOf′, fittedOn, packetIn, packetOf, placeOf, put, relist, releaseAll, restatusAll, setState, stateIn, takeAll}
+use Rattle.lists.specs.Outcomes.{outcome}
+use Rattle.cell_taken.specs.Taken.{wordFrom}
+use Rattle.marked_cases.specs.Cases.{All, Errs, Follows, Given, Holds, Plays, Prints, Refused, Step, alone, drumChannels, k1Deck, k4Steps, marked, mtChannels, seen, with·}
+
+-- what computing has to show
+abbrev Computes : Cell → List Step → Type 0
+Computes c [] = Unit {0}
+Computes c (s ∷ ss) = (sized c ≡ true) × ((seen (replyOf c (s .call)) ≡ s .seen) × Computes (cellAfter c (s .call)) ss)
+
+follows : (c : Cell) (ss : List Step) → Computes c ss → Follows c ss
+follows c [] k = tt
+follows c (s ∷ ss) k = λ reply d h.
+    let e = does-computed c d (s .call) reply (k .0) h in
+    (ap seen (e .0) ∙ k .1 .0, subst (λ (x : Cell). Follows x ss) (sym (e .1)) (follows (cellAfter c (s .call)) ss (k .1 .1)))
+
+-- ---- K1 and K3, from the cards' bytes
 
 k1 : Holds (Prints k1Deck (bytes "SP B7 ER 31\nD4 01A05\nA1 02A05\nD4 SCH ACK\n"))
 unfolding after askedOf barred cardByte clashError codeError codes deckEnd digitsText enterError entryOf facError facOf fields formError frontError groupText inserted insertedInto is2 isAlnum isDigit isLetter kindOf lowerSequence malformed numberOfText orderedError precedes priorityOf priorityText programName ptyError ranked readCards reportText rules sameKey sameRank sameThere scheduleOf shownBy spliced twoDigitsOf without
@@ -29,6 +66,32 @@ k3 : Holds (Errs (bytes "A1,PTY,2,,ECU,,T,PROG,P,A5,P,3." ∷ bytes "A1,FAC,IB/1
 unfolding askedOf cardByte codeError codes digitsText entryOf facError facOf fields formError frontError is2 isAlnum isDigit isLetter kindOf malformed numberOfText orderedError priorityOf programName ptyError ranked readCards rules twoDigitsOf
 k3 = refl
 
+-- ---- K2 and K4 to K8, by the computed cell
+
+k2 : Holds (Plays (with· noChannels) (alone (bytes "IB/28") (Given 0 2 0 0 0 0 0)))
+unfolding after askedOf barred cardByte clashError codeError codes deckEnd digitsText enterError entryOf facError facOf fields formError frontError inserted insertedInto is2 isAlnum isDigit isLetter kindOf lowerSequence malformed numberOfText orderedError precedes priorityOf programName ptyError ranked readCards rules sameKey sameRank sameThere scheduleOf shownBy spliced twoDigitsOf without assignOf kindsFrom searchOf runB fitsB startOf areaB drumLength serveOf serviceOf giveFrom chooseOf picks lowestFrom testsB ge sumTo isFreeOf unitIn unitSet assignable legalOf refusal accept answer fresh fittedOn drumOn configured packetIn stateIn put relist enlisted entryOf′ placeOf packetOf setState restatusAll takeAll releaseAll freshCell acted outcome candidate wordFrom freshUnits changedAt withState returnedAt
+k2 = let k : Computes (freshCell (with· noChannels)) (alone (bytes "IB/28") (Given 0 2 0 0 0 0 0)) = (refl, (refl, (refl, (refl, tt)))) in follows (freshCell (with· noChannels)) (alone (bytes "IB/28") (Given 0 2 0 0 0 0 0)) k
+
+k4 : Holds (Plays (with· noChannels) k4Steps)
+unfolding after askedOf barred cardByte clashError codeError codes deckEnd digitsText enterError entryOf facError facOf fields formError frontError inserted insertedInto is2 isAlnum isDigit isLetter kindOf lowerSequence malformed numberOfText orderedError precedes priorityOf programName ptyError ranked readCards rules sameKey sameRank sameThere scheduleOf shownBy spliced twoDigitsOf without assignOf kindsFrom searchOf runB fitsB startOf areaB drumLength serveOf serviceOf giveFrom chooseOf picks lowestFrom testsB ge sumTo isFreeOf unitIn unitSet assignable legalOf refusal accept answer fresh fittedOn drumOn configured packetIn stateIn put relist enlisted entryOf′ placeOf packetOf setState restatusAll takeAll releaseAll freshCell acted outcome candidate wordFrom freshUnits changedAt withState returnedAt
+k4 = let k : Computes (freshCell (with· noChannels)) k4Steps = (refl, (refl, (refl, (refl, (refl, (refl, (refl, (refl, (refl, (refl, (refl, (refl, (refl, (refl, (refl, (refl, tt)))))))))))))))) in follows (freshCell (with· noChannels)) k4Steps k
+
+k5 : Holds (Plays (with· mtChannels) (alone (bytes "IB/1,MT1/2,MT2/3") (Given 0 2 0 0 0 5 3)))
+unfolding after askedOf barred cardByte clashError codeError codes deckEnd digitsText enterError entryOf facError facOf fields formError frontError inserted insertedInto is2 isAlnum isDigit isLetter kindOf lowerSequence malformed numberOfText orderedError precedes priorityOf programName ptyError ranked readCards rules sameKey sameRank sameThere scheduleOf shownBy spliced twoDigitsOf without assignOf kindsFrom searchOf runB fitsB startOf areaB drumLength serveOf serviceOf giveFrom chooseOf picks lowestFrom testsB ge sumTo isFreeOf unitIn unitSet assignable legalOf refusal accept answer fresh fittedOn drumOn configured packetIn stateIn put relist enlisted entryOf′ placeOf packetOf setState restatusAll takeAll releaseAll freshCell acted outcome candidate wordFrom freshUnits changedAt withState returnedAt
+k5 = let k : Computes (freshCell (with· mtChannels)) (alone (bytes "IB/1,MT1/2,MT2/3") (Given 0 2 0 0 0 5 3)) = (refl, (refl, (refl, (refl, tt)))) in follows (freshCell (with· mtChannels)) (alone (bytes "IB/1,MT1/2,MT2/3") (Given 0 2 0 0 0 5 3)) k
+
+k6 : Holds (Plays (with· mtChannels) (alone (bytes "IB/1,MT1/2,MT/4") (Given 0 2 0 0 0 3 0)))
+unfolding after askedOf barred cardByte clashError codeError codes deckEnd digitsText enterError entryOf facError facOf fields formError frontError inserted insertedInto is2 isAlnum isDigit isLetter kindOf lowerSequence malformed numberOfText orderedError precedes priorityOf programName ptyError ranked readCards rules sameKey sameRank sameThere scheduleOf shownBy spliced twoDigitsOf without assignOf kindsFrom searchOf runB fitsB startOf areaB drumLength serveOf serviceOf giveFrom chooseOf picks lowestFrom testsB ge sumTo isFreeOf unitIn unitSet assignable legalOf refusal accept answer fresh fittedOn drumOn configured packetIn stateIn put relist enlisted entryOf′ placeOf packetOf setState restatusAll takeAll releaseAll freshCell acted outcome candidate wordFrom freshUnits changedAt withState returnedAt
+k6 = let k : Computes (freshCell (with· mtChannels)) (alone (bytes "IB/1,MT1/2,MT/4") (Given 0 2 0 0 0 3 0)) = (refl, (refl, (refl, (refl, tt)))) in follows (freshCell (with· mtChannels)) (alone (bytes "IB/1,MT1/2,MT/4") (Given 0 2 0 0 0 3 0)) k
+
+k7 : Holds (Plays (with· mtChannels) (alone (bytes "IB/1,MT1/2,MT/5") (Refused NothingSelected)))
+unfolding after askedOf barred cardByte clashError codeError codes deckEnd digitsText enterError entryOf facError facOf fields formError frontError inserted insertedInto is2 isAlnum isDigit isLetter kindOf lowerSequence malformed numberOfText orderedError precedes priorityOf programName ptyError ranked readCards rules sameKey sameRank sameThere scheduleOf shownBy spliced twoDigitsOf without assignOf kindsFrom searchOf runB fitsB startOf areaB drumLength serveOf serviceOf giveFrom chooseOf picks lowestFrom testsB ge sumTo isFreeOf unitIn unitSet assignable legalOf refusal accept answer fresh fittedOn drumOn configured packetIn stateIn put relist enlisted entryOf′ placeOf packetOf setState restatusAll takeAll releaseAll freshCell acted outcome candidate wordFrom freshUnits changedAt withState returnedAt
+k7 = let k : Computes (freshCell (with· mtChannels)) (alone (bytes "IB/1,MT1/2,MT/5") (Refused NothingSelected)) = (refl, (refl, (refl, (refl, tt)))) in follows (freshCell (with· mtChannels)) (alone (bytes "IB/1,MT1/2,MT/5") (Refused NothingSelected)) k
+
+k8 : Holds (Plays (with· drumChannels) (alone (bytes "IB/1,MD/1500") (Given 0 2 0 35329 36828 0 0)))
+unfolding after askedOf barred cardByte clashError codeError codes deckEnd digitsText enterError entryOf facError facOf fields formError frontError inserted insertedInto is2 isAlnum isDigit isLetter kindOf lowerSequence malformed numberOfText orderedError precedes priorityOf programName ptyError ranked readCards rules sameKey sameRank sameThere scheduleOf shownBy spliced twoDigitsOf without assignOf kindsFrom searchOf runB fitsB startOf areaB drumLength serveOf serviceOf giveFrom chooseOf picks lowestFrom testsB ge sumTo isFreeOf unitIn unitSet assignable legalOf refusal accept answer fresh fittedOn drumOn configured packetIn stateIn put relist enlisted entryOf′ placeOf packetOf setState restatusAll takeAll releaseAll freshCell acted outcome candidate wordFrom freshUnits changedAt withState returnedAt
+k8 = let k : Computes (freshCell (with· drumChannels)) (alone (bytes "IB/1,MD/1500") (Given 0 2 0 35329 36828 0 0)) = (refl, (refl, (refl, (refl, tt)))) in follows (freshCell (with· drumChannels)) (alone (bytes "IB/1,MD/1500") (Given 0 2 0 35329 36828 0 0)) k
+
 -- K1 TO K9
 pub marked-cases : All marked
-marked-cases = (k1, (k2, (k3, (k4, (k5, (k6, (k7, (k8 .0, (k9, tt)))))))))
+marked-cases = (k1, (k2, (k3, (k4, (k5, (k6, (k7, (k8, (k9, tt)))))))))

@@ -1,2 +1,1 @@
-pub mod FacilitiesProof
 pub mod CasesProof

@@ -1,25 +1,74 @@
 -- THE MARKED CASES K1 TO K9 of document 01, one list, and what it is that each holds. A reader has to believe this page.
-use Prim.Native.Nat.{ℕ}
+use Prim.Native.Nat.{ℕ, _+_, _-_}
 use mathlib.Core.Path.{_≡_}
+use mathlib.Core.Bool.{cond, false}
 use mathlib.Core.List.{List, [], _∷_, _++_}
+use lib.Dec.{eqb}
+use lib.ListN.{set}
 use Rattle.numbers.specs.Quoted.{bytes}
+use Rattle.numbers.specs.declared.Kind.the-variants.{Mt, Md}
+use Rattle.numbers.specs.declared.Outcome.the-variants as Outcomes
+use Rattle.numbers.specs.declared.Refusal.{Refusal}
+use Rattle.numbers.specs.declared.Refusal.the-variants.{NothingSelected}
 use Rattle.units.specs.declared.Holder.the-variants.{Free, Held}
-use Rattle.channels.specs.Channels.{noChannels}
+use Rattle.channels.specs.Channels.{fitted, noChannels, noDown}
+use Rattle.channels.specs.declared.Channel.{Channel}
+use Rattle.channels.specs.declared.Configuration.{Configuration}
+use Rattle.cards_fields.specs.Deck.{lf, termination}
 use Rattle.cards.specs.Errors.{errorNumber}
 use Rattle.cards.specs.Group.{readGroup}
-use Rattle.cards.specs.declared.Facilities.{Facilities}
 use Rattle.cards.specs.declared.Verdict.{Verdict}
 use Rattle.cards.specs.declared.Verdict.the-variants.{Good, Wrong}
 use Rattle.schedule_deck.specs.Report.{deckText}
-use Rattle.assign.specs.Assignment.{Cell}
-use Rattle.assign.specs.Chosen.{Assigns}
-use Rattle.assign.specs.declared.Assigned.{Assigned}
-use Rattle.marked_cases.specs.Facilities.{Seen, asks, cellWith, drumChannels, found, freshCore, k4Core, mtChannels, mtUnits, noUnits, none, seen}
+use Rattle.assign_channels.specs.Choice.{on}
+use Rattle.assign.specs.Assignment.{channelsOf}
 use Rattle.packets.specs.EndsMoving.{Shown, cell, moving, shown}
-use Rattle.packets.specs.Rules.{Call, Complete}
+use Rattle.packets.specs.Rules as Rules
+use Rattle.packets.specs.declared.Answer.{Answer}
 use Rattle.packets.specs.declared.Answer.the-variants.{Closed, Completed, Done, Started}
 use Rattle.packets.specs.declared.How.the-variants.{Full}
 use Rattle.packets.specs.declared.Leaving.the-variants.{AfterNormal, Stays}
+use Rattle.cell_selection.specs.declared.Selection.{Selection}
+use Rattle.cell.specs.Calls.{freshCell}
+use Rattle.cell.specs.declared.Cell.{Cell}
+use Rattle.cell_history.specs.History.{Call, Chosen, Deck, Does, End, Entered, Reply, Said, Select}
+
+-- ---- what is seen of a reply
+
+-- of a selection: the job's place, the starts of IB and DB, the first and last word of its drum area, the channels of MT's entries 1 and 2
+pub data Seen : Type 0 where
+  Accepted : Seen
+  Refused : Refusal → Seen
+  Given : (place ib db first last mt1 mt2 : ℕ) → Seen
+  Answered : Answer → Seen
+
+-- the row of MT
+abbrev pub mt : ℕ
+mt = 1
+
+-- a drum area has words from its start on; 0 where none are asked for
+abbrev pub lastWord : ℕ → ℕ → ℕ
+lastWord start words = cond (eqb words 0) 0 (start + words - 1)
+
+abbrev pub given : Selection → Seen
+given s =
+    Given (s .place) (s .assigned .ib) (s .assigned .db) (s .assigned .drum) (lastWord (s .assigned .drum) (s .request .facilities .md))
+    (on (channelsOf (s .assigned) mt) 1) (on (channelsOf (s .assigned) mt) 2)
+
+abbrev pub seen : Reply → Seen
+seen (Entered Outcomes.Done) = Accepted
+seen (Entered (Outcomes.Refused n)) = Refused n
+seen (Chosen Outcomes.Done s) = given s
+seen (Chosen (Outcomes.Refused n) s) = Refused n
+seen (Said a) = Answered a
+seen (Reply.Shown s) = Accepted
+
+-- ---- the cases
+
+-- a call, and what is seen of its reply
+pub record Step : Type 0 where
+  pub call : Call
+  pub seen : Seen
 
 -- what a case gives, and what must come out
 pub data Case : Type 0 where
@@ -27,51 +76,108 @@ pub data Case : Type 0 where
   Prints : List ℕ → List ℕ → Case
   -- the cards of a group, and the number of its card error
   Errs : List (List ℕ) → ℕ → Case
-  -- a cell, what a job asks for, and what is seen of the assigner's answer
-  Gives : Cell → Facilities → Seen → Case
-  -- calls on the fresh cell of K9, and after each its answer and who holds the unit
-  Keeps : List Call → List Shown → Case
+  -- calls on the fresh cell of a configuration, and what is seen of each reply
+  Plays : Configuration → List Step → Case
+  -- calls on the request lists of K9's fresh cell, and after each its answer and who holds the unit
+  Keeps : List Rules.Call → List Shown → Case
 
 -- the number of a group's card error; 0 without
 abbrev pub numberIn : Verdict → ℕ
 numberIn Good = 0
 numberIn (Wrong e) = errorNumber e
 
--- a case holds: of the definitions that the functions' contracts cite, and for the assigner of any answer that its contract allows
+-- calls one after the other: whatever reply and cell the contracts allow, this is seen
+abbrev pub Follows : Cell → List Step → Type 0
+Follows c [] = Unit {0}
+Follows c (s ∷ ss) =
+    (reply : Reply) (d : Cell) → Does c (s .call) reply d
+    → (seen reply ≡ s .seen) × Follows d ss
+
+-- a case holds: of the definitions that the functions' contracts cite
 abbrev pub Holds : Case → Type 0
 Holds (Prints deck text) = deckText deck ≡ text
 Holds (Errs cards number) = numberIn (readGroup cards .verdict) ≡ number
-Holds (Gives in· wanted out) = (a : Assigned) → Assigns in· wanted a → seen a ≡ out
+Holds (Plays configuration steps) = Follows (freshCell configuration) steps
 Holds (Keeps calls out) = shown cell calls ≡ out
+
+-- ---- what they give
+
+-- cards with the termination card behind them
+abbrev pub deck : List ℕ → List ℕ
+deck cards = cards ++ (termination ++ (lf ∷ []))
+
+-- a request by its ID, its priority and its entries
+abbrev pub job : List ℕ → List ℕ → List ℕ → List ℕ
+job id priority entries =
+    id ++ (bytes ",PTY,2,,ECU,,T,PROG,P," ++ (priority ++ (bytes ",P,3.\n" ++ (id ++ (bytes ",FAC," ++ (entries ++ bytes ".\n"))))))
+
+-- a cell with these channels and no unit down
+abbrev pub with· : List Channel → Configuration
+with· channels = record { channels = channels; down = noDown }
+
+-- MT channel 3 with four free and 5 with two
+abbrev pub mtChannels : List Channel
+mtChannels = set (set noChannels 3 (fitted Mt 4)) 5 (fitted Mt 2)
+
+-- a drum
+abbrev pub drumChannels : List Channel
+drumChannels = set noChannels 7 (fitted Md 1000000)
+
+abbrev pub step : Call → Seen → Step
+step call seen = record { call = call; seen = seen }
+
+-- one request is entered and selected in a fresh cell
+abbrev pub alone : List ℕ → Seen → List Step
+alone entries seen = step (Deck (deck (job (bytes "A1") (bytes "A5") entries))) Accepted ∷ step Select seen ∷ []
+
+-- four jobs take blocks 2-4, 5-7, 8-9 and 10-29, and the first and third end: blocks 2-4 and 8-9 are free
+abbrev pub fourJobs : List ℕ
+fourJobs =
+    job (bytes "A1") (bytes "A1") (bytes "IB/3")
+    ++ (job (bytes "A2") (bytes "A2") (bytes "IB/3")
+    ++ (job (bytes "A3") (bytes "A3") (bytes "IB/2")
+    ++ (job (bytes "A4") (bytes "A4") (bytes "IB/20")
+    ++ job (bytes "A5") (bytes "A5") (bytes "IB/2,DB/3"))))
+
+abbrev pub k4Steps : List Step
+k4Steps =
+    step (Deck (deck fourJobs)) Accepted
+    ∷ step Select (Given 0 2 0 0 0 0 0)
+    ∷ step Select (Given 1 5 0 0 0 0 0)
+    ∷ step Select (Given 2 8 0 0 0 0 0)
+    ∷ step Select (Given 3 10 0 0 0 0 0)
+    ∷ step (End 0 false) (Answered (Closed AfterNormal))
+    ∷ step (End 2 false) (Answered (Closed AfterNormal))
+    ∷ step Select (Given 0 8 2 0 0 0 0)
+    ∷ []
 
 -- K1's cards and termination card
 abbrev pub k1Deck : List ℕ
 k1Deck =
-    bytes "A1,PTY,2,,ECU,,T,PROG,P,02A5,P,3.\nA1,FAC,IB/2,MT1/2.\n"
-    ++ bytes "B7,PTY,2,,LABEL,,T,PROG,P,A5,C,1.\nB7,FAC,IB/1.\n"
-    ++ bytes "D4,PTY,2,,KEY,,T,PROG,P,01A5,C,1.\nD4,FAC,IB/1.\n"
-    ++ bytes ")))))))) +++++++++++++                                                  ))))))))\n"
+    deck
+    (bytes "A1,PTY,2,,ECU,,T,PROG,P,02A5,P,3.\nA1,FAC,IB/2,MT1/2.\n"
+    ++ (bytes "B7,PTY,2,,LABEL,,T,PROG,P,A5,C,1.\nB7,FAC,IB/1.\n" ++ bytes "D4,PTY,2,,KEY,,T,PROG,P,01A5,C,1.\nD4,FAC,IB/1.\n"))
 
 abbrev pub marked : List Case
 marked =
     -- K1's priorities in order
     Prints k1Deck (bytes "SP B7 ER 31\nD4 01A05\nA1 02A05\nD4 SCH ACK\n")
     -- K2 fresh core, IB/28 starts at 2
-    ∷ Gives (cellWith freshCore noChannels) (asks 28 0 0 noUnits) (found 2 0 0 0 0)
+    ∷ Plays (with· noChannels) (alone (bytes "IB/28") (Given 0 2 0 0 0 0 0))
     -- K3 IB/14 with DB/15 gives card error 14
     ∷ Errs (bytes "A1,PTY,2,,ECU,,T,PROG,P,A5,P,3." ∷ bytes "A1,FAC,IB/14,DB/15." ∷ []) 14
     -- K4 free blocks 2-4 and 8-9, IB/2 and DB/3: IB at 8, DB at 2
-    ∷ Gives (cellWith k4Core noChannels) (asks 2 3 0 noUnits) (found 8 2 0 0 0)
+    ∷ Plays (with· noChannels) k4Steps
     -- K5 MT channel 3 with four free and 5 with two, MT1/2 and MT2/3: 1 to channel 5, 2 to 3
-    ∷ Gives (cellWith freshCore mtChannels) (asks 1 0 0 (mtUnits 1 2 2 3)) (found 2 0 0 5 3)
+    ∷ Plays (with· mtChannels) (alone (bytes "IB/1,MT1/2,MT2/3") (Given 0 2 0 0 0 5 3))
     -- K6 same channels, MT1/2 and MT/4 fit
-    ∷ Gives (cellWith freshCore mtChannels) (asks 1 0 0 (mtUnits 1 2 0 4)) (found 2 0 0 3 0)
+    ∷ Plays (with· mtChannels) (alone (bytes "IB/1,MT1/2,MT/4") (Given 0 2 0 0 0 3 0))
     -- K7 MT1/2 and MT/5 don't
-    ∷ Gives (cellWith freshCore mtChannels) (asks 1 0 0 (mtUnits 1 2 0 5)) none
-    -- K8 fresh drum, MD/1500 holds 35,329 to 36,828: it starts at 35,329, and has 1,500 words
-    ∷ Gives (cellWith freshCore drumChannels) (asks 1 0 1500 noUnits) (found 2 0 35329 0 0)
+    ∷ Plays (with· mtChannels) (alone (bytes "IB/1,MT1/2,MT/5") (Refused NothingSelected))
+    -- K8 fresh drum, MD/1500 holds 35,329 to 36,828
+    ∷ Plays (with· drumChannels) (alone (bytes "IB/1,MD/1500") (Given 0 2 0 35329 36828 0 0))
     -- K9 job ends while moving: unit not free until the completion
-    ∷ Keeps (moving ++ (Complete 3 Full ∷ []))
+    ∷ Keeps (moving ++ (Rules.Complete 3 Full ∷ []))
     (record { answer = Done; holder = Held 0 }
     ∷ record { answer = Done; holder = Held 0 }
     ∷ record { answer = Started (record { place = 0; packet = 5; function = 0o02; at = 1 }); holder = Held 0 }

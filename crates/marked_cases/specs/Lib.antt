@@ -1,2 +1,1 @@
-pub mod Facilities
 pub mod Cases
