@@ -14,7 +14,7 @@ use Rattle.channels.specs.declared.Configuration.{Configuration}
 use Rattle.configuration.specs.Configured.{configurationOf}
 use Rattle.configuration_form.specs.Means.{Means}
 use Rattle.cards_fields.specs.Deck.{cardsOf}
-use Rattle.cards.specs.Group.{readGroup}
+use Rattle.cards_group.specs.Group.{readGroup}
 use Rattle.cards.specs.declared.Request.{Request}
 use Rattle.cards.specs.declared.Verdict.the-variants.{Good}
 use Rattle.cards_writing.specs.Writing.{fits, takes, textOf, written}

@@ -3,19 +3,19 @@ use mathlib.Core.Path.{refl}
 use Rattle.marked_cases.proofs.FacilitiesProof.{k2, k4, k5, k6, k7, k8}
 use Rattle.packets.proofs.EndsMovingProof.{k9}
 use Rattle.schedule_deck.specs.Report.{after, groupText, reportText, shownBy}
-use Rattle.cards.specs.Fac.{askedOf, codeError, codes, entryOf, formError}
+use Rattle.cards_fac.specs.Fac.{askedOf, codeError, codes, entryOf, formError, facError, facOf}
 use Rattle.schedule.specs.Calls.{barred, clashError, enterError, sameThere}
 use Rattle.cards_fields.specs.Fields.{cardByte, fields, malformed}
 use Rattle.cards_fields.specs.Deck.{deckEnd}
 use Rattle.text.specs.Writing.{digitsText}
-use Rattle.cards.specs.Group.{facError, facOf, frontError, orderedError, ptyError, readCards}
+use Rattle.cards_pty.specs.Pty.{ptyError, priorityOf, programName, ranked, rules}
+use Rattle.cards_group.specs.Group.{frontError, orderedError, readCards}
 use Rattle.schedule_list.specs.Held.{inserted, insertedInto, scheduleOf, spliced, without}
 use Rattle.numbers.specs.Quoted.{is2, bytes}
 use Rattle.text.specs.Class.{isAlnum, isDigit, isLetter}
 use Rattle.numbers.specs.Kinds.{kindOf}
 use Rattle.schedule_entries.specs.Entries.{lowerSequence, precedes, sameKey, sameRank}
 use Rattle.words.specs.Words.{numberIn as numberOfText}
-use Rattle.cards.specs.Pty.{priorityOf, programName, ranked, rules}
 use Rattle.cards_writing.specs.Writing.{priorityText}
 use Rattle.text.specs.Reading.{twoDigitsOf}
 use Rattle.marked_cases.specs.Cases.{All, Holds, Prints, Errs, k1Deck, marked}

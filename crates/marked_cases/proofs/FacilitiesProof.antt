@@ -10,13 +10,14 @@ use Rattle.assign_channels.specs.Greedy.{ge, testsB, lowestFrom, picks, chooseO
 use Rattle.assign_heads.specs.Sums.{sumTo}
 use Rattle.assign_heads.proofs.Computed.{serviceOf, serveOf}
 use Rattle.assign_free.specs.Assignable.{isFreeOf}
+use Rattle.cards.specs.Requests.{counts, noUnits}
 use Rattle.cards.specs.declared.Facilities.{Facilities}
 use Rattle.assign.specs.Assignment.{Cell, drumLength}
 use Rattle.assign.proofs.Computed.{kindsFrom, assignOf, computed}
-use Rattle.marked_cases.specs.Facilities.{cellWith, freshCore, asks, noUnits, mtUnits, Seen, seen, Case, found, none, k4Core, mtChannels, drumChannels}
+use Rattle.marked_cases.specs.Facilities.{cellWith, freshCore, asks, mtUnits, Seen, seen, Case, found, none, k4Core, mtChannels, drumChannels}
 
 -- it is enough that the computed assigner shows it
-case : (cell : Cell) (wanted : Facilities) (s : Seen) → length (cell .channels) ≡ 16 → length (wanted .units) ≡ 48 → seen (assignOf cell wanted) ≡ s → Case cell wanted s
+case : (cell : Cell) (wanted : Facilities) (s : Seen) → length (cell .channels) ≡ 16 → length (wanted .units) ≡ counts → seen (assignOf cell wanted) ≡ s → Case cell wanted s
 case cell wanted s size full e a p = ap seen (computed cell wanted size full a p) ∙ e
 
 -- K2: fresh core, IB/28 starts at 2

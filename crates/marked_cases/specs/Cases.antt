@@ -5,8 +5,10 @@ use mathlib.Core.List.{List, [], _∷_, _++_}
 use Rattle.numbers.specs.Quoted.{bytes}
 use Rattle.units.specs.declared.Holder.the-variants.{Free, Held}
 use Rattle.channels.specs.Channels.{noChannels}
+use Rattle.cards_fields.specs.Deck.{termination}
 use Rattle.cards.specs.Errors.{errorNumber}
-use Rattle.cards.specs.Group.{readGroup}
+use Rattle.cards.specs.Requests.{noUnits}
+use Rattle.cards_group.specs.Group.{readGroup}
 use Rattle.cards.specs.declared.Facilities.{Facilities}
 use Rattle.cards.specs.declared.Verdict.{Verdict}
 use Rattle.cards.specs.declared.Verdict.the-variants.{Good, Wrong}
@@ -14,7 +16,7 @@ use Rattle.schedule_deck.specs.Report.{deckText}
 use Rattle.assign.specs.Assignment.{Cell}
 use Rattle.assign.specs.Chosen.{Assigns}
 use Rattle.assign.specs.declared.Assigned.{Assigned}
-use Rattle.marked_cases.specs.Facilities.{Seen, asks, cellWith, drumChannels, found, freshCore, k4Core, mtChannels, mtUnits, noUnits, none, seen}
+use Rattle.marked_cases.specs.Facilities.{Seen, asks, cellWith, drumChannels, found, freshCore, k4Core, mtChannels, mtUnits, none, seen}
 use Rattle.packets.specs.EndsMoving.{Shown, cell, moving, shown}
 use Rattle.packets.specs.Rules.{Call, Complete}
 use Rattle.packets.specs.declared.Answer.the-variants.{Closed, Completed, Done, Started}
@@ -50,7 +52,8 @@ k1Deck =
     bytes "A1,PTY,2,,ECU,,T,PROG,P,02A5,P,3.\nA1,FAC,IB/2,MT1/2.\n"
     ++ bytes "B7,PTY,2,,LABEL,,T,PROG,P,A5,C,1.\nB7,FAC,IB/1.\n"
     ++ bytes "D4,PTY,2,,KEY,,T,PROG,P,01A5,C,1.\nD4,FAC,IB/1.\n"
-    ++ bytes ")))))))) +++++++++++++                                                  ))))))))\n"
+    ++ termination
+    ++ bytes "\n"
 
 abbrev pub marked : List Case
 marked =

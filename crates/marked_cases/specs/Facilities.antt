@@ -10,6 +10,7 @@ use Rattle.channels.specs.declared.Channel.{Channel}
 use Rattle.channels.specs.Channels.{fitted, noChannels}
 use Rattle.assign_drum.specs.Drum.{noArea}
 use Rattle.assign_channels.specs.Choice.{on}
+use Rattle.cards.specs.Requests.{noUnits}
 use Rattle.cards.specs.declared.Facilities.{Facilities}
 use Rattle.assign.specs.declared.Assigned.{Assigned}
 use Rattle.assign.specs.Assignment.{Cell, channelsOf}
@@ -29,9 +30,6 @@ mt = 1
 
 abbrev pub asks : ℕ → ℕ → ℕ → List ℕ → Facilities
 asks ib db md units = record { ib = ib; db = db; md = md; units = units }
-
-abbrev pub noUnits : List ℕ
-noUnits = replicate 48 0
 
 abbrev pub mtUnits : ℕ → ℕ → ℕ → ℕ → List ℕ
 mtUnits l n m k = set (set noUnits (16 + l) n) (16 + m) k
