@@ -25,6 +25,7 @@ use Rattle.assign_heads.proofs.ServingLaws.{served-so, lacking-so}
 use Rattle.assign_heads.proofs.Computed.{serveOf, serve-answers}
 use Rattle.assign_free.specs.Assignable.{isFreeOf}
 use Rattle.assign_free.proofs.Computed.{marksOf, marks-answer}
+use Rattle.cards.specs.Requests.{counts}
 use Rattle.cards.specs.declared.Facilities.{Facilities}
 use Rattle.assign.specs.declared.KindChannels.{KindChannels}
 use Rattle.assign.specs.declared.Kinds.{Kinds}
@@ -48,7 +49,7 @@ module _ (units : List (List Unit)) (channels : List Channel) (asked : List ℕ)
   abbrev pub kindsOf : Kinds
   kindsOf = kindsFrom unitKinds 0 (replicate unitKinds noChannels) (replicate 256 blank)
 
-  module _ (size : length channels ≡ 16) (full : length asked ≡ 48) where
+  module _ (size : length channels ≡ 16) (full : length asked ≡ counts) where
     long : (row : ℕ) → row < unitKinds → length (wantsOf asked row) ≡ 16
     long row h = length-take-le 16 (drop (row * 16) asked) (simp length-drop (omega arith))
 
@@ -89,7 +90,7 @@ withCore cell wanted C.Nothing = nothing
 unfoldable pub assignOf : Cell → Facilities → Assigned
 assignOf cell wanted = withCore cell wanted (searchOf (cell .occupancy) (wanted .ib) (wanted .db))
 
-module _ (cell : Cell) (wanted : Facilities) (size : length (cell .channels) ≡ 16) (full : length (wanted .units) ≡ 48) where
+module _ (cell : Cell) (wanted : Facilities) (size : length (cell .channels) ≡ 16) (full : length (wanted .units) ≡ counts) where
   with-kinds : (p : Pair) (s : ℕ) → Core.Answers (cell .occupancy) (wanted .ib) (wanted .db) (C.At p) → Drum.Answers (cell .areas) (drumLength (cell .channels)) (wanted .md) (D.At s)
       → (k : Kinds) (b : Bool) → k .ok ≡ b → KindsAnswer b (freeOf cell) (wanted .units) (k .channels) (k .heads) → Assigns cell wanted (withKinds p s k)
   with-kinds p s c d k true e a = rw e (assigned cell wanted p s (k .channels) (k .heads) c d a)

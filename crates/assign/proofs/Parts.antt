@@ -13,6 +13,7 @@ use Rattle.channels.specs.declared.Fitted.{Fitted}
 use Rattle.channels.specs.declared.Fitted.the-variants as F
 use Rattle.channels.specs.declared.Channel.{Channel}
 use Rattle.channels.specs.Channels.{noChannel}
+use Rattle.cards.specs.Requests.{counts}
 use Rattle.assign.specs.Assignment.{lengthIn, drumLength}
 
 module _ (channels : List Channel) (c : ℕ) (h : c < length channels) where
@@ -41,7 +42,7 @@ unfolding drumLength
 drum-end channels c h = ap drumLength (drop-of-length-le channels h)
 
 -- a list whose entries are those of a part is that part
-pub part-is : (units wants : List ℕ) (row : ℕ) → length units ≡ 48 → length wants ≡ 16 → row < 3 → ((l : ℕ) → l < 16 → getD wants l 0 ≡ getD units (row * 16 + l) 0) → wants ≡ take 16 (drop (row * 16) units)
+pub part-is : (units wants : List ℕ) (row : ℕ) → length units ≡ counts → length wants ≡ 16 → row < 3 → ((l : ℕ) → l < 16 → getD wants l 0 ≡ getD units (row * 16 + l) 0) → wants ≡ take 16 (drop (row * 16) units)
 part-is units wants row u w r each =
     ext-getD 0 wants (take 16 (drop (row * 16) units)) (w ∙ sym (length-take-le 16 (drop (row * 16) units) (simp length-drop (omega arith)))) λ l h.
     let k : l < 16 = omega arith in

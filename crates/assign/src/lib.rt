@@ -75,7 +75,7 @@ fn drum_length(channels: [Channel; 16]) -> u32
 }
 
 // What the entries of a kind ask for.
-fn wants_of(units: [u8; 48], row: usize) -> [u8; 16]
+fn wants_of(units: [u8; cards::COUNTS], row: usize) -> [u8; 16]
     requires { ⌜ row < 3 ⌝ }
     ensures { λ r. ⌜ r ≡ take 16 (drop (row * 16) units) ⌝ }
 {
@@ -89,7 +89,7 @@ fn wants_of(units: [u8; 48], row: usize) -> [u8; 16]
 }
 
 // Serves the kinds in the order of their rows, MA, MT, PR; the first that is lacking ends it.
-fn serve_kinds(units: Units, channels: [Channel; 16], asked: [u8; 48]) -> Kinds
+fn serve_kinds(units: Units, channels: [Channel; 16], asked: [u8; cards::COUNTS]) -> Kinds
     ensures { λ r. ⌜ ServesKinds (isFreeOf (units .of) channels) asked r ⌝ }
 {
     let none = [ChannelNumber(0); 16];

@@ -9,6 +9,7 @@ use Rattle.numbers.specs.Quoted.{byte, bytes}
 use Rattle.numbers.specs.declared.Kind.the-variants.{Mt, Md}
 use Rattle.text.specs.Writing.{digitsText}
 use Rattle.cards_writing.specs.Writing.{priorityText}
+use Rattle.cards.specs.Requests.{noUnits}
 use Rattle.cards.specs.declared.Request.{Request}
 use Rattle.schedule_entries.specs.declared.State.the-variants as S
 use Rattle.schedule_list.specs.Held.{scheduleOf}
@@ -49,7 +50,7 @@ request id sequence precedence =
       minutes = 3;
       store = byte " ";
       library = bytes "      ";
-      facilities = record { ib = 2; db = 0; md = 0; units = replicate 48 0 };
+      facilities = record { ib = 2; db = 0; md = 0; units = noUnits };
     }
 
 unfoldable pub schedule : Schedule

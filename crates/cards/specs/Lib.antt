@@ -1,4 +1,2 @@
 pub mod Errors
-pub mod Pty
-pub mod Fac
-pub mod Group
+pub mod Requests

@@ -1,8 +1,7 @@
-// Job requests on cards: the request, and what a group of cards reads as.
-pub mod error;
-pub mod fac;
-pub mod group;
-pub mod pty;
+// What all cards share: the request, the card errors and their numbers, and the request for nothing.
+ghost use mathlib.Core.Path.{_≡_};
+ghost use Rattle.cards.specs.Errors.{errorNumber, good};
+ghost use Rattle.cards.specs.Requests.{noFacilities, noRequest};
 
 // What is wrong with a group of cards, in the order of document 01; the last four are the schedule's to find.
 pub enum CardError {
@@ -35,37 +34,21 @@ pub enum Verdict {
     Wrong(CardError),
 }
 
-// A job's priority; all zeros where its text has wrong content.
-pub struct Priority {
-    pub good: bool,
-    pub sequence: u8,
-    pub letter: u8,
-    pub precedence: u8,
-}
+// How many counts of units a request has: one for each of the 16 logical channels of each kind, MA, MT and PR.
+pub const COUNTS: usize = 48;
 
-// An entry of a FAC card: the slot that it fills and its number, both 0 beside an error.
-pub struct Entry {
-    pub verdict: Verdict,
-    pub slot: usize,
-    pub number: u32,
-}
-
-// What a request asks for, 0 for none: blocks, drum words, and units at kind * 16 + logical channel, kinds in the order MA, MT, PR.
+// What a request asks for, 0 for none: blocks, drum words, and units at kind * 16 + logical channel, kinds in the
+// order MA, MT, PR.
 pub struct Facilities {
     pub ib: u8,
     pub db: u8,
     pub md: u32,
-    pub units: [u8; 48],
+    pub units: [u8; COUNTS],
 }
 
-// What the entries of a FAC card ask for, nothing beside an error.
-pub struct Asked {
-    pub verdict: Verdict,
-    pub facilities: Facilities,
-}
-
-// A job request in one form: names padded with blanks, a mark that is left out a blank, an absent sequence 0. The bulletin calls
-// immediate RUN NOW, device PROGRAM MEDIUM, medium MEDIUM NAME, mode RUN TYPE, store LIBRARY MEDIUM, library LIBRARY NAME.
+// A job request in one form: names padded with blanks, a mark that is left out a blank, an absent sequence 0. The
+// bulletin calls immediate RUN NOW, device PROGRAM MEDIUM, medium MEDIUM NAME, mode RUN TYPE, store LIBRARY MEDIUM,
+// library LIBRARY NAME.
 pub struct Request {
     pub id: [u8; 6],
     pub rush: u8,
@@ -84,8 +67,77 @@ pub struct Request {
     pub facilities: Facilities,
 }
 
-// What reading a group answers: the request, or blanks beside an error.
-pub struct Reading {
-    pub verdict: Verdict,
-    pub request: Request,
+// A card error's number.
+pub fn number_of(error: CardError) -> u8
+    ensures { λ r. ⌜ r ≡ errorNumber error ⌝ }
+{
+    match error {
+        CardError::NotPty => 25,
+        CardError::PtyMalformed => 17,
+        CardError::IdLength => 1,
+        CardError::WrongRush => 28,
+        CardError::WrongLength => 18,
+        CardError::WrongContent => 17,
+        CardError::WrongCount => 20,
+        CardError::NoFac => 28,
+        CardError::SecondFac => 22,
+        CardError::OtherCard => 3,
+        CardError::OtherId => 25,
+        CardError::FacMalformed => 12,
+        CardError::LongCode => 9,
+        CardError::UnknownCode => 11,
+        CardError::WrongEntry => 13,
+        CardError::TooMuchCore => 14,
+        CardError::NoIb => 27,
+        CardError::InSchedule => 26,
+        CardError::SamePriority => 31,
+        CardError::SameSequence => 90,
+        CardError::ScheduleFull => 91,
+    }
+}
+
+// Whether nothing is wrong.
+pub fn is_good(verdict: Verdict) -> bool
+    ensures { λ r. ⌜ r ≡ good verdict ⌝ }
+{
+    match verdict {
+        Verdict::Good => true,
+        Verdict::Wrong(_) => false,
+    }
+}
+
+// What asks for nothing.
+pub fn no_facilities() -> Facilities
+    ensures { λ r. ⌜ r ≡ noFacilities ⌝ }
+{
+    Facilities {
+        ib: 0,
+        db: 0,
+        md: 0,
+        units: [0u8; COUNTS],
+    }
+}
+
+// The blank request: blanks, zeros, and nothing asked for.
+pub fn no_request() -> Request
+    ensures { λ r. ⌜ r ≡ noRequest ⌝ }
+{
+    let facilities = no_facilities();
+    Request {
+        id: [b' '; 6],
+        rush: b' ',
+        program: [b' '; 12],
+        immediate: b' ',
+        device: b' ',
+        medium: [b' '; 6],
+        mode: b' ',
+        sequence: 0,
+        letter: b' ',
+        precedence: 0,
+        mix: b' ',
+        minutes: 0,
+        store: b' ',
+        library: [b' '; 6],
+        facilities,
+    }
 }

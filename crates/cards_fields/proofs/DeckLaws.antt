@@ -1,4 +1,4 @@
--- The cards of a text from a place on, one card further: what the code's walks over cards keep. Assumes nothing.
+-- The cards of a text from a position on, one card further: what the code's walks over cards keep. Assumes nothing.
 use Prim.Native.Nat.{ℕ, zero, suc, _+_, _-_, _≤_, _<_}
 use mathlib.Core.Path.{_≡_, refl, sym, ap, _∙_}
 use mathlib.Core.Bool.{Bool, true, false, cond, not}
@@ -39,7 +39,8 @@ first-line (b ∷ s) h = test (eqb b 10) (first-line s) h
     test true ih h = refl
     test false ih h = rw (ih (le-of-suc-le-suc h))
 
--- the card that starts at a place: it ends within the text, and is the first of those from there on, if an LF ends it
+-- the card that starts at a position: it ends within the text, and is the first of those from there on, if an LF ends
+-- it
 pub record Found (s : List ℕ) (at len : ℕ) : Type 0 where
   pub most : at + len ≤ length s
   pub long : length (take len (drop at s)) ≡ len
@@ -59,14 +60,14 @@ found s at h len is =
       goes = λ e. first-line (drop at s) (omega (arith, length-drop at s)) ∙ rw (drop-drop (suc (length (line (drop at s)))) at s, k) (ap (λ (l : List ℕ). l ∷ cardsOf (drop (at + len + 1) s)) f);
     }
 
--- a part from a place to another, as long as it is
+-- a part from one position to another, as long as it is
 pub part-is : (s : List ℕ) (at len : ℕ) → take (at + len - at) (drop at s) ≡ take len (drop at s)
 part-is s at len = let k : at + len - at ≡ len = omega arith in rw k
 
 pub lines-done : (s : List ℕ) (at : ℕ) → length s ≤ at → cardsOf (drop at s) ≡ []
 lines-done s at h = rw (drop-of-length-le s h)
 
--- the card at a place
+-- the card at an index
 no-card : (k : ℕ) → _≡_ {A = List ℕ} (getD [] k []) []
 no-card zero = refl
 no-card (suc k) = refl

@@ -1,5 +1,5 @@
--- A field gathered byte by byte is the field; and a card from a place on, one byte further: what its fields and its form then are.
--- Assumes nothing.
+-- A field gathered byte by byte is the field; and a card from a position on, one byte further: what its fields and
+-- its form then are. Assumes nothing.
 use Prim.Native.Nat.{ℕ, zero, suc, _+_, _-_, _≤_, _<_}
 use mathlib.Core.Path.{_≡_, refl, ap, _∙_}
 use mathlib.Core.Bool.{Bool, true, false, cond, not}
@@ -197,6 +197,19 @@ pub padded-length : (w : ℕ) (t : List ℕ) → length (padded w t) ≡ w
 padded-length zero t = refl
 padded-length (suc w) [] = ap suc (padded-length w [])
 padded-length (suc w) (b ∷ t) = ap suc (padded-length w t)
+
+-- the first six bytes of a field that is padded to twelve
+abbrev pub firstSix : List ℕ → List ℕ
+firstSix s = getD s 0 0 ∷ getD s 1 0 ∷ getD s 2 0 ∷ getD s 3 0 ∷ getD s 4 0 ∷ getD s 5 0 ∷ []
+
+pub six-padded : (t : List ℕ) → firstSix (padded 12 t) ≡ padded 6 t
+six-padded [] = refl
+six-padded (a ∷ []) = refl
+six-padded (a ∷ b ∷ []) = refl
+six-padded (a ∷ b ∷ c ∷ []) = refl
+six-padded (a ∷ b ∷ c ∷ d ∷ []) = refl
+six-padded (a ∷ b ∷ c ∷ d ∷ e ∷ []) = refl
+six-padded (a ∷ b ∷ c ∷ d ∷ e ∷ f ∷ t) = refl
 
 -- so the bytes that the code lends of a gathered field are the field
 pub whole : (f : Field) (t : List ℕ) → f ≡ fieldOf t → f .len ≤ 12 → take (f .len) (f .bytes) ≡ t

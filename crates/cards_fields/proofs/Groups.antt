@@ -1,6 +1,6 @@
--- THE GROUPS OF A DECK AS PARTS OF IT: the part up to the termination card has the cards before it, and cutting off the first group's part
--- over and over gives the groups in order. A text is cut where a card ends, so that the cards of the two parts are the cards of the whole.
--- Assumes nothing.
+-- THE GROUPS OF A DECK AS PARTS OF IT: the part up to the termination card has the cards before it, and cutting off
+-- the first group's part over and over gives the groups in order. A text is cut where a card ends, so that the cards
+-- of the two parts are the cards of the whole. Assumes nothing.
 use Prim.Native.Nat.{ℕ, suc, _+_, _-_, _<_}
 use mathlib.Core.Path.{_≡_, refl, sym, ap, subst, _∙_}
 use mathlib.Core.Bool.{Bool, true, false, cond, not, _&&_}
@@ -87,7 +87,8 @@ splits c (d ∷ ds) =
     (λ t. record { whole = rw t; next = rw t })
     (λ t. record { whole = rw (t, ih .next) (ap (λ (l : List (List ℕ)). c ∷ l) (ih .whole)); next = rw (t, ih .next) })
 
--- EACH GROUP IN TURN: a text that has a card has groups, the first of which is the cards of its first `groupSize` bytes, the others those of the rest
+-- EACH GROUP IN TURN: a text that has a card has groups, the first of which is the cards of its first `groupSize`
+-- bytes, the others those of the rest
 pub record Turn (s : List ℕ) : Type 0 where
   pub first : cardsOf (take (groupSize s) s) ≡ firstGroup (cardsOf s)
   pub next : groupsOf (cardsOf s) ≡ cardsOf (take (groupSize s) s) ∷ groupsOf (cardsOf (drop (groupSize s) s))

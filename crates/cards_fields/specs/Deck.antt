@@ -33,11 +33,12 @@ termination = replicate 8 (byte ")") ++ byte " " ∷ replicate 13 (byte "+") ++ 
 abbrev pub isTermination : List ℕ → Bool
 isTermination card = same card termination
 
--- "What follows isn't read": the cards before the termination card, and whether there is one
+-- "What follows isn't read": the cards before the termination card
 abbrev pub before : List (List ℕ) → List (List ℕ)
 before [] = []
 before (c ∷ cs) = cond (isTermination c) [] (c ∷ before cs)
 
+-- whether there is a termination card
 abbrev pub terminated : List (List ℕ) → Bool
 terminated [] = false
 terminated (c ∷ cs) = cond (isTermination c) true (terminated cs)
@@ -47,7 +48,8 @@ abbrev pub size : List (List ℕ) → ℕ
 size [] = 0
 size (c ∷ cs) = length c + 1 + size cs
 
--- "Deck: at most 16,384 bytes in all": where the termination card starts, or the refusal of a deck too long or without one
+-- "Deck: at most 16,384 bytes in all": where the termination card starts, or the refusal of a deck too long or
+-- without one
 unfoldable pub deckEnd : List ℕ → DeckEnd
 deckEnd s = cond (leb (length s) 16384 && terminated (cardsOf s)) (At (size (before (cardsOf s)))) (Refused BadDeck)
 

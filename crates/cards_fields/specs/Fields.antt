@@ -33,11 +33,11 @@ split (b ∷ s) = cond (eqb b (byte ",")) ([] ∷ split s) (onto b (split s))
 unfoldable pub fields : List ℕ → List (List ℕ)
 fields s = split (spaceless (upToPeriod s))
 
--- the field at a place, the first at 0; a missing field is empty
+-- the field at an index, the first at 0; a missing field is empty
 abbrev pub field : List ℕ → ℕ → List ℕ
 field s k = getD (fields s) k []
 
--- the field at a place is a word of at most twelve bytes
+-- the field at an index is a word of at most twelve bytes
 abbrev pub fieldIs : List ℕ → ℕ → List ℕ → Bool
 fieldIs s k word = leb (length word) 12 && same (field s k) word
 

@@ -23,7 +23,7 @@ fn with_byte(f: Field, b: u8) -> Field
     Field { bytes, len: n + 1 }
 }
 
-// The field at a place of a card, spaces dropped, the first at 0; a missing field is empty.
+// The field at an index of a card, spaces dropped, the first at 0; a missing field is empty.
 pub fn field_at(card: &[u8], k: usize) -> Field
     ensures { λ r. ⌜ r ≡ fieldOf (field (now (card .entry)) k) ⌝ }
 {
@@ -53,7 +53,7 @@ pub fn field_at(card: &[u8], k: usize) -> Field
     f
 }
 
-// The place of a card's last field, the first at 0: as many as it has commas before its first period.
+// The index of a card's last field, the first at 0: as many as it has commas before its first period.
 pub fn last_field(card: &[u8]) -> usize
     ensures { λ r. ⌜ r + 1 ≡ length (fields (now (card .entry))) ⌝ }
 {

@@ -33,7 +33,7 @@ pub fn card_count(text: &[u8]) -> usize
     n
 }
 
-// The card at a place of a text, the first at 0, as a part of it; empty where there is none.
+// The card at an index of a text, the first at 0, as a part of it; empty where there is none.
 pub fn card_at(text: &[u8], k: usize) -> &[u8]
     ensures { λ r. ⌜ now r ≡ getD (cardsOf (now (text .entry))) k [] ⌝ }
 {
@@ -55,7 +55,7 @@ pub fn card_at(text: &[u8], k: usize) -> &[u8]
 }
 
 // Whether a card is the termination card.
-fn is_termination(card: &[u8]) -> bool
+pub fn is_termination(card: &[u8]) -> bool
     ensures { λ r. ⌜ r ≡ isTermination (now (card .entry)) ⌝ }
 {
     words::is_same(

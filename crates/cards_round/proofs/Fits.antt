@@ -15,13 +15,13 @@ use Rattle.cards_fields.specs.Deck.{cardsOf, lf}
 use Rattle.cards_fields.specs.Fields.{field, fields, spaceless, padded, malformed}
 use Rattle.cards.specs.Errors.{good, errorIf, orElse}
 use Rattle.cards.proofs.ErrorLaws.{good-is, not-good, or-else-none}
-use Rattle.cards.specs.Pty.{rules, ruleAt, fieldsError}
-use Rattle.cards.proofs.PtyLaws.{not-longer}
-use Rattle.cards.specs.Fac.{nothing, slotOf, numberText, entered, allEntered, entriesError, coreError, asksOf, facilitiesOf}
-use Rattle.cards.specs.Group.{isFac, entriesOf, asked, ptyError, thirdError, facError, frontError, orderedError, requestOf, answer, readCards, readGroup}
+use Rattle.cards_pty.specs.Pty.{rules, ruleAt, fieldsError, ptyError}
+use Rattle.cards_pty.proofs.PtyLaws.{not-longer}
+use Rattle.cards_fac.specs.Fac.{nothing, slotOf, numberText, entered, allEntered, entriesError, coreError, asksOf, facilitiesOf, isFac, entriesOf, asked, facError}
+use Rattle.cards_group.specs.Group.{thirdError, frontError, orderedError, requestOf, answer, readCards, readGroup}
 use Rattle.cards.specs.declared.CardError.{CardError}
 use Rattle.cards.specs.declared.CardError.the-variants.{FacMalformed, NoFac, OtherId, WrongCount}
-use Rattle.cards.specs.declared.Reading.{Reading}
+use Rattle.cards_group.specs.declared.Reading.{Reading}
 use Rattle.cards.specs.declared.Request.{Request}
 use Rattle.cards.specs.declared.Verdict.{Verdict}
 use Rattle.cards.specs.declared.Verdict.the-variants.{Good}

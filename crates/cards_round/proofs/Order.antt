@@ -14,9 +14,9 @@ use Rattle.text.specs.Class.{isDigit}
 use Rattle.words.specs.Words.{every, value}
 use Rattle.cards.specs.Errors.{errorIf, orElse}
 use Rattle.cards.proofs.ErrorLaws.{not-good, or-else-none}
-use Rattle.cards.specs.Fac.{channelText, codeError, codeOf, entered, entriesError, entryError, entryGood, allEntered, formError, most, nothing, numberGood, numberText, slot, slotOf, slots}
-use Rattle.cards.proofs.EntryLaws.{channel-low, code-low, good-number}
-use Rattle.cards.specs.Group.{asked, entriesOf, orderedError, requestOf, readCards, readGroup}
+use Rattle.cards_fac.specs.Fac.{channelText, codeError, codeOf, entered, entriesError, entryError, entryGood, allEntered, formError, most, nothing, numberGood, numberText, slot, slotOf, slots, asked, entriesOf}
+use Rattle.cards_fac.proofs.EntryLaws.{channel-low, code-low, good-number}
+use Rattle.cards_group.specs.Group.{orderedError, requestOf, readCards, readGroup}
 use Rattle.cards.specs.declared.CardError.the-variants.{WrongEntry}
 use Rattle.cards.specs.declared.Request.{Request}
 use Rattle.cards.specs.declared.Verdict.{Verdict}

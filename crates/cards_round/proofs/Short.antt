@@ -17,12 +17,13 @@ use Rattle.text.specs.Class.{isDigit}
 use Rattle.words.specs.Words.{every, same, value}
 use Rattle.words.proofs.WordLaws.{value-below, tens}
 use Rattle.cards_fields.specs.Fields.{field, fields, split, onto, spaceless, upToPeriod, closed, cardByte, malformed}
-use Rattle.cards.specs.Fac.{codes, placeIn, codeText, codeOf, channelText, slashAt, numberText, channelGood, most, numberGood, entryGood, slot, slotOf, codeError, formError, entryError, entered, entriesError, allEntered, nothing}
+use Rattle.cards_fac.specs.Fac.{codes, codeText, codeOf, channelText, slashAt, numberText, channelGood, most, numberGood, entryGood, slot, slotOf, codeError, formError, entryError, entered, entriesError, allEntered, nothing}
+use Rattle.lists.specs.Parts.{placeIn}
 use Rattle.cards.specs.Errors.{errorIf}
 use Rattle.cards.proofs.ErrorLaws.{or-else-none, not-good}
 use Rattle.cards.specs.declared.CardError.the-variants.{WrongEntry}
 use Rattle.cards.specs.declared.Verdict.the-variants.{Good}
-use Rattle.cards.proofs.EntryLaws.{code-low, channel-low}
+use Rattle.cards_fac.proofs.EntryLaws.{code-low, channel-low}
 use Rattle.cards_writing.specs.Writing.{codeAt, channelAt, entryText, entryTexts, tailText, cardText, front, trimmed}
 
 -- how many characters fields take, each with the comma or period behind it

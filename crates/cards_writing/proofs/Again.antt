@@ -1,4 +1,5 @@
--- Written FAC entries read back: each entry's code, logical channel and number, and what all of them ask for. Assumes nothing.
+-- Written FAC entries read back: each entry's code, logical channel and number, and what all of them ask for. Assumes
+-- nothing.
 use Prim.Native.Nat.{ℕ, zero, suc, _+_, _-_, _/_, _%_, _≤_, _<_}
 use mathlib.Core.Path.{_≡_, refl, ap, _∙_}
 use mathlib.Core.Bool.{Bool, true, false, cond}
@@ -15,11 +16,12 @@ use Rattle.text.specs.Class.{isDigit, isLetter, isAlnum}
 use Rattle.text.specs.Writing.{decimalText}
 use Rattle.text.proofs.Undo.{few-digits}
 use Rattle.words.specs.Words.{every, value, leading, isnt}
-use Rattle.cards.specs.Fac.{codes, placeIn, codeText, channelText, slashAt, numberText, channelGood, most, numberGood, slot, slots, codeOf, slotOf, formError, entriesError, allEntered, nothing}
-use Rattle.cards.proofs.EntryLaws.{code-known}
+use Rattle.words.proofs.WordLaws.{every-append, every-weaker}
+use Rattle.cards_fac.specs.Fac.{codes, indexIn, codeText, channelText, slashAt, numberText, channelGood, most, numberGood, slot, slots, codeOf, slotOf, formError, entriesError, allEntered, nothing}
+use Rattle.cards_fac.proofs.EntryLaws.{code-known}
 use Rattle.cards.specs.declared.Verdict.the-variants.{Good}
 use Rattle.cards_writing.specs.Writing.{codeAt, channelAt, entryText, entryTexts, limit, numbersFit}
-use Rattle.cards_writing.proofs.Back.{plain, AllPlain, every-append, every-weaker, digit-plain, letter-plain, digit-no-letter, number-back, number-digits}
+use Rattle.cards_writing.proofs.Back.{plain, AllPlain, digit-plain, letter-plain, digit-no-letter, number-back, number-digits}
 
 leading-all : (p : ℕ → Bool) (a s : List ℕ) (b : ℕ) → every p a ≡ true → p b ≡ false → leading p (a ++ (b ∷ s)) ≡ a
 leading-all p [] s b h e = rw e
@@ -59,9 +61,9 @@ module _ (code ch d : List ℕ) (l : every isLetter code ≡ true) (h : every is
   entry-size : length (entry code ch d) ≡ length code + length ch + 1 + length d
   entry-size = omega (arith, length-append code (ch ++ (47 ∷ d)), length-append ch (47 ∷ d))
 
-  module _ (c : ℕ) (is : placeIn codes code ≡ c) (low : c ≤ 5) (short : length code ≤ 2) (cg : channelGood c ch ≡ true) (ng : numberGood c d ≡ true) where
+  module _ (c : ℕ) (is : indexIn codes code ≡ c) (low : c ≤ 5) (short : length code ≤ 2) (cg : channelGood c ch ≡ true) (ng : numberGood c d ≡ true) where
     code-of : codeOf (entry code ch d) ≡ c
-    code-of = ap (placeIn codes) (code-back code ch d l h) ∙ is
+    code-of = ap (indexIn codes) (code-back code ch d l h) ∙ is
 
     form-back : formError (entry code ch d) ≡ Good
     unfolding formError
@@ -89,8 +91,8 @@ slot-at k =
     (λ p. rw (le-ltb k 3 (omega arith), le-ltb (3 + (k - 3) / 16) 3 (omega arith)) (omega arith))
     (eq-zero-or-pos (k - 2))
 
--- each code is two letters, and is known by its place
-code-letters : (c : ℕ) → c ≤ 5 → (every isLetter (getD codes c []) ≡ true) × (placeIn codes (getD codes c []) ≡ c) × (length (getD codes c []) ≤ 2)
+-- each code is two letters, and is known by its index
+code-letters : (c : ℕ) → c ≤ 5 → (every isLetter (getD codes c []) ≡ true) × (indexIn codes (getD codes c []) ≡ c) × (length (getD codes c []) ≤ 2)
 unfolding codes isLetter
 code-letters zero h = (refl, refl, omega arith)
 code-letters (suc zero) h = (refl, refl, omega arith)

@@ -1,5 +1,6 @@
--- Written text read back, form by form: the fields of a written card, its form, names, marks, numbers and the priority. What is written is letters,
--- digits, hyphens and slashes between commas and a period, so that reading takes it apart where it was put together. Assumes nothing.
+-- Written text read back, form by form: the fields of a written card, its form, names, marks, numbers and the
+-- priority. What is written is letters, digits, hyphens and slashes between commas and a period, so that reading
+-- takes it apart where it was put together. Assumes nothing.
 use Prim.Native.Nat.{ℕ, zero, suc, _+_, _-_, _*_, _/_, _%_, _≤_, _<_}
 use mathlib.Core.Path.{_≡_, refl, sym, ap, _∙_}
 use mathlib.Core.Bool.{Bool, true, false, cond, _||_, not}
@@ -18,15 +19,16 @@ use Rattle.text.specs.Writing.{twoText, decimalText}
 use Rattle.text.proofs.Tens.{one-digit, more-digits}
 use Rattle.words.specs.Words.{passes, every, has, value, valueFrom}
 use Rattle.words.specs.declared.Class.the-variants.{Hyphened}
+use Rattle.words.proofs.WordLaws.{every-append, every-weaker}
 use Rattle.cards_fields.specs.Fields.{fields, onto, spaceless, padded, cardByte, closed, malformed}
 use Rattle.cards_fields.proofs.FieldLaws.{fields-period, fields-comma, fields-other, by-form}
 use Rattle.cards_fields.specs.Deck.{lf}
 use Rattle.cards_fields.proofs.Groups.{NoLf}
 use Rattle.cards.specs.Errors.{orElse}
-use Rattle.cards.specs.Pty.{Rule, oneOf, programName, fieldError, fieldsFrom, priorityOf, ranked, lastOfAll}
-use Rattle.cards.proofs.PriorityLaws.{lettered, sequenced, rank-good, rank-last}
-use Rattle.cards.specs.Group.{mark}
-use Rattle.cards.specs.declared.Priority.{Priority}
+use Rattle.cards_pty.specs.Pty.{Rule, oneOf, programName, fieldError, fieldsFrom, priorityOf, ranked, lastOfAll}
+use Rattle.cards_pty.proofs.PriorityLaws.{lettered, sequenced, rank-good, rank-last}
+use Rattle.cards_group.specs.Group.{mark}
+use Rattle.cards_pty.specs.declared.Priority.{Priority}
 use Rattle.cards_writing.specs.Writing.{markText, front, trimmed, tailText, cardText, formedFrom, formed}
 
 -- letters, digits, hyphens and slashes
@@ -56,15 +58,6 @@ clean b h = record {
         by-bool (isAlnum b) (λ a. rw a)
         (λ a. by-bool (eqb b 45) (λ e. let i = eqb-true b 45 e in rw i)
         (λ n. by-bool (eqb b 47) (λ e. let i = eqb-true b 47 e in rw i) (λ m. never h (rw (a, n, m)))))
-
--- what all bytes of a text pass they pass by a weaker test
-pub every-weaker : (p q : ℕ → Bool) → ((b : ℕ) → p b ≡ true → q b ≡ true) → (s : List ℕ) → every p s ≡ true → every q s ≡ true
-every-weaker p q w [] h = refl
-every-weaker p q w (b ∷ s) h = let x = both (p b) (every p s) h in rw (w b (x .0)) (every-weaker p q w s (x .1))
-
-pub every-append : (p : ℕ → Bool) (s t : List ℕ) → every p s ≡ true → every p t ≡ true → every p (s ++ t) ≡ true
-every-append p [] t h g = g
-every-append p (x ∷ s) t h g = let q = both (p x) (every p s) h in rw (q .0) (every-append p s t (q .1) g)
 
 pub alnum-plain : (b : ℕ) → isAlnum b ≡ true → plain b ≡ true
 alnum-plain b h = rw h

@@ -17,14 +17,15 @@ use Rattle.text.proofs.RoomLaws.{andThen, fitted, same-room}
 use Rattle.words.proofs.WordLaws.{drop-step}
 use Rattle.cards_fields.specs.Deck.{lf}
 use Rattle.cards.specs.Errors.{good}
-use Rattle.cards.specs.Pty.{ruleAt, fieldError}
-use Rattle.cards.proofs.PtyLaws.{fromPlace, field-wrong, field-right, most-small, much-too-long}
+use Rattle.cards_fac.specs.Fac.{slots}
+use Rattle.cards_pty.specs.Pty.{ruleAt, fieldError}
+use Rattle.cards_pty.proofs.PtyLaws.{fromIndex, field-wrong, field-right, most-small, much-too-long}
 use Rattle.cards.specs.declared.Request.{Request}
 use Rattle.cards_writing.specs.Writing.{formedFrom, formed, limit, numbersFit, ptyText, facText, textOf, takes, fits, writeAnswer, written}
 use Rattle.cards_writing.proofs.PutLaws.{put-place, put-whole}
 use Rattle.cards_writing.specs.declared.Wrote.the-variants.{Cards, Refused}
 
--- a name from a place on, one byte further
+-- a name from a position on, one byte further
 module _ (s : List ℕ) (i : ℕ) (h : i < length s) where
   pub formed-bad : (over : Bool) → over ≡ true → (getD s i 0 ≡ 32 → ⊥) → formedFrom over (drop i s) ≡ false
   formed-bad over o n = rw (o, drop-step s i h, ne-eqb (getD s i 0) 32 n)
@@ -52,15 +53,15 @@ module _ (asks : List ℕ) (k n m : ℕ) (h : k < length asks) (is : n ≡ getD 
   pub number-low : n < m → numbersFit k (drop k asks) ≡ numbersFit (k + 1) (drop (k + 1) asks)
   number-low g = number-here ∙ rw (lt-ltb n m g)
 
-pub numbers-done : (asks : List ℕ) (k : ℕ) → length asks ≡ 51 → k ≡ 51 → numbersFit k (drop k asks) ≡ true
+pub numbers-done : (asks : List ℕ) (k : ℕ) → length asks ≡ slots → k ≡ slots → numbersFit k (drop k asks) ≡ true
 numbers-done asks k l e = rw (drop-of-length-le asks {i = k} (omega arith), e)
 
 -- the fields, one further
 module _ (fs : List (List ℕ)) (k : ℕ) (h : k < 14) (b : Bool) (is : b ≡ good (fieldError k (ruleAt k) (getD fs k []))) where
-  pub fields-wrong : b ≡ false → good (fromPlace k fs) ≡ false
+  pub fields-wrong : b ≡ false → good (fromIndex k fs) ≡ false
   fields-wrong e = ap good (field-wrong fs k h (fieldError k (ruleAt k) (getD fs k [])) refl (sym is ∙ e)) ∙ sym is ∙ e
 
-  pub fields-right : b ≡ true → good (fromPlace k fs) ≡ good (fromPlace (k + 1) fs)
+  pub fields-right : b ≡ true → good (fromIndex k fs) ≡ good (fromIndex (k + 1) fs)
   fields-right e = ap good (field-right fs k h (fieldError k (ruleAt k) (getD fs k [])) refl (sym is ∙ e))
 
 -- a field that was put into thirteen bytes is judged as it is: twelve is the most that any may have

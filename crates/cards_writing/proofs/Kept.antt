@@ -1,5 +1,6 @@
--- EVERY REQUEST READ FROM CARDS IS ONE THAT THE WRITER TAKES: the parts of a request that was read are those of right fields, so that their texts are
--- right fields again, and each number that is asked for was a good entry's. Assumes nothing.
+-- EVERY REQUEST READ FROM CARDS IS ONE THAT THE WRITER TAKES: the parts of a request that was read are those of right
+-- fields, so that their texts are right fields again, and each number that is asked for was a good entry's. Assumes
+-- nothing.
 use Prim.Native.Nat.{ℕ, zero, suc, _+_, _≤_, _<_}
 use mathlib.Core.Path.{_≡_, refl, sym, ap, subst, _∙_}
 use mathlib.Core.Bool.{Bool, true, false, cond, _&&_, _||_, not}
@@ -15,29 +16,28 @@ use Rattle.text.specs.Class.{isDigit, isLetter, isAlnum}
 use Rattle.text.specs.Writing.{twoText, decimalText}
 use Rattle.text.proofs.Undo.{few-digits}
 use Rattle.words.specs.Words.{every, value}
-use Rattle.words.proofs.WordLaws.{tens, value-below}
+use Rattle.words.proofs.WordLaws.{every-weaker, tens, value-below}
 use Rattle.cards_fields.specs.Fields.{field, fields, spaceless, padded, malformed}
 use Rattle.cards_fields.proofs.FieldLaws.{padded-length}
 use Rattle.cards.specs.Errors.{good, errorIf, orElse}
 use Rattle.cards.proofs.ErrorLaws.{not-good, or-else-none}
-use Rattle.cards.specs.Pty.{rules, ruleAt, sequenceText, letterOf, precedenceText, sequenceGood, precedence, precedenceGood, lastOfAll, ranked, priorityOf, fieldError, fieldsError}
-use Rattle.cards.proofs.PtyLaws.{right-at, good-field, right}
-use Rattle.cards.proofs.PriorityLaws.{rank-good}
-use Rattle.cards.specs.Fac.{codeOf, slotOf, most, numberText, nothing, formError, entryError, entered, entriesError, allEntered, coreError, facilitiesOf, asksOf}
-use Rattle.cards.proofs.EntryLaws.{good-number, number-below, small-number}
-use Rattle.cards.specs.Group.{mark, ptyError, facError, frontError, orderedError, entriesOf, asked, requestOf, answer, readCards, readGroup}
-use Rattle.cards.proofs.GroupLaws.{fields-good}
+use Rattle.cards_pty.specs.Pty.{rules, ruleAt, sequenceText, letterOf, precedenceText, sequenceGood, precedence, precedenceGood, lastOfAll, ranked, priorityOf, fieldError, fieldsError, ptyError}
+use Rattle.cards_pty.proofs.PtyLaws.{right-at, good-field, right, fields-good}
+use Rattle.cards_pty.proofs.PriorityLaws.{rank-good}
+use Rattle.cards_fac.specs.Fac.{codeOf, slotOf, most, numberText, nothing, formError, entryError, entered, entriesError, allEntered, coreError, facilitiesOf, asksOf, facError, entriesOf, asked}
+use Rattle.cards_fac.proofs.EntryLaws.{good-number, number-below, small-number}
+use Rattle.cards_group.specs.Group.{mark, frontError, orderedError, requestOf, answer, readCards, readGroup}
 use Rattle.cards.specs.declared.CardError.the-variants.{WrongEntry, FacMalformed}
-use Rattle.cards.specs.declared.Priority.{Priority}
+use Rattle.cards_pty.specs.declared.Priority.{Priority}
 use Rattle.cards.specs.declared.Request.{Request}
-use Rattle.cards.specs.declared.Reading.{Reading}
+use Rattle.cards_group.specs.declared.Reading.{Reading}
 use Rattle.cards.specs.declared.Verdict.{Verdict}
 use Rattle.cards.specs.declared.Verdict.the-variants.{Good, Wrong}
 use Rattle.cards_writing.specs.Writing.{priorityText, markText, ptyFields, formedFrom, formed, limit, numbersFit, takes, textOf, fits, writeAnswer}
 use Rattle.cards_writing.specs.declared.Wrote.the-variants.{Cards, Refused}
 use Rattle.numbers.specs.declared.Refusal.the-variants.{NoRoom, WrongRequest}
 use Rattle.cards_writing.proofs.PutLaws.{number-some}
-use Rattle.cards_writing.proofs.Back.{plain, clean, every-weaker, alnum-plain, listed, named, number-digits, two-digits, two-back, priority-ranked}
+use Rattle.cards_writing.proofs.Back.{plain, clean, alnum-plain, listed, named, number-digits, two-digits, two-back, priority-ranked}
 
 -- a text without blanks in a fixed width
 module _ where

@@ -1,4 +1,5 @@
--- Pieces of the two cards put one after the other: what the code's loops keep, and what a card that was put holds. Assumes nothing.
+-- Pieces of the two cards put one after the other: what the code's loops keep, and what a card that was put holds.
+-- Assumes nothing.
 use Prim.Native.Nat.{ℕ, zero, suc, _+_, _-_, _/_, _%_, _≤_, _<_}
 use mathlib.Core.Path.{_≡_, refl, ap, _∙_}
 use mathlib.Core.List.{List, [], _∷_, _++_}
@@ -16,7 +17,7 @@ use Rattle.text.specs.Writing.{decimalText}
 use Rattle.text.proofs.Tens.{one-digit, more-digits}
 use Rattle.words.proofs.WordLaws.{drop-step}
 use Rattle.cards_fields.specs.Fields.{spaceless}
-use Rattle.cards.specs.Fac.{codes}
+use Rattle.cards_fac.specs.Fac.{codes}
 use Rattle.cards.specs.declared.Request.{Request}
 use Rattle.cards_writing.specs.Writing.{ptyFields, front, trimmed, entryText, entryTexts, tailText, cardText, ptyText}
 

@@ -1,5 +1,6 @@
--- THE ROUND TRIP: the cards of a request that the writer takes are read as that request. Each field of the written cards is the one that was written,
--- each is right by its rule, and each part of the request is read back from its field. Assumes nothing.
+-- THE ROUND TRIP: the cards of a request that the writer takes are read as that request. Each field of the written
+-- cards is the one that was written, each is right by its rule, and each part of the request is read back from its
+-- field. Assumes nothing.
 use Prim.Native.Nat.{ℕ, _≤_, _<_}
 use mathlib.Core.Path.{_≡_, refl, ap, _∙_}
 use mathlib.Core.Bool.{true, false, _&&_}
@@ -8,34 +9,31 @@ use native.Mathlib.Omega.{arith}
 use lib.Dec.{ltb, leb}
 use lib.ListN.{length, getD, drop, take}
 use lib.Seq.{take-append-seam}
-use borrow.Author.Tests.{eq-eqb, ltb-true, leb-true}
+use borrow.Author.Tests.{ltb-true, leb-true}
 use Rattle.numbers.specs.Quoted.{bytes}
 use Rattle.numbers.proofs.Tests.{both}
 use Rattle.text.specs.Class.{isDigit, isLetter, isAlnum}
 use Rattle.text.specs.Writing.{decimalText}
 use Rattle.words.specs.Words.{same, value}
+use Rattle.words.proofs.WordLaws.{every-weaker, same-self}
 use Rattle.cards_fields.specs.Fields.{field, fields, spaceless, padded, isPty, malformed}
 use Rattle.cards_fields.specs.Deck.{lf, cardsOf}
 use Rattle.cards_fields.proofs.Groups.{NoLf, first-card}
 use Rattle.cards.specs.Errors.{good}
 use Rattle.cards.proofs.ErrorLaws.{good-is}
-use Rattle.cards.specs.Pty.{rules, ruleAt, fieldsError, priorityOf}
-use Rattle.cards.proofs.PtyLaws.{right-at, good-field}
-use Rattle.cards.specs.Fac.{nothing, entriesError, allEntered, coreError, facilitiesOf, asksOf}
-use Rattle.cards.specs.Group.{isFac, mark, ptyError, facError, orderedError, asked, entriesOf, requestOf, readCards, readGroup}
-use Rattle.cards.proofs.GroupLaws.{pty-fields, front-good}
-use Rattle.cards.specs.declared.Priority.{Priority}
+use Rattle.cards_pty.specs.Pty.{rules, ruleAt, fieldsError, priorityOf, ptyError}
+use Rattle.cards_pty.proofs.PtyLaws.{right-at, good-field, pty-fields}
+use Rattle.cards_fac.specs.Fac.{nothing, entriesError, allEntered, coreError, facilitiesOf, asksOf, isFac, facError, asked, entriesOf}
+use Rattle.cards_group.specs.Group.{mark, orderedError, requestOf, readCards, readGroup}
+use Rattle.cards_group.proofs.GroupLaws.{front-good}
+use Rattle.cards_pty.specs.declared.Priority.{Priority}
 use Rattle.cards.specs.declared.Request.{Request}
 use Rattle.cards.specs.declared.Verdict.the-variants.{Good}
 use Rattle.cards_writing.specs.Writing.{priorityText, markText, ptyFields, trimmed, facFields, cardText, ptyText, facText, textOf, formed, numbersFit, namesFormed, rangesGood, takes, fits, writeAnswer, written}
 use Rattle.cards_writing.specs.declared.Wrote.the-variants.{Cards}
 use Rattle.cards_writing.proofs.PutLaws.{trimmed-at, some-written}
-use Rattle.cards_writing.proofs.Back.{plain, AllPlain, fields-back, card-good, card-line, trimmed-plain, trimmed-few, trimmed-error, every-weaker, alnum-plain, digit-plain, listed, named, mark-back, name-back, number-back, number-digits, priority-back, priority-plain}
+use Rattle.cards_writing.proofs.Back.{plain, AllPlain, fields-back, card-good, card-line, trimmed-plain, trimmed-few, trimmed-error, alnum-plain, digit-plain, listed, named, mark-back, name-back, number-back, number-digits, priority-back, priority-plain}
 use Rattle.cards_writing.proofs.Again.{entries-back}
-
-pub same-self : (s : List ℕ) → same s s ≡ true
-same-self [] = refl
-same-self (x ∷ s) = rw (eq-eqb x x refl) (same-self s)
 
 -- what taking a request says of its parts
 pub record Taken (r : Request) : Type 0 where

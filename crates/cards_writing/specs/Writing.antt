@@ -11,8 +11,8 @@ use Rattle.text.specs.Writing.{twoText, decimalText}
 use Rattle.cards_fields.specs.Fields.{spaceless}
 use Rattle.cards_fields.specs.Deck.{lf}
 use Rattle.cards.specs.Errors.{good}
-use Rattle.cards.specs.Pty.{fieldsError}
-use Rattle.cards.specs.Fac.{codes, slots, coreError, asksOf}
+use Rattle.cards_pty.specs.Pty.{fieldsError}
+use Rattle.cards_fac.specs.Fac.{codes, slots, coreError, asksOf}
 use Rattle.cards.specs.declared.Request.{Request}
 use Rattle.cards_writing.specs.declared.Wrote.{Wrote}
 use Rattle.cards_writing.specs.declared.Wrote.the-variants.{Cards, Refused}

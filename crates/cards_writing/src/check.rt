@@ -2,17 +2,14 @@
 use crate::put;
 use cards::Facilities;
 use cards::Request;
-use cards::error;
-use cards::fac;
-use cards::pty;
 ghost use mathlib.Core.Path.{_≡_};
 ghost use mathlib.Core.Bool.{false};
 ghost use mathlib.Core.List.{[]};
 ghost use Prim.Native.Nat.{_<_};
 ghost use lib.ListN.{getD};
 ghost use Rattle.cards.specs.Errors.{good};
-ghost use Rattle.cards.specs.Pty.{ruleAt, fieldError, fieldsError};
-ghost use Rattle.cards.specs.Fac.{asksOf};
+ghost use Rattle.cards_pty.specs.Pty.{ruleAt, fieldError, fieldsError};
+ghost use Rattle.cards_fac.specs.Fac.{asksOf};
 ghost use Rattle.cards_writing.specs.Writing.{ptyFields, formedFrom, limit, numbersFit, namesFormed, rangesGood, takes};
 
 // Whether a name has blanks only behind it.
@@ -35,6 +32,7 @@ fn is_formed(name: &[u8]) -> bool
     true
 }
 
+// Whether each name has blanks only behind it.
 fn are_formed(r: Request) -> bool
     ensures { λ b. ⌜ b ≡ namesFormed r ⌝ }
 {
@@ -54,15 +52,17 @@ fn are_formed(r: Request) -> bool
     is_formed(&library)
 }
 
-// Whether the text of a field is right; it is put into an array one byte longer than any may be, so that a longer one shows.
+// Whether the text of a field is right; it is put into an array one byte longer than any may be, so that a longer one
+// shows.
 fn is_field(r: Request, k: usize) -> bool
     ensures { λ b. ⌜ b ≡ good (fieldError k (ruleAt k) (getD (ptyFields r) k [])) ⌝ }
 {
     let mut text = [0u8; 13];
     let n = put::put_field(&mut text, 0, r, k);
-    error::is_good(pty::field_error(k, &text[..n]))
+    cards::is_good(cards_pty::field_error(k, &text[..n]))
 }
 
+// Whether the text of each field is right.
 fn are_fields(r: Request) -> bool
     ensures { λ b. ⌜ b ≡ good (fieldsError (ptyFields r)) ⌝ }
 {
@@ -86,12 +86,13 @@ fn limit_at(k: usize) -> u32
     100
 }
 
+// Whether each number is one that a card can hold.
 fn are_numbers(f: Facilities) -> bool
     ensures { λ b. ⌜ b ≡ numbersFit 0 (asksOf f) ⌝ }
 {
     let mut k: usize = 0;
-    while k < 51 {
-        if limit_at(k) <= fac::number_at(f, k) {
+    while k < cards_fac::SLOTS {
+        if limit_at(k) <= cards_fac::number_at(f, k) {
             return false;
         }
         k += 1;
@@ -99,6 +100,7 @@ fn are_numbers(f: Facilities) -> bool
     true
 }
 
+// Whether the priority's parts and the minutes are ones that a card can hold.
 fn are_ranges(r: Request) -> bool
     ensures { λ b. ⌜ b ≡ rangesGood r ⌝ }
 {
@@ -131,5 +133,5 @@ pub fn is_taken(r: Request) -> bool
     if !are_numbers(f) {
         return false;
     }
-    error::is_good(fac::core_error(f))
+    cards::is_good(cards_fac::core_error(f))
 }

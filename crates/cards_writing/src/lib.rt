@@ -14,8 +14,8 @@ pub enum Wrote {
     Refused(Refusal),
 }
 
-// Writes a request's two cards at the start of the room. A card is put into an array one byte longer than a card may be, so that a longer
-// one shows, and the room is touched only when all fits.
+// Writes a request's two cards at the start of the room. A card is put into an array one byte longer than a card may
+// be, so that a longer one shows, and the room is touched only when all fits.
 pub fn write(room: &mut [u8], request: Request) -> Wrote
     ensures answers { λ r. ⌜ r ≡ writeAnswer request (length (now (room .entry))) ⌝ }
     ensures holds { λ _. ⌜ now (room .exit) ≡ written request (now (room .entry)) ⌝ }

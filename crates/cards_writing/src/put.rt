@@ -1,15 +1,15 @@
 // The pieces of the two cards, each put behind the one before it.
 use cards::Facilities;
 use cards::Request;
-use cards::fac;
 ghost use mathlib.Core.Path.{_≡_};
 ghost use mathlib.Core.List.{[], _∷_};
 ghost use lib.Dec.{eqb};
 ghost use lib.ListN.{length, getD, drop};
 ghost use Rattle.text.specs.Room.{Written};
 ghost use Rattle.cards_fields.specs.Fields.{spaceless};
-ghost use Rattle.cards.specs.Fac.{codes, asksOf};
-ghost use Rattle.cards_writing.specs.Writing.{priorityText, markText, ptyFields, trimmed, codeAt, channelAt, entryText, entryTexts, tailText, ptyText, facText};
+ghost use Rattle.cards_fac.specs.Fac.{codes, asksOf};
+ghost use Rattle.cards_writing.specs.Writing.{priorityText, markText, ptyFields, trimmed, ptyText};
+ghost use Rattle.cards_writing.specs.Writing.{codeAt, channelAt, entryText, entryTexts, tailText, facText};
 
 // Puts a name without its blanks.
 pub fn put_name(room: &mut [u8], at: usize, name: &[u8]) -> usize
@@ -51,7 +51,7 @@ pub fn put_priority(room: &mut [u8], at: usize, r: Request) -> usize
     text::put_two(room, third, r.precedence)
 }
 
-// Puts the field at a place of the PTY card, nothing past the last.
+// Puts the field at an index of the PTY card, nothing past the last.
 pub(crate) fn put_field(room: &mut [u8], at: usize, r: Request, k: usize) -> usize
     ensures { λ next. ⌜ Written (now (room .entry)) at (getD (ptyFields r) k []) (now (room .exit)) next ⌝ }
 {
@@ -178,9 +178,9 @@ fn put_entries(room: &mut [u8], at: usize, f: Facilities) -> usize
 {
     let mut next = at;
     let mut k: usize = 0;
-    while k < 51 {
+    while k < cards_fac::SLOTS {
         let slot = k;
-        let n = fac::number_at(f, slot);
+        let n = cards_fac::number_at(f, slot);
         k += 1;
         if n != 0 {
             let comma = text::put_byte(room, next, b',');

@@ -1,16 +1,15 @@
-// Reads each deck of data/ group by group and compares the errors found with those wanted; a request that is read is written, read back
-// and written again. The arguments are the names of the decks, each before what must come out.
+// Reads each deck of data/ group by group and compares the errors found with those wanted; a request that is read is
+// written, read back and written again. The arguments are the names of the decks, each before what must come out.
 use cards::Request;
 use cards::Verdict;
-use cards::error;
-use cards::group;
 use cards_fields::DeckEnd;
 use cards_fields::deck;
 use cards_writing::Wrote;
 use libc::STDOUT_FILENO;
 ghost use Rattle.io.specs.Counts.{Counts};
 
-// Puts the file that argument i names into a buffer, and answers its length; 0 for a file that is not there, and no wanted file is empty.
+// Puts the file that argument i names into a buffer, and answers its length; 0 for a file that is not there, and no
+// wanted file is empty.
 fn load(i: usize, buffer: &mut [u8; 4096]) -> usize
     ensures { λ r. ⌜ Counts r (now (buffer .exit)) ⌝ }
 {
@@ -26,13 +25,14 @@ fn load(i: usize, buffer: &mut [u8; 4096]) -> usize
     length
 }
 
-// Whether a request that was read is written as cards that read and write alike. What follows the last LF of the rooms is no card.
+// Whether a request that was read is written as cards that read and write alike. What follows the last LF of the
+// rooms is no card.
 fn comes_back(request: Request) -> bool {
     let mut first = [0u8; 162];
     let Wrote::Cards(_) = cards_writing::write(&mut first, request) else {
         return false;
     };
-    let again = group::read_group(&first);
+    let again = cards_group::read_group(&first);
     let mut second = [0u8; 162];
     let Wrote::Cards(_) = cards_writing::write(&mut second, again.request) else {
         return false;
@@ -42,7 +42,7 @@ fn comes_back(request: Request) -> bool {
 
 // Puts what is wrong with a group, one line; nothing for a good one that comes back.
 fn put_group(room: &mut [u8], at: usize, cards: &[u8]) -> usize {
-    let reading = group::read_group(cards);
+    let reading = cards_group::read_group(cards);
     let verdict = reading.verdict;
     match verdict {
         Verdict::Good => {
@@ -52,7 +52,7 @@ fn put_group(room: &mut [u8], at: usize, cards: &[u8]) -> usize {
             text::put_bytes(room, at, b"does not come back\n")
         }
         Verdict::Wrong(e) => {
-            let next = text::put_decimal(room, at, error::number_of(e) as u64);
+            let next = text::put_decimal(room, at, cards::number_of(e) as u64);
             text::put_byte(room, next, b'\n')
         }
     }

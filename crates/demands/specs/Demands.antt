@@ -21,7 +21,8 @@ use Rattle.configuration_form.specs.Means.{Means}
 use Rattle.configuration_units.specs.Fresh.{freshUnits}
 use Rattle.configuration_listing.specs.Listing.{Listed, assignableUnits, linesFrom}
 use Rattle.cards_fields.specs.Deck.{cardsOf}
-use Rattle.cards.specs.Group.{entriesOf, readGroup}
+use Rattle.cards_fac.specs.Fac.{entriesOf}
+use Rattle.cards_group.specs.Group.{readGroup}
 use Rattle.cards.specs.declared.Request.{Request}
 use Rattle.cards.specs.declared.Verdict.the-variants.{Good}
 use Rattle.cards_writing.specs.Writing.{fits, takes, textOf, writeAnswer, written}

@@ -16,7 +16,7 @@ use Rattle.channels.specs.declared.Channel.{Channel}
 use Rattle.channels.specs.declared.Configuration.{Configuration}
 use Rattle.cards_fields.specs.Deck.{lf, termination}
 use Rattle.cards.specs.Errors.{errorNumber}
-use Rattle.cards.specs.Group.{readGroup}
+use Rattle.cards_group.specs.Group.{readGroup}
 use Rattle.cards.specs.declared.Verdict.{Verdict}
 use Rattle.cards.specs.declared.Verdict.the-variants.{Good, Wrong}
 use Rattle.schedule_deck.specs.Report.{deckText}

@@ -22,7 +22,8 @@ use Rattle.cards_fields.specs.Deck.{cardsOf, before, terminated, size, deckEnd}
 use Rattle.cards_fields.specs.declared.DeckEnd.{DeckEnd}
 use Rattle.cards_fields.specs.declared.DeckEnd.the-variants.{At, Refused}
 use Rattle.cards.specs.Errors.{errorNumber}
-use Rattle.cards.specs.Group.{readGroup, readCards, orderedError, requestOf, asked, answer}
+use Rattle.cards_fac.specs.Fac.{asked}
+use Rattle.cards_group.specs.Group.{readGroup, readCards, orderedError, requestOf, answer}
 use Rattle.cards.specs.declared.CardError.{CardError}
 use Rattle.cards.specs.declared.CardError.the-variants.{
   NotPty,

@@ -14,7 +14,7 @@ use Rattle.numbers.specs.declared.Refusal.the-variants.{BadDeck}
 use Rattle.cards_fields.specs.Fields.{upToPeriod, spaceless, onto, split, fields, field, isPty}
 use Rattle.cards_fields.specs.Deck.{cardsOf, termination, isTermination, before, terminated, size, ontoLine, ontoGroup, groupsOf, deckEnd}
 use Rattle.cards_fields.specs.declared.DeckEnd.the-variants.{At, Refused}
-use Rattle.schedule_orderly.proofs.OrderLaws.{same-equal}
+use Rattle.words.proofs.WordLaws.{same-equal}
 use Rattle.schedule_deck.specs.Report.{deckGroups}
 
 -- A CARD THAT OPENS A GROUP has a comma and three letters at least

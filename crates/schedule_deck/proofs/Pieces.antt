@@ -17,11 +17,11 @@ use Rattle.cards_fields.proofs.FieldLaws.{whole}
 use Rattle.cards_fields.specs.declared.Field.{Field}
 use Rattle.cards.specs.Errors.{good}
 use Rattle.cards.proofs.ErrorLaws.{good-is}
-use Rattle.cards.specs.Group.{readGroup}
+use Rattle.cards_group.specs.Group.{readGroup}
 use Rattle.cards.specs.declared.Verdict.{Verdict}
 use Rattle.cards.specs.declared.Verdict.the-variants.{Good, Wrong}
 use Rattle.cards.specs.declared.Request.{Request}
-use Rattle.cards.specs.declared.Reading.{Reading}
+use Rattle.cards_group.specs.declared.Reading.{Reading}
 use Rattle.schedule_entries.specs.Entries.{blank}
 use Rattle.schedule_entries.specs.declared.Entry.{Entry}
 use Rattle.schedule_list.specs.declared.Schedule.{Schedule}

@@ -17,12 +17,12 @@ use Rattle.cards_fields.specs.Deck.{cardsOf, before, deckEnd, groupsOf}
 use Rattle.cards_fields.specs.declared.DeckEnd.{DeckEnd}
 use Rattle.cards_fields.specs.declared.DeckEnd.the-variants.{At, Refused}
 use Rattle.cards.specs.Errors.{errorNumber}
-use Rattle.cards.specs.Group.{readGroup}
+use Rattle.cards_group.specs.Group.{readGroup}
 use Rattle.cards.specs.declared.CardError.{CardError}
 use Rattle.cards.specs.declared.Verdict.{Verdict}
 use Rattle.cards.specs.declared.Verdict.the-variants.{Good, Wrong}
 use Rattle.cards.specs.declared.Request.{Request}
-use Rattle.cards.specs.declared.Reading.{Reading}
+use Rattle.cards_group.specs.declared.Reading.{Reading}
 use Rattle.cards_writing.specs.Writing.{priorityText}
 use Rattle.schedule_entries.specs.declared.Entry.{Entry}
 use Rattle.schedule_list.specs.Held.{held, scheduleOf}

@@ -1,13 +1,11 @@
 // The report of a deck, as text in lent room: the errors in deck order, the schedule, and the last good ID.
 use cards::CardError;
-use cards::Reading;
 use cards::Request;
 use cards::Verdict;
-use cards::error;
-use cards::group;
 use cards_fields::DeckEnd;
 use cards_fields::card;
 use cards_fields::deck;
+use cards_group::Reading;
 use cards_writing::put;
 use numbers::Outcome;
 use numbers::Refusal;
@@ -71,7 +69,7 @@ fn put_error(out: &mut [u8], at: usize, id: [u8; 6], error: CardError) -> usize
     let a = text::put_bytes(out, at, b"SP ");
     let b = put::put_name(out, a, &id);
     let c = text::put_bytes(out, b, b" ER ");
-    let d = text::put_decimal(out, c, error::number_of(error) as u64);
+    let d = text::put_decimal(out, c, cards::number_of(error) as u64);
     text::put_byte(out, d, b'\n')
 }
 
@@ -136,7 +134,7 @@ fn tried(schedule: Schedule, reading: Reading) -> Entering
 {
     let verdict = reading.verdict;
     let request = reading.request;
-    if error::is_good(verdict) {
+    if cards::is_good(verdict) {
         return calls::enter(schedule, request);
     }
     Entering { verdict, schedule }
@@ -150,7 +148,7 @@ fn put_group(out: &mut [u8], at: usize, progress: Progress, group: &[u8]) -> Ste
     let before = progress.shown;
     let good = progress.last;
     let shown = shown_by(deck::card_at(group, 0), before);
-    let reading = group::read_group(group);
+    let reading = cards_group::read_group(group);
     let answer = tried(schedule, reading);
     let verdict = answer.verdict;
     let next = put_verdict(out, at, shown, verdict);

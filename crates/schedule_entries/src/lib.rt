@@ -1,5 +1,4 @@
 // A request as it stands in the schedule: its state, its key, and what can be asked of it.
-use cards::Facilities;
 use cards::Request;
 ghost use mathlib.Core.Path.{_≡_};
 ghost use Rattle.schedule_entries.specs.Entries.{keyOf, sameRank, sameKey, lowerSequence, precedes, waiting, suspended, active, inPlace, serial, answers, blank, firstState};
@@ -173,29 +172,7 @@ pub fn answer_to(query: Query, entry: Entry) -> bool
 pub fn blank() -> Entry
     ensures { λ r. ⌜ r ≡ blank ⌝ }
 {
-    let facilities = Facilities {
-        ib: 0,
-        db: 0,
-        md: 0,
-        units: [0u8; 48],
-    };
-    let request = Request {
-        id: [b' '; 6],
-        rush: b' ',
-        program: [b' '; 12],
-        immediate: b' ',
-        device: b' ',
-        medium: [b' '; 6],
-        mode: b' ',
-        sequence: 0,
-        letter: b' ',
-        precedence: 0,
-        mix: b' ',
-        minutes: 0,
-        store: b' ',
-        library: [b' '; 6],
-        facilities,
-    };
+    let request = cards::no_request();
     Entry {
         request,
         state: State::Waiting,

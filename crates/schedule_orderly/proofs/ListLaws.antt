@@ -10,13 +10,14 @@ use lib.ListN.{length, getD, take, drop, set, length-set}
 use lib.Seq.{set-split, map-set-same}
 use Rattle.numbers.proofs.Tests.{never}
 use Rattle.words.specs.Words.{same}
+use Rattle.words.proofs.WordLaws.{same-equal, same-self}
 use Rattle.cards.specs.declared.Request.{Request}
 use Rattle.schedule_entries.specs.Entries.{keyOf, precedes, sameKey, isNamed, blank}
 use Rattle.schedule_entries.specs.declared.State.{State}
 use Rattle.schedule_entries.specs.declared.Entry.{Entry}
 use Rattle.schedule_list.specs.Held.{most, first, any, without, spliced, withState, inserted}
 use Rattle.schedule_orderly.specs.Orderly.{Each, Pairs, Unlike, Ahead, requests, Orderly}
-use Rattle.schedule_orderly.proofs.OrderLaws.{precedes-on, precedes-other, same-equal, same-self}
+use Rattle.schedule_orderly.proofs.OrderLaws.{precedes-on, precedes-other}
 
 -- an entry taken out, along the list
 out : ℕ → List Entry → List Entry

@@ -1,14 +1,12 @@
--- The selection order is an order: it goes on from one to the next, and of two keys that differ one comes first. IDs that are the same are
--- equal. Assumes nothing.
+-- The selection order is an order: it goes on from one to the next, and of two keys that differ one comes first.
+-- Assumes nothing.
 use Prim.Native.Nat.{ℕ, _<_}
-use mathlib.Core.Path.{_≡_, refl, sym, _∙_}
+use mathlib.Core.Path.{_≡_, sym, _∙_}
 use mathlib.Core.Bool.{Bool, true, false, cond}
-use mathlib.Core.List.{List, [], _∷_}
 use native.Mathlib.Omega.{arith}
 use lib.Dec.{eqb, ltb}
 use borrow.Author.Tests.{eqb-true, eqb-false, eq-eqb, ne-eqb, ltb-true, ltb-false, lt-ltb}
-use Rattle.numbers.proofs.Tests.{by-bool, never, both}
-use Rattle.words.specs.Words.{same}
+use Rattle.numbers.proofs.Tests.{by-bool}
 use Rattle.schedule_entries.specs.Entries.{precedes, sameRank, sameKey}
 use Rattle.schedule_entries.specs.declared.Key.{Key}
 
@@ -65,18 +63,3 @@ precedes-other a b e n =
         let q : eqb (a .sequence) (b .sequence) ≡ false = rw (eq-eqb (a .letter) (b .letter) l, eq-eqb (a .precedence) (b .precedence) p) at n in
         let d = eqb-false (a .sequence) (b .sequence) q in
         omega arith
-
--- the same IDs
-pub same-equal : (s t : List ℕ) → same s t ≡ true → s ≡ t
-same-equal [] [] e = refl
-same-equal [] (y ∷ t) e = never refl (sym e)
-same-equal (x ∷ s) [] e = never refl (sym e)
-same-equal (x ∷ s) (y ∷ t) e =
-    let p = both (eqb x y) (same s t) e in
-    let a : x ≡ y = eqb-true x y (p .0) in
-    let b : s ≡ t = same-equal s t (p .1) in
-    cc
-
-pub same-self : (s : List ℕ) → same s s ≡ true
-same-self [] = refl
-same-self (x ∷ s) = rw (eq-eqb x x refl) (same-self s)

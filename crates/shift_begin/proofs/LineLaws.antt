@@ -2,25 +2,22 @@
 -- made another by what follows. Assumes nothing.
 use Prim.Native.Nat.{ℕ, zero, suc, _+_, _/_, _%_, _≤_}
 use mathlib.Core.Path.{_≡_, refl, sym, ap, _∙_}
-use mathlib.Core.Bool.{Bool, true, false, cond, _&&_}
+use mathlib.Core.Bool.{true, false}
 use mathlib.Core.List.{List, [], _∷_, _++_, append-assoc}
 use native.Mathlib.Omega.{arith}
 use lib.Dec.{eqb, ltb}
 use lib.ListN.{length, length-append}
 use borrow.Author.Tests.{ne-eqb, eqb-true}
-use Rattle.numbers.proofs.Tests.{by-bool, both}
+use Rattle.numbers.proofs.Tests.{by-bool}
 use Rattle.numbers.specs.Kinds.{codeOf}
 use Rattle.numbers.specs.declared.Kind.{Kind}
 use Rattle.numbers.specs.declared.Kind.the-variants.{Ma, Mt, Pr, Md}
 use Rattle.text.specs.Writing.{twoText, digitsText, decimalText}
-use Rattle.words.specs.Words.{every, isnt}
+use Rattle.words.specs.Words.{isnt}
+use Rattle.words.proofs.WordLaws.{every-append}
 use Rattle.cards_fields.specs.Deck.{cardsOf, ontoLine, size}
 use Rattle.shift_deck.proofs.DeckLaws.{Plain, first-card}
 use Rattle.configuration_form.specs.Form.{Item, line, written}
-
-every-append : (p : ℕ → Bool) (s t : List ℕ) → every p s ≡ true → every p t ≡ true → every p (s ++ t) ≡ true
-every-append p [] t a b = b
-every-append p (x ∷ s) t a b = let q = both (p x) (every p s) a in rw (q .0, every-append p s t (q .1) b)
 
 digit-plain : (d : ℕ) → isnt 10 (48 + d) ≡ true
 digit-plain d = rw (ne-eqb (48 + d) 10 (λ e. omega arith))

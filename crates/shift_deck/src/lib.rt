@@ -14,10 +14,7 @@ pub enum Gathered {
 pub fn is_last(line: &[u8]) -> bool
     ensures { λ r. ⌜ r ≡ isTermination (now (line .entry)) ⌝ }
 {
-    words::is_same(
-        line,
-        b")))))))) +++++++++++++                                                  ))))))))",
-    )
+    cards_fields::deck::is_termination(line)
 }
 
 // Puts a card with its LF behind the bytes of the deck that stand in the room; where that is too long, nothing.

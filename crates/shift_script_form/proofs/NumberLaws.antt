@@ -15,7 +15,8 @@ use Rattle.words.specs.Words.{every, has, isnt}
 use Rattle.shift_words.specs.declared.Base.{Base}
 use Rattle.shift_words.specs.declared.Base.the-variants.{Decimal, Octal}
 use Rattle.shift_words.specs.Forms.{digits, isNumber, valueIn, baseOf, numberIn}
-use Rattle.shift_words.proofs.FormLaws.{every-more, number-is, number-value}
+use Rattle.words.proofs.WordLaws.{every-weaker}
+use Rattle.shift_words.proofs.FormLaws.{number-is, number-value}
 use Rattle.shift_script_form.specs.Written.{digitsIn, numberText}
 use Rattle.shift_script_form.proofs.SpacedLaws.{Plain}
 
@@ -110,7 +111,7 @@ pub record Writes (base : Base) (n : ℕ) (word : List ℕ) : Type 0 where
   pub short : length word ≤ 9
 
 number-plain : (base : Base) (word : List ℕ) → isNumber base word ≡ true → Plain word
-number-plain base word e = every-more isDigit (isnt 32) (λ c d. let p = digit-bounds c d in rw (ne-eqb c 32 (λ z. omega arith))) word (number-is base word e .all)
+number-plain base word e = every-weaker isDigit (isnt 32) (λ c d. let p = digit-bounds c d in rw (ne-eqb c 32 (λ z. omega arith))) word (number-is base word e .all)
 
 pub writes : (base : Base) (n : ℕ) → n < limit (baseOf base) 8 → Writes base n (numberText base n)
 unfolding b isNumber

@@ -2,16 +2,16 @@
 -- says what the row that it fits says, wherever that stands, and is no call where it fits none. Assumes nothing.
 use Prim.Native.Nat.{ℕ, suc}
 use mathlib.Core.Path.{_≡_, refl, sym, ap, _∙_}
-use mathlib.Core.Bool.{Bool, true, false, cond, _&&_, not}
+use mathlib.Core.Bool.{Bool, true, false, _&&_, not}
 use mathlib.Core.List.{List, [], _∷_}
 use mathlib.Core.Logic.{_⊎_, inl, inr}
-use native.Mathlib.Omega.{arith}
 use lib.Dec.{eqb}
 use lib.ListN.{length, getD}
-use borrow.Author.Tests.{eqb-true, eq-eqb, not-true}
+use borrow.Author.Tests.{eq-eqb, not-true}
 use Rattle.numbers.proofs.Tests.{by-bool, never, both}
 use Rattle.text.specs.Class.{isLetter}
 use Rattle.words.specs.Words.{same}
+use Rattle.words.proofs.WordLaws.{same-self, same-equal}
 use Rattle.shift_words.specs.Forms.{wordsOf, wordFits, fitting}
 use Rattle.shift_words.proofs.FormLaws.{fits-itself}
 use Rattle.shift_script.specs.declared.Line.the-variants.{NoCall}
@@ -54,26 +54,12 @@ fits-count [] (w ∷ ws) e = never e refl
 fits-count (f ∷ fs) [] e = never e refl
 fits-count (f ∷ fs) (w ∷ ws) e = ap suc (fits-count fs ws (both (wordFits f w) (fitting fs ws) e .1))
 
-same-is : (s t : List ℕ) → same s t ≡ true → s ≡ t
-same-is [] [] e = refl
-same-is [] (y ∷ t) e = never e refl
-same-is (x ∷ s) [] e = never e refl
-same-is (x ∷ s) (y ∷ t) e =
-    let p = both (eqb x y) (same s t) e in
-    let h : x ≡ y = eqb-true x y (p .0) in
-    let k : s ≡ t = same-is s t (p .1) in
-    cc
-
-same-self : (s : List ℕ) → same s s ≡ true
-same-self [] = refl
-same-self (x ∷ s) = rw (eq-eqb x x refl, same-self s)
-
 fits-first : (fs ws : List (List ℕ)) → isLetter (getD (getD fs 0 []) 0 0) ≡ true → fitting fs ws ≡ true → getD ws 0 [] ≡ getD fs 0 []
 unfolding fitting
 fits-first [] [] l e = refl
 fits-first [] (w ∷ ws) l e = never e refl
 fits-first (f ∷ fs) [] l e = never e refl
-fits-first (f ∷ fs) (w ∷ ws) l e = same-is w f (fits-itself f w l ∙ both (wordFits f w) (fitting fs ws) e .0)
+fits-first (f ∷ fs) (w ∷ ws) l e = same-equal w f (fits-itself f w l ∙ both (wordFits f w) (fitting fs ws) e .0)
 
 -- rows that one line fits are alike
 both-fit : (r q : Row) (ws : List (List ℕ)) → isLetter (getD (firstIn r) 0 0) ≡ true → isLetter (getD (firstIn q) 0 0) ≡ true

@@ -6,6 +6,7 @@ use lib.ListN.{set, replicate}
 use Rattle.numbers.specs.Quoted.{byte, bytes}
 use Rattle.numbers.specs.declared.Kind.the-variants.{Mt}
 use Rattle.text.specs.Writing.{digitsText}
+use Rattle.cards.specs.Requests.{noUnits}
 use Rattle.cards.specs.declared.Request.{Request}
 use Rattle.channels.specs.Channels.{fitted, noChannels}
 use Rattle.channels.specs.declared.Channel.{Channel}
@@ -33,7 +34,7 @@ a1 =
       minutes = 3;
       store = byte " ";
       library = bytes "      ";
-      facilities = record { ib = 2; db = 0; md = 0; units = set (replicate 48 0) 17 2 };
+      facilities = record { ib = 2; db = 0; md = 0; units = set noUnits 17 2 };
     }
 
 unfoldable pub channels : List Channel

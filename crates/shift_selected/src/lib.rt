@@ -98,11 +98,11 @@ fn put_units(
 }
 
 // How many units an entry asks for.
-fn asked_for(units: [u8; 48], kind: Kind, logical: LogicalChannel) -> u8
+fn asked_for(units: [u8; cards::COUNTS], kind: Kind, logical: LogicalChannel) -> u8
     ensures { λ r. ⌜ r ≡ asked units kind logical ⌝ }
 {
     let slot = numbers::row_of(kind) * 16 + logical.0 as usize;
-    if slot < 48 {
+    if slot < cards::COUNTS {
         return units[slot];
     }
     0
@@ -135,7 +135,7 @@ fn put_asked(
     at: usize,
     kind: Kind,
     logical: LogicalChannel,
-    units: [u8; 48],
+    units: [u8; cards::COUNTS],
     channels: [Channel; 16],
     heads: [Head; 256],
 ) -> usize
@@ -152,7 +152,7 @@ fn put_kind(
     out: &mut [u8],
     at: usize,
     kind: Kind,
-    units: [u8; 48],
+    units: [u8; cards::COUNTS],
     channels: [Channel; 16],
     heads: [Head; 256],
 ) -> usize
@@ -180,7 +180,7 @@ fn put_areas(out: &mut [u8], at: usize, wanted: Facilities, ib: u32, db: u32, dr
 fn put_kinds(
     out: &mut [u8],
     at: usize,
-    units: [u8; 48],
+    units: [u8; cards::COUNTS],
     channels: [Channel; 16],
     heads: [Head; 256],
 ) -> usize

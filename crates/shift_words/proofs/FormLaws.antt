@@ -14,7 +14,7 @@ use Rattle.numbers.specs.Quoted.{bytes}
 use Rattle.text.specs.Class.{isDigit, isLetter}
 use Rattle.text.proofs.ClassLaws.{digit-bounds}
 use Rattle.words.specs.Words.{every, has, same}
-use Rattle.words.proofs.WordLaws.{drop-step, tens}
+use Rattle.words.proofs.WordLaws.{drop-step, every-weaker, tens}
 use Rattle.cards_fields.specs.Fields.{padded}
 use Rattle.cards_fields.proofs.FieldLaws.{set-padded}
 use Rattle.shift_words.specs.Forms.{digits, isNumber, valueIn, baseOf, numberIn, wordFits, idOf}
@@ -27,10 +27,6 @@ has-passes p [] b e h = never h refl
 has-passes p (x ∷ l) b e h =
     let q = both (p x) (every p l) e in
     by-bool (eqb b x) (λ t. ap p (eqb-true b x t) ∙ q .0) (λ t. has-passes p l b (q .1) (rw t at h))
-
-pub every-more : (p q : ℕ → Bool) → ((b : ℕ) → p b ≡ true → q b ≡ true) → (s : List ℕ) → every p s ≡ true → every q s ≡ true
-every-more p q f [] e = refl
-every-more p q f (b ∷ s) e = let r = both (p b) (every p s) e in rw (f b (r .0), every-more p q f s (r .1))
 
 -- the digits of either base are digits
 all-digits : (base : Base) → every isDigit (digits base) ≡ true
@@ -64,7 +60,7 @@ number-is base s e =
     record {
       some = ltb-true 0 (length s) (p .0);
       few = leb-true (length s) 9 (q .0);
-      all = every-more (has (digits base)) isDigit (λ b. has-passes isDigit (digits base) b (all-digits base)) s (q .1);
+      all = every-weaker (has (digits base)) isDigit (λ b. has-passes isDigit (digits base) b (all-digits base)) s (q .1);
     }
 
 pub no-number : (base : Base) (s : List ℕ) → isNumber base s ≡ false → numberIn base s ≡ 0

@@ -1,21 +1,22 @@
--- A text from a place on, one byte further: what each test and the number then say. Assumes nothing.
+-- A text from a position on, one byte further: what each test and the number then say; and texts that are the same.
+-- Assumes nothing.
 use Prim.Native.Nat.{ℕ, zero, suc, _+_, _-_, _*_, _≤_, _<_}
-use mathlib.Core.Path.{_≡_, refl, ap}
+use mathlib.Core.Path.{_≡_, refl, sym, ap}
 use mathlib.Core.Bool.{Bool, true, false, cond, _&&_}
-use mathlib.Core.List.{List, [], _∷_}
+use mathlib.Core.List.{List, [], _∷_, _++_}
 use native.Mathlib.Nat.{lt-of-lt-of-le, add-zero, add-suc, le-refl}
 use native.Mathlib.Numerals.{add-one}
 use native.Mathlib.Omega.{arith}
 use lib.Dec.{eqb}
 use lib.ListN.{length, getD, drop, take, drop-of-length-le}
 use lib.Seq.{drop-cons}
-use borrow.Author.Tests.{eq-eqb, ne-eqb, le-ltb, lt-ltb}
-use Rattle.numbers.proofs.Tests.{both}
+use borrow.Author.Tests.{eqb-true, eq-eqb, ne-eqb, le-ltb, lt-ltb}
+use Rattle.numbers.proofs.Tests.{never, both}
 use Rattle.text.specs.Class.{isDigit}
 use Rattle.text.proofs.ClassLaws.{digit-bounds}
 use Rattle.words.specs.Words.{every, has, same, value, valueFrom, numberIn, leading}
 
--- what is left at a place is the byte there and what is left after it
+-- what is left at a position is the byte there and what is left after it
 pub drop-step : (s : List ℕ) (i : ℕ) → i < length s → drop i s ≡ getD s i 0 ∷ drop (i + 1) s
 drop-step s i h = rw (add-one, drop-cons s i 0)
 
@@ -27,6 +28,16 @@ every-fail p s i h e = rw (drop-step s i h, e)
 
 pub every-end : (p : ℕ → Bool) (s : List ℕ) (i : ℕ) → length s ≤ i → every p (drop i s) ≡ true
 every-end p s i h = rw (drop-of-length-le s h)
+
+-- bytes that pass a test pass one that asks less
+pub every-weaker : (p q : ℕ → Bool) → ((b : ℕ) → p b ≡ true → q b ≡ true) → (s : List ℕ) → every p s ≡ true → every q s ≡ true
+every-weaker p q w [] h = refl
+every-weaker p q w (b ∷ s) h = let x = both (p b) (every p s) h in rw (w b (x .0)) (every-weaker p q w s (x .1))
+
+-- two texts of which every byte passes, one behind the other
+pub every-append : (p : ℕ → Bool) (s t : List ℕ) → every p s ≡ true → every p t ≡ true → every p (s ++ t) ≡ true
+every-append p [] t h g = g
+every-append p (x ∷ s) t h g = let q = both (p x) (every p s) h in rw (q .0) (every-append p s t (q .1) g)
 
 module _ (l : List ℕ) (b i : ℕ) (h : i < length l) where
   pub has-here : b ≡ getD l i 0 → has (drop i l) b ≡ true
@@ -46,6 +57,22 @@ same-fail s t i h g e = rw (drop-step s i h, drop-step t i g, ne-eqb (getD s i 0
 
 pub same-end : (s t : List ℕ) (i : ℕ) → length s ≤ i → length t ≤ i → same (drop i s) (drop i t) ≡ true
 same-end s t i h g = rw (drop-of-length-le s h, drop-of-length-le t g)
+
+-- a text is the same as itself
+pub same-self : (s : List ℕ) → same s s ≡ true
+same-self [] = refl
+same-self (x ∷ s) = rw (eq-eqb x x refl) (same-self s)
+
+-- and texts that are the same are equal
+pub same-equal : (s t : List ℕ) → same s t ≡ true → s ≡ t
+same-equal [] [] e = refl
+same-equal [] (y ∷ t) e = never refl (sym e)
+same-equal (x ∷ s) [] e = never refl (sym e)
+same-equal (x ∷ s) (y ∷ t) e =
+    let p = both (eqb x y) (same s t) e in
+    let a : x ≡ y = eqb-true x y (p .0) in
+    let b : s ≡ t = same-equal s t (p .1) in
+    cc
 
 pub and-false : (b : Bool) → b && false ≡ false
 and-false true = refl
@@ -75,7 +102,7 @@ value-step s i n h = rw (drop-step s i h)
 pub value-end : (s : List ℕ) (i n : ℕ) → length s ≤ i → valueFrom n (drop i s) ≡ n
 value-end s i n h = rw (drop-of-length-le s h)
 
--- the bytes in front that pass a test, from a place on
+-- the bytes in front that pass a test, from a position on
 module _ (p : ℕ → Bool) (t : List ℕ) (i : ℕ) where
   pub leading-pass : i < length t → p (getD t i 0) ≡ true → i + length (leading p (drop i t)) ≡ (i + 1) + length (leading p (drop (i + 1) t))
   leading-pass h e = rw (drop-step t i h, e) (omega arith)

@@ -1,4 +1,5 @@
--- `writing::write` meets its contract, one law for each way out: 13, then 12 for either card or the room, then the four pieces. Assumes nothing.
+-- `cards_writing::write` meets its contract, one law for each way out: 13, then 12 for either card or the room, then
+-- the four pieces. Assumes nothing.
 use mathlib.Core.Path.{sym, _∙_}
 use borrow.Author.Tests.{not-true, not-false}
 use Rattle.text.proofs.RoomLaws.{written-length}

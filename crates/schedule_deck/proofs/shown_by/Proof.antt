@@ -6,7 +6,7 @@ use borrow.Author.Tests.{not-true, not-false}
 use Rattle.cards_fields.specs.Fields.{field}
 use Rattle.cards_fields.proofs.FieldLaws.{within}
 use Rattle.cards_fields.specs.declared.Field.{Field}
-use Rattle.cards.proofs.GroupLaws.{firstSix, six-padded}
+use Rattle.cards_fields.proofs.FieldLaws.{firstSix, six-padded}
 use Rattle.schedule_deck.proofs.Pieces.{shown-none, shown-short, shown-long, shown-other, shown-formed}
 use borrow.Author.Needs.{needs}
 use Rattle.schedule_deck.proofs.shown_by.Statement.{statement}

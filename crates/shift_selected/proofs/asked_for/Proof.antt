@@ -1,6 +1,7 @@
 -- `selected_text::asked_for` meets its contract: what stands at the entry's slot, 0 past the last. Assumes nothing.
 use native.Mathlib.Omega.{arith}
 use lib.ListN.{length, List·getD-eq-default}
+use Rattle.cards.specs.Requests.{counts}
 use Rattle.shift_selected.specs.Selected.{asked}
 use mathlib.Core.Path.{_≡_, sym}
 use borrow.Author.Needs.{needs}
@@ -28,7 +29,7 @@ returns c = rw (c .before .before .row-of .ensures .is)
 
 returns-2 : tie.Need-returns-2
 unfolding asked
-returns-2 c = let n : length (c .before .before .before .args .t1) ≡ 48 = search needs in
+returns-2 c = let n : length (c .before .before .before .args .t1) ≡ counts = search needs in
     sym (List·getD-eq-default (c .before .before .before .args .t1) 0 (omega (arith, c .before .before .row-of .ensures .is)))
 
 pub asked-for-spec : {M : Type 1} → statement M

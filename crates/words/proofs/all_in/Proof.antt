@@ -1,4 +1,5 @@
--- `words::all_in` meets its contract. The loop's invariant: the first i bytes are listed letters, so whether all are is said by those from i on. Assumes nothing.
+-- `words::all_in` meets its contract. The loop's invariant: the first i bytes are listed letters, so whether all are
+-- is said by those from i on. Assumes nothing.
 use borrow.Author.Needs.{needs}
 use Prim.Native.Nat.{_≤_, _-_}
 use mathlib.Core.Path.{_≡_, sym, _∙_}

@@ -1,4 +1,5 @@
--- `words::is_in` meets its contract. The loop's invariant: the byte is none of the first i letters, so whether it stands in the text is said by the letters from i on. Assumes nothing.
+-- `words::is_in` meets its contract. The loop's invariant: the byte is none of the first i letters, so whether it
+-- stands in the text is said by the letters from i on. Assumes nothing.
 use borrow.Author.Needs.{needs}
 use Prim.Native.Nat.{_≤_, _-_}
 use mathlib.Core.Path.{_≡_, sym, _∙_}

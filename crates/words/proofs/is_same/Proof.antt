@@ -1,4 +1,5 @@
--- `words::is_same` meets its contract. The loop's invariant: the texts are equally long and their first i bytes the same, so whether they are the same is said by the bytes from i on. Assumes nothing.
+-- `words::is_same` meets its contract. The loop's invariant: the texts are equally long and their first i bytes the
+-- same, so whether they are the same is said by the bytes from i on. Assumes nothing.
 use mathlib.Core.Path.{_≡_, sym, _∙_}
 use borrow.Author.Needs.{needs}
 use Prim.Native.Nat.{_≤_, _-_}

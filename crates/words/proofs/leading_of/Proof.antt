@@ -1,4 +1,5 @@
--- `words::leading_of` meets its contract. The loop's invariant: the first i bytes are of the class, so how many lead is i and those that lead from i on. Assumes nothing.
+-- `words::leading_of` meets its contract. The loop's invariant: the first i bytes are of the class, so how many lead
+-- is i and those that lead from i on. Assumes nothing.
 use borrow.Author.Needs.{needs}
 use Prim.Native.Nat.{_+_, _≤_, _-_}
 use mathlib.Core.Path.{_≡_, sym, _∙_}

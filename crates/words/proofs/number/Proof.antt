@@ -1,4 +1,5 @@
--- `words::number` meets its contract: a text of over six bytes is 0, any other is what its digits write. Assumes nothing.
+-- `words::number` meets its contract: a text of over six bytes is 0, any other is what its digits write. Assumes
+-- nothing.
 use mathlib.Core.Path.{sym, _∙_}
 use Rattle.words.proofs.WordLaws.{number-short, number-long}
 use borrow.Author.Needs.{needs}

@@ -1,4 +1,5 @@
--- `words::until` meets its contract. The loop's invariant: the byte is none of the first `at`, so where it first stands is said by the bytes from there on. Assumes nothing.
+-- `words::until` meets its contract. The loop's invariant: the byte is none of the first `at`, so where it first
+-- stands is said by the bytes from there on. Assumes nothing.
 use mathlib.Core.Bool.{not}
 use borrow.Author.Tests.{eq-eqb, ne-eqb}
 use borrow.Author.Needs.{needs}

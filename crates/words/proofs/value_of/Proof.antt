@@ -1,4 +1,5 @@
--- `words::value_of` meets its contract. The loop's invariant: n is the number of the first i digits, and at most what i bytes of any value write. Assumes nothing.
+-- `words::value_of` meets its contract. The loop's invariant: n is the number of the first i digits, and at most what
+-- i bytes of any value write. Assumes nothing.
 use mathlib.Core.Path.{_≡_, sym, _∙_}
 use native.Mathlib.Numerals.{add-one}
 use borrow.Author.Needs.{needs}

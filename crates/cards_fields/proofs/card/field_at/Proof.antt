@@ -1,4 +1,5 @@
--- `fields::card::field_at` meets its contract. The loop's invariant: `f` is what was gathered, and `left` how many commas are to pass, so that `f` with what is left of the field is the field. Assumes nothing.
+-- `cards_fields::card::field_at` meets its contract. The loop's invariant: `f` is what was gathered, and `left` how
+-- many commas are to pass, so that `f` with what is left of the field is the field. Assumes nothing.
 use Rattle.cards_fields.proofs.FieldLaws.{pushed-len, addedAll, gathered, field-period, field-comma, field-next, field-skip, field-byte, field-end}
 use borrow.Author.Needs.{needs}
 use Prim.Native.Nat.{_≤_, _-_}

@@ -1,4 +1,5 @@
--- `fields::card::field_is` meets its contract: a field that was gathered whole is compared, a longer one is no word. Assumes nothing.
+-- `cards_fields::card::field_is` meets its contract: a field that was gathered whole is compared, a longer one is no
+-- word. Assumes nothing.
 use native.Mathlib.Omega.{arith}
 use lib.Seq.{length-take-le}
 use mathlib.Core.Path.{sym, _∙_}

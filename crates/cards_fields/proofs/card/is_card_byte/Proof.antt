@@ -1,4 +1,4 @@
--- `fields::card::is_card_byte` meets its contract. Assumes nothing.
+-- `cards_fields::card::is_card_byte` meets its contract. Assumes nothing.
 use Rattle.cards_fields.specs.Fields.{cardByte}
 use borrow.Author.Needs.{needs}
 use Rattle.cards_fields.proofs.card.is_card_byte.Statement.{statement}

@@ -1,4 +1,5 @@
--- `fields::card::is_malformed` meets its contract. The loop's invariant: the first i bytes are in form, and `over` says whether the period was passed, so the rest says whether the card is. Assumes nothing.
+-- `cards_fields::card::is_malformed` meets its contract. The loop's invariant: the first i bytes are in form, and
+-- `over` says whether the period was passed, so the rest says whether the card is. Assumes nothing.
 use Rattle.cards_fields.proofs.FieldLaws.{by-form, too-long, closed-bad, closed-more, closed-blank, closed-next, closed-end}
 use borrow.Author.Needs.{needs}
 use Prim.Native.Nat.{_≤_, _-_}

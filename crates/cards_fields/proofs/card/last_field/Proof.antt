@@ -1,4 +1,5 @@
--- `fields::card::last_field` meets its contract. The loop's invariant: n commas were passed, so the fields are n and those from i on. Assumes nothing.
+-- `cards_fields::card::last_field` meets its contract. The loop's invariant: n commas were passed, so the fields are
+-- n and those from i on. Assumes nothing.
 use borrow.Author.Needs.{needs}
 use Prim.Native.Nat.{_+_, _≤_, _-_}
 use mathlib.Core.Path.{_≡_}

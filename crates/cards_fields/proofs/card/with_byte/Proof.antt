@@ -1,4 +1,4 @@
--- `fields::card::with_byte` meets its contract. Assumes nothing.
+-- `cards_fields::card::with_byte` meets its contract. Assumes nothing.
 use borrow.Author.Tests.{lt-ltb, le-ltb, eq-eqb, ne-eqb}
 use borrow.Author.Needs.{needs}
 use Rattle.cards_fields.proofs.card.with_byte.Statement.{statement}

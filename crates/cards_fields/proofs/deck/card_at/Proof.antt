@@ -1,4 +1,5 @@
--- `fields::deck::card_at` meets its contract. The loop's invariant: the card that is asked for is the one at `left` of those from `at` on. Assumes nothing.
+-- `cards_fields::deck::card_at` meets its contract. The loop's invariant: the card that is asked for is the one at
+-- `left` of those from `at` on. Assumes nothing.
 use Prim.Native.Nat.{_+_, _≤_, _-_}
 use mathlib.Core.Path.{_≡_, sym, _∙_}
 use mathlib.Core.List.{[]}

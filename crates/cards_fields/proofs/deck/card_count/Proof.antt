@@ -1,4 +1,5 @@
--- `fields::deck::card_count` meets its contract. The loop's invariant: the cards passed and those from `at` on are all the cards. Assumes nothing.
+-- `cards_fields::deck::card_count` meets its contract. The loop's invariant: the cards passed and those from `at` on
+-- are all the cards. Assumes nothing.
 use Prim.Native.Nat.{ℕ, _+_, _≤_, _-_}
 use mathlib.Core.Path.{_≡_, ap}
 use mathlib.Core.List.{List}

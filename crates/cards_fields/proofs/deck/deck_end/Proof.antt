@@ -1,5 +1,5 @@
--- `fields::deck::deck_end` meets its contract. The loop's invariant: no card passed is the termination card, so whether there is one, and where, is said by
--- the cards from `at` on. Assumes nothing.
+-- `cards_fields::deck::deck_end` meets its contract. The loop's invariant: no card passed is the termination card, so
+-- whether there is one, and where, is said by the cards from `at` on. Assumes nothing.
 use Prim.Native.Nat.{_+_, _≤_, _-_}
 use mathlib.Core.Path.{_≡_, sym, ap, _∙_}
 use native.Mathlib.Omega.{arith}

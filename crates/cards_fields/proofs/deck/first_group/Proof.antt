@@ -1,4 +1,4 @@
--- `fields::deck::first_group` meets its contract: the part is as long as its group. Assumes nothing.
+-- `cards_fields::deck::first_group` meets its contract: the part is as long as its group. Assumes nothing.
 use Prim.Native.Nat.{ℕ}
 use mathlib.Core.Path.{sym, ap}
 use lib.ListN.{take}

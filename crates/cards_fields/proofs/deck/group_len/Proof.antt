@@ -1,4 +1,5 @@
--- `fields::deck::group_len` meets its contract. The loop's invariant: the first group is the cards passed and, of those from `at` on, the first group. Assumes nothing.
+-- `cards_fields::deck::group_len` meets its contract. The loop's invariant: the first group is the cards passed and,
+-- of those from `at` on, the first group. Assumes nothing.
 use Prim.Native.Nat.{ℕ, _+_, _≤_, _-_}
 use mathlib.Core.Path.{_≡_, sym, ap, _∙_}
 use mathlib.Core.List.{List}

@@ -1,4 +1,5 @@
--- `fields::deck::opens_group` meets its contract: the first card is the text up to its first LF. Assumes nothing.
+-- `cards_fields::deck::opens_group` meets its contract: the first card is the text up to its first LF. Assumes
+-- nothing.
 use mathlib.Core.Path.{sym, _∙_}
 use native.Mathlib.Omega.{arith}
 use lib.Seq.{length-take-le}

@@ -1,12 +1,12 @@
--- `writing::check::are_fields` meets its contract. The loop's invariant: the fields before place k are right, so whether all are is said by those from there on.
--- Assumes nothing.
+-- `cards_writing::check::are_fields` meets its contract. The loop's invariant: the fields before index k are right,
+-- so whether all are is said by those from there on. Assumes nothing.
 use Prim.Native.Nat.{_-_, _≤_}
 use mathlib.Core.Path.{_≡_, refl, sym, ap, _∙_}
 use native.Mathlib.Omega.{arith}
 use borrow.Author.Tests.{not-true, not-false}
 use Rattle.cards.specs.Errors.{good}
-use Rattle.cards.specs.Pty.{fieldsError}
-use Rattle.cards.proofs.PtyLaws.{fromPlace, fields-done}
+use Rattle.cards_pty.specs.Pty.{fieldsError}
+use Rattle.cards_pty.proofs.PtyLaws.{fromIndex, fields-done}
 use Rattle.cards_writing.specs.Writing.{ptyFields}
 use Rattle.cards_writing.proofs.CheckLaws.{fields-wrong, fields-right}
 use borrow.Author.Needs.{needs}
@@ -14,7 +14,7 @@ use Rattle.cards_writing.proofs.check.are_fields.Statement.{statement}
 use Rattle.cards_writing.proofs.check.are_fields.Tie as tie
 
 abbrev Inv-loop : tie.InvT-loop
-Inv-loop r k₀ k = (k ≤ 14) × (good (fromPlace k (ptyFields r)) ≡ good (fieldsError (ptyFields r)))
+Inv-loop r k₀ k = (k ≤ 14) × (good (fromIndex k (ptyFields r)) ≡ good (fieldsError (ptyFields r)))
 
 abbrev μ-loop : tie.MeasureT-loop
 μ-loop r k₀ k = 14 - k

@@ -1,4 +1,4 @@
--- `writing::check::are_formed` meets its contract, name by name. Assumes nothing.
+-- `cards_writing::check::are_formed` meets its contract, name by name. Assumes nothing.
 use mathlib.Core.Path.{_∙_}
 use borrow.Author.Tests.{not-true, not-false}
 use Rattle.cards_writing.proofs.CheckLaws.{formed-is}

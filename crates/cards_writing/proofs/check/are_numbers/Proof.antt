@@ -1,9 +1,11 @@
--- `writing::check::are_numbers` meets its contract. The loop's invariant: the numbers before slot k fit, so whether all do is said by those from there on. Assumes nothing.
+-- `cards_writing::check::are_numbers` meets its contract. The loop's invariant: the numbers before slot k fit, so
+-- whether all do is said by those from there on. Assumes nothing.
 use Prim.Native.Nat.{_-_, _≤_}
 use mathlib.Core.Path.{_≡_, refl, sym, _∙_}
 use native.Mathlib.Omega.{arith}
 use lib.ListN.{length, drop}
-use Rattle.cards.specs.Fac.{asksOf}
+use Rattle.cards.specs.Requests.{counts}
+use Rattle.cards_fac.specs.Fac.{slots, asksOf}
 use Rattle.cards_writing.specs.Writing.{numbersFit}
 use Rattle.cards_writing.proofs.CheckLaws.{number-high, number-low, numbers-done}
 use borrow.Author.Needs.{needs}
@@ -11,10 +13,10 @@ use Rattle.cards_writing.proofs.check.are_numbers.Statement.{statement}
 use Rattle.cards_writing.proofs.check.are_numbers.Tie as tie
 
 abbrev Inv-loop : tie.InvT-loop
-Inv-loop f k₀ k = (k ≤ 51) × (numbersFit k (drop k (asksOf f)) ≡ numbersFit 0 (asksOf f))
+Inv-loop f k₀ k = (k ≤ slots) × (numbersFit k (drop k (asksOf f)) ≡ numbersFit 0 (asksOf f))
 
 abbrev μ-loop : tie.MeasureT-loop
-μ-loop f k₀ k = 51 - k
+μ-loop f k₀ k = slots - k
 
 loop-holds : tie.Need-loop-holds Inv-loop μ-loop
 loop-holds c = (omega arith, refl)
@@ -26,7 +28,7 @@ number-at-requires : tie.Need-number-at-requires Inv-loop μ-loop
 number-at-requires c κs = search needs
 
 returns : tie.Need-returns Inv-loop μ-loop
-returns c = let l : length (c .before .before .before .before .before .args .f .units) ≡ 48 = search needs in sym (number-high (asksOf (c .before .before .before .before .before .args .f)) (c .before .before .before .before .loop .k) (c .before .number-at .result) (c .before .before .limit-at .result) (omega arith) (c .before .number-at .ensures) (c .before .before .limit-at .ensures) (c .if1 .taken)) ∙ c .before .before .before .before .loop .inv .1
+returns c = let l : length (c .before .before .before .before .before .args .f .units) ≡ counts = search needs in sym (number-high (asksOf (c .before .before .before .before .before .args .f)) (c .before .before .before .before .loop .k) (c .before .number-at .result) (c .before .before .limit-at .result) (omega arith) (c .before .number-at .ensures) (c .before .before .limit-at .ensures) (c .if1 .taken)) ∙ c .before .before .before .before .loop .inv .1
 
 add-k : tie.Need-add-k Inv-loop μ-loop
 add-k c = search needs
@@ -35,10 +37,10 @@ loop-less : tie.Need-loop-less Inv-loop μ-loop
 loop-less c = search needs
 
 loop-again : tie.Need-loop-again Inv-loop μ-loop
-loop-again c = let l : length (c .before .before .before .before .before .args .f .units) ≡ 48 = search needs in (omega arith, sym (number-low (asksOf (c .before .before .before .before .before .args .f)) (c .before .before .before .before .loop .k) (c .before .number-at .result) (c .before .before .limit-at .result) (omega arith) (c .before .number-at .ensures) (c .before .before .limit-at .ensures) (c .if1 .left)) ∙ c .before .before .before .before .loop .inv .1)
+loop-again c = let l : length (c .before .before .before .before .before .args .f .units) ≡ counts = search needs in (omega arith, sym (number-low (asksOf (c .before .before .before .before .before .args .f)) (c .before .before .before .before .loop .k) (c .before .number-at .result) (c .before .before .limit-at .result) (omega arith) (c .before .number-at .ensures) (c .before .before .limit-at .ensures) (c .if1 .left)) ∙ c .before .before .before .before .loop .inv .1)
 
 returns-2 : tie.Need-returns-2 Inv-loop μ-loop
-returns-2 c = let l : length (c .before .before .args .f .units) ≡ 48 = search needs in sym (numbers-done (asksOf (c .before .before .args .f)) (c .before .loop .k) (omega arith) (omega arith)) ∙ c .before .loop .inv .1
+returns-2 c = let l : length (c .before .before .args .f .units) ≡ counts = search needs in sym (numbers-done (asksOf (c .before .before .args .f)) (c .before .loop .k) (omega arith) (omega arith)) ∙ c .before .loop .inv .1
 
 pub are-numbers-spec : {M : Type 1} → statement M
 are-numbers-spec =

@@ -1,4 +1,4 @@
--- `writing::check::are_ranges` meets its contract, test by test. Assumes nothing.
+-- `cards_writing::check::are_ranges` meets its contract, test by test. Assumes nothing.
 use mathlib.Core.Path.{sym, _∙_}
 use native.Mathlib.Omega.{arith}
 use borrow.Author.Tests.{not-true, not-false, lt-ltb, le-ltb}

@@ -1,4 +1,4 @@
--- `writing::check::is_field` meets its contract: a field of over twelve bytes shows as such. Assumes nothing.
+-- `cards_writing::check::is_field` meets its contract: a field of over twelve bytes shows as such. Assumes nothing.
 use mathlib.Core.Path.{ap, _∙_}
 use Rattle.text.proofs.RoomLaws.{written-length}
 use Rattle.cards.specs.Errors.{good}

@@ -1,4 +1,5 @@
--- `writing::check::is_formed` meets its contract. The loop's invariant: `over` says whether a blank was passed, and nothing but blanks followed one. Assumes nothing.
+-- `cards_writing::check::is_formed` meets its contract. The loop's invariant: `over` says whether a blank was passed,
+-- and nothing but blanks followed one. Assumes nothing.
 use Prim.Native.Nat.{_-_, _≤_}
 use mathlib.Core.Path.{_≡_, sym, _∙_}
 use mathlib.Core.Bool.{false}

@@ -1,4 +1,4 @@
--- `writing::check::is_taken` meets its contract, test by test. Assumes nothing.
+-- `cards_writing::check::is_taken` meets its contract, test by test. Assumes nothing.
 use mathlib.Core.Path.{sym, ap, _∙_}
 use borrow.Author.Tests.{not-true, not-false}
 use Rattle.cards.specs.Errors.{good}

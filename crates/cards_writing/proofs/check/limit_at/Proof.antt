@@ -1,4 +1,4 @@
--- `writing::check::limit_at` meets its contract, test by test. Assumes nothing.
+-- `cards_writing::check::limit_at` meets its contract, test by test. Assumes nothing.
 use borrow.Author.Tests.{eq-eqb, ne-eqb}
 use Rattle.cards_writing.proofs.check.limit_at.Statement.{statement}
 use Rattle.cards_writing.proofs.check.limit_at.Tie as tie

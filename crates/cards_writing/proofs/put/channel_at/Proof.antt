@@ -1,4 +1,4 @@
--- `writing::put::channel_at` meets its contract, test by test. Assumes nothing.
+-- `cards_writing::put::channel_at` meets its contract, test by test. Assumes nothing.
 use borrow.Author.Tests.{lt-ltb, le-ltb}
 use Rattle.cards_writing.proofs.put.channel_at.Statement.{statement}
 use Rattle.cards_writing.proofs.put.channel_at.Tie as tie

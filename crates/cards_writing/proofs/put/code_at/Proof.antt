@@ -1,4 +1,4 @@
--- `writing::put::code_at` meets its contract, test by test. Assumes nothing.
+-- `cards_writing::put::code_at` meets its contract, test by test. Assumes nothing.
 use borrow.Author.Tests.{lt-ltb, le-ltb}
 use borrow.Author.Needs.{needs}
 use Rattle.cards_writing.proofs.put.code_at.Statement.{statement}

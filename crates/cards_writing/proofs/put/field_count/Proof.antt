@@ -1,4 +1,4 @@
--- `writing::put::field_count` meets its contract, by which of the last two fields are empty. Assumes nothing.
+-- `cards_writing::put::field_count` meets its contract, by which of the last two fields are empty. Assumes nothing.
 use mathlib.Core.Path.{sym, _∙_}
 use borrow.Author.Tests.{not-true, not-false, eqb-true, eqb-false}
 use Rattle.cards_writing.proofs.PutLaws.{all-written, library-left, both-left}

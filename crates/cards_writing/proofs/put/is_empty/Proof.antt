@@ -1,4 +1,4 @@
--- `writing::put::is_empty` meets its contract: nothing of an empty field is put. Assumes nothing.
+-- `cards_writing::put::is_empty` meets its contract: nothing of an empty field is put. Assumes nothing.
 use Rattle.cards_writing.proofs.PutLaws.{put-empty}
 use borrow.Author.Needs.{needs}
 use Rattle.cards_writing.proofs.put.is_empty.Statement.{statement}

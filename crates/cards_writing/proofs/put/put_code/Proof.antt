@@ -1,7 +1,7 @@
--- `writing::put::put_code` meets its contract: the code of each arm. Assumes nothing.
+-- `cards_writing::put::put_code` meets its contract: the code of each arm. Assumes nothing.
 use Rattle.text.proofs.RoomLaws.{none}
-use Rattle.cards.specs.Fac.{codes}
-use Rattle.cards.proofs.PtyLaws.{missed}
+use Rattle.cards_fac.specs.Fac.{codes}
+use Rattle.cards_pty.proofs.PtyLaws.{missed}
 use Rattle.cards_writing.proofs.PutLaws.{no-code}
 use borrow.Author.Needs.{needs}
 use Rattle.cards_writing.proofs.put.put_code.Statement.{statement}

@@ -1,4 +1,4 @@
--- `writing::put::put_entry` meets its contract, with and without a logical channel. Assumes nothing.
+-- `cards_writing::put::put_entry` meets its contract, with and without a logical channel. Assumes nothing.
 use mathlib.Core.Path.{sym, _∙_}
 use borrow.Author.Tests.{eq-eqb, ne-eqb}
 use Rattle.text.proofs.RoomLaws.{andThen}

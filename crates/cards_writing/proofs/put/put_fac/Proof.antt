@@ -1,4 +1,4 @@
--- `writing::put::put_fac` meets its contract: the ID, the word FAC, and the entries. Assumes nothing.
+-- `cards_writing::put::put_fac` meets its contract: the ID, the word FAC, and the entries. Assumes nothing.
 use Rattle.text.proofs.RoomLaws.{andThen}
 use Rattle.cards_writing.specs.Writing.{facText, ptyFields}
 use borrow.Author.Needs.{needs}

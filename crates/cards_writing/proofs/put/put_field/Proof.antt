@@ -1,8 +1,8 @@
--- `writing::put::put_field` meets its contract: the field of each arm. Assumes nothing.
+-- `cards_writing::put::put_field` meets its contract: the field of each arm. Assumes nothing.
 use Rattle.text.proofs.RoomLaws.{none}
 use Rattle.cards_writing.specs.Writing.{ptyFields}
 use Rattle.cards_writing.proofs.PutLaws.{no-field}
-use Rattle.cards.proofs.PtyLaws.{missed}
+use Rattle.cards_pty.proofs.PtyLaws.{missed}
 use borrow.Author.Needs.{needs}
 use Rattle.cards_writing.proofs.put.put_field.Statement.{statement}
 use Rattle.cards_writing.proofs.put.put_field.Tie as tie

@@ -1,5 +1,5 @@
--- `writing::put::put_fields` meets its contract. The loop's invariant is `Going`: whoever puts a comma and each field from place k on, and the period, has put all.
--- Assumes nothing.
+-- `cards_writing::put::put_fields` meets its contract. The loop's invariant is `Going`: whoever puts a comma and each
+-- field from index k on, and the period, has put all. Assumes nothing.
 use Prim.Native.Nat.{_-_, _≤_}
 use mathlib.Core.Path.{_≡_}
 use native.Mathlib.Omega.{arith}

@@ -1,4 +1,4 @@
--- `writing::put::put_mark` meets its contract: nothing is put for a blank. Assumes nothing.
+-- `cards_writing::put::put_mark` meets its contract: nothing is put for a blank. Assumes nothing.
 use borrow.Author.Tests.{eq-eqb, ne-eqb}
 use Rattle.text.proofs.RoomLaws.{none}
 use borrow.Author.Needs.{needs}

@@ -1,4 +1,5 @@
--- `writing::put::put_name` meets its contract. The loop's invariant is `Going`: whoever puts the rest of the name without blanks has put the whole. Assumes nothing.
+-- `cards_writing::put::put_name` meets its contract. The loop's invariant is `Going`: whoever puts the rest of the
+-- name without blanks has put the whole. Assumes nothing.
 use Prim.Native.Nat.{_-_, _≤_}
 use native.Mathlib.Omega.{arith}
 use lib.ListN.{length, drop}

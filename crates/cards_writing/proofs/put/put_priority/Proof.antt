@@ -1,4 +1,4 @@
--- `writing::put::put_priority` meets its contract, with and without a sequence. Assumes nothing.
+-- `cards_writing::put::put_priority` meets its contract, with and without a sequence. Assumes nothing.
 use borrow.Author.Tests.{eq-eqb, ne-eqb}
 use Rattle.text.proofs.RoomLaws.{andThen}
 use Rattle.cards_writing.specs.Writing.{priorityText}

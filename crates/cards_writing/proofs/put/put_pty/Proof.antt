@@ -1,4 +1,4 @@
--- `writing::put::put_pty` meets its contract: the first field, and what follows it. Assumes nothing.
+-- `cards_writing::put::put_pty` meets its contract: the first field, and what follows it. Assumes nothing.
 use Rattle.text.proofs.RoomLaws.{andThen}
 use Rattle.cards_writing.proofs.PutLaws.{pty-first}
 use borrow.Author.Needs.{needs}

@@ -1,0 +1,2 @@
+pub mod PriorityLaws
+pub mod PtyLaws
