@@ -16,7 +16,7 @@ use Rattle.cards.specs.declared.Request.{Request}
 use Rattle.schedule_entries.specs.Entries.{blank, keyOf, precedes}
 use Rattle.schedule_entries.specs.declared.Entry.{Entry}
 use Rattle.schedule_entries.specs.declared.Key.{Key}
-use Rattle.schedule_list.specs.Held.{entryAt, held}
+use Rattle.schedule_list.specs.InSchedule.{entryAt, inSchedule}
 use Rattle.schedule_orderly.specs.Orderly.{Ahead, Each, Pairs, requests}
 use Rattle.schedule_orderly.proofs.OrderLaws.{precedes-on}
 use Rattle.cell_selection.specs.Selecting.{Candidate, HasNone, seenIn}
@@ -72,6 +72,6 @@ pub first-in-order : FirstInOrder
 first-in-order configuration es c h d job s i k e =
     let w = demand-2 .selected c d job s in
     let sound = sound-always configuration es c h in
-    let f : precedes (keyOf (entryAt (held (c .schedule)) i .request)) (keyOf (entryAt (held (c .schedule)) (job .at) .request)) ≡ true =
-    subst (λ (r : Request). precedes (keyOf (entryAt (held (c .schedule)) i .request)) (keyOf r) ≡ true) (w .request) e in
-    w .fit .first i (before (held (c .schedule)) (sound .orderly .keys) i (job .at) (k .0) f) k
+    let f : precedes (keyOf (entryAt (inSchedule (c .schedule)) i .request)) (keyOf (entryAt (inSchedule (c .schedule)) (job .at) .request)) ≡ true =
+    subst (λ (r : Request). precedes (keyOf (entryAt (inSchedule (c .schedule)) i .request)) (keyOf r) ≡ true) (w .request) e in
+    w .fit .first i (before (inSchedule (c .schedule)) (sound .orderly .keys) i (job .at) (k .0) f) k

@@ -7,7 +7,7 @@ use mathlib.Core.List.{List}
 use Rattle.numbers.specs.declared.Outcome.the-variants.{Done}
 use Rattle.channels.specs.declared.Configuration.{Configuration}
 use Rattle.schedule_entries.specs.Entries.{keyOf, precedes}
-use Rattle.schedule_list.specs.Held.{entryAt, held}
+use Rattle.schedule_list.specs.InSchedule.{entryAt, inSchedule}
 use Rattle.cell_selection.specs.Selecting.{Candidate, HasNone, seenIn}
 use Rattle.cell_selection.specs.declared.Selection.{Selection}
 use Rattle.cell.specs.Calls.{freshCell}
@@ -19,5 +19,6 @@ abbrev pub FirstInOrder : Type 0
 FirstInOrder =
     (configuration : Configuration) (es : List Event) (c : Cell) → Leads (freshCell configuration) es c
     → (d : Cell) (job : Selection) → Does c Select (Chosen Done job) d
-    → (i : ℕ) → Candidate (held (c .schedule)) i → precedes (keyOf (entryAt (held (c .schedule)) i .request)) (keyOf (job .request)) ≡ true
-    → HasNone (seenIn (c .lists)) (entryAt (held (c .schedule)) i .request)
+    → (i : ℕ) → Candidate (inSchedule (c .schedule)) i
+    → precedes (keyOf (entryAt (inSchedule (c .schedule)) i .request)) (keyOf (job .request)) ≡ true
+    → HasNone (seenIn (c .lists)) (entryAt (inSchedule (c .schedule)) i .request)

@@ -18,7 +18,7 @@ use Rattle.cards.specs.Group.{readGroup}
 use Rattle.cards.specs.declared.Request.{Request}
 use Rattle.cards.specs.declared.Verdict.the-variants.{Good}
 use Rattle.cards_writing.specs.Writing.{fits, takes, textOf, written}
-use Rattle.schedule_list.specs.Held.{held}
+use Rattle.schedule_list.specs.InSchedule.{inSchedule}
 use Rattle.packets.specs.Codes.{statusAfter}
 use Rattle.packets.specs.Demand.{Holding, Holds, Isolated, Stretch}
 use Rattle.packets.specs.Rules as Rules
@@ -51,7 +51,7 @@ pub record Demand2 : Type 0 where
   pub cards : (r : Request) (room : List ℕ) → takes r ≡ true → fits r (length room) ≡ true
       → readGroup (cardsOf (take (length (textOf r)) (written r room))) ≡ record { verdict = Good; request = r }
   -- the job selected
-  pub selected : (c d : Cell) (s : Selection) → Does c Select (Chosen Done s) d → Selected (held (c .schedule)) (c .lists) s
+  pub selected : (c d : Cell) (s : Selection) → Does c Select (Chosen Done s) d → Selected (inSchedule (c .schedule)) (c .lists) s
   -- refused exactly when no place is free or no such job exists
   pub refused : (c d : Cell) (o : Outcome) (s : Selection) → Does c Select (Chosen o s) d
       → (o ≡ Refused NothingSelected → NoneToSelect (c .schedule) (c .lists)) × (NoneToSelect (c .schedule) (c .lists) → o ≡ Refused NothingSelected)

@@ -1,5 +1,5 @@
--- The selection order is an order: it goes on from one to the next, and of two keys that differ one comes first. IDs that are the same are
--- equal. Assumes nothing.
+-- The selection order is an order: it goes on from one to the next, and of two keys that differ one comes first. IDs
+-- that are the same are equal. Assumes nothing.
 use Prim.Native.Nat.{ℕ, _<_}
 use mathlib.Core.Path.{_≡_, refl, sym, _∙_}
 use mathlib.Core.Bool.{Bool, true, false, cond}
