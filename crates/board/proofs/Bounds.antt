@@ -18,7 +18,7 @@ use Rattle.schedule_entries.specs.Entries.{blank, inPlace}
 use Rattle.schedule_entries.specs.declared.State.{State}
 use Rattle.schedule_entries.specs.declared.State.the-variants as S
 use Rattle.schedule_entries.specs.declared.Entry.{Entry}
-use Rattle.schedule_list.specs.Held.{held}
+use Rattle.schedule_list.specs.InSchedule.{inSchedule}
 use Rattle.schedule_list.specs.declared.Schedule.{Schedule}
 use Rattle.units.specs.State.{unitIn, assignable}
 use Rattle.units.specs.declared.Holder.{Holder}
@@ -209,13 +209,13 @@ request-few e h =
 
 -- ---- the whole
 module _ (lists : Lists) (schedule : Schedule) (t : InTypes lists schedule) where
-  held-ids : (i : ℕ) → i < length (held schedule) → length (getD (held schedule) i blank .request .id) ≤ 6
-  held-ids i h =
+  ids-few : (i : ℕ) → i < length (inSchedule schedule) → length (getD (inSchedule schedule) i blank .request .id) ≤ 6
+  ids-few i h =
       let l = length-take (schedule .count) (schedule .entries) in
       rw (getD-take (schedule .count) (schedule .entries) i blank (omega arith)) (t .ids i)
 
-  places-few : length (placesText (lists .jobs) (held schedule)) ≤ 368
-  places-few = each-bound (λ p. placeText p (idIn (held schedule) p) (jobIn (lists .jobs) p .state)) 23 16 0 (λ p a b. place-few p (idIn (held schedule) p) (jobIn (lists .jobs) p .state) b (id-few (held schedule) p held-ids))
+  places-few : length (placesText (lists .jobs) (inSchedule schedule)) ≤ 368
+  places-few = each-bound (λ p. placeText p (idIn (inSchedule schedule) p) (jobIn (lists .jobs) p .state)) 23 16 0 (λ p a b. place-few p (idIn (inSchedule schedule) p) (jobIn (lists .jobs) p .state) b (id-few (inSchedule schedule) p ids-few))
 
   units-few : length (unitsText (lists .channels) (lists .units .of)) ≤ 10496
   units-few = each-bound (λ c. channelText (lists .units .of) c (getD (lists .channels) c noChannel)) 656 16 0 (λ c a b. channel-few (lists .units .of) c (getD (lists .channels) c noChannel) (t .holders c))
@@ -228,17 +228,17 @@ module _ (lists : Lists) (schedule : Schedule) (t : InTypes lists schedule) wher
       let l = length-take (lists .list .count) (lists .list .entries) in
       omega (arith, t .queue, of-bound (listedLine (lists .jobs)) 0 16 (queueOf lists) (λ i h. entry-few _ (getD (queueOf lists) i 0) (rw (getD-take (lists .list .count) (lists .list .entries) i 0 (omega arith)) (t .packets i))))
 
-  requests-few : length (requestsText (held schedule)) ≤ 1472
+  requests-few : length (requestsText (inSchedule schedule)) ≤ 1472
   requests-few =
       let l = length-take (schedule .count) (schedule .entries) in
-      omega (arith, t .entries, of-bound requestText blank 23 (held schedule) (λ i h. request-few (getD (held schedule) i blank) (held-ids i h)))
+      omega (arith, t .entries, of-bound requestText blank 23 (inSchedule schedule) (λ i h. request-few (getD (inSchedule schedule) i blank) (ids-few i h)))
 
   -- every board fits
   pub board-bound : length (boardText lists schedule) ≤ most
   board-bound =
       let jobs = lists .jobs in
       let last = bytes "END OF BOARD\n" in
-      let requests = requestsText (held schedule) ++ last in
+      let requests = requestsText (inSchedule schedule) ++ last in
       let listed = listedText jobs (queueOf lists) ++ requests in
       let moves = movesText (lists .moving) ++ listed in
       let drum = drumText jobs ++ moves in
@@ -253,11 +253,11 @@ module _ (lists : Lists) (schedule : Schedule) (t : InTypes lists schedule) wher
         moves-few,
         listed-few,
         requests-few,
-        length-append (placesText jobs (held schedule)) units,
+        length-append (placesText jobs (inSchedule schedule)) units,
         length-append (unitsText (lists .channels) (lists .units .of)) core,
         length-append (coreText jobs) drum,
         length-append (drumText jobs) moves,
         length-append (movesText (lists .moving)) listed,
         length-append (listedText jobs (queueOf lists)) requests,
-        length-append (requestsText (held schedule)) last,
+        length-append (requestsText (inSchedule schedule)) last,
       )

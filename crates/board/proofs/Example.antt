@@ -12,7 +12,7 @@ use Rattle.cards_writing.specs.Writing.{priorityText}
 use Rattle.cards.specs.Requests.{noUnits}
 use Rattle.cards.specs.declared.Request.{Request}
 use Rattle.schedule_entries.specs.declared.State.the-variants as S
-use Rattle.schedule_list.specs.Held.{scheduleOf}
+use Rattle.schedule_list.specs.InSchedule.{scheduleOf}
 use Rattle.schedule_list.specs.declared.Schedule.{Schedule}
 use Rattle.units.specs.State.{freshUnit, noneHeld, unitIn, unitSet, assignable}
 use Rattle.units.specs.declared.Holder.the-variants.{Held}

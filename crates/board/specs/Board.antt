@@ -5,7 +5,7 @@ use mathlib.Core.List.{List, _++_}
 use lib.ListN.{length, take, drop}
 use Rattle.numbers.specs.Quoted.{bytes}
 use Rattle.text.specs.Room as Room
-use Rattle.schedule_list.specs.Held.{held}
+use Rattle.schedule_list.specs.InSchedule.{inSchedule}
 use Rattle.schedule_list.specs.declared.Schedule.{Schedule}
 use Rattle.packets.specs.declared.Lists.{Lists}
 use Rattle.board_jobs.specs.Places.{placesText}
@@ -21,13 +21,13 @@ queueOf lists = take (lists .list .count) (lists .list .entries)
 -- THE BOARD: places, units, core, drum, what moves, what is listed, the requests, and that this is all
 abbrev pub boardText : Lists → Schedule → List ℕ
 boardText lists schedule =
-    placesText (lists .jobs) (held schedule)
+    placesText (lists .jobs) (inSchedule schedule)
     ++ (unitsText (lists .channels) (lists .units .of)
     ++ (coreText (lists .jobs)
     ++ (drumText (lists .jobs)
     ++ (movesText (lists .moving)
     ++ (listedText (lists .jobs) (queueOf lists)
-    ++ (requestsText (held schedule) ++ bytes "END OF BOARD\n"))))))
+    ++ (requestsText (inSchedule schedule) ++ bytes "END OF BOARD\n"))))))
 
 -- how many bytes hold every board
 abbrev pub most : ℕ

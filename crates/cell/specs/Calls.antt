@@ -10,7 +10,7 @@ use Rattle.numbers.specs.declared.Outcome.the-variants as Outcomes
 use Rattle.numbers.specs.declared.Refusal.the-variants.{NothingSelected, OutOfRange}
 use Rattle.channels.specs.declared.Configuration.{Configuration}
 use Rattle.configuration_units.specs.Fresh.{freshUnits}
-use Rattle.schedule_list.specs.Held.{scheduleOf}
+use Rattle.schedule_list.specs.InSchedule.{scheduleOf}
 use Rattle.schedule_list.specs.declared.Schedule.{Schedule}
 use Rattle.schedule.specs.Calls.{closing, deleted, released, returned}
 use Rattle.schedule.specs.declared.Changed.{Changed}

@@ -12,7 +12,6 @@ use packets::Leaving;
 use packets::Lists;
 use packets::Spot;
 use packets::Status;
-use schedule::calls;
 use schedule_list::Schedule;
 ghost use mathlib.Core.Path.{_≡_};
 ghost use Rattle.packets.specs.Rules.{Submit, Start, Complete, End, Mark};
@@ -154,8 +153,8 @@ fn left_by(leaving: Leaving, schedule: Schedule, place: u8, otherwise: Schedule)
 {
     match leaving {
         Leaving::Stays => otherwise,
-        Leaving::AfterNormal => calls::returned(schedule, place, false),
-        Leaving::AfterError => calls::returned(schedule, place, true),
+        Leaving::AfterNormal => schedule::returned(schedule, place, false),
+        Leaving::AfterError => schedule::returned(schedule, place, true),
     }
 }
 
@@ -192,7 +191,7 @@ fn after_end(schedule: Schedule, place: u8, answer: Answer) -> Schedule
         Answer::Started(_) => schedule,
         Answer::Completed(_, _, _) => schedule,
         Answer::Closed(leaving) => {
-            let closing = calls::closing(schedule, place);
+            let closing = schedule::closing(schedule, place);
             left_by(leaving, schedule, place, closing)
         }
         Answer::Refused(_) => schedule,
@@ -240,7 +239,7 @@ pub fn release(cell: Cell, id: [u8; 6]) -> Answered
 {
     let schedule = cell.schedule;
     let lists = cell.lists;
-    let changed = calls::release(schedule, id);
+    let changed = schedule::release(schedule, id);
     let outcome = changed.outcome;
     let waiting = changed.schedule;
     Answered {
@@ -258,7 +257,7 @@ pub fn delete(cell: Cell, id: [u8; 6]) -> Answered
 {
     let schedule = cell.schedule;
     let lists = cell.lists;
-    let changed = calls::delete(schedule, id);
+    let changed = schedule::delete(schedule, id);
     let outcome = changed.outcome;
     let rest = changed.schedule;
     Answered {

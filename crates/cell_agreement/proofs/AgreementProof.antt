@@ -14,10 +14,10 @@ use Rattle.schedule_entries.specs.Entries.{inPlace, serial, waiting}
 use Rattle.schedule_entries.specs.declared.Entry.{Entry}
 use Rattle.schedule_entries.specs.declared.State.{State as RequestState}
 use Rattle.schedule_entries.specs.declared.State.the-variants as Request
-use Rattle.schedule_list.specs.Held.{entryAt, held, scheduleOf}
+use Rattle.schedule_list.specs.InSchedule.{entryAt, inSchedule, scheduleOf}
 use Rattle.schedule_list.specs.declared.Schedule.{Schedule}
 use Rattle.schedule.specs.Calls as Schedules
-use Rattle.schedule.specs.Candidates.{candidate, headed, running, runningAlone}
+use Rattle.schedule_candidates.specs.Candidates.{candidate, lowerStands, running, runningAlone}
 use Rattle.channels.specs.declared.Configuration.{Configuration}
 use Rattle.packets.specs.Demand.{emptyPlace, fresh}
 use Rattle.packets.proofs.Inv.{Inv}
@@ -54,21 +54,21 @@ use Rattle.cell_agreement.proofs.StepLaws.{Agree, agree-complete, agree
 candidate-waits : (es : List Entry) (e : Entry) → candidate es e ≡ true → waiting (e .state) ≡ true
 unfolding candidate
 candidate-waits es e h =
-    both (waiting (e .state)) (not (headed es e) && (not (runningAlone es) && not (serial (e .request) && running es))) h .0
+    both (waiting (e .state)) (not (lowerStands es e) && (not (runningAlone es) && not (serial (e .request) && running es))) h .0
 
 module _ (s : Schedule) (lists : Lists) (I : Inv (stateOf lists)) (A : Agree s (stateOf lists)) where
-  agree-taken : (r : Selection) → Selected (held s) lists r → Agree (Schedules.taken s (r .at) (r .place)) (stateOf (outcome lists (takingOf r) .lists))
+  agree-taken : (r : Selection) → Selected (inSchedule s) lists r → Agree (Schedules.taken s (r .at) (r .place)) (stateOf (outcome lists (takingOf r) .lists))
   agree-taken r h =
       let asg = assignmentOf (r .request .facilities) (r .assigned) in
       rw (outcome-is lists (takingOf r) .1) (unfold step accept in
       rw (taking-granted s lists r h)
       (agree-put (r .place) Running s (Schedules.taken s (r .at) (r .place)) (stateOf lists) (Rules.assigned (stateOf lists) (r .place) asg)
-      (put-taken s (r .at) (r .place) (h .fit .candidate .0) (candidate-waits (held s) (entryAt (held s) (r .at)) (h .fit .candidate .1))
+      (put-taken s (r .at) (r .place) (h .fit .candidate .0) (candidate-waits (inSchedule s) (entryAt (inSchedule s) (r .at)) (h .fit .candidate .1))
       (A (r .place) ∙ stands-empty (stateIn (lists .jobs) (r .place)) (r .place) (h .place .1 .0)))
       (λ j. state-fresh (lists .jobs) (r .place) asg j (rw (I .places) (h .place .0)))
       (λ j q. A j)))
 
-  agree-select : (found : Bool) (r : Selection) → SelectsBy found (held s) lists r
+  agree-select : (found : Bool) (r : Selection) → SelectsBy found (inSchedule s) lists r
       → Agree (Selecting.leftBy found s lists r .0) (stateOf (Selecting.leftBy found s lists r .1))
   agree-select true r h = agree-taken r h
   agree-select false r h = A
@@ -132,43 +132,43 @@ agree-fresh configuration j = ap (λ (x : JobState). standing x j) (sym (fresh-s
 
 -- ---- what the agreement says of one request
 
-module _ (s : Schedule) (st : State) (I : Inv st) (A : Agree s st) (k : ℕ) (h : k < length (held s)) where
+module _ (s : Schedule) (st : State) (I : Inv st) (A : Agree s st) (k : ℕ) (h : k < length (inSchedule s)) where
   -- it is in a place that there is
-  inside-place : (p : ℕ) → inPlace p (entryAt (held s) k .state) ≡ true → p < 16
+  inside-place : (p : ℕ) → inPlace p (entryAt (inSchedule s) k .state) ≡ true → p < 16
   inside-place p i =
       elim (decLt p 16) [
         | yes q ↦ q
-        | no q ↦ absurd (not-none p k (held s) h i (A p ∙ ap (λ (x : JobState). standing x p) (states-beyond st I p (omega arith))))
+        | no q ↦ absurd (not-none p k (inSchedule s) h i (A p ∙ ap (λ (x : JobState). standing x p) (states-beyond st I p (omega arith))))
       ]
 
-  runs-there : (p : ℕ) → entryAt (held s) k .state ≡ Request.Running p → stateIn (st .jobs) p ≡ Running
+  runs-there : (p : ℕ) → entryAt (inSchedule s) k .state ≡ Request.Running p → stateIn (st .jobs) p ≡ Running
   runs-there p e = by (stateIn (st .jobs) p) (A p)
     where
-      i : inPlace p (entryAt (held s) k .state) ≡ true
+      i : inPlace p (entryAt (inSchedule s) k .state) ≡ true
       i = rw e (eq-eqb p p refl)
 
       by : (t : JobState) → seen p s ≡ standing t p → t ≡ Running
-      by Empty a = absurd (not-none p k (held s) h i a)
+      by Empty a = absurd (not-none p k (inSchedule s) h i a)
       by Running a = refl
-      by ClosingNormal a = let z : Request.Running p ≡ Request.Closing p = sym e ∙ is-alone p k (Request.Closing p) (held s) h i a in cc
-      by ClosingError a = let z : Request.Running p ≡ Request.Closing p = sym e ∙ is-alone p k (Request.Closing p) (held s) h i a in cc
+      by ClosingNormal a = let z : Request.Running p ≡ Request.Closing p = sym e ∙ is-alone p k (Request.Closing p) (inSchedule s) h i a in cc
+      by ClosingError a = let z : Request.Running p ≡ Request.Closing p = sym e ∙ is-alone p k (Request.Closing p) (inSchedule s) h i a in cc
 
-  closes-there : (p : ℕ) → entryAt (held s) k .state ≡ Request.Closing p → isClosing (stateIn (st .jobs) p) ≡ true
+  closes-there : (p : ℕ) → entryAt (inSchedule s) k .state ≡ Request.Closing p → isClosing (stateIn (st .jobs) p) ≡ true
   closes-there p e = by (stateIn (st .jobs) p) (A p)
     where
-      i : inPlace p (entryAt (held s) k .state) ≡ true
+      i : inPlace p (entryAt (inSchedule s) k .state) ≡ true
       i = rw e (eq-eqb p p refl)
 
       by : (t : JobState) → seen p s ≡ standing t p → isClosing t ≡ true
-      by Empty a = absurd (not-none p k (held s) h i a)
-      by Running a = let z : Request.Closing p ≡ Request.Running p = sym e ∙ is-alone p k (Request.Running p) (held s) h i a in cc
+      by Empty a = absurd (not-none p k (inSchedule s) h i a)
+      by Running a = let z : Request.Closing p ≡ Request.Running p = sym e ∙ is-alone p k (Request.Running p) (inSchedule s) h i a in cc
       by ClosingNormal a = refl
       by ClosingError a = refl
 
-  has-its-job : HasItsJob (st .jobs) (entryAt (held s) k .state)
-  has-its-job = by (entryAt (held s) k .state) refl
+  has-its-job : HasItsJob (st .jobs) (entryAt (inSchedule s) k .state)
+  has-its-job = by (entryAt (inSchedule s) k .state) refl
     where
-      by : (x : RequestState) → entryAt (held s) k .state ≡ x → HasItsJob (st .jobs) x
+      by : (x : RequestState) → entryAt (inSchedule s) k .state ≡ x → HasItsJob (st .jobs) x
       by Request.Waiting e = tt
       by Request.Suspended e = tt
       by (Request.Running p) e = (inside-place p (rw e (eq-eqb p p refl)), runs-there p e)

@@ -1,12 +1,11 @@
 -- What the calls on the schedule do to the requests in each place: a deck, a release and a deletion nothing, since they touch no request whose job runs
 -- or closes; a taking puts one into an empty place, a job's end lets it close there, and a return takes it out of the place. Assumes nothing.
-use Prim.Native.Nat.{ℕ, _-_, _≤_, _<_}
-use mathlib.Core.Path.{_≡_, refl, sym, ap, _∙_}
+use Prim.Native.Nat.{ℕ, _≤_, _<_}
+use mathlib.Core.Path.{_≡_, refl, sym, ap, subst, _∙_}
 use mathlib.Core.Bool.{Bool, true, false, cond, _&&_}
 use mathlib.Core.List.{List, [], _∷_}
 use lib.Dec.{eqb, leb}
-use lib.ListN.{length, replicate, List·getD-eq-default}
-use lib.Seq.{take-at}
+use lib.ListN.{length, List·getD-eq-default}
 use borrow.Author.Tests.{eq-eqb, eqb-true, eqb-false, ltb-true, ltb-false, lt-ltb, ne-eqb}
 use Rattle.numbers.specs.Quoted.{byte}
 use Rattle.numbers.proofs.Tests.{both, by-bool, never}
@@ -20,13 +19,19 @@ use Rattle.cards.specs.declared.CardError.the-variants.{InSchedule}
 use Rattle.cards.specs.declared.Verdict.{Verdict}
 use Rattle.cards.specs.declared.Verdict.the-variants.{Good, Wrong}
 use Rattle.cards.specs.declared.Request.{Request}
-use Rattle.schedule_entries.specs.Entries.{active, blank, firstState, inPlace, suspended, waiting}
+use Rattle.schedule_entries.specs.Entries.{active, blank, firstState, inPlace, isNamed, suspended, waiting}
 use Rattle.schedule_entries.specs.declared.Entry.{Entry}
 use Rattle.schedule_entries.specs.declared.State.{State}
 use Rattle.schedule_entries.specs.declared.State.the-variants.{Closing, Running, Suspended, Waiting}
-use Rattle.schedule_list.specs.Held.{changedAt, entryAt, held, most, scheduleOf, there, withState, without}
+use Rattle.schedule_list.specs.InSchedule.{changedAt, entryAt, find, inSchedule, removed, scheduleOf, there, withState}
+use Rattle.schedule_list.specs.Queries.{without}
+use Rattle.schedule_list.proofs.InScheduleLaws.{in-of}
+use Rattle.schedule_list.proofs.IndexLaws.{removed-at}
 use Rattle.schedule_list.specs.declared.Schedule.{Schedule}
-use Rattle.schedule.specs.Calls.{barred, clashError, closing, deleted, deletedAt, enterError, entered, enteringBy, ofJob, ofName, released, releasedAt, returned, returnedAt, taken}
+use Rattle.schedule.specs.Calls.{barred, clashError, closing, deleted, enterError, entered, enteringBy, released, returned, taken}
+use Rattle.schedule.specs.ByIndex.{barredAt, deletedAt, ofJob, ofName, releasedAt, returnedAt}
+use Rattle.schedule.specs.declared.Changed.{Changed}
+use Rattle.schedule.proofs.ByIndexLaws.{barred-at, closing-at, deleted-at, released-at, returned-at}
 use Rattle.schedule_deck.specs.Report.{after, begin, deckGroups, deckSchedule, endFrom, scheduleBy, triedBy}
 use Rattle.schedule_deck.specs.declared.Progress.{Progress}
 use Rattle.cell_agreement.specs.Agreement.{statesIn}
@@ -34,15 +39,10 @@ use Rattle.cell_agreement.proofs.StandingLaws.{changed-alone, changed-a
 
 -- the states of the requests of a schedule in a place
 abbrev pub seen : ℕ → Schedule → List State
-seen j s = statesIn j (held s)
-
--- a schedule made of requests holds them
-held-of : (es : List Entry) → held (scheduleOf es) ≡ es
-unfolding scheduleOf
-held-of es = take-at es (replicate (most - length es) blank) (length es) refl
+seen j s = statesIn j (inSchedule s)
 
 seen-of : (j : ℕ) (es : List Entry) → seen j (scheduleOf es) ≡ statesIn j es
-seen-of j es = ap (statesIn j) (held-of es)
+seen-of j es = ap (statesIn j) (in-of es)
 
 -- ---- states that are in no place
 
@@ -71,8 +71,8 @@ first-idle r = by-bool (eqb (r .rush) (byte "S")) (λ t. rw t) (λ t. rw t)
 
 module _ (j : ℕ) where
   -- a request that is not barred replaces a suspended one or none
-  open-idle : (k : ℕ) (es : List Entry) → barred k es ≡ false → inPlace j (entryAt es k .state) ≡ false
-  unfolding barred
+  open-idle : (k : ℕ) (es : List Entry) → barredAt k es ≡ false → inPlace j (entryAt es k .state) ≡ false
+  unfolding barredAt
   open-idle k es b =
       by-bool (suspended (entryAt es k .state))
       (λ t. idle-nowhere j (entryAt es k .state) (suspended-idle (entryAt es k .state) t))
@@ -81,23 +81,28 @@ module _ (j : ℕ) where
       out : length es ≤ k → inPlace j (entryAt es k .state) ≡ false
       out h = rw (List·getD-eq-default es blank h)
 
-  not-barred : (k : ℕ) (es : List Entry) (r : Request) → enterError k es r ≡ Good → barred k es ≡ false
+  not-barred : (es : List Entry) (r : Request) → enterError es r ≡ Good → barred (find (isNamed (r .id)) es) ≡ false
   unfolding enterError
-  not-barred k es r e = by (barred k es) (or-else-none (errorIf (barred k es) InSchedule) (clashError (without k es) r) e .0)
+  not-barred es r e =
+      let b = barred (find (isNamed (r .id)) es) in
+      by b (or-else-none (errorIf b InSchedule) (clashError (removed (isNamed (r .id)) es) r) e .0)
     where
       by : (b : Bool) → errorIf b InSchedule ≡ Good → b ≡ false
       by true e = not-good e
       by false e = refl
 
-  kept-entering : (k : ℕ) (s : Schedule) (r : Request) (v : Verdict) → enterError k (held s) r ≡ v → seen j (enteringBy v k s r .schedule) ≡ seen j s
-  kept-entering k s r Good e =
-      seen-of j (entered k (held s) r)
-      ∙ inserted-apart j (record { request = r; state = firstState r }) (without k (held s)) (idle-nowhere j (firstState r) (first-idle r))
-      ∙ without-apart j k (held s) (open-idle k (held s) (not-barred k (held s) r e))
-  kept-entering k s r (Wrong x) e = refl
+  kept-entering : (s : Schedule) (r : Request) (v : Verdict) → enterError (inSchedule s) r ≡ v → seen j (enteringBy v s r .schedule) ≡ seen j s
+  kept-entering s r Good e =
+      let es = inSchedule s in
+      let k = ofName (r .id) es in
+      seen-of j (entered es r)
+      ∙ inserted-apart j (record { request = r; state = firstState r }) (removed (isNamed (r .id)) es) (idle-nowhere j (firstState r) (first-idle r))
+      ∙ ap (statesIn j) (removed-at (isNamed (r .id)) es)
+      ∙ without-apart j k es (open-idle k es (barred-at (r .id) es ∙ not-barred es r e))
+  kept-entering s r (Wrong x) e = refl
 
   kept-tried : (v : Verdict) (s : Schedule) (r : Request) → seen j (triedBy v s r .schedule) ≡ seen j s
-  kept-tried Good s r = kept-entering (ofName (r .id) (held s)) s r (enterError (ofName (r .id) (held s)) (held s) r) refl
+  kept-tried Good s r = kept-entering s r (enterError (inSchedule s) r) refl
   kept-tried (Wrong e) s r = refl
 
   kept-group : (p : Progress) (g : List (List ℕ)) → seen j (after p g .schedule) ≡ seen j (p .schedule)
@@ -120,28 +125,28 @@ module _ (j : ℕ) where
   kept-releasedAt : (k : ℕ) (s : Schedule) → seen j (releasedAt k s .schedule) ≡ seen j s
   unfolding releasedAt
   kept-releasedAt k s =
-      by-bool (there k (held s) && suspended (entryAt (held s) k .state))
-      (λ t. let two = both (there k (held s)) (suspended (entryAt (held s) k .state)) t in
+      by-bool (there k (inSchedule s) && suspended (entryAt (inSchedule s) k .state))
+      (λ t. let two = both (there k (inSchedule s)) (suspended (entryAt (inSchedule s) k .state)) t in
       rw t
-      (seen-of j (withState k Waiting (held s))
-      ∙ changed-apart j k Waiting (held s) (ltb-true k (length (held s)) (two .0)) (idle-nowhere j (entryAt (held s) k .state) (suspended-idle (entryAt (held s) k .state) (two .1))) refl))
+      (seen-of j (withState k Waiting (inSchedule s))
+      ∙ changed-apart j k Waiting (inSchedule s) (ltb-true k (length (inSchedule s)) (two .0)) (idle-nowhere j (entryAt (inSchedule s) k .state) (suspended-idle (entryAt (inSchedule s) k .state) (two .1))) refl))
       (λ t. rw t)
 
   pub kept-released : (s : Schedule) (id : List ℕ) → seen j (released s id .schedule) ≡ seen j s
-  kept-released s id = kept-releasedAt (ofName id (held s)) s
+  kept-released s id = ap (λ (r : Changed). seen j (r .schedule)) (sym (released-at s id)) ∙ kept-releasedAt (ofName id (inSchedule s)) s
 
   -- a deletion
   kept-deletedAt : (k : ℕ) (s : Schedule) → seen j (deletedAt k s .schedule) ≡ seen j s
   unfolding deletedAt
   kept-deletedAt k s =
-      by-bool (there k (held s))
-      (λ t. by-bool (active (entryAt (held s) k .state))
+      by-bool (there k (inSchedule s))
+      (λ t. by-bool (active (entryAt (inSchedule s) k .state))
       (λ u. rw (t, u))
-      (λ u. rw (t, u) (seen-of j (without k (held s)) ∙ without-apart j k (held s) (idle-nowhere j (entryAt (held s) k .state) u))))
+      (λ u. rw (t, u) (seen-of j (without k (inSchedule s)) ∙ without-apart j k (inSchedule s) (idle-nowhere j (entryAt (inSchedule s) k .state) u))))
       (λ t. rw t)
 
   pub kept-deleted : (s : Schedule) (id : List ℕ) → seen j (deleted s id .schedule) ≡ seen j s
-  kept-deleted s id = kept-deletedAt (ofName id (held s)) s
+  kept-deleted s id = ap (λ (r : Changed). seen j (r .schedule)) (sym (deleted-at s id)) ∙ kept-deletedAt (ofName id (inSchedule s)) s
 
 -- ---- CALLS THAT TOUCH ONE PLACE
 
@@ -160,35 +165,36 @@ own-place place = eq-eqb place place refl
 other-place : (i place : ℕ) → eqb i place ≡ false → eqb place i ≡ false
 other-place i place d = ne-eqb place i (λ q. eqb-false i place d (sym q))
 
-seen-changed : (j k : ℕ) (x : State) (s : Schedule) → k < length (held s) → seen j (changedAt k x s) ≡ statesIn j (withState k x (held s))
+seen-changed : (j k : ℕ) (x : State) (s : Schedule) → k < length (inSchedule s) → seen j (changedAt k x s) ≡ statesIn j (withState k x (inSchedule s))
 unfolding changedAt
-seen-changed j k x s h = rw (lt-ltb k (length (held s)) h) (seen-of j (withState k x (held s)))
+seen-changed j k x s h = rw (lt-ltb k (length (inSchedule s)) h) (seen-of j (withState k x (inSchedule s)))
 
 -- a waiting request is taken into an empty place
-pub put-taken : (s : Schedule) (k place : ℕ) → k < length (held s) → waiting (entryAt (held s) k .state) ≡ true → seen place s ≡ []
+pub put-taken : (s : Schedule) (k place : ℕ) → k < length (inSchedule s) → waiting (entryAt (inSchedule s) k .state) ≡ true → seen place s ≡ []
     → Put place (Running place ∷ []) s (taken s k place)
 put-taken s k place h w e =
-    let n : (j : ℕ) → inPlace j (entryAt (held s) k .state) ≡ false = λ j. idle-nowhere j (entryAt (held s) k .state) (waiting-idle (entryAt (held s) k .state) w) in
+    let n : (j : ℕ) → inPlace j (entryAt (inSchedule s) k .state) ≡ false = λ j. idle-nowhere j (entryAt (inSchedule s) k .state) (waiting-idle (entryAt (inSchedule s) k .state) w) in
     by-place place (Running place ∷ []) s (taken s k place)
-    (seen-changed place k (Running place) s h ∙ changed-into place k (Running place) (held s) h (n place) e ∙ rw (own-place place))
-    (λ i d. seen-changed i k (Running place) s h ∙ changed-apart i k (Running place) (held s) h (n i) (other-place i place d))
+    (seen-changed place k (Running place) s h ∙ changed-into place k (Running place) (inSchedule s) h (n place) e ∙ rw (own-place place))
+    (λ i d. seen-changed i k (Running place) s h ∙ changed-apart i k (Running place) (inSchedule s) h (n i) (other-place i place d))
 
 -- the job of a place closes
 pub put-closing : (s : Schedule) (place : ℕ) (y : State) → seen place s ≡ y ∷ [] → Put place (Closing place ∷ []) s (closing s place)
 put-closing s place y e =
-    let k = ofJob place (held s) in
-    let f = first-there place y [] (held s) e in
-    by-place place (Closing place ∷ []) s (closing s place)
-    (seen-changed place k (Closing place) s (f .0) ∙ changed-alone place k (Closing place) y (held s) (f .0) (f .1) e ∙ rw (own-place place))
+    let k = ofJob place (inSchedule s) in
+    let f = first-there place y [] (inSchedule s) e in
+    subst (λ (t : Schedule). Put place (Closing place ∷ []) s t) (closing-at s place)
+    (by-place place (Closing place ∷ []) s (changedAt k (Closing place) s)
+    (seen-changed place k (Closing place) s (f .0) ∙ changed-alone place k (Closing place) y (inSchedule s) (f .0) (f .1) e ∙ rw (own-place place))
     (λ i d. seen-changed i k (Closing place) s (f .0)
-    ∙ changed-apart i k (Closing place) (held s) (f .0) (in-one i place (entryAt (held s) k .state) d (f .1)) (other-place i place d))
+    ∙ changed-apart i k (Closing place) (inSchedule s) (f .0) (in-one i place (entryAt (inSchedule s) k .state) d (f .1)) (other-place i place d)))
 
 -- the job of a place has returned
-put-returnedAt : (s : Schedule) (place k : ℕ) (y : State) (inError : Bool) → k < length (held s) → inPlace place (entryAt (held s) k .state) ≡ true → seen place s ≡ y ∷ []
+put-returnedAt : (s : Schedule) (place k : ℕ) (y : State) (inError : Bool) → k < length (inSchedule s) → inPlace place (entryAt (inSchedule s) k .state) ≡ true → seen place s ≡ y ∷ []
     → Put place [] s (returnedAt k s inError)
 unfolding returnedAt
 put-returnedAt s place k y inError h f e =
-    let es = held s in
+    let es = inSchedule s in
     let n : (i : ℕ) → eqb i place ≡ false → inPlace i (entryAt es k .state) ≡ false = λ i d. in-one i place (entryAt es k .state) d f in
     rw (lt-ltb k (length es) h)
     (by-bool (inError && leb 1 (entryAt es k .request .sequence))
@@ -201,5 +207,6 @@ put-returnedAt s place k y inError h f e =
 
 pub put-returned : (s : Schedule) (place : ℕ) (y : State) (inError : Bool) → seen place s ≡ y ∷ [] → Put place [] s (returned s place inError)
 put-returned s place y inError e =
-    let f = first-there place y [] (held s) e in
-    put-returnedAt s place (ofJob place (held s)) y inError (f .0) (f .1) e
+    let f = first-there place y [] (inSchedule s) e in
+    subst (λ (t : Schedule). Put place [] s t) (returned-at s place inError)
+    (put-returnedAt s place (ofJob place (inSchedule s)) y inError (f .0) (f .1) e)

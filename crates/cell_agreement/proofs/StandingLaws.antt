@@ -15,8 +15,10 @@ use Rattle.schedule_entries.specs.Entries.{blank, inPlace, keyOf, precedes}
 use Rattle.schedule_entries.specs.declared.Entry.{Entry}
 use Rattle.schedule_entries.specs.declared.State.{State}
 use Rattle.schedule_entries.specs.declared.State.the-variants.{Closing, Running, Suspended, Waiting}
-use Rattle.schedule_list.specs.Held.{entryAt, first, inserted, spliced, withState, without}
-use Rattle.schedule.specs.Calls.{ofJob}
+use Rattle.schedule_list.specs.InSchedule.{entryAt, inserted, withState}
+use Rattle.schedule_list.proofs.IndexLaws.{inserted-at}
+use Rattle.schedule_list.specs.Queries.{first, spliced, without}
+use Rattle.schedule.specs.ByIndex.{ofJob}
 use Rattle.cell_agreement.specs.Agreement.{statesIn}
 
 -- ---- lists
@@ -81,7 +83,7 @@ module _ (j : ℕ) where
   as-parted k es h = ap (statesIn j) (parted k es h) ∙ states-beside (entryAt es k) (take k es) (drop (suc k) es)
 
   as-changed : (k : ℕ) (x : State) (es : List Entry) → statesIn j (withState k x es) ≡ before k es ++ (part x ++ behind k es)
-  unfolding withState spliced
+  unfolding withState
   as-changed k x es = rw (add-one k) (states-beside (record { request = entryAt es k .request; state = x }) (take k es) (drop (suc k) es))
 
   as-without : (k : ℕ) (es : List Entry) → statesIn j (without k es) ≡ before k es ++ behind k es
@@ -100,10 +102,10 @@ module _ (j : ℕ) where
       out h = unfold without in rw (add-one k) (ap (statesIn j) (past k es h))
 
   pub inserted-apart : (e : Entry) (es : List Entry) → inPlace j (e .state) ≡ false → statesIn j (inserted e es) ≡ statesIn j es
-  unfolding inserted spliced
+  unfolding spliced
   inserted-apart e es n =
       let k = first (λ f. not (precedes (keyOf (f .request)) (keyOf (e .request)))) es in
-      states-apart e (take k es) (drop k es) n ∙ ap (statesIn j) (take-append-drop k es)
+      ap (statesIn j) (inserted-at e es) ∙ states-apart e (take k es) (drop k es) n ∙ ap (statesIn j) (take-append-drop k es)
 
   pub changed-apart : (k : ℕ) (x : State) (es : List Entry) → k < length es → inPlace j (entryAt es k .state) ≡ false → inPlace j x ≡ false
       → statesIn j (withState k x es) ≡ statesIn j es

@@ -10,7 +10,7 @@ use Rattle.schedule_entries.specs.Entries.{inPlace}
 use Rattle.schedule_entries.specs.declared.Entry.{Entry}
 use Rattle.schedule_entries.specs.declared.State.{State as RequestState}
 use Rattle.schedule_entries.specs.declared.State.the-variants as Request
-use Rattle.schedule_list.specs.Held.{entryAt, held}
+use Rattle.schedule_list.specs.InSchedule.{entryAt, inSchedule}
 use Rattle.schedule_orderly.specs.Orderly.{Sound}
 use Rattle.packets.specs.Picks.{keep}
 use Rattle.packets.specs.State.{isClosing, stateIn}
@@ -41,9 +41,9 @@ HasItsJob jobs (Request.Closing p) = (p < 16) × (isClosing (stateIn jobs p) ≡
 
 -- schedule and places agree: place by place, no request being in a place that there is not, and request by request
 pub record Agrees (c : Cell) : Type 0 where
-  pub places : (j : ℕ) → j < 16 → statesIn j (held (c .schedule)) ≡ standing (stateIn (c .lists .jobs) j) j
-  pub beyond : (j : ℕ) → 16 ≤ j → statesIn j (held (c .schedule)) ≡ []
-  pub requests : (k : ℕ) → k < length (held (c .schedule)) → HasItsJob (c .lists .jobs) (entryAt (held (c .schedule)) k .state)
+  pub places : (j : ℕ) → j < 16 → statesIn j (inSchedule (c .schedule)) ≡ standing (stateIn (c .lists .jobs) j) j
+  pub beyond : (j : ℕ) → 16 ≤ j → statesIn j (inSchedule (c .schedule)) ≡ []
+  pub requests : (k : ℕ) → k < length (inSchedule (c .schedule)) → HasItsJob (c .lists .jobs) (entryAt (inSchedule (c .schedule)) k .state)
 
 -- what holds of every cell that a history leads to from a fresh one
 abbrev pub Always : (Cell → Type 0) → Type 0

@@ -14,9 +14,9 @@ use Rattle.numbers.proofs.Tests.{by-bool, both, never}
 use Rattle.cards.specs.declared.Request.{Request}
 use Rattle.schedule_entries.specs.Entries.{blank}
 use Rattle.schedule_entries.specs.declared.Entry.{Entry}
-use Rattle.schedule_list.specs.Held.{entryAt, held}
+use Rattle.schedule_list.specs.InSchedule.{entryAt, inSchedule}
 use Rattle.schedule_list.specs.declared.Schedule.{Schedule}
-use Rattle.schedule.specs.Candidates.{candidate}
+use Rattle.schedule_candidates.specs.Candidates.{candidate}
 use Rattle.schedule_deck.specs.Report.{deckOutcome, deckSchedule}
 use Rattle.assign.specs.Assignment as Assign
 use Rattle.assign.specs.Chosen.{Answer, nothing}
@@ -100,11 +100,11 @@ place-from jobs (suc n) p e before =
 
 abbrev selectedAs : Schedule → ℕ → Pick → Selection
 selectedAs schedule place p =
-    cond (p .found) (record { found = true; place = place; at = p .at; request = entryAt (held schedule) (p .at) .request; assigned = p .assigned }) noSelection
+    cond (p .found) (record { found = true; place = place; at = p .at; request = entryAt (inSchedule schedule) (p .at) .request; assigned = p .assigned }) noSelection
 
 abbrev selectionBy : Schedule → Lists → FreePlace → Selection
 selectionBy schedule lists Full = noSelection
-selectionBy schedule lists (At place) = selectedAs schedule place (pickFrom (held schedule) (seenIn lists) (length (held schedule)) 0)
+selectionBy schedule lists (At place) = selectedAs schedule place (pickFrom (inSchedule schedule) (seenIn lists) (length (inSchedule schedule)) 0)
 
 abbrev pub selectionOf : Schedule → Lists → Selection
 selectionOf schedule lists = selectionBy schedule lists (placeFrom (lists .jobs) 16 0)
@@ -120,7 +120,7 @@ countsFull [] = true
 countsFull (e ∷ es) = eqb (length (e .request .facilities .units)) 48 && countsFull es
 
 abbrev pub sized : Cell → Bool
-sized c = eqb (length (c .lists .channels)) 16 && countsFull (held (c .schedule))
+sized c = eqb (length (c .lists .channels)) 16 && countsFull (inSchedule (c .schedule))
 
 counts-full : (es : List Entry) → countsFull es ≡ true → (k : ℕ) → length (entryAt es k .request .facilities .units) ≡ 48
 counts-full [] f k = refl
@@ -128,13 +128,13 @@ counts-full (e ∷ es) f zero = eqb-true (length (e .request .facilities .units)
 counts-full (e ∷ es) f (suc k) = counts-full es (both (eqb (length (e .request .facilities .units)) 48) (countsFull es) f .1) k
 
 module _ (c : Cell) (s : sized c ≡ true) where
-  parts : (eqb (length (c .lists .channels)) 16 ≡ true) × (countsFull (held (c .schedule)) ≡ true)
-  parts = both (eqb (length (c .lists .channels)) 16) (countsFull (held (c .schedule))) s
+  parts : (eqb (length (c .lists .channels)) 16 ≡ true) × (countsFull (inSchedule (c .schedule)) ≡ true)
+  parts = both (eqb (length (c .lists .channels)) 16) (countsFull (inSchedule (c .schedule))) s
 
-  picked : Picks (held (c .schedule)) (seenIn (c .lists)) (pickFrom (held (c .schedule)) (seenIn (c .lists)) (length (held (c .schedule))) 0)
-  picked = picks (held (c .schedule)) (seenIn (c .lists)) (eqb-true (length (c .lists .channels)) 16 (parts .0)) (counts-full (held (c .schedule)) (parts .1))
+  picked : Picks (inSchedule (c .schedule)) (seenIn (c .lists)) (pickFrom (inSchedule (c .schedule)) (seenIn (c .lists)) (length (inSchedule (c .schedule))) 0)
+  picked = picks (inSchedule (c .schedule)) (seenIn (c .lists)) (eqb-true (length (c .lists .channels)) 16 (parts .0)) (counts-full (inSchedule (c .schedule)) (parts .1))
 
-  selects-at : (place : ℕ) → LowestFree (c .lists .jobs) (At place) → (p : Pick) → Picks (held (c .schedule)) (seenIn (c .lists)) p → Selects (c .schedule) (c .lists) (selectedAs (c .schedule) place p)
+  selects-at : (place : ℕ) → LowestFree (c .lists .jobs) (At place) → (p : Pick) → Picks (inSchedule (c .schedule)) (seenIn (c .lists)) p → Selects (c .schedule) (c .lists) (selectedAs (c .schedule) place p)
   selects-at place l p w =
       by-bool (p .found)
       (λ t. rw t (record { place = l; fit = rw t at w; request = refl }))
@@ -142,7 +142,7 @@ module _ (c : Cell) (s : sized c ≡ true) where
 
   selects-by : (f : FreePlace) → LowestFree (c .lists .jobs) f → Selects (c .schedule) (c .lists) (selectionBy (c .schedule) (c .lists) f)
   selects-by Full l = record { why = inl l; blank = refl }
-  selects-by (At place) l = selects-at place l (pickFrom (held (c .schedule)) (seenIn (c .lists)) (length (held (c .schedule))) 0) picked
+  selects-by (At place) l = selects-at place l (pickFrom (inSchedule (c .schedule)) (seenIn (c .lists)) (length (inSchedule (c .schedule))) 0) picked
 
   pub selects : SelectsIn c (selectOf c)
   selects = record { outcome = refl; takes = record { selects = selects-by (placeFrom (c .lists .jobs) 16 0) (place-from (c .lists .jobs) 16 0 refl (λ q h. absurd (omega arith))); leaves = refl } }

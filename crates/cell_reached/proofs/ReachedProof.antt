@@ -7,7 +7,7 @@ use mathlib.Core.List.{List, [], _∷_, _++_}
 use Rattle.numbers.proofs.Tests.{by-bool}
 use Rattle.configuration_units.specs.Fresh.{freshUnits}
 use Rattle.configuration_units.proofs.FreshLaws.{fresh-square}
-use Rattle.schedule_list.specs.Held.{held}
+use Rattle.schedule_list.specs.InSchedule.{inSchedule}
 use Rattle.packets.specs.Always.{Always}
 use Rattle.packets.proofs.AlwaysProof.{invariants}
 use Rattle.packets.specs.Apart.{Apart, Fits, Fitting, Part, inCore}
@@ -48,14 +48,14 @@ pub record OfTakings (P : State → Rules.Call → Type 0) : Type 0 where
   pub complete : (s : State) (c : ℕ) (how : How) → P s (Rules.Complete c how)
   pub end : (s : State) (j : ℕ) (e : Bool) → P s (Rules.End j e)
   pub mark : (s : State) (c u : ℕ) (m : UnitMark) (on : Bool) → P s (Rules.Mark c u m on)
-  pub selection : (c : Cell) (s : Selection) → Selected (held (c .schedule)) (c .lists) s → P (inside c) (takingOf s)
+  pub selection : (c : Cell) (s : Selection) → Selected (inSchedule (c .schedule)) (c .lists) s → P (inside c) (takingOf s)
 
 module _ (P : State → Rules.Call → Type 0) (T : OfTakings P) where
-  select-each : (c : Cell) (s : Selection) → SelectsBy (s .found) (held (c .schedule)) (c .lists) s → Each P (inside c) (cond (s .found) (takingOf s ∷ []) [])
+  select-each : (c : Cell) (s : Selection) → SelectsBy (s .found) (inSchedule (c .schedule)) (c .lists) s → Each P (inside c) (cond (s .found) (takingOf s ∷ []) [])
   unfolding Each
   select-each c s h =
       by-bool (s .found)
-      (λ t. rw t (T .selection c s (subst (λ (b : Bool). SelectsBy b (held (c .schedule)) (c .lists) s) t h), tt))
+      (λ t. rw t (T .selection c s (subst (λ (b : Bool). SelectsBy b (inSchedule (c .schedule)) (c .lists) s) t h), tt))
       (λ t. rw t tt)
 
   does-each : (c d : Cell) (x : Call) (reply : Reply) → Does c x reply d → Each P (inside c) (heardOf x reply)
@@ -97,7 +97,7 @@ area-takings =
       complete = λ s c how. tt;
       end = λ s j e. tt;
       mark = λ s c u m on. tt;
-      selection = λ c s d. area-fits (held (c .schedule)) (c .lists) s d;
+      selection = λ c s d. area-fits (inSchedule (c .schedule)) (c .lists) s d;
     }
 
 core-takings : OfTakings (Fits inCore)
@@ -108,7 +108,7 @@ core-takings =
       complete = λ s c how. tt;
       end = λ s j e. tt;
       mark = λ s c u m on. tt;
-      selection = λ c s d. core-fits (held (c .schedule)) (c .lists) s d;
+      selection = λ c s d. core-fits (inSchedule (c .schedule)) (c .lists) s d;
     }
 
 unit-takings : OfTakings Wants
@@ -119,7 +119,7 @@ unit-takings =
       complete = λ s c how. tt;
       end = λ s j e. tt;
       mark = λ s c u m on. tt;
-      selection = λ c s d a k u h l w. units-fit (held (c .schedule)) (c .lists) s d k u h l w;
+      selection = λ c s d a k u h l w. units-fit (inSchedule (c .schedule)) (c .lists) s d k u h l w;
     }
 
 -- EVERY CELL THAT A HISTORY LEADS TO

@@ -10,7 +10,7 @@ use lib.Dec.{ltb}
 use borrow.Author.Tests.{ltb-false, ltb-true, lt-ltb}
 use Rattle.numbers.proofs.Tests.{by-bool, never}
 use Rattle.schedule_entries.specs.declared.Entry.{Entry}
-use Rattle.schedule_list.specs.Held.{held, entryAt}
+use Rattle.schedule_list.specs.InSchedule.{inSchedule, entryAt}
 use Rattle.schedule_list.specs.declared.Schedule.{Schedule}
 use Rattle.assign.specs.Assignment.{Cell}
 use Rattle.assign.specs.Chosen.{Answer}
@@ -79,7 +79,7 @@ module _ (es : List Entry) (lists : Lists) where
 
 -- TWO SELECTIONS ARE ONE, and leave the same
 pub selects-one : (schedule : Schedule) (lists : Lists) (r s : Selection) → Selects schedule lists r → Selects schedule lists s → r ≡ s
-selects-one schedule lists r s a b = one-by (held schedule) lists (r .found) (s .found) r s refl refl a b
+selects-one schedule lists r s a b = one-by (inSchedule schedule) lists (r .found) (s .found) r s refl refl a b
 
 pub takes-one : (schedule : Schedule) (lists : Lists) (r s : Taking) → Takes schedule lists r → Takes schedule lists s → r ≡ s
 takes-one schedule lists r s a b =
@@ -93,17 +93,17 @@ takes-one schedule lists r s a b =
 -- ---- refusal 10 is given exactly when no place is free or no candidate has an assignment
 
 pub refused-when : (schedule : Schedule) (lists : Lists) (r : Selection) → Selects schedule lists r → r .found ≡ false → NoneToSelect schedule lists
-refused-when schedule lists r s e = subst (λ (b : Bool). SelectsBy b (held schedule) lists r) e s .why
+refused-when schedule lists r s e = subst (λ (b : Bool). SelectsBy b (inSchedule schedule) lists r) e s .why
 
 pub refused-only : (schedule : Schedule) (lists : Lists) (r : Selection) → Selects schedule lists r → NoneToSelect schedule lists → r .found ≡ false
 refused-only schedule lists r s n =
     by-bool (r .found)
-    (λ t. let a = subst (λ (b : Bool). SelectsBy b (held schedule) lists r) t s in
-    absurd (not-both (held schedule) lists r noSelection a (record { why = n; blank = refl })))
+    (λ t. let a = subst (λ (b : Bool). SelectsBy b (inSchedule schedule) lists r) t s in
+    absurd (not-both (inSchedule schedule) lists r noSelection a (record { why = n; blank = refl })))
     (λ t. t)
 
 -- ---- the lists accept the taking
 
-pub taking-granted : (schedule : Schedule) (lists : Lists) (r : Selection) → Selected (held schedule) lists r → refusal (stateOf lists) (takingOf r) ≡ Granted
+pub taking-granted : (schedule : Schedule) (lists : Lists) (r : Selection) → Selected (inSchedule schedule) lists r → refusal (stateOf lists) (takingOf r) ≡ Granted
 unfolding refusal
 taking-granted schedule lists r a = rw (lt-ltb (r .place) 16 (a .place .0), a .place .1 .0) refl

@@ -11,10 +11,10 @@ use borrow.Author.Tests.{eqb-false, eqb-true}
 use Rattle.numbers.proofs.Tests.{by-bool, never}
 use Rattle.schedule_entries.specs.Entries.{blank}
 use Rattle.schedule_entries.specs.declared.Entry.{Entry}
-use Rattle.schedule_list.specs.Held.{held, entryAt}
-use Rattle.schedule_list.proofs.HeldLaws.{held-at, held-few, held-sized}
+use Rattle.schedule_list.specs.InSchedule.{inSchedule, entryAt}
+use Rattle.schedule_list.proofs.InScheduleLaws.{schedule-at, schedule-few, schedule-sized}
 use Rattle.schedule_list.specs.declared.Schedule.{Schedule}
-use Rattle.schedule.specs.Candidates.{Marks}
+use Rattle.schedule_candidates.specs.Candidates.{Marks}
 use Rattle.assign.specs.Assignment.{Cell}
 use Rattle.assign.specs.Chosen.{Answer, Assigns, NoAssignment}
 use Rattle.assign.specs.declared.Assigned.{Assigned}
@@ -44,42 +44,42 @@ walk-more {es} {cell} {k} w f =
     less i h q = omega arith
 
 -- the walk over a schedule's array, by the marks of its candidates
-module _ (s : Schedule) (wide : length (s .entries) ≡ 64) {n : ℕ} (size : n ≡ length (held s)) {may : List Bool} (marks : Marks (held s) may) (cell : Cell) where
-  part : take n (s .entries) ≡ held s
-  part = held-sized s size
+module _ (s : Schedule) (wide : length (s .entries) ≡ 64) {n : ℕ} (size : n ≡ length (inSchedule s)) {may : List Bool} (marks : Marks (inSchedule s) may) (cell : Cell) where
+  part : take n (s .entries) ≡ inSchedule s
+  part = schedule-sized s size
 
   pub few : n ≤ 64
-  few = omega (arith, held-few s wide)
+  few = omega (arith, schedule-few s wide)
 
-  walk-in : {k : ℕ} → Walked (take n (s .entries)) cell k → Walked (held s) cell k
+  walk-in : {k : ℕ} → Walked (take n (s .entries)) cell k → Walked (inSchedule s) cell k
   walk-in {k} w = subst (λ (es : List Entry). Walked es cell k) part w
 
   pub walk-found : {k : ℕ} (d : Entry) (a : Assigned) → Walked (take n (s .entries)) cell k → k < n → getD may k false ≡ true → a .found ≡ true
-      → Assigns cell (getD (s .entries) k d .request .facilities) a → FirstFit (held s) cell k a
+      → Assigns cell (getD (s .entries) k d .request .facilities) a → FirstFit (inSchedule s) cell k a
   walk-found {k} d a w h m f r =
-      let l : k < length (held s) = omega arith in
+      let l : k < length (inSchedule s) = omega arith in
       record {
         candidate = (l, sym (marks .each k l) ∙ m);
         found = f;
-        chosen = rw (sym (held-at s k d l)) (subst (λ (b : Bool). Answer b cell (getD (s .entries) k d .request .facilities) a) f r);
+        chosen = rw (sym (schedule-at s k d l)) (subst (λ (b : Bool). Answer b cell (getD (s .entries) k d .request .facilities) a) f r);
         first = walk-in w .passed;
       }
 
   pub walk-none : {k : ℕ} (d : Entry) (a : Assigned) → Walked (take n (s .entries)) cell k → k < n → a .found ≡ false → Assigns cell (getD (s .entries) k d .request .facilities) a
       → Walked (take n (s .entries)) cell (k + 1)
   walk-none {k} d a w h f r =
-      let l : k < length (held s) = omega arith in
-      subst (λ (es : List Entry). Walked es cell (k + 1)) (sym part) (walk-more (walk-in w) λ c. rw (sym (held-at s k d l)) (none .never))
+      let l : k < length (inSchedule s) = omega arith in
+      subst (λ (es : List Entry). Walked es cell (k + 1)) (sym part) (walk-more (walk-in w) λ c. rw (sym (schedule-at s k d l)) (none .never))
     where
       none : NoAssignment cell (getD (s .entries) k d .request .facilities) a
       none = subst (λ (b : Bool). Answer b cell (getD (s .entries) k d .request .facilities) a) f r
 
   pub walk-past : {k : ℕ} → Walked (take n (s .entries)) cell k → k < n → getD may k false ≡ false → Walked (take n (s .entries)) cell (k + 1)
   walk-past {k} w h m =
-      let l : k < length (held s) = omega arith in
+      let l : k < length (inSchedule s) = omega arith in
       subst (λ (es : List Entry). Walked es cell (k + 1)) (sym part) (walk-more (walk-in w) λ c b a. never (c .1) (sym (marks .each k l) ∙ m))
 
-  pub walk-end : {k : ℕ} → Walked (take n (s .entries)) cell k → n ≤ k → NoFit (held s) cell
+  pub walk-end : {k : ℕ} → Walked (take n (s .entries)) cell k → n ≤ k → NoFit (inSchedule s) cell
   walk-end w h i c = walk-in w .passed i (omega (arith, c .0)) c
 
 -- ---- the whole selection

@@ -10,10 +10,10 @@ use Rattle.cards.specs.declared.Facilities.{Facilities}
 use Rattle.cards.specs.declared.Request.{Request}
 use Rattle.schedule_entries.specs.Entries.{blank}
 use Rattle.schedule_entries.specs.declared.Entry.{Entry}
-use Rattle.schedule_list.specs.Held.{held, entryAt}
+use Rattle.schedule_list.specs.InSchedule.{inSchedule, entryAt}
 use Rattle.schedule_list.specs.declared.Schedule.{Schedule}
 use Rattle.schedule.specs.Calls.{taken}
-use Rattle.schedule.specs.Candidates.{candidate}
+use Rattle.schedule_candidates.specs.Candidates.{candidate}
 use Rattle.assign_heads.specs.Heads.{isGiven}
 use Rattle.assign_heads.specs.declared.Head.{Head}
 use Rattle.assign.specs.Assignment.{Cell, cellOf, IsAssignment}
@@ -82,7 +82,7 @@ SelectsBy false = NotSelected
 
 -- what is selected, or that nothing is
 abbrev pub Selects : Schedule → Lists → Selection → Type 0
-Selects schedule lists r = SelectsBy (r .found) (held schedule) lists r
+Selects schedule lists r = SelectsBy (r .found) (inSchedule schedule) lists r
 
 -- ---- the assignment as the request lists take it
 
@@ -127,4 +127,4 @@ pub record Takes (schedule : Schedule) (lists : Lists) (r : Taking) : Type 0 whe
 
 -- no place is free, or no candidate has an assignment
 abbrev pub NoneToSelect : Schedule → Lists → Type 0
-NoneToSelect schedule lists = LowestFree (lists .jobs) Full ⊎ NoFit (held schedule) (seenIn lists)
+NoneToSelect schedule lists = LowestFree (lists .jobs) Full ⊎ NoFit (inSchedule schedule) (seenIn lists)

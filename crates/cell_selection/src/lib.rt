@@ -13,8 +13,6 @@ use packets::Assignment;
 use packets::Blocks;
 use packets::Core;
 use packets::Lists;
-use schedule::calls;
-use schedule::candidates;
 use schedule_entries::Entry;
 use schedule_list::Schedule;
 use units::Units;
@@ -23,7 +21,7 @@ ghost use mathlib.Core.List.{map};
 ghost use Prim.Native.Nat.{_<_};
 ghost use Rattle.assign.specs.Chosen.{nothing};
 ghost use Rattle.assign.specs.Assignment.{cellOf};
-ghost use Rattle.schedule_list.specs.Held.{held};
+ghost use Rattle.schedule_list.specs.InSchedule.{inSchedule};
 ghost use Rattle.cell_selection.specs.Selecting.{Picks, Selects, seenIn, noSelection, isTaken, runOf, assignmentOf, Starts, Takes};
 
 // The place of the selected request in the schedule, and its assignment; not found where no candidate has one.
@@ -72,10 +70,10 @@ fn first_fit(
     areas: [Area; 16],
     channels: [Channel; 16],
 ) -> Pick
-    ensures { λ r. ⌜ Picks (held schedule) (cellOf (units .of) occupancy areas channels) r ⌝ }
+    ensures { λ r. ⌜ Picks (inSchedule schedule) (cellOf (units .of) occupancy areas channels) r ⌝ }
 {
     let n = schedule_list::size(schedule);
-    let may = candidates::all(schedule);
+    let may = schedule_candidates::all(schedule);
     let list = schedule.entries;
     let mut k: usize = 0;
     while k < n {
@@ -117,7 +115,7 @@ fn none_selected() -> Selection
 
 // The first candidate in order that has an assignment in this cell.
 fn picked_in(schedule: Schedule, lists: Lists) -> Pick
-    ensures { λ r. ⌜ Picks (held schedule) (seenIn lists) r ⌝ }
+    ensures { λ r. ⌜ Picks (inSchedule schedule) (seenIn lists) r ⌝ }
 {
     let jobs = lists.jobs;
     let units = lists.units;
@@ -227,7 +225,7 @@ pub fn select(schedule: Schedule, lists: Lists) -> Taking
     let assignment = assignment_of(wanted, assigned);
     let acted = lists::take(lists, selection.place, assignment);
     let after = acted.lists;
-    let next = calls::taken(schedule, selection.at, selection.place);
+    let next = schedule::taken(schedule, selection.at, selection.place);
     Taking {
         selection,
         schedule: next,

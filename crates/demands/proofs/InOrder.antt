@@ -15,7 +15,7 @@ use Rattle.cards.specs.declared.Request.{Request}
 use Rattle.schedule_entries.specs.Entries.{blank, keyOf, precedes}
 use Rattle.schedule_entries.specs.declared.Entry.{Entry}
 use Rattle.schedule_entries.specs.declared.Key.{Key}
-use Rattle.schedule_list.specs.Held.{entryAt, held}
+use Rattle.schedule_list.specs.InSchedule.{entryAt, inSchedule}
 use Rattle.schedule_orderly.specs.Orderly.{Ahead, Each, Pairs, requests}
 use Rattle.schedule_orderly.proofs.OrderLaws.{precedes-on}
 use Rattle.cell_selection.specs.Selecting.{Candidate, HasNone, Selected, seenIn}
@@ -67,11 +67,11 @@ module _ (es : List Entry) (keys : Pairs Ahead (requests es)) where
 
 -- a candidate that comes before the job selected in the selection order has no assignment
 pub first-in-order : (configuration : Configuration) (es : List Event) (c : Cell) → Leads (freshCell configuration) es c
-    → (job : Selection) → Selected (held (c .schedule)) (c .lists) job
-    → (i : ℕ) → Candidate (held (c .schedule)) i → precedes (keyOf (entryAt (held (c .schedule)) i .request)) (keyOf (job .request)) ≡ true
-    → HasNone (seenIn (c .lists)) (entryAt (held (c .schedule)) i .request)
+    → (job : Selection) → Selected (inSchedule (c .schedule)) (c .lists) job
+    → (i : ℕ) → Candidate (inSchedule (c .schedule)) i → precedes (keyOf (entryAt (inSchedule (c .schedule)) i .request)) (keyOf (job .request)) ≡ true
+    → HasNone (seenIn (c .lists)) (entryAt (inSchedule (c .schedule)) i .request)
 first-in-order configuration es c h job w i k e =
     let sound = sound-always configuration es c h in
-    let f : precedes (keyOf (entryAt (held (c .schedule)) i .request)) (keyOf (entryAt (held (c .schedule)) (job .at) .request)) ≡ true =
-    subst (λ (r : Request). precedes (keyOf (entryAt (held (c .schedule)) i .request)) (keyOf r) ≡ true) (w .request) e in
-    w .fit .first i (before (held (c .schedule)) (sound .orderly .keys) i (job .at) (k .0) f) k
+    let f : precedes (keyOf (entryAt (inSchedule (c .schedule)) i .request)) (keyOf (entryAt (inSchedule (c .schedule)) (job .at) .request)) ≡ true =
+    subst (λ (r : Request). precedes (keyOf (entryAt (inSchedule (c .schedule)) i .request)) (keyOf r) ≡ true) (w .request) e in
+    w .fit .first i (before (inSchedule (c .schedule)) (sound .orderly .keys) i (job .at) (k .0) f) k

@@ -13,12 +13,12 @@ use Rattle.numbers.specs.declared.Refusal.{Refusal}
 use Rattle.numbers.specs.declared.Refusal.the-variants.{BadDeck, JobRuns, NoSuchRequest, OutOfRange}
 use Rattle.units.specs.declared.Mark.{Mark as Mark′}
 use Rattle.cards_fields.specs.Deck.{cardsOf, deckEnd, terminated}
-use Rattle.schedule_entries.specs.Entries.{active, suspended}
+use Rattle.schedule_entries.specs.Entries.{active, isNamed, suspended}
 use Rattle.schedule_entries.specs.declared.Entry.{Entry}
-use Rattle.schedule_list.specs.Held.{entryAt, held, there}
+use Rattle.schedule_list.specs.InSchedule.{find as findNamed, inSchedule}
 use Rattle.schedule_list.specs.declared.Schedule.{Schedule}
 use Rattle.schedule_deck.specs.Report.{outcomeBy}
-use Rattle.schedule.specs.Calls.{deletedAt, ofName, releasedAt}
+use Rattle.schedule.specs.ByIndex.{deletedAt, ofName, releasedAt}
 use Rattle.packets.specs.Picks.{find}
 use Rattle.packets.specs.Rules as Rules
 use Rattle.packets.specs.State.{State, motionOn, stateIn}
@@ -36,7 +36,7 @@ use Rattle.cell.specs.declared.Cell.{Cell}
 use Rattle.cell_history.specs.Heard.{inside}
 use Rattle.cell_history.specs.History.{Call, Complete, Deck, Delete, Does, End, Mark, Release, Reply, Select, Start, Status, Submit}
 use Rattle.demands.specs.Refusing.{ofAnswer, ofOutcome, ofStatus, refusalIn}
-use Rattle.demands.specs.Table.{RefusedBy, Row, SelectRefused, isSelect, lowest, rowsIn}
+use Rattle.demands.specs.Table.{RefusedBy, Row, SelectRefused, isActive, isSelect, isSuspended, isThere, lowest, rowsIn}
 
 -- a verdict as a refusal, if it is one
 abbrev pub ofVerdict : Verdict → Option Refusal
@@ -107,17 +107,14 @@ deck-rows : (bytes : List ℕ) → ofOutcome (outcomeBy (deckEnd bytes)) ≡ con
 unfolding deckEnd
 deck-rows bytes = by-bool (leb (length bytes) 16384 && terminated (cardsOf bytes)) (λ e. rw e refl) (λ e. rw e refl)
 
-release-rows : (s : Schedule) (k : ℕ) → ofAnswer (answerOf (releasedAt k s .outcome)) ≡ cond (not (there k (held s) && suspended (entryAt (held s) k .state))) (some NoSuchRequest) none
-unfolding releasedAt
-release-rows s k = by-bool (there k (held s) && suspended (entryAt (held s) k .state)) (λ e. rw e refl) (λ e. rw e refl)
+release-rows : (o : Option Entry) (s : Schedule) (id : List ℕ) → ofAnswer (answerOf (releasedBy o s id .outcome)) ≡ cond (not (isSuspended o)) (some NoSuchRequest) none
+release-rows none s id = refl
+release-rows (some e) s id = by-bool (suspended (e .state)) (λ t. rw t refl) (λ t. rw t refl)
 
-delete-rows : (s : Schedule) (k : ℕ) → ofAnswer (answerOf (deletedAt k s .outcome))
-    ≡ cond (not (there k (held s))) (some NoSuchRequest) (cond (active (entryAt (held s) k .state)) (some JobRuns) none)
-unfolding deletedAt
-delete-rows s k =
-    by-bool (there k (held s))
-    (λ e. by-bool (active (entryAt (held s) k .state)) (λ a. rw (e, a) refl) (λ a. rw (e, a) refl))
-    (λ e. rw e refl)
+delete-rows : (o : Option Entry) (s : Schedule) (id : List ℕ) → ofAnswer (answerOf (deletedBy o s id .outcome))
+    ≡ cond (not (isThere o)) (some NoSuchRequest) (cond (isActive o) (some JobRuns) none)
+delete-rows none s id = refl
+delete-rows (some e) s id = by-bool (active (e .state)) (λ t. rw t refl) (λ t. rw t refl)
 
 status-rows : (c : Cell) (j p : ℕ) → ofStatus (statusOf c j p) ≡ cond (not (ltb j 16 && ltb p 16)) (some OutOfRange) none
 status-rows c j p = by-bool (ltb j 16 && ltb p 16) (λ e. rw e refl) (λ e. rw e refl)
@@ -134,11 +131,11 @@ select-by c r h =
 pub numbers : (c d : Cell) (x : Call) (reply : Reply) → Does c x reply d → RefusedBy (isSelect x) c x (refusalIn reply)
 numbers c d (Deck bytes) reply h = ap refusalIn (h .2 .1 .1 .0) ∙ ap ofOutcome (h .2 .1 .0 .deck .outcome) ∙ deck-rows bytes
 numbers c d Select reply h = subst (SelectRefused c) (sym (ap refusalIn (h .1 .1 .0))) (select-by c (h .0) (h .1 .0))
-numbers c d (Submit j p f k w) reply h = ap refusalIn (h .0) ∙ answers-by c (Rules.Submit j p f k w) ∙ rules-rows (inside c) (held (c .schedule)) j p f k w
-numbers c d (Start k) reply h = ap refusalIn (h .0) ∙ answers-by c (Rules.Start k) ∙ start-rows (inside c) (held (c .schedule)) k
-numbers c d (Complete k how) reply h = ap refusalIn (h .0) ∙ answers-by c (Rules.Complete k how) ∙ complete-rows (inside c) (held (c .schedule)) k how
-numbers c d (End j e) reply h = ap refusalIn (h .0) ∙ answers-by c (Rules.End j e) ∙ end-rows (inside c) (held (c .schedule)) j e
-numbers c d (Mark k u m on) reply h = ap refusalIn (h .0) ∙ answers-by c (Rules.Mark k u m on) ∙ mark-rows (inside c) (held (c .schedule)) k u m on
-numbers c d (Release id) reply h = ap refusalIn (h .0) ∙ release-rows (c .schedule) (ofName id (held (c .schedule)))
-numbers c d (Delete id) reply h = ap refusalIn (h .0) ∙ delete-rows (c .schedule) (ofName id (held (c .schedule)))
+numbers c d (Submit j p f k w) reply h = ap refusalIn (h .0) ∙ answers-by c (Rules.Submit j p f k w) ∙ rules-rows (inside c) (inSchedule (c .schedule)) j p f k w
+numbers c d (Start k) reply h = ap refusalIn (h .0) ∙ answers-by c (Rules.Start k) ∙ start-rows (inside c) (inSchedule (c .schedule)) k
+numbers c d (Complete k how) reply h = ap refusalIn (h .0) ∙ answers-by c (Rules.Complete k how) ∙ complete-rows (inside c) (inSchedule (c .schedule)) k how
+numbers c d (End j e) reply h = ap refusalIn (h .0) ∙ answers-by c (Rules.End j e) ∙ end-rows (inside c) (inSchedule (c .schedule)) j e
+numbers c d (Mark k u m on) reply h = ap refusalIn (h .0) ∙ answers-by c (Rules.Mark k u m on) ∙ mark-rows (inside c) (inSchedule (c .schedule)) k u m on
+numbers c d (Release id) reply h = ap refusalIn (h .0) ∙ release-rows (findNamed (isNamed id) (inSchedule (c .schedule))) (c .schedule) id
+numbers c d (Delete id) reply h = ap refusalIn (h .0) ∙ delete-rows (findNamed (isNamed id) (inSchedule (c .schedule))) (c .schedule) id
 numbers c d (Status j p) reply h = ap refusalIn (h .0) ∙ status-rows c j p

@@ -35,7 +35,7 @@ use Rattle.cards_round.proofs.Fits.{always-written}
 use Rattle.cards_round.proofs.Order.{same-request}
 use Rattle.assign_heads.specs.Sums.{howMany, sumTo}
 use Rattle.cards_writing.proofs.Round.{room-read}
-use Rattle.schedule_list.specs.Held.{held}
+use Rattle.schedule_list.specs.InSchedule.{inSchedule}
 use Rattle.packets.specs.Codes.{statusAfter}
 use Rattle.packets.proofs.CodesProof.{codes}
 use Rattle.packets.specs.Demand.{Holds, Isolated, NoneHeld, Stretch, fresh}
@@ -140,11 +140,11 @@ found-of c d s h =
     let e = chosen-is (h .1 .1 .0) in
     ap (λ (x : Selection). x .found) (e .1) ∙ done-found (h .0 .selection .found) (sym (h .1 .0 .outcome) ∙ sym (e .0))
 
-selected-of : (c d : Cell) (s : Selection) → Does c Select (Chosen Done s) d → Selected (held (c .schedule)) (c .lists) s
+selected-of : (c d : Cell) (s : Selection) → Does c Select (Chosen Done s) d → Selected (inSchedule (c .schedule)) (c .lists) s
 selected-of c d s h =
     let e = chosen-is (h .1 .1 .0) in
-    let w : SelectsBy (s .found) (held (c .schedule)) (c .lists) s = subst (λ (x : Selection). SelectsBy (x .found) (held (c .schedule)) (c .lists) x) (sym (e .1)) (h .1 .0 .takes .selects) in
-    subst (λ (b : Bool). SelectsBy b (held (c .schedule)) (c .lists) s) (found-of c d s h) w
+    let w : SelectsBy (s .found) (inSchedule (c .schedule)) (c .lists) s = subst (λ (x : Selection). SelectsBy (x .found) (inSchedule (c .schedule)) (c .lists) x) (sym (e .1)) (h .1 .0 .takes .selects) in
+    subst (λ (b : Bool). SelectsBy b (inSchedule (c .schedule)) (c .lists) s) (found-of c d s h) w
 
 refused-found : (b : Bool) → outcomeOf b ≡ Refused NothingSelected → b ≡ false
 refused-found true e = absurd (not-done (sym e))
@@ -184,7 +184,7 @@ module _ (c : Cell) (y : Rules.Call) where
       (λ t. let p : takingOf s ∷ [] ≡ y ∷ [] = rw t at q in
       let i : takingOf s ≡ y = cc in
       subst (λ (z : Rules.Call). Rules.refusal (inside c) z ≡ Granted) i
-      (taking-granted (c .schedule) (c .lists) s (subst (λ (b : Bool). SelectsBy b (held (c .schedule)) (c .lists) s) t w)))
+      (taking-granted (c .schedule) (c .lists) s (subst (λ (b : Bool). SelectsBy b (inSchedule (c .schedule)) (c .lists) s) t w)))
       (λ t. absurd (not-cons (rw t at q)))
 
 heard-granted : (c d : Cell) (x : Call) (reply : Reply) → Does c x reply d → refusalIn reply ≡ none → (y : Rules.Call) → heardOf x reply ≡ y ∷ [] → Rules.refusal (inside c) y ≡ Granted

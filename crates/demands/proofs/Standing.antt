@@ -1,7 +1,7 @@
 -- DEMAND 1: after a refused call everything stands. By the kinds of call; an accepted call's answer is never a refusal. Assumes nothing.
 use Prim.Native.Nat.{ℕ}
 use mathlib.Core.Path.{_≡_, refl, sym, ap, subst, _∙_}
-use mathlib.Core.Bool.{Bool, true, false, _&&_}
+use mathlib.Core.Bool.{Bool, true, false}
 use mathlib.Core.List.{List, []}
 use mathlib.Core.Option.{Option, none, some}
 use Rattle.numbers.proofs.Tests.{by-bool}
@@ -11,10 +11,11 @@ use Rattle.cards_fields.specs.Deck.{deckEnd}
 use Rattle.cards_fields.specs.declared.DeckEnd.{DeckEnd}
 use Rattle.cards_fields.specs.declared.DeckEnd.the-variants as Ends
 use Rattle.text.specs.Room as Room
-use Rattle.schedule_entries.specs.Entries.{active, suspended}
-use Rattle.schedule_list.specs.Held.{entryAt, held, there}
+use Rattle.schedule_entries.specs.Entries.{active, isNamed, suspended}
+use Rattle.schedule_entries.specs.declared.Entry.{Entry}
+use Rattle.schedule_list.specs.InSchedule.{find as findRequest, inSchedule}
 use Rattle.schedule_list.specs.declared.Schedule.{Schedule}
-use Rattle.schedule.specs.Calls.{deletedAt, ofName, releasedAt}
+use Rattle.schedule.specs.Calls.{deletedBy, releasedBy}
 use Rattle.schedule.specs.declared.Changed.{Changed}
 use Rattle.schedule_deck.specs.Report.{notesBy, outcomeBy, scheduleBy}
 use Rattle.packets.specs.Picks.{find}
@@ -83,20 +84,17 @@ acts-stand c x n e = go (Rules.refusal (stateOf (c .lists)) x) e
 
 -- ---- release and delete
 
-module _ (c : Cell) (k : ℕ) (n : Refusal) where
+module _ (c : Cell) (id : List ℕ) (n : Refusal) where
   abbrev back : Changed → Cell
   back r = cellOf (r .schedule) (c .lists)
 
-  release-stands : ofAnswer (answerOf (releasedAt k (c .schedule) .outcome)) ≡ some n → back (releasedAt k (c .schedule)) ≡ c
-  unfolding releasedAt
-  release-stands e = by-bool (there k (held (c .schedule)) && suspended (entryAt (held (c .schedule)) k .state)) (λ t. absurd (not-some (rw t at e))) (λ t. rw t refl)
+  release-stands : (o : Option Entry) → ofAnswer (answerOf (releasedBy o (c .schedule) id .outcome)) ≡ some n → back (releasedBy o (c .schedule) id) ≡ c
+  release-stands none e = refl
+  release-stands (some x) e = by-bool (suspended (x .state)) (λ t. absurd (not-some (rw t at e))) (λ t. rw t refl)
 
-  delete-stands : ofAnswer (answerOf (deletedAt k (c .schedule) .outcome)) ≡ some n → back (deletedAt k (c .schedule)) ≡ c
-  unfolding deletedAt
-  delete-stands e =
-      by-bool (there k (held (c .schedule)))
-      (λ t. by-bool (active (entryAt (held (c .schedule)) k .state)) (λ u. rw (t, u) refl) (λ u. absurd (not-some (rw (t, u) at e))))
-      (λ t. rw t refl)
+  delete-stands : (o : Option Entry) → ofAnswer (answerOf (deletedBy o (c .schedule) id .outcome)) ≡ some n → back (deletedBy o (c .schedule) id) ≡ c
+  delete-stands none e = refl
+  delete-stands (some x) e = by-bool (active (x .state)) (λ t. rw t refl) (λ t. absurd (not-some (rw t at e)))
 
 -- ---- a deck
 
@@ -143,6 +141,6 @@ stands c d (Start k) reply n h e = h .1 ∙ acts-stand c (Rules.Start k) n (sym 
 stands c d (Complete k how) reply n h e = h .1 ∙ acts-stand c (Rules.Complete k how) n (sym (ap refusalIn (h .0)) ∙ e)
 stands c d (End j b) reply n h e = h .1 ∙ acts-stand c (Rules.End j b) n (sym (ap refusalIn (h .0)) ∙ e)
 stands c d (Mark k u m on) reply n h e = h .1 ∙ acts-stand c (Rules.Mark k u m on) n (sym (ap refusalIn (h .0)) ∙ e)
-stands c d (Release id) reply n h e = h .1 ∙ release-stands c (ofName id (held (c .schedule))) n (sym (ap refusalIn (h .0)) ∙ e)
-stands c d (Delete id) reply n h e = h .1 ∙ delete-stands c (ofName id (held (c .schedule))) n (sym (ap refusalIn (h .0)) ∙ e)
+stands c d (Release id) reply n h e = h .1 ∙ release-stands c id n (findRequest (isNamed id) (inSchedule (c .schedule))) (sym (ap refusalIn (h .0)) ∙ e)
+stands c d (Delete id) reply n h e = h .1 ∙ delete-stands c id n (findRequest (isNamed id) (inSchedule (c .schedule))) (sym (ap refusalIn (h .0)) ∙ e)
 stands c d (Status j p) reply n h e = h .1

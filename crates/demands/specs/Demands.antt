@@ -29,7 +29,7 @@ use Rattle.cards_writing.specs.Writing.{fits, takes, textOf, writeAnswer, writt
 use Rattle.cards_writing.specs.declared.Wrote.the-variants as Wrote′
 use Rattle.cards_round.specs.Permuted.{Permuted}
 use Rattle.schedule_entries.specs.Entries.{keyOf, precedes}
-use Rattle.schedule_list.specs.Held.{entryAt, held}
+use Rattle.schedule_list.specs.InSchedule.{entryAt, inSchedule}
 use Rattle.assign_heads.specs.Sums.{howMany}
 use Rattle.packets.specs.Codes.{statusAfter}
 use Rattle.packets.specs.Demand.{Holding, Holds, Isolated, Stretch}
@@ -81,12 +81,12 @@ pub record Demand2 : Type 0 where
   pub same : (pty fac other : List ℕ) (r s : Request) → readGroup (pty ∷ fac ∷ []) ≡ record { verdict = Good; request = r }
       → readGroup (pty ∷ other ∷ []) ≡ record { verdict = Good; request = s } → Permuted (entriesOf fac) (entriesOf other) → r ≡ s
   -- "the job selected" is a candidate with an assignment, the one chosen, and the place the lowest that is free,
-  pub selected : (c d : Cell) (s : Selection) → Does c Select (Chosen Done s) d → Selected (held (c .schedule)) (c .lists) s
+  pub selected : (c d : Cell) (s : Selection) → Does c Select (Chosen Done s) d → Selected (inSchedule (c .schedule)) (c .lists) s
   -- and it is "the first in order": by letter, then precedence, then sequence no candidate with an assignment comes before it
   pub first : (configuration : Configuration) (es : List Event) (c : Cell) → Leads (freshCell configuration) es c
       → (d : Cell) (s : Selection) → Does c Select (Chosen Done s) d
-      → (i : ℕ) → Candidate (held (c .schedule)) i → precedes (keyOf (entryAt (held (c .schedule)) i .request)) (keyOf (s .request)) ≡ true
-      → HasNone (seenIn (c .lists)) (entryAt (held (c .schedule)) i .request)
+      → (i : ℕ) → Candidate (inSchedule (c .schedule)) i → precedes (keyOf (entryAt (inSchedule (c .schedule)) i .request)) (keyOf (s .request)) ≡ true
+      → HasNone (seenIn (c .lists)) (entryAt (inSchedule (c .schedule)) i .request)
   -- "selection is refused exactly when no place is free or no such job exists"
   pub refused : (c d : Cell) (o : Outcome) (s : Selection) → Does c Select (Chosen o s) d
       → (o ≡ Refused NothingSelected → NoneToSelect (c .schedule) (c .lists))

@@ -9,16 +9,15 @@ use mathlib.Core.Option.{Option, none, some}
 use lib.Dec.{ltb, leb}
 use lib.ListN.{length, getD}
 use Rattle.numbers.specs.declared.Refusal.{Refusal}
-use Rattle.numbers.specs.declared.Refusal.the-variants.{OutOfRange, NoJob, NotTheJobs, NotLegal, PacketInUse, ChannelBusy, NothingStartable}
-use Rattle.numbers.specs.declared.Refusal.the-variants.{NothingInProgress, WrongCompletion, NothingSelected, BadDeck, NoSuchRequest, JobRuns}
+use Rattle.numbers.specs.declared.Refusal.the-variants.{OutOfRange, NoJob, NotTheJobs, NotLegal, PacketInUse, ChannelBusy, NothingStartable, NothingInProgress, WrongCompletion, NothingSelected, BadDeck, NoSuchRequest, JobRuns}
 use Rattle.units.specs.State.{unitIn}
 use Rattle.channels.specs.declared.Fitted.{Fitted}
 use Rattle.cards_fields.specs.Deck.{cardsOf, terminated}
-use Rattle.schedule_entries.specs.Entries.{active, suspended}
+use Rattle.schedule_entries.specs.Entries.{active, isNamed, suspended}
 use Rattle.schedule_entries.specs.declared.Entry.{Entry}
-use Rattle.schedule_list.specs.Held.{entryAt, held, there}
-use Rattle.schedule.specs.Calls.{ofName}
-use Rattle.packets.specs.Picks.{find}
+use Rattle.schedule_list.specs.InSchedule.{find, inSchedule}
+use Rattle.schedule.specs.ByIndex.{ofName}
+use Rattle.packets.specs.Picks.{find as findListed}
 use Rattle.packets.specs.Rules.{atOf, inRange, isNone, isOwn, isWrong, movingStatus, reaches, startable}
 use Rattle.packets.specs.State.{State, blank, configured, fittedOn, isBusy, isDrumOf, isIdle, isRunning, jobIn, legalFor, motionOn, stateIn}
 use Rattle.packets.specs.declared.Spot.{Spot}
@@ -56,6 +55,19 @@ submitRows s has j p f k w =
     ∷ row PacketInUse (isBusy (getD (jobIn (s .jobs) j .packets) p blank .status))
     ∷ []
 
+-- of the request with an ID, if there is one: it is there, it is suspended, its job runs or closes
+abbrev pub isThere : Option Entry → Bool
+isThere none = false
+isThere (some e) = true
+
+abbrev pub isSuspended : Option Entry → Bool
+isSuspended none = false
+isSuspended (some e) = suspended (e .state)
+
+abbrev pub isActive : Option Entry → Bool
+isActive none = false
+isActive (some e) = active (e .state)
+
 -- the sentences of each call
 abbrev pub rowsIn : State → List Entry → Call → List Row
 -- 11: deck too long or without termination card
@@ -66,7 +78,7 @@ rowsIn s es (Submit j p f k w) = submitRows s (fittedOn (s .channels) k) j p f k
 rowsIn s es (Start k) =
     row OutOfRange (not (configured (s .channels) k))
     ∷ row ChannelBusy (not (isIdle (motionOn s k)))
-    ∷ row NothingStartable (isNone (find (startable s k) (s .queue)))
+    ∷ row NothingStartable (isNone (findListed (startable s k) (s .queue)))
     ∷ []
 -- 1; 8: completion with nothing in progress; 9: cut for a packet not stopping, failure code 00, 01, 16o, 17o or over 77o
 rowsIn s es (Complete k how) =
@@ -79,15 +91,15 @@ rowsIn s es (End j inError) = row OutOfRange (not (ltb j 16)) ∷ row NoJob (not
 -- 1, on the drum channel too
 rowsIn s es (Mark k u mark on) = row OutOfRange (not (ltb k 16 && reaches (fittedOn (s .channels) k) (OnUnit (record { 0 = u })))) ∷ []
 -- 15: no such ID, or not suspended
-rowsIn s es (Release id) = row NoSuchRequest (not (there (ofName id es) es && suspended (entryAt es (ofName id es) .state))) ∷ []
+rowsIn s es (Release id) = row NoSuchRequest (not (isSuspended (find (isNamed id) es))) ∷ []
 -- 15: no such ID; 16: the job runs or closes
-rowsIn s es (Delete id) = row NoSuchRequest (not (there (ofName id es) es)) ∷ row JobRuns (active (entryAt es (ofName id es) .state)) ∷ []
+rowsIn s es (Delete id) = row NoSuchRequest (not (isThere (find (isNamed id) es))) ∷ row JobRuns (isActive (find (isNamed id) es)) ∷ []
 -- 1
 rowsIn s es (Status j p) = row OutOfRange (not (ltb j 16 && ltb p 16)) ∷ []
 
 -- the sentences of a call on a cell
 abbrev pub rows : Cell → Call → List Row
-rows c x = rowsIn (inside c) (held (c .schedule)) x
+rows c x = rowsIn (inside c) (inSchedule (c .schedule)) x
 
 -- a call is a selection
 abbrev pub isSelect : Call → Bool

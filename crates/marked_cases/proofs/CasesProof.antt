@@ -15,14 +15,16 @@ use Rattle.schedule_deck.specs.Report.{after, groupText, reportText, shownBy}
 use Rattle.cards_writing.specs.Writing.{priorityText}
 use Rattle.packets.proofs.EndsMovingProof.{k9}
 use Rattle.cards_fac.specs.Fac.{askedOf, codeError, codes, entryOf, formError, facError, facOf}
-use Rattle.schedule.specs.Calls.{barred, clashError, enterError, returnedAt, sameThere}
-use Rattle.schedule.specs.Candidates.{candidate}
+use Rattle.schedule.specs.Calls.{barred, clashError, enterError, sameThere}
+use Rattle.schedule.specs.ByIndex.{returnedAt}
+use Rattle.schedule_candidates.specs.Candidates.{candidate}
 use Rattle.cards_fields.specs.Fields.{cardByte, fields, malformed}
 use Rattle.cards_fields.specs.Deck.{deckEnd}
 use Rattle.text.specs.Writing.{digitsText}
 use Rattle.cards_group.specs.Group.{frontError, orderedError, readCards}
 use Rattle.cards_pty.specs.Pty.{ptyError, priorityOf, programName, ranked, rules}
-use Rattle.schedule_list.specs.Held.{changedAt, inserted, insertedInto, scheduleOf, spliced, withState, without}
+use Rattle.schedule_list.specs.InSchedule.{changedAt, inserted, scheduleOf, withState}
+use Rattle.schedule_list.specs.Queries.{insertedInto, spliced, without}
 use Rattle.numbers.specs.Quoted.{is2, bytes}
 use Rattle.text.specs.Class.{isAlnum, isDigit, isLetter}
 use Rattle.numbers.specs.Kinds.{kindOf}

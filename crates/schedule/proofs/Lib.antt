@@ -1,3 +1,2 @@
-pub mod CandidateLaws
+pub mod ByIndexLaws
 pub mod Cases
-pub mod Marking

@@ -1,3 +1,2 @@
 pub mod Calls
-pub mod Candidates
-pub mod Marking
+pub mod ByIndex

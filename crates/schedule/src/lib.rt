@@ -1,10 +1,16 @@
-// The schedule: up to 64 requests in selection order, running ones included.
-pub mod calls;
-pub mod candidates;
-
+// What the calls make of the schedule: a request enters, is released or deleted; its job is taken, closes, has returned.
+use cards::CardError;
+use cards::Request;
 use cards::Verdict;
 use numbers::Outcome;
+use numbers::Refusal;
+use schedule_entries::Question;
+use schedule_entries::State;
 use schedule_list::Schedule;
+ghost use mathlib.Core.Path.{_≡_};
+ghost use Rattle.schedule_list.specs.InSchedule.{inSchedule};
+ghost use Rattle.schedule.specs.Calls.{sameThere, clashError, entering, released, deleted, taken, closing, returned, refused, done};
+ghost use Rattle.schedule.specs.ByIndex.{barredAt};
 
 // What entering a request answers: an error and the schedule as it was, or the schedule with the request.
 pub struct Entering {
@@ -16,4 +22,156 @@ pub struct Entering {
 pub struct Changed {
     pub outcome: Outcome,
     pub schedule: Schedule,
+}
+
+// Whether a request without sequence has the letter and precedence of one of these.
+fn is_same_there(others: Schedule, request: Request) -> bool
+    ensures { λ r. ⌜ r ≡ sameThere (inSchedule others) request ⌝ }
+{
+    if request.sequence == 0 {
+        return schedule_list::has(others, schedule_list::of_key(Question::Ranked, request));
+    }
+    false
+}
+
+// What bars a request from joining these: the same priority, the same sequence as well, or that there are 64.
+fn clash(others: Schedule, request: Request) -> Verdict
+    ensures { λ r. ⌜ r ≡ clashError (inSchedule others) request ⌝ }
+{
+    if is_same_there(others, request) {
+        return Verdict::Wrong(CardError::SamePriority);
+    }
+    if schedule_list::has(others, schedule_list::of_key(Question::Keyed, request)) {
+        return Verdict::Wrong(CardError::SameSequence);
+    }
+    if 64 <= schedule_list::size(others) {
+        return Verdict::Wrong(CardError::ScheduleFull);
+    }
+    Verdict::Good
+}
+
+// Whether the request at an index, where there is one, is not suspended.
+fn is_barred(schedule: Schedule, k: usize) -> bool
+    ensures { λ r. ⌜ r ≡ barredAt k (inSchedule schedule) ⌝ }
+{
+    if k < schedule_list::size(schedule) {
+        let entry = schedule_list::entry_at(schedule, k);
+        let state = entry.state;
+        return !schedule_entries::is_suspended(state);
+    }
+    false
+}
+
+// An error, and the schedule as it was.
+fn not_entered(schedule: Schedule, verdict: Verdict) -> Entering
+    ensures { λ r. ⌜ r ≡ record { verdict = verdict; schedule = schedule } ⌝ }
+{
+    Entering { verdict, schedule }
+}
+
+// Enters a request, in the place of a suspended one of its ID, or answers the first of 26, 31, 90 and 91.
+pub fn enter(schedule: Schedule, request: Request) -> Entering
+    ensures { λ r. ⌜ r ≡ entering schedule request ⌝ }
+{
+    let id = request.id;
+    let k = schedule_list::first_of(schedule, schedule_list::of_id(id));
+    if is_barred(schedule, k) {
+        return not_entered(schedule, Verdict::Wrong(CardError::InSchedule));
+    }
+    let others = schedule_list::without(schedule, k);
+    let verdict = clash(others, request);
+    if !cards::error::is_good(verdict) {
+        return not_entered(schedule, verdict);
+    }
+    let next = schedule_list::inserted(others, schedule_entries::new_entry(request));
+    Entering {
+        verdict: Verdict::Good,
+        schedule: next,
+    }
+}
+
+// A refusal, and the schedule as it was.
+fn refused(schedule: Schedule, refusal: Refusal) -> Changed
+    ensures { λ r. ⌜ r ≡ refused refusal schedule ⌝ }
+{
+    Changed {
+        outcome: Outcome::Refused(refusal),
+        schedule,
+    }
+}
+
+// The schedule that follows.
+fn done(schedule: Schedule) -> Changed
+    ensures { λ r. ⌜ r ≡ done schedule ⌝ }
+{
+    Changed {
+        outcome: Outcome::Done,
+        schedule,
+    }
+}
+
+// Lets a suspended request wait again.
+pub fn release(schedule: Schedule, id: [u8; 6]) -> Changed
+    ensures { λ r. ⌜ r ≡ released schedule id ⌝ }
+{
+    let k = schedule_list::first_of(schedule, schedule_list::of_id(id));
+    if schedule_list::size(schedule) <= k {
+        return refused(schedule, Refusal::NoSuchRequest);
+    }
+    let entry = schedule_list::entry_at(schedule, k);
+    let state = entry.state;
+    if schedule_entries::is_suspended(state) {
+        return done(schedule_list::changed_at(schedule, k, State::Waiting));
+    }
+    refused(schedule, Refusal::NoSuchRequest)
+}
+
+// Takes a request whose job neither runs nor closes out of the schedule.
+pub fn delete(schedule: Schedule, id: [u8; 6]) -> Changed
+    ensures { λ r. ⌜ r ≡ deleted schedule id ⌝ }
+{
+    let k = schedule_list::first_of(schedule, schedule_list::of_id(id));
+    if schedule_list::size(schedule) <= k {
+        return refused(schedule, Refusal::NoSuchRequest);
+    }
+    let entry = schedule_list::entry_at(schedule, k);
+    let state = entry.state;
+    if schedule_entries::is_active(state) {
+        return refused(schedule, Refusal::JobRuns);
+    }
+    done(schedule_list::without(schedule, k))
+}
+
+// The job of the request at an index is taken into a place and runs.
+pub fn taken(schedule: Schedule, k: usize, place: u8) -> Schedule
+    ensures { λ r. ⌜ r ≡ taken schedule k place ⌝ }
+{
+    schedule_list::changed_at(schedule, k, State::Running(place))
+}
+
+// The job in a place has ended and closes.
+pub fn closing(schedule: Schedule, place: u8) -> Schedule
+    ensures { λ r. ⌜ r ≡ closing schedule place ⌝ }
+{
+    let k = schedule_list::first_of(schedule, schedule_list::of_place(place));
+    schedule_list::changed_at(schedule, k, State::Closing(place))
+}
+
+// The job in a place has returned: its request goes, unless the job ended in error and has a sequence.
+pub fn returned(schedule: Schedule, place: u8, in_error: bool) -> Schedule
+    ensures { λ r. ⌜ r ≡ returned schedule place in_error ⌝ }
+{
+    let k = schedule_list::first_of(schedule, schedule_list::of_place(place));
+    if schedule_list::size(schedule) <= k {
+        return schedule;
+    }
+    let entry = schedule_list::entry_at(schedule, k);
+    let request = entry.request;
+    if !in_error {
+        return schedule_list::without(schedule, k);
+    }
+    if 1 <= request.sequence {
+        return schedule_list::changed_at(schedule, k, State::Suspended);
+    }
+    schedule_list::without(schedule, k)
 }

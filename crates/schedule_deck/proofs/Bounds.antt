@@ -1,5 +1,6 @@
--- How long the texts are: 53,248 bytes of room hold every report, and what entering any deck puts. An error's line has at most 16 bytes, a request's
--- 13, the last 15, and there are at most 3,261 groups and 64 requests. Assumes nothing.
+-- How long the texts are: 53,248 bytes of room hold every report, and what entering any deck puts. An error's line
+-- has at most 16 bytes, a request's 13, the last 15, and there are at most 3,261 groups and 64 requests. Assumes
+-- nothing.
 use Prim.Native.Nat.{ℕ, _+_, _*_, _≤_, _<_}
 use mathlib.Core.Path.{_≡_, refl, ap, subst, _∙_}
 use mathlib.Core.Bool.{Bool, true, false, cond, _&&_}
@@ -53,7 +54,7 @@ use Rattle.cards.specs.declared.Verdict.the-variants.{Good, Wrong}
 use Rattle.cards.specs.declared.Request.{Request}
 use Rattle.cards_writing.specs.Writing.{priorityText}
 use Rattle.schedule_entries.specs.declared.Entry.{Entry}
-use Rattle.schedule_list.specs.Held.{held, scheduleOf}
+use Rattle.schedule_list.specs.InSchedule.{inSchedule, scheduleOf}
 use Rattle.schedule_list.specs.declared.Schedule.{Schedule}
 use Rattle.schedule_orderly.specs.Orderly.{Each, requests}
 use Rattle.schedule_orderly.proofs.Reachable.{sound-empty}
@@ -167,7 +168,7 @@ unfolding notesText
 notes-short s gs h =
     omega (arith, length-append (errorsFrom (begin s) gs) (lastLine (endFrom (begin s) gs .last)), errors-short (begin s) gs (ids-begin s), last-short (endFrom (begin s) gs .last) (ids-end (begin s) gs (ids-begin s) .last))
 
-none-held : Each Short (requests (held (scheduleOf [])))
+none-held : Each Short (requests (inSchedule (scheduleOf [])))
 unfolding scheduleOf
 none-held = tt
 
@@ -178,7 +179,7 @@ report-short gs h =
     let q = endFrom (begin (scheduleOf [])) gs in
     let few = sound-groups p gs sound-empty .orderly .few in
     let short = each-groups Short (λ g e. read-short g) p gs sound-empty none-held in
-    omega (arith, length-append (errorsFrom p gs) (closingText q), length-append (scheduleText (held (q .schedule))) (lastLine (q .last)), errors-short p gs (ids-begin (scheduleOf [])), lines-short (held (q .schedule)) short, few, last-short (q .last) (ids-end p gs (ids-begin (scheduleOf [])) .last))
+    omega (arith, length-append (errorsFrom p gs) (closingText q), length-append (scheduleText (inSchedule (q .schedule))) (lastLine (q .last)), errors-short p gs (ids-begin (scheduleOf [])), lines-short (inSchedule (q .schedule)) short, few, last-short (q .last) (ids-end p gs (ids-begin (scheduleOf [])) .last))
 
 refused-short : (s : List ℕ) (refusal : Refusal) → deckEnd s ≡ Refused refusal → length (refusedText refusal) ≤ deckRoom
 unfolding deckEnd

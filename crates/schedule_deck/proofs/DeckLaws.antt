@@ -1,6 +1,7 @@
--- A SOUND SCHEDULE IS SOUND AFTER ANY DECK: IDs stay distinct, keys distinct and in selection order, 64 requests at most, and the schedule is the one
--- value that holds them, whatever the bytes of the deck. What holds of each request in it, and of each that is read without error, holds of each then.
--- Each group enters its request or leaves the schedule as it was. Assumes nothing.
+-- A SOUND SCHEDULE IS SOUND AFTER ANY DECK: IDs stay distinct, keys distinct and in selection order, 64 requests at
+-- most, and the schedule is the one value that holds them, whatever the bytes of the deck. What holds of each request
+-- in it, and of each that is read without error, holds of each then. Each group enters its request or leaves the
+-- schedule as it was. Assumes nothing.
 use Prim.Native.Nat.{ℕ}
 use mathlib.Core.Path.{_≡_, refl}
 use mathlib.Core.List.{List, [], _∷_}
@@ -11,7 +12,7 @@ use Rattle.cards_group.specs.Group.{readGroup}
 use Rattle.cards.specs.declared.Verdict.{Verdict}
 use Rattle.cards.specs.declared.Verdict.the-variants.{Good, Wrong}
 use Rattle.cards.specs.declared.Request.{Request}
-use Rattle.schedule_list.specs.Held.{held}
+use Rattle.schedule_list.specs.InSchedule.{inSchedule}
 use Rattle.schedule_list.specs.declared.Schedule.{Schedule}
 use Rattle.schedule_orderly.specs.Orderly.{Each, requests, Sound}
 use Rattle.schedule_orderly.proofs.Reachable.{sound-enter, each-enter}
@@ -32,23 +33,23 @@ sound-groups p (g ∷ gs) d = sound-groups (after p g) gs (sound-group p g d)
 
 -- what holds of each request
 module _ (P : Request → Type 0) where
-  each-tried : (v : Verdict) (s : Schedule) (r : Request) → Sound s → (v ≡ Good → P r) → Each P (requests (held s)) → Each P (requests (held (triedBy v s r .schedule)))
+  each-tried : (v : Verdict) (s : Schedule) (r : Request) → Sound s → (v ≡ Good → P r) → Each P (requests (inSchedule s)) → Each P (requests (inSchedule (triedBy v s r .schedule)))
   each-tried Good s r d p h = each-enter s d P r (p refl) h
   each-tried (Wrong e) s r d p h = h
 
   module _ (read : (g : List (List ℕ)) → readGroup g .verdict ≡ Good → P (readGroup g .request)) where
-    each-group : (p : Progress) (g : List (List ℕ)) → Sound (p .schedule) → Each P (requests (held (p .schedule))) → Each P (requests (held (after p g .schedule)))
+    each-group : (p : Progress) (g : List (List ℕ)) → Sound (p .schedule) → Each P (requests (inSchedule (p .schedule))) → Each P (requests (inSchedule (after p g .schedule)))
     unfolding after
     each-group p g d h = each-tried (readGroup g .verdict) (p .schedule) (readGroup g .request) d (read g) h
 
-    pub each-groups : (p : Progress) (gs : List (List (List ℕ))) → Sound (p .schedule) → Each P (requests (held (p .schedule))) → Each P (requests (held (endFrom p gs .schedule)))
+    pub each-groups : (p : Progress) (gs : List (List (List ℕ))) → Sound (p .schedule) → Each P (requests (inSchedule (p .schedule))) → Each P (requests (inSchedule (endFrom p gs .schedule)))
     each-groups p [] d h = h
     each-groups p (g ∷ gs) d h = each-groups (after p g) gs (sound-group p g d) (each-group p g d h)
 
-    pub each-deck : (s : Schedule) (deck : List ℕ) → Sound s → Each P (requests (held s)) → Each P (requests (held (deckSchedule s deck)))
+    pub each-deck : (s : Schedule) (deck : List ℕ) → Sound s → Each P (requests (inSchedule s)) → Each P (requests (inSchedule (deckSchedule s deck)))
     each-deck s deck d h = by (deckEnd deck)
       where
-        by : (end : DeckEnd) → Each P (requests (held (scheduleBy end s deck)))
+        by : (end : DeckEnd) → Each P (requests (inSchedule (scheduleBy end s deck)))
         by (At n) = each-groups (begin s) (deckGroups deck) d h
         by (Refused refusal) = h
 

@@ -1,5 +1,5 @@
--- The first bytes of an input decide what is printed, if they are over 16,384: a buffer that holds more serves an input of any length.
--- Assumes nothing.
+-- The first bytes of an input decide what is printed, if they are over 16,384: a buffer that holds more serves an
+-- input of any length. Assumes nothing.
 use Prim.Native.Nat.{ℕ, _-_, _<_}
 use mathlib.Core.Path.{_≡_, ap, sym, _∙_}
 use mathlib.Core.List.{List}

@@ -1,5 +1,5 @@
--- Where a deck ends, and how many groups it has: 3,261 at most, since each but the first is opened by a card of four bytes at least and its LF, and
--- 81 bytes are the termination card's. Assumes nothing.
+-- Where a deck ends, and how many groups it has: 3,261 at most, since each but the first is opened by a card of four
+-- bytes at least and its LF, and 81 bytes are the termination card's. Assumes nothing.
 use Prim.Native.Nat.{ℕ, suc, _+_, _-_, _*_, _≤_}
 use mathlib.Core.Path.{_≡_, refl, ap}
 use mathlib.Core.Bool.{Bool, true, false, cond, _&&_}

@@ -1,5 +1,5 @@
--- The groups of a part of a deck, each read in turn: what the loop keeps, and that the whole is the text of all groups. Then the lines of the
--- schedule, and one group's answer. Assumes nothing.
+-- The groups of a part of a deck, each read in turn: what the loop keeps, and that the whole is the text of all
+-- groups. Then the lines of the schedule, and one group's answer. Assumes nothing.
 use Prim.Native.Nat.{ℕ, _+_, _-_, _≤_, _<_}
 use mathlib.Core.Path.{_≡_, refl, sym, ap, subst, _∙_}
 use mathlib.Core.Bool.{Bool, true, false}
@@ -16,7 +16,7 @@ use Rattle.cards_fields.specs.Deck.{cardsOf, size, opens, ontoGroup, groupsOf, 
 use Rattle.cards_fields.proofs.Groups.{in-turn, deck-cards}
 use Rattle.cards_fields.specs.declared.DeckEnd.{DeckEnd}
 use Rattle.cards_fields.specs.declared.DeckEnd.the-variants.{At, Refused}
-use Rattle.schedule_list.specs.Held.{held, scheduleOf}
+use Rattle.schedule_list.specs.InSchedule.{inSchedule, scheduleOf}
 use Rattle.schedule_list.specs.declared.Schedule.{Schedule}
 use Rattle.numbers.specs.declared.Refusal.{Refusal}
 use Rattle.numbers.specs.declared.Outcome.the-variants as Outcomes
@@ -104,7 +104,7 @@ module _ {part room out : List ℕ} {first p : Progress} {at from : ℕ} (w : At
 
 -- the errors, then the schedule, then the last line, from an empty schedule on
 pub report-put : {room out then after· : List ℕ} {schedule : Schedule} {first : Progress} {step : Step} {next r : ℕ} (gs : List (List (List ℕ))) → schedule ≡ scheduleOf [] → first ≡ begin schedule → ReadAll room first gs out step
-    → Written out (step .at) (scheduleText (held (step .progress .schedule))) then next → Written then next (lastLine (step .progress .last)) after· r
+    → Written out (step .at) (scheduleText (inSchedule (step .progress .schedule))) then next → Written then next (lastLine (step .progress .last)) after· r
     → Written room 0 (reportText gs) after· r
 unfolding reportText
 report-put {room} {out} {after· = after·} {first = first} {step = step} {r = r} gs e f d b c =

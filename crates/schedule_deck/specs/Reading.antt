@@ -6,7 +6,8 @@ use lib.ListN.{length, take, drop}
 use Rattle.numbers.specs.declared.Outcome.the-variants.{Done}
 use Rattle.text.specs.Room as Room
 use Rattle.schedule_list.specs.declared.Schedule.{Schedule}
-use Rattle.schedule_deck.specs.Report.{begin, groupText, after, errorsFrom, endFrom, notesText, deckText, deckRoom, deckNotes, deckSchedule, deckOutcome}
+use Rattle.schedule_deck.specs.Report.{begin, groupText, after, errorsFrom, endFrom, notesText, deckText}
+use Rattle.schedule_deck.specs.Report.{deckRoom, deckNotes, deckSchedule, deckOutcome}
 use Rattle.schedule_deck.specs.declared.Progress.{Progress}
 use Rattle.schedule_deck.specs.declared.Step.{Step}
 use Rattle.schedule_deck.specs.declared.Entered.{Entered}
@@ -31,7 +32,7 @@ pub record Noted (room : List ℕ) (schedule : Schedule) (gs : List (List (List 
 abbrev pub Whole : List ℕ → List ℕ → List ℕ → ℕ → Type 0
 Whole text room after· r = (take r after· ≡ text) × (drop r after· ≡ drop r room)
 
--- A DECK REPORTED: its text from the room's start on, cut at the room's end; 53,248 bytes of room hold every report whole
+-- A DECK REPORTED: its text from the room's start on, cut at the room's end; 53,248 bytes hold every report whole
 pub record Reported (s room after· : List ℕ) (r : ℕ) : Type 0 where
   pub text : Room.Written room 0 (deckText s) after· r
   pub whole : deckRoom ≤ length room → Whole (deckText s) room after· r

@@ -25,7 +25,7 @@ use Rattle.cards.specs.declared.Request.{Request}
 use Rattle.cards_group.specs.declared.Reading.{Reading}
 use Rattle.cards_writing.specs.Writing.{priorityText}
 use Rattle.schedule_entries.specs.declared.Entry.{Entry}
-use Rattle.schedule_list.specs.Held.{held, scheduleOf}
+use Rattle.schedule_list.specs.InSchedule.{inSchedule, scheduleOf}
 use Rattle.schedule_list.specs.declared.Schedule.{Schedule}
 use Rattle.schedule.specs.Calls.{entering}
 use Rattle.schedule.specs.declared.Entering.{Entering}
@@ -35,7 +35,8 @@ use Rattle.schedule_deck.specs.declared.Progress.{Progress}
 abbrev pub formed : List ℕ → Bool
 formed id = leb 1 (length id) && (leb (length id) 6 && every isAlnum id)
 
--- "An error line shows the group's PTY ID if well formed, else the last such before it": the ID shown from a group on, the first card its PTY card
+-- "An error line shows the group's PTY ID if well formed, else the last such before it": the ID shown from a group
+-- on, the first card its PTY card
 unfoldable pub shownBy : List ℕ → List ℕ → List ℕ
 shownBy card shown = cond (isPty card && formed (field card 0)) (padded 6 (field card 0)) shown
 
@@ -104,9 +105,10 @@ abbrev pub endFrom : Progress → List (List (List ℕ)) → Progress
 endFrom p [] = p
 endFrom p (g ∷ gs) = endFrom (after p g) gs
 
--- THE REPORT, read "into an empty schedule": "errors .. in deck order, then the schedule in selection order .., then the last good ID"
+-- THE REPORT, read "into an empty schedule": "errors .. in deck order, then the schedule in selection order .., then
+-- the last good ID"
 abbrev pub closingText : Progress → List ℕ
-closingText p = scheduleText (held (p .schedule)) ++ lastLine (p .last)
+closingText p = scheduleText (inSchedule (p .schedule)) ++ lastLine (p .last)
 
 unfoldable pub reportText : List (List (List ℕ)) → List ℕ
 reportText gs = errorsFrom (begin (scheduleOf [])) gs ++ closingText (endFrom (begin (scheduleOf [])) gs)
@@ -127,8 +129,9 @@ textBy (Refused refusal) s = refusedText refusal
 abbrev pub deckText : List ℕ → List ℕ
 deckText s = textBy (deckEnd s) s
 
--- ENTERING A DECK into a schedule that may hold requests already: the answer "the deck program's error lines, then `id SCH ACK`", the schedule that
--- follows, and how the call ends. A refused deck leaves the schedule as it was and puts nothing
+-- ENTERING A DECK into a schedule that may hold requests already: the answer "the deck program's error lines, then
+-- `id SCH ACK`", the schedule that follows, and how the call ends. A refused deck leaves the schedule as it was and
+-- puts nothing
 unfoldable pub notesText : Schedule → List (List (List ℕ)) → List ℕ
 notesText schedule gs = errorsFrom (begin schedule) gs ++ lastLine (endFrom (begin schedule) gs .last)
 

@@ -10,14 +10,14 @@ use cards_writing::put;
 use numbers::Outcome;
 use numbers::Refusal;
 use schedule::Entering;
-use schedule::calls;
 use schedule_list::Schedule;
 use words::Class;
 ghost use mathlib.Core.Path.{_≡_};
 ghost use Rattle.text.specs.Room.{Written};
 ghost use Rattle.cards_fields.specs.Deck.{cardsOf, groupsOf};
-ghost use Rattle.schedule_list.specs.Held.{held};
-ghost use Rattle.schedule_deck.specs.Report.{shownBy, errorLine, requestLine, scheduleText, lastLine, lineBy, lastBy, tried, begin, reportText, refusedText};
+ghost use Rattle.schedule_list.specs.InSchedule.{inSchedule};
+ghost use Rattle.schedule_deck.specs.Report.{shownBy, errorLine, requestLine, scheduleText, lastLine, lineBy, lastBy};
+ghost use Rattle.schedule_deck.specs.Report.{tried, begin, reportText, refusedText};
 ghost use Rattle.schedule_deck.specs.Reading.{Read, ReadAll, Noted, Reported, DeckEntered};
 
 // What has been read so far: the schedule, the ID that an error line shows, and the last good one.
@@ -33,7 +33,8 @@ pub struct Step {
     pub progress: Progress,
 }
 
-// What entering a deck answers: a refusal and the schedule as it was, or the schedule that follows and where the text in the lent room ends.
+// What entering a deck answers: a refusal and the schedule as it was, or the schedule that follows and where the text
+// in the lent room ends.
 pub struct Entered {
     pub outcome: Outcome,
     pub schedule: Schedule,
@@ -86,7 +87,7 @@ fn put_request(out: &mut [u8], at: usize, request: Request) -> usize
 
 // Puts the lines of the schedule.
 fn put_schedule(out: &mut [u8], at: usize, schedule: Schedule) -> usize
-    ensures { λ r. ⌜ Written (now (out .entry)) at (scheduleText (held schedule)) (now (out .exit)) r ⌝ }
+    ensures { λ r. ⌜ Written (now (out .entry)) at (scheduleText (inSchedule schedule)) (now (out .exit)) r ⌝ }
 {
     let n = schedule_list::size(schedule);
     let mut next = at;
@@ -135,7 +136,7 @@ fn tried(schedule: Schedule, reading: Reading) -> Entering
     let verdict = reading.verdict;
     let request = reading.request;
     if cards::is_good(verdict) {
-        return calls::enter(schedule, request);
+        return schedule::enter(schedule, request);
     }
     Entering { verdict, schedule }
 }
@@ -234,7 +235,8 @@ fn put_refused(out: &mut [u8], refusal: Refusal) -> usize
     text::put_byte(out, number, b'\n')
 }
 
-// Puts what the deck program prints into lent room and answers its length. 53,248 bytes are enough; a smaller room gets what fits.
+// Puts what the deck program prints into lent room and answers its length. 53,248 bytes are enough; a smaller room
+// gets what fits.
 pub fn report(deck: &[u8], out: &mut [u8]) -> usize
     ensures { λ r. ⌜ Reported (now (deck .entry)) (now (out .entry)) (now (out .exit)) r ⌝ }
 {
@@ -245,8 +247,8 @@ pub fn report(deck: &[u8], out: &mut [u8]) -> usize
     }
 }
 
-// Reads a deck into a schedule and puts its error lines and the last line into lent room. 53,248 bytes are enough; a smaller room gets what fits. A
-// refused deck leaves the schedule and the room as they were.
+// Reads a deck into a schedule and puts its error lines and the last line into lent room. 53,248 bytes are enough; a
+// smaller room gets what fits. A refused deck leaves the schedule and the room as they were.
 pub fn enter_deck(schedule: Schedule, deck: &[u8], out: &mut [u8]) -> Entered
     ensures { λ r. ⌜ DeckEntered schedule (now (deck .entry)) (now (out .entry)) (now (out .exit)) r ⌝ }
 {

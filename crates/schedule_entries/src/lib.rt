@@ -1,7 +1,9 @@
 // A request as it stands in the schedule: its state, its key, and what can be asked of it.
 use cards::Request;
 ghost use mathlib.Core.Path.{_≡_};
-ghost use Rattle.schedule_entries.specs.Entries.{keyOf, sameRank, sameKey, lowerSequence, precedes, waiting, suspended, active, inPlace, serial, answers, blank, firstState};
+ghost use Rattle.schedule_entries.specs.Entries.{keyOf, sameRank, sameKey, lowerSequence, precedes};
+ghost use Rattle.schedule_entries.specs.Entries.{waiting, suspended, active, inPlace, serial, blank, firstState};
+ghost use Rattle.schedule_entries.specs.Questions.{answers};
 
 // Where a request stands: it waits, is suspended, or its job runs or closes in a place.
 pub enum State {
@@ -24,16 +26,13 @@ pub struct Key {
     pub sequence: u8,
 }
 
-// What can be asked of an entry: whether it has an ID; a key's letter and precedence; the whole key; a lower sequence beside the same letter and
-// precedence; whether the key does not follow it; whether its job runs or closes, at all, as an S-type job, or in a place.
+// What can be asked of an entry: whether it has an ID; a key's letter and precedence; the whole key; whether it does
+// not precede a key; whether its job runs or closes in a place.
 pub enum Question {
     Named,
     Ranked,
     Keyed,
-    Lower,
     Behind,
-    Active,
-    Serial,
     InPlace,
 }
 
@@ -160,10 +159,7 @@ pub fn answer_to(query: Query, entry: Entry) -> bool
         Question::Named => words::is_same(&own, &id),
         Question::Ranked => same_rank(key, wanted),
         Question::Keyed => same_key(key, wanted),
-        Question::Lower => is_lower(key, wanted),
         Question::Behind => !precedes(key, wanted),
-        Question::Active => is_active(state),
-        Question::Serial => is_active(state) && is_serial(request),
         Question::InPlace => is_in_place(state, query.place),
     }
 }

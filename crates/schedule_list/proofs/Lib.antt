@@ -1,3 +1,4 @@
-pub mod HeldLaws
+pub mod InScheduleLaws
+pub mod IndexLaws
 pub mod Full
 pub mod Appending

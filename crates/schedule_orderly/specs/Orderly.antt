@@ -7,7 +7,7 @@ use lib.ListN.{length}
 use Rattle.cards.specs.declared.Request.{Request}
 use Rattle.schedule_entries.specs.Entries.{keyOf, precedes}
 use Rattle.schedule_entries.specs.declared.Entry.{Entry}
-use Rattle.schedule_list.specs.Held.{most, held, scheduleOf}
+use Rattle.schedule_list.specs.InSchedule.{most, inSchedule, scheduleOf}
 use Rattle.schedule_list.specs.declared.Schedule.{Schedule}
 use Rattle.schedule.specs.Calls.{entering, released, deleted, taken, closing, returned}
 
@@ -61,5 +61,5 @@ pub record Orderly (es : List Entry) : Type 0 where
 
 -- a schedule is the one value that holds its requests, and they are orderly
 pub record Sound (s : Schedule) : Type 0 where
-  pub whole : s ≡ scheduleOf (held s)
-  pub orderly : Orderly (held s)
+  pub whole : s ≡ scheduleOf (inSchedule s)
+  pub orderly : Orderly (inSchedule s)

@@ -1,7 +1,7 @@
 -- `selection::select` meets its contract. Assumes nothing.
 use mathlib.Core.Path.{refl}
 use borrow.Author.Tests.{not-true, not-false}
-use Rattle.schedule_list.specs.Held.{held}
+use Rattle.schedule_list.specs.InSchedule.{inSchedule}
 use Rattle.cell_selection.proofs.Walk.{starts}
 use borrow.Author.Needs.{needs}
 use Rattle.cell_selection.proofs.select.Statement.{statement}
@@ -14,7 +14,7 @@ returns : tie.Need-returns
 returns c = record { selects = c .before .before .choose .ensures; leaves = rw (not-true (c .before .before .choose .result .found) (c .if1 .taken)) refl }
 
 assignment-of-requires : tie.Need-assignment-of-requires
-assignment-of-requires c κs = starts (held (c .before .before .before .before .before .before .args .schedule)) (c .before .before .before .before .before .before .args .lists) (c .before .before .before .before .before .choose .result) (not-false (c .before .before .before .before .before .choose .result .found) (c .before .before .before .if1 .left)) (c .before .before .before .before .before .choose .ensures)
+assignment-of-requires c κs = starts (inSchedule (c .before .before .before .before .before .before .args .schedule)) (c .before .before .before .before .before .before .args .lists) (c .before .before .before .before .before .choose .result) (not-false (c .before .before .before .before .before .choose .result .found) (c .before .before .before .if1 .left)) (c .before .before .before .before .before .choose .ensures)
 
 take-requires : tie.Need-take-requires
 take-requires c κs = search needs

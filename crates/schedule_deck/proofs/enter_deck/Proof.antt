@@ -1,4 +1,4 @@
--- `deck_text::enter_deck` meets its contract. Assumes nothing.
+-- `schedule_deck::enter_deck` meets its contract. Assumes nothing.
 use Rattle.schedule_deck.proofs.InTurn.{part-long, good-entered, refused-entered}
 use borrow.Author.Needs.{needs}
 use Rattle.schedule_deck.proofs.enter_deck.Statement.{statement}

@@ -1,4 +1,4 @@
--- `deck_text::put_group` meets its contract. Assumes nothing.
+-- `schedule_deck::put_group` meets its contract. Assumes nothing.
 use Rattle.cards_fields.specs.Deck.{cardsOf}
 use Rattle.schedule_deck.proofs.Pieces.{group-read}
 use borrow.Author.Needs.{needs}

@@ -1,4 +1,4 @@
--- `deck_text::put_groups` meets its contract. Assumes nothing.
+-- `schedule_deck::put_groups` meets its contract. Assumes nothing.
 use Prim.Native.Nat.{_-_}
 use native.Mathlib.Omega.{arith}
 use lib.ListN.{length}

@@ -1,4 +1,4 @@
--- `deck_text::put_verdict` meets its contract. Assumes nothing.
+-- `schedule_deck::put_verdict` meets its contract. Assumes nothing.
 use Rattle.text.proofs.RoomLaws.{none}
 use borrow.Author.Needs.{needs}
 use Rattle.schedule_deck.proofs.put_verdict.Statement.{statement}

@@ -1,4 +1,4 @@
--- `deck_text::report` meets its contract. Assumes nothing.
+-- `schedule_deck::report` meets its contract. Assumes nothing.
 use Rattle.schedule_deck.proofs.InTurn.{part-long, good-text, refused-text}
 use Rattle.schedule_deck.proofs.Bounds.{reported}
 use borrow.Author.Needs.{needs}

@@ -1,4 +1,4 @@
--- `deck_text::shown_by` meets its contract. Assumes nothing.
+-- `schedule_deck::shown_by` meets its contract. Assumes nothing.
 use mathlib.Core.Path.{sym, ap, _∙_}
 use lib.Seq.{length-take-le}
 use native.Mathlib.Omega.{arith}

@@ -1,4 +1,4 @@
--- `deck_text::tried` meets its contract. Assumes nothing.
+-- `schedule_deck::tried` meets its contract. Assumes nothing.
 use mathlib.Core.Path.{_∙_}
 use Rattle.schedule_deck.proofs.Pieces.{tried-good, tried-bad}
 use borrow.Author.Needs.{needs}

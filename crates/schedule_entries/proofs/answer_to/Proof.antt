@@ -1,7 +1,8 @@
--- `entries::answer_to` meets its contract: question by question, from what the functions that it calls promise. Assumes nothing.
-use mathlib.Core.Path.{sym, ap, _∙_}
+-- `schedule_entries::answer_to` meets its contract: question by question, from what the functions that it calls
+-- promise. Assumes nothing.
+use mathlib.Core.Path.{ap, _∙_}
 use mathlib.Core.Bool.{not}
-use Rattle.schedule_entries.specs.Entries.{sameRank, sameKey, lowerSequence, precedes}
+use Rattle.schedule_entries.specs.Entries.{sameRank, sameKey, precedes}
 use Rattle.schedule_entries.specs.declared.Key.{Key}
 use borrow.Author.Needs.{needs}
 use Rattle.schedule_entries.proofs.answer_to.Statement.{statement}
@@ -37,32 +38,11 @@ same-key-requires c κs = search needs
 enum-told-4 : tie.Need-enum-told-4
 enum-told-4 c = search needs
 
-is-lower-requires : tie.Need-is-lower-requires
-is-lower-requires c κs = search needs
-
-enum-told-5 : tie.Need-enum-told-5
-enum-told-5 c = search needs
-
 precedes-requires : tie.Need-precedes-requires
 precedes-requires c κs = search needs
 
-enum-told-6 : tie.Need-enum-told-6
-enum-told-6 c = search needs
-
-is-active-requires : tie.Need-is-active-requires
-is-active-requires c κs = search needs
-
-enum-told-7 : tie.Need-enum-told-7
-enum-told-7 c = search needs
-
-is-active-requires-2 : tie.Need-is-active-requires-2
-is-active-requires-2 c κs = search needs
-
-is-serial-requires : tie.Need-is-serial-requires
-is-serial-requires c κs = search needs
-
-enum-told-8 : tie.Need-enum-told-8
-enum-told-8 c = search needs
+enum-told-5 : tie.Need-enum-told-5
+enum-told-5 c = search needs
 
 is-in-place-requires : tie.Need-is-in-place-requires
 is-in-place-requires c κs = search needs
@@ -77,22 +57,10 @@ returns-3 : tie.Need-returns-3
 returns-3 c = rw (c .before .enum-told3 .given .1) (c .same-key .ensures ∙ ap (λ (k : Key). sameKey k (c .before .before .before .before .before .before .before .before .args .query .key)) (c .before .before .before .before .before .before .key-of .ensures))
 
 returns-4 : tie.Need-returns-4
-returns-4 c = rw (c .before .enum-told4 .given .1) (c .is-lower .ensures ∙ ap (λ (k : Key). lowerSequence k (c .before .before .before .before .before .before .before .before .args .query .key)) (c .before .before .before .before .before .before .key-of .ensures))
+returns-4 c = rw (c .before .enum-told4 .given .1) (ap not (c .precedes .ensures ∙ ap (λ (k : Key). precedes k (c .before .before .before .before .before .before .before .before .args .query .key)) (c .before .before .before .before .before .before .key-of .ensures)))
 
 returns-5 : tie.Need-returns-5
-returns-5 c = rw (c .before .enum-told5 .given .1) (ap not (c .precedes .ensures ∙ ap (λ (k : Key). precedes k (c .before .before .before .before .before .before .before .before .args .query .key)) (c .before .before .before .before .before .before .key-of .ensures)))
-
-returns-6 : tie.Need-returns-6
-returns-6 c = rw (c .before .enum-told6 .given .1) (c .is-active .ensures)
-
-returns-7 : tie.Need-returns-7
-returns-7 c = rw (c .before .before .before .enum-told7 .given .1, sym (c .before .before .is-active2 .ensures) ∙ c .before .if1 .taken) (c .is-serial .ensures)
-
-returns-8 : tie.Need-returns-8
-returns-8 c = rw (c .before .before .enum-told7 .given .1, sym (c .before .is-active2 .ensures) ∙ c .if1 .left) (c .if1 .left)
-
-returns-9 : tie.Need-returns-9
-returns-9 c = rw (c .before .enum-told8 .given .1) (c .is-in-place .ensures)
+returns-5 c = rw (c .before .enum-told5 .given .1) (c .is-in-place .ensures)
 
 pub answer-to-spec : {M : Type 1} → statement M
 answer-to-spec =
@@ -108,22 +76,11 @@ answer-to-spec =
     enum-told-3
     same-key-requires
     enum-told-4
-    is-lower-requires
-    enum-told-5
     precedes-requires
-    enum-told-6
-    is-active-requires
-    enum-told-7
-    is-active-requires-2
-    is-serial-requires
-    enum-told-8
+    enum-told-5
     is-in-place-requires
     returns
     returns-2
     returns-3
     returns-4
-    returns-5
-    returns-6
-    returns-7
-    returns-8
-    returns-9)
+    returns-5)

@@ -1,4 +1,4 @@
--- `entries::is_in_place` meets its contract: the place of a job that runs or closes. Assumes nothing.
+-- `schedule_entries::is_in_place` meets its contract: the place of a job that runs or closes. Assumes nothing.
 use borrow.Author.Needs.{needs}
 use Rattle.schedule_entries.proofs.is_in_place.Statement.{statement}
 use Rattle.schedule_entries.proofs.is_in_place.Tie as tie

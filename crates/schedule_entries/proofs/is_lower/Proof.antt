@@ -1,4 +1,4 @@
--- `entries::is_lower` meets its contract: the rank, then the sequence. Assumes nothing.
+-- `schedule_entries::is_lower` meets its contract: the rank, then the sequence. Assumes nothing.
 use mathlib.Core.Path.{sym, _∙_}
 use Rattle.schedule_entries.specs.Entries.{lowerSequence}
 use borrow.Author.Needs.{needs}

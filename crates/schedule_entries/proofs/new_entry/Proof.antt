@@ -1,4 +1,4 @@
--- `entries::new_entry` meets its contract: by whether RUSH is S. Assumes nothing.
+-- `schedule_entries::new_entry` meets its contract: by whether RUSH is S. Assumes nothing.
 use borrow.Author.Tests.{eq-eqb, ne-eqb}
 use Rattle.schedule_entries.proofs.new_entry.Statement.{statement}
 use Rattle.schedule_entries.proofs.new_entry.Tie as tie

@@ -1,4 +1,5 @@
--- `entries::precedes` meets its contract: letter, precedence and sequence, by the tests that led there. Assumes nothing.
+-- `schedule_entries::precedes` meets its contract: letter, precedence and sequence, by the tests that led there.
+-- Assumes nothing.
 use borrow.Author.Tests.{eq-eqb, ne-eqb}
 use Rattle.schedule_entries.specs.Entries.{precedes}
 use Rattle.schedule_entries.proofs.precedes.Statement.{statement}

@@ -1,4 +1,4 @@
--- `entries::same_key` meets its contract: the rank, then the sequence. Assumes nothing.
+-- `schedule_entries::same_key` meets its contract: the rank, then the sequence. Assumes nothing.
 use mathlib.Core.Path.{sym, _∙_}
 use Rattle.schedule_entries.specs.Entries.{sameKey}
 use borrow.Author.Needs.{needs}

@@ -1,4 +1,4 @@
--- `entries::same_rank` meets its contract: both tests, one after the other. Assumes nothing.
+-- `schedule_entries::same_rank` meets its contract: both tests, one after the other. Assumes nothing.
 use borrow.Author.Tests.{eq-eqb, ne-eqb}
 use Rattle.schedule_entries.specs.Entries.{sameRank}
 use Rattle.schedule_entries.proofs.same_rank.Statement.{statement}

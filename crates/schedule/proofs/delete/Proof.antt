@@ -1,0 +1,60 @@
+-- `schedule::delete` meets its contract: by the tests that led there. Assumes nothing.
+use mathlib.Core.Path.{ap, _∙_}
+use Rattle.schedule.specs.Calls.{done}
+use Rattle.schedule.proofs.Cases.{deleted-by, delete-none, delete-runs, delete-yes}
+use borrow.Author.Needs.{needs}
+use Rattle.schedule.proofs.delete.Statement.{statement}
+use Rattle.schedule.proofs.delete.Tie as tie
+
+of-id-requires : tie.Need-of-id-requires
+of-id-requires c κs = search needs
+
+first-of-requires : tie.Need-first-of-requires
+first-of-requires c κs = search needs
+
+size-requires : tie.Need-size-requires
+size-requires c κs = search needs
+
+refused-requires : tie.Need-refused-requires
+refused-requires c κs = search needs
+
+returns : tie.Need-returns
+returns c = c .refused .ensures ∙ delete-none (c .before .before .before .before .before .args .schedule) (c .before .before .before .first-of .result) (c .before .before .size .ensures) (c .before .if1 .taken) ∙ deleted-by (c .before .before .before .before .before .args .schedule) (c .before .before .before .before .before .args .id) (c .before .before .before .before .of-id .ensures) (c .before .before .before .first-of .ensures)
+
+entry-at-requires : tie.Need-entry-at-requires
+entry-at-requires c κs = search needs
+
+is-active-requires : tie.Need-is-active-requires
+is-active-requires c κs = search needs
+
+refused-requires-2 : tie.Need-refused-requires-2
+refused-requires-2 c κs = search needs
+
+returns-2 : tie.Need-returns-2
+returns-2 c = c .refused2 .ensures ∙ delete-runs (c .before .before .before .before .before .before .before .before .args .schedule) (c .before .before .before .before .before .before .first-of .result) (c .before .before .before .before .before .size .ensures) (c .before .before .before .before .if1 .left) (c .before .before .before .entry-at .ensures) (c .before .before .is-active .ensures) (c .before .if2 .taken) ∙ deleted-by (c .before .before .before .before .before .before .before .before .args .schedule) (c .before .before .before .before .before .before .before .before .args .id) (c .before .before .before .before .before .before .before .of-id .ensures) (c .before .before .before .before .before .before .first-of .ensures)
+
+without-requires : tie.Need-without-requires
+without-requires c κs = search needs
+
+done-requires : tie.Need-done-requires
+done-requires c κs = search needs
+
+returns-3 : tie.Need-returns-3
+returns-3 c = c .done .ensures ∙ ap done (c .before .without .ensures) ∙ delete-yes (c .before .before .before .before .before .before .before .before .before .args .schedule) (c .before .before .before .before .before .before .before .first-of .result) (c .before .before .before .before .before .before .size .ensures) (c .before .before .before .before .before .if1 .left) (c .before .before .before .before .entry-at .ensures) (c .before .before .before .is-active .ensures) (c .before .before .if2 .left) ∙ deleted-by (c .before .before .before .before .before .before .before .before .before .args .schedule) (c .before .before .before .before .before .before .before .before .before .args .id) (c .before .before .before .before .before .before .before .before .of-id .ensures) (c .before .before .before .before .before .before .before .first-of .ensures)
+
+pub delete-spec : {M : Type 1} → statement M
+delete-spec =
+    tie.close
+    (tie.spec
+    of-id-requires
+    first-of-requires
+    size-requires
+    refused-requires
+    returns
+    entry-at-requires
+    is-active-requires
+    refused-requires-2
+    returns-2
+    without-requires
+    done-requires
+    returns-3)

@@ -1,0 +1,3 @@
+pub mod CandidateLaws
+pub mod Cases
+pub mod MarkingLaws
