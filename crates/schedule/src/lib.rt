@@ -80,7 +80,7 @@ pub fn enter(schedule: Schedule, request: Request) -> Entering
     }
     let others = schedule_list::without(schedule, k);
     let verdict = clash(others, request);
-    if !cards::error::is_good(verdict) {
+    if !cards::is_good(verdict) {
         return not_entered(schedule, verdict);
     }
     let next = schedule_list::inserted(others, schedule_entries::new_entry(request));
