@@ -57,7 +57,7 @@ fn nothing() -> Assigned
 }
 
 // The drum's length; 0 without a drum.
-fn drum_length(channels: [Channel; 16]) -> u32
+pub fn drum_length(channels: [Channel; 16]) -> u32
     ensures { λ r. ⌜ r ≡ drumLength channels ⌝ }
 {
     let mut c: usize = 0;

@@ -27,7 +27,7 @@ fn count_ge(xs: &[u8], t: u8) -> usize
 }
 
 // The threshold test: whether each of the counts can have a channel of its own.
-fn can_serve(room: &[u8], wants: &[u8]) -> bool
+pub fn can_serve(room: &[u8], wants: &[u8]) -> bool
     ensures { λ r. ⌜ r ≡ hallB (now (room .entry)) (now (wants .entry)) ⌝ }
 {
     let mut i: usize = 0;
@@ -71,7 +71,7 @@ fn wide(x: u8) -> usize
 }
 
 // All numbers of a list together.
-fn sum(xs: [u8; 16]) -> usize
+pub fn sum(xs: [u8; 16]) -> usize
     ensures { λ r. ⌜ r ≡ total xs ⌝ }
 {
     let mut n: usize = 0;

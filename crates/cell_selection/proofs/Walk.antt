@@ -9,19 +9,29 @@ use lib.Dec.{eqb}
 use lib.ListN.{length, getD, take}
 use borrow.Author.Tests.{eqb-false, eqb-true}
 use Rattle.numbers.proofs.Tests.{by-bool, never}
+use Rattle.units.specs.declared.Unit.{Unit}
+use Rattle.channels.specs.declared.Channel.{Channel}
+use Rattle.cards.specs.declared.Facilities.{Facilities}
 use Rattle.schedule_entries.specs.Entries.{blank}
 use Rattle.schedule_entries.specs.declared.Entry.{Entry}
 use Rattle.schedule_list.specs.InSchedule.{inSchedule, entryAt}
 use Rattle.schedule_list.proofs.InScheduleLaws.{schedule-at, schedule-few, schedule-sized}
 use Rattle.schedule_list.specs.declared.Schedule.{Schedule}
 use Rattle.schedule_candidates.specs.Candidates.{Marks}
-use Rattle.assign.specs.Assignment.{Cell}
-use Rattle.assign.specs.Chosen.{Answer, Assigns, NoAssignment}
+use Rattle.assign_drum.specs.declared.Area.{Area}
+use Rattle.assign_counts.specs.Assignable.{Counted}
+use Rattle.assign.specs.Assignment.{Cell, cellOf, drumLength, IsAssignment}
+use Rattle.assign.specs.Chosen.{Answer, Assigns}
 use Rattle.assign.specs.declared.Assigned.{Assigned}
+use Rattle.assign_lacking.specs.declared.Lacking.{Lacking}
+use Rattle.assign_lacking.specs.declared.Lacking.the-variants.{Nothing, Core, Drum, Units}
+use Rattle.assign_lacking.specs.Parts.{isNothing, parts, First, Has, Answers}
+use Rattle.assign_lacking.specs.InCell.{Tells}
+use Rattle.assign_lacking.proofs.InCellLaws.{lacking-tells}
 use Rattle.packets.specs.declared.Lists.{Lists}
 use Rattle.cell_taken.specs.Taken.{LowestFree}
 use Rattle.cell_taken.specs.declared.FreePlace.the-variants.{At, Full}
-use Rattle.cell_selection.specs.Selecting.{Candidate, FirstFit, HasNone, NoFit, Picks, PicksBy, Selected, SelectsBy, Starts, noSelection, seenIn}
+use Rattle.cell_selection.specs.Selecting.{Candidate, HasNone, NoFit, Picks, PicksBy, Selected, SelectsBy, Starts, noSelection, seenIn}
 use Rattle.cell_selection.specs.declared.Pick.{Pick}
 use Rattle.cell_selection.specs.declared.Selection.{Selection}
 
@@ -43,6 +53,23 @@ walk-more {es} {cell} {k} w f =
     less : (i : ℕ) → i < k + 1 → (i ≡ k → ⊥) → i < k
     less i h q = omega arith
 
+-- an assigner finds one where there is one
+has-found : (cell : Cell) (wanted : Facilities) (a : Assigned) → Assigns cell wanted a → (b : Assigned) × IsAssignment cell wanted b → a .found ≡ true
+has-found cell wanted a r b = by-bool (a .found) (λ t. t) (λ t. absurd (subst (λ (x : Bool). Answer x cell wanted a) t r .never (b .0) (b .1)))
+
+-- what says that nothing is lacking
+nothing-lacks : (l : Lacking) → isNothing l ≡ true → l ≡ Nothing
+nothing-lacks Nothing e = refl
+nothing-lacks Core e = never e refl
+nothing-lacks Drum e = never e refl
+nothing-lacks (Units kind) e = never e refl
+
+-- what the counts tell of a cell
+pub told : (units : List (List Unit)) (occupancy : ℕ) (areas : List Area) (channels : List Channel) (wanted : Facilities) (counts : List ℕ) {drum : ℕ} (l : Lacking) → length channels ≡ 16
+    → Counted units channels counts → drum ≡ drumLength channels → Answers counts occupancy areas drum wanted l → Tells (cellOf units occupancy areas channels) wanted l
+told units occupancy areas channels wanted counts {drum} l size c e a =
+    lacking-tells units occupancy areas channels wanted counts size (a .full) c l (subst (λ (x : ℕ). First (Has counts occupancy areas x wanted) parts l) e (a .first))
+
 -- the walk over a schedule's array, by the marks of its candidates
 module _ (s : Schedule) (wide : length (s .entries) ≡ 64) {n : ℕ} (size : n ≡ length (inSchedule s)) {may : List Bool} (marks : Marks (inSchedule s) may) (cell : Cell) where
   part : take n (s .entries) ≡ inSchedule s
@@ -54,10 +81,12 @@ module _ (s : Schedule) (wide : length (s .entries) ≡ 64) {n : ℕ} (size : n 
   walk-in : {k : ℕ} → Walked (take n (s .entries)) cell k → Walked (inSchedule s) cell k
   walk-in {k} w = subst (λ (es : List Entry). Walked es cell k) part w
 
-  pub walk-found : {k : ℕ} (d : Entry) (a : Assigned) → Walked (take n (s .entries)) cell k → k < n → getD may k false ≡ true → a .found ≡ true
-      → Assigns cell (getD (s .entries) k d .request .facilities) a → FirstFit (inSchedule s) cell k a
-  walk-found {k} d a w h m f r =
+  pub walk-found : {k : ℕ} (d : Entry) (a : Assigned) (l : Lacking) → Walked (take n (s .entries)) cell k → k < n → getD may k false ≡ true
+      → Tells cell (getD (s .entries) k d .request .facilities) l → isNothing l ≡ true → Assigns cell (getD (s .entries) k d .request .facilities) a
+      → PicksBy true (inSchedule s) cell (record { found = true; at = k; assigned = a })
+  walk-found {k} d a t w h m tells e r =
       let l : k < length (inSchedule s) = omega arith in
+      let f = has-found cell (getD (s .entries) k d .request .facilities) a r (tells .some (nothing-lacks t e)) in
       record {
         candidate = (l, sym (marks .each k l) ∙ m);
         found = f;
@@ -65,14 +94,14 @@ module _ (s : Schedule) (wide : length (s .entries) ≡ 64) {n : ℕ} (size : n 
         first = walk-in w .passed;
       }
 
-  pub walk-none : {k : ℕ} (d : Entry) (a : Assigned) → Walked (take n (s .entries)) cell k → k < n → a .found ≡ false → Assigns cell (getD (s .entries) k d .request .facilities) a
+  pub walk-none : {k : ℕ} (d : Entry) (l : Lacking) → Walked (take n (s .entries)) cell k → k < n → Tells cell (getD (s .entries) k d .request .facilities) l → isNothing l ≡ false
       → Walked (take n (s .entries)) cell (k + 1)
-  walk-none {k} d a w h f r =
+  walk-none {k} d t w h tells e =
       let l : k < length (inSchedule s) = omega arith in
-      subst (λ (es : List Entry). Walked es cell (k + 1)) (sym part) (walk-more (walk-in w) λ c. rw (sym (schedule-at s k d l)) (none .never))
+      subst (λ (es : List Entry). Walked es cell (k + 1)) (sym part) (walk-more (walk-in w) λ c. rw (sym (schedule-at s k d l)) none)
     where
-      none : NoAssignment cell (getD (s .entries) k d .request .facilities) a
-      none = subst (λ (b : Bool). Answer b cell (getD (s .entries) k d .request .facilities) a) f r
+      none : HasNone cell (getD (s .entries) k d .request)
+      none b i = never (ap isNothing (tells .none b i)) e
 
   pub walk-past : {k : ℕ} → Walked (take n (s .entries)) cell k → k < n → getD may k false ≡ false → Walked (take n (s .entries)) cell (k + 1)
   walk-past {k} w h m =

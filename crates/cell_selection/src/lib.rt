@@ -62,7 +62,8 @@ fn nothing() -> Assigned
     }
 }
 
-// The first candidate in order that has an assignment.
+// The first candidate in order that has an assignment. The units are looked at once, and only the one found is assigned to: whether another has
+// an assignment is told from the counts.
 fn first_fit(
     schedule: Schedule,
     units: Units,
@@ -75,17 +76,20 @@ fn first_fit(
     let n = schedule_list::size(schedule);
     let may = schedule_candidates::all(schedule);
     let list = schedule.entries;
+    let counts = assign_counts::count(units, channels);
+    let drum = assign::drum_length(channels);
     let mut k: usize = 0;
     while k < n {
         if may[k] {
             let entry = list[k];
             let request = entry.request;
-            let assigned = assign::assign(units, occupancy, areas, channels, request);
-            if assigned.found {
+            let wanted = request.facilities;
+            let lacking = assign_lacking::first_lacking(counts, occupancy, areas, drum, wanted);
+            if assign_lacking::is_nothing(lacking) {
                 return Pick {
                     found: true,
                     at: k,
-                    assigned,
+                    assigned: assign::assign(units, occupancy, areas, channels, request),
                 };
             }
         }

@@ -1,0 +1,35 @@
+-- The assignable units counted: how many of a kind each channel has.
+use Prim.Native.Nat.{ℕ, _+_, _*_, _<_}
+use mathlib.Core.Path.{_≡_}
+use mathlib.Core.Bool.{_&&_}
+use mathlib.Core.List.{List}
+use lib.Dec.{ltb}
+use lib.ListN.{length, getD}
+use Rattle.cards.specs.Requests.{counts as many}
+use Rattle.numbers.specs.Kinds.{rowOf}
+use Rattle.units.specs.declared.Unit.{Unit}
+use Rattle.units.specs.State.{unitIn, assignable}
+use Rattle.channels.specs.declared.Fitted.{Fitted}
+use Rattle.channels.specs.declared.Fitted.the-variants.{Nothing, With}
+use Rattle.channels.specs.declared.Channel.{Channel}
+use Rattle.assign_heads.specs.Sums.{howMany}
+use Rattle.assign_free.specs.Assignable.{isFreeOf}
+
+-- how many units of the kind of a row are assignable on channel c
+abbrev pub countOn : List (List Unit) → List Channel → ℕ → ℕ → ℕ
+countOn units channels row c = howMany 16 (λ u. isFreeOf units channels row (c * 16 + u))
+
+-- the counts of the kinds that have units, at row * 16 + channel
+pub record Counted (units : List (List Unit)) (channels : List Channel) (counts : List ℕ) : Type 0 where
+  pub long : length counts ≡ many
+  pub each : (row c : ℕ) → row < 3 → c < 16 → getD counts (row * 16 + c) 0 ≡ countOn units channels row c
+
+-- the row of the kind that a channel has; 3, the drum's, where it has nothing
+abbrev pub rowIn : Fitted → ℕ
+rowIn Nothing = 3
+rowIn (With kind n) = rowOf kind
+
+-- how many of the first n units of channel c are assignable
+pub record AssignableOn (grid : List (List Unit)) (c n r : ℕ) : Type 0 where
+  pub is : r ≡ howMany 16 (λ u. ltb u n && assignable (unitIn grid c u))
+  pub few : r < 17

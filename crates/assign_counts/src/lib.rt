@@ -1,0 +1,62 @@
+// How many units are assignable, by kind and channel: the one look at the units that a selection takes.
+use channels::Channel;
+use channels::Fitted;
+use units::Unit;
+use units::Units;
+ghost use mathlib.Core.Path.{_≡_};
+ghost use Prim.Native.Nat.{_<_};
+ghost use Rattle.units.specs.State.{Square};
+ghost use Rattle.assign_counts.specs.Assignable.{rowIn, AssignableOn, Counted};
+
+// The number of assignable units of the kinds MA, MT and PR on every channel, at kind * 16 + channel.
+pub struct Counts {
+    pub of: [u8; cards::COUNTS],
+}
+
+// The row of the kind that a channel has; 3, the drum's, where it has nothing.
+fn row_on(channel: Channel) -> usize
+    ensures { λ r. ⌜ r ≡ rowIn (channel .has) ⌝ }
+{
+    let has = channel.has;
+    match has {
+        Fitted::Nothing => 3,
+        Fitted::With(kind, _) => numbers::row_of(kind),
+    }
+}
+
+// How many of the first n units of a channel are assignable.
+fn assignable_on(grid: [[Unit; 16]; 16], c: usize, n: u32) -> u8
+    requires { ⌜ (c < 16) × Square grid ⌝ }
+    ensures { λ r. ⌜ AssignableOn grid c n r ⌝ }
+{
+    let mut count: u8 = 0;
+    let mut u: usize = 0;
+    while u < 16 {
+        if (u as u32) < n {
+            let unit = grid[c][u];
+            if units::is_assignable(unit) {
+                count += 1;
+            }
+        }
+        u += 1;
+    }
+    count
+}
+
+// The number of assignable units of every kind on every channel. A channel has units of one kind only.
+pub fn count(units: Units, channels: [Channel; 16]) -> Counts
+    ensures { λ r. ⌜ Counted (units .of) channels (r .of) ⌝ }
+{
+    let grid = units::grid_of(units);
+    let mut of = [0u8; cards::COUNTS];
+    let mut c: usize = 0;
+    while c < 16 {
+        let channel = channels[c];
+        let row = row_on(channel);
+        if row < 3 {
+            of[row * 16 + c] = assignable_on(grid, c, channels::units_of(channel));
+        }
+        c += 1;
+    }
+    Counts { of }
+}

@@ -1,0 +1,107 @@
+-- A kind's entries can have channels, by the counts of a cell, exactly if they are served in it in some way. Assumes nothing.
+use Prim.Native.Nat.{ℕ, _+_, _*_, _<_}
+use mathlib.Core.Path.{_≡_, refl, sym, ap, _∙_, subst}
+use mathlib.Core.Bool.{Bool, true}
+use mathlib.Core.List.{List}
+use native.Mathlib.Omega.{arith}
+use lib.Dec.{ltb}
+use lib.ListN.{length, getD, drop, replicate, length-drop}
+use lib.Seq.{ext-getD, length-take-le, getD-take, getD-drop}
+use borrow.Author.Tests.{ltb-true, ltb-false}
+use Rattle.numbers.proofs.Tests.{by-bool}
+use Rattle.numbers.proofs.Tables.{values, values-at}
+use Rattle.numbers.specs.declared.ChannelNumber.{ChannelNumber}
+use Rattle.units.specs.declared.Unit.{Unit}
+use Rattle.channels.specs.declared.Channel.{Channel}
+use Rattle.assign_channels.specs.Choice.{channel, want, on, Placed}
+use Rattle.assign_channels.specs.Greedy.{chooseOf}
+use Rattle.assign_channels.proofs.ChoiceLaws.{chosen, found-none}
+use Rattle.assign_heads.specs.declared.Given.{Given}
+use Rattle.assign_heads.specs.declared.Head.{Head}
+use Rattle.assign_heads.specs.Heads.{Served}
+use Rattle.assign_heads.specs.Sums.{howMany}
+use Rattle.assign_heads.specs.Whose.{freeAt, blank, toAt}
+use Rattle.assign_heads.specs.Giving.{RoomIs}
+use Rattle.assign_heads.proofs.HeadsLaws.{served-placed}
+use Rattle.assign_heads.proofs.ServingLaws.{served-so}
+use Rattle.assign_heads.proofs.Computed.{roomOf, serviceOf, serveOf, serve-answers}
+use Rattle.assign_free.specs.Assignable.{isFreeOf}
+use Rattle.assign_free.proofs.AssignableLaws.{marks}
+use Rattle.assign_free.proofs.Computed.{marksOf, marks-answer}
+use Rattle.assign_counts.specs.Assignable.{Counted}
+use Rattle.assign.specs.Assignment.{wantsOf}
+use Rattle.assign_lacking.specs.Parts.{Servable}
+
+-- ---- the channels of the entries as a list
+abbrev pub listed : (ℕ → ℕ) → List ChannelNumber
+listed its = values (λ l. channel (its l)) 16
+
+module _ (free : ℕ → Bool) (wants : ℕ → ℕ) (its : ℕ → ℕ) (to : ℕ → Given) (s : Served free wants its to) where
+  same : (l : ℕ) → l < 16 → on (listed its) l ≡ its l
+  same l h = ap (λ (c : ChannelNumber). c .0) (values-at (λ l. channel (its l)) 16 l (channel 0) h)
+
+  pub by-list : Served free wants (on (listed its)) to
+  by-list = record {
+    only = s .only;
+    all = s .all;
+    known = s .known;
+    there = λ i l h t. by-bool (ltb l 16) (λ b. s .there i l h t ∙ sym (same l (ltb-true l 16 b))) (λ b. absurd (s .known i l (ltb-false l 16 b) t));
+    own = λ l m h k b p q e. s .own l m h k b p q (sym (same l (omega arith)) ∙ e ∙ same m b);
+    none-0 = same 0 (omega arith) ∙ s .none-0;
+    none = λ l h k e. same l k ∙ s .none l h k e;
+  }
+
+module _ (units : List (List Unit)) (channels : List Channel) (size : length channels ≡ 16) (row : ℕ) (is : row < 3) (counts asked : List ℕ) (full : length asked ≡ 48)
+    (c : Counted units channels counts) where
+  -- the row's part of a table
+  part-long : (table : List ℕ) → length table ≡ 48 → length (wantsOf table row) ≡ 16
+  part-long table e = length-take-le 16 (drop (row * 16) table) (simp length-drop (omega arith))
+
+  part-at : (table : List ℕ) (l : ℕ) → l < 16 → getD (wantsOf table row) l 0 ≡ getD table (row * 16 + l) 0
+  part-at table l h = getD-take 16 (drop (row * 16) table) l 0 h ∙ getD-drop (row * 16) table l 0
+
+  -- the kind's assignable units, marked
+  abbrev free : List Bool
+  free = marksOf units channels row
+
+  marked : freeAt free ≡ isFreeOf units channels row
+  marked = λ j i. marks units channels size (marks-answer units channels row) i j
+
+  -- the counts are those of the marks
+  room : RoomIs free (wantsOf counts row)
+  room = record {
+    long = part-long counts (c .long);
+    each = λ d h. part-at counts d h ∙ c .each row d is h ∙ ap (λ (f : ℕ → Bool). howMany 16 (λ u. f (d * 16 + u))) (sym marked);
+  }
+
+  room-one : wantsOf counts row ≡ roomOf free
+  room-one = ext-getD 0 (wantsOf counts row) (roomOf free) (room .long) λ d h.
+      let k : d < 16 = omega (arith, room .long) in
+      room .each d k ∙ sym (values-at (λ c. howMany 16 (λ u. freeAt free (c * 16 + u))) 16 d 0 k)
+
+  -- entries that are served can have channels
+  pub kind-servable : (its : ℕ → ℕ) (to : ℕ → Given) → Served (isFreeOf units channels row) (want (wantsOf asked row)) its to → Servable (wantsOf counts row) (wantsOf asked row)
+  kind-servable its to s = record {
+    channels = listed its;
+    placed = served-placed free (wantsOf asked row) (wantsOf counts row) (listed its) to (part-long asked full) refl room
+        (subst (λ (f : ℕ → Bool). Served f (want (wantsOf asked row)) (on (listed its)) to) (sym marked) (by-list (isFreeOf units channels row) (want (wantsOf asked row)) its to s));
+  }
+
+  -- entries that can have channels are served, by the serving that antt computes
+  abbrev none : List Head
+  none = replicate 256 blank
+
+  serve-ok : chooseOf (roomOf free) (wantsOf asked row) .ok ≡ true → serveOf free (wantsOf asked row) none .ok ≡ true
+  unfolding serveOf serviceOf
+  serve-ok t = rw t refl
+
+  pub servable-kind : Servable (wantsOf counts row) (wantsOf asked row)
+      → (its : ℕ → ℕ) × ((to : ℕ → Given) × Served (isFreeOf units channels row) (want (wantsOf asked row)) its to)
+  servable-kind s =
+      by-bool (chooseOf (roomOf free) (wantsOf asked row) .ok)
+      (λ t.
+      let r = serveOf free (wantsOf asked row) none in
+      let k = served-so free (wantsOf asked row) none r (serve-ok t) (serve-answers free (wantsOf asked row) none refl (part-long asked full) refl) in
+      (on (r .on), (toAt free (r .heads), subst (λ (f : ℕ → Bool). Served f (want (wantsOf asked row)) (on (r .on)) (toAt free (r .heads))) marked (k .served))))
+      (λ t. absurd (found-none (roomOf free) (wantsOf asked row) (chooseOf (roomOf free) (wantsOf asked row)) t (chosen (roomOf free) (wantsOf asked row) refl (part-long asked full)) .never (s .channels)
+      (subst (λ (x : List ℕ). Placed x (wantsOf asked row) (s .channels)) room-one (s .placed))))

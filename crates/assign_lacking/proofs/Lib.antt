@@ -1,0 +1,3 @@
+pub mod PartsLaws
+pub mod KindLaws
+pub mod InCellLaws
