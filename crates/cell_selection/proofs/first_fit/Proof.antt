@@ -1,4 +1,4 @@
--- `selection::first_fit` meets its contract: the loop keeps that the candidates so far have no assignment. Assumes nothing.
+-- `cell_selection::first_fit` meets its contract: the loop keeps that the candidates so far have no assignment. Assumes nothing.
 use Prim.Native.Nat.{_-_}
 use mathlib.Core.Path.{refl}
 use mathlib.Core.Logic.{⊎-elim}
