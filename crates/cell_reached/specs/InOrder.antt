@@ -1,5 +1,6 @@
--- THE JOB SELECTED IS THE FIRST IN ORDER: in every cell that a history leads to, no candidate that comes before it in the selection
--- order (letter A first, then lower precedence, then lower sequence) has an assignment. A reader has to believe this page.
+-- THE JOB SELECTED IS THE FIRST IN ORDER: in every cell that a history leads to, no candidate that comes before it in
+-- the selection order (letter A first, then lower precedence, then lower sequence) has an assignment. A reader has to
+-- believe this page.
 use Prim.Native.Nat.{ℕ}
 use mathlib.Core.Path.{_≡_}
 use mathlib.Core.Bool.{true}

@@ -1,5 +1,6 @@
--- THE THREE DEMANDS, one page, to be laid beside the words of the people who asked. Each is a theorem, proved in the files named beside it, about any
--- cell and call as the contracts of the public functions give them, and about any history of calls from a fresh cell. A reader has to believe this page.
+-- THE THREE DEMANDS, one page, to be laid beside the words of the people who asked. Each is a theorem, proved in the
+-- files named beside it, about any cell and call as the contracts of the public functions give them, and about any
+-- history of calls from a fresh cell. A reader has to believe this page.
 use Prim.Native.Nat.{ℕ}
 use mathlib.Core.Path.{_≡_}
 use mathlib.Core.Bool.{true}
@@ -33,19 +34,22 @@ use Rattle.cell_history.specs.Heard.{heard, inside}
 use Rattle.cell_history.specs.History.{Call, Chosen, Does, Event, Leads, Reply, Select}
 use Rattle.demands.specs.Refusing.{refusalIn}
 
--- "1. Every card, deck, configuration and call is answered, whatever is in it. Bad input gets document 01's number, and after a refused call
--- everything stands, byte for byte, as before." That each is answered is what the check says of the public functions: none has a condition on its
--- input, and each ends. The numbers are those of the pages that the functions' contracts cite.
+-- "1. Every card, deck, configuration and call is answered, whatever is in it. Bad input gets document 01's number,
+-- and after a refused call everything stands, byte for byte, as before." That each is answered is what the check says
+-- of the public functions: none has a condition on its input, and each ends. The numbers are those of the pages that
+-- the functions' contracts cite.
 pub record Demand1 : Type 0 where
   -- after a refused call the cell is, byte for byte, the cell before
   pub stands : (c d : Cell) (x : Call) (reply : Reply) (n : Refusal) → Does c x reply d → refusalIn reply ≡ some n → d ≡ c
   -- and so is the room that was lent for a deck's answer
   pub lent : (c : Cell) (deck room after : List ℕ) (r : DeckAnswer) (n : Refusal) → Enters c deck room after r → r .outcome ≡ Refused n → after ≡ room
-  -- a configuration is read exactly if it is the written form of one; else refusal 14 names the first bad or missing line
+  -- a configuration is read exactly if it is the written form of one; else refusal 14 names the first bad or missing
+  -- line
   pub configuration : (s : List ℕ) → Means s (configurationOf s)
 
--- "2. It is right: cards written are read back as the same request; the job selected is the first in order, of those allowed to run, for which all
--- facilities can be found; selection is refused exactly when no place is free or no such job exists; packets end with the stated codes."
+-- "2. It is right: cards written are read back as the same request; the job selected is the first in order, of those
+-- allowed to run, for which all facilities can be found; selection is refused exactly when no place is free or no
+-- such job exists; packets end with the stated codes."
 pub record Demand2 : Type 0 where
   -- cards written are read back as the same request
   pub cards : (r : Request) (room : List ℕ) → takes r ≡ true → fits r (length room) ≡ true
@@ -60,9 +64,9 @@ pub record Demand2 : Type 0 where
       → (x : Rules.Call) → Rules.refusal (inside c) x ≡ Granted → (place packet : ℕ)
       → packetIn (Rules.step (inside c) x .state .jobs) place packet .status ≡ statusAfter (inside c) x place packet
 
--- "3. Take any sequence of calls from a fresh cell and one job's holding of one unit or piece of drum: the accepted calls that acted on it, given to a
--- lone unit written separately, make the same starts in the same order and leave the same packet statuses; on a unit nothing of another job starts or
--- moves meanwhile."
+-- "3. Take any sequence of calls from a fresh cell and one job's holding of one unit or piece of drum: the accepted
+-- calls that acted on it, given to a lone unit written separately, make the same starts in the same order and leave
+-- the same packet statuses; on a unit nothing of another job starts or moves meanwhile."
 abbrev pub Demand3 : Type 0
 Demand3 =
     -- any sequence of calls from a fresh cell
@@ -73,5 +77,6 @@ Demand3 =
     → (h : Holding) → h .place ≡ job .place → Holds (inside d) h
     -- and any calls while it has it, up to its return or any earlier moment
     → (during : List Event) (e : Cell) → Leads d during e → Stretch h (inside d) (heard during)
-    -- `Isolated`: same starts, same statuses, nothing of another job; of the lists' calls in that stretch, which lead to the lists' state at its end
+    -- `Isolated`: same starts, same statuses, nothing of another job; of the lists' calls in that stretch, which lead
+    -- to the lists' state at its end
     → Isolated h (inside d) (heard during) × (inside e ≡ Rules.run (inside d) (heard during))

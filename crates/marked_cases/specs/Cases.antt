@@ -1,4 +1,5 @@
--- THE MARKED CASES K1 TO K9 of document 01, one list, and what it is that each holds. A reader has to believe this page.
+-- THE MARKED CASES K1 TO K9 of document 01, one list, and what it is that each holds. A reader has to believe this
+-- page.
 use Prim.Native.Nat.{ℕ}
 use mathlib.Core.Path.{_≡_}
 use mathlib.Core.List.{List, [], _∷_, _++_}
@@ -14,7 +15,20 @@ use Rattle.schedule_deck.specs.Report.{deckText}
 use Rattle.assign.specs.Assignment.{Cell}
 use Rattle.assign.specs.Chosen.{Assigns}
 use Rattle.assign.specs.declared.Assigned.{Assigned}
-use Rattle.marked_cases.specs.Facilities.{Seen, asks, cellWith, drumChannels, found, freshCore, k4Core, mtChannels, mtUnits, noUnits, none, seen}
+use Rattle.marked_cases.specs.Facilities.{
+  Seen,
+  asks,
+  cellWith,
+  drumChannels,
+  found,
+  freshCore,
+  k4Core,
+  mtChannels,
+  mtUnits,
+  noUnits,
+  none,
+  seen,
+}
 use Rattle.packets.specs.EndsMoving.{Shown, cell, moving, shown}
 use Rattle.packets.specs.Rules.{Call, Complete}
 use Rattle.packets.specs.declared.Answer.the-variants.{Closed, Completed, Done, Started}
@@ -37,7 +51,8 @@ abbrev pub numberIn : Verdict → ℕ
 numberIn Good = 0
 numberIn (Wrong e) = errorNumber e
 
--- a case holds: of the definitions that the functions' contracts cite, and for the assigner of any answer that its contract allows
+-- a case holds: of the definitions that the functions' contracts cite, and for the assigner of any answer that its
+-- contract allows
 abbrev pub Holds : Case → Type 0
 Holds (Prints deck text) = deckText deck ≡ text
 Holds (Errs cards number) = numberIn (readGroup cards .verdict) ≡ number
