@@ -1,5 +1,5 @@
 -- What the parts answer makes what the assigner answers; and the promise leaves one answer. Assumes nothing.
-use Prim.Native.Nat.{ℕ, zero, suc, _≤_, _<_}
+use Prim.Native.Nat.{ℕ, zero, suc, _<_}
 use mathlib.Core.Path.{_≡_, refl, sym, ap, _∙_, subst}
 use mathlib.Core.Bool.{Bool, true, false, cond}
 use mathlib.Core.List.{List}
@@ -7,6 +7,7 @@ use mathlib.Core.Logic.{_⊎_, inl, inr, ⊎-elim}
 use native.Mathlib.Nat.{eq-or-lt-of-le}
 use native.Mathlib.Omega.{arith}
 use lib.Seq.{ext-getD}
+use Rattle.numbers.proofs.Order.{le-or-lt, one-more}
 use Rattle.numbers.proofs.Tests.{by-bool, never}
 use Rattle.numbers.specs.declared.ChannelNumber.{ChannelNumber}
 use Rattle.assign_core.specs.declared.Pair.{Pair}
@@ -25,7 +26,6 @@ use Rattle.assign_heads.specs.declared.Head.{Head}
 use Rattle.assign_heads.specs.Heads.{isGiven, Served}
 use Rattle.assign_heads.proofs.HeadsOne.{units-one}
 use Rattle.assign_heads.specs.Whose.{blank}
-use Rattle.assign_heads.proofs.SumsLaws.{le-or-lt}
 use Rattle.cards.specs.declared.Facilities.{Facilities}
 use Rattle.assign.specs.declared.KindChannels.{KindChannels}
 use Rattle.assign.specs.declared.Kinds.{Kinds}
@@ -101,13 +101,7 @@ module _ (cell : Cell) (wanted : Facilities) where
     of-kind zero i = inr (λ kind h. absurd (omega arith))
     of-kind (suc n) i =
         by-bool (freeOf cell n i) (λ t. inl (n, (omega arith, t)))
-        (λ f. ⊎-elim (λ r. inl (r .0, (omega (arith, r .1 .0), r .1 .1))) (λ g. inr (λ kind h. last n i f g kind h)) (of-kind n i))
-      where
-        last : (n i : ℕ) → freeOf cell n i ≡ false → ((kind : ℕ) → kind < n → freeOf cell kind i ≡ false) → (kind : ℕ) → kind < suc n → freeOf cell kind i ≡ false
-        last n i f g kind h = ⊎-elim (λ e. subst (λ (x : ℕ). freeOf cell x i ≡ false) (sym e) f) (λ l. g kind l) (eq-or-lt-of-le (at-most kind n h))
-          where
-            at-most : (kind n : ℕ) → kind < suc n → kind ≤ n
-            at-most kind n h = omega arith
+        (λ f. ⊎-elim (λ r. inl (r .0, (omega (arith, r .1 .0), r .1 .1))) (λ g. inr (λ kind h. one-more (λ (x : ℕ). freeOf cell x i ≡ false) n g f kind (omega arith))) (of-kind n i))
 
     of-free : (x : Assigned) (kind i : ℕ) → freeOf cell kind i ≡ true → givenOf cell kind x i ≡ given x i
     of-free x kind i t = ap (λ (z : Bool). cond z (given x i) Nothing) t

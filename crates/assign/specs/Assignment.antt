@@ -1,4 +1,4 @@
--- What an assignment is, whichever it is.
+-- What an assignment is, whichever it is. A reader has to believe this page.
 use Prim.Native.Nat.{ℕ, _*_, _<_}
 use mathlib.Core.Path.{_≡_}
 use mathlib.Core.Bool.{Bool, true, cond}
@@ -23,13 +23,15 @@ use Rattle.cards.specs.declared.Facilities.{Facilities}
 use Rattle.assign.specs.declared.KindChannels.{KindChannels}
 use Rattle.assign.specs.declared.Assigned.{Assigned}
 
--- what the assigner looks at: the units, the core blocks that are taken, the drum areas held by the 16 places, the configured channels
+-- what the assigner looks at: the units, the core blocks that are taken, the drum areas held by the 16 places, the
+-- configured channels
 pub record Cell : Type 0 where
   pub units : List (List Unit)
   pub occupancy : ℕ
   pub areas : List Area
   pub channels : List Channel
 
+-- the same, from its four parts
 abbrev pub cellOf : List (List Unit) → ℕ → List Area → List Channel → Cell
 cellOf units occupancy areas channels = record { units = units; occupancy = occupancy; areas = areas; channels = channels }
 
@@ -37,11 +39,12 @@ cellOf units occupancy areas channels = record { units = units; occupancy = occu
 abbrev pub unitKinds : ℕ
 unitKinds = 3
 
--- the drum's length, of the one drum channel; 0 without
+-- the drum's length, where a channel is the drum's
 abbrev pub lengthIn : Fitted → ℕ → ℕ
 lengthIn F.Nothing other = other
 lengthIn (F.With kind n) other = cond (isDrum kind) n other
 
+-- the drum's length, of the one drum channel; 0 without
 unfoldable pub drumLength : List Channel → ℕ
 drumLength [] = 0
 drumLength (c ∷ cs) = lengthIn (c .has) (drumLength cs)
@@ -50,10 +53,11 @@ drumLength (c ∷ cs) = lengthIn (c .has) (drumLength cs)
 abbrev pub wantsOf : List ℕ → ℕ → List ℕ
 wantsOf asked kind = take 16 (drop (kind * 16) asked)
 
--- the channels that the entries of a kind have, by logical channel
+-- no entry of a kind has a channel
 abbrev pub noChannels : KindChannels
 noChannels = record { on = replicate 16 (channel 0) }
 
+-- the channels that the entries of a kind have, by logical channel
 abbrev pub channelsOf : Assigned → ℕ → List ChannelNumber
 channelsOf a kind = getD (a .channels) kind noChannels .on
 
@@ -75,17 +79,19 @@ pub record Assignable (cell : Cell) (i : ℕ) : Type 0 where
   pub is-kind : kind < unitKinds
   pub free : freeOf cell kind i ≡ true
 
--- every facility has its place in the lists
+-- the lists have an entry for every kind, logical channel and unit
 pub record Shaped (a : Assigned) : Type 0 where
   pub kinds : length (a .channels) ≡ unitKinds
   pub entries : (kind : ℕ) → kind < unitKinds → length (channelsOf a kind) ≡ 16
   pub units : length (a .heads) ≡ 256
 
--- An assignment: a run of IB blocks and, if DB is asked for, a disjoint run of DB blocks; a drum area if asked for; for each kind, every entry
--- with logical channel 1-15 on a channel of its own, all its units there; the logical channel 0 entry on any remaining units of that kind.
+-- An assignment: a run of IB blocks and, if DB is asked for, a disjoint run of DB blocks; a drum area if asked for;
+-- for each kind, every entry with logical channel 1-15 on a channel of its own, all its units there; the logical
+-- channel 0 entry on any remaining units of that kind.
 pub record IsAssignment (cell : Cell) (wanted : Facilities) (a : Assigned) : Type 0 where
   pub shaped : Shaped a
   pub core : Core.Fits (cell .occupancy) (wanted .ib) (wanted .db) (a .ib) (a .db)
   pub drum : Drum.Fits (cell .areas) (drumLength (cell .channels)) (wanted .md) (a .drum)
   pub only : (i : ℕ) → isGiven (given a i) ≡ true → Assignable cell i
-  pub kinds : (kind : ℕ) → kind < unitKinds → Served (freeOf cell kind) (want (wantsOf (wanted .units) kind)) (on (channelsOf a kind)) (givenOf cell kind a)
+  pub kinds : (kind : ℕ) → kind < unitKinds
+      → Served (freeOf cell kind) (want (wantsOf (wanted .units) kind)) (on (channelsOf a kind)) (givenOf cell kind a)

@@ -1,4 +1,4 @@
--- Which assignment is chosen, and what the assigner answers.
+-- Which assignment is chosen, and what the assigner answers. A reader has to believe this page.
 use Prim.Native.Nat.{ℕ, _<_}
 use mathlib.Core.Path.{_≡_}
 use mathlib.Core.Bool.{Bool, true, false}
@@ -11,13 +11,15 @@ use Rattle.cards.specs.declared.Facilities.{Facilities}
 use Rattle.assign.specs.declared.Assigned.{Assigned}
 use Rattle.assign.specs.Assignment.{Cell, unitKinds, noChannels, channelsOf, freeOf, givenOf, IsAssignment}
 
+-- the chosen assignment
 pub record Chosen (cell : Cell) (wanted : Facilities) (a : Assigned) : Type 0 where
   pub is : IsAssignment cell wanted a
   -- lowest IB start, then lowest DB start
   pub core : (b : Assigned) → IsAssignment cell wanted b → Before (b .ib) (b .db) (a .ib) (a .db) → ⊥
   -- lowest drum start
   pub drum : (b : Assigned) → IsAssignment cell wanted b → b .drum < a .drum → ⊥
-  -- per kind, entries in ascending logical channel take the lexicographically least list of channels that some assignment has
+  -- per kind, entries in ascending logical channel take the lexicographically least list of channels that some
+  -- assignment has
   pub channels : (kind : ℕ) → kind < unitKinds → (b : Assigned) → IsAssignment cell wanted b → LexLe (channelsOf a kind) (channelsOf b kind)
   -- lowest units on each; then logical 0 takes the lowest remaining channel and unit numbers
   pub units : (kind : ℕ) → kind < unitKinds → Lowest (freeOf cell kind) (givenOf cell kind a)
@@ -31,6 +33,7 @@ pub record NoAssignment (cell : Cell) (wanted : Facilities) (a : Assigned) : Typ
   pub never : (b : Assigned) → IsAssignment cell wanted b → ⊥
   pub blank : a ≡ nothing
 
+-- what is answered: yes with the chosen assignment, or no
 abbrev pub Answer : Bool → Cell → Facilities → Assigned → Type 0
 Answer true = Chosen
 Answer false = NoAssignment

@@ -1,4 +1,5 @@
--- What is known of the kinds that have been served, one after the other; `free` says which units are of a kind and assignable.
+-- What is known of the kinds that have been served, one after the other; `free` says which units are of a kind and
+-- assignable. Nothing here has to be believed: a private function cites it, and Chosen says what comes out.
 use Prim.Native.Nat.{ℕ, _≤_, _<_}
 use mathlib.Core.Path.{_≡_}
 use mathlib.Core.Bool.{Bool, true, false, cond}
@@ -46,6 +47,7 @@ pub record KindLacking (free : ℕ → ℕ → Bool) (asked : List ℕ) : Type 0
   pub is-kind : kind < unitKinds
   pub never : (others : List ChannelNumber) → Possible free asked kind others → ⊥
 
+-- what is known of an answer
 abbrev pub KindsAnswer : Bool → (ℕ → ℕ → Bool) → List ℕ → List KindChannels → List Head → Type 0
 KindsAnswer true free asked channels heads = KindsDone free asked channels heads unitKinds
 KindsAnswer false free asked channels heads = KindLacking free asked

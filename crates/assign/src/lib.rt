@@ -23,8 +23,9 @@ pub struct KindChannels {
     pub on: [ChannelNumber; 16],
 }
 
-// Whether there is an assignment; then the starts of its blocks and drum area, 0 where none are asked for, the channels of each kind's entries,
-// and to which entry of its channel's kind each unit is given, unit u of channel c at c * 16 + u.
+// Whether there is an assignment; then the starts of its blocks and drum area, 0 where none are asked for, the
+// channels of each kind's entries, and to which entry of its channel's kind each unit is given, unit u of channel c
+// at c * 16 + u.
 pub struct Assigned {
     pub found: bool,
     pub ib: u32,
@@ -42,7 +43,7 @@ struct Kinds {
 }
 
 // No facility is named.
-fn nothing() -> Assigned
+pub fn nothing() -> Assigned
     ensures { λ r. ⌜ r ≡ nothing ⌝ }
 {
     let none = [ChannelNumber(0); 16];
@@ -120,8 +121,8 @@ fn serve_kinds(units: Units, channels: [Channel; 16], asked: [u8; cards::COUNTS]
     }
 }
 
-// The assignment that is chosen for what a job asks for, or nothing where there is none. The parts are looked for in the order core, drum,
-// MA, MT, PR.
+// The assignment that is chosen for what a job asks for, or nothing where there is none. The parts are looked for in
+// the order core, drum, MA, MT, PR.
 fn find(
     units: Units,
     occupancy: u32,

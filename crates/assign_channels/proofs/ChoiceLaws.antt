@@ -20,9 +20,9 @@ use Rattle.assign_channels.proofs.GreedyLaws.{Choice, choice-hall, pick
 
 -- ---- the two statements of a choice
 -- a list of channels for a list of counts, counted from 0
-pub record Each (room ns : List ℕ) (cs : List ChannelNumber) : Type 0 where
+pub record Each (counts ns : List ℕ) (cs : List ChannelNumber) : Type 0 where
   pub long : length cs ≡ length ns
-  pub fits : (i : ℕ) → 1 ≤ want ns i → want ns i ≤ getD room (on cs i) 0
+  pub fits : (i : ℕ) → 1 ≤ want ns i → want ns i ≤ getD counts (on cs i) 0
   pub own : (i j : ℕ) → i < j → 1 ≤ want ns i → 1 ≤ want ns j → on cs i ≡ on cs j → ⊥
   pub none : (i : ℕ) → i < length ns → want ns i ≡ 0 → on cs i ≡ 0
 
@@ -45,10 +45,10 @@ set-other (x ∷ xs) zero (suc k) h = refl
 set-other (x ∷ xs) (suc c) zero h = refl
 set-other (x ∷ xs) (suc c) (suc k) h = set-other xs c k (λ e. h (ap suc e))
 
-each-zero : (c : ChannelNumber) (ns : List ℕ) (cs : List ChannelNumber) (room : List ℕ) → c .0 ≡ 0 → Each room ns cs → Each room (0 ∷ ns) (c ∷ cs)
-each-zero c ns cs room z r = record { long = ap suc (r .long); fits = fits; own = own; none = none }
+each-zero : (c : ChannelNumber) (ns : List ℕ) (cs : List ChannelNumber) (counts : List ℕ) → c .0 ≡ 0 → Each counts ns cs → Each counts (0 ∷ ns) (c ∷ cs)
+each-zero c ns cs counts z r = record { long = ap suc (r .long); fits = fits; own = own; none = none }
   where
-    fits : (i : ℕ) → 1 ≤ want (0 ∷ ns) i → want (0 ∷ ns) i ≤ getD room (on (c ∷ cs) i) 0
+    fits : (i : ℕ) → 1 ≤ want (0 ∷ ns) i → want (0 ∷ ns) i ≤ getD counts (on (c ∷ cs) i) 0
     fits zero h = absurd (omega arith)
     fits (suc i) h = r .fits i h
 
@@ -61,17 +61,17 @@ each-zero c ns cs room z r = record { long = ap suc (r .long); fits = fits; own 
     none zero l h = z
     none (suc i) l h = r .none i (le-of-suc-le-suc l) h
 
-each-suc : (n : ℕ) (c : ChannelNumber) (ns : List ℕ) (cs : List ChannelNumber) (room : List ℕ) → suc n ≤ getD room (c .0) 0 → Each (set room (c .0) 0) ns cs → Each room (suc n ∷ ns) (c ∷ cs)
-each-suc n c ns cs room f r = record { long = ap suc (r .long); fits = fits; own = own; none = none }
+each-suc : (n : ℕ) (c : ChannelNumber) (ns : List ℕ) (cs : List ChannelNumber) (counts : List ℕ) → suc n ≤ getD counts (c .0) 0 → Each (set counts (c .0) 0) ns cs → Each counts (suc n ∷ ns) (c ∷ cs)
+each-suc n c ns cs counts f r = record { long = ap suc (r .long); fits = fits; own = own; none = none }
   where
-    fits : (i : ℕ) → 1 ≤ want (suc n ∷ ns) i → want (suc n ∷ ns) i ≤ getD room (on (c ∷ cs) i) 0
+    fits : (i : ℕ) → 1 ≤ want (suc n ∷ ns) i → want (suc n ∷ ns) i ≤ getD counts (on (c ∷ cs) i) 0
     fits zero h = f
-    fits (suc i) h = omega (arith, r .fits i h, set-le room (c .0) (on cs i))
+    fits (suc i) h = omega (arith, r .fits i h, set-le counts (c .0) (on cs i))
 
     own : (i j : ℕ) → i < j → 1 ≤ want (suc n ∷ ns) i → 1 ≤ want (suc n ∷ ns) j → on (c ∷ cs) i ≡ on (c ∷ cs) j → ⊥
     own i zero l p q e = omega arith
     own zero (suc j) l p q e =
-        let z : getD (set room (c .0) 0) (on cs j) 0 ≡ 0 = ap (λ (d : ℕ). getD (set room (c .0) 0) d 0) (sym e) ∙ set-zero room (c .0) in
+        let z : getD (set counts (c .0) 0) (on cs j) 0 ≡ 0 = ap (λ (d : ℕ). getD (set counts (c .0) 0) d 0) (sym e) ∙ set-zero counts (c .0) in
         omega (arith, r .fits j q)
     own (suc i) (suc j) l p q e = r .own i j (le-of-suc-le-suc l) p q e
 
@@ -79,39 +79,39 @@ each-suc n c ns cs room f r = record { long = ap suc (r .long); fits = fits; own
     none zero l h = absurd (omega arith)
     none (suc i) l h = r .none i (le-of-suc-le-suc l) h
 
-choice-each : (ns : List ℕ) (cs : List ChannelNumber) (room : List ℕ) → Choice room ns cs → Each room ns cs
-choice-each [] [] room q = record { long = refl; fits = λ i h. absurd (omega arith); own = λ i j l p q e. omega arith; none = λ i l h. absurd (omega arith) }
-choice-each [] (c ∷ cs) room q = absurd q
-choice-each (n ∷ ns) [] room q = absurd q
-choice-each (zero ∷ ns) (c ∷ cs) room q = each-zero c ns cs room (q .0) (choice-each ns cs room (q .1))
-choice-each (suc n ∷ ns) (c ∷ cs) room q = each-suc n c ns cs room (q .0) (choice-each ns cs (set room (c .0) 0) (q .1))
+choice-each : (ns : List ℕ) (cs : List ChannelNumber) (counts : List ℕ) → Choice counts ns cs → Each counts ns cs
+choice-each [] [] counts q = record { long = refl; fits = λ i h. absurd (omega arith); own = λ i j l p q e. omega arith; none = λ i l h. absurd (omega arith) }
+choice-each [] (c ∷ cs) counts q = absurd q
+choice-each (n ∷ ns) [] counts q = absurd q
+choice-each (zero ∷ ns) (c ∷ cs) counts q = each-zero c ns cs counts (q .0) (choice-each ns cs counts (q .1))
+choice-each (suc n ∷ ns) (c ∷ cs) counts q = each-suc n c ns cs counts (q .0) (choice-each ns cs (set counts (c .0) 0) (q .1))
 
-each-choice : (ns : List ℕ) (cs : List ChannelNumber) (room : List ℕ) → Each room ns cs → Choice room ns cs
-each-choice [] [] room q = tt
-each-choice [] (c ∷ cs) room q = absurd (omega (arith, q .long))
-each-choice (n ∷ ns) [] room q = absurd (omega (arith, q .long))
-each-choice (zero ∷ ns) (c ∷ cs) room q = (
+each-choice : (ns : List ℕ) (cs : List ChannelNumber) (counts : List ℕ) → Each counts ns cs → Choice counts ns cs
+each-choice [] [] counts q = tt
+each-choice [] (c ∷ cs) counts q = absurd (omega (arith, q .long))
+each-choice (n ∷ ns) [] counts q = absurd (omega (arith, q .long))
+each-choice (zero ∷ ns) (c ∷ cs) counts q = (
   q .none 0 (omega arith) refl,
-  each-choice ns cs room (record {
+  each-choice ns cs counts (record {
     long = omega (arith, q .long);
     fits = λ i h. q .fits (suc i) h;
     own = λ i j l. q .own (suc i) (suc j) (suc-le-suc l);
     none = λ i l. q .none (suc i) (suc-le-suc l);
   }),
 )
-each-choice (suc n ∷ ns) (c ∷ cs) room q = (
+each-choice (suc n ∷ ns) (c ∷ cs) counts q = (
   q .fits 0 (omega arith),
-  each-choice ns cs (set room (c .0) 0) (record {
+  each-choice ns cs (set counts (c .0) 0) (record {
     long = omega (arith, q .long);
-    fits = λ i h. rw (set-other room (c .0) (on cs i) (λ e. q .own 0 (suc i) (omega arith) (omega arith) h e)) (q .fits (suc i) h);
+    fits = λ i h. rw (set-other counts (c .0) (on cs i) (λ e. q .own 0 (suc i) (omega arith) (omega arith) h e)) (q .fits (suc i) h);
     own = λ i j l. q .own (suc i) (suc j) (suc-le-suc l);
     none = λ i l. q .none (suc i) (suc-le-suc l);
   }),
 )
 
 -- ---- logical channels 1 to 15 are the list without its first
-module _ (room : List ℕ) (n : ℕ) (ns : List ℕ) (c : ChannelNumber) (cs : List ChannelNumber) (long : length ns ≡ 15) where
-  placed-each : Placed room (n ∷ ns) (c ∷ cs) → Each room ns cs
+module _ (counts : List ℕ) (n : ℕ) (ns : List ℕ) (c : ChannelNumber) (cs : List ChannelNumber) (long : length ns ≡ 15) where
+  placed-each : Placed counts (n ∷ ns) (c ∷ cs) → Each counts ns cs
   placed-each p = record {
     long = omega (arith, p .long);
     fits = λ i h. p .fits (suc i) (omega arith) (within i h) h;
@@ -122,10 +122,10 @@ module _ (room : List ℕ) (n : ℕ) (ns : List ℕ) (c : ChannelNumber) (cs : L
       within : (i : ℕ) → 1 ≤ want ns i → suc i < 16
       within i h = omega (arith, channel-below ns i 1 (omega arith) h)
 
-  each-placed : total (n ∷ ns) ≤ total room → c .0 ≡ 0 → Each room ns cs → Placed room (n ∷ ns) (c ∷ cs)
+  each-placed : total (n ∷ ns) ≤ total counts → c .0 ≡ 0 → Each counts ns cs → Placed counts (n ∷ ns) (c ∷ cs)
   each-placed t z e = record { long = omega (arith, e .long); fits = fits; own = own; rest = t; none-0 = z; none = none }
     where
-      fits : (l : ℕ) → 1 ≤ l → l < 16 → 1 ≤ want (n ∷ ns) l → want (n ∷ ns) l ≤ getD room (on (c ∷ cs) l) 0
+      fits : (l : ℕ) → 1 ≤ l → l < 16 → 1 ≤ want (n ∷ ns) l → want (n ∷ ns) l ≤ getD counts (on (c ∷ cs) l) 0
       fits zero h k p = absurd (omega arith)
       fits (suc l) h k p = e .fits l p
 
@@ -139,40 +139,40 @@ module _ (room : List ℕ) (n : ℕ) (ns : List ℕ) (c : ChannelNumber) (cs : L
       none (suc l) h k w = e .none l (omega arith) w
 
   -- what a list of channels says of the tests
-  placed-hall : Placed room (n ∷ ns) (c ∷ cs) → hallB room ns ≡ true
-  placed-hall p = hall-complete room ns (choice-hall ns cs room (each-choice ns cs room (placed-each p)))
+  placed-hall : Placed counts (n ∷ ns) (c ∷ cs) → hallB counts ns ≡ true
+  placed-hall p = hall-complete counts ns (choice-hall ns cs counts (each-choice ns cs counts (placed-each p)))
 
 -- ---- the greedy choice meets the promise
-module _ (room : List ℕ) (n : ℕ) (ns : List ℕ) (wide : length room ≡ 16) (long : length ns ≡ 15) where
-  no-list : ((c : ChannelNumber) (cs : List ChannelNumber) → Placed room (n ∷ ns) (c ∷ cs) → ⊥) → NoList room (n ∷ ns) (replicate 16 (channel 0))
+module _ (counts : List ℕ) (n : ℕ) (ns : List ℕ) (wide : length counts ≡ 16) (long : length ns ≡ 15) where
+  no-list : ((c : ChannelNumber) (cs : List ChannelNumber) → Placed counts (n ∷ ns) (c ∷ cs) → ⊥) → NoList counts (n ∷ ns) (replicate 16 (channel 0))
   no-list h = record { never = never′; blank = refl }
     where
-      never′ : (others : List ChannelNumber) → Placed room (n ∷ ns) others → ⊥
+      never′ : (others : List ChannelNumber) → Placed counts (n ∷ ns) others → ⊥
       never′ [] p = omega (arith, p .long)
       never′ (c ∷ cs) p = h c cs p
 
-  least-list : leb (total (n ∷ ns)) (total room) ≡ true → hallB room ns ≡ true → Least room (n ∷ ns) (channel 0 ∷ picks room ns)
+  least-list : leb (total (n ∷ ns)) (total counts) ≡ true → hallB counts ns ≡ true → Least counts (n ∷ ns) (channel 0 ∷ picks counts ns)
   least-list t u = record {
-    placed = each-placed room n ns (channel 0) (picks room ns) long (leb-true (total (n ∷ ns)) (total room) t) refl (choice-each ns (picks room ns) room (picks-choice ns room (omega arith) (hall-sound room ns u)));
+    placed = each-placed counts n ns (channel 0) (picks counts ns) long (leb-true (total (n ∷ ns)) (total counts) t) refl (choice-each ns (picks counts ns) counts (picks-choice ns counts (omega arith) (hall-sound counts ns u)));
     least = least;
   }
     where
-      least : (others : List ChannelNumber) → Placed room (n ∷ ns) others → LexLe (channel 0 ∷ picks room ns) others
+      least : (others : List ChannelNumber) → Placed counts (n ∷ ns) others → LexLe (channel 0 ∷ picks counts ns) others
       least [] p = absurd (omega (arith, p .long))
-      least (d ∷ ds) p = inr (sym (p .none-0), picks-least ns room (omega arith) (hall-sound room ns u) ds (each-choice ns ds room (placed-each room n ns d ds long p)))
+      least (d ∷ ds) p = inr (sym (p .none-0), picks-least ns counts (omega arith) (hall-sound counts ns u) ds (each-choice ns ds counts (placed-each counts n ns d ds long p)))
 
-  pub chosen-cons : Answers room (n ∷ ns) (chooseOf room (n ∷ ns))
+  pub chosen-cons : Answers counts (n ∷ ns) (chooseOf counts (n ∷ ns))
   unfolding chooseOf
   chosen-cons =
-      by-bool (leb (total (n ∷ ns)) (total room))
-      (λ t. by-bool (hallB room ns)
+      by-bool (leb (total (n ∷ ns)) (total counts))
+      (λ t. by-bool (hallB counts ns)
       (λ u. rw (t, u) (least-list t u))
-      (λ u. rw (t, u) (no-list (λ c cs p. never (placed-hall room n ns c cs long p) u))))
-      (λ t. rw t (no-list (λ c cs p. omega (arith, p .rest, leb-false (total (n ∷ ns)) (total room) t))))
+      (λ u. rw (t, u) (no-list (λ c cs p. never (placed-hall counts n ns c cs long p) u))))
+      (λ t. rw t (no-list (λ c cs p. omega (arith, p .rest, leb-false (total (n ∷ ns)) (total counts) t))))
 
-pub chosen : (room wants : List ℕ) → length room ≡ 16 → length wants ≡ 16 → Answers room wants (chooseOf room wants)
-chosen room [] w l = absurd (omega arith)
-chosen room (n ∷ ns) w l = chosen-cons room n ns w (omega arith)
+pub chosen : (counts wants : List ℕ) → length counts ≡ 16 → length wants ≡ 16 → Answers counts wants (chooseOf counts wants)
+chosen counts [] w l = absurd (omega arith)
+chosen counts (n ∷ ns) w l = chosen-cons counts n ns w (omega arith)
 
 -- ---- the promise leaves one answer
 pub lex-both : (xs ys : List ChannelNumber) → LexLe xs ys → LexLe ys xs → xs ≡ ys
@@ -184,23 +184,23 @@ lex-both (x ∷ xs) (y ∷ ys) p q =
     (λ e. ⊎-elim (λ m. absurd (omega arith)) (λ m. let h : x ≡ y = λ i. record { 0 = e .0 i } in cc (h, lex-both xs ys (e .1) (m .1))) q)
     p
 
-one-of : (room wants : List ℕ) (a b : Bool) (p q : List ChannelNumber) → Answers room wants (record { ok = a; on = p }) → Answers room wants (record { ok = b; on = q })
+one-of : (counts wants : List ℕ) (a b : Bool) (p q : List ChannelNumber) → Answers counts wants (record { ok = a; on = p }) → Answers counts wants (record { ok = b; on = q })
     → _≡_ {A = Picks} (record { ok = a; on = p }) (record { ok = b; on = q })
-one-of room wants true true p q h k = let e = lex-both p q (h .least q (k .placed)) (k .least p (h .placed)) in λ i. record { ok = true; on = e i }
-one-of room wants true false p q h k = absurd (k .never p (h .placed))
-one-of room wants false true p q h k = absurd (h .never q (k .placed))
-one-of room wants false false p q h k = let e = h .blank ∙ sym (k .blank) in λ i. record { ok = false; on = e i }
+one-of counts wants true true p q h k = let e = lex-both p q (h .least q (k .placed)) (k .least p (h .placed)) in λ i. record { ok = true; on = e i }
+one-of counts wants true false p q h k = absurd (k .never p (h .placed))
+one-of counts wants false true p q h k = absurd (h .never q (k .placed))
+one-of counts wants false false p q h k = let e = h .blank ∙ sym (k .blank) in λ i. record { ok = false; on = e i }
 
-pub answers-one : (room wants : List ℕ) (r s : Picks) → Answers room wants r → Answers room wants s → r ≡ s
-answers-one room wants r s = one-of room wants (r .ok) (s .ok) (r .on) (s .on)
+pub answers-one : (counts wants : List ℕ) (r s : Picks) → Answers counts wants r → Answers counts wants s → r ≡ s
+answers-one counts wants r s = one-of counts wants (r .ok) (s .ok) (r .on) (s .on)
 
 -- so an answer is what the definition computes
-pub computed : (room wants : List ℕ) (r : Picks) → length room ≡ 16 → length wants ≡ 16 → Answers room wants r → r ≡ chooseOf room wants
-computed room wants r w l a = answers-one room wants r (chooseOf room wants) a (chosen room wants w l)
+pub computed : (counts wants : List ℕ) (r : Picks) → length counts ≡ 16 → length wants ≡ 16 → Answers counts wants r → r ≡ chooseOf counts wants
+computed counts wants r w l a = answers-one counts wants r (chooseOf counts wants) a (chosen counts wants w l)
 
 -- ---- an answer by what it says of itself
-pub found-least : (room wants : List ℕ) (r : Picks) → r .ok ≡ true → Answers room wants r → Least room wants (r .on)
-found-least room wants r e a = subst (λ (b : Bool). Answer b room wants (r .on)) e a
+pub found-least : (counts wants : List ℕ) (r : Picks) → r .ok ≡ true → Answers counts wants r → Least counts wants (r .on)
+found-least counts wants r e a = subst (λ (b : Bool). Answer b counts wants (r .on)) e a
 
-pub found-none : (room wants : List ℕ) (r : Picks) → r .ok ≡ false → Answers room wants r → NoList room wants (r .on)
-found-none room wants r e a = subst (λ (b : Bool). Answer b room wants (r .on)) e a
+pub found-none : (counts wants : List ℕ) (r : Picks) → r .ok ≡ false → Answers counts wants r → NoList counts wants (r .on)
+found-none counts wants r e a = subst (λ (b : Bool). Answer b counts wants (r .on)) e a

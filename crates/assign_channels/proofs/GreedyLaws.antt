@@ -11,43 +11,44 @@ use native.Mathlib.Numerals.{add-one}
 use lib.ListN.{length, getD, set, drop, length-set, drop-of-length-le}
 use lib.Seq.{drop-cons}
 use borrow.Author.Tests.{leb-true, leb-false}
+use Rattle.numbers.proofs.Order.{le-or-lt}
 use Rattle.numbers.proofs.Tests.{by-bool, never}
 use Rattle.numbers.specs.declared.ChannelNumber.{ChannelNumber}
 use Rattle.assign_channels.specs.Choice.{total, LexLe}
 use Rattle.assign_channels.specs.Greedy.{Hall, hallB, lowestFrom, lowestOf, picks}
-use Rattle.assign_channels.proofs.HallLaws.{ge-yes, ge-cases, cnt-set, best-fit, hall-step, hall-zero, channel-below, hall-sound, hall-complete, le-or-lt}
+use Rattle.assign_channels.proofs.HallLaws.{ge-yes, ge-cases, cnt-set, best-fit, hall-step, hall-zero, channel-below, hall-sound, hall-complete}
 
 abbrev pub Choice : List ℕ → List ℕ → List ChannelNumber → Type 0
-Choice room [] [] = Unit {0}
-Choice room [] (c ∷ cs) = ⊥
-Choice room (n ∷ ns) [] = ⊥
-Choice room (zero ∷ ns) (c ∷ cs) = (c .0 ≡ 0) × Choice room ns cs
-Choice room (suc n ∷ ns) (c ∷ cs) = (suc n ≤ getD room (c .0) 0) × Choice (set room (c .0) 0) ns cs
+Choice counts [] [] = Unit {0}
+Choice counts [] (c ∷ cs) = ⊥
+Choice counts (n ∷ ns) [] = ⊥
+Choice counts (zero ∷ ns) (c ∷ cs) = (c .0 ≡ 0) × Choice counts ns cs
+Choice counts (suc n ∷ ns) (c ∷ cs) = (suc n ≤ getD counts (c .0) 0) × Choice (set counts (c .0) 0) ns cs
 
 -- where there is a choice the condition holds
-pub choice-hall : (ns : List ℕ) (cs : List ChannelNumber) (room : List ℕ) → Choice room ns cs → Hall room ns
-choice-hall [] cs room h t p = omega arith
-choice-hall (n ∷ ns) [] room h t p = absurd h
-choice-hall (zero ∷ ns) (c ∷ cs) room h t p =
-    let i = choice-hall ns cs room (h .1) t p in
+pub choice-hall : (ns : List ℕ) (cs : List ChannelNumber) (counts : List ℕ) → Choice counts ns cs → Hall counts ns
+choice-hall [] cs counts h t p = omega arith
+choice-hall (n ∷ ns) [] counts h t p = absurd h
+choice-hall (zero ∷ ns) (c ∷ cs) counts h t p =
+    let i = choice-hall ns cs counts (h .1) t p in
     ⊎-elim (λ a. omega arith) (λ a. omega arith) (ge-cases t 0)
-choice-hall (suc n ∷ ns) (c ∷ cs) room h t p =
-    let i = choice-hall ns cs (set room (c .0) 0) (h .1) t p in
-    let s = cnt-set t p room (c .0) in
+choice-hall (suc n ∷ ns) (c ∷ cs) counts h t p =
+    let i = choice-hall ns cs (set counts (c .0) 0) (h .1) t p in
+    let s = cnt-set t p counts (c .0) in
     let l = h .0 in
-    ⊎-elim (λ a. ⊎-elim (λ b. omega arith) (λ b. omega arith) (ge-cases t (getD room (c .0) 0))) (λ a. omega arith) (ge-cases t (suc n))
+    ⊎-elim (λ a. ⊎-elim (λ b. omega arith) (λ b. omega arith) (ge-cases t (getD counts (c .0) 0))) (λ a. omega arith) (ge-cases t (suc n))
 
 -- the lowest channel with n units after which the rest can be served
-pub record LowestAt (room : List ℕ) (n : ℕ) (rest : List ℕ) (from c : ℕ) : Type 0 where
-  pub fits : n ≤ getD room c 0
-  pub after : Hall (set room c 0) rest
-  pub none : (b : ℕ) → from ≤ b → b < c → n ≤ getD room b 0 → Hall (set room b 0) rest → ⊥
+pub record LowestAt (counts : List ℕ) (n : ℕ) (rest : List ℕ) (from c : ℕ) : Type 0 where
+  pub fits : n ≤ getD counts c 0
+  pub after : Hall (set counts c 0) rest
+  pub none : (b : ℕ) → from ≤ b → b < c → n ≤ getD counts b 0 → Hall (set counts b 0) rest → ⊥
 
-module _ (room : List ℕ) (n : ℕ) (rest : List ℕ) where
-  passed : (c b : ℕ) → (n ≤ getD room c 0 → Hall (set room c 0) rest → ⊥) → c ≡ b → n ≤ getD room b 0 → Hall (set room b 0) rest → ⊥
-  passed c b h e f = subst (λ (x : ℕ). n ≤ getD room x 0 → Hall (set room x 0) rest → ⊥) e h f
+module _ (counts : List ℕ) (n : ℕ) (rest : List ℕ) where
+  passed : (c b : ℕ) → (n ≤ getD counts c 0 → Hall (set counts c 0) rest → ⊥) → c ≡ b → n ≤ getD counts b 0 → Hall (set counts b 0) rest → ⊥
+  passed c b h e f = subst (λ (x : ℕ). n ≤ getD counts x 0 → Hall (set counts x 0) rest → ⊥) e h f
 
-  skip : (k c d : ℕ) → (n ≤ getD room c 0 → Hall (set room c 0) rest → ⊥) → LowestAt room n rest (suc c) d → LowestAt room n rest c d
+  skip : (k c d : ℕ) → (n ≤ getD counts c 0 → Hall (set counts c 0) rest → ⊥) → LowestAt counts n rest (suc c) d → LowestAt counts n rest c d
   skip k c d h l = record {
     fits = l .fits;
     after = l .after;
@@ -55,51 +56,51 @@ module _ (room : List ℕ) (n : ℕ) (rest : List ℕ) where
   }
 
   -- the search finds it where some channel will do
-  find : (k c : ℕ) → ((b : ℕ) → c ≤ b → b < c + k → n ≤ getD room b 0 → Hall (set room b 0) rest → ⊥) ⊎ LowestAt room n rest c (lowestFrom room n rest k c)
+  find : (k c : ℕ) → ((b : ℕ) → c ≤ b → b < c + k → n ≤ getD counts b 0 → Hall (set counts b 0) rest → ⊥) ⊎ LowestAt counts n rest c (lowestFrom counts n rest k c)
   unfolding lowestFrom
   find zero c = inl (λ b p q f g. omega arith)
   find (suc k) c =
-      by-bool (leb n (getD room c 0))
-      (λ t. by-bool (hallB (set room c 0) rest)
-      (λ u. inr (rw (t, u) (record { fits = leb-true n (getD room c 0) t; after = hall-sound (set room c 0) rest u; none = λ b p q f g. omega arith })))
+      by-bool (leb n (getD counts c 0))
+      (λ t. by-bool (hallB (set counts c 0) rest)
+      (λ u. inr (rw (t, u) (record { fits = leb-true n (getD counts c 0) t; after = hall-sound (set counts c 0) rest u; none = λ b p q f g. omega arith })))
       (λ u.
-      let no : n ≤ getD room c 0 → Hall (set room c 0) rest → ⊥ = λ f g. never (hall-complete (set room c 0) rest g) u in
-      ⊎-elim (λ none. inl (λ b p q f g. ⊎-elim (λ e. passed c b no e f g) (λ m. none b m (omega arith) f g) (eq-or-lt-of-le p))) (λ l. inr (rw (t, u) (skip k c (lowestFrom room n rest k (suc c)) no l))) (find k (suc c))))
+      let no : n ≤ getD counts c 0 → Hall (set counts c 0) rest → ⊥ = λ f g. never (hall-complete (set counts c 0) rest g) u in
+      ⊎-elim (λ none. inl (λ b p q f g. ⊎-elim (λ e. passed c b no e f g) (λ m. none b m (omega arith) f g) (eq-or-lt-of-le p))) (λ l. inr (rw (t, u) (skip k c (lowestFrom counts n rest k (suc c)) no l))) (find k (suc c))))
       (λ t.
-      let no : n ≤ getD room c 0 → Hall (set room c 0) rest → ⊥ = λ f g. omega (arith, leb-false n (getD room c 0) t) in
-      ⊎-elim (λ none. inl (λ b p q f g. ⊎-elim (λ e. passed c b no e f g) (λ m. none b m (omega arith) f g) (eq-or-lt-of-le p))) (λ l. inr (rw t (skip k c (lowestFrom room n rest k (suc c)) no l))) (find k (suc c)))
+      let no : n ≤ getD counts c 0 → Hall (set counts c 0) rest → ⊥ = λ f g. omega (arith, leb-false n (getD counts c 0) t) in
+      ⊎-elim (λ none. inl (λ b p q f g. ⊎-elim (λ e. passed c b no e f g) (λ m. none b m (omega arith) f g) (eq-or-lt-of-le p))) (λ l. inr (rw t (skip k c (lowestFrom counts n rest k (suc c)) no l))) (find k (suc c)))
 
-  pub lowest-at : 1 ≤ n → length room ≤ 16 → Hall room (n ∷ rest) → LowestAt room n rest 0 (lowestOf room n rest)
+  pub lowest-at : 1 ≤ n → length counts ≤ 16 → Hall counts (n ∷ rest) → LowestAt counts n rest 0 (lowestOf counts n rest)
   lowest-at p q h =
-      let b = best-fit n p room (omega (arith, h n p, ge-yes {t = n} {x = n} (omega arith))) in
-      ⊎-elim (λ none. absurd (none (b .at) (omega arith) (omega (arith, channel-below room (b .at) n p (b .fits))) (b .fits) (hall-step room n rest p h b))) (λ l. l) (find 16 0)
+      let b = best-fit n p counts (omega (arith, h n p, ge-yes {t = n} {x = n} (omega arith))) in
+      ⊎-elim (λ none. absurd (none (b .at) (omega arith) (omega (arith, channel-below counts (b .at) n p (b .fits))) (b .fits) (hall-step counts n rest p h b))) (λ l. l) (find 16 0)
 
 -- the greedy choice is one
-pub picks-choice : (ns room : List ℕ) → length room ≤ 16 → Hall room ns → Choice room ns (picks room ns)
+pub picks-choice : (ns counts : List ℕ) → length counts ≤ 16 → Hall counts ns → Choice counts ns (picks counts ns)
 unfolding picks
-picks-choice [] room q h = tt
-picks-choice (zero ∷ ns) room q h = (refl, picks-choice ns room q (hall-zero room ns h))
-picks-choice (suc n ∷ ns) room q h =
-    let l = lowest-at room (suc n) ns (omega arith) q h in
-    (l .fits, picks-choice ns (set room (lowestOf room (suc n) ns) 0) (omega (arith, length-set room (lowestOf room (suc n) ns) 0)) (l .after))
+picks-choice [] counts q h = tt
+picks-choice (zero ∷ ns) counts q h = (refl, picks-choice ns counts q (hall-zero counts ns h))
+picks-choice (suc n ∷ ns) counts q h =
+    let l = lowest-at counts (suc n) ns (omega arith) q h in
+    (l .fits, picks-choice ns (set counts (lowestOf counts (suc n) ns) 0) (omega (arith, length-set counts (lowestOf counts (suc n) ns) 0)) (l .after))
 
 -- and none comes before it
-pub picks-least : (ns room : List ℕ) → length room ≤ 16 → Hall room ns → (ds : List ChannelNumber) → Choice room ns ds → LexLe (picks room ns) ds
+pub picks-least : (ns counts : List ℕ) → length counts ≤ 16 → Hall counts ns → (ds : List ChannelNumber) → Choice counts ns ds → LexLe (picks counts ns) ds
 unfolding picks
-picks-least [] room q h ds c = tt
-picks-least (n ∷ ns) room q h [] c = absurd c
-picks-least (zero ∷ ns) room q h (d ∷ ds) c = inr (sym (c .0), picks-least ns room q (hall-zero room ns h) ds (c .1))
-picks-least (suc n ∷ ns) room q h (d ∷ ds) c =
-    let l = lowest-at room (suc n) ns (omega arith) q h in
-    let e = lowestOf room (suc n) ns in
+picks-least [] counts q h ds c = tt
+picks-least (n ∷ ns) counts q h [] c = absurd c
+picks-least (zero ∷ ns) counts q h (d ∷ ds) c = inr (sym (c .0), picks-least ns counts q (hall-zero counts ns h) ds (c .1))
+picks-least (suc n ∷ ns) counts q h (d ∷ ds) c =
+    let l = lowest-at counts (suc n) ns (omega arith) q h in
+    let e = lowestOf counts (suc n) ns in
     ⊎-elim
-    (λ ge. ⊎-elim (λ s. inr (s, picks-least ns (set room e 0) (omega (arith, length-set room e 0)) (l .after) ds (subst (λ (x : ℕ). Choice (set room x 0) ns ds) (sym s) (c .1)))) (λ lt. inl lt) (eq-or-lt-of-le ge))
-    (λ lt. absurd (l .none (d .0) (omega arith) lt (c .0) (choice-hall ns ds (set room (d .0) 0) (c .1))))
+    (λ ge. ⊎-elim (λ s. inr (s, picks-least ns (set counts e 0) (omega (arith, length-set counts e 0)) (l .after) ds (subst (λ (x : ℕ). Choice (set counts x 0) ns ds) (sym s) (c .1)))) (λ lt. inl lt) (eq-or-lt-of-le ge))
+    (λ lt. absurd (l .none (d .0) (omega arith) lt (c .0) (choice-hall ns ds (set counts (d .0) 0) (c .1))))
     (le-or-lt e (d .0))
 
 -- a picked channel is one of the 16
-pub lowest-below : (room : List ℕ) (n : ℕ) (rest : List ℕ) → 1 ≤ n → length room ≤ 16 → Hall room (n ∷ rest) → lowestOf room n rest < 16
-lowest-below room n rest p q h = omega (arith, channel-below room (lowestOf room n rest) n p (lowest-at room n rest p q h .fits))
+pub lowest-below : (counts : List ℕ) (n : ℕ) (rest : List ℕ) → 1 ≤ n → length counts ≤ 16 → Hall counts (n ∷ rest) → lowestOf counts n rest < 16
+lowest-below counts n rest p q h = omega (arith, channel-below counts (lowestOf counts n rest) n p (lowest-at counts n rest p q h .fits))
 
 -- ---- one more of a list, for the loops
 pub total-drop : (xs : List ℕ) (i : ℕ) → i < length xs → total (drop i xs) ≡ getD xs i 0 + total (drop (i + 1) xs)

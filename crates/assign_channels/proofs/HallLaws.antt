@@ -1,6 +1,6 @@
 -- Counting by thresholds: what taking a channel does to the counts, the channel that fits best, the exchange, and that the test decides the
 -- condition. Assumes nothing.
-use Prim.Native.Nat.{ℕ, zero, suc, _+_, _-_, _≤_, _<_, suc-le-suc}
+use Prim.Native.Nat.{ℕ, zero, suc, _+_, _≤_, _<_, suc-le-suc}
 use mathlib.Core.Path.{_≡_, refl}
 use mathlib.Core.Bool.{true, _||_}
 use mathlib.Core.Logic.{_⊎_, inl, inr, ⊎-elim}
@@ -12,11 +12,9 @@ use lib.Dec.{leb, eqb}
 use lib.ListN.{length, getD, set, drop, drop-of-length-le}
 use lib.Seq.{drop-cons}
 use borrow.Author.Tests.{le-leb, lt-leb, leb-true, ne-eqb, eq-eqb}
+use Rattle.numbers.proofs.Order.{le-or-lt}
 use Rattle.numbers.proofs.Tests.{both}
 use Rattle.assign_channels.specs.Greedy.{ge, cnt, Hall, testsB, hallB}
-
-pub le-or-lt : (a b : ℕ) → (a ≤ b) ⊎ (b < a)
-le-or-lt a b = ⊎-elim (λ e. inl (omega arith)) (λ p. inr (omega arith)) (eq-zero-or-pos (a - b))
 
 pub ge-yes : {t x : ℕ} → t ≤ x → ge t x ≡ 1
 unfolding ge
@@ -95,23 +93,23 @@ best-fit n p (x ∷ xs) h =
     (eq-zero-or-pos (cnt n xs))
 
 -- THE EXCHANGE: the condition still holds after the first count takes the channel that fits best
-pub hall-step : (room : List ℕ) (n : ℕ) (ns : List ℕ) → 1 ≤ n → Hall room (n ∷ ns) → (b : Best n room) → Hall (set room (b .at) 0) ns
-hall-step room n ns q h b t p =
-    let s = cnt-set t p room (b .at) in
+pub hall-step : (counts : List ℕ) (n : ℕ) (ns : List ℕ) → 1 ≤ n → Hall counts (n ∷ ns) → (b : Best n counts) → Hall (set counts (b .at) 0) ns
+hall-step counts n ns q h b t p =
+    let s = cnt-set t p counts (b .at) in
     let f = b .fits in
     ⊎-elim
-    (λ low. ⊎-elim (λ g. omega (arith, h t p, ge-yes low)) (λ g. omega (arith, h t p, ge-yes low)) (ge-cases t (getD room (b .at) 0)))
+    (λ low. ⊎-elim (λ g. omega (arith, h t p, ge-yes low)) (λ g. omega (arith, h t p, ge-yes low)) (ge-cases t (getD counts (b .at) 0)))
     (λ high. ⊎-elim
     (λ g.
-    let e = cnt-same n t (omega arith) room (λ k l. omega (arith, b .best k l)) in
+    let e = cnt-same n t (omega arith) counts (λ k l. omega (arith, b .best k l)) in
     omega (arith, h n q, ge-yes {t = n} {x = n} (omega arith), cnt-mono n t (omega arith) ns))
     (λ g. omega (arith, h t p))
-    (ge-cases t (getD room (b .at) 0)))
+    (ge-cases t (getD counts (b .at) 0)))
     (le-or-lt t n)
 
 -- a count that asks for nothing changes nothing
-pub hall-zero : (room ns : List ℕ) → Hall room (0 ∷ ns) → Hall room ns
-hall-zero room ns h t p = omega (arith, h t p)
+pub hall-zero : (counts ns : List ℕ) → Hall counts (0 ∷ ns) → Hall counts ns
+hall-zero counts ns h t p = omega (arith, h t p)
 
 -- ---- the test at the counts themselves decides the condition at every threshold
 in-list : (xs : List ℕ) (k n : ℕ) → 1 ≤ n → n ≤ getD xs k 0 → k < length xs
@@ -123,30 +121,30 @@ pub channel-below : (xs : List ℕ) (k n : ℕ) → 1 ≤ n → n ≤ getD xs k 
 channel-below = in-list
 
 -- what the tests of a part of the counts say
-tests-at : (room all ns : List ℕ) → testsB room all ns ≡ true → (i : ℕ) → 1 ≤ getD ns i 0 → cnt (getD ns i 0) all ≤ cnt (getD ns i 0) room
+tests-at : (counts all ns : List ℕ) → testsB counts all ns ≡ true → (i : ℕ) → 1 ≤ getD ns i 0 → cnt (getD ns i 0) all ≤ cnt (getD ns i 0) counts
 unfolding testsB
-tests-at room all [] t i p = absurd (omega arith)
-tests-at room all (n ∷ ns) t zero p =
-    let e = both (eqb n 0 || leb (cnt n all) (cnt n room)) (testsB room all ns) t in
-    leb-true (cnt n all) (cnt n room) (rw (ne-eqb n 0 (λ z. omega arith)) at (e .0))
-tests-at room all (n ∷ ns) t (suc i) p = tests-at room all ns (both (eqb n 0 || leb (cnt n all) (cnt n room)) (testsB room all ns) t .1) i p
+tests-at counts all [] t i p = absurd (omega arith)
+tests-at counts all (n ∷ ns) t zero p =
+    let e = both (eqb n 0 || leb (cnt n all) (cnt n counts)) (testsB counts all ns) t in
+    leb-true (cnt n all) (cnt n counts) (rw (ne-eqb n 0 (λ z. omega arith)) at (e .0))
+tests-at counts all (n ∷ ns) t (suc i) p = tests-at counts all ns (both (eqb n 0 || leb (cnt n all) (cnt n counts)) (testsB counts all ns) t .1) i p
 
-pub hall-sound : (room ns : List ℕ) → hallB room ns ≡ true → Hall room ns
-hall-sound room ns t s p =
+pub hall-sound : (counts ns : List ℕ) → hallB counts ns ≡ true → Hall counts ns
+hall-sound counts ns t s p =
     ⊎-elim (λ none. omega arith)
     (λ some.
     let b = best-fit s p ns some in
     let w = getD ns (b .at) 0 in
-    omega (arith, cnt-same s w (b .fits) ns (b .best), tests-at room ns ns t (b .at) (omega (arith, b .fits)), cnt-mono s w (b .fits) room))
+    omega (arith, cnt-same s w (b .fits) ns (b .best), tests-at counts ns ns t (b .at) (omega (arith, b .fits)), cnt-mono s w (b .fits) counts))
     (eq-zero-or-pos (cnt s ns))
 
-tests-complete : (room all : List ℕ) → Hall room all → (ns : List ℕ) → testsB room all ns ≡ true
+tests-complete : (counts all : List ℕ) → Hall counts all → (ns : List ℕ) → testsB counts all ns ≡ true
 unfolding testsB
-tests-complete room all h [] = refl
-tests-complete room all h (n ∷ ns) =
-    ⊎-elim (λ e. rw (eq-eqb n 0 e, tests-complete room all h ns))
-    (λ p. rw (ne-eqb n 0 (λ z. omega arith), le-leb (cnt n all) (cnt n room) (h n p), tests-complete room all h ns))
+tests-complete counts all h [] = refl
+tests-complete counts all h (n ∷ ns) =
+    ⊎-elim (λ e. rw (eq-eqb n 0 e, tests-complete counts all h ns))
+    (λ p. rw (ne-eqb n 0 (λ z. omega arith), le-leb (cnt n all) (cnt n counts) (h n p), tests-complete counts all h ns))
     (eq-zero-or-pos n)
 
-pub hall-complete : (room ns : List ℕ) → Hall room ns → hallB room ns ≡ true
-hall-complete room ns h = tests-complete room ns h ns
+pub hall-complete : (counts ns : List ℕ) → Hall counts ns → hallB counts ns ≡ true
+hall-complete counts ns h = tests-complete counts ns h ns

@@ -20,60 +20,60 @@ pub next : (ns : List ℕ) (i : ℕ) → i < length ns → drop i ns ≡ getD ns
 next ns i h = rw (add-one, drop-cons ns i 0)
 
 -- ---- the threshold test
-module _ (room all : List ℕ) (i : ℕ) where
+module _ (counts all : List ℕ) (i : ℕ) where
   abbrev n : ℕ
   n = getD all i 0
 
-  pub tests-zero : i < length all → n ≡ 0 → testsB room all (drop (i + 1) all) ≡ testsB room all (drop i all)
+  pub tests-zero : i < length all → n ≡ 0 → testsB counts all (drop (i + 1) all) ≡ testsB counts all (drop i all)
   unfolding testsB
   tests-zero h e = sym (rw (next all i h, eq-eqb n 0 e) refl)
 
-  pub tests-pass : i < length all → cnt n all ≤ cnt n room → 0 < n → testsB room all (drop (i + 1) all) ≡ testsB room all (drop i all)
+  pub tests-pass : i < length all → cnt n all ≤ cnt n counts → 0 < n → testsB counts all (drop (i + 1) all) ≡ testsB counts all (drop i all)
   unfolding testsB
-  tests-pass h l p = sym (rw (next all i h, ne-eqb n 0 (λ z. omega arith), le-leb (cnt n all) (cnt n room) l) refl)
+  tests-pass h l p = sym (rw (next all i h, ne-eqb n 0 (λ z. omega arith), le-leb (cnt n all) (cnt n counts) l) refl)
 
-  pub tests-fail : i < length all → cnt n room < cnt n all → 0 < n → testsB room all (drop i all) ≡ false
+  pub tests-fail : i < length all → cnt n counts < cnt n all → 0 < n → testsB counts all (drop i all) ≡ false
   unfolding testsB
-  tests-fail h l p = rw (next all i h, ne-eqb n 0 (λ z. omega arith), lt-leb (cnt n all) (cnt n room) l) refl
+  tests-fail h l p = rw (next all i h, ne-eqb n 0 (λ z. omega arith), lt-leb (cnt n all) (cnt n counts) l) refl
 
-  pub tests-end : length all ≤ i → testsB room all (drop i all) ≡ true
+  pub tests-end : length all ≤ i → testsB counts all (drop i all) ≡ true
   unfolding testsB
   tests-end h = rw (drop-of-length-le all h) refl
 
 -- ---- the lowest channel
-module _ (room : List ℕ) (n : ℕ) (rest : List ℕ) (c : ℕ) (below : c < 16) where
+module _ (counts : List ℕ) (n : ℕ) (rest : List ℕ) (c : ℕ) (below : c < 16) where
   left : 16 - c ≡ suc (16 - (c + 1))
   left = omega arith
 
-  pub lowest-found : n ≤ getD room c 0 → hallB (set room c 0) rest ≡ true → lowestFrom room n rest (16 - c) c ≡ c
+  pub lowest-found : n ≤ getD counts c 0 → hallB (set counts c 0) rest ≡ true → lowestFrom counts n rest (16 - c) c ≡ c
   unfolding lowestFrom
-  lowest-found f t = rw (left, le-leb n (getD room c 0) f, t) refl
+  lowest-found f t = rw (left, le-leb n (getD counts c 0) f, t) refl
 
-  pub lowest-small : getD room c 0 < n → lowestFrom room n rest (16 - (c + 1)) (c + 1) ≡ lowestFrom room n rest (16 - c) c
+  pub lowest-small : getD counts c 0 < n → lowestFrom counts n rest (16 - (c + 1)) (c + 1) ≡ lowestFrom counts n rest (16 - c) c
   unfolding lowestFrom
-  lowest-small f = sym (rw (left, lt-leb n (getD room c 0) f, ← add-one c) refl)
+  lowest-small f = sym (rw (left, lt-leb n (getD counts c 0) f, ← add-one c) refl)
 
-  pub lowest-barred : n ≤ getD room c 0 → hallB (set room c 0) rest ≡ false → lowestFrom room n rest (16 - (c + 1)) (c + 1) ≡ lowestFrom room n rest (16 - c) c
+  pub lowest-barred : n ≤ getD counts c 0 → hallB (set counts c 0) rest ≡ false → lowestFrom counts n rest (16 - (c + 1)) (c + 1) ≡ lowestFrom counts n rest (16 - c) c
   unfolding lowestFrom
-  lowest-barred f t = sym (rw (left, le-leb n (getD room c 0) f, t, ← add-one c) refl)
+  lowest-barred f t = sym (rw (left, le-leb n (getD counts c 0) f, t, ← add-one c) refl)
 
-pub lowest-end : (room : List ℕ) (n : ℕ) (rest : List ℕ) (c : ℕ) → c ≡ 16 → lowestFrom room n rest (16 - c) c ≡ c
+pub lowest-end : (counts : List ℕ) (n : ℕ) (rest : List ℕ) (c : ℕ) → c ≡ 16 → lowestFrom counts n rest (16 - c) c ≡ c
 unfolding lowestFrom
-lowest-end room n rest c e = rw e refl
+lowest-end counts n rest c e = rw e refl
 
 -- ---- the whole list of channels
 -- what is known when the logical channels below l have theirs
-pub record Going (room wants : List ℕ) (on : List ChannelNumber) (left : List ℕ) (l : ℕ) : Type 0 where
+pub record Going (counts wants : List ℕ) (on : List ChannelNumber) (left : List ℕ) (l : ℕ) : Type 0 where
   pub low : 1 ≤ l
   pub high : l ≤ 16
   pub long : length on ≡ 16
   pub wide : length left ≡ 16
   pub blank : (j : ℕ) → l ≤ j → j < 16 → getD on j (channel 0) ≡ channel 0
   pub hall : Hall left (drop l wants)
-  pub so : take l on ++ picks left (drop l wants) ≡ channel 0 ∷ picks room (drop 1 wants)
+  pub so : take l on ++ picks left (drop l wants) ≡ channel 0 ∷ picks counts (drop 1 wants)
 
-pub start : (room wants : List ℕ) → length room ≡ 16 → Hall room (drop 1 wants) → Going room wants (replicate 16 (channel 0)) room 1
-start room wants w h = record {
+pub start : (counts wants : List ℕ) → length counts ≡ 16 → Hall counts (drop 1 wants) → Going counts wants (replicate 16 (channel 0)) counts 1
+start counts wants w h = record {
   low = omega arith;
   high = omega arith;
   long = refl;
@@ -83,7 +83,7 @@ start room wants w h = record {
   so = refl;
 }
 
-module _ {room wants : List ℕ} {on : List ChannelNumber} {left : List ℕ} {l : ℕ} (size : length wants ≡ 16) (more : l < 16) (g : Going room wants on left l) where
+module _ {counts wants : List ℕ} {on : List ChannelNumber} {left : List ℕ} {l : ℕ} (size : length wants ≡ 16) (more : l < 16) (g : Going counts wants on left l) where
   rest : drop l wants ≡ getD wants l 0 ∷ drop (l + 1) wants
   rest = next wants l (omega arith)
 
@@ -103,7 +103,7 @@ module _ {room wants : List ℕ} {on : List ChannelNumber} {left : List ℕ} {l 
       let f : lowestOf left (getD wants l 0) part ≡ lowestOf left (getD wants l 0) (drop (l + 1) wants) = ap (lowestOf left (getD wants l 0)) part-is in
       omega arith
 
-  pub turn-none : getD wants l 0 ≡ 0 → Going room wants on left (l + 1)
+  pub turn-none : getD wants l 0 ≡ 0 → Going counts wants on left (l + 1)
   unfolding picks
   turn-none z = record {
     low = omega arith;
@@ -118,7 +118,7 @@ module _ {room wants : List ℕ} {on : List ChannelNumber} {left : List ℕ} {l 
         ap (λ (x : List ChannelNumber). x ++ picks left (drop (l + 1) wants)) e ∙ append-assoc (take l on) (channel 0 ∷ []) (picks left (drop (l + 1) wants)) ∙ ap (λ (x : List ChannelNumber). take l on ++ x) (sym f) ∙ g .so;
   }
 
-  pub turn : {c : ℕ} → 0 < getD wants l 0 → c ≡ lowestOf left (getD wants l 0) part → Going room wants (set on l (channel c)) (set left c 0) (l + 1)
+  pub turn : {c : ℕ} → 0 < getD wants l 0 → c ≡ lowestOf left (getD wants l 0) part → Going counts wants (set on l (channel c)) (set left c 0) (l + 1)
   unfolding picks
   turn {c} p e =
       let d : c ≡ lowestOf left (getD wants l 0) (drop (l + 1) wants) = e ∙ ap (lowestOf left (getD wants l 0)) part-is in
@@ -141,21 +141,21 @@ module _ {room wants : List ℕ} {on : List ChannelNumber} {left : List ℕ} {l 
       first (suc n) p ns d = ap (λ (x : ℕ). channel x ∷ picks (set left x 0) ns) (sym d)
 
 -- the same, where a branch gave the lists
-pub same : {room wants : List ℕ} {on on′ : List ChannelNumber} {left left′ : List ℕ} {l : ℕ} → on ≡ on′ → left ≡ left′ → Going room wants on′ left′ l → Going room wants on left l
-same {room} {wants} {on} {on′} {left} {left′} {l} e f g = subst (λ (x : List ℕ). Going room wants on x l) (sym f) (subst (λ (x : List ChannelNumber). Going room wants x left′ l) (sym e) g)
+pub same : {counts wants : List ℕ} {on on′ : List ChannelNumber} {left left′ : List ℕ} {l : ℕ} → on ≡ on′ → left ≡ left′ → Going counts wants on′ left′ l → Going counts wants on left l
+same {counts} {wants} {on} {on′} {left} {left′} {l} e f g = subst (λ (x : List ℕ). Going counts wants on x l) (sym f) (subst (λ (x : List ChannelNumber). Going counts wants x left′ l) (sym e) g)
 
-pub end : {room wants : List ℕ} {on : List ChannelNumber} {left : List ℕ} {l : ℕ} → length wants ≡ 16 → 16 ≤ l → Going room wants on left l → on ≡ channel 0 ∷ picks room (drop 1 wants)
+pub end : {counts wants : List ℕ} {on : List ChannelNumber} {left : List ℕ} {l : ℕ} → length wants ≡ 16 → 16 ≤ l → Going counts wants on left l → on ≡ channel 0 ∷ picks counts (drop 1 wants)
 unfolding picks
-end {room} {wants} {on} {left} {l} size h g =
+end {counts} {wants} {on} {left} {l} size h g =
     let a : drop l wants ≡ [] = drop-of-length-le wants {i = l} (omega arith) in
     let b : take l on ++ picks left (drop l wants) ≡ on = ap (λ (x : List ℕ). take l on ++ picks left x) a ∙ append-nil (take l on) ∙ take-all l on (omega (arith, g .long)) in
     sym b ∙ g .so
 
 -- ---- the three answers
-module _ (room wants : List ℕ) (wide : length room ≡ 16) (size : length wants ≡ 16) where
-  pub too-many : total room < total wants → Answers room wants (record { ok = false; on = replicate 16 (channel 0) })
+module _ (counts wants : List ℕ) (wide : length counts ≡ 16) (size : length wants ≡ 16) where
+  pub too-many : total counts < total wants → Answers counts wants (record { ok = false; on = replicate 16 (channel 0) })
   unfolding chooseOf
-  too-many h = rw (lt-leb (total wants) (total room) h) at (chosen room wants wide size)
+  too-many h = rw (lt-leb (total wants) (total counts) h) at (chosen counts wants wide size)
 
   -- the counts without the first, as the part of the array that is lent
   abbrev pub lent : List ℕ
@@ -164,15 +164,15 @@ module _ (room wants : List ℕ) (wide : length room ≡ 16) (size : length want
   lent-is : lent ≡ drop 1 wants
   lent-is = take-all (16 - 1) (drop 1 wants) (simp length-drop (omega arith))
 
-  pub not-served : total wants ≤ total room → hallB room lent ≡ false → Answers room wants (record { ok = false; on = replicate 16 (channel 0) })
+  pub not-served : total wants ≤ total counts → hallB counts lent ≡ false → Answers counts wants (record { ok = false; on = replicate 16 (channel 0) })
   unfolding chooseOf
-  not-served h f = rw (le-leb (total wants) (total room) h, sym (ap (hallB room) lent-is) ∙ f) at (chosen room wants wide size)
+  not-served h f = rw (le-leb (total wants) (total counts) h, sym (ap (hallB counts) lent-is) ∙ f) at (chosen counts wants wide size)
 
-  pub served : hallB room lent ≡ true → Hall room (drop 1 wants)
-  served t = hall-sound room (drop 1 wants) (sym (ap (hallB room) lent-is) ∙ t)
+  pub served : hallB counts lent ≡ true → Hall counts (drop 1 wants)
+  served t = hall-sound counts (drop 1 wants) (sym (ap (hallB counts) lent-is) ∙ t)
 
-  pub found : {on : List ChannelNumber} → total wants ≤ total room → hallB room lent ≡ true → on ≡ channel 0 ∷ picks room (drop 1 wants) → Answers room wants (record { ok = true; on = on })
+  pub found : {on : List ChannelNumber} → total wants ≤ total counts → hallB counts lent ≡ true → on ≡ channel 0 ∷ picks counts (drop 1 wants) → Answers counts wants (record { ok = true; on = on })
   unfolding chooseOf
   found {on} h t e =
-      let a : Answers room wants (record { ok = true; on = channel 0 ∷ picks room (drop 1 wants) }) = rw (le-leb (total wants) (total room) h, sym (ap (hallB room) lent-is) ∙ t) at (chosen room wants wide size) in
-      subst (λ (x : List ChannelNumber). Answers room wants (record { ok = true; on = x })) (sym e) a
+      let a : Answers counts wants (record { ok = true; on = channel 0 ∷ picks counts (drop 1 wants) }) = rw (le-leb (total wants) (total counts) h, sym (ap (hallB counts) lent-is) ∙ t) at (chosen counts wants wide size) in
+      subst (λ (x : List ChannelNumber). Answers counts wants (record { ok = true; on = x })) (sym e) a

@@ -1,4 +1,5 @@
--- Which channels a kind's entries get, by the number of assignable units of the kind on each channel (0 on a channel of another kind).
+-- Which channels a kind's entries get, by the number of assignable units of the kind on each channel (`counts`; 0 on
+-- a channel of another kind). A reader has to believe this page.
 use Prim.Native.Nat.{ℕ, _+_, _≤_, _<_}
 use mathlib.Core.Path.{_≡_}
 use mathlib.Core.Logic.{_⊎_}
@@ -26,14 +27,14 @@ total [] = 0
 total (n ∷ ns) = n + total ns
 
 -- The channels of the entries of an assignment.
-pub record Placed (room wants : List ℕ) (channels : List ChannelNumber) : Type 0 where
+pub record Placed (counts wants : List ℕ) (channels : List ChannelNumber) : Type 0 where
   pub long : length channels ≡ 16
   -- every entry with logical channel 1-15 has all its units on its channel
-  pub fits : (l : ℕ) → 1 ≤ l → l < 16 → 1 ≤ want wants l → want wants l ≤ getD room (on channels l) 0
+  pub fits : (l : ℕ) → 1 ≤ l → l < 16 → 1 ≤ want wants l → want wants l ≤ getD counts (on channels l) 0
   -- a channel of its own
   pub own : (l m : ℕ) → 1 ≤ l → l < m → m < 16 → 1 ≤ want wants l → 1 ≤ want wants m → on channels l ≡ on channels m → ⊥
   -- the logical channel 0 entry has any remaining units
-  pub rest : total wants ≤ total room
+  pub rest : total wants ≤ total counts
   -- no channel is named, 0 stands there, for logical channel 0 and for one without entry
   pub none-0 : on channels 0 ≡ 0
   pub none : (l : ℕ) → 1 ≤ l → l < 16 → want wants l ≡ 0 → on channels l ≡ 0
@@ -45,19 +46,20 @@ LexLe (x ∷ xs) [] = ⊥
 LexLe (x ∷ xs) (y ∷ ys) = (x .0 < y .0) ⊎ ((x .0 ≡ y .0) × LexLe xs ys)
 
 -- the lexicographically least list, in ascending logical channel
-pub record Least (room wants : List ℕ) (channels : List ChannelNumber) : Type 0 where
-  pub placed : Placed room wants channels
-  pub least : (others : List ChannelNumber) → Placed room wants others → LexLe channels others
+pub record Least (counts wants : List ℕ) (channels : List ChannelNumber) : Type 0 where
+  pub placed : Placed counts wants channels
+  pub least : (others : List ChannelNumber) → Placed counts wants others → LexLe channels others
 
 -- no list
-pub record NoList (room wants : List ℕ) (channels : List ChannelNumber) : Type 0 where
-  pub never : (others : List ChannelNumber) → Placed room wants others → ⊥
+pub record NoList (counts wants : List ℕ) (channels : List ChannelNumber) : Type 0 where
+  pub never : (others : List ChannelNumber) → Placed counts wants others → ⊥
   pub blank : channels ≡ replicate 16 (channel 0)
 
+-- what is answered: yes with the least list, or no
 abbrev pub Answer : Bool → List ℕ → List ℕ → List ChannelNumber → Type 0
-Answer true room wants channels = Least room wants channels
-Answer false room wants channels = NoList room wants channels
+Answer true counts wants channels = Least counts wants channels
+Answer false counts wants channels = NoList counts wants channels
 
 -- the least list is found, or there is none
 abbrev pub Answers : List ℕ → List ℕ → Picks → Type 0
-Answers room wants r = Answer (r .ok) room wants (r .on)
+Answers counts wants r = Answer (r .ok) counts wants (r .on)

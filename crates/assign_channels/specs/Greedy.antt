@@ -1,4 +1,6 @@
--- How the least list is found: each entry in turn takes the lowest channel after which the rest can still be served, which the threshold test says.
+-- How the least list is found: each entry in turn takes the lowest channel after which the rest can still be served,
+-- which the threshold test says. Nothing here has to be believed: ChoiceLaws shows that what is found is what Choice
+-- asks for.
 use Prim.Native.Nat.{ℕ, zero, suc, _+_, _≤_}
 use mathlib.Core.Bool.{Bool, true, false, cond, _&&_, _||_}
 use mathlib.Core.List.{List, [], _∷_}
@@ -17,35 +19,42 @@ abbrev pub cnt : ℕ → List ℕ → ℕ
 cnt t [] = 0
 cnt t (x ∷ xs) = ge t x + cnt t xs
 
--- the threshold condition: no more counts are at least t than channels are
+-- the threshold condition: no more entries ask for t units or more than channels have as many
 abbrev pub Hall : List ℕ → List ℕ → Type 0
-Hall room ns = (t : ℕ) → 1 ≤ t → cnt t ns ≤ cnt t room
+Hall counts ns = (t : ℕ) → 1 ≤ t → cnt t ns ≤ cnt t counts
 
--- it is enough to test the thresholds that are counts
+-- it is enough to test the thresholds that entries ask for
 unfoldable pub testsB : List ℕ → List ℕ → List ℕ → Bool
-testsB room all [] = true
-testsB room all (n ∷ ns) = (eqb n 0 || leb (cnt n all) (cnt n room)) && testsB room all ns
+testsB counts all [] = true
+testsB counts all (n ∷ ns) = (eqb n 0 || leb (cnt n all) (cnt n counts)) && testsB counts all ns
 
+-- whether each entry can have a channel of its own
 abbrev pub hallB : List ℕ → List ℕ → Bool
-hallB room ns = testsB room ns ns
+hallB counts ns = testsB counts ns ns
 
 -- the lowest of k channels from c on that has n units and after which the rest can be served
 unfoldable pub lowestFrom : List ℕ → ℕ → List ℕ → ℕ → ℕ → ℕ
-lowestFrom room n rest zero c = c
-lowestFrom room n rest (suc k) c = cond (leb n (getD room c 0)) (cond (hallB (set room c 0) rest) c (lowestFrom room n rest k (suc c))) (lowestFrom room n rest k (suc c))
+lowestFrom counts n rest zero c = c
+lowestFrom counts n rest (suc k) c =
+    cond (leb n (getD counts c 0))
+    (cond (hallB (set counts c 0) rest) c (lowestFrom counts n rest k (suc c)))
+    (lowestFrom counts n rest k (suc c))
 
+-- the lowest of all 16
 abbrev pub lowestOf : List ℕ → ℕ → List ℕ → ℕ
-lowestOf room n rest = lowestFrom room n rest 16 0
+lowestOf counts n rest = lowestFrom counts n rest 16 0
 
 -- the channels of all entries; one that is taken has no units left
 unfoldable pub picks : List ℕ → List ℕ → List ChannelNumber
-picks room [] = []
-picks room (zero ∷ ns) = channel 0 ∷ picks room ns
-picks room (suc n ∷ ns) = channel (lowestOf room (suc n) ns) ∷ picks (set room (lowestOf room (suc n) ns) 0) ns
+picks counts [] = []
+picks counts (zero ∷ ns) = channel 0 ∷ picks counts ns
+picks counts (suc n ∷ ns) = channel (lowestOf counts (suc n) ns) ∷ picks (set counts (lowestOf counts (suc n) ns) 0) ns
 
 -- the whole
 unfoldable pub chooseOf : List ℕ → List ℕ → Picks
-chooseOf room wants =
-    cond (leb (total wants) (total room))
-    (cond (hallB room (drop 1 wants)) (record { ok = true; on = channel 0 ∷ picks room (drop 1 wants) }) (record { ok = false; on = replicate 16 (channel 0) }))
+chooseOf counts wants =
+    cond (leb (total wants) (total counts))
+    (cond (hallB counts (drop 1 wants))
+    (record { ok = true; on = channel 0 ∷ picks counts (drop 1 wants) })
+    (record { ok = false; on = replicate 16 (channel 0) }))
     (record { ok = false; on = replicate 16 (channel 0) })

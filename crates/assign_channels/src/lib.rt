@@ -26,16 +26,16 @@ fn count_ge(xs: &[u8], t: u8) -> usize
     n
 }
 
-// The threshold test: whether each of the counts can have a channel of its own.
-pub fn can_serve(room: &[u8], wants: &[u8]) -> bool
-    ensures { λ r. ⌜ r ≡ hallB (now (room .entry)) (now (wants .entry)) ⌝ }
+// The threshold test: whether each entry can have a channel of its own.
+pub fn can_serve(counts: &[u8], wants: &[u8]) -> bool
+    ensures { λ r. ⌜ r ≡ hallB (now (counts .entry)) (now (wants .entry)) ⌝ }
 {
     let mut i: usize = 0;
     while i < wants.len() {
         let t = wants[i];
         if 0 < t {
             let asked = count_ge(wants, t);
-            let there = count_ge(room, t);
+            let there = count_ge(counts, t);
             if there < asked {
                 return false;
             }
@@ -46,13 +46,13 @@ pub fn can_serve(room: &[u8], wants: &[u8]) -> bool
 }
 
 // The lowest channel with n units after which the rest can still be served; 16 where there is none.
-fn lowest(room: [u8; 16], n: u8, rest: &[u8]) -> ChannelNumber
-    ensures { λ r. ⌜ r .0 ≡ lowestOf room n (now (rest .entry)) ⌝ }
+fn lowest(counts: [u8; 16], n: u8, rest: &[u8]) -> ChannelNumber
+    ensures { λ r. ⌜ r .0 ≡ lowestOf counts n (now (rest .entry)) ⌝ }
 {
     let mut c: usize = 0;
     while c < 16 {
-        if n <= room[c] {
-            let mut tried = room;
+        if n <= counts[c] {
+            let mut tried = counts;
             tried[c] = 0;
             if can_serve(&tried, rest) {
                 return ChannelNumber(c as u8);
@@ -83,18 +83,19 @@ pub fn sum(xs: [u8; 16]) -> usize
     n
 }
 
-// The least list of channels, one for each entry with logical channel 1 to 15, that leaves the entry with logical channel 0 its units.
-pub fn choose(room: [u8; 16], wants: [u8; 16]) -> Picks
-    ensures { λ r. ⌜ Answers room wants r ⌝ }
+// The least list of channels, one for each entry with logical channel 1 to 15, that leaves the entry with logical
+// channel 0 its units.
+pub fn choose(counts: [u8; 16], wants: [u8; 16]) -> Picks
+    ensures { λ r. ⌜ Answers counts wants r ⌝ }
 {
     let mut on = [ChannelNumber(0); 16];
-    if sum(room) < sum(wants) {
+    if sum(counts) < sum(wants) {
         return Picks { ok: false, on };
     }
-    if !can_serve(&room, &wants[1..]) {
+    if !can_serve(&counts, &wants[1..]) {
         return Picks { ok: false, on };
     }
-    let mut left = room;
+    let mut left = counts;
     let mut l: usize = 1;
     while l < 16 {
         let n = wants[l];

@@ -1,3 +1,2 @@
 pub mod CoreLaws
 pub mod Computed
-pub mod Marked

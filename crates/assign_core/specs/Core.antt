@@ -1,4 +1,5 @@
--- Core: 32 blocks of 2,048 words; 2 to 29 are assignable, the rest the executive's. What a job's core is, and which is chosen.
+-- Core: 32 blocks of 2,048 words; 2 to 29 are assignable, the rest the executive's. What a job's core is, and which
+-- is chosen. A reader has to believe this page.
 use Prim.Native.Nat.{ℕ, _+_, _≤_, _<_, _/_, _%_, _^_}
 use mathlib.Core.Path.{_≡_}
 use mathlib.Core.Logic.{_⊎_}
@@ -29,7 +30,8 @@ pub record Fits (w ib db i j : ℕ) : Type 0 where
 abbrev pub Before : ℕ → ℕ → ℕ → ℕ → Type 0
 Before a b i j = (a < i) ⊎ ((a ≡ i) × (b < j))
 
--- the pair that is found fits and none before it does (so a DB that is not asked for starts at 0); nothing is found where none fits
+-- the pair that is found fits and none before it does (so a DB that is not asked for starts at 0); nothing is found
+-- where none fits
 abbrev pub Answers : ℕ → ℕ → ℕ → Found → Type 0
 Answers w ib db (At p) = Fits w ib db (p .0) (p .1) × ((a b : ℕ) → Fits w ib db a b → Before a b (p .0) (p .1) → ⊥)
 Answers w ib db Nothing = (a b : ℕ) → Fits w ib db a b → ⊥

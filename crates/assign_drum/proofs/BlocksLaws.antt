@@ -1,16 +1,13 @@
 -- An area that is in the way of a start is in the way of every later start up to its end; a start that is clear is free. Assumes nothing.
-use Prim.Native.Nat.{ℕ, _+_, _-_, _≤_, _<_}
+use Prim.Native.Nat.{ℕ, _+_, _≤_, _<_}
 use mathlib.Core.List.{List}
-use mathlib.Core.Logic.{_⊎_, inl, inr, ⊎-elim}
-use native.Mathlib.Nat.{eq-zero-or-pos}
+use mathlib.Core.Logic.{⊎-elim}
 use native.Mathlib.Omega.{arith}
 use lib.ListN.{getD}
+use Rattle.numbers.proofs.Order.{le-or-lt}
 use Rattle.assign_drum.specs.declared.Area.{Area}
 use Rattle.assign_drum.specs.Drum.{noArea, In, Free}
 use Rattle.assign_drum.specs.Blocks.{Meets, InTheWay}
-
-pub le-or-lt : (a b : ℕ) → (a ≤ b) ⊎ (b < a)
-le-or-lt a b = ⊎-elim (λ e. inl (omega arith)) (λ p. inr (omega arith)) (eq-zero-or-pos (a - b))
 
 -- two that meet share a word: the later of the two starts
 pub shared : (a : Area) (s n : ℕ) → 1 ≤ n → Meets a s n → (x : ℕ) × ((s ≤ x) × ((x < s + n) × In a x))

@@ -5,11 +5,11 @@ use mathlib.Core.List.{List}
 use mathlib.Core.Logic.{⊎-elim}
 use native.Mathlib.Nat.{eq-or-lt-of-le}
 use native.Mathlib.Omega.{arith}
+use Rattle.numbers.proofs.Order.{le-or-lt}
 use Rattle.assign_drum.specs.declared.Area.{Area}
 use Rattle.assign_drum.specs.declared.Start.{Start}
 use Rattle.assign_drum.specs.declared.Start.the-variants.{At, Nothing}
 use Rattle.assign_drum.specs.Drum.{Answers}
-use Rattle.assign_drum.proofs.BlocksLaws.{le-or-lt}
 
 -- two answers are one
 pub answers-one : (held : List Area) (size n : ℕ) (r s : Start) → Answers held size n r → Answers held size n s → r ≡ s

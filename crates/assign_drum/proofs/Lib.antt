@@ -1,4 +1,3 @@
 pub mod BlocksLaws
 pub mod DrumLaws
-pub mod Marked
 pub mod Computed

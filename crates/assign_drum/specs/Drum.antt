@@ -1,4 +1,5 @@
--- The drum: the lowest assignable address is 35,329 (105001o). Areas are contiguous. What a job's area is, and which is chosen.
+-- The drum: the lowest assignable address is 35,329 (105001o). Areas are contiguous. What a job's area is, and which
+-- is chosen. A reader has to believe this page.
 use Prim.Native.Nat.{ℕ, _+_, _≤_, _<_}
 use mathlib.Core.List.{List}
 use lib.ListN.{getD}

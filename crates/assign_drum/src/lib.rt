@@ -63,8 +63,8 @@ fn in_the_way(held: [Area; 16], s: u64, n: u64) -> Way
     Way::Clear
 }
 
-// The lowest start of n free words on a drum of the size given. An area that is in the way of one start is in the way of every start up to
-// its end, so the search goes on there.
+// The lowest start of n free words on a drum of the size given. An area that is in the way of one start is in the way
+// of every start up to its end, so the search goes on there.
 pub fn lowest_start(held: [Area; 16], size: u32, n: u32) -> Start
     ensures { λ r. ⌜ Answers held size n r ⌝ }
 {

@@ -1,4 +1,5 @@
--- The assignable units of a kind: configured, free and unmarked. Unit u of channel c stands at c * 16 + u.
+-- The assignable units of a kind: configured, free and unmarked. Unit u of channel c stands at c * 16 + u. A reader
+-- has to believe this page.
 use Prim.Native.Nat.{ℕ, _<_, _/_, _%_}
 use mathlib.Core.Path.{_≡_}
 use mathlib.Core.Bool.{Bool, false, cond, _&&_}
@@ -24,7 +25,8 @@ unitsOfRow row channel = cond (isFitted row (channel .has)) (unitsOf channel) 0
 
 -- unit i is of the kind of a row and assignable
 unfoldable pub isFreeOf : List (List Unit) → List Channel → ℕ → ℕ → Bool
-isFreeOf units channels row i = ltb (i % 16) (unitsOfRow row (getD channels (i / 16) noChannel)) && assignable (unitIn units (i / 16) (i % 16))
+isFreeOf units channels row i =
+    ltb (i % 16) (unitsOfRow row (getD channels (i / 16) noChannel)) && assignable (unitIn units (i / 16) (i % 16))
 
 -- the assignable units of the kind of a row, marked
 pub record FreeUnits (units : List (List Unit)) (channels : List Channel) (row : ℕ) (free : List Bool) : Type 0 where

@@ -1,4 +1,5 @@
--- How many units of the kind of a row every channel has.
+-- How many units of the kind of a row every channel has, as one private function answers it. Nothing here has to be
+-- believed.
 use Prim.Native.Nat.{ℕ, _<_}
 use mathlib.Core.Path.{_≡_}
 use mathlib.Core.List.{List}

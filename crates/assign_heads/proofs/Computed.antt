@@ -8,7 +8,8 @@ use lib.Dec.{eqb, ltb}
 use lib.ListN.{length, getD, set}
 use borrow.Author.Tests.{eqb-true, ltb-true, lt-ltb, eq-eqb}
 use Rattle.numbers.proofs.Find.{Hit, hit, none, find, First, first}
-use Rattle.numbers.proofs.Tables.{values, values-at}
+use Rattle.numbers.specs.Values.{values}
+use Rattle.numbers.proofs.ValuesLaws.{values-at}
 use Rattle.numbers.proofs.Tests.{by-bool, both}
 use Rattle.numbers.specs.declared.LogicalChannel.{LogicalChannel}
 use Rattle.numbers.specs.declared.ChannelNumber.{ChannelNumber}
@@ -20,20 +21,20 @@ use Rattle.assign_heads.specs.declared.Head.{Head}
 use Rattle.assign_heads.specs.declared.Service.{Service}
 use Rattle.assign_heads.specs.Sums.{howMany}
 use Rattle.assign_heads.specs.Whose.{logical, freeAt}
-use Rattle.assign_heads.specs.Giving.{takerOf, lessOf, OwnerIs, Owners, RoomIs}
+use Rattle.assign_heads.specs.Giving.{takerOf, lessOf, OwnerIs, Owners, FreeCounts}
 use Rattle.assign_heads.specs.GaveOut.{Logical, Gave, GaveOut}
 use Rattle.assign_heads.proofs.GaveOutLaws.{gave-none, gave-over, gave-one, gave-all}
 use Rattle.assign_heads.specs.Serving.{Serves}
 use Rattle.assign_heads.proofs.ServingLaws.{owners-logical, chosen, lacking}
 
--- ---- room
-abbrev pub roomOf : List Bool → List ℕ
-roomOf free = values (λ c. howMany 16 (λ u. freeAt free (c * 16 + u))) 16
+-- ---- counts
+abbrev pub countsOf : List Bool → List ℕ
+countsOf free = values 16 (λ c. howMany 16 (λ u. freeAt free (c * 16 + u)))
 
-room-is : (free : List Bool) → RoomIs free (roomOf free)
-room-is free = record {
+counts-are : (free : List Bool) → FreeCounts free (countsOf free)
+counts-are free = record {
   long = refl;
-  each = λ c h. values-at (λ c. howMany 16 (λ u. freeAt free (c * 16 + u))) 16 c 0 h;
+  each = λ c h. values-at 16 (λ c. howMany 16 (λ u. freeAt free (c * 16 + u))) c 0 h;
 }
 
 -- ---- owners
@@ -45,7 +46,7 @@ ownerAt (hit l) = l
 ownerAt none = 0
 
 abbrev pub ownersOf : List ℕ → List ChannelNumber → List LogicalChannel
-ownersOf wants channels = values (λ c. logical (ownerAt (find (owned wants channels c) 16 0))) 16
+ownersOf wants channels = values 16 (λ c. logical (ownerAt (find (owned wants channels c) 16 0)))
 
 module _ (wants : List ℕ) (channels : List ChannelNumber) (c : ℕ) where
   owner-of : (h : Hit) → First (owned wants channels c) 16 0 h → OwnerIs wants channels c (ownerAt h)
@@ -68,7 +69,7 @@ module _ (wants : List ℕ) (channels : List ChannelNumber) (c : ℕ) where
 
 owners-are : (wants : List ℕ) (channels : List ChannelNumber) → Owners wants channels (ownersOf wants channels)
 owners-are wants channels = record {
-  each = λ c h. subst (λ (o : LogicalChannel). OwnerIs wants channels c (o .0)) (sym (values-at (λ d. logical (ownerAt (find (owned wants channels d) 16 0))) 16 c (logical 0) h))
+  each = λ c h. subst (λ (o : LogicalChannel). OwnerIs wants channels c (o .0)) (sym (values-at 16 (λ d. logical (ownerAt (find (owned wants channels d) 16 0))) c (logical 0) h))
       (owner-of wants channels c (find (owned wants channels c) 16 0) (first (owned wants channels c) 16 0));
 }
 
@@ -96,16 +97,16 @@ serviceOf free wants before picks = cond (picks .ok)
     (record { ok = false; on = picks .on; heads = before })
 
 unfoldable pub serveOf : List Bool → List ℕ → List Head → Service
-serveOf free wants before = serviceOf free wants before (chooseOf (roomOf free) wants)
+serveOf free wants before = serviceOf free wants before (chooseOf (countsOf free) wants)
 
 module _ (free : List Bool) (wants : List ℕ) (before : List Head) (units : length free ≡ 256) (size : length wants ≡ 16) (wide : length before ≡ 256) where
-  service-is : (p : Picks) (b : Bool) → p .ok ≡ b → Answer b (roomOf free) wants (p .on) → Serves free wants before (serviceOf free wants before p)
+  service-is : (p : Picks) (b : Bool) → p .ok ≡ b → Answer b (countsOf free) wants (p .on) → Serves free wants before (serviceOf free wants before p)
   unfolding serviceOf
   service-is p true e a = rw e
-      (chosen units size (room-is free) a (owners-are wants (p .on))
+      (chosen units size (counts-are free) a (owners-are wants (p .on))
       (give-from free (ownersOf wants (p .on)) wants before (owners-logical (owners-are wants (p .on))) 256 0 wants before (omega arith) (gave-none free (ownersOf wants (p .on)) wants before wide size)))
-  service-is p false e a = rw e (lacking units size (room-is free) a)
+  service-is p false e a = rw e (lacking units size (counts-are free) a)
 
   pub serve-answers : Serves free wants before (serveOf free wants before)
   unfolding serveOf
-  serve-answers = service-is (chooseOf (roomOf free) wants) (chooseOf (roomOf free) wants .ok) refl (Choice.chosen (roomOf free) wants refl size)
+  serve-answers = service-is (chooseOf (countsOf free) wants) (chooseOf (countsOf free) wants .ok) refl (Choice.chosen (countsOf free) wants refl size)

@@ -1,4 +1,4 @@
--- Units counted by channel and by entry: as many are assignable as the channels have room for, and each is given at most once. Assumes nothing.
+-- Units counted by channel and by entry: as many are assignable as the channels have counts for, and each is given at most once. Assumes nothing.
 use Prim.Native.Nat.{ℕ, zero, suc, _+_, _*_, _≤_, _<_, _/_, suc-le-suc}
 use mathlib.Core.Path.{_≡_, refl, sym, ap, _∙_}
 use mathlib.Core.Bool.{Bool, true}
@@ -8,15 +8,16 @@ use native.Mathlib.Omega.{arith}
 use lib.Dec.{eqb}
 use lib.ListN.{length, getD}
 use borrow.Author.Tests.{eq-eqb, ne-eqb}
+use Rattle.numbers.proofs.Order.{le-or-lt}
 use Rattle.numbers.proofs.Tests.{by-bool, never}
 use Rattle.assign_channels.specs.Choice.{want, total}
 use Rattle.assign_heads.specs.declared.Given.{Given}
 use Rattle.assign_heads.specs.declared.Given.the-variants.{Nothing, To}
 use Rattle.assign_heads.specs.Sums.{sumTo, one, howMany}
-use Rattle.assign_heads.proofs.SumsLaws.{le-or-lt, sum-zero, sum-same, sum-at, sum-only, sum-rows, sum-swap, total-sum}
+use Rattle.assign_heads.proofs.SumsLaws.{sum-zero, sum-same, sum-at, sum-only, sum-rows, sum-swap, total-sum}
 use Rattle.assign_heads.specs.Heads.{isTo, isGiven}
 use Rattle.assign_heads.specs.Whose.{freeAt}
-use Rattle.assign_heads.specs.Giving.{RoomIs}
+use Rattle.assign_heads.specs.Giving.{FreeCounts}
 
 -- an assignable unit is one of the cell's
 pub free-below : (free : List Bool) (i : ℕ) → freeAt free i ≡ true → i < length free
@@ -24,11 +25,11 @@ free-below [] i t = never t refl
 free-below (b ∷ bs) zero t = omega arith
 free-below (b ∷ bs) (suc i) t = suc-le-suc (free-below bs i t)
 
--- all room together is the number of assignable units
-pub room-total : {free : List Bool} {room : List ℕ} → RoomIs free room → total room ≡ howMany 256 (freeAt free)
-room-total {free} {room} r =
-    total-sum room ∙ ap (λ (n : ℕ). sumTo n (λ c. getD room c 0)) (r .long)
-    ∙ sum-same 16 (λ c. getD room c 0) (λ c. howMany 16 (λ u. freeAt free (c * 16 + u))) (r .each)
+-- all counts together is the number of assignable units
+pub counts-total : {free : List Bool} {counts : List ℕ} → FreeCounts free counts → total counts ≡ howMany 256 (freeAt free)
+counts-total {free} {counts} r =
+    total-sum counts ∙ ap (λ (n : ℕ). sumTo n (λ c. getD counts c 0)) (r .long)
+    ∙ sum-same 16 (λ c. getD counts c 0) (λ c. howMany 16 (λ u. freeAt free (c * 16 + u))) (r .each)
     ∙ sym (sum-rows 16 (λ i. one (freeAt free i)))
 
 pub wants-total : (wants : List ℕ) → length wants ≡ 16 → total wants ≡ sumTo 16 (want wants)

@@ -1,4 +1,4 @@
--- What the definitions of Heads mean. Units that are given in ascending order serve every entry where the channels have room, and are the lowest;
+-- What the definitions of Heads mean. Units that are given in ascending order serve every entry where the channels have counts, and are the lowest;
 -- an assignment's channels are as Choice says; and the channels decide the lowest units. Assumes nothing.
 use Prim.Native.Nat.{ℕ, _+_, _*_, _≤_, _<_, _/_}
 use mathlib.Core.Path.{_≡_, refl, sym, ap, _∙_, subst}
@@ -8,23 +8,24 @@ use mathlib.Core.Logic.{⊎-elim}
 use native.Mathlib.Nat.{eq-zero-or-pos, eq-or-lt-of-le}
 use native.Mathlib.Omega.{arith}
 use lib.ListN.{length, getD}
+use Rattle.numbers.proofs.Order.{le-or-lt}
 use Rattle.numbers.specs.declared.LogicalChannel.{LogicalChannel}
 use Rattle.numbers.specs.declared.ChannelNumber.{ChannelNumber}
 use Rattle.assign_channels.specs.Choice.{want, on, total, Placed}
 use Rattle.assign_channels.proofs.HallLaws.{channel-below}
 use Rattle.assign_heads.specs.declared.Given.{Given}
 use Rattle.assign_heads.specs.Sums.{sumTo, one, howMany}
-use Rattle.assign_heads.proofs.SumsLaws.{le-or-lt, sum-none, sum-same, sum-mono, sum-at, sum-add, one-le, passes-later}
+use Rattle.assign_heads.proofs.SumsLaws.{sum-none, sum-same, sum-mono, sum-at, sum-add, one-le, passes-later}
 use Rattle.assign_heads.specs.Heads.{isTo, isGiven, Served, Lowest}
 use Rattle.assign_heads.specs.Whose.{logical, freeAt}
-use Rattle.assign_heads.specs.Giving.{Owners, RoomIs}
+use Rattle.assign_heads.specs.Giving.{Owners, FreeCounts}
 use Rattle.assign_heads.proofs.GivingLaws.{to-given}
 use Rattle.assign_heads.specs.GaveOut.{Passed}
-use Rattle.assign_heads.proofs.Counting.{free-below, room-total, wants-total, given-once, given-most, by-entry, on-channel, only-channel}
+use Rattle.assign_heads.proofs.Counting.{free-below, counts-total, wants-total, given-once, given-most, by-entry, on-channel, only-channel}
 
 -- ---- all units given
-module _ (free : List Bool) (wants room : List ℕ) (channels : List ChannelNumber) (own : List LogicalChannel) (to : ℕ → Given) (left : List ℕ)
-    (units : length free ≡ 256) (size : length wants ≡ 16) (has : RoomIs free room) (placed : Placed room wants channels) (owners : Owners wants channels own)
+module _ (free : List Bool) (wants counts : List ℕ) (channels : List ChannelNumber) (own : List LogicalChannel) (to : ℕ → Given) (left : List ℕ)
+    (units : length free ≡ 256) (size : length wants ≡ 16) (has : FreeCounts free counts) (placed : Placed counts wants channels) (owners : Owners wants channels own)
     (only : (i : ℕ) → isGiven (to i) ≡ true → freeAt free i ≡ true)
     (p : Passed (freeAt free) (λ c. getD own c (logical 0) .0) (want wants) to left 256) where
   abbrev o : ℕ → ℕ
@@ -54,7 +55,7 @@ module _ (free : List Bool) (wants room : List ℕ) (channels : List ChannelNumb
       let d = sum-add 16 (λ l. howMany 256 (λ i. isTo l (to i))) (λ l. getD left l 0) in
       let e = sum-same 16 (λ l. howMany 256 (λ i. isTo l (to i)) + getD left l 0) (want wants) (p .counted) in
       let f = sum-at 16 0 (λ l. getD left l 0) (omega arith) in
-      absurd (omega (arith, by-entry to, wants-total wants size, room-total has, placed .rest)))
+      absurd (omega (arith, by-entry to, wants-total wants size, counts-total has, placed .rest)))
       (eq-zero-or-pos (getD left 0 0))
 
   -- the entry that has a channel is its owner
@@ -76,7 +77,7 @@ module _ (free : List Bool) (wants room : List ℕ) (channels : List ChannelNumb
       let n = p .counted l k in
       let q : 1 ≤ want wants l = omega arith in
       let f = placed .fits l h k q in
-      let b : on channels l < 16 = omega (arith, channel-below room (on channels l) 1 (omega arith) (omega arith), has .long) in
+      let b : on channels l < 16 = omega (arith, channel-below counts (on channels l) 1 (omega arith) (omega arith), has .long) in
       let c = on channels l in
       let w = owns l h k q b in
       let s = sum-mono 16 (λ u. one (freeAt free (c * 16 + u))) (λ u. one (isTo l (to (c * 16 + u)))) (λ u v. one-le (given c l w b m u v)) in
@@ -107,10 +108,10 @@ module _ (free : List Bool) (wants room : List ℕ) (channels : List ChannelNumb
   }
 
 -- ---- an assignment's channels are as Choice says
-module _ (free : List Bool) (wants room : List ℕ) (channels : List ChannelNumber) (to : ℕ → Given) (size : length wants ≡ 16) (long : length channels ≡ 16) (has : RoomIs free room)
+module _ (free : List Bool) (wants counts : List ℕ) (channels : List ChannelNumber) (to : ℕ → Given) (size : length wants ≡ 16) (long : length channels ≡ 16) (has : FreeCounts free counts)
     (s : Served (freeAt free) (want wants) (on channels) to) where
-  room-at : (l : ℕ) → 1 ≤ l → l < 16 → 1 ≤ want wants l → want wants l ≤ getD room (on channels l) 0
-  room-at l h k q =
+  count-at : (l : ℕ) → 1 ≤ l → l < 16 → 1 ≤ want wants l → want wants l ≤ getD counts (on channels l) 0
+  count-at l h k q =
       let c = on channels l in
       let a = only-channel to (λ i. isTo l (to i)) c (λ i t. s .there i l h t) in
       let m = sum-mono 16 (λ u. one (isTo l (to (c * 16 + u)))) (λ u. one (freeAt free (c * 16 + u))) (λ u v. one-le (λ t. s .only (c * 16 + u) (to-given (to (c * 16 + u)) l t))) in
@@ -125,11 +126,11 @@ module _ (free : List Bool) (wants room : List ℕ) (channels : List ChannelNumb
           let r = passes-later 256 0 (λ i. isTo l (to i)) z in
           omega (arith, r .1 .1 .0, s .there (r .0) l h (r .1 .1 .1))
 
-  rest : total wants ≤ total room
+  rest : total wants ≤ total counts
   rest =
       let a = sum-same 16 (λ l. howMany 256 (λ i. isTo l (to i))) (want wants) (s .all) in
       let b = sum-mono 256 (λ i. sumTo 16 (λ l. one (isTo l (to i)))) (λ i. one (freeAt free i)) (λ i k. omega (arith, given-most (to i), one-le (s .only i))) in
-      omega (arith, by-entry to, wants-total wants size, room-total has)
+      omega (arith, by-entry to, wants-total wants size, counts-total has)
 
-  pub served-placed : Placed room wants channels
-  served-placed = record { long = long; fits = room-at; own = s .own; rest = rest; none-0 = s .none-0; none = s .none }
+  pub served-placed : Placed counts wants channels
+  served-placed = record { long = long; fits = count-at; own = s .own; rest = rest; none-0 = s .none-0; none = s .none }

@@ -3,14 +3,15 @@ use Prim.Native.Nat.{ℕ, zero, suc, _≤_, _<_}
 use mathlib.Core.Path.{_≡_, refl, sym, ap, _∙_, subst}
 use mathlib.Core.Bool.{Bool, true, false}
 use mathlib.Core.Logic.{⊎-elim}
-use native.Mathlib.Nat.{eq-zero-or-pos, eq-or-lt-of-le}
+use native.Mathlib.Nat.{eq-zero-or-pos}
 use native.Mathlib.Omega.{arith}
 use borrow.Author.Tests.{eq-eqb, eqb-true}
+use Rattle.numbers.proofs.Order.{le-or-lt, one-more}
 use Rattle.numbers.proofs.Tests.{by-bool, never}
 use Rattle.assign_heads.specs.declared.Given.{Given}
 use Rattle.assign_heads.specs.declared.Given.the-variants.{Nothing, To}
 use Rattle.assign_heads.specs.Sums.{one, howMany}
-use Rattle.assign_heads.proofs.SumsLaws.{sum-same, sum-suc, grows, passes-later, le-or-lt}
+use Rattle.assign_heads.proofs.SumsLaws.{sum-same, sum-suc, grows, passes-later}
 use Rattle.assign_heads.specs.Heads.{isTo, isGiven, Served, Lowest}
 use Rattle.assign_heads.proofs.GivingLaws.{to-one, to-given}
 
@@ -72,12 +73,7 @@ module _ (free : ℕ → Bool) (want on : ℕ → ℕ) (a b : ℕ → Given) (sa
   below zero h j k = absurd (omega arith)
   below (suc n) h j k =
       let before = below n (omega arith) in
-      ⊎-elim (λ e. subst (λ (x : ℕ). a x ≡ b x) (sym e) (alike (a n) (b n) (half a b sa la sb lb n h before) (half b a sb lb sa la n h (λ i l. sym (before i l)))))
-      (λ l. before j l)
-      (eq-or-lt-of-le (small j n k))
-    where
-      small : (j n : ℕ) → j < suc n → j ≤ n
-      small j n k = omega arith
+      one-more (λ (x : ℕ). a x ≡ b x) n before (alike (a n) (b n) (half a b sa la sb lb n h before) (half b a sb lb sa la n h (λ i l. sym (before i l)))) j (omega arith)
 
   pub units-one : (j : ℕ) → j < 256 → a j ≡ b j
   units-one = below 256 (omega arith)

@@ -4,10 +4,10 @@ use mathlib.Core.Path.{_≡_, sym, ap, _∙_, subst}
 use mathlib.Core.Bool.{Bool, true}
 use mathlib.Core.List.{List}
 use mathlib.Core.Logic.{_⊎_, ⊎-elim}
-use native.Mathlib.Nat.{eq-or-lt-of-le}
 use native.Mathlib.Numerals.{add-one}
 use native.Mathlib.Omega.{arith}
 use lib.ListN.{getD}
+use Rattle.numbers.proofs.Order.{one-more}
 use Rattle.assign_heads.specs.declared.Given.{Given}
 use Rattle.assign_heads.specs.Sums.{sumTo, one, howMany}
 use Rattle.assign_heads.proofs.SumsLaws.{sum-suc, sum-same}
@@ -31,19 +31,17 @@ module _ {free : ℕ → Bool} {own want : ℕ → ℕ} {to : ℕ → Given} {le
   pub onward : {after : List ℕ} → Took (free i) left (own (i / 16)) (to i) after → Passed free own want to after (i + 1)
   onward {after} s = record {
     counted = λ l h. let e : howMany (i + 1) (λ j. isTo l (to j)) ≡ one (isTo l (to i)) + howMany i (λ j. isTo l (to j)) = ap (λ (n : ℕ). howMany n (λ j. isTo l (to j))) (add-one i) ∙ sum-suc i (λ j. one (isTo l (to j))) in omega (arith, s .less l h, p .counted l h);
-    whose = λ j l h. last j h (λ (x : ℕ). isTo l (to x) ≡ true → (l ≡ own (x / 16)) ⊎ (l ≡ 0)) (λ m. p .whose j l m) (s .whose l);
-    first = λ j h. last j h (λ (x : ℕ). free x ≡ true → 1 ≤ getD after (own (x / 16)) 0 → isTo (own (x / 16)) (to x) ≡ true) (λ m f q. p .first j m f (omega (arith, s .fewer (own (j / 16))))) (λ f q. s .first f (omega (arith, s .fewer (own (i / 16)))));
-    some = λ j h. last j h (λ (x : ℕ). free x ≡ true → 1 ≤ getD after 0 0 → isGiven (to x) ≡ true) (λ m f q. p .some j m f (omega (arith, s .fewer 0))) (λ f q. s .some f (omega (arith, s .fewer 0)));
-    units = λ j k l h m o. last k m (λ (x : ℕ). j < x → isTo l (to x) ≡ true → j / 16 ≡ x / 16 → free j ≡ true → isTo l (to j) ≡ true) (λ n a t e f. p .units j k l a n o t e f) (λ a t e f. own-unit j l a o t e f) h;
-    rest = λ j k h m. last k m (λ (x : ℕ). j < x → isTo 0 (to x) ≡ true → free j ≡ true → isGiven (to j) ≡ true) (λ n a t f. p .rest j k a n t f) (λ a t f. p .some j a f (s .lacked 0 t)) h;
+    whose = λ j l. one-more (λ (x : ℕ). isTo l (to x) ≡ true → (l ≡ own (x / 16)) ⊎ (l ≡ 0)) i (λ x m. p .whose x l m) (s .whose l) j;
+    first = one-more (λ (x : ℕ). free x ≡ true → 1 ≤ getD after (own (x / 16)) 0 → isTo (own (x / 16)) (to x) ≡ true) i
+        (λ x m f q. p .first x m f (omega (arith, s .fewer (own (x / 16))))) (λ f q. s .first f (omega (arith, s .fewer (own (i / 16)))));
+    some = one-more (λ (x : ℕ). free x ≡ true → 1 ≤ getD after 0 0 → isGiven (to x) ≡ true) i
+        (λ x m f q. p .some x m f (omega (arith, s .fewer 0))) (λ f q. s .some f (omega (arith, s .fewer 0)));
+    units = λ j k l h m o. one-more (λ (x : ℕ). j < x → isTo l (to x) ≡ true → j / 16 ≡ x / 16 → free j ≡ true → isTo l (to j) ≡ true) i
+        (λ x n a t e f. p .units j x l a n o t e f) (λ a t e f. own-unit j l a o t e f) k m h;
+    rest = λ j k h m. one-more (λ (x : ℕ). j < x → isTo 0 (to x) ≡ true → free j ≡ true → isGiven (to j) ≡ true) i
+        (λ x n a t f. p .rest j x a n t f) (λ a t f. p .some j a f (s .lacked 0 t)) k m h;
   }
     where
-      last : (j : ℕ) → j < i + 1 → (P : ℕ → Type 0) → (j < i → P j) → P i → P j
-      last j h P below here = ⊎-elim (λ e. subst P (sym e) here) below (eq-or-lt-of-le (small j i h))
-        where
-          small : (j i : ℕ) → j < i + 1 → j ≤ i
-          small j i h = omega arith
-
       -- a unit of the same channel before the one that its entry takes now
       own-unit : (j l : ℕ) → j < i → 1 ≤ l → isTo l (to i) ≡ true → j / 16 ≡ i / 16 → free j ≡ true → isTo l (to j) ≡ true
       own-unit j l h o t e f =

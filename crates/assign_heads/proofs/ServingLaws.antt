@@ -17,7 +17,7 @@ use Rattle.assign_heads.specs.declared.Service.{Service}
 use Rattle.assign_heads.proofs.HeadsLaws.{all-served, all-lowest, served-placed}
 use Rattle.assign_heads.proofs.HeadsOne.{units-one}
 use Rattle.assign_heads.specs.Whose.{freeAt, blank, toAt}
-use Rattle.assign_heads.specs.Giving.{Owners, RoomIs}
+use Rattle.assign_heads.specs.Giving.{Owners, FreeCounts}
 use Rattle.assign_heads.specs.GaveOut.{Logical, GaveOut}
 use Rattle.assign_heads.proofs.GaveOutLaws.{only-free}
 use Rattle.assign_heads.specs.Serving.{Chosen, Lacking, Answer, Serves}
@@ -26,20 +26,20 @@ use Rattle.assign_heads.specs.Serving.{Chosen, Lacking, Answer, Serves}
 pub owners-logical : {wants : List ℕ} {channels : List ChannelNumber} {own : List LogicalChannel} → Owners wants channels own → Logical own
 owners-logical o = record { each = λ c h. o .each c h .below }
 
-module _ {free : List Bool} {wants room : List ℕ} {before : List Head} {channels : List ChannelNumber} (units : length free ≡ 256) (size : length wants ≡ 16) (has : RoomIs free room) where
+module _ {free : List Bool} {wants counts : List ℕ} {before : List Head} {channels : List ChannelNumber} (units : length free ≡ 256) (size : length wants ≡ 16) (has : FreeCounts free counts) where
   -- a list that some assignment has is one of the lists that the choice is from
-  pub chosen : {own : List LogicalChannel} {after : List Head} → Least room wants channels → Owners wants channels own → GaveOut free own wants before after → Chosen free wants before channels after
+  pub chosen : {own : List LogicalChannel} {after : List Head} → Least counts wants channels → Owners wants channels own → GaveOut free own wants before after → Chosen free wants before channels after
   chosen {own} {after} l o g = record {
     long = l .placed .long;
     wide = g .gave .wide;
-    served = all-served free wants room channels own (toAt free after) (g .left) units size has (l .placed) o (only-free free after) (g .gave .passed);
-    least = λ others p. l .least others (served-placed free wants room others (p .to) size (p .long) has (p .served));
-    lowest = all-lowest free wants room channels own (toAt free after) (g .left) units size has (l .placed) o (only-free free after) (g .gave .passed);
+    served = all-served free wants counts channels own (toAt free after) (g .left) units size has (l .placed) o (only-free free after) (g .gave .passed);
+    least = λ others p. l .least others (served-placed free wants counts others (p .to) size (p .long) has (p .served));
+    lowest = all-lowest free wants counts channels own (toAt free after) (g .left) units size has (l .placed) o (only-free free after) (g .gave .passed);
     kept = g .gave .kept;
   }
 
-  pub lacking : NoList room wants channels → Lacking free wants before channels before
-  lacking n = record { never = λ others p. n .never others (served-placed free wants room others (p .to) size (p .long) has (p .served)); none = n .blank; same = refl }
+  pub lacking : NoList counts wants channels → Lacking free wants before channels before
+  lacking n = record { never = λ others p. n .never others (served-placed free wants counts others (p .to) size (p .long) has (p .served)); none = n .blank; same = refl }
 
 -- ---- one answer
 module _ (free : List Bool) (wants : List ℕ) (before : List Head) where

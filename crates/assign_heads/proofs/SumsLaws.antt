@@ -1,18 +1,16 @@
 -- Laws on sums and counts. Assumes nothing.
-use Prim.Native.Nat.{ℕ, zero, suc, _+_, _*_, _-_, _≤_, _<_}
-use mathlib.Core.Path.{_≡_, refl, sym, ap, _∙_, subst}
+use Prim.Native.Nat.{ℕ, zero, suc, _+_, _*_, _≤_, _<_}
+use mathlib.Core.Path.{_≡_, refl, sym, ap, _∙_}
 use mathlib.Core.Bool.{Bool, true}
 use mathlib.Core.List.{List, [], _∷_}
-use mathlib.Core.Logic.{_⊎_, inl, inr, ⊎-elim}
-use native.Mathlib.Nat.{eq-zero-or-pos, eq-or-lt-of-le}
+use mathlib.Core.Logic.{⊎-elim}
+use native.Mathlib.Nat.{eq-or-lt-of-le}
 use native.Mathlib.Omega.{arith}
 use lib.ListN.{length, getD}
+use Rattle.numbers.proofs.Order.{le-or-lt, one-more}
 use Rattle.numbers.proofs.Tests.{by-bool}
 use Rattle.assign_channels.specs.Choice.{total}
 use Rattle.assign_heads.specs.Sums.{sumTo, one, howMany}
-
-pub le-or-lt : (a b : ℕ) → (a ≤ b) ⊎ (b < a)
-le-or-lt a b = ⊎-elim (λ e. inl (omega arith)) (λ p. inr (omega arith)) (eq-zero-or-pos (a - b))
 
 pub sum-suc : (n : ℕ) (f : ℕ → ℕ) → sumTo (suc n) f ≡ f n + sumTo n f
 unfolding sumTo
@@ -51,10 +49,7 @@ sum-swap (suc n) m h = ap (λ (x : ℕ). sumTo m (h n) + x) (sum-swap n m h) ∙
 pub sum-at : (n c : ℕ) (f : ℕ → ℕ) → c < n → f c ≤ sumTo n f
 unfolding sumTo
 sum-at zero c f h = absurd (omega arith)
-sum-at (suc n) c f h = ⊎-elim (λ e. subst (λ (x : ℕ). f x ≤ f n + sumTo n f) (sym e) (omega arith)) (λ l. omega (arith, sum-at n c f l)) (eq-or-lt-of-le (below c n h))
-  where
-    below : (c n : ℕ) → c < suc n → c ≤ n
-    below c n h = omega arith
+sum-at (suc n) c f h = one-more (λ (x : ℕ). f x ≤ f n + sumTo n f) n (λ x l. omega (arith, sum-at n x f l)) (omega arith) c (omega arith)
 
 -- and all, where the others are 0
 pub sum-only : (n c : ℕ) (f : ℕ → ℕ) → ((i : ℕ) → i < n → (i ≡ c → ⊥) → f i ≡ 0) → sumTo n f ≤ f c

@@ -1,4 +1,5 @@
--- What is known when the units below i have been given: what the loop that gives them keeps. Nothing here has to be believed.
+-- What is known when the units below i have been given: what the loop that gives them keeps. Nothing here has to be
+-- believed.
 use Prim.Native.Nat.{ℕ, _+_, _≤_, _<_, _/_}
 use mathlib.Core.Path.{_≡_}
 use mathlib.Core.Bool.{Bool, true, false}
@@ -13,6 +14,7 @@ use Rattle.assign_heads.specs.Whose.{logical, freeAt, blank, toAt}
 use mathlib.Core.Logic.{_⊎_}
 use Rattle.assign_heads.specs.Sums.{howMany}
 
+-- the units below i, by number
 pub record Passed (free : ℕ → Bool) (own want : ℕ → ℕ) (to : ℕ → Given) (left : List ℕ) (i : ℕ) : Type 0 where
   -- what is given and what is lacking make what is asked for
   pub counted : (l : ℕ) → l < 16 → howMany i (λ j. isTo l (to j)) + getD left l 0 ≡ want l
@@ -40,6 +42,7 @@ pub record Gave (free : List Bool) (own : List LogicalChannel) (wants : List ℕ
   pub passed : Passed (freeAt free) (ownAt own) (want wants) (toAt free after) left i
   pub kept : (j : ℕ) → freeAt free j ≡ false → getD after j blank ≡ getD before j blank
 
+-- all units have been given
 pub record GaveOut (free : List Bool) (own : List LogicalChannel) (wants : List ℕ) (before after : List Head) : Type 0 where
   pub left : List ℕ
   pub gave : Gave free own wants before after left 256

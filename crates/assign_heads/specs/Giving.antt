@@ -1,17 +1,16 @@
--- How units are given: in ascending order, each to its channel's entry while that has not all, else to logical channel 0 while that has not all.
+-- How units are given: in ascending order, each to its channel's entry while that lacks some, else to logical channel
+-- 0 while that does. Nothing here has to be believed: private functions cite it, and Serving says what comes out.
 use Prim.Native.Nat.{ℕ, _-_, _≤_, _<_, _*_, _+_}
 use mathlib.Core.Path.{_≡_}
-use mathlib.Core.Bool.{Bool, false, cond, _&&_}
+use mathlib.Core.Bool.{Bool, cond}
 use mathlib.Core.List.{List}
-use lib.Dec.{leb, ltb}
+use lib.Dec.{ltb}
 use lib.ListN.{length, getD, set}
 use Rattle.numbers.specs.declared.LogicalChannel.{LogicalChannel}
 use Rattle.numbers.specs.declared.ChannelNumber.{ChannelNumber}
-use Rattle.numbers.specs.declared.UnitNumber.{UnitNumber}
 use Rattle.assign_channels.specs.Choice.{want, on}
 use Rattle.assign_heads.specs.declared.Given.{Given}
 use Rattle.assign_heads.specs.declared.Given.the-variants.{Nothing, To}
-use Rattle.assign_heads.specs.declared.Head.{Head}
 use Rattle.assign_heads.specs.Sums.{howMany}
 use Rattle.assign_heads.specs.Whose.{logical, freeAt}
 
@@ -36,6 +35,6 @@ pub record Owners (wants : List ℕ) (channels : List ChannelNumber) (own : List
   pub each : (c : ℕ) → c < 16 → OwnerIs wants channels c (getD own c (logical 0) .0)
 
 -- how many assignable units each channel has
-pub record RoomIs (free : List Bool) (room : List ℕ) : Type 0 where
-  pub long : length room ≡ 16
-  pub each : (c : ℕ) → c < 16 → getD room c 0 ≡ howMany 16 (λ u. freeAt free (c * 16 + u))
+pub record FreeCounts (free : List Bool) (counts : List ℕ) : Type 0 where
+  pub long : length counts ≡ 16
+  pub each : (c : ℕ) → c < 16 → getD counts c 0 ≡ howMany 16 (λ u. freeAt free (c * 16 + u))

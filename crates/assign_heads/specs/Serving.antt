@@ -1,4 +1,5 @@
--- What serving a kind's entries answers: the least list of channels and the lowest units on them, or nothing.
+-- What serving a kind's entries answers: the least list of channels and the lowest units on them, or nothing. A
+-- reader has to believe this page.
 use Prim.Native.Nat.{ℕ}
 use mathlib.Core.Path.{_≡_}
 use mathlib.Core.Bool.{Bool, true, false}
@@ -18,7 +19,8 @@ pub record Possible (free : List Bool) (wants : List ℕ) (channels : List Chann
   pub to : ℕ → Given
   pub served : Served (freeAt free) (want wants) (on channels) to
 
--- served: the least list of channels that some assignment has, the lowest units; the units of other kinds keep what they were given to
+-- served: the least list of channels that some assignment has, the lowest units; the units of other kinds keep what
+-- they were given to
 pub record Chosen (free : List Bool) (wants : List ℕ) (before : List Head) (channels : List ChannelNumber) (heads : List Head) : Type 0 where
   pub long : length channels ≡ 16
   pub wide : length heads ≡ 256
@@ -33,9 +35,11 @@ pub record Lacking (free : List Bool) (wants : List ℕ) (before : List Head) (c
   pub none : channels ≡ replicate 16 (channel 0)
   pub same : heads ≡ before
 
+-- what is answered: served or not
 abbrev pub Answer : Bool → List Bool → List ℕ → List Head → List ChannelNumber → List Head → Type 0
 Answer true = Chosen
 Answer false = Lacking
 
+-- a service is right
 abbrev pub Serves : List Bool → List ℕ → List Head → Service → Type 0
 Serves free wants before r = Answer (r .ok) free wants before (r .on) (r .heads)

@@ -1,4 +1,4 @@
--- Numbers added up, and how many of them pass a test.
+-- Numbers added up, and how many of them pass a test. A reader has to believe this page.
 use Prim.Native.Nat.{ℕ, zero, suc, _+_}
 use mathlib.Core.Bool.{Bool, cond}
 
@@ -7,6 +7,7 @@ unfoldable pub sumTo : ℕ → (ℕ → ℕ) → ℕ
 sumTo zero f = 0
 sumTo (suc n) f = f n + sumTo n f
 
+-- what a test counts for
 abbrev pub one : Bool → ℕ
 one b = cond b 1 0
 

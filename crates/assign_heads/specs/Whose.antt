@@ -1,4 +1,4 @@
--- To which entry a unit is given.
+-- To which entry a unit is given. A reader has to believe this page.
 use Prim.Native.Nat.{ℕ, _*_, _+_}
 use mathlib.Core.Bool.{Bool, false, cond, _&&_}
 use mathlib.Core.List.{List}

@@ -6,7 +6,7 @@ ghost use mathlib.Core.Path.{_≡_};
 ghost use Prim.Native.Nat.{ℕ, _+_, _*_, _<_};
 ghost use Rattle.assign_heads.specs.Sums.{howMany};
 ghost use Rattle.assign_heads.specs.Whose.{freeAt, givenAt};
-ghost use Rattle.assign_heads.specs.Giving.{takerOf, lessOf, OwnerIs, Owners, RoomIs};
+ghost use Rattle.assign_heads.specs.Giving.{takerOf, lessOf, OwnerIs, Owners, FreeCounts};
 ghost use Rattle.assign_heads.specs.GaveOut.{Logical, GaveOut};
 ghost use Rattle.assign_heads.specs.Serving.{Serves};
 
@@ -20,7 +20,8 @@ pub struct Head {
     pub to: Given,
 }
 
-// Whether a kind's entries are served; then the channel of each, by logical channel, and to which entry each unit is given.
+// Whether a kind's entries are served; then the channel of each, by logical channel, and to which entry each unit is
+// given.
 pub struct Service {
     pub ok: bool,
     pub on: [ChannelNumber; 16],
@@ -28,7 +29,7 @@ pub struct Service {
 }
 
 // Where a unit of a channel stands.
-fn place_of(channel: ChannelNumber, unit: UnitNumber) -> usize
+fn index_of(channel: ChannelNumber, unit: UnitNumber) -> usize
     ensures { λ r. ⌜ r ≡ channel .0 * 16 + unit .0 ⌝ }
 {
     (channel.0 as usize) * 16 + (unit.0 as usize)
@@ -44,7 +45,7 @@ pub fn given_at(heads: [Head; 256], channel: ChannelNumber, unit: UnitNumber) ->
     if 15 < unit.0 {
         return Given::Nothing;
     }
-    let at = place_of(channel, unit);
+    let at = index_of(channel, unit);
     let head = heads[at];
     head.to
 }
@@ -57,7 +58,7 @@ fn free_on(free: &[bool; 256], channel: ChannelNumber) -> u8
     let mut n: u8 = 0;
     let mut u: usize = 0;
     while u < 16 {
-        let at = place_of(channel, UnitNumber(u as u8));
+        let at = index_of(channel, UnitNumber(u as u8));
         if free[at] {
             n += 1;
         }
@@ -67,16 +68,16 @@ fn free_on(free: &[bool; 256], channel: ChannelNumber) -> u8
 }
 
 // The same for every channel.
-fn room_of(free: &[bool; 256]) -> [u8; 16]
-    ensures { λ r. ⌜ RoomIs (now (free .entry)) r ⌝ }
+fn free_counts(free: &[bool; 256]) -> [u8; 16]
+    ensures { λ r. ⌜ FreeCounts (now (free .entry)) r ⌝ }
 {
-    let mut room = [0u8; 16];
+    let mut counts = [0u8; 16];
     let mut c: usize = 0;
     while c < 16 {
-        room[c] = free_on(free, ChannelNumber(c as u8));
+        counts[c] = free_on(free, ChannelNumber(c as u8));
         c += 1;
     }
-    room
+    counts
 }
 
 // The logical channel of the entry that has a channel; 0 where none has.
@@ -109,7 +110,8 @@ fn owners(on: [ChannelNumber; 16], wants: [u8; 16]) -> [LogicalChannel; 16]
     own
 }
 
-// The entry that a channel's next unit goes to: its own while that lacks a unit, else logical channel 0 while that does.
+// The entry that a channel's next unit goes to: its own while that lacks a unit, else logical channel 0 while that
+// does.
 fn taker(left: [u8; 16], own: LogicalChannel) -> Given
     requires { ⌜ own .0 < 16 ⌝ }
     ensures { λ r. ⌜ r ≡ takerOf left own ⌝ }
@@ -166,13 +168,13 @@ fn give(
     next
 }
 
-// Serves the entries of one kind, whose assignable units `free` names: the least list of channels, the lowest units on each, then the lowest
-// remaining ones for logical channel 0.
+// Serves the entries of one kind, whose assignable units `free` names: the least list of channels, the lowest units
+// on each, then the lowest remaining ones for logical channel 0.
 pub fn serve(free: [bool; 256], wants: [u8; 16], heads: [Head; 256]) -> Service
     ensures { λ r. ⌜ Serves free wants heads r ⌝ }
 {
-    let room = room_of(&free);
-    let picks = assign_channels::choose(room, wants);
+    let counts = free_counts(&free);
+    let picks = assign_channels::choose(counts, wants);
     let on = picks.on;
     if !picks.ok {
         return Service {

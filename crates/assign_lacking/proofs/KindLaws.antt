@@ -9,7 +9,8 @@ use lib.ListN.{length, getD, drop, replicate, length-drop}
 use lib.Seq.{ext-getD, length-take-le, getD-take, getD-drop}
 use borrow.Author.Tests.{ltb-true, ltb-false}
 use Rattle.numbers.proofs.Tests.{by-bool}
-use Rattle.numbers.proofs.Tables.{values, values-at}
+use Rattle.numbers.specs.Values.{values}
+use Rattle.numbers.proofs.ValuesLaws.{values-at}
 use Rattle.numbers.specs.declared.ChannelNumber.{ChannelNumber}
 use Rattle.units.specs.declared.Unit.{Unit}
 use Rattle.channels.specs.declared.Channel.{Channel}
@@ -21,7 +22,7 @@ use Rattle.assign_heads.specs.declared.Head.{Head}
 use Rattle.assign_heads.specs.Heads.{Served}
 use Rattle.assign_heads.specs.Sums.{howMany}
 use Rattle.assign_heads.specs.Whose.{freeAt, blank, toAt}
-use Rattle.assign_heads.specs.Giving.{RoomIs}
+use Rattle.assign_heads.specs.Giving.{FreeCounts}
 use Rattle.assign_heads.proofs.HeadsLaws.{served-placed}
 use Rattle.assign_heads.proofs.ServingLaws.{served-so}
 use Rattle.assign_heads.proofs.Computed.{roomOf, serviceOf, serveOf, serve-answers}
@@ -68,7 +69,7 @@ module _ (units : List (List Unit)) (channels : List Channel) (size : length cha
   marked = λ j i. marks units channels size (marks-answer units channels row) i j
 
   -- the counts are those of the marks
-  room : RoomIs free (wantsOf counts row)
+  room : FreeCounts free (wantsOf counts row)
   room = record {
     long = part-long counts (c .long);
     each = λ d h. part-at counts d h ∙ c .each row d is h ∙ ap (λ (f : ℕ → Bool). howMany 16 (λ u. f (d * 16 + u))) (sym marked);

@@ -85,23 +85,11 @@ fn is_in(run: Blocks, block: u8) -> bool
     run.start <= block && (block as u32) < run.start as u32 + run.count as u32
 }
 
-// Whether a place is empty.
-fn is_empty(state: JobState) -> bool
-    ensures { λ r. ⌜ r ≡ isEmpty state ⌝ }
-{
-    match state {
-        JobState::Empty => true,
-        JobState::Running => false,
-        JobState::ClosingNormal => false,
-        JobState::ClosingError => false,
-    }
-}
-
 // Whether a place's job holds a block.
 fn holds(state: JobState, core: Core, block: u8) -> bool
     ensures { λ r. ⌜ r ≡ holdsBlock state core block ⌝ }
 {
-    if is_empty(state) {
+    if packets_job::is_empty(state) {
         return false;
     }
     let ib = core.ib;

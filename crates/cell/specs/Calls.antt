@@ -1,5 +1,5 @@
--- Every call on the cell: what it answers, and what schedule and lists then hold. A reader has to believe this page; it puts together the pages of the
--- schedule's calls, of selection and of the request lists.
+-- Every call on the cell: what it answers, and what schedule and lists then hold. A reader has to believe this page;
+-- it puts together the pages of the schedule's calls, of selection and of the request lists.
 use Prim.Native.Nat.{ℕ}
 use mathlib.Core.Path.{_≡_}
 use mathlib.Core.Bool.{Bool, true, false, cond, _&&_}
@@ -41,7 +41,8 @@ freshCell configuration = cellOf (scheduleOf []) (listsOf (fresh (configuration 
 
 -- ---- the calls on packets, jobs and marks: what the request lists say, and the schedule follows
 
--- "all facilities return together, and only then a normal end removes its request; an error end suspends it .., else removes it"
+-- "all facilities return together, and only then a normal end removes its request; an error end suspends it .., else
+-- removes it"
 abbrev pub leftBy : Leaving → Schedule → ℕ → Schedule → Schedule
 leftBy Stays s place otherwise = otherwise
 leftBy AfterNormal s place otherwise = returned s place false
@@ -96,7 +97,8 @@ releasing cell id = changed cell (released (cell .schedule) id)
 abbrev pub deleting : Cell → List ℕ → Answered
 deleting cell id = changed cell (deleted (cell .schedule) id)
 
--- ENTER A DECK: the error lines and the last line in the lent room, the schedule that follows; a refused deck changes nothing and puts nothing
+-- ENTER A DECK: the error lines and the last line in the lent room, the schedule that follows; a refused deck changes
+-- nothing and puts nothing
 pub record Enters (cell : Cell) (bytes room after· : List ℕ) (r : DeckAnswer) : Type 0 where
   pub deck : DeckEntered (cell .schedule) bytes room after· (record { outcome = r .outcome; schedule = r .cell .schedule; at = r .at })
   pub lists : r .cell .lists ≡ cell .lists

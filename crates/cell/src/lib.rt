@@ -1,4 +1,5 @@
-// The cell: its schedule and its request lists in one value, and every call on it. The configuration is in the lists, as their channels.
+// The cell: its schedule and its request lists in one value, and every call on it. The configuration is in the lists,
+// as their channels.
 use cell_selection::Selection;
 use channels::Configuration;
 use numbers::ChannelNumber;

@@ -2,19 +2,14 @@
 -- return empties the place. And what the fresh cell's places are. Assumes nothing.
 use Prim.Native.Nat.{ℕ, _≤_, _<_}
 use mathlib.Core.Path.{_≡_, ap, _∙_}
-use mathlib.Core.Bool.{Bool, true, false, cond, not, _&&_}
-use mathlib.Core.List.{List, []}
-use native.Mathlib.Decide.{decLt}
-use native.Mathlib.Omega.{arith}
+use mathlib.Core.Bool.{Bool, true, cond, not, _&&_}
 use lib.Dec.{eqb}
-use lib.ListN.{length, getD, List·getD-eq-default}
+use lib.ListN.{length, List·getD-eq-default}
 use Rattle.numbers.proofs.Tests.{by-bool}
-use Rattle.units.specs.State.{freshUnit, unitIn}
-use Rattle.units.specs.declared.Holder.the-variants.{Free}
 use Rattle.channels.specs.declared.Configuration.{Configuration}
 use Rattle.configuration_units.specs.Fresh.{freshUnits}
-use Rattle.configuration_units.proofs.FreshLaws.{fresh-at, fresh-square}
-use Rattle.packets.specs.Demand.{NoneHeld, fresh}
+use Rattle.configuration_units.proofs.FreshLaws.{fresh-free}
+use Rattle.packets.specs.Demand.{fresh}
 use Rattle.packets.proofs.Inv.{Inv, running-alive}
 use Rattle.packets.proofs.Laws.{and-left}
 use Rattle.packets.specs.Rules.{aimed, always, atUnit, begun, closed, closing, codeFor, cut, failed, finished, isDone, isFailure, locked, over, packet, returned, submitted}
@@ -85,21 +80,8 @@ states-beyond s I j h =
 
 -- ---- the fresh cell
 
-none-held : (down : List Bool) → NoneHeld (freshUnits down)
-none-held down c u =
-    elim (decLt c 16) [
-      | yes h ↦ elim (decLt u 16) [ yes k ↦ rw (fresh-at down c u h k) | no k ↦ unit-past (omega (arith, fresh-square down .units c h)) ]
-      | no h ↦ channel-past (omega (arith, fresh-square down .channels))
-    ]
-  where
-    unit-past : length (getD (freshUnits down) c []) ≤ u → unitIn (freshUnits down) c u .holder ≡ Free
-    unit-past h = unfold unitIn in rw (List·getD-eq-default (getD (freshUnits down) c []) (freshUnit false) h)
-
-    channel-past : length (freshUnits down) ≤ c → unitIn (freshUnits down) c u .holder ≡ Free
-    channel-past h = unfold unitIn in rw (List·getD-eq-default (freshUnits down) [] h)
-
 pub fresh-cell-inv : (configuration : Configuration) → Inv (inside (freshCell configuration))
 unfolding freshCell
 fresh-cell-inv configuration =
     rw (state-of (fresh (configuration .channels) (freshUnits (configuration .down))))
-    (fresh-inv (configuration .channels) (freshUnits (configuration .down)) (none-held (configuration .down)))
+    (fresh-inv (configuration .channels) (freshUnits (configuration .down)) (fresh-free (configuration .down)))

@@ -6,7 +6,8 @@ use mathlib.Core.Bool.{Bool, true, false, cond, _&&_}
 use mathlib.Core.List.{List, [], _∷_}
 use lib.Dec.{eqb, leb}
 use lib.ListN.{length, List·getD-eq-default}
-use borrow.Author.Tests.{eq-eqb, eqb-true, eqb-false, ltb-true, ltb-false, lt-ltb, ne-eqb}
+use borrow.Author.Tests.{eqb-true, eqb-false, ltb-true, ltb-false, lt-ltb, ne-eqb}
+use Rattle.packets.proofs.Laws.{eqb-self}
 use Rattle.numbers.specs.Quoted.{byte}
 use Rattle.numbers.proofs.Tests.{both, by-bool, never}
 use Rattle.cards_fields.specs.Deck.{deckEnd}
@@ -159,9 +160,6 @@ by-place place l s t e f i =
     by-bool (eqb i place) (λ q. rw q (rw (eqb-true i place q) e)) (λ q. rw q (f i q))
 
 -- a state in its place, and in no other
-own-place : (place : ℕ) → eqb place place ≡ true
-own-place place = eq-eqb place place refl
-
 other-place : (i place : ℕ) → eqb i place ≡ false → eqb place i ≡ false
 other-place i place d = ne-eqb place i (λ q. eqb-false i place d (sym q))
 
@@ -175,7 +173,7 @@ pub put-taken : (s : Schedule) (k place : ℕ) → k < length (inSchedule s) →
 put-taken s k place h w e =
     let n : (j : ℕ) → inPlace j (entryAt (inSchedule s) k .state) ≡ false = λ j. idle-nowhere j (entryAt (inSchedule s) k .state) (waiting-idle (entryAt (inSchedule s) k .state) w) in
     by-place place (Running place ∷ []) s (taken s k place)
-    (seen-changed place k (Running place) s h ∙ changed-into place k (Running place) (inSchedule s) h (n place) e ∙ rw (own-place place))
+    (seen-changed place k (Running place) s h ∙ changed-into place k (Running place) (inSchedule s) h (n place) e ∙ rw (eqb-self place))
     (λ i d. seen-changed i k (Running place) s h ∙ changed-apart i k (Running place) (inSchedule s) h (n i) (other-place i place d))
 
 -- the job of a place closes
@@ -185,7 +183,7 @@ put-closing s place y e =
     let f = first-there place y [] (inSchedule s) e in
     subst (λ (t : Schedule). Put place (Closing place ∷ []) s t) (closing-at s place)
     (by-place place (Closing place ∷ []) s (changedAt k (Closing place) s)
-    (seen-changed place k (Closing place) s (f .0) ∙ changed-alone place k (Closing place) y (inSchedule s) (f .0) (f .1) e ∙ rw (own-place place))
+    (seen-changed place k (Closing place) s (f .0) ∙ changed-alone place k (Closing place) y (inSchedule s) (f .0) (f .1) e ∙ rw (eqb-self place))
     (λ i d. seen-changed i k (Closing place) s (f .0)
     ∙ changed-apart i k (Closing place) (inSchedule s) (f .0) (in-one i place (entryAt (inSchedule s) k .state) d (f .1)) (other-place i place d)))
 

@@ -1,4 +1,5 @@
--- What the request lists hear of a history of the cell: each call is at most one call of theirs, and a selection is a taking.
+-- What the request lists hear of a history of the cell: each call is at most one call of theirs, and a selection is a
+-- taking.
 use mathlib.Core.Bool.{cond}
 use mathlib.Core.List.{List, [], _∷_, _++_}
 use Rattle.packets.specs.Rules as Rules
@@ -6,7 +7,25 @@ use Rattle.packets.specs.State.{State}
 use Rattle.lists.specs.Outcomes.{stateOf}
 use Rattle.cell_selection.specs.Selecting.{takingOf}
 use Rattle.cell.specs.declared.Cell.{Cell}
-use Rattle.cell_history.specs.History.{Call, Chosen, Complete, Deck, Delete, End, Entered, Event, Mark, Release, Reply, Said, Select, Shown, Start, Status, Submit}
+use Rattle.cell_history.specs.History.{
+  Call,
+  Chosen,
+  Complete,
+  Deck,
+  Delete,
+  End,
+  Entered,
+  Event,
+  Mark,
+  Release,
+  Reply,
+  Said,
+  Select,
+  Shown,
+  Start,
+  Status,
+  Submit,
+}
 
 -- the taking that a selection makes, if it selects
 abbrev pub taken : Reply → List Rules.Call

@@ -1,5 +1,6 @@
--- ANY SEQUENCE OF CALLS. A call of document 01 on the cell, what it answers, and what it leaves, each exactly as the contract of the public function of
--- its name in `cell` gives it; and calls one after the other. A reader has to believe this page.
+-- ANY SEQUENCE OF CALLS. A call of document 01 on the cell, what it answers, and what it leaves, each exactly as the
+-- contract of the public function of its name in `cell` gives it; and calls one after the other. A reader has to
+-- believe this page.
 use Prim.Native.Nat.{ℕ}
 use mathlib.Core.Path.{_≡_}
 use mathlib.Core.Bool.{Bool}
@@ -30,7 +31,8 @@ pub data Call : Type 0 where
   Delete : List ℕ → Call
   Status : ℕ → ℕ → Call
 
--- what they answer: how a deck ended; what was selected; the answer of a packet, job, mark or schedule call; a packet's status
+-- what they answer: how a deck ended; what was selected; the answer of a packet, job, mark or schedule call; a
+-- packet's status
 pub data Reply : Type 0 where
   Entered : Outcome → Reply
   Chosen : Outcome → Selection → Reply
@@ -43,7 +45,8 @@ Acts c x reply d = (reply ≡ Said (acted c x .answer)) × (d ≡ acted c x .cel
 
 -- WHAT A CALL MAY ANSWER AND LEAVE: `Does c x reply d`, called as x the cell c answers reply and is then d
 abbrev pub Does : Cell → Call → Reply → Cell → Type 0
-Does c (Deck bytes) reply d = (room after : List ℕ) × ((r : DeckAnswer) × (Enters c bytes room after r × ((reply ≡ Entered (r .outcome)) × (d ≡ r .cell))))
+Does c (Deck bytes) reply d =
+    (room after : List ℕ) × ((r : DeckAnswer) × (Enters c bytes room after r × ((reply ≡ Entered (r .outcome)) × (d ≡ r .cell))))
 Does c Select reply d = (r : SelectAnswer) × (SelectsIn c r × ((reply ≡ Chosen (r .outcome) (r .selection)) × (d ≡ r .cell)))
 Does c (Submit place packet function channel spot) reply d = Acts c (Lists.Submit place packet function channel spot) reply d
 Does c (Start channel) reply d = Acts c (Lists.Start channel) reply d

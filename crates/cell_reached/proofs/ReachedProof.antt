@@ -6,7 +6,7 @@ use mathlib.Core.Bool.{Bool, cond}
 use mathlib.Core.List.{List, [], _∷_, _++_}
 use Rattle.numbers.proofs.Tests.{by-bool}
 use Rattle.configuration_units.specs.Fresh.{freshUnits}
-use Rattle.configuration_units.proofs.FreshLaws.{fresh-square}
+use Rattle.configuration_units.proofs.FreshLaws.{fresh-square, fresh-free}
 use Rattle.schedule_list.specs.InSchedule.{inSchedule}
 use Rattle.packets.specs.Always.{Always}
 use Rattle.packets.proofs.AlwaysProof.{invariants}
@@ -27,9 +27,9 @@ use Rattle.cell.specs.declared.Cell.{Cell}
 use Rattle.cell_history.proofs.HeardLaws.{does-heard}
 use Rattle.cell_history.specs.Heard.{heard, heardOf, inside}
 use Rattle.cell_history.specs.History.{Call, Complete, Deck, Delete, Does, End, Event, Leads, Mark, Release, Reply, Select, Start, Status, Submit}
-use Rattle.demands.proofs.Proved.{fresh-inside, none-held, reached}
+use Rattle.demands.proofs.Proved.{fresh-inside, reached}
 use Rattle.cell_reached.proofs.Fitting.{area-fits, core-fits, units-fit}
-use Rattle.cell_reached.specs.Reached.{Invariants, Reached}
+use Rattle.cell_reached.specs.Reached.{Invariants}
 
 -- each call of a list has a property, in the state before it; kept when lists are joined
 Each : (State → Rules.Call → Type 0) → State → List Rules.Call → Type 0
@@ -127,7 +127,7 @@ pub every-cell : Invariants
 every-cell configuration es c h =
     let channels = configuration .channels in
     let units = freshUnits (configuration .down) in
-    let free = none-held (configuration .down) in
+    let free = fresh-free (configuration .down) in
     let is = reached configuration es c h in
     let apart = disjoint channels units free (heard es) in
     record {

@@ -35,7 +35,7 @@ module _ (es : List Entry) (cell : Cell) where
   fit-some : {k : ℕ} {a : Assigned} → FirstFit es cell k a → NoFit es cell → ⊥
   fit-some {k} {a} f n = n k (f .candidate) a (f .chosen .is)
 
-  -- two first fits stand at one place
+  -- two first fits stand at one index
   fit-at : {k m : ℕ} {a b : Assigned} → FirstFit es cell k a → FirstFit es cell m b → k ≡ m
   fit-at {k} {m} {a} {b} f g =
       by-bool (ltb k m) (λ t. absurd (g .first k (ltb-true k m t) (f .candidate) a (f .chosen .is)))

@@ -1,4 +1,5 @@
--- Document 01, 'Selecting and assigning': which request is selected, for which place, with which assignment. A reader has to believe this page.
+-- Document 01, 'Selecting and assigning': which request is selected, for which place, with which assignment. A reader
+-- has to believe this page.
 use Prim.Native.Nat.{ℕ, _<_}
 use mathlib.Core.Path.{_≡_}
 use mathlib.Core.Bool.{Bool, true, false, cond}
@@ -38,7 +39,7 @@ seenIn lists = cellOf (lists .units .of) (occupancy (anyHas (map coreOf (lists .
 abbrev pub HasNone : Cell → Request → Type 0
 HasNone cell request = (b : Assigned) → IsAssignment cell (request .facilities) b → ⊥
 
--- the request at a place of the schedule is a candidate
+-- the request at an index of the schedule is a candidate
 abbrev pub Candidate : List Entry → ℕ → Type 0
 Candidate es i = (i < length es) × (candidate es (entryAt es i) ≡ true)
 

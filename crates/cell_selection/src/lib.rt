@@ -1,6 +1,5 @@
 // Which request is selected: the first candidate in order that has an assignment, for the lowest free place.
 use assign::Assigned;
-use assign::KindChannels;
 use assign_drum::Area;
 use assign_heads::Given;
 use assign_heads::Head;
@@ -8,7 +7,6 @@ use cards::Facilities;
 use cards::Request;
 use cell_taken::FreePlace;
 use channels::Channel;
-use numbers::ChannelNumber;
 use packets::Assignment;
 use packets::Blocks;
 use packets::Core;
@@ -19,19 +17,19 @@ use units::Units;
 ghost use mathlib.Core.Path.{_≡_};
 ghost use mathlib.Core.List.{map};
 ghost use Prim.Native.Nat.{_<_};
-ghost use Rattle.assign.specs.Chosen.{nothing};
 ghost use Rattle.assign.specs.Assignment.{cellOf};
 ghost use Rattle.schedule_list.specs.InSchedule.{inSchedule};
 ghost use Rattle.cell_selection.specs.Selecting.{Picks, Selects, seenIn, noSelection, isTaken, runOf, assignmentOf, Starts, Takes};
 
-// The place of the selected request in the schedule, and its assignment; not found where no candidate has one.
+// The index of the selected request in the schedule, and its assignment; not found where no candidate has one.
 pub struct Pick {
     pub found: bool,
     pub at: usize,
     pub assigned: Assigned,
 }
 
-// A selection: the job place, the request and its place in the schedule, and what it is given; blank where nothing is selected.
+// A selection: the job place, the request and its index in the schedule, and what it is given; blank where nothing is
+// selected.
 pub struct Selection {
     pub found: bool,
     pub place: u8,
@@ -47,23 +45,8 @@ pub struct Taking {
     pub lists: Lists,
 }
 
-// No facility is named.
-fn nothing() -> Assigned
-    ensures { λ r. ⌜ r ≡ nothing ⌝ }
-{
-    let none = [ChannelNumber(0); 16];
-    Assigned {
-        found: false,
-        ib: 0,
-        db: 0,
-        drum: 0,
-        channels: [KindChannels { on: none }; 3],
-        heads: [Head { to: Given::Nothing }; 256],
-    }
-}
-
-// The first candidate in order that has an assignment. The units are looked at once, and only the one found is assigned to: whether another has
-// an assignment is told from the counts.
+// The first candidate in order that has an assignment. The units are looked at once, and only the one found is assigned
+// to: whether another has an assignment is told from the counts.
 fn first_fit(
     schedule: Schedule,
     units: Units,
@@ -98,7 +81,7 @@ fn first_fit(
     Pick {
         found: false,
         at: 0,
-        assigned: nothing(),
+        assigned: assign::nothing(),
     }
 }
 
@@ -113,7 +96,7 @@ fn none_selected() -> Selection
         place: 0,
         at: 0,
         request,
-        assigned: nothing(),
+        assigned: assign::nothing(),
     }
 }
 
@@ -211,7 +194,8 @@ fn assignment_of(wanted: Facilities, assigned: Assigned) -> Assignment
     }
 }
 
-// Selects a request and takes its job into its place, with all facilities; where nothing is selected, schedule and lists stay as they are.
+// Selects a request and takes its job into its place, with all facilities; where nothing is selected, schedule and
+// lists stay as they are.
 pub fn select(schedule: Schedule, lists: Lists) -> Taking
     ensures { λ r. ⌜ Takes schedule lists r ⌝ }
 {

@@ -1,3 +1,2 @@
 pub mod TakenLaws
-pub mod Filling
 pub mod Loops

@@ -1,6 +1,6 @@
 -- What the occupancy word means: bit b of it is 1 exactly where block b is taken, and it has no more bits; and two answers to the lowest free place
 -- are one. Assumes nothing.
-use Prim.Native.Nat.{ℕ, zero, suc, _+_, _*_, _/_, _%_, _^_, _≤_, _<_, _-_}
+use Prim.Native.Nat.{ℕ, zero, suc, _+_, _*_, _/_, _%_, _^_, _<_, _-_}
 use mathlib.Core.Path.{_≡_, refl, sym, ap, _∙_}
 use mathlib.Core.Bool.{Bool, true, false, cond}
 use mathlib.Core.List.{List}
@@ -8,6 +8,7 @@ use mathlib.Core.Logic.{⊎-elim}
 use native.Mathlib.Nat.{div-one, eq-zero-or-pos, le-of-suc-le-suc, pow-suc}
 use native.Mathlib.Omega.{arith}
 use lib.Pow.{shr-shr}
+use Rattle.numbers.proofs.Order.{at-most-one}
 use Rattle.numbers.proofs.Tests.{never}
 use Rattle.assign_core.specs.Core.{bit}
 use Rattle.packets.specs.declared.Job.{Job}
@@ -15,15 +16,11 @@ use Rattle.cell_taken.specs.Taken.{wordFrom, LowestFree}
 use Rattle.cell_taken.specs.declared.FreePlace.{FreePlace}
 use Rattle.cell_taken.specs.declared.FreePlace.the-variants.{At, Full}
 
-one-bit : (b : Bool) → cond b 1 0 ≤ 1
-one-bit true = omega arith
-one-bit false = omega arith
-
 -- n bits are below 2 ^ n
 pub word-below : (taken : ℕ → Bool) (k n : ℕ) → wordFrom taken k n < 2 ^ n
 unfolding wordFrom
 word-below taken k zero = omega arith
-word-below taken k (suc n) = omega (arith, pow-suc 2 n, word-below taken (suc k) n, one-bit (taken k))
+word-below taken k (suc n) = omega (arith, pow-suc 2 n, word-below taken (suc k) n, at-most-one (taken k))
 
 -- the lowest bit, and the bits above it
 low : (x : ℕ) (b : Bool) → (x * 2 + cond b 1 0) % 2 ≡ cond b 1 0

@@ -3,10 +3,8 @@ use assign_drum::Area;
 use packets::Blocks;
 use packets::Core;
 use packets::Job;
-use packets::JobState;
 ghost use mathlib.Core.Path.{_≡_};
 ghost use mathlib.Core.List.{map};
-ghost use Rattle.packets.specs.State.{isEmpty};
 ghost use Rattle.packets.specs.Apart.{inRun};
 ghost use Rattle.cell_taken.specs.Taken.{inBlocks, coreOf, areaOf, anyHas, occupancy, LowestFree};
 
@@ -16,24 +14,12 @@ pub enum FreePlace {
     Full,
 }
 
-// Whether no job is in a place.
-fn is_empty(state: JobState) -> bool
-    ensures { λ r. ⌜ r ≡ isEmpty state ⌝ }
-{
-    match state {
-        JobState::Empty => true,
-        JobState::Running => false,
-        JobState::ClosingNormal => false,
-        JobState::ClosingError => false,
-    }
-}
-
 // The blocks that the job of a place holds; none in an empty place, whatever the last job left there.
 fn core_of(job: Job) -> Core
     ensures { λ r. ⌜ r ≡ coreOf job ⌝ }
 {
     let state = job.state;
-    if is_empty(state) {
+    if packets_job::is_empty(state) {
         let none = Blocks { start: 0, count: 0 };
         return Core { ib: none, db: none };
     }
@@ -92,7 +78,8 @@ fn is_taken(held: [Core; 16], b: u32) -> bool
     false
 }
 
-// The occupancy word of 32 blocks: a set bit is a block that some job holds. From block 31 down, each bit is put below those before it.
+// The occupancy word of 32 blocks: a set bit is a block that some job holds. From block 31 down, each bit is put
+// below those before it.
 fn word_of(held: [Core; 16]) -> u32
     ensures { λ r. ⌜ r ≡ occupancy (anyHas held) 32 ⌝ }
 {
@@ -120,7 +107,7 @@ fn area_of(job: Job) -> Area
     ensures { λ r. ⌜ r ≡ areaOf job ⌝ }
 {
     let state = job.state;
-    if is_empty(state) {
+    if packets_job::is_empty(state) {
         return Area { start: 0, words: 0 };
     }
     Area {
@@ -150,7 +137,7 @@ pub fn lowest_free(jobs: [Job; 16]) -> FreePlace
     while i < 16 {
         let job = jobs[i];
         let state = job.state;
-        if is_empty(state) {
+        if packets_job::is_empty(state) {
             return FreePlace::At(i as u8);
         }
         i += 1;

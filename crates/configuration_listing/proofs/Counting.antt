@@ -1,10 +1,11 @@
 -- The loop that counts a channel's assignable units: those below u are counted. Assumes nothing.
 use Prim.Native.Nat.{ℕ, _+_, _≤_, _<_}
 use mathlib.Core.Path.{_≡_, refl, ap, _∙_}
-use mathlib.Core.Bool.{Bool, true, false, cond, _&&_}
+use mathlib.Core.Bool.{_&&_}
 use mathlib.Core.List.{List}
 use native.Mathlib.Numerals.{add-one}
 use native.Mathlib.Omega.{arith}
+use Rattle.numbers.proofs.Order.{at-most-one}
 use Rattle.numbers.specs.declared.ChannelNumber.{ChannelNumber}
 use Rattle.numbers.specs.declared.UnitNumber.{UnitNumber}
 use Rattle.channels.specs.declared.Configuration.{Configuration}
@@ -21,10 +22,6 @@ pub record AtUnits (configuration : Configuration) (grid : List (List Unit)) (ch
 pub units-start : (configuration : Configuration) (grid : List (List Unit)) (channel : ChannelNumber) → AtUnits configuration grid channel 0 0
 unfolding assignableUnits
 units-start configuration grid channel = record { within = omega arith; few = omega arith; same = refl }
-
-at-most-one : (b : Bool) → cond b 1 0 ≤ 1
-at-most-one true = omega arith
-at-most-one false = omega arith
 
 pub one-at-most : (configuration : Configuration) (grid : List (List Unit)) (channel : ChannelNumber) (unit : UnitNumber) → counted configuration grid channel unit ≤ 1
 unfolding counted

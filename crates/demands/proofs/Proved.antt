@@ -16,14 +16,13 @@ use Rattle.numbers.specs.declared.Outcome.the-variants.{Done, Refused}
 use Rattle.numbers.specs.declared.Refusal.{Refusal}
 use Rattle.numbers.specs.declared.Refusal.the-variants.{NothingSelected, OutOfRange}
 use Rattle.units.specs.State.{assignable, unitIn}
-use Rattle.units.proofs.StateLaws.{read-beside, read-past}
 use Rattle.units.specs.declared.Unit.{Unit as UnitState}
 use Rattle.channels.specs.Channels.{hasUnit}
 use Rattle.channels.specs.declared.Channel.{Channel}
 use Rattle.channels.specs.declared.Configuration.{Configuration}
 use Rattle.configuration.specs.declared.Answer.{Answer}
 use Rattle.configuration_units.specs.Fresh.{freshUnits}
-use Rattle.configuration_units.proofs.FreshLaws.{fresh-at, fresh-square}
+use Rattle.configuration_units.proofs.FreshLaws.{fresh-free}
 use Rattle.configuration_form.specs.Form.{InForm}
 use Rattle.configuration_form.proofs.Meaning.{meaning}
 use Rattle.configuration_form.proofs.Unique.{first-named, read-back}
@@ -38,7 +37,7 @@ use Rattle.cards_writing.proofs.Round.{room-read}
 use Rattle.schedule_list.specs.InSchedule.{inSchedule}
 use Rattle.packets.specs.Codes.{statusAfter}
 use Rattle.packets.proofs.CodesProof.{codes}
-use Rattle.packets.specs.Demand.{Holds, Isolated, NoneHeld, Stretch, fresh}
+use Rattle.packets.specs.Demand.{Holds, Isolated, Stretch, fresh}
 use Rattle.packets.proofs.DemandProof.{demand3}
 use Rattle.packets.specs.Rules as Rules
 use Rattle.packets.specs.State.{State, packetIn}
@@ -63,15 +62,6 @@ use Rattle.demands.proofs.Numbers.{answers-by, numbers, ofVerdict}
 use Rattle.demands.proofs.Standing.{deck-lent, stands}
 
 -- ---- the fresh cell
-
--- no unit of a fresh cell is held
-pub none-held : (down : List Bool) → NoneHeld (freshUnits down)
-none-held down c u =
-    by-bool (ltb c 16)
-    (λ t. by-bool (ltb u 16)
-    (λ s. ap (λ (v : UnitState). v .holder) (fresh-at down c u (ltb-true c 16 t) (ltb-true u 16 s)))
-    (λ s. ap (λ (v : UnitState). v .holder) (read-beside (freshUnits down) (fresh-square down) c u (ltb-true c 16 t) (ltb-false u 16 s))))
-    (λ t. ap (λ (v : UnitState). v .holder) (read-past (freshUnits down) (fresh-square down) c u (ltb-false c 16 t)))
 
 -- the lists of a fresh cell, and of any cell that a history leads to
 pub fresh-inside : (configuration : Configuration) → inside (freshCell configuration) ≡ fresh (configuration .channels) (freshUnits (configuration .down))
@@ -159,7 +149,7 @@ unfolding Rules.step
 codes-at configuration es c h x =
     subst (λ (s : State). Rules.refusal s x ≡ Granted → (place packet : ℕ) → packetIn (Rules.decided s x (Rules.refusal s x) .state .jobs) place packet .status ≡ statusAfter s x place packet)
     (sym (reached configuration es c h))
-    (λ g place packet. rw g (codes (configuration .channels) (freshUnits (configuration .down)) (none-held (configuration .down)) (heard es) x g place packet))
+    (λ g place packet. rw g (codes (configuration .channels) (freshUnits (configuration .down)) (fresh-free (configuration .down)) (heard es) x g place packet))
 
 -- ---- an accepted call of the lists
 
@@ -289,7 +279,7 @@ demand-3 configuration before c h d job k holding e held during end l stretch =
           (subst (λ (s : State). Rules.refusal s (takingOf job) ≡ Granted → Holds (Rules.step s (takingOf job) .state) holding
           → Stretch holding (Rules.step s (takingOf job) .state) (heard during) → Isolated holding (Rules.step s (takingOf job) .state) (heard during))
           (sym (reached configuration before c h))
-          (λ g o u. demand3 (configuration .channels) (freshUnits (configuration .down)) (none-held (configuration .down)) (heard before) (job .place) _ g holding e o (heard during) u)
+          (λ g o u. demand3 (configuration .channels) (freshUnits (configuration .down)) (fresh-free (configuration .down)) (heard before) (job .place) _ g holding e o (heard during) u)
           (t .0)
           (subst (λ (s : State). Holds s holding) (t .1) held)
           (subst (λ (s : State). Stretch holding s (heard during)) (t .1) stretch)),

@@ -1,4 +1,5 @@
-// The one table of functions: a row of 64 codes for each kind, in the kinds' order; true where the function is legal there.
+// The one table of functions: a row of 64 codes for each kind, in the kinds' order; true where the function is legal
+// there.
 pub const LEGAL: [bool; 256] = [
     false, // MA 00
     true, // MA 01

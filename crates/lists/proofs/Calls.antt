@@ -6,7 +6,7 @@ use mathlib.Core.List.{List}
 use native.Mathlib.Omega.{arith}
 use lib.ListN.{length, getD, set}
 use lib.Dec.{ltb}
-use borrow.Author.Tests.{ltb-true}
+use borrow.Author.Tests.{ltb-true, not-false}
 use Rattle.numbers.proofs.Tests.{by-bool}
 use Rattle.numbers.specs.declared.Refusal.{Refusal}
 use Rattle.numbers.specs.declared.Refusal.the-variants.{NoJob, NothingSelected, OutOfRange}
@@ -14,7 +14,7 @@ use Rattle.units.specs.State.{markedUnit, unitIn, unitSet, unitsFrom}
 use Rattle.units.specs.declared.Mark.{Mark as UnitMark}
 use Rattle.units.specs.declared.Units.{Units}
 use Rattle.channels.specs.declared.Fitted.{Fitted}
-use Rattle.packets.proofs.Laws.{and-left, not-false, passes}
+use Rattle.packets.proofs.Laws.{and-left, passes}
 use Rattle.packets.specs.Rules.{Call, End, Mark, Take, accept, always, answer, closed, closing, cut, first, freshJob, leaving, reaches, refusal, returnIfDone}
 use Rattle.packets.specs.State.{State, close, fittedOn, isEmpty, isRunning, jobIn, noJob, relist, releaseAll, stateIn, sweep, takeAll, wanted}
 use Rattle.packets.specs.declared.Acted.{Acted}
@@ -28,7 +28,8 @@ use Rattle.packets.specs.declared.RequestList.{RequestList}
 use Rattle.packets.specs.declared.Spot.the-variants.{OnUnit}
 use Rattle.packets.specs.declared.Verdict.{Verdict}
 use Rattle.packets.specs.declared.Verdict.the-variants.{Denied, Granted}
-use Rattle.packets_queue.specs.Padded.{Relisted, listOf}
+use Rattle.packets_queue.specs.Padded.{listOf}
+use Rattle.packets_queue.specs.Keeping.{Relisted}
 use Rattle.packets_end.specs.Over.{closedJob, endingOf}
 use Rattle.lists.proofs.Focus.{ending-packets, focus, focus-close, focus-leaving, focus-return, focus-self, focus-sweep}
 use Rattle.lists.specs.Outcomes.{leaves, listsOf, outcome, settled, stateOf}

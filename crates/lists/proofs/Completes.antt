@@ -6,13 +6,13 @@ use mathlib.Core.List.{List, map}
 use native.Mathlib.Omega.{arith}
 use lib.ListN.{length, getD, set}
 use lib.Dec.{ltb}
-use borrow.Author.Tests.{ltb-true}
-use Rattle.numbers.proofs.Tests.{by-bool}
+use borrow.Author.Tests.{ltb-true, not-false}
+use Rattle.numbers.proofs.Tests.{by-bool, never}
 use Rattle.numbers.specs.declared.Refusal.the-variants.{NothingInProgress, OutOfRange, WrongCompletion}
 use Rattle.units.specs.State.{unitsFrom}
 use Rattle.units.specs.declared.Units.{Units}
 use Rattle.channels.specs.declared.Fitted.{Fitted}
-use Rattle.packets.proofs.Laws.{and-left, clash, not-false, passes}
+use Rattle.packets.proofs.Laws.{and-left, passes}
 use Rattle.packets.specs.Rules.{Complete, accept, answer, atUnit, broken, codeFor, completed, completes, failed, finished, first, isFailure, isWrong, leaving, movingStatus, over, refusal, returnIfDone}
 use Rattle.packets.specs.State.{State, blank, carrying, configured, drumOn, fittedOn, isDrumOf, isIdle, isListed, jobIn, lock, motionOn, move, noJob, packetIn, relist, restatus, setLock, store, sweep, withPackets, withStatus}
 use Rattle.packets.proofs.Told.{configured-in}
@@ -31,7 +31,8 @@ use Rattle.packets.specs.declared.Status.{Status}
 use Rattle.packets.specs.declared.Status.the-variants.{Blank, Ended, InProgress, Listed, Stopping}
 use Rattle.packets.specs.declared.Verdict.{Verdict}
 use Rattle.packets.specs.declared.Verdict.the-variants.{Granted}
-use Rattle.packets_queue.specs.Padded.{Relisted, listOf}
+use Rattle.packets_queue.specs.Padded.{listOf}
+use Rattle.packets_queue.specs.Keeping.{Relisted}
 use Rattle.packets_job.specs.Aims.{statusSet}
 use Rattle.packets_end.specs.Over.{endingOf, overJob}
 use Rattle.lists.proofs.Calls.{granted-is, small-is}
@@ -85,12 +86,12 @@ module _ (s : State) (c j p : ℕ) (how : How) (h : j < length (s .jobs)) where
 
 -- what moves is a packet of the cell, read by its place and number
 busy : (m : Motion) → isIdle m ≡ false → (m ≡ Busy (placeIn m) (packetNo m)) × (placeIn m < 16)
-busy Idle i = clash true refl i
+busy Idle i = never {b = true} refl i
 busy (Busy a b) i = (refl, ltb-true a 16 (and-left (ltb a 16) _ (not-false _ i)))
 
 same : (s : State) (m : Motion) → isIdle m ≡ false → getD (getD (s .jobs) (placeIn m % 16) noJob .packets) (packetNo m) blank .status ≡ movingStatus s m
 unfolding packetIn
-same s Idle i = clash true refl i
+same s Idle i = never {b = true} refl i
 same s (Busy j p) i = let k : j % 16 ≡ j = small-is j (and-left (ltb j 16) _ (not-false _ i)) in rw k
 
 module _ (r : Lists) (c : ℕ) (how : How) (m : Motion) (is : m ≡ getD (r .moving) (c % 16) (carrying Idle) .motion)

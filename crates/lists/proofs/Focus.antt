@@ -5,11 +5,10 @@ use mathlib.Core.Bool.{Bool, true, false, cond, not, _&&_}
 use mathlib.Core.List.{List, [], _∷_, map}
 use lib.ListN.{length, getD, set}
 use lib.Seq.{getD-set-same, set-getD, set-set}
-use Rattle.numbers.proofs.Tests.{by-bool}
+use Rattle.numbers.proofs.Tests.{by-bool, never}
 use Rattle.units.specs.declared.Unit.{Unit as UnitState}
 use Rattle.packets.specs.Rules.{leaving, returnIfDone}
 use Rattle.packets_end.specs.Over.{endingIf, endingOf}
-use Rattle.packets.proofs.Laws.{clash}
 use Rattle.packets.specs.Picks.{keep}
 use lib.Dec.{eqb}
 use Rattle.packets.specs.State.{State, anyMoves, blank, close, isClosing, isKept, isListed, jobIn, noJob, packetOf, placeOf, put, releaseAll, relist, restatus, restatusAll, setState, stateIn, store, sweep, withPackets, withState}
@@ -89,7 +88,7 @@ keep-in f g k [] = refl
 keep-in f g k (e ∷ q) =
     by-bool (g e)
     (λ t. rw (t, keep-in f g k q))
-    (λ t. by-bool (f e) (λ d. clash (g e) (k e d) t) (λ d. rw (t, d) (keep-in f g k q)))
+    (λ t. by-bool (f e) (λ d. never {b = g e} (k e d) t) (λ d. rw (t, d) (keep-in f g k q)))
 
 -- what is listed in the end was listed on the way
 abbrev pub Fewer : List Packet → List Packet → Type 0
@@ -107,7 +106,7 @@ relist-twice j ps qs k q = keep-in (isKept j qs) (isKept j ps) (λ e t. more e t
 
 pub fewer-set : (ps : List Packet) (p : ℕ) (y : Packet) → isListed (y .status) ≡ false → Fewer ps (set ps p y)
 fewer-set [] p y e n t = t
-fewer-set (x ∷ ps) zero y e zero t = clash (isListed (y .status)) t e
+fewer-set (x ∷ ps) zero y e zero t = never {b = isListed (y .status)} t e
 fewer-set (x ∷ ps) zero y e (suc n) t = t
 fewer-set (x ∷ ps) (suc p) y e zero t = t
 fewer-set (x ∷ ps) (suc p) y e (suc n) t = fewer-set ps p y e n t

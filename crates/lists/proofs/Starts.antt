@@ -6,9 +6,10 @@ use mathlib.Core.List.{List}
 use mathlib.Core.Option.{Option, none, some}
 use native.Mathlib.Omega.{arith}
 use lib.ListN.{length, getD, set}
-use Rattle.numbers.proofs.Tests.{by-bool}
+use borrow.Author.Tests.{not-false}
+use Rattle.numbers.proofs.Tests.{by-bool, never}
 use Rattle.numbers.specs.declared.Refusal.the-variants.{ChannelBusy, NothingStartable, OutOfRange}
-use Rattle.packets.proofs.Laws.{clash, not-false, passes}
+use Rattle.packets.proofs.Laws.{passes}
 use Rattle.packets.specs.Picks.{find}
 use Rattle.packets.specs.Rules.{Start, accept, answer, begins, begun, first, isNone, refusal, startable, startableOn, started}
 use Rattle.packets.specs.State.{State, carrying, configured, drumOn, fittedOn, isDrumOf, isIdle, jobIn, motionOn, move, noJob, packetIn, packetOf, placeOf, relist, store, withPackets, withStatus}
@@ -24,7 +25,8 @@ use Rattle.packets.specs.declared.RequestList.{RequestList}
 use Rattle.packets.specs.declared.Status.the-variants.{InProgress}
 use Rattle.packets.specs.declared.Verdict.{Verdict}
 use Rattle.packets.specs.declared.Verdict.the-variants.{Granted}
-use Rattle.packets_queue.specs.Padded.{Relisted, foundOf, listOf}
+use Rattle.packets_queue.specs.Padded.{listOf}
+use Rattle.packets_queue.specs.Keeping.{Relisted, foundOf}
 use Rattle.packets_job.specs.Aims.{statusSet}
 use Rattle.lists.proofs.Calls.{granted-is}
 use Rattle.lists.proofs.Focus.{focus, focus-self, focus-store}
@@ -37,7 +39,7 @@ nowhere-is none = refl
 nowhere-is (some e) = refl
 
 found-is : (o : Option ℕ) → isNone o ≡ false → o ≡ some (entryIn (foundOf o))
-found-is none e = clash true refl e
+found-is none e = never {b = true} refl e
 found-is (some x) e = refl
 
 -- the packet of an entry is in progress

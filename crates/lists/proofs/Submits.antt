@@ -6,14 +6,14 @@ use mathlib.Core.List.{List, map}
 use native.Mathlib.Omega.{arith}
 use lib.ListN.{length, getD, set}
 use lib.Dec.{eqb, ltb}
-use borrow.Author.Tests.{eqb-true, ltb-true}
+use borrow.Author.Tests.{eqb-true, ltb-true, not-false}
 use Rattle.numbers.proofs.Tests.{by-bool}
 use Rattle.numbers.specs.declared.Refusal.the-variants.{OutOfRange}
 use Rattle.units.specs.State.{unitIn, unitsFrom}
 use Rattle.units.specs.declared.Unit.{Unit as UnitState}
 use Rattle.units.specs.declared.Units.{Units}
 use Rattle.channels.specs.declared.Fitted.{Fitted}
-use Rattle.packets.proofs.Laws.{and-left, and-right, not-false, passes}
+use Rattle.packets.proofs.Laws.{and-left, and-right, passes}
 use Rattle.packets.specs.Rules.{Submit, accept, aimed, answer, atOf, atUnit, cut, enlist, failed, inRange, locked, packet, pass, refusal, submitRefusal, submitted, toOf}
 use Rattle.packets.specs.State.{State, drumOn, enqueue, entryOf, fittedOn, isDrumOf, jobIn, noJob, relist, restatus, setLock, store, sweep, withPackets}
 use Rattle.packets.specs.declared.Acted.{Acted}

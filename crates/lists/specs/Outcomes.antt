@@ -43,7 +43,8 @@ leaves r (Complete c how) = listsOf (accept (stateOf r) (Complete c how))
 leaves r (End j e) = listsOf (accept (stateOf r) (End j e))
 leaves r (Mark c u m on) = keeping r (accept (stateOf r) (Mark c u m on))
 
--- an accepted call leaves and answers what the rules say; a refused one returns the number alone, and the state keeps every byte
+-- an accepted call leaves and answers what the rules say; a refused one returns the number alone, and the state keeps
+-- every byte
 abbrev pub settled : Lists → Call → Verdict → Acted
 settled r x Granted = record { answer = answer (stateOf r) x; lists = leaves r x }
 settled r x (Denied n) = record { answer = Refused n; lists = r }

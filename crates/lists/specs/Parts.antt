@@ -1,4 +1,5 @@
--- The parts of what the calls answer and leave.
+-- The parts of what the calls answer and leave. Nothing here has to be believed: Outcomes, and Rules of packets, say
+-- what comes out.
 use Prim.Native.Nat.{ℕ, _+_, _*_, _%_}
 use mathlib.Core.Bool.{Bool, true, false, cond}
 use mathlib.Core.List.{List}
@@ -22,19 +23,22 @@ listAfter f e q = cond (isListing f) (enlisted q e) q
 abbrev pub listedAs : ℕ → ℕ → ℕ
 listedAs j p = j % 16 * 16 + p % 16
 
+-- no packet can start
 abbrev pub isNowhere : Found → Bool
 isNowhere (At e) = false
 isNowhere Nowhere = true
 
+-- the entry of the one that can
 abbrev pub entryIn : Found → ℕ
 entryIn (At e) = e
 entryIn Nowhere = 0
 
--- the place and the number of what moves
+-- the place of what moves
 abbrev pub placeIn : Motion → ℕ
 placeIn Idle = 0
 placeIn (Busy j p) = j
 
+-- its number
 abbrev pub packetNo : Motion → ℕ
 packetNo Idle = 0
 packetNo (Busy j p) = p

@@ -1,4 +1,5 @@
-// The calls on packets and request lists. Each takes the state by value, changes it where it stands, and returns it with its answer.
+// The calls on packets and request lists. Each takes the state by value, changes it where it stands, and returns it
+// with its answer.
 mod after;
 mod verdicts;
 
@@ -56,7 +57,7 @@ pub fn submit(
     let units = next.units;
     let has = packets_channels::fitted_on(channels, channel);
     let at = packets_submit::at_of(spot);
-    let unit = packets_units::unit_of(units, channel, at);
+    let unit = units::unit_numbered(units, channel, at);
     let i = (place % 16) as usize;
     let job = next.jobs[i];
     match packets_submit::verdict(has, job, unit, place, packet, function, channel, spot) {

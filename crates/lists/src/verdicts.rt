@@ -97,24 +97,13 @@ pub fn of_end(state: JobState, j: u8) -> Verdict
     Verdict::Granted
 }
 
-fn is_empty(state: JobState) -> bool
-    ensures { λ r. ⌜ r ≡ isEmpty state ⌝ }
-{
-    match state {
-        JobState::Empty => true,
-        JobState::Running => false,
-        JobState::ClosingNormal => false,
-        JobState::ClosingError => false,
-    }
-}
-
 pub fn of_take(state: JobState, j: u8) -> Verdict
     ensures { λ r. ⌜ r ≡ first (not (ltb j 16 && isEmpty state)) NothingSelected Granted ⌝ }
 {
     if 15 < j {
         return Verdict::Denied(Refusal::NothingSelected);
     }
-    if !is_empty(state) {
+    if !packets_job::is_empty(state) {
         return Verdict::Denied(Refusal::NothingSelected);
     }
     Verdict::Granted

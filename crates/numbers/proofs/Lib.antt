@@ -1,6 +1,7 @@
 pub mod Tests
+pub mod Order
 pub mod KindLaws
 pub mod DecidesLaws
 pub mod Stores
 pub mod Find
-pub mod Tables
+pub mod ValuesLaws

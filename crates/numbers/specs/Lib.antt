@@ -2,3 +2,4 @@ pub mod Quoted
 pub mod Kinds
 pub mod Refusals
 pub mod Decides
+pub mod Values

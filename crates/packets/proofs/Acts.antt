@@ -5,9 +5,10 @@ use mathlib.Core.Path.{_≡_, refl, sym}
 use mathlib.Core.Bool.{Bool, true, false, _&&_}
 use lib.Dec.{eqb}
 use borrow.Author.Tests.{eqb-true}
+use Rattle.numbers.proofs.Tests.{never}
 use Rattle.packets.specs.Demand.{Holding, Holds, isThere, startIn, there}
 use Rattle.packets.proofs.Inv.{Inv}
-use Rattle.packets.proofs.Laws.{and-left, and-right, clash}
+use Rattle.packets.proofs.Laws.{and-left, and-right}
 use Rattle.packets.specs.Lone.{Lone, loneStart, loneStep}
 use Rattle.packets.specs.Picks.{find}
 use Rattle.packets.specs.Rules.{Call, Complete, End, Mark, Start, Submit, Take, accept, answer, atOf, refusal, startable, toOf}
@@ -47,7 +48,7 @@ pub record Acted (h : Holding) (s : State) (l : Lone) (x : Call) : Type 0 where
 
 pub sim-acts : (h : Holding) (s : State) → Inv s → Holds s h → (l : Lone) → Sim h s l → (x : Call) → refusal s x ≡ Granted → actsNow h s x ≡ true → Acted h s l x
 unfolding accept actsNow answersThere answer loneStart loneStep
-sim-acts h s I H l S (Take j asg) r t = clash false t refl
+sim-acts h s I H l S (Take j asg) r t = never {b = false} t refl
 sim-acts h s I H l S (Submit j p f c w) r t =
     record {
       sim = sim-submit h s I H l S j p f c (atOf w) (toOf w) (submits s j p f c w r) (sym (eqb-true j (h .place) (and-left (eqb j (h .place)) _ t))) (and-right (eqb j (h .place)) _ t);
@@ -75,7 +76,7 @@ sim-acts h s I H l S (Complete c how) r t =
     }
 sim-acts h s I H l S (End j e) r t =
     record { sim = sim-end h s I l S j e (ends-of s j e r) (sym (eqb-true j (h .place) t)); start = refl }
-sim-acts h s I H l S (Mark c u m on) r t = clash false t refl
+sim-acts h s I H l S (Mark c u m on) r t = never {b = false} t refl
 
 pub sim-away : (h : Holding) (s : State) → Inv s → Holds s h → (l : Lone) → Sim h s l → (x : Call) → refusal s x ≡ Granted → actsNow h s x ≡ false → Sim h (accept s x) l
 unfolding accept actsNow answersThere answer

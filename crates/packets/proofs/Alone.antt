@@ -7,7 +7,7 @@ use mathlib.Core.Option.{Option, none, some}
 use native.Mathlib.Omega.{arith}
 use lib.Dec.{eqb}
 use Rattle.units.specs.declared.Unit.{Unit as UnitState}
-use Rattle.numbers.proofs.Tests.{by-bool}
+use Rattle.numbers.proofs.Tests.{by-bool, never}
 use Rattle.units.specs.State.{unitIn, markedUnit}
 use Rattle.units.specs.declared.Holder.{Holder}
 use Rattle.units.specs.declared.Holder.the-variants.{Free}
@@ -15,7 +15,7 @@ use Rattle.packets.specs.Demand.{Holding, Holds, OwnStart, Quiet, Stretc
 use Rattle.packets.proofs.Inv.{EntryOk, Inv}
 use Rattle.packets.proofs.InvJobs.{held-once, take-held}
 use Rattle.packets.proofs.InvStores.{mark-holder}
-use Rattle.packets.proofs.Laws.{clash, find-holds}
+use Rattle.packets.proofs.Laws.{find-holds}
 use Rattle.packets.specs.Picks.{find}
 use Rattle.packets.specs.Rules.{Call, Complete, End, Mark, Start, Submit, Take, accept, always, answer, atOf, begins, begun, closing, completed, cut, decided, finished, isFailure, locked, marked, packet, refusal, returnIfDone, startable, started, step, submitted, toOf}
 use Rattle.packets.proofs.SimSubmit.{unit-held}
@@ -44,7 +44,7 @@ pub lock-keeps : (units : List (List UnitState)) (c a : ℕ) (b : Bool) (d u : �
 lock-keeps units c a b d u = unit-keep (λ (v : UnitState). v .holder) units c a (withLock (unitIn units c a) b) d u refl
 
 pub released : (v : Holder) (k j : ℕ) → heldBy (cond (heldBy v k) Free v) j ≡ true → heldBy v j ≡ true
-released v k j e = by-bool (heldBy v k) (λ t. clash false (rw t at e) refl) (λ t. rw t at e)
+released v k j e = by-bool (heldBy v k) (λ t. never {b = false} (rw t at e) refl) (λ t. rw t at e)
 
 pub return-keeps : (s s′ : State) (k : ℕ) → ((c u : ℕ) → unitIn (s′ .units) c u .holder ≡ unitIn (s .units) c u .holder) → Same s (returnIfDone k s′)
 return-keeps s s′ k e =

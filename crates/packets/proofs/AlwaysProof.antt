@@ -6,14 +6,14 @@ use mathlib.Core.List.{List, [], _∷_}
 use native.Mathlib.Omega.{arith}
 use lib.Dec.{eqb}
 use borrow.Author.Tests.{eqb-true}
-use Rattle.numbers.proofs.Tests.{by-bool}
+use Rattle.numbers.proofs.Tests.{by-bool, never}
 use Rattle.packets.specs.Always.{Always, Invariants, NoEarlyHandOver, packetAt}
 use Rattle.packets.specs.Demand.{fresh}
 use Rattle.packets.proofs.Inv.{EntryOk, Inv, OkEntry, Owned, motion-busy}
 use Rattle.packets.specs.State.{inMotion, State, entryOf, isBusy, isListed, isStill, packetOf, placeOf}
 use Rattle.packets.proofs.InvStores.{entry-packet, entry-place}
 use Rattle.packets.specs.Picks.{All, any}
-use Rattle.packets.proofs.Laws.{all-imp, clash}
+use Rattle.packets.proofs.Laws.{all-imp}
 use Rattle.packets.specs.Rules.{run}
 use Rattle.packets.proofs.Sound.{Sound, noPacket}
 use Rattle.packets.proofs.SoundSteps.{fresh-sound, run-sound}
@@ -24,7 +24,7 @@ use Rattle.packets.specs.declared.Status.the-variants.{Blank, Ended, InP
 
 -- one of a list's elements has what all have
 all-any : (P : ℕ → Type 0) (e : ℕ) (l : List ℕ) → All P l → any (eqb e) l ≡ true → P e
-all-any P e [] h t = clash false t refl
+all-any P e [] h t = never {b = false} t refl
 all-any P e (x ∷ l) h t =
     by-bool (eqb e x)
     (λ d. subst P (sym (eqb-true e x d)) (h .0))
@@ -33,7 +33,7 @@ all-any P e (x ∷ l) h t =
 -- a busy packet is listed or moves
 busy-either : (t : Status) → isBusy t ≡ true → isListed t ≡ false → inMotion t ≡ true
 busy-either Blank b l = b
-busy-either Listed b l = clash true refl l
+busy-either Listed b l = never {b = true} refl l
 busy-either InProgress b l = refl
 busy-either Stopping b l = refl
 busy-either (Ended k) b l = b

@@ -7,13 +7,14 @@ use mathlib.Core.Option.{Option, none, some}
 use lib.ListN.{length, set}
 use lib.Dec.{eqb}
 use borrow.Author.Tests.{eqb-true}
+use Rattle.numbers.proofs.Stores.{getD-set}
 use Rattle.units.specs.declared.Unit.{Unit as UnitState}
-use Rattle.numbers.proofs.Tests.{by-bool}
+use Rattle.numbers.proofs.Tests.{by-bool, never}
 use Rattle.channels.specs.declared.Channel.{Channel}
 use Rattle.packets.specs.Apart.{Apart, Disjoint, Fits, Fitting, Part, inCore}
 use Rattle.packets.specs.Demand.{emptyPlace, fresh}
 use Rattle.packets.proofs.Inv.{Inv, running-alive}
-use Rattle.packets.proofs.Laws.{and-left, clash, eqb-self, getD-set, getD-set-keep}
+use Rattle.packets.proofs.Laws.{and-left, eqb-self, getD-set-keep}
 use Rattle.packets.specs.Picks.{find}
 use Rattle.packets.specs.Rules.{Call, Complete, End, Mark, Start, Submit, Take, accept, aimed, always, assigned, atOf, atUnit, begun, broken, closed, closing, codeFor, cut, decided, ended, enlist, failed, finished, freshJob, inArea, isDone, isFailure, locked, marked, over, packet, refusal, returnIfDone, returned, run, startable, started, step, submitted, toOf}
 use Rattle.packets.specs.State.{State, drumOn, isClosing, isEmpty, jobIn, lock, motionOn, move, noJob, packetIn, packetOf, placeOf, put, restatus, restatusAll, setState, stateIn, store, sweep, withPackets, withState, withStatus}
@@ -171,7 +172,7 @@ module _ (part : Part) (L : Lasting part) where
 
   fresh-apart : (channels : List Channel) (units : List (List UnitState)) → Apart part (fresh channels units)
   unfolding fresh
-  fresh-apart channels units i j x a b h g = clash (isEmpty (stateIn (fresh channels units .jobs) i)) (ap isEmpty (fresh-state 16 emptyPlace refl i)) a
+  fresh-apart channels units i j x a b h g = never {b = isEmpty (stateIn (fresh channels units .jobs) i)} (ap isEmpty (fresh-state 16 emptyPlace refl i)) a
 
 pub disjoint : Disjoint
 disjoint channels units free calls = (

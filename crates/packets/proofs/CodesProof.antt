@@ -5,12 +5,12 @@ use mathlib.Core.Bool.{Bool, false, not, cond, _&&_}
 use lib.ListN.{length}
 use lib.Dec.{eqb}
 use borrow.Author.Tests.{eqb-true}
-use Rattle.numbers.proofs.Tests.{by-bool}
+use Rattle.numbers.proofs.Tests.{by-bool, never}
 use Rattle.packets.specs.Codes.{Codes, Kept, afterComplete, afterSubmit, renews, statusAfter}
 use Rattle.packets.specs.Demand.{fresh}
 use Rattle.packets.proofs.Inv.{EntryOk, Inv, running-alive}
 use Rattle.packets.proofs.InvStores.{sweep-inv}
-use Rattle.packets.proofs.Laws.{and-left, and-right, clash, find-holds}
+use Rattle.packets.proofs.Laws.{and-left, and-right, find-holds}
 use Rattle.packets.specs.Picks.{find}
 use Rattle.packets.specs.Rules.{Call, Complete, End, Mark, Start, Submit, Take, accept, aimed, always, atOf, atUnit, closed, closing, codeFor, cut, decided, failed, finished, isDone, isFailure, locked, over, packet, refusal, returnIfDone, run, startable, step, submitted, toOf}
 use Rattle.packets.specs.State.{isPacket, State, drumOn, motionOn, packetIn, packetOf, placeOf, put, restatusAll, stateIn, sweep, withStatus}
@@ -142,7 +142,7 @@ keeps-code s I (Start c) r i n k e b =
     (λ t. let x : i ≡ placeOf (o .0) = eqb-true i (placeOf (o .0)) (and-left (eqb i (placeOf (o .0))) _ t) in
     let y : n ≡ packetOf (o .0) = eqb-true n (packetOf (o .0)) (and-right (eqb i (placeOf (o .0))) _ t) in
     let e′ : packetIn (s .jobs) (placeOf (o .0)) (packetOf (o .0)) .status ≡ Ended k = rw (x, y) at e in
-    clash false (rw e′ at l) refl)
+    never {b = false} (rw e′ at l) refl)
     (λ t. rw (t, e)))
 keeps-code s I (Complete c how) r i n k e b =
     let z = completes-on s c how r in
@@ -153,7 +153,7 @@ keeps-code s I (Complete c how) r i n k e b =
     (λ t. let x : i ≡ o .0 = eqb-true i (o .0) (and-left (eqb i (o .0)) _ t) in
     let y : n ≡ o .1 = eqb-true n (o .1) (and-right (eqb i (o .0)) _ t) in
     let e′ : packetIn (s .jobs) (o .0) (o .1) .status ≡ Ended k = rw (x, y) at e in
-    clash false (rw e′ at g) refl)
+    never {b = false} (rw e′ at g) refl)
     (λ t. rw (t, e)
     (by-bool (eqb i (o .0) && ((isFailure how && not (drumOn (s .channels) c)) && atUnit c (packetIn (s .jobs) (o .0) (o .1) .at) (packetIn (s .jobs) i n)))
     (λ d. rw d) (λ d. rw d))))

@@ -7,14 +7,14 @@ use mathlib.Core.Option.{none}
 use lib.Dec.{eqb}
 use borrow.Author.Tests.{eqb-true}
 use Rattle.units.specs.declared.Unit.{Unit as UnitState}
-use Rattle.numbers.proofs.Tests.{by-bool}
+use Rattle.numbers.proofs.Tests.{by-bool, never}
 use Rattle.units.specs.State.{assignable, unitIn}
 use Rattle.units.specs.declared.Holder.the-variants.{Held}
 use Rattle.packets.proofs.Acts.{Acted, sim-acts, sim-away}
 use Rattle.packets.proofs.Alone.{quiet-held, undisturbed}
 use Rattle.packets.specs.Demand.{Demand3, Holding, Holds, Seen, Stretch, acting, acts, events, fresh, noneSeen, noted, seenAfter, startIn, startsIn}
 use Rattle.packets.proofs.Inv.{EntryOk, Inv, running-alive}
-use Rattle.packets.proofs.Laws.{all-imp, clash, eqb-self, keep-none}
+use Rattle.packets.proofs.Laws.{all-imp, eqb-self, keep-none}
 use Rattle.packets.specs.Lone.{Lone, Request, loneRun, loneStart, loneStarts, loneStep, newLone}
 use Rattle.packets.specs.Rules.{Call, Take, accept, answer, assigned, decided, refusal, run, step}
 use Rattle.packets.proofs.SeenLaws.{SeenOk, accept-seen, acts-refused, acts-same, noted-refused}
@@ -57,7 +57,7 @@ next h s I H l S t k x = go (refusal s x) refl
         }
     go (Denied n) e =
         record {
-          acted = λ a. clash (acts h t x (Refused n)) a (acts-refused h t x n);
+          acted = λ a. never {b = acts h t x (Refused n)} a (acts-refused h t x n);
           idled = λ a. S;
           seen = rw (noted-refused h t x n) k;
         }
@@ -89,7 +89,7 @@ module _ (s : State) (I : Inv s) (j : ℕ) (asg : Assignment) (small : j < 16) (
   after-assign = assigned s j asg
 
   not-j : (i : ℕ) → isEmpty (stateIn (s .jobs) i) ≡ false → eqb i (h .place) ≡ false
-  not-j i a = by-bool (eqb i (h .place)) (λ e. clash (isEmpty (stateIn (s .jobs) j)) empty (rw (eqb-true i (h .place) e ∙ at-j) at a)) (λ e. e)
+  not-j i a = by-bool (eqb i (h .place)) (λ e. never {b = isEmpty (stateIn (s .jobs) j)} empty (rw (eqb-true i (h .place) e ∙ at-j) at a)) (λ e. e)
 
   pub new-sim : Holds (assigned s j asg) h → Sim h (assigned s j asg) newLone
   new-sim H =
@@ -120,7 +120,7 @@ module _ (s : State) (I : Inv s) (j : ℕ) (asg : Assignment) (small : j < 16) (
           go : (w : Bool) → heldBy ((cond w (record { holder = Held j; down = v .down; reserved = v .reserved; interlock = false }) v) .holder) (h .place) ≡ true
               → (cond w (record { holder = Held j; down = v .down; reserved = v .reserved; interlock = false }) v) .interlock ≡ false
           go true g = refl
-          go false g = clash (isEmpty (stateIn (s .jobs) j)) empty (rw at-j at (I .holders (h .channel) (h .unit) (h .place) g))
+          go false g = never {b = isEmpty (stateIn (s .jobs) j)} empty (rw at-j at (I .holders (h .channel) (h .unit) (h .place) g))
 
 pub assigned-sim : (s : State) → Inv s → (j : ℕ) (asg : Assignment) → refusal s (Take j asg) ≡ Granted → (h : Holding) → h .place ≡ j
     → Holds (step s (Take j asg) .state) h → Sim h (step s (Take j asg) .state) newLone
@@ -137,7 +137,7 @@ assigned-seen s I j asg r h at-j n =
     let k = assigns-to s j asg r in
     let e : step s (Take j asg) .state ≡ assigned s j asg = ap (λ a. a .state) (step-accepted s (Take j asg) r) in
     let z : packetIn (assigned s j asg .jobs) (h .place) n ≡ blank = packet-fresh (s .jobs) j asg (h .place) (rw (I .places) (k .0)) n ∙ rw (at-j, eqb-self j) in
-    (λ x. clash false x refl, λ b. clash false (rw (e, z) at b) refl)
+    (λ x. never {b = false} x refl, λ b. never {b = false} (rw (e, z) at b) refl)
 
 pub demand3 : Demand3
 demand3 channels units free before j asg r h at-j H during stretch =

@@ -6,13 +6,13 @@ use lib.ListN.{length, set, length-set}
 use lib.Dec.{eqb}
 use borrow.Author.Tests.{eqb-true, eqb-false}
 use Rattle.units.specs.declared.Unit.{Unit as UnitState}
-use Rattle.numbers.proofs.Tests.{by-bool}
+use Rattle.numbers.proofs.Tests.{by-bool, never}
 use Rattle.units.specs.State.{assignable, isFree, unitIn}
 use Rattle.units.specs.declared.Holder.{Holder}
 use Rattle.units.specs.declared.Holder.the-variants.{Free, Held}
 use Rattle.packets.proofs.Inv.{EntryOk, Inv, Owned, running-alive}
 use Rattle.packets.specs.Picks.{All}
-use Rattle.packets.proofs.Laws.{all-both, all-imp, clash}
+use Rattle.packets.proofs.Laws.{all-both, all-imp}
 use Rattle.packets.specs.Rules.{assigned, freshJob, returned}
 use Rattle.packets.specs.State.{State, close, heldBy, isEmpty, motionOn, packetIn, packetOf, placeOf, releaseAll, setState, stateIn, takeAll, takeUnit, wanted}
 use Rattle.packets.proofs.Store.{length-state, packet-fresh, packet-state, size-fresh, size-state, sizeIn, state-fresh, state-state, unit-release, unit-take}
@@ -28,11 +28,11 @@ abbrev pub NotOf : ℕ → ℕ → Type 0
 NotOf j e = eqb (placeOf e) j ≡ false
 
 pub held-once : (h : Holder) (i j : ℕ) → heldBy h i ≡ true → heldBy h j ≡ true → i ≡ j
-held-once Free i j a b = clash false a refl
+held-once Free i j a b = never {b = false} a refl
 held-once (Held k) i j a b = sym (eqb-true k i a) ∙ eqb-true k j b
 
 pub held-taken : (h : Holder) (i : ℕ) → heldBy h i ≡ true → isFree h ≡ false
-held-taken Free i a = clash false a refl
+held-taken Free i a = never {b = false} a refl
 held-taken (Held k) i a = refl
 
 module _ (s : State) (I : Inv s) (j : ℕ) (inside : j < length (s .jobs)) (none-listed : All (NotOf j) (s .queue)) where
@@ -97,7 +97,7 @@ module _ (s : State) (I : Inv s) (j : ℕ) (inside : j < length (s .jobs)) (none
       before : (i : ℕ) → isEmpty (stateIn (setState (s .jobs) j Empty) i) ≡ false → (eqb i j ≡ false) × (isEmpty (stateIn (s .jobs) i) ≡ false)
       before i a =
           let b : isEmpty (cond (eqb i j) Empty (stateIn (s .jobs) i)) ≡ false = rw (state-state (s .jobs) j Empty i inside) at a in
-          by-bool (eqb i j) (λ e. clash true refl (rw e at b)) (λ e. (e, rw e at b))
+          by-bool (eqb i j) (λ e. never {b = true} refl (rw e at b)) (λ e. (e, rw e at b))
 
       keeps : (i : ℕ) (q : Packet) → eqb i j ≡ false → Owned s i q → Owned (returned s j) i q
       keeps i q d o x =
@@ -118,10 +118,10 @@ module _ (s : State) (I : Inv s) (j : ℕ) (inside : j < length (s .jobs)) (none
       holds c u i e =
           let b : heldBy (cond (heldBy (unitIn (s .units) c u .holder) j) Free (unitIn (s .units) c u .holder)) i ≡ true = rw (unit-release (s .units) j c u) at e in
           by-bool (heldBy (unitIn (s .units) c u .holder) j)
-          (λ t. clash false (rw t at b) refl)
+          (λ t. never {b = false} (rw t at b) refl)
           (λ t. let k : heldBy (unitIn (s .units) c u .holder) i ≡ true = rw t at b in
           after i
-          (by-bool (eqb i j) (λ d. clash (heldBy (unitIn (s .units) c u .holder) j) (rw (eqb-true i j d) at k) t) (λ d. d))
+          (by-bool (eqb i j) (λ d. never {b = heldBy (unitIn (s .units) c u .holder) j} (rw (eqb-true i j d) at k) t) (λ d. d))
           (I .holders c u i k))
 
 -- ---- a new job
@@ -137,7 +137,7 @@ module _ (s : State) (I : Inv s) (j : ℕ) (inside : j < 16) (empty : isEmpty (s
   there-is = rw (I .places) inside
 
   another : (i : ℕ) → isEmpty (stateIn (s .jobs) i) ≡ false → eqb i j ≡ false
-  another i a = by-bool (eqb i j) (λ e. clash (isEmpty (stateIn (s .jobs) j)) empty (rw (eqb-true i j e) at a)) (λ e. e)
+  another i a = by-bool (eqb i j) (λ e. never {b = isEmpty (stateIn (s .jobs) j)} empty (rw (eqb-true i j e) at a)) (λ e. e)
 
   -- a unit that is held stays as it is
   pub take-held : (c u i : ℕ) → heldBy (unitIn (s .units) c u .holder) i ≡ true → unitIn (takeAll (s .units) j (wanted asg)) c u ≡ unitIn (s .units) c u

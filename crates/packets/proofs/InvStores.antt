@@ -7,15 +7,16 @@ use native.Mathlib.Omega.{arith}
 use lib.ListN.{length, getD, set, length-set, length-append}
 use lib.Dec.{eqb}
 use borrow.Author.Tests.{eqb-true, lt-ltb}
+use Rattle.numbers.proofs.Stores.{getD-set}
 use Rattle.units.specs.declared.Unit.{Unit as UnitState}
 use Rattle.units.specs.declared.Mark.{Mark as UnitMark}
 use Rattle.units.specs.declared.Mark.the-variants.{Down, Reserved}
-use Rattle.numbers.proofs.Tests.{by-bool}
+use Rattle.numbers.proofs.Tests.{by-bool, never}
 use Rattle.units.specs.State.{unitIn, unitSet, markedUnit}
 use Rattle.packets.proofs.Inv.{Elsewhere, EntryOk, Inv, OkEntry, OkMotion, Owned, Spots, listed-busy, motion-busy, requeued, running-alive, single-relist}
 use Rattle.packets.specs.State.{inMotion, State, enlisted, enqueue, entryOf, isBusy, isIdle, isListed, lock, motionOn, move, packetIn, packetOf, packetsIn, placeOf, put, restatusAll, setLock, stateIn, store, sweep, withLock}
 use Rattle.packets.specs.Picks.{All}
-use Rattle.packets.proofs.Laws.{all-append, all-imp, and-left, and-right, clash, getD-set}
+use Rattle.packets.proofs.Laws.{all-append, all-imp, and-left, and-right}
 use Rattle.packets.proofs.Once.{few, nodup-snoc}
 use Rattle.packets.specs.Rules.{marked}
 use Rattle.packets.proofs.Store.{alive-in, busy-in, length-put, length-restatus, packet-put, packet-restatus, size-put, size-restatus, sizeIn, state-put, state-restatus, unit-keep}
@@ -272,4 +273,4 @@ idle-is s I c e = go (motionOn s c) refl
         let k = I .motion c j p q in
         let a : j < length (s .jobs) = alive-in (s .jobs) j (k .alive) in
         let b : p < sizeIn (s .jobs) j = busy-in (s .jobs) j p (motion-busy (packetIn (s .jobs) j p .status) (k .going)) in
-        clash false (rw (q, lt-ltb j 16 (omega (arith, I .places)), lt-ltb p 16 (omega (arith, I .sizes j (k .alive)))) at e) refl
+        never {b = false} (rw (q, lt-ltb j 16 (omega (arith, I .places)), lt-ltb p 16 (omega (arith, I .sizes j (k .alive)))) at e) refl

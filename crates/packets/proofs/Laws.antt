@@ -1,16 +1,15 @@
--- Laws of tests, of lists under a test, and of an array after one store.
+-- Laws of tests, of lists under a test, and of an array after one store. Assumes nothing.
 use Prim.Native.Nat.{ℕ, zero, suc, _+_, _<_}
 use mathlib.Core.Path.{_≡_, refl, sym, ap, _∙_, subst}
-use mathlib.Core.Bool.{Bool, true, false, not, cond, _&&_, _||_}
+use mathlib.Core.Bool.{Bool, true, false, _&&_, _||_}
 use mathlib.Core.List.{List, [], _∷_, _++_, map}
 use mathlib.Core.Option.{some}
 use native.Mathlib.Omega.{arith}
 use native.Mathlib.Nat.{add-zero, suc-add, add-suc}
 use lib.ListN.{length, getD, set, replicate}
-use lib.Seq.{getD-set-same, getD-set-other}
 use lib.Dec.{eqb}
-use borrow.Author.Tests.{eqb-true, eqb-false, eq-eqb}
-use Rattle.numbers.proofs.Tests.{by-bool}
+use borrow.Author.Tests.{eq-eqb}
+use Rattle.numbers.proofs.Tests.{by-bool, never}
 use Rattle.numbers.specs.declared.Refusal.{Refusal}
 use Rattle.packets.specs.Picks.{any, find, keep, mapFrom, All}
 use Rattle.packets.specs.Rules.{first}
@@ -19,30 +18,16 @@ use Rattle.packets.specs.declared.Verdict.the-variants.{Granted}
 
 -- ---- tests
 
-pub clash {ℓ} : {P : Type ℓ} (b : Bool) → b ≡ true → b ≡ false → P
-clash b t f = absurd (go (cc))
-  where
-    go : true ≡ false → ⊥
-    go e = let z : _≡_ {A = ℕ} 0 1 = ap (λ (b : Bool). cond b 0 1) e in omega arith
-
 pub and-left : (a b : Bool) → a && b ≡ true → a ≡ true
 and-left true b e = refl
 and-left false b e = e
 
 pub and-right : (a b : Bool) → a && b ≡ true → b ≡ true
 and-right true b e = e
-and-right false b e = clash false e refl
+and-right false b e = never {b = false} e refl
 
 pub and-both : (a b : Bool) → a ≡ true → b ≡ true → a && b ≡ true
 and-both a b p q = rw (p, q)
-
-pub not-false : (b : Bool) → not b ≡ false → b ≡ true
-not-false true e = refl
-not-false false e = clash true refl e
-
-pub not-true : (b : Bool) → not b ≡ true → b ≡ false
-not-true true e = clash false e refl
-not-true false e = refl
 
 pub or-right : (a b : Bool) → a ≡ false → a || b ≡ true → b ≡ true
 or-right a b p e = rw p at e
@@ -63,12 +48,6 @@ bool-iff false false f g = refl
 -- ---- an array after one store
 
 module _ {A : Type 0} where
-  pub getD-set : (l : List A) (i : ℕ) (v : A) (k : ℕ) (d : A) → i < length l → getD (set l i v) k d ≡ cond (eqb k i) v (getD l k d)
-  getD-set l i v k d h =
-      by-bool (eqb k i)
-      (λ e. rw e (rw (eqb-true k i e) (getD-set-same l i v d h)))
-      (λ e. rw e (getD-set-other l i k v d (eqb-false k i e)))
-
   -- what a store leaves alone is seen as before
   pub getD-set-keep : {B : Type 0} (f : A → B) (l : List A) (i : ℕ) (v : A) (k : ℕ) (d : A) → f v ≡ f (getD l i d) → f (getD (set l i v) k d) ≡ f (getD l k d)
   getD-set-keep f [] i v k d e = refl
@@ -81,6 +60,16 @@ module _ {A : Type 0} where
   getD-mapFrom f d e m [] k = sym (e (m + k))
   getD-mapFrom f d e m (x ∷ l) zero = rw add-zero
   getD-mapFrom f d e m (x ∷ l) (suc k) = getD-mapFrom f d e (suc m) l k ∙ ap (λ (i : ℕ). f i (getD l k d)) (suc-add m k ∙ sym (add-suc m k))
+
+  -- the same of an element that is there
+  pub getD-mapFrom-in : (f : ℕ → A → A) (d : A) (m : ℕ) (l : List A) (k : ℕ) → k < length l → getD (mapFrom m f l) k d ≡ f (m + k) (getD l k d)
+  getD-mapFrom-in f d m [] k h = absurd (omega arith)
+  getD-mapFrom-in f d m (x ∷ l) zero h = rw add-zero
+  getD-mapFrom-in f d m (x ∷ l) (suc k) h = getD-mapFrom-in f d (suc m) l k (omega arith) ∙ ap (λ (i : ℕ). f i (getD l k d)) (suc-add m k ∙ sym (add-suc m k))
+
+  pub length-mapFrom : (f : ℕ → A → A) (m : ℕ) (l : List A) → length (mapFrom m f l) ≡ length l
+  length-mapFrom f m [] = refl
+  length-mapFrom f m (x ∷ l) = ap suc (length-mapFrom f (suc m) l)
 
   pub getD-mapFrom-const : {B : Type 0} (p : A → B) (b : B) (f : ℕ → A → A) (d : A) → ((k : ℕ) (x : A) → p (f k x) ≡ b) → p d ≡ b
       → (m : ℕ) (l : List A) (k : ℕ) → p (getD (mapFrom m f l) k d) ≡ b
@@ -102,11 +91,6 @@ module _ {A : Type 0} where
   pub all-both : (P Q : A → Type 0) (l : List A) → All P l → All Q l → All (λ (x : A). P x × Q x) l
   all-both P Q [] h k = tt
   all-both P Q (x ∷ l) h k = ((h .0, k .0), all-both P Q l (h .1) (k .1))
-
-  pub getD-replicate-same : (n k : ℕ) (a : A) → getD (replicate n a) k a ≡ a
-  getD-replicate-same zero k a = refl
-  getD-replicate-same (suc n) zero a = refl
-  getD-replicate-same (suc n) (suc k) a = getD-replicate-same n k a
 
   pub all-append : (P : A → Type 0) (l m : List A) → All P l → All P m → All P (l ++ m)
   all-append P [] m h k = k
@@ -165,7 +149,7 @@ module _ {A : Type 0} where
       by-bool (f x)
       (λ d. let q : x ≡ a = go d in (keep g l, rw (q, ga)))
       (λ d. by-bool (g x)
-      (λ k. clash (f x) (h .0 k) d)
+      (λ k. never {b = f x} (h .0 k) d)
       (λ k. rw k (find-keep f g l a (rw d at e) ga (h .1))))
     where
       go : f x ≡ true → x ≡ a
@@ -173,5 +157,5 @@ module _ {A : Type 0} where
 
   pub any-none : (f : A → Bool) (l : List A) (d : A) → any f l ≡ false → f d ≡ false → (k : ℕ) → f (getD l k d) ≡ false
   any-none f [] d e fd k = fd
-  any-none f (x ∷ l) d e fd zero = by-bool (f x) (λ t. clash true refl (rw t at e)) (λ t. t)
-  any-none f (x ∷ l) d e fd (suc k) = any-none f l d (by-bool (f x) (λ t. clash true refl (rw t at e)) (λ t. rw t at e)) fd k
+  any-none f (x ∷ l) d e fd zero = by-bool (f x) (λ t. never {b = true} refl (rw t at e)) (λ t. t)
+  any-none f (x ∷ l) d e fd (suc k) = any-none f l d (by-bool (f x) (λ t. never {b = true} refl (rw t at e)) (λ t. rw t at e)) fd k

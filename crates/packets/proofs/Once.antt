@@ -6,10 +6,10 @@ use mathlib.Core.List.{List, [], _∷_, _++_}
 use native.Mathlib.Omega.{arith}
 use lib.ListN.{length}
 use lib.Dec.{eqb}
-use borrow.Author.Tests.{eqb-true, eqb-false}
+use borrow.Author.Tests.{eqb-true, eqb-false, not-true}
 use Rattle.numbers.proofs.Tests.{by-bool}
 use Rattle.packets.specs.Picks.{All, keep, Nodup}
-use Rattle.packets.proofs.Laws.{all-imp, all-keep, not-true}
+use Rattle.packets.proofs.Laws.{all-imp, all-keep}
 
 module _ {A : Type 0} (same : A → A → Bool) where
   pub nodup-keep : (f : A → Bool) (l : List A) → Nodup same l → Nodup same (keep f l)

@@ -6,13 +6,13 @@ use mathlib.Core.Option.{Option, none, some}
 use lib.ListN.{length}
 use lib.Dec.{eqb}
 use borrow.Author.Tests.{eqb-true}
-use Rattle.numbers.proofs.Tests.{by-bool}
+use Rattle.numbers.proofs.Tests.{by-bool, never}
 use Rattle.numbers.specs.declared.Refusal.{Refusal}
 use Rattle.packets.proofs.Acts.{actsNow, answersThere}
 use Rattle.packets.specs.Demand.{Holding, Holds, Seen, acts, endedThere, isThere, noted, there, tookThere}
 use Rattle.packets.proofs.Inv.{EntryOk, Inv, listed-busy, motion-busy, running-alive}
 use Rattle.packets.proofs.InvStores.{lock-inv, sweep-inv}
-use Rattle.packets.proofs.Laws.{and-left, and-right, clash, find-holds}
+use Rattle.packets.proofs.Laws.{and-left, and-right, find-holds}
 use Rattle.packets.specs.Picks.{find}
 use Rattle.packets.specs.Rules.{Call, Complete, End, Mark, Start, Submit, Take, accept, aimed, always, answer, assigned, atOf, atUnit, begins, begun, broken, closing, codeFor, completes, cut, ended, failed, finished, isFailure, locked, over, packet, refusal, returnIfDone, returned, startable, submitted, terminate, toOf, unlock}
 use Rattle.packets.proofs.SimSubmit.{eqb-flip, holder-alive}
@@ -161,7 +161,7 @@ accept-seen h s I H t k (Take j asg) r =
     (packet-fresh (s .jobs) j asg (h .place) (rw (I .places) (assigns-to s j asg r .0)) n ∙ rw other)) (k n)
   where
     other : eqb (h .place) j ≡ false
-    other = by-bool (eqb (h .place) j) (λ e. clash (isEmpty (stateIn (s .jobs) j)) (assigns-to s j asg r .1) (rw (eqb-true (h .place) j e) at (holder-alive h s I H))) (λ e. e)
+    other = by-bool (eqb (h .place) j) (λ e. never {b = isEmpty (stateIn (s .jobs) j)} (assigns-to s j asg r .1) (rw (eqb-true (h .place) j e) at (holder-alive h s I H))) (λ e. e)
 accept-seen h s I H t k (Submit j p f c w) r =
     λ n. by-bool (eqb j (h .place) && eqb n p)
     (λ e. let x : j ≡ h .place = eqb-true j (h .place) (and-left (eqb j (h .place)) (eqb n p) e) in

@@ -8,13 +8,13 @@ use lib.ListN.{length}
 use lib.Dec.{eqb}
 use borrow.Author.Tests.{eqb-true}
 use Rattle.units.specs.declared.Unit.{Unit as UnitState}
-use Rattle.numbers.proofs.Tests.{by-bool}
+use Rattle.numbers.proofs.Tests.{by-bool, never}
 use Rattle.units.specs.State.{unitIn}
 use Rattle.packets.specs.Demand.{Holding, there}
 use Rattle.packets.proofs.Inv.{Elsewhere, EntryOk, Inv, kept-still, listed-busy, motion-busy}
 use Rattle.packets.proofs.InvStores.{New, enlisted-is, entry-packet, motion-move, put-elsewhere, restatus-elsewhere}
 use Rattle.packets.specs.Picks.{All, keep}
-use Rattle.packets.proofs.Laws.{all-imp, all-keep, and-both, and-left, and-right, clash, eqb-self, keep-all, keep-append, keep-same, settle-eq}
+use Rattle.packets.proofs.Laws.{all-imp, all-keep, and-both, and-left, and-right, eqb-self, keep-all, keep-append, keep-same, settle-eq}
 use Rattle.packets.specs.Lone.{Lone, Request, carries, joins, locks, settle, still, stores, waits, write}
 use Rattle.packets.specs.State.{State, enqueue, entryOf, isBusy, isKept, isListed, motionOn, move, packetIn, packetOf, packetsIn, placeOf, put, relist, restatus, restatusAll, store, sweep}
 use Rattle.packets.proofs.Store.{packet-put, packet-restatus, sizeIn}
@@ -169,7 +169,7 @@ module _ (h : Holding) (s : State) (I : Inv s) (l : Lone) (S : Sim h s l) where
             let t′ : there h (cond (eqb (h .place) j && eqb n p) q (packetIn (s .jobs) (h .place) n)) ≡ true = rw (packet-put (s .jobs) j p q (h .place) n fits) at t in
             rw (packet-put (s .jobs) j p q (h .place) n fits)
             (by-bool (eqb (h .place) j && eqb n p)
-            (λ e. clash (eqb (h .place) j && there h q) (and-both _ _ (and-left (eqb (h .place) j) (eqb n p) e) (rw e at t′)) away)
+            (λ e. never {b = eqb (h .place) j && there h q} (and-both _ _ (and-left (eqb (h .place) j) (eqb n p) e) (rw e at t′)) away)
             (λ e. rw e (S .table n (rw e at t′))))
 
   -- ---- the packets of a job

@@ -5,17 +5,17 @@ use mathlib.Core.Bool.{Bool, true, false, not, cond, _&&_}
 use mathlib.Core.Option.{Option, none, some}
 use lib.ListN.{length}
 use lib.Dec.{eqb}
-use borrow.Author.Tests.{eqb-true, eqb-false, eq-eqb}
+use borrow.Author.Tests.{eqb-true, eqb-false, eq-eqb, not-true}
 use Rattle.units.specs.declared.Unit.{Unit as UnitState}
 use Rattle.units.specs.declared.Mark.{Mark as UnitMark}
 use Rattle.units.specs.declared.Mark.the-variants.{Down, Reserved}
-use Rattle.numbers.proofs.Tests.{by-bool}
+use Rattle.numbers.proofs.Tests.{by-bool, never}
 use Rattle.units.specs.State.{unitIn, unitSet, markedUnit}
 use Rattle.packets.specs.Demand.{Holding, Holds, isThere, there}
 use Rattle.packets.proofs.Inv.{Inv, running-alive}
 use Rattle.packets.proofs.InvJobs.{held-once, held-taken, take-held}
 use Rattle.packets.proofs.InvStores.{idle-inv, sweep-inv}
-use Rattle.packets.proofs.Laws.{and-left, and-right, clash, eqb-self, not-true}
+use Rattle.packets.proofs.Laws.{and-left, and-right, eqb-self}
 use Rattle.packets.specs.Lone.{Lone, become, breaks, carries, completesAs, ends, endsWith, fails, halts, locks, loneStep, stops}
 use Rattle.packets.specs.Rules.{Complete, End, always, assigned, atUnit, broken, closing, codeFor, cut, ended, failed, finished, isFailure, marked, over, returnIfDone}
 use Rattle.packets.proofs.Sim.{Sim, movingThere, sim-move, sim-move-away, sim-same, sim-store, sim-store-away, sim-sweep, sim-sweep-away, sim-units, sim-units-away}
@@ -116,7 +116,7 @@ module _ (h : Holding) (s : State) (I : Inv s) (H : Holds s h) (l : Lone) (S : S
 
         other : h .drum ≡ false → h .channel ≡ c → h .unit ≡ packetIn (s .jobs) j p .at → ⊥
         other o x y =
-            clash (there h (packetIn (s .jobs) j p))
+            never {b = there h (packetIn (s .jobs) j p)}
             (is-there h _ _ (its-channel ∙ sym x) (sym y))
             (none-here (held-once (unitIn (s .units) c (packetIn (s .jobs) j p .at) .holder) (h .place) j (rw (x, y) at (unit-held h s H o)) theirs))
 
@@ -126,7 +126,7 @@ module _ (h : Holding) (s : State) (I : Inv s) (H : Holds s h) (l : Lone) (S : S
             let a = packetIn (s .jobs) j p .at in
             by-bool (atUnit c a q)
             (λ z. let y′ : isThere h c a ≡ true = rw (eqb-true (q .channel .0) c (and-left (eqb (q .channel .0) c) (eqb (q .at) a) z), eqb-true (q .at) a (and-right (eqb (q .channel .0) c) (eqb (q .at) a) z)) at y in
-            clash (there h (packetIn (s .jobs) j p)) (rw its-channel y′) (none-here e))
+            never {b = there h (packetIn (s .jobs) j p)} (rw its-channel y′) (none-here e))
             (λ z. z)
 
     pub sim-complete-away : (how : How) → Sim h (returnIfDone j (finished s c how j p)) l
@@ -171,7 +171,7 @@ sim-assign-away h s I H l S j small empty asg =
     (λ n. rw (packet-fresh (s .jobs) j asg (h .place) (rw (I .places) small) n, other))
   where
     other : eqb (h .place) j ≡ false
-    other = by-bool (eqb (h .place) j) (λ e. clash (isEmpty (stateIn (s .jobs) j)) empty (rw (eqb-true (h .place) j e) at (holder-alive h s I H))) (λ e. e)
+    other = by-bool (eqb (h .place) j) (λ e. never {b = isEmpty (stateIn (s .jobs) j)} empty (rw (eqb-true (h .place) j e) at (holder-alive h s I H))) (λ e. e)
 
 pub sim-mark : (h : Holding) (s : State) → Inv s → (l : Lone) → Sim h s l → (c u : ℕ) (m : UnitMark) (on : Bool) → Sim h (marked s c u m on) l
 sim-mark h s I l S c u m on =

@@ -5,13 +5,13 @@ use mathlib.Core.Bool.{Bool, true, false, not, cond, _&&_, _||_}
 use mathlib.Core.List.{List, [], _∷_, map}
 use mathlib.Core.Option.{none, some}
 use lib.Dec.{eqb}
-use borrow.Author.Tests.{eqb-true, eq-eqb}
+use borrow.Author.Tests.{eqb-true, eq-eqb, not-true}
 use Rattle.numbers.proofs.Tests.{by-bool}
 use Rattle.units.specs.State.{unitIn}
 use Rattle.packets.specs.Demand.{Holding, Holds, startIn, there}
 use Rattle.packets.proofs.Inv.{EntryOk, Inv}
 use Rattle.packets.proofs.InvStores.{idle-is}
-use Rattle.packets.proofs.Laws.{all-imp, and-left, and-right, eqb-self, find-holds, find-keep, not-true, or-right}
+use Rattle.packets.proofs.Laws.{all-imp, and-left, and-right, eqb-self, find-holds, find-keep, or-right}
 use Rattle.packets.specs.Lone.{Lone, become, carries, loneStart, loneStep, setsOff, startOf, stores}
 use Rattle.packets.specs.Picks.{find, keep}
 use Rattle.packets.specs.Rules.{Start, answer, begun, returnIfDone, startable}

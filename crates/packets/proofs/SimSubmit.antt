@@ -4,15 +4,15 @@ use mathlib.Core.Path.{_≡_, refl, sym, _∙_, subst}
 use mathlib.Core.Bool.{Bool, true, false, not, cond, _&&_}
 use mathlib.Core.List.{List}
 use lib.Dec.{ltb, leb, eqb}
-use borrow.Author.Tests.{eqb-true, eq-eqb}
+use borrow.Author.Tests.{eqb-true, eq-eqb, not-true}
 use Rattle.units.specs.declared.Unit.{Unit as UnitState}
-use Rattle.numbers.proofs.Tests.{by-bool}
+use Rattle.numbers.proofs.Tests.{by-bool, never}
 use Rattle.units.specs.State.{isFree, unitIn, unitSet}
 use Rattle.packets.specs.Demand.{Holding, Holds, isThere, there}
 use Rattle.packets.proofs.Inv.{Inv}
 use Rattle.packets.proofs.InvJobs.{held-once, held-taken}
 use Rattle.packets.proofs.InvStores.{entry-packet, entry-place, lock-inv, sweep-inv}
-use Rattle.packets.proofs.Laws.{and-both, and-left, and-right, bool-iff, clash, eqb-self, not-true, or-right}
+use Rattle.packets.proofs.Laws.{and-both, and-left, and-right, bool-iff, eqb-self, or-right}
 use Rattle.packets.specs.Lone.{Lone, become, endsWith, fails, halts, hears, lists, locks, meant, request, stops, stores, unlocks}
 use Rattle.packets.specs.Rules.{aimed, atUnit, cut, enlist, failed, locked, packet, pass, submitted, terminate, unlock}
 use Rattle.packets.proofs.Sim.{Sim, lockThere, look, on, sim-enqueue, sim-enqueue-away, sim-store, sim-store-away, sim-sweep, sim-sweep-away, sim-units, sim-units-away}
@@ -110,11 +110,11 @@ module _ (h : Holding) (s : State) (I : Inv s) (H : Holds s h) (l : Lone) (S : S
   -- what is listed, or stored, where the submission says
   store-here : (s′ : State) → Inv s′ → (l′ : Lone) → Sim h s′ l′ → Ready s′ j p → h .place ≡ j → (t : Status) → Sim h (store s′ j p (packet t f c a)) (stores l′ p (request t f a))
   store-here s′ I′ l′ S′ r at-j t =
-      sim-store h s′ I′ l′ S′ j p (packet t f c a) (ready-fits s′ I′ j p r) (λ y. clash (isBusy (packetIn (s′ .jobs) j p .status)) y (r .idle)) at-j (request t f a) refl
+      sim-store h s′ I′ l′ S′ j p (packet t f c a) (ready-fits s′ I′ j p r) (λ y. never {b = isBusy (packetIn (s′ .jobs) j p .status)} y (r .idle)) at-j (request t f a) refl
 
   store-gone : (s′ : State) → Inv s′ → Sim h s′ l → Ready s′ j p → eqb (h .place) j && isThere h c a ≡ false → (t : Status) → Sim h (store s′ j p (packet t f c a)) l
   store-gone s′ I′ S′ r away t =
-      sim-store-away h s′ I′ l S′ j p (packet t f c a) (ready-fits s′ I′ j p r) (λ y. clash (isBusy (packetIn (s′ .jobs) j p .status)) y (r .idle)) away
+      sim-store-away h s′ I′ l S′ j p (packet t f c a) (ready-fits s′ I′ j p r) (λ y. never {b = isBusy (packetIn (s′ .jobs) j p .status)} y (r .idle)) away
 
   module _ (at-j : h .place ≡ j) (t : isThere h c a ≡ true) where
     drum-is : drumOn (s .channels) c ≡ h .drum
@@ -181,7 +181,7 @@ module _ (h : Holding) (s : State) (I : Inv s) (H : Holds s h) (l : Lone) (S : S
 
   module _ (away : eqb (h .place) j && isThere h c a ≡ false) where
     not-there : h .place ≡ j → isThere h c a ≡ true → ⊥
-    not-there e t = clash (eqb (h .place) j && isThere h c a) (and-both _ _ (eq-eqb (h .place) j e) t) away
+    not-there e t = never {b = eqb (h .place) j && isThere h c a} (and-both _ _ (eq-eqb (h .place) j e) t) away
 
     sim-unlock-away : locked s c a ≡ true → Sim h (unlock s j p f c a) l
     sim-unlock-away d =

@@ -2,18 +2,18 @@
 -- packet apart while a call is at work on it. Assumes nothing.
 use Prim.Native.Nat.{ℕ, _≤_, _<_}
 use mathlib.Core.Path.{_≡_, refl, _∙_, subst}
-use mathlib.Core.Bool.{Bool, true, false, cond, _&&_, _||_}
+use mathlib.Core.Bool.{Bool, true, false, cond, _||_}
 use mathlib.Core.List.{List, [], _∷_, _++_}
 use native.Mathlib.Omega.{arith}
 use lib.ListN.{length}
 use lib.Dec.{eqb}
 use borrow.Author.Tests.{eqb-true}
 use Rattle.units.specs.declared.Unit.{Unit as UnitState}
-use Rattle.numbers.proofs.Tests.{by-bool}
+use Rattle.numbers.proofs.Tests.{by-bool, never}
 use Rattle.packets.proofs.Inv.{Inv, listed-busy}
 use Rattle.packets.specs.State.{inMotion, State, blank, enqueue, entryOf, isKept, isListed, motionOn, move, moves, packetIn, packetsIn, put, relist, restatus, restatusAll, setState, store, sweep, isPacket}
 use Rattle.packets.proofs.InvStores.{New, enlisted-is, entry-packet, entry-place, motion-move}
-use Rattle.packets.proofs.Laws.{and-left, and-right, clash}
+use Rattle.packets.proofs.Laws.{and-left, and-right}
 use Rattle.packets.specs.Lone.{lists}
 use Rattle.packets.specs.Picks.{any, keep}
 use Rattle.packets.specs.Rules.{assigned}
@@ -169,11 +169,11 @@ assigned-sound s S j asg inside =
     record {
       mover = λ i n b h. let r = read i n in
           by-bool (eqb i j)
-          (λ d. clash false (rw (r, d) at h) refl)
+          (λ d. never {b = false} (rw (r, d) at h) refl)
           (λ d. let e : packetIn (assigned s j asg .jobs) i n ≡ packetIn (s .jobs) i n = r ∙ rw d in rw e (S .mover i n b (rw e at h)));
       member = λ i n b h. let r = read i n in
           by-bool (eqb i j)
-          (λ d. clash false (rw (r, d) at h) refl)
+          (λ d. never {b = false} (rw (r, d) at h) refl)
           (λ d. let e : packetIn (assigned s j asg .jobs) i n ≡ packetIn (s .jobs) i n = r ∙ rw d in S .member i n b (rw e at h));
       sixteen = λ i. rw (size-fresh (s .jobs) j asg i inside) (by-bool (eqb i j) (λ d. rw d (omega arith)) (λ d. rw d (S .sixteen i)));
     }

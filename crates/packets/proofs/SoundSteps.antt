@@ -6,14 +6,15 @@ use mathlib.Core.List.{List, [], _∷_, _++_}
 use native.Mathlib.Omega.{arith}
 use lib.ListN.{length, getD, replicate}
 use lib.Dec.{eqb}
+use Rattle.numbers.proofs.Stores.{getD-replicate-same}
 use Rattle.units.specs.declared.Unit.{Unit as UnitState}
-use Rattle.numbers.proofs.Tests.{by-bool}
+use Rattle.numbers.proofs.Tests.{by-bool, never}
 use Rattle.channels.specs.declared.Channel.{Channel}
 use Rattle.packets.specs.Demand.{emptyPlace, fresh}
 use Rattle.packets.proofs.Inv.{EntryOk, Inv, running-alive}
 use Rattle.packets.specs.State.{inMotion, isPacket, State, blank, drumOn, enqueue, entryOf, isIdle, isListed, lock, motionOn, move, noJob, packetIn, packetOf, placeOf, releaseAll, setLock, stateIn, store, sweep, withStatus}
 use Rattle.packets.proofs.InvStores.{New, enlisted-is, idle-is, lock-inv, motion-move, sweep-inv}
-use Rattle.packets.proofs.Laws.{clash, eqb-self, find-holds, getD-replicate-const, getD-replicate-same}
+use Rattle.packets.proofs.Laws.{eqb-self, find-holds, getD-replicate-const}
 use Rattle.packets.specs.Picks.{any, find}
 use Rattle.packets.specs.Rules.{Call, Complete, End, Mark, Start, Submit, Take, accept, aimed, always, atOf, atUnit, begun, closed, closing, codeFor, cut, decided, enlist, failed, finished, isDone, isFailure, locked, marked, over, packet, refusal, returnIfDone, run, startable, step, submitted, toOf}
 use Rattle.packets.proofs.Sound.{Sound, assigned-sound, enqueue-sound, move-sound, noPacket, sound-but, sound-whole, state-sound, store-sound, sweep-sound, units-sound}
@@ -52,7 +53,7 @@ cut-moved Stopping e = e
 cut-moved (Ended k) e = e
 
 cut-listed : (x : Status) → isListed (cut x) ≡ true → isListed x ≡ true
-cut-listed x e = clash (isListed (cut x)) e (cut-unlisted x)
+cut-listed x e = never {b = isListed (cut x)} e (cut-unlisted x)
 
 -- ---- a submission
 
@@ -65,7 +66,7 @@ module _ (s : State) (I : Inv s) (S : Sound s noPacket) (j p f c a b : ℕ) (k :
   pass-sound s′ I′ S′ r =
       let e = stored-at s′ I′ j p (packet (Ended 0o00) f c a) r in
       sound-whole (store s′ j p (packet (Ended 0o00) f c a)) j p (store-sound s′ j p (sound-but (isPacket j p) S′) (packet (Ended 0o00) f c a) (ready-fits s′ I′ j p r))
-      (λ m. clash false (rw e at m) refl) (λ m. clash false (rw e at m) refl)
+      (λ m. never {b = false} (rw e at m) refl) (λ m. never {b = false} (rw e at m) refl)
 
   pub submit-sound : Sound (submitted s j p f c a b) noPacket
   submit-sound =
@@ -94,7 +95,7 @@ module _ (s : State) (I : Inv s) (S : Sound s noPacket) (j p f c a b : ℕ) (k :
           let n : New s₁ j p = listed-new s I j p f c a k in
           let e : packetIn (s₁ .jobs) j p ≡ q = stored-at s I j p q ready-now in
           sound-whole (enqueue s₁ j p) j p (enqueue-sound s₁ j p (store-sound s j p (sound-but (isPacket j p) S) q (ready-fits s I j p ready-now)) I₁ n)
-          (λ m. clash false (rw e at m) refl)
+          (λ m. never {b = false} (rw e at m) refl)
           (λ m. rw (enlisted-is s₁ I₁ j p n) (last (s₁ .queue)))
         where
           last : (l : List ℕ) → any (eqb (entryOf j p)) (l ++ (entryOf j p ∷ [])) ≡ true
@@ -116,7 +117,7 @@ module _ (s : State) (I : Inv s) (S : Sound s noPacket) (c : ℕ) (small : c < 1
       (move-sound s₁ j p (store-sound s j p (sound-but (isPacket j p) S) q (start-fits s I c small e k on)) c (Busy j p) (rw (I .channels) small)
       (λ i n b m. let z : Busy i n ≡ Idle = sym m ∙ idle-is s I c idle in let y : _≡_ {A = ℕ} 0 1 = cc in omega arith))
       (λ m. rw (at, on) (motion-move s₁ c (Busy j p) c (rw (I .channels) small) ∙ rw (eqb-self c)))
-      (λ m. clash false (rw at at m) refl)
+      (λ m. never {b = false} (rw at at m) refl)
 
 -- ---- a completion
 
@@ -128,14 +129,14 @@ module _ (s : State) (I : Inv s) (S : Sound s noPacket) (c : ℕ) (small : c < 1
       let at : packetIn (over s c j p k .jobs) j p ≡ q = packet-put (s .jobs) j p q j p (over-fits s I c small j p is) ∙ rw (eqb-self j, eqb-self p) in
       sound-whole (store s₁ j p q) j p
       (store-sound s₁ j p (move-sound s j p (sound-but (isPacket j p) S) c Idle (rw (I .channels) small) other) q (over-fits s I c small j p is))
-      (λ m. clash false (rw at at m) refl) (λ m. clash false (rw at at m) refl)
+      (λ m. never {b = false} (rw at at m) refl) (λ m. never {b = false} (rw at at m) refl)
     where
       other : (i n : ℕ) → isPacket j p i n ≡ false → motionOn s c ≡ Busy i n → ⊥
       other i n b m =
           let z : Busy j p ≡ Busy i n = sym is ∙ m in
           let x : i ≡ j = cc in
           let y : n ≡ p = cc in
-          clash (isPacket j p i n) (rw (x, y, eqb-self j, eqb-self p)) b
+          never {b = isPacket j p i n} (rw (x, y, eqb-self j, eqb-self p)) b
 
   finished-sound : (how : How) → Sound (finished s c how j p) noPacket
   finished-sound how =
@@ -189,8 +190,8 @@ pub fresh-sound : (channels : List Channel) (units : List (List UnitState)) → 
 unfolding fresh
 fresh-sound channels units =
     record {
-      mover = λ i n b h. clash (inMotion (packetIn (replicate 16 emptyPlace) i n .status)) h (ap (λ (q : Packet). inMotion (q .status)) (all-blank i n));
-      member = λ i n b h. clash (isListed (packetIn (replicate 16 emptyPlace) i n .status)) h (ap (λ (q : Packet). isListed (q .status)) (all-blank i n));
+      mover = λ i n b h. never {b = inMotion (packetIn (replicate 16 emptyPlace) i n .status)} h (ap (λ (q : Packet). inMotion (q .status)) (all-blank i n));
+      member = λ i n b h. never {b = isListed (packetIn (replicate 16 emptyPlace) i n .status)} h (ap (λ (q : Packet). isListed (q .status)) (all-blank i n));
       sixteen = sizes 16;
     }
   where

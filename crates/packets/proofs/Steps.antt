@@ -7,9 +7,10 @@ use mathlib.Core.Option.{Option, none, some}
 use native.Mathlib.Omega.{arith}
 use lib.ListN.{length, replicate}
 use lib.Dec.{eqb}
-use borrow.Author.Tests.{eqb-true, eqb-false}
+use borrow.Author.Tests.{eqb-true, eqb-false, not-true}
+use Rattle.numbers.proofs.Stores.{getD-replicate-same}
 use Rattle.units.specs.declared.Unit.{Unit as UnitState}
-use Rattle.numbers.proofs.Tests.{by-bool}
+use Rattle.numbers.proofs.Tests.{by-bool, never}
 use Rattle.units.specs.State.{unitIn}
 use Rattle.units.specs.declared.Holder.{Holder}
 use Rattle.packets.specs.Demand.{NoneHeld, emptyPlace, fresh}
@@ -18,7 +19,7 @@ use Rattle.packets.specs.State.{inMotion, State, anyMoves, close, drumOn
 use Rattle.packets.proofs.InvJobs.{NotOf, assigned-inv, close-inv, returned-inv}
 use Rattle.packets.proofs.InvStores.{New, busy-inv, enqueue-inv, entry-packet, entry-place, idle-inv, lock-inv, marked-inv, motion-move, store-inv, sweep-inv}
 use Rattle.packets.specs.Picks.{All, find, keep}
-use Rattle.packets.proofs.Laws.{all-imp, all-keep, and-left, and-right, any-none, clash, eqb-self, find-holds, getD-replicate-const, getD-replicate-same, not-true}
+use Rattle.packets.proofs.Laws.{all-imp, all-keep, and-left, and-right, any-none, eqb-self, find-holds, getD-replicate-const}
 use Rattle.packets.specs.Rules.{Call, Complete, End, Mark, Start, Submit, Take, accept, aimed, always, atOf, atUnit, begun, closing, codeFor, cut, decided, failed, finished, isFailure, isNone, locked, over, packet, refusal, returnIfDone, run, startable, step, submitted, toOf}
 use Rattle.packets.proofs.Store.{alive-in, busy-in, packet-put, packet-restatus, sizeIn, state-put, state-restatus}
 use Rattle.packets.proofs.Told.{Submits, assigns-to, completes-on, cut-going, cut-idle, cut-unlisted, ends-of, failed-going, failed-idle, starts-on, submits}
@@ -51,12 +52,12 @@ pub ready-inside : (s : State) (j p : ℕ) → Ready s j p → j < length (s .jo
 ready-inside s j p r = alive-in (s .jobs) j (running-alive (stateIn (s .jobs) j) (r .running))
 
 pub ready-still : (s : State) → Inv s → (j p c : ℕ) → Ready s j p → motionOn s c ≡ Busy j p → ⊥
-ready-still s I j p c r e = clash (isBusy (packetIn (s .jobs) j p .status)) (motion-busy (packetIn (s .jobs) j p .status) (I .motion c j p e .going)) (r .idle)
+ready-still s I j p c r e = never {b = isBusy (packetIn (s .jobs) j p .status)} (motion-busy (packetIn (s .jobs) j p .status) (I .motion c j p e .going)) (r .idle)
 
 pub ready-store : (s : State) → Inv s → (j p : ℕ) (q : Packet) → Ready s j p → Inv (store s j p q)
 ready-store s I j p q r =
     store-inv s I j p q (ready-fits s I j p r)
-    (λ b. clash (isBusy (packetIn (s .jobs) j p .status)) b (r .idle))
+    (λ b. never {b = isBusy (packetIn (s .jobs) j p .status)} b (r .idle))
     (λ c e. absurd (ready-still s I j p c r e))
 
 pub ready-sweep : (s : State) (j p : ℕ) (t : Packet → Bool) (f : Status → Status) → f Blank ≡ Blank → ((x : Status) → isBusy x ≡ false → f x ≡ x)
@@ -82,7 +83,7 @@ not-listed s j p small idle e k =
     (λ t. let x : entryOf j p ≡ e = eqb-true (entryOf j p) e t in
     let l : isListed (packetIn (s .jobs) (placeOf (entryOf j p)) (packetOf (entryOf j p)) .status) ≡ true = rw x (k .listed) in
     let m : isListed (packetIn (s .jobs) j p .status) ≡ true = rw (entry-place j p small, entry-packet j p small) at l in
-    clash (isBusy (packetIn (s .jobs) j p .status)) (listed-busy (packetIn (s .jobs) j p .status) m) idle)
+    never {b = isBusy (packetIn (s .jobs) j p .status)} (listed-busy (packetIn (s .jobs) j p .status) m) idle)
     (λ t. t)
 
 pub all-relist : (P : ℕ → Type 0) (j : ℕ) (ps : List Packet) (q : List ℕ) → All P q → All P (relist j ps q)
@@ -132,18 +133,18 @@ submit-inv s I j p f c a b k =
 pub listed-not-closing : (s : State) → Inv s → (j : ℕ) → isRunning (stateIn (s .jobs) j) ≡ false → All (NotOf j) (s .queue)
 listed-not-closing s I j n =
     all-imp (EntryOk s) (NotOf j)
-    (λ e k. by-bool (eqb (placeOf e) j) (λ t. clash (isRunning (stateIn (s .jobs) j)) (rw (eqb-true (placeOf e) j t) at (k .running)) n) (λ t. t))
+    (λ e k. by-bool (eqb (placeOf e) j) (λ t. never {b = isRunning (stateIn (s .jobs) j)} (rw (eqb-true (placeOf e) j t) at (k .running)) n) (λ t. t))
     (s .queue) (I .queued)
 
 pub closing-not-running : (t : JobState) → isClosing t ≡ true → (isRunning t ≡ false) × (isEmpty t ≡ false)
-closing-not-running Empty e = clash false e refl
-closing-not-running Running e = clash false e refl
+closing-not-running Empty e = never {b = false} e refl
+closing-not-running Running e = never {b = false} e refl
 closing-not-running ClosingNormal e = (refl, refl)
 closing-not-running ClosingError e = (refl, refl)
 
 pub none-moving : (s : State) (j : ℕ) → anyMoves j (s .moving) ≡ false → (c p : ℕ) → motionOn s c ≡ Busy j p → ⊥
 none-moving s j n c p e =
-    clash (moves j (motionOn s c)) (rw e (eqb-self j)) (any-none (λ (m : Carrier). moves j (m .motion)) (s .moving) (record { motion = Idle }) n refl c)
+    never {b = moves j (motionOn s c)} (rw e (eqb-self j)) (any-none (λ (m : Carrier). moves j (m .motion)) (s .moving) (record { motion = Idle }) n refl c)
 
 pub return-inv : (s : State) → Inv s → (j : ℕ) → Inv (returnIfDone j s)
 return-inv s I j =
@@ -157,7 +158,7 @@ return-inv s I j =
 -- ---- a start
 
 pub find-some : (o : Option ℕ) → isNone o ≡ false → (a : ℕ) × (o ≡ some a)
-find-some none e = clash true refl e
+find-some none e = never {b = true} refl e
 find-some (some a) e = (a, refl)
 
 module _ (s : State) (I : Inv s) (c : ℕ) (small : c < 16) (e : ℕ) (k : EntryOk s e) (on : packetIn (s .jobs) (placeOf e) (packetOf e) .channel .0 ≡ c) where
@@ -186,7 +187,7 @@ module _ (s : State) (I : Inv s) (c : ℕ) (small : c < 16) (e : ℕ) (k : Entry
 -- ---- a completion
 
 pub busy-of : (m : Motion) → isIdle m ≡ false → (j p : ℕ) × (m ≡ Busy j p)
-busy-of Idle e = clash true refl e
+busy-of Idle e = never {b = true} refl e
 busy-of (Busy j p) e = (j, p, refl)
 
 module _ (s : State) (I : Inv s) (c : ℕ) (small : c < 16) (j p : ℕ) (is : motionOn s c ≡ Busy j p) where
@@ -229,7 +230,7 @@ pub none-listed : (s : State) → Inv s → (j : ℕ) → j < length (s .jobs) �
 none-listed s I j h =
     all-imp (EntryOk (sweep s j always cut)) (NotOf j)
     (λ e k. by-bool (eqb (placeOf e) j)
-    (λ t. clash (isListed (packetIn (restatusAll (s .jobs) j always cut) (placeOf e) (packetOf e) .status)) (k .listed)
+    (λ t. never {b = isListed (packetIn (restatusAll (s .jobs) j always cut) (placeOf e) (packetOf e) .status)} (k .listed)
     (rw (packet-restatus (s .jobs) j always cut (placeOf e) (packetOf e) h refl, t) (cut-unlisted (packetIn (s .jobs) (placeOf e) (packetOf e) .status))))
     (λ t. t))
     (sweep s j always cut .queue) (sweep-inv s I j always cut h refl cut-going .queued)
@@ -286,11 +287,11 @@ pub fresh-inv : (channels : List Channel) (units : List (List UnitState)) → No
 unfolding fresh
 fresh-inv channels units free =
     record {
-      sizes = λ j a. clash (isEmpty (stateIn (fresh channels units .jobs) j)) (ap isEmpty (fresh-state 16 emptyPlace refl j)) a;
+      sizes = λ j a. never {b = isEmpty (stateIn (fresh channels units .jobs) j)} (ap isEmpty (fresh-state 16 emptyPlace refl j)) a;
       places = refl;
       channels = refl;
       queued = tt;
       single = tt;
       motion = λ c j p e. absurd (let z : Idle ≡ Busy j p = sym (ap (λ (m : Carrier). m .motion) (getD-replicate-same 16 c (record { motion = Idle }))) ∙ e in let y : _≡_ {A = ℕ} 0 1 = cc in omega arith);
-      holders = λ c u j e. clash (heldBy (unitIn units c u .holder) j) e (ap (λ (h : Holder). heldBy h j) (free c u));
+      holders = λ c u j e. never {b = heldBy (unitIn units c u .holder) j} e (ap (λ (h : Holder). heldBy h j) (free c u));
     }

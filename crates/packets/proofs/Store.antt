@@ -8,10 +8,11 @@ use native.Mathlib.Decide.{decLt}
 use lib.ListN.{length, getD, set, length-set, length-map, List·getD-eq-default, List·getD-map}
 use lib.Dec.{eqb}
 use borrow.Author.Tests.{eqb-true}
+use Rattle.numbers.proofs.Stores.{getD-replicate-same, getD-set}
 use Rattle.units.specs.declared.Unit.{Unit as UnitState}
-use Rattle.numbers.proofs.Tests.{by-bool}
+use Rattle.numbers.proofs.Tests.{by-bool, never}
 use Rattle.units.specs.State.{freshUnit, isFree, unitIn, unitSet}
-use Rattle.packets.proofs.Laws.{clash, getD-mapFrom, getD-replicate-same, getD-set, getD-set-keep}
+use Rattle.packets.proofs.Laws.{getD-mapFrom, getD-set-keep}
 use Rattle.packets.specs.Picks.{mapFrom}
 use Rattle.packets.specs.Rules.{freshJob}
 use Rattle.packets.specs.State.{blank, isBusy, isEmpty, jobIn, noJob, packetIn, put, release, releaseAll, restatus, restatusAll, setState, stateIn, takeAll, takeUnit, withPackets, withState}
@@ -32,7 +33,7 @@ within l i d h = elim (decLt i (length l)) [ yes p ↦ p | no q ↦ absurd (h (L
 
 pub alive-in : (jobs : List Job) (j : ℕ) → isEmpty (stateIn jobs j) ≡ false → j < length jobs
 unfolding stateIn
-alive-in jobs j h = within jobs j noJob (λ e. clash (isEmpty (jobIn jobs j .state)) (rw e) h)
+alive-in jobs j h = within jobs j noJob (λ e. never {b = isEmpty (jobIn jobs j .state)} (rw e) h)
 
 sized-in : (jobs : List Job) (j p : ℕ) → p < sizeIn jobs j → j < length jobs
 unfolding sizeIn
@@ -41,7 +42,7 @@ sized-in jobs j p h = within jobs j noJob (λ e. let z : p < length (noJob .pack
 -- a packet that is busy is one of the job's
 pub busy-in : (jobs : List Job) (j p : ℕ) → isBusy (packetIn jobs j p .status) ≡ true → p < sizeIn jobs j
 unfolding packetIn sizeIn
-busy-in jobs j p h = within (jobIn jobs j .packets) p blank (λ e. clash (isBusy (getD (jobIn jobs j .packets) p blank .status)) h (rw e))
+busy-in jobs j p h = within (jobIn jobs j .packets) p blank (λ e. never {b = isBusy (getD (jobIn jobs j .packets) p blank .status)} h (rw e))
 
 -- ---- packets
 
@@ -151,7 +152,7 @@ unit-set units c u v d w h =
     (λ e. rw e))
   where
     col : u < length (getD units c [])
-    col = within (getD units c []) u (freshUnit false) (λ e. clash (isFree (getD (getD units c []) u (freshUnit false) .holder)) (rw e) h)
+    col = within (getD units c []) u (freshUnit false) (λ e. never {b = isFree (getD (getD units c []) u (freshUnit false) .holder)} (rw e) h)
 
     row : c < length units
     row = within units c [] (λ e. let z : u < 0 = subst (λ (r : List UnitState). u < length r) e col in omega arith)

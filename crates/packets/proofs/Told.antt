@@ -4,11 +4,12 @@ use mathlib.Core.Path.{_≡_, refl}
 use mathlib.Core.Bool.{Bool, true, false, not, _&&_}
 use mathlib.Core.List.{List}
 use lib.Dec.{ltb}
-use borrow.Author.Tests.{ltb-true}
+use borrow.Author.Tests.{ltb-true, not-false}
+use Rattle.numbers.proofs.Tests.{never}
 use Rattle.numbers.specs.declared.Refusal.the-variants.{ChannelBusy, NoJob, NotLegal, NotTheJobs, NothingInProgress, NothingSelected, NothingStartable, OutOfRange, PacketInUse}
 use Rattle.units.specs.State.{unitIn}
 use Rattle.packets.specs.State.{inMotion, State, configured, drumOn, fittedOn, isBusy, isEmpty, isIdle, isListed, isRunning, jobIn, legalFor, motionOn, packetIn, stateIn}
-use Rattle.packets.proofs.Laws.{and-left, and-right, clash, not-false, passes}
+use Rattle.packets.proofs.Laws.{and-left, and-right, passes}
 use Rattle.packets.specs.Picks.{find}
 use Rattle.packets.specs.Rules.{Complete, End, Start, Submit, Take, atOf, cut, failed, inRange, isNone, isOwn, refusal, startable}
 use Rattle.packets.specs.declared.Assignment.{Assignment}
@@ -97,15 +98,15 @@ cut-going (Ended k) e = e
 
 pub failed-idle : (x : Status) → isBusy x ≡ false → failed x ≡ x
 failed-idle Blank e = refl
-failed-idle Listed e = clash true refl e
+failed-idle Listed e = never {b = true} refl e
 failed-idle InProgress e = refl
 failed-idle Stopping e = refl
 failed-idle (Ended k) e = refl
 
 pub cut-idle : (x : Status) → isBusy x ≡ false → cut x ≡ x
 cut-idle Blank e = refl
-cut-idle Listed e = clash true refl e
-cut-idle InProgress e = clash true refl e
+cut-idle Listed e = never {b = true} refl e
+cut-idle InProgress e = never {b = true} refl e
 cut-idle Stopping e = refl
 cut-idle (Ended k) e = refl
 

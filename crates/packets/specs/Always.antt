@@ -19,7 +19,8 @@ abbrev pub packetAt : State → ℕ → ℕ → Packet
 packetAt s j p = packetIn (s .jobs) j p
 
 pub record Always (s : State) : Type 0 where
-  -- one packet in progress or stopping per channel: what moves on a channel is one, submitted there, and each such packet moves there
+  -- one packet in progress or stopping per channel: what moves on a channel is one, submitted there, and each such
+  -- packet moves there
   pub moving : (c j p : ℕ) → motionOn s c ≡ Busy j p → (inMotion (packetAt s j p .status) ≡ true) × (packetAt s j p .channel .0 ≡ c)
   pub movers : (j p : ℕ) → inMotion (packetAt s j p .status) ≡ true → motionOn s (packetAt s j p .channel .0) ≡ Busy j p
   -- listed packets are exactly those in the list, once each
@@ -31,7 +32,8 @@ pub record Always (s : State) : Type 0 where
       → heldBy (unitIn (s .units) (packetAt s j p .channel .0) (packetAt s j p .at) .holder) j ≡ true
 
 abbrev pub Invariants : Type 0
-Invariants = (channels : List Channel) (units : List (List UnitState)) → NoneHeld units → (calls : List Call) → Always (run (fresh channels units) calls)
+Invariants = (channels : List Channel) (units : List (List UnitState)) → NoneHeld units → (calls : List Call)
+    → Always (run (fresh channels units) calls)
 
 -- no early hand-over: a unit on which a packet is in progress or stopping is held by that packet's job
 abbrev pub NoEarlyHandOver : Type 0

@@ -1,5 +1,5 @@
--- Areas of drum are disjoint, and so is core, if each job was taken with words and blocks that no other job held. A reader has to believe
--- this page.
+-- Areas of drum are disjoint, and so is core, if each job was taken with words and blocks that no other job held. A
+-- reader has to believe this page.
 use Prim.Native.Nat.{ℕ, _+_}
 use mathlib.Core.Path.{_≡_}
 use mathlib.Core.Bool.{Bool, true, false, _&&_, _||_}
@@ -33,7 +33,8 @@ Apart part s =
 
 -- a taking is given what no job holds
 abbrev pub Fits : Part → State → Call → Type 0
-Fits part s (Take j asg) = (i x : ℕ) → isEmpty (stateIn (s .jobs) i) ≡ false → part (jobIn (s .jobs) i) x ≡ true → part (freshJob asg) x ≡ true → ⊥
+Fits part s (Take j asg) =
+    (i x : ℕ) → isEmpty (stateIn (s .jobs) i) ≡ false → part (jobIn (s .jobs) i) x ≡ true → part (freshJob asg) x ≡ true → ⊥
 Fits part s (Submit j p f c w) = Unit {0}
 Fits part s (Start c) = Unit {0}
 Fits part s (Complete c how) = Unit {0}

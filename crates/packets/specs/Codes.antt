@@ -1,5 +1,5 @@
--- What an accepted call does to each packet's status: a packet ends with exactly the code that document 01 states for what ended it, and
--- keeps it until it is submitted again or the place is taken. A reader has to believe this page.
+-- What an accepted call does to each packet's status: a packet ends with exactly the code that document 01 states for
+-- what ended it, and keeps it until it is submitted again or the place is taken. A reader has to believe this page.
 use Prim.Native.Nat.{ℕ}
 use mathlib.Core.Path.{_≡_}
 use mathlib.Core.Bool.{Bool, false, not, cond, _&&_, _||_}
@@ -10,7 +10,29 @@ use Rattle.units.specs.declared.Unit.{Unit as UnitState}
 use Rattle.channels.specs.declared.Channel.{Channel}
 use Rattle.packets.specs.Demand.{NoneHeld, fresh}
 use Rattle.packets.specs.Picks.{find}
-use Rattle.packets.specs.Rules.{Call, Complete, End, Mark, Start, Submit, Take, accept, aimed, atOf, atUnit, codeFor, cut, failed, isFailure, locked, refusal, run, startable, step, toOf}
+use Rattle.packets.specs.Rules.{
+  Call,
+  Complete,
+  End,
+  Mark,
+  Start,
+  Submit,
+  Take,
+  accept,
+  aimed,
+  atOf,
+  atUnit,
+  codeFor,
+  cut,
+  failed,
+  isFailure,
+  locked,
+  refusal,
+  run,
+  startable,
+  step,
+  toOf,
+}
 use Rattle.packets.specs.State.{isPacket, State, drumOn, motionOn, packetIn, packetOf, placeOf}
 use Rattle.packets.specs.declared.How.{How}
 use Rattle.packets.specs.declared.Motion.{Motion}
@@ -24,8 +46,8 @@ abbrev pub takes : Option ℕ → ℕ → ℕ → Bool
 takes none i n = false
 takes (some e) i n = isPacket (placeOf e) (packetOf e) i n
 
--- a submission: the packet itself ends with 00 (07, 23) or is listed; 07 under interlock ends with 01 what its job has listed on the
--- unit; 23 ends with 16o what its job has listed there, and what is in progress there is stopping
+-- a submission: the packet itself ends with 00 (07, 23) or is listed; 07 under interlock ends with 01 what its job
+-- has listed on the unit; 23 ends with 16o what its job has listed there, and what is in progress there is stopping
 abbrev pub afterSubmit : State → ℕ → ℕ → ℕ → ℕ → ℕ → ℕ → ℕ → ℕ → Status
 afterSubmit s j p f c a b i n =
     let q = packetIn (s .jobs) i n in
@@ -34,7 +56,8 @@ afterSubmit s j p f c a b i n =
     (cond (eqb i j && (not (eqb f 0o07) && (eqb f 0o23 && aimed (drumOn (s .channels) c) c a b q))) (cut (q .status))
     (q .status)))
 
--- a completion: the packet that moved ends with 00, 17o or the failure's code; a failure ends with 01 what is listed on its unit
+-- a completion: the packet that moved ends with 00, 17o or the failure's code; a failure ends with 01 what is listed
+-- on its unit
 abbrev pub afterComplete : State → ℕ → How → Motion → ℕ → ℕ → Status
 afterComplete s c how Idle i n = packetIn (s .jobs) i n .status
 afterComplete s c how (Busy j p) i n =

@@ -113,8 +113,8 @@ endedThere h t (Completed j p r) = eqb j (h .place) && t p
 endedThere h t (Closed r) = false
 endedThere h t (Refused n) = false
 
--- the calls that act on a holding are its job's submissions there (07 and 23 too), starts that took a packet there, completions of
--- such packets, and the job's end
+-- the calls that act on a holding are its job's submissions there (07 and 23 too), starts that took a packet there,
+-- completions of such packets, and the job's end
 unfoldable pub acts : Holding → Seen → Call → Answer → Bool
 acts h t (Take j asg) r = false
 acts h t (Submit j p f c w) r = isAccepted r && (eqb j (h .place) && isThere h c (atOf w))
@@ -175,8 +175,8 @@ pub record Isolated (h : Holding) (s : State) (during : List Call) : Type 0 wher
   -- on a unit that is not the drum nothing of another job starts or is still moving
   pub alone : h .drum ≡ false → Undisturbed h s during
 
--- in a cell that any calls led to from a fresh one, a job is taken with any assignment; for all that it then holds, up to its
--- return or any earlier moment
+-- in a cell that any calls led to from a fresh one, a job is taken with any assignment; for all that it then holds,
+-- up to its return or any earlier moment
 abbrev pub Demand3 : Type 0
 Demand3 =
     (channels : List Channel) (units : List (List UnitState)) → NoneHeld units → (before : List Call)

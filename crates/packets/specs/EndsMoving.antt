@@ -1,5 +1,5 @@
--- The marked case K9: a job ends while a packet of its moves, and its unit is not free until the completion. The statement, of one
--- cell and its calls.
+-- The marked case K9: a job ends while a packet of its moves, and its unit is not free until the completion. The
+-- statement, of one cell and its calls.
 use Prim.Native.Nat.{_+_, _*_}
 use mathlib.Core.Path.{_≡_}
 use mathlib.Core.Bool.{true, false}

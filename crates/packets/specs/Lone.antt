@@ -1,5 +1,6 @@
--- A lone unit, or a lone piece of drum, that one job has to itself. It knows nothing of channels, places or other units.
--- A reader has to believe this page. It shares with the rules of the cell only the calls, the statuses and the shape of a start.
+-- A lone unit, or a lone piece of drum, that one job has to itself. It knows nothing of channels, places or other
+-- units. A reader has to believe this page. It shares with the rules of the cell only the calls, the statuses and the
+-- shape of a start.
 use Prim.Native.Nat.{ℕ}
 use mathlib.Core.Bool.{Bool, true, false, cond, _&&_}
 use mathlib.Core.List.{List, [], _∷_, _++_}

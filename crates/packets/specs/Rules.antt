@@ -1,5 +1,5 @@
--- Document 01, 'Packets and request lists' and 'Refused calls', as rules: what each call is refused for, what it leaves, what it
--- answers. A reader has to believe this page. Codes are octal.
+-- Document 01, 'Packets and request lists' and 'Refused calls', as rules: what each call is refused for, what it
+-- leaves, what it answers. A reader has to believe this page. Codes are octal.
 use Prim.Native.Nat.{ℕ, _+_}
 use mathlib.Core.Bool.{Bool, true, false, not, cond, _&&_, _||_}
 use mathlib.Core.List.{List, [], _∷_}
@@ -8,7 +8,18 @@ use lib.ListN.{getD, set, replicate}
 use lib.Dec.{ltb, leb, eqb}
 use Rattle.numbers.specs.Kinds.{isDrum}
 use Rattle.numbers.specs.declared.Refusal.{Refusal}
-use Rattle.numbers.specs.declared.Refusal.the-variants.{OutOfRange, NoJob, NotTheJobs, NotLegal, PacketInUse, ChannelBusy, NothingStartable, NothingInProgress, WrongCompletion, NothingSelected}
+use Rattle.numbers.specs.declared.Refusal.the-variants.{
+  OutOfRange,
+  NoJob,
+  NotTheJobs,
+  NotLegal,
+  PacketInUse,
+  ChannelBusy,
+  NothingStartable,
+  NothingInProgress,
+  WrongCompletion,
+  NothingSelected,
+}
 use Rattle.units.specs.State.{unitIn, unitSet, markedUnit}
 use Rattle.units.specs.declared.Holder.{Holder}
 use Rattle.units.specs.declared.Unit.{Unit as UnitState}
@@ -35,7 +46,40 @@ use Rattle.packets.specs.declared.Answer.the-variants.{Done, Started, Co
 use Rattle.packets.specs.declared.Verdict.{Verdict}
 use Rattle.packets.specs.declared.Verdict.the-variants.{Granted, Denied}
 use Rattle.packets.specs.Picks.{find}
-use Rattle.packets.specs.State.{State, fittedOn, isDrumOf, drumOn, configured, legalFor, placeOf, packetOf, isBusy, isStopping, isRunning, isEmpty, isClosing, blank, withStatus, jobIn, packetIn, stateIn, setState, heldBy, releaseAll, takeAll, wanted, motionOn, isIdle, anyMoves, store, sweep, enqueue, lock, move, close}
+use Rattle.packets.specs.State.{
+  State,
+  fittedOn,
+  isDrumOf,
+  drumOn,
+  configured,
+  legalFor,
+  placeOf,
+  packetOf,
+  isBusy,
+  isStopping,
+  isRunning,
+  isEmpty,
+  isClosing,
+  blank,
+  withStatus,
+  jobIn,
+  packetIn,
+  stateIn,
+  setState,
+  heldBy,
+  releaseAll,
+  takeAll,
+  wanted,
+  motionOn,
+  isIdle,
+  anyMoves,
+  store,
+  sweep,
+  enqueue,
+  lock,
+  move,
+  close,
+}
 
 -- ---- the calls
 
@@ -125,7 +169,8 @@ cut (Ended k) = Ended k
 abbrev pub aimed : Bool → ℕ → ℕ → ℕ → Packet → Bool
 aimed drum c a b p = eqb (p .channel .0) c && cond drum (leb a (p .at) && leb (p .at) b) (eqb (p .at) a)
 
--- 23 ends the job's listed packets there with 16o, makes one in progress stopping, and ends with 00; it doesn't touch interlock
+-- 23 ends the job's listed packets there with 16o, makes one in progress stopping, and ends with 00; it doesn't touch
+-- interlock
 abbrev pub terminate : State → ℕ → ℕ → ℕ → ℕ → ℕ → ℕ → State
 terminate s j p f c a b = pass (sweep s j (aimed (drumOn (s .channels) c) c a b) cut) j p f c a
 

@@ -193,7 +193,8 @@ heldBy (Held k) j = eqb k j
 
 -- a unit that the job in place j holds is free again
 abbrev pub release : ℕ → UnitState → UnitState
-release j v = record { holder = cond (heldBy (v .holder) j) Free (v .holder); down = v .down; reserved = v .reserved; interlock = v .interlock }
+release j v =
+    record { holder = cond (heldBy (v .holder) j) Free (v .holder); down = v .down; reserved = v .reserved; interlock = v .interlock }
 
 unfoldable pub releaseAll : List (List UnitState) → ℕ → List (List UnitState)
 releaseAll units j = map (map (release j)) units

@@ -128,7 +128,8 @@ pub enum Answer {
     Refused(Refusal),
 }
 
-// The state after a call, and its answer. The state stands first: with the answer before it a copy of the state could not be left out.
+// The state after a call, and its answer. The state stands first: with the answer before it a copy of the state could
+// not be left out.
 pub struct Acted {
     pub lists: Lists,
     pub answer: Answer,
@@ -146,8 +147,9 @@ pub enum Found {
     Nowhere,
 }
 
-// A change of status that a call makes to several packets of one job. A failure or 07 on a unit: its listed packets end with 01.
-// 23 on a unit or on words of the drum, and the job's end: listed packets end with 16 octal, those in progress are stopping.
+// A change of status that a call makes to several packets of one job. A failure or 07 on a unit: its listed packets
+// end with 01. 23 on a unit or on words of the drum, and the job's end: listed packets end with 16 octal, those in
+// progress are stopping.
 pub enum Aim {
     Failing(ChannelNumber, u32),
     Cutting(bool, ChannelNumber, u32, u32),

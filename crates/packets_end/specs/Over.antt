@@ -1,4 +1,5 @@
--- What a completion and a job's end make of the job, part by part.
+-- What a completion and a job's end make of the job, part by part. Nothing here has to be believed: Rules of packets
+-- says what comes out.
 use Prim.Native.Nat.{ℕ}
 use mathlib.Core.Bool.{Bool, true, false, not, cond, _&&_}
 use mathlib.Core.List.{List, map}
@@ -21,6 +22,7 @@ overPackets ps p how c breaking =
     let ended = statusSet ps p (Ended (codeFor how)) in
     cond breaking (map (restatus (atUnit c (getD ps p blank .at)) failed) ended) ended
 
+-- the job then
 abbrev pub overJob : Job → ℕ → How → ℕ → Bool → Job
 overJob job p how c breaking = withPackets job (overPackets (job .packets) p how c breaking)
 
@@ -33,5 +35,6 @@ abbrev pub endingIf : Bool → Job → Ending
 endingIf true job = record { job = withState job Empty; done = true; leaving = leavingAs (job .state) }
 endingIf false job = record { job = job; done = false; leaving = Stays }
 
+-- the same of a job, by what moves
 abbrev pub endingOf : Job → List Carrier → ℕ → Ending
 endingOf job moving j = endingIf (isClosing (job .state) && not (anyMoves j moving)) job

@@ -1,4 +1,5 @@
-// Completions and ends, on the parts that they read and change: the job's packets and its state, and whether its facilities return.
+// Completions and ends, on the parts that they read and change: the job's packets and its state, and whether its
+// facilities return.
 use channels::Fitted;
 use numbers::ChannelNumber;
 use packets::Aim;
@@ -84,7 +85,8 @@ pub fn is_breaking(how: How, has: Fitted) -> bool
     !packets_channels::is_drum(has)
 }
 
-// The job's packets after a completion of packet p on channel c; a failure there ends the unit's listed packets with 01.
+// The job's packets after a completion of packet p on channel c; a failure there ends the unit's listed packets with
+// 01.
 fn packets_over(ps: [Packet; 16], p: u8, how: How, c: ChannelNumber, breaking: bool) -> [Packet; 16]
     ensures { λ r. ⌜ r ≡ overPackets ps p how (c .0) breaking ⌝ }
 {

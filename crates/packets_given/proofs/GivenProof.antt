@@ -8,7 +8,8 @@ use mathlib.Core.Option.{Option, none, some}
 use lib.ListN.{length}
 use lib.Dec.{eqb}
 use borrow.Author.Tests.{eqb-true, eqb-false, ne-eqb}
-use Rattle.numbers.proofs.Tests.{by-bool}
+use Rattle.numbers.proofs.Stores.{getD-set}
+use Rattle.numbers.proofs.Tests.{by-bool, never}
 use Rattle.numbers.specs.declared.Refusal.{Refusal}
 use Rattle.units.specs.State.{Square, assignable, isFree, unitIn}
 use Rattle.units.specs.declared.Holder.{Holder}
@@ -18,7 +19,7 @@ use Rattle.channels.specs.declared.Channel.{Channel}
 use Rattle.packets.specs.Demand.{emptyPlace, events, fresh, isAccepted}
 use Rattle.packets.proofs.Inv.{Inv, running-alive}
 use Rattle.packets.proofs.InvJobs.{held-once}
-use Rattle.packets.proofs.Laws.{and-left, and-right, clash, eqb-self, getD-set, getD-set-keep}
+use Rattle.packets.proofs.Laws.{and-left, and-right, eqb-self, getD-set-keep}
 use Rattle.packets.specs.Picks.{find}
 use Rattle.packets.specs.Rules.{Call, Complete, End, Mark, Start, Submit, Take, accept, answer, assigned, atOf, begun, closed, decided, finished, freshJob, isDone, marked, refusal, returnIfDone, returned, run, startable, started, step, submitted, toOf}
 use Rattle.packets.specs.State.{State, heldBy, isClosing, isEmpty, jobIn, motionOn, noJob, setState, stateIn, takeUnit, wanted, withState}
@@ -30,7 +31,7 @@ use Rattle.packets.specs.declared.Assignment.{Assignment}
 use Rattle.packets.specs.declared.JobState.the-variants.{Empty, Running}
 use Rattle.packets.specs.declared.Verdict.{Verdict}
 use Rattle.packets.specs.declared.Verdict.the-variants.{Denied, Granted}
-use Rattle.packets_units.proofs.EachUnit.{release-square, take-read, take-square}
+use Rattle.packets.proofs.UnitLaws.{release-square, take-read, take-square}
 use Rattle.packets_given.specs.Given.{HoldsWhatItWasGiven, HoldsExactly, Wanting, Wants, takenBy, takenIn}
 use Rattle.packets_given.proofs.SameLaws.{Same, Share, same-begun, same-closed, same-finished, same-marked, same-submit, share}
 
@@ -76,7 +77,7 @@ kept-returned given s j inside K =
       live = λ i a.
           let b : isEmpty (cond (eqb i j) Empty (stateIn (s .jobs) i)) ≡ false = rw (state-state (s .jobs) j Empty i inside) at a in
           by-bool (eqb i j)
-          (λ d. clash true refl (rw d at b))
+          (λ d. never {b = true} refl (rw d at b))
           (λ d. let k = K .live i (rw d at b) in (
             k .0,
             k .1,
@@ -98,7 +99,7 @@ kept-return given s j K =
 
 -- an empty place holds no unit
 none-held : (s : State) → Inv s → (j : ℕ) → isEmpty (stateIn (s .jobs) j) ≡ true → (c u : ℕ) → heldBy (unitIn (s .units) c u .holder) j ≡ false
-none-held s I j a c u = by-bool (heldBy (unitIn (s .units) c u .holder) j) (λ e. clash (isEmpty (stateIn (s .jobs) j)) a (I .holders c u j e)) (λ e. e)
+none-held s I j a c u = by-bool (heldBy (unitIn (s .units) c u .holder) j) (λ e. never {b = isEmpty (stateIn (s .jobs) j)} a (I .holders c u j e)) (λ e. e)
 
 assignable-free : (v : UnitState) → assignable v ≡ true → isFree (v .holder) ≡ true
 unfolding assignable
@@ -106,7 +107,7 @@ assignable-free v e = and-right (not (v .reserved)) _ (and-right (not (v .down))
 
 free-unheld : (h : Holder) (i : ℕ) → isFree h ≡ true → heldBy h i ≡ false
 free-unheld Free i e = refl
-free-unheld (Held k) i e = clash false e refl
+free-unheld (Held k) i e = never {b = false} e refl
 
 -- a unit that is not held by place j is held by it after the taking exactly when it is wanted, if all that is wanted is assignable
 taken-own : (j : ℕ) (w : Bool) (v : UnitState) → (w ≡ true → assignable v ≡ true) → heldBy (v .holder) j ≡ false → heldBy (takeUnit j w v .holder) j ≡ w
@@ -214,7 +215,7 @@ unfolding fresh
 fresh-kept channels units q =
     record {
       square = q;
-      live = λ i a. clash (isEmpty (stateIn (fresh channels units .jobs) i)) (ap isEmpty (fresh-state 16 emptyPlace refl i)) a;
+      live = λ i a. never {b = isEmpty (stateIn (fresh channels units .jobs) i)} (ap isEmpty (fresh-state 16 emptyPlace refl i)) a;
     }
 
 pub holds-what-it-was-given : HoldsWhatItWasGiven

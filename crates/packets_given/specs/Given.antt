@@ -1,5 +1,5 @@
--- A live job holds exactly what it was given: its drum area, its core and its units are those of the last taking into its place, until all
--- facilities return together; an empty place holds no unit. A reader has to believe this page.
+-- A live job holds exactly what it was given: its drum area, its core and its units are those of the last taking into
+-- its place, until all facilities return together; an empty place holds no unit. A reader has to believe this page.
 use Prim.Native.Nat.{ℕ, _<_}
 use mathlib.Core.Path.{_≡_}
 use mathlib.Core.Bool.{true, false, cond, _&&_}
@@ -39,7 +39,8 @@ taking l j = takenIn j none l
 -- each unit that an accepted taking wants is assignable: free and unmarked
 abbrev pub Wants : State → Call → Type 0
 Wants s (Take j asg) =
-    isAccepted (step s (Take j asg) .answer) ≡ true → (c u : ℕ) → c < 16 → u < 16 → wanted asg c u ≡ true → assignable (unitIn (s .units) c u) ≡ true
+    isAccepted (step s (Take j asg) .answer) ≡ true → (c u : ℕ) → c < 16 → u < 16
+    → wanted asg c u ≡ true → assignable (unitIn (s .units) c u) ≡ true
 Wants s (Submit j p f c w) = Unit {0}
 Wants s (Start c) = Unit {0}
 Wants s (Complete c how) = Unit {0}
@@ -53,7 +54,8 @@ Wanting s (x ∷ l) = Wants s x × Wanting (step s x .state) l
 
 -- ---- what a place holds
 
--- the job in place j holds what the assignment gives: that drum area, that core, and a unit exactly when the assignment has it
+-- the job in place j holds what the assignment gives: that drum area, that core, and a unit exactly when the
+-- assignment has it
 pub record HoldsExactly (s : State) (j : ℕ) (asg : Assignment) : Type 0 where
   pub from : jobIn (s .jobs) j .from ≡ asg .from
   pub words : jobIn (s .jobs) j .words ≡ asg .words

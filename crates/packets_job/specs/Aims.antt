@@ -1,4 +1,5 @@
--- A change of the statuses of one job's packets: which packets it is for, and what becomes of them; one packet's status; a new job.
+-- A change of the statuses of one job's packets: which packets it is for, and what becomes of them; one packet's
+-- status; a new job. Nothing here has to be believed: Rules of packets says what comes out.
 use Prim.Native.Nat.{ℕ}
 use mathlib.Core.Bool.{Bool}
 use mathlib.Core.List.{List}
@@ -13,11 +14,13 @@ use Rattle.packets.specs.declared.JobState.the-variants.{Running}
 use Rattle.packets.specs.declared.Packet.{Packet}
 use Rattle.packets.specs.declared.Status.{Status}
 
+-- which packets it is for
 abbrev pub testOf : Aim → Packet → Bool
 testOf (Failing c a) = atUnit (c .0) a
 testOf (Cutting drum c a b) = aimed drum (c .0) a b
 testOf Closing = always
 
+-- what becomes of their status
 abbrev pub changeOf : Aim → Status → Status
 changeOf (Failing c a) = failed
 changeOf (Cutting drum c a b) = cut

@@ -10,7 +10,7 @@ use packets::Status;
 ghost use mathlib.Core.Path.{_≡_};
 ghost use mathlib.Core.List.{map};
 ghost use lib.ListN.{getD, set};
-ghost use Rattle.packets.specs.State.{isRunning, blank, withState, withStatus, restatus};
+ghost use Rattle.packets.specs.State.{isEmpty, isRunning, blank, withState, withStatus, restatus};
 ghost use Rattle.packets.specs.Rules.{failed, cut, aimed, atUnit};
 ghost use Rattle.packets.specs.Demand.{emptyPlace};
 ghost use Rattle.packets_job.specs.Aims.{testOf, changeOf, statusSet, takenJob};
@@ -56,6 +56,19 @@ pub fn running(from: u32, words: u32, core: Core) -> Job
     }
 }
 
+// Whether no job is in a place.
+pub fn is_empty(state: JobState) -> bool
+    ensures { λ r. ⌜ r ≡ isEmpty state ⌝ }
+{
+    match state {
+        packets::JobState::Empty => true,
+        packets::JobState::Running => false,
+        packets::JobState::ClosingNormal => false,
+        packets::JobState::ClosingError => false,
+    }
+}
+
+// Whether a job is in a place and runs.
 pub fn is_running(state: JobState) -> bool
     ensures { λ r. ⌜ r ≡ isRunning state ⌝ }
 {

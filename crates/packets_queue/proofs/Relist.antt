@@ -14,7 +14,8 @@ use Rattle.packets.specs.State.{blank, enlisted, isKept, jobIn, packetIn, packe
 use Rattle.packets.specs.declared.Job.{Job}
 use Rattle.packets.specs.declared.Packet.{Packet}
 use Rattle.packets.specs.declared.RequestList.{RequestList}
-use Rattle.packets_queue.specs.Padded.{Relisted, Sized, Tidy, listOf, padded}
+use Rattle.packets_queue.specs.Padded.{Tidy, listOf, padded}
+use Rattle.packets_queue.specs.Keeping.{Relisted, Sized}
 use Rattle.packets_queue.proofs.PaddedLaws.{list-padded}
 
 pub tidy-padded : (l : List ℕ) → length l ≤ 256 → Tidy (padded l)

@@ -5,18 +5,18 @@ use mathlib.Core.Bool.{Bool, false, not, _&&_, _||_}
 use mathlib.Core.List.{List, [], _∷_}
 use lib.ListN.{getD, replicate}
 use lib.Dec.{eqb}
+use Rattle.numbers.proofs.Stores.{getD-replicate-same}
 use Rattle.units.specs.declared.Unit.{Unit as UnitState}
 use Rattle.packets_queue.proofs.Relist.{entry-is}
 use Rattle.units.specs.State.{Square, freshUnit, unitIn}
 use Rattle.units.proofs.StateLaws.{read-past}
-use Rattle.packets.proofs.Laws.{getD-replicate-same}
 use Rattle.packets.specs.Lone.{locks}
 use Rattle.packets.specs.Picks.{find}
 use Rattle.packets.specs.Rules.{startableOn}
 use Rattle.packets.specs.State.{blank, jobIn, packetIn, packetOf, placeOf}
 use Rattle.packets.specs.declared.Job.{Job}
 use Rattle.packets.specs.declared.Packet.{Packet}
-use Rattle.packets_queue.specs.Padded.{RowOf, canStart, foundOf}
+use Rattle.packets_queue.specs.Keeping.{RowOf, canStart, foundOf}
 
 -- the packet of an entry can start
 abbrev pub canStartAt : Bool → List UnitState → List Job → ℕ → ℕ → Bool
@@ -38,7 +38,7 @@ found-is drum units jobs c row R l =
     ap foundOf (find-same (canStartAt drum row jobs c) (startableOn drum units jobs c)
     (λ e. ap (λ (b : Bool). eqb (packetIn jobs (placeOf e) (packetOf e) .channel .0) c && (drum || not b)) (R .locks (packetIn jobs (placeOf e) (packetOf e) .at))) l)
 
--- the units of a channel that the cell has not have no interlock
+-- where the cell has no such channel, no unit has an interlock
 pub row-out : (units : List (List UnitState)) → Square units → (c : ℕ) → 15 < c → (row : List UnitState) → row ≡ replicate 16 (freshUnit false) → RowOf units c row
 row-out units s c h row e =
     record {

@@ -15,7 +15,8 @@ ghost use lib.ListN.{replicate};
 ghost use Rattle.packets.specs.Picks.{find};
 ghost use Rattle.packets.specs.State.{isListed, placeOf, packetOf, relist, enlisted};
 ghost use Rattle.packets.specs.Rules.{startableOn};
-ghost use Rattle.packets_queue.specs.Padded.{listOf, padded, Within, Sized, Relisted, Tidy, canStart, lockIn, foundOf, RowOf};
+ghost use Rattle.packets_queue.specs.Padded.{listOf, padded, Tidy};
+ghost use Rattle.packets_queue.specs.Keeping.{Within, Sized, Relisted, canStart, lockIn, foundOf, RowOf};
 
 // The place of a listed packet.
 fn place_of(e: u8) -> usize

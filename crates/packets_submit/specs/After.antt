@@ -1,4 +1,5 @@
--- What an accepted submission makes of the job, part by part.
+-- What an accepted submission makes of the job, part by part. Nothing here has to be believed: Rules of packets says
+-- what comes out.
 use Prim.Native.Nat.{ℕ}
 use mathlib.Core.Bool.{Bool, not, cond, _&&_}
 use mathlib.Core.List.{List, map}
@@ -28,5 +29,6 @@ sweptFor ps f c a b drum unlocking =
     cond unlocking (map (restatus (atUnit c a) failed) ps)
     (cond (eqb f 0o23) (map (restatus (aimed drum c a b) cut) ps) ps)
 
+-- the job then
 abbrev pub jobAfter : Job → ℕ → ℕ → ℕ → ℕ → ℕ → Bool → Bool → Job
 jobAfter job p f c a b drum unlocking = withPackets job (set (sweptFor (job .packets) f c a b drum unlocking) p (madeFor f c a))

@@ -202,7 +202,8 @@ fn made(f: u8, c: ChannelNumber, a: u32) -> Packet
     }
 }
 
-// The job's other packets: 07 under interlock ends the unit's listed ones with 01, 23 those that it is for with 16 octal.
+// The job's other packets: 07 under interlock ends the unit's listed ones with 01, 23 those that it is for with 16
+// octal.
 fn swept(
     ps: [Packet; 16],
     f: u8,

@@ -1,1 +1,1 @@
-pub mod EachUnit
+pub mod HandedLaws

@@ -1,4 +1,4 @@
-// Who holds the units: reading one, its interlock, and the units that a job is given and returns.
+// Who holds the units: the interlock of one, and the units that a job is given and returns.
 use numbers::ChannelNumber;
 use numbers::UnitNumber;
 use units::Holder;
@@ -6,25 +6,9 @@ use units::Unit;
 use units::Units;
 ghost use mathlib.Core.Path.{_≡_};
 ghost use mathlib.Core.Bool.{_&&_};
-ghost use Rattle.units.specs.State.{unitIn, unitSet, unitsFrom, assignable};
+ghost use Rattle.units.specs.State.{unitSet, unitsFrom, assignable};
 ghost use Rattle.packets.specs.State.{heldBy, setLock, releaseAll, takeAll};
 ghost use Rattle.packets_units.specs.Handed.{handedTo, wantedIn};
-
-// Unit a of channel c; free and unmarked where the cell has none.
-pub fn unit_of(units: Units, c: ChannelNumber, a: u32) -> Unit
-    ensures { λ r. ⌜ r ≡ unitIn (units .of) (c .0) a ⌝ }
-{
-    let grid = units::grid_of(units);
-    let i = c.0 as usize;
-    let k = a as usize;
-    if 15 < i {
-        return units::fresh_unit(false);
-    }
-    if 15 < k {
-        return units::fresh_unit(false);
-    }
-    grid[i][k]
-}
 
 // The units with unit a of channel c changed; where the cell has none nothing changes.
 fn with_state(units: Units, c: ChannelNumber, a: u32, state: Unit) -> Units
@@ -41,7 +25,7 @@ fn with_state(units: Units, c: ChannelNumber, a: u32, state: Unit) -> Units
 pub fn with_lock(units: Units, c: ChannelNumber, a: u32, on: bool) -> Units
     ensures { λ r. ⌜ r ≡ unitsFrom (setLock (units .of) (c .0) a on) ⌝ }
 {
-    let unit = unit_of(units, c, a);
+    let unit = units::unit_numbered(units, c, a);
     let holder = unit.holder;
     let state = Unit {
         holder,

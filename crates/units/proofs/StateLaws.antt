@@ -4,21 +4,16 @@ use mathlib.Core.Path.{_≡_, refl, sym, ap, subst, _∙_}
 use mathlib.Core.Bool.{false, cond, _&&_}
 use mathlib.Core.List.{List, []}
 use native.Mathlib.Omega.{arith}
-use lib.Dec.{eqb}
+use lib.Dec.{eqb, ltb}
 use lib.ListN.{length, getD, set, length-set, replicate, length-replicate, getD-replicate, List·getD-eq-default}
-use lib.Seq.{set-out, set-getD, getD-set-same, getD-set-other, ext-getD}
-use borrow.Author.Tests.{eqb-true, eqb-false}
+use lib.Seq.{set-out, set-getD, ext-getD}
+use borrow.Author.Tests.{eqb-true, ltb-true, ltb-false}
+use Rattle.numbers.proofs.Stores.{getD-set, getD-replicate-same}
 use Rattle.numbers.proofs.Tests.{by-bool}
+use Rattle.units.specs.declared.Holder.the-variants.{Free}
 use Rattle.units.specs.declared.Unit.{Unit}
 use Rattle.units.specs.declared.Units.{Units}
 use Rattle.units.specs.State.{Square, GridOf, freshUnit, noneHeld, unitIn, unitSet}
-
--- a list read after a store within it
-getD-set : {A : Type 0} (l : List A) (i j : ℕ) (a d : A) → i < length l → getD (set l i a) j d ≡ cond (eqb j i) a (getD l j d)
-getD-set l i j a d h =
-    by-bool (eqb j i)
-    (λ t. let e : j ≡ i = eqb-true j i t in rw (t, e) (getD-set-same l i a d h))
-    (λ f. rw f (getD-set-other l i j a d (eqb-false j i f)))
 
 -- the channels of a state that was taken apart
 pub of-square : {units : Units} {grid : List (List Unit)} → GridOf units grid → Square (units .of)
@@ -34,6 +29,18 @@ module _ (grid : List (List Unit)) (square : Square grid) (c u : ℕ) where
   unfolding unitIn
   read-beside k h = List·getD-eq-default (getD grid c []) (freshUnit false) (omega (arith, square .units c k))
 
+  pub read-off : 16 ≤ u → unitIn grid c u ≡ freshUnit false
+  read-off h = by-bool (ltb c 16) (λ t. read-beside (ltb-true c 16 t) h) (λ t. read-past (ltb-false c 16 t))
+
+  -- a unit is free where those of the cell are
+  pub free-all : ((d v : ℕ) → d < 16 → v < 16 → unitIn grid d v .holder ≡ Free) → unitIn grid c u .holder ≡ Free
+  free-all e =
+      by-bool (ltb u 16)
+      (λ t. by-bool (ltb c 16)
+      (λ s. e c u (ltb-true c 16 s) (ltb-true u 16 t))
+      (λ s. rw (read-past (ltb-false c 16 s)) refl))
+      (λ t. rw (read-off (ltb-false u 16 t)) refl)
+
 module _ (grid : List (List Unit)) (square : Square grid) (c u : ℕ) (unit : Unit) where
   -- no unit of the cell: nothing changes
   pub set-past : 16 ≤ c → unitSet grid c u unit ≡ grid
@@ -44,10 +51,13 @@ module _ (grid : List (List Unit)) (square : Square grid) (c u : ℕ) (unit : Un
   unfolding unitSet
   set-beside k h = rw (set-out (getD grid c []) u unit (omega (arith, square .units c k))) (set-getD grid c [])
 
+  pub set-off : 16 ≤ u → unitSet grid c u unit ≡ grid
+  set-off h = by-bool (ltb c 16) (λ t. set-beside (ltb-true c 16 t) h) (λ t. set-past (ltb-false c 16 t))
+
   module _ (k : c < 16) where
     row : (d : ℕ) → getD (unitSet grid c u unit) d [] ≡ cond (eqb d c) (set (getD grid c []) u unit) (getD grid d [])
     unfolding unitSet
-    row d = getD-set grid c d (set (getD grid c []) u unit) [] (omega (arith, square .channels))
+    row d = getD-set grid c (set (getD grid c []) u unit) d [] (omega (arith, square .channels))
 
     -- 16 channels of 16 units stay so
     pub set-square : Square (unitSet grid c u unit)
@@ -66,7 +76,7 @@ module _ (grid : List (List Unit)) (square : Square grid) (c u : ℕ) (unit : Un
     set-read l d v =
         by-bool (eqb d c)
         (λ t. let e : d ≡ c = eqb-true d c t in
-        rw (row d, t) (getD-set (getD grid c []) u v unit (freshUnit false) (omega (arith, square .units c k)) ∙ ap (λ (n : ℕ). cond (eqb v u) unit (getD (getD grid n []) v (freshUnit false))) (sym e)))
+        rw (row d, t) (getD-set (getD grid c []) u unit v (freshUnit false) (omega (arith, square .units c k)) ∙ ap (λ (n : ℕ). cond (eqb v u) unit (getD (getD grid n []) v (freshUnit false))) (sym e)))
         (λ f. rw (row d, f) refl)
 
 -- two states whose units are the same are the same
@@ -90,4 +100,8 @@ pub none-read : (c u : ℕ) → c < 16 → u < 16 → unitIn noneHeld c u ≡ fr
 unfolding unitIn
 none-read c u h k =
     ap (λ (row : List Unit). getD row u (freshUnit false)) (getD-replicate 16 c (replicate 16 (freshUnit false)) [] h)
-    ∙ getD-replicate 16 u (freshUnit false) (freshUnit false) k
+    ∙ getD-replicate-same 16 u (freshUnit false)
+
+-- none of them is held
+pub none-free : (c u : ℕ) → unitIn noneHeld c u .holder ≡ Free
+none-free c u = free-all noneHeld none-square c u (λ d v h k. rw (none-read d v h k) refl)

@@ -62,23 +62,32 @@ pub fn none_held() -> Units
     units_from([[fresh_unit(false); 16]; 16])
 }
 
-// Unit u of channel c; free and unmarked where the cell has none.
-pub fn unit_at(units: Units, channel: ChannelNumber, unit: UnitNumber) -> Unit
-    ensures { λ r. ⌜ r ≡ unitIn (units .of) (channel .0) (unit .0) ⌝ }
+// The unit of a channel that has this number, whatever it is: the one place where a unit is read by its numbers. Free
+// and unmarked where the cell has none.
+pub fn unit_numbered(units: Units, channel: ChannelNumber, number: u32) -> Unit
+    ensures { λ r. ⌜ r ≡ unitIn (units .of) (channel .0) number ⌝ }
 {
     let grid = grid_of(units);
     let c = channel.0 as usize;
-    let u = unit.0 as usize;
+    let u = number as usize;
     if 15 < c {
         return fresh_unit(false);
     }
-    if 15 < u {
+    if 15 < number {
         return fresh_unit(false);
     }
     grid[c][u]
 }
 
-// The state with one unit changed: the one place where a unit's state changes. Where the cell has no such unit nothing does.
+// Unit u of channel c.
+pub fn unit_at(units: Units, channel: ChannelNumber, unit: UnitNumber) -> Unit
+    ensures { λ r. ⌜ r ≡ unitIn (units .of) (channel .0) (unit .0) ⌝ }
+{
+    unit_numbered(units, channel, unit.0 as u32)
+}
+
+// The state with one unit changed: the one place where a unit's state changes. Where the cell has no such unit
+// nothing does.
 pub fn with_unit(units: Units, channel: ChannelNumber, unit: UnitNumber, state: Unit) -> Units
     ensures { λ r. ⌜ r ≡ unitsFrom (unitSet (units .of) (channel .0) (unit .0) state) ⌝ }
 {

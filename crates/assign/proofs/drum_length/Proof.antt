@@ -1,4 +1,4 @@
--- `facilities::drum_length` meets its contract. The loop's invariant: the channels that are left decide. Assumes nothing.
+-- `assign::drum_length` meets its contract. The loop's invariant: the channels that are left decide. Assumes nothing.
 use Prim.Native.Nat.{_≤_, _-_}
 use mathlib.Core.Path.{_≡_, refl, sym, _∙_}
 use mathlib.Core.Logic.{⊎-elim}

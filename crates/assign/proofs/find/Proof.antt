@@ -1,4 +1,4 @@
--- `facilities::find` meets its contract: the answers of its parts make the whole. Assumes nothing.
+-- `assign::find` meets its contract: the answers of its parts make the whole. Assumes nothing.
 use mathlib.Core.Path.{subst}
 use borrow.Author.Tests.{not-true, not-false}
 use Rattle.assign_core.specs.Core as Core

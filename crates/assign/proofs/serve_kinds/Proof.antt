@@ -1,4 +1,4 @@
--- `facilities::serve_kinds` meets its contract. The loop's invariant is `KindsDone`. Assumes nothing.
+-- `assign::serve_kinds` meets its contract. The loop's invariant is `KindsDone`. Assumes nothing.
 use Prim.Native.Nat.{_-_}
 use native.Mathlib.Omega.{arith}
 use borrow.Author.Tests.{not-true, not-false}

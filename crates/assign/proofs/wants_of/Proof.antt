@@ -1,4 +1,4 @@
--- `facilities::wants_of` meets its contract. The loop's invariant: the entries passed are copied. Assumes nothing.
+-- `assign::wants_of` meets its contract. The loop's invariant: the entries passed are copied. Assumes nothing.
 use Prim.Native.Nat.{ℕ, _+_, _*_, _≤_, _<_, _-_}
 use mathlib.Core.Path.{_≡_, refl, _∙_}
 use native.Mathlib.Omega.{arith}

@@ -1,4 +1,4 @@
--- `choice::lowest` meets its contract. The loop's invariant: the search that is left gives the whole answer. Assumes nothing.
+-- `assign_channels::lowest` meets its contract. The loop's invariant: the search that is left gives the whole answer. Assumes nothing.
 use Prim.Native.Nat.{_≤_, _-_}
 use mathlib.Core.Path.{_≡_, sym, _∙_}
 use mathlib.Core.Logic.{⊎-elim}
@@ -10,10 +10,10 @@ use Rattle.assign_channels.proofs.lowest.Statement.{statement}
 use Rattle.assign_channels.proofs.lowest.Tie as tie
 
 abbrev Inv-loop : tie.InvT-loop
-Inv-loop n rest room c₀ c = (c ≤ 16) × (lowestFrom room n rest (16 - c) c ≡ lowestFrom room n rest 16 0)
+Inv-loop n rest counts c₀ c = (c ≤ 16) × (lowestFrom counts n rest (16 - c) c ≡ lowestFrom counts n rest 16 0)
 
 abbrev μ-loop : tie.MeasureT-loop
-μ-loop n rest room c₀ c = 16 - c
+μ-loop n rest counts c₀ c = 16 - c
 
 loop-holds : tie.Need-loop-holds Inv-loop μ-loop
 loop-holds c = search needs

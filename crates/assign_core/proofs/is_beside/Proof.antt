@@ -1,4 +1,4 @@
--- `core::is_beside` meets its contract: it tests what the definition says, part by part. Assumes nothing.
+-- `assign_core::is_beside` meets its contract: it tests what the definition says, part by part. Assumes nothing.
 use mathlib.Core.Logic.{inl, inr, ⊎-elim}
 use native.Mathlib.Omega.{arith}
 use borrow.Author.Tests.{not-true, not-false, leb-true, leb-false}

@@ -1,4 +1,4 @@
--- `core::is_run` meets its contract. The loop's invariant: the blocks passed are free. Assumes nothing.
+-- `assign_core::is_run` meets its contract. The loop's invariant: the blocks passed are free. Assumes nothing.
 use Prim.Native.Nat.{ℕ, _+_, _≤_, _<_, _-_}
 use mathlib.Core.Path.{_≡_}
 use native.Mathlib.Omega.{arith}

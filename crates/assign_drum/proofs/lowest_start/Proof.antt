@@ -1,12 +1,13 @@
--- `drum::lowest_start` meets its contract. The loop's invariant: no lower start fits. It ends since an area that is in the way ends later.
+-- `assign_drum::lowest_start` meets its contract. The loop's invariant: no lower start fits. It ends since an area that is in the way ends later.
 -- Assumes nothing.
 use mathlib.Core.Path.{subst}
+use Rattle.numbers.proofs.Order.{le-or-lt}
 use Rattle.assign_drum.specs.Blocks.{Seen, InTheWay}
 use Prim.Native.Nat.{ℕ, _≤_, _<_, _-_, _^_}
 use mathlib.Core.Logic.{⊎-elim}
 use native.Mathlib.Omega.{arith}
 use Rattle.assign_drum.specs.Drum.{lowest, IsArea}
-use Rattle.assign_drum.proofs.BlocksLaws.{le-or-lt, none-before, clear-free}
+use Rattle.assign_drum.proofs.BlocksLaws.{none-before, clear-free}
 use borrow.Author.Needs.{needs}
 use Rattle.assign_drum.proofs.lowest_start.Statement.{statement}
 use Rattle.assign_drum.proofs.lowest_start.Tie as tie

@@ -1,4 +1,4 @@
--- `drum::meets` meets its contract: it tests the definition's parts. Assumes nothing.
+-- `assign_drum::meets` meets its contract: it tests the definition's parts. Assumes nothing.
 use native.Mathlib.Omega.{arith}
 use borrow.Author.Tests.{ltb-true, ltb-false}
 use Rattle.numbers.proofs.DecidesLaws.{no}

@@ -1,4 +1,4 @@
--- `assignable::free_units` meets its contract. The loop's invariant is `Marking`. Assumes nothing.
+-- `assign_free::free_units` meets its contract. The loop's invariant is `Marking`. Assumes nothing.
 use Prim.Native.Nat.{_-_}
 use mathlib.Core.Logic.{⊎-elim}
 use native.Mathlib.Omega.{arith}

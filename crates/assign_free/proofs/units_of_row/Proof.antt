@@ -1,4 +1,4 @@
--- `assignable::units_of_row` meets its contract, by cases on what the channel has. Assumes nothing.
+-- `assign_free::units_of_row` meets its contract, by cases on what the channel has. Assumes nothing.
 use mathlib.Core.Path.{sym, _∙_}
 use Rattle.assign_free.proofs.AssignableLaws.{other-row, same-row, no-row}
 use borrow.Author.Needs.{needs}

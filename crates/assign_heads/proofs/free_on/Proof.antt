@@ -1,4 +1,4 @@
--- `heads::free_on` meets its contract. The loop's invariant: n is how many of the units passed are assignable. Assumes nothing.
+-- `assign_heads::free_on` meets its contract. The loop's invariant: n is how many of the units passed are assignable. Assumes nothing.
 use Prim.Native.Nat.{ℕ, _+_, _*_, _≤_, _-_}
 use mathlib.Core.Path.{_≡_, sym, ap, _∙_}
 use mathlib.Core.Bool.{true, false}
@@ -23,8 +23,8 @@ loop-holds c = (omega arith, count-none (λ v. freeAt (c .args .free .now) (c .a
 cast-t7 : tie.Need-cast-t7 Inv-loop μ-loop
 cast-t7 c = search needs
 
-place-of-requires : tie.Need-place-of-requires Inv-loop μ-loop
-place-of-requires c κs = search needs
+index-of-requires : tie.Need-index-of-requires Inv-loop μ-loop
+index-of-requires c κs = search needs
 
 element-copy-out-if1 : tie.Need-element-copy-out-if1 Inv-loop μ-loop
 element-copy-out-if1 c = search needs
@@ -39,7 +39,7 @@ loop-less : tie.Need-loop-less Inv-loop μ-loop
 loop-less c = omega arith
 
 loop-again : tie.Need-loop-again Inv-loop μ-loop
-loop-again c = (⊎-elim (λ w. omega (arith, w)) (λ w. omega (arith, w)) (c .if1 .came), ⊎-elim (λ w. count-more (λ v. freeAt (c .before .before .before .before .before .args .free .now) (c .before .before .before .before .before .args .channel .0 * 16 + v)) (c .before .before .before .before .loop .u) (c .before .before .before .before .loop .n) (c .if1 .n) true (ap (freeAt (c .before .before .before .before .before .args .free .now)) (sym (c .before .before .place-of .ensures)) ∙ w .0 .taken) (c .before .before .before .before .loop .inv .1) (omega (arith, w))) (λ w. count-more (λ v. freeAt (c .before .before .before .before .before .args .free .now) (c .before .before .before .before .before .args .channel .0 * 16 + v)) (c .before .before .before .before .loop .u) (c .before .before .before .before .loop .n) (c .if1 .n) false (ap (freeAt (c .before .before .before .before .before .args .free .now)) (sym (c .before .before .place-of .ensures)) ∙ w .0 .left) (c .before .before .before .before .loop .inv .1) (omega (arith, w))) (c .if1 .came))
+loop-again c = (⊎-elim (λ w. omega (arith, w)) (λ w. omega (arith, w)) (c .if1 .came), ⊎-elim (λ w. count-more (λ v. freeAt (c .before .before .before .before .before .args .free .now) (c .before .before .before .before .before .args .channel .0 * 16 + v)) (c .before .before .before .before .loop .u) (c .before .before .before .before .loop .n) (c .if1 .n) true (ap (freeAt (c .before .before .before .before .before .args .free .now)) (sym (c .before .before .index-of .ensures)) ∙ w .0 .taken) (c .before .before .before .before .loop .inv .1) (omega (arith, w))) (λ w. count-more (λ v. freeAt (c .before .before .before .before .before .args .free .now) (c .before .before .before .before .before .args .channel .0 * 16 + v)) (c .before .before .before .before .loop .u) (c .before .before .before .before .loop .n) (c .if1 .n) false (ap (freeAt (c .before .before .before .before .before .args .free .now)) (sym (c .before .before .index-of .ensures)) ∙ w .0 .left) (c .before .before .before .before .loop .inv .1) (omega (arith, w))) (c .if1 .came))
 
 returns : tie.Need-returns Inv-loop μ-loop
 returns c = c .before .loop .inv .1 ∙ ap (λ (x : ℕ). howMany x (λ v. freeAt (c .before .before .args .free .now) (c .before .before .args .channel .0 * 16 + v))) (omega arith)
@@ -52,7 +52,7 @@ free-on-spec =
     μ-loop
     loop-holds
     cast-t7
-    place-of-requires
+    index-of-requires
     element-copy-out-if1
     add-n
     add-u

@@ -1,4 +1,4 @@
--- `heads::give` meets its contract. The loop's invariant is `Gave`. Assumes nothing.
+-- `assign_heads::give` meets its contract. The loop's invariant is `Gave`. Assumes nothing.
 use Prim.Native.Nat.{_-_}
 use mathlib.Core.Path.{_∙_}
 use mathlib.Core.Logic.{⊎-elim}

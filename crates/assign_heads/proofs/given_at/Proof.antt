@@ -1,4 +1,4 @@
--- `heads::given_at` meets its contract: its tests are the definition's. Assumes nothing.
+-- `assign_heads::given_at` meets its contract: its tests are the definition's. Assumes nothing.
 use mathlib.Core.Path.{refl, ap}
 use borrow.Author.Tests.{le-leb, lt-leb}
 use Rattle.assign_heads.specs.Whose.{blank, givenAt}
@@ -16,8 +16,8 @@ returns-2 : tie.Need-returns-2
 unfolding givenAt
 returns-2 c = rw (le-leb (c .before .before .before .before .args .channel .0) 15 (c .before .before .if1 .left), lt-leb (c .before .before .before .before .args .unit .0) 15 (c .if2 .taken)) refl
 
-place-of-requires : tie.Need-place-of-requires
-place-of-requires c κs = search needs
+index-of-requires : tie.Need-index-of-requires
+index-of-requires c κs = search needs
 
 mul-head : tie.Need-mul-head
 mul-head c = search needs
@@ -27,8 +27,8 @@ array-copy-out-head c = search needs
 
 returns-3 : tie.Need-returns-3
 unfolding givenAt
-returns-3 c = rw (le-leb (c .before .before .before .before .before .before .args .channel .0) 15 (c .before .before .before .before .if1 .left), le-leb (c .before .before .before .before .before .before .args .unit .0) 15 (c .before .before .if2 .left)) (ap (λ (n : ℕ). getD (c .before .before .before .before .before .before .args .t1) n blank .to) (c .before .place-of .ensures))
+returns-3 c = rw (le-leb (c .before .before .before .before .before .before .args .channel .0) 15 (c .before .before .before .before .if1 .left), le-leb (c .before .before .before .before .before .before .args .unit .0) 15 (c .before .before .if2 .left)) (ap (λ (n : ℕ). getD (c .before .before .before .before .before .before .args .t1) n blank .to) (c .before .index-of .ensures))
 
 pub given-at-spec : {M : Type 1} → statement M
 given-at-spec =
-    tie.close (tie.spec returns returns-2 place-of-requires mul-head array-copy-out-head returns-3)
+    tie.close (tie.spec returns returns-2 index-of-requires mul-head array-copy-out-head returns-3)

@@ -1,4 +1,4 @@
--- `heads::less` meets its contract, by cases on what was taken. Assumes nothing.
+-- `assign_heads::less` meets its contract, by cases on what was taken. Assumes nothing.
 use mathlib.Core.Path.{sym, ap, _∙_}
 use native.Mathlib.Omega.{arith}
 use Rattle.assign_heads.specs.Giving.{lessOf}

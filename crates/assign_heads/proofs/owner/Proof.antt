@@ -1,4 +1,4 @@
--- `heads::owner` meets its contract. The loop's invariant: no entry passed has the channel. Assumes nothing.
+-- `assign_heads::owner` meets its contract. The loop's invariant: no entry passed has the channel. Assumes nothing.
 use Prim.Native.Nat.{ℕ, _≤_, _<_, _-_}
 use mathlib.Core.Path.{_≡_}
 use mathlib.Core.Logic.{⊎-elim}

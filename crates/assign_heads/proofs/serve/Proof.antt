@@ -1,4 +1,4 @@
--- `heads::serve` meets its contract: the choice and the giving make it together. Assumes nothing.
+-- `assign_heads::serve` meets its contract: the choice and the giving make it together. Assumes nothing.
 use Rattle.assign_channels.proofs.ChoiceLaws.{found-least, found-none}
 use native.Mathlib.Omega.{arith}
 use borrow.Author.Tests.{not-true, not-false}
@@ -7,14 +7,14 @@ use borrow.Author.Needs.{needs}
 use Rattle.assign_heads.proofs.serve.Statement.{statement}
 use Rattle.assign_heads.proofs.serve.Tie as tie
 
-room-of-requires : tie.Need-room-of-requires
-room-of-requires c κs = search needs
+free-counts-requires : tie.Need-free-counts-requires
+free-counts-requires c κs = search needs
 
 choose-requires : tie.Need-choose-requires
 choose-requires c κs = search needs
 
 returns : tie.Need-returns
-returns c = lacking (omega arith) (omega arith) (c .before .before .before .before .room-of .ensures) (found-none (c .before .before .before .before .room-of .result) (c .before .before .before .before .before .before .args .wants) (c .before .before .before .choose .result) (not-true (c .before .before .before .choose .result .ok) (c .if1 .taken)) (c .before .before .before .choose .ensures))
+returns c = lacking (omega arith) (omega arith) (c .before .before .before .before .free-counts .ensures) (found-none (c .before .before .before .before .free-counts .result) (c .before .before .before .before .before .before .args .wants) (c .before .before .before .choose .result) (not-true (c .before .before .before .choose .result .ok) (c .if1 .taken)) (c .before .before .before .choose .ensures))
 
 owners-requires : tie.Need-owners-requires
 owners-requires c κs = search needs
@@ -23,9 +23,9 @@ give-requires : tie.Need-give-requires
 give-requires c κs = owners-logical (c .owners .ensures)
 
 returns-2 : tie.Need-returns-2
-returns-2 c = chosen (omega arith) (omega arith) (c .before .before .before .before .before .before .room-of .ensures) (found-least (c .before .before .before .before .before .before .room-of .result) (c .before .before .before .before .before .before .before .before .args .wants) (c .before .before .before .before .before .choose .result) (not-false (c .before .before .before .before .before .choose .result .ok) (c .before .before .if1 .left)) (c .before .before .before .before .before .choose .ensures)) (c .before .owners .ensures) (c .give .ensures)
+returns-2 c = chosen (omega arith) (omega arith) (c .before .before .before .before .before .before .free-counts .ensures) (found-least (c .before .before .before .before .before .before .free-counts .result) (c .before .before .before .before .before .before .before .before .args .wants) (c .before .before .before .before .before .choose .result) (not-false (c .before .before .before .before .before .choose .result .ok) (c .before .before .if1 .left)) (c .before .before .before .before .before .choose .ensures)) (c .before .owners .ensures) (c .give .ensures)
 
 pub serve-spec : {M : Type 1} → statement M
 serve-spec =
     tie.close
-    (tie.spec room-of-requires choose-requires returns owners-requires give-requires returns-2)
+    (tie.spec free-counts-requires choose-requires returns owners-requires give-requires returns-2)

@@ -1,4 +1,4 @@
--- `heads::taker` meets its contract: its tests are the definition's. Assumes nothing.
+-- `assign_heads::taker` meets its contract: its tests are the definition's. Assumes nothing.
 use borrow.Author.Tests.{lt-ltb, le-ltb}
 use borrow.Author.Needs.{needs}
 use Rattle.assign_heads.proofs.taker.Statement.{statement}

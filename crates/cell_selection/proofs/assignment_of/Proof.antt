@@ -1,4 +1,4 @@
--- `selection::assignment_of` meets its contract. Assumes nothing.
+-- `cell_selection::assignment_of` meets its contract. Assumes nothing.
 use mathlib.Core.Path.{refl}
 use borrow.Author.Needs.{needs}
 use Rattle.cell_selection.proofs.assignment_of.Statement.{statement}

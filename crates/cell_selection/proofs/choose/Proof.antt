@@ -1,4 +1,4 @@
--- `selection::choose` meets its contract. Assumes nothing.
+-- `cell_selection::choose` meets its contract. Assumes nothing.
 use mathlib.Core.Path.{subst}
 use borrow.Author.Tests.{not-true, not-false}
 use Rattle.schedule_list.specs.InSchedule.{inSchedule}

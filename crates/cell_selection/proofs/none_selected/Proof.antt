@@ -1,4 +1,4 @@
--- `selection::none_selected` meets its contract. Assumes nothing.
+-- `cell_selection::none_selected` meets its contract. Assumes nothing.
 use borrow.Author.Needs.{needs}
 use Rattle.cell_selection.proofs.none_selected.Statement.{statement}
 use Rattle.cell_selection.proofs.none_selected.Tie as tie

@@ -1,4 +1,4 @@
--- `selection::picked_in` meets its contract. Assumes nothing.
+-- `cell_selection::picked_in` meets its contract. Assumes nothing.
 use mathlib.Core.Path.{sym}
 use borrow.Author.Needs.{needs}
 use Rattle.cell_selection.proofs.picked_in.Statement.{statement}

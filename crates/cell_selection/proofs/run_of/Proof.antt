@@ -1,4 +1,4 @@
--- `selection::run_of` meets its contract. Assumes nothing.
+-- `cell_selection::run_of` meets its contract. Assumes nothing.
 use borrow.Author.Tests.{ne-eqb}
 use mathlib.Core.Path.{refl}
 use native.Mathlib.Omega.{arith}

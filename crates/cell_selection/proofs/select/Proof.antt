@@ -1,4 +1,4 @@
--- `selection::select` meets its contract. Assumes nothing.
+-- `cell_selection::select` meets its contract. Assumes nothing.
 use mathlib.Core.Path.{refl}
 use borrow.Author.Tests.{not-true, not-false}
 use Rattle.schedule_list.specs.InSchedule.{inSchedule}

@@ -1,23 +1,24 @@
--- `selection::units_of` meets its contract. The loop's invariant stands first; the lemmas of its turns are in this folder's other files. Assumes nothing.
+-- `cell_selection::units_of` meets its contract. The loop's invariant is `Filled` of numbers. Assumes nothing.
 use Prim.Native.Nat.{_-_}
 use mathlib.Core.Bool.{false}
 use mathlib.Core.Path.{refl}
 use native.Mathlib.Omega.{arith}
+use lib.ListN.{getD}
+use Rattle.numbers.proofs.Stores.{Filled, fill-turn, fill-map}
 use Rattle.assign_heads.specs.Whose.{blank}
-use Rattle.cell_taken.proofs.Filling.{Filled, fill-turn, fill-end}
 use Rattle.cell_selection.specs.Selecting.{isTaken}
 use borrow.Author.Needs.{needs}
 use Rattle.cell_selection.proofs.units_of.Statement.{statement}
 use Rattle.cell_selection.proofs.units_of.Tie as tie
 
 abbrev Inv-loop : tie.InvT-loop
-Inv-loop heads next₀ i₀ next i = Filled isTaken blank false heads 256 next i
+Inv-loop heads next₀ i₀ next i = Filled (λ d. isTaken (getD heads d blank)) false 256 next₀ next i
 
 abbrev μ-loop : tie.MeasureT-loop
 μ-loop heads next₀ i₀ next i = 256 - i
 
 loop-holds : tie.Need-loop-holds Inv-loop μ-loop
-loop-holds c = record { high = omega arith; source = search needs; wide = search needs; each = λ d h. absurd (omega arith) }
+loop-holds c = record { high = omega arith; wide = search needs; each = λ d h. absurd (omega arith); rest = λ d h. refl }
 
 mul-is-taken : tie.Need-mul-is-taken Inv-loop μ-loop
 mul-is-taken c = search needs
@@ -38,10 +39,10 @@ loop-less : tie.Need-loop-less Inv-loop μ-loop
 loop-less c = omega arith
 
 loop-again : tie.Need-loop-again Inv-loop μ-loop
-loop-again c = fill-turn isTaken blank false (c .before .before .before .before .args .t1) 256 (c .is-taken .result) (c .before .before .before .loop .inv) (omega arith) (c .is-taken .ensures)
+loop-again c = fill-turn (λ d. isTaken (getD (c .before .before .before .before .args .t1) d blank)) false 256 _ (c .before .before .before .loop .inv) (omega arith) (c .is-taken .result) (c .is-taken .ensures)
 
 returns : tie.Need-returns Inv-loop μ-loop
-returns c = fill-end isTaken blank false (c .before .before .args .t1) 256 refl (c .before .loop .inv) (omega arith)
+returns c = fill-map isTaken blank false 256 _ (c .before .loop .next) (c .before .before .args .t1) refl (search needs) (c .before .loop .inv) (omega arith)
 
 pub units-of-spec : {M : Type 1} → statement M
 units-of-spec =

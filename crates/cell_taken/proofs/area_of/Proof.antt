@@ -1,4 +1,4 @@
--- `room::area_of` meets its contract. Assumes nothing.
+-- `cell_taken::area_of` meets its contract. Assumes nothing.
 use mathlib.Core.Path.{sym, _∙_}
 use borrow.Author.Needs.{needs}
 use Rattle.cell_taken.proofs.area_of.Statement.{statement}

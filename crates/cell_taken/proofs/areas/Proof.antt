@@ -1,23 +1,24 @@
--- `room::areas` meets its contract. The loop's invariant stands first; the lemmas of its turns are in this folder's other files. Assumes nothing.
+-- `cell_taken::areas` meets its contract. The loop's invariant is `Filled` of numbers. Assumes nothing.
 use Prim.Native.Nat.{_-_}
 use mathlib.Core.Path.{refl}
 use native.Mathlib.Omega.{arith}
+use lib.ListN.{getD}
+use Rattle.numbers.proofs.Stores.{Filled, fill-turn, fill-map}
 use Rattle.assign_drum.specs.Drum.{noArea}
 use Rattle.packets.specs.State.{noJob}
 use Rattle.cell_taken.specs.Taken.{areaOf}
-use Rattle.cell_taken.proofs.Filling.{Filled, fill-turn, fill-end}
 use borrow.Author.Needs.{needs}
 use Rattle.cell_taken.proofs.areas.Statement.{statement}
 use Rattle.cell_taken.proofs.areas.Tie as tie
 
 abbrev Inv-loop : tie.InvT-loop
-Inv-loop jobs next₀ i₀ next i = Filled areaOf noJob noArea jobs 16 next i
+Inv-loop jobs next₀ i₀ next i = Filled (λ d. areaOf (getD jobs d noJob)) noArea 16 next₀ next i
 
 abbrev μ-loop : tie.MeasureT-loop
 μ-loop jobs next₀ i₀ next i = 16 - i
 
 loop-holds : tie.Need-loop-holds Inv-loop μ-loop
-loop-holds c = record { high = omega arith; source = search needs; wide = search needs; each = λ d h. absurd (omega arith) }
+loop-holds c = record { high = omega arith; wide = search needs; each = λ d h. absurd (omega arith); rest = λ d h. refl }
 
 mul-area-of : tie.Need-mul-area-of Inv-loop μ-loop
 mul-area-of c = search needs
@@ -41,10 +42,10 @@ loop-less : tie.Need-loop-less Inv-loop μ-loop
 loop-less c = omega arith
 
 loop-again : tie.Need-loop-again Inv-loop μ-loop
-loop-again c = fill-turn areaOf noJob noArea (c .before .before .before .before .args .t1) 16 (c .area-of .result) (c .before .before .before .loop .inv) (omega arith) (c .area-of .ensures)
+loop-again c = fill-turn (λ d. areaOf (getD (c .before .before .before .before .args .t1) d noJob)) noArea 16 _ (c .before .before .before .loop .inv) (omega arith) (c .area-of .result) (c .area-of .ensures)
 
 returns : tie.Need-returns Inv-loop μ-loop
-returns c = fill-end areaOf noJob noArea (c .before .before .args .t1) 16 refl (c .before .loop .inv) (omega arith)
+returns c = fill-map areaOf noJob noArea 16 _ (c .before .loop .next) (c .before .before .args .t1) refl (search needs) (c .before .loop .inv) (omega arith)
 
 pub areas-spec : {M : Type 1} → statement M
 areas-spec =

@@ -1,22 +1,23 @@
--- `room::cores` meets its contract. The loop's invariant stands first; the lemmas of its turns are in this folder's other files. Assumes nothing.
+-- `cell_taken::cores` meets its contract. The loop's invariant is `Filled` of numbers. Assumes nothing.
 use Prim.Native.Nat.{_-_}
 use mathlib.Core.Path.{refl}
 use native.Mathlib.Omega.{arith}
+use lib.ListN.{getD}
+use Rattle.numbers.proofs.Stores.{Filled, fill-turn, fill-map}
 use Rattle.packets.specs.State.{noJob, noCore}
 use Rattle.cell_taken.specs.Taken.{coreOf}
-use Rattle.cell_taken.proofs.Filling.{Filled, fill-turn, fill-end}
 use borrow.Author.Needs.{needs}
 use Rattle.cell_taken.proofs.cores.Statement.{statement}
 use Rattle.cell_taken.proofs.cores.Tie as tie
 
 abbrev Inv-loop : tie.InvT-loop
-Inv-loop jobs next₀ i₀ next i = Filled coreOf noJob noCore jobs 16 next i
+Inv-loop jobs next₀ i₀ next i = Filled (λ d. coreOf (getD jobs d noJob)) noCore 16 next₀ next i
 
 abbrev μ-loop : tie.MeasureT-loop
 μ-loop jobs next₀ i₀ next i = 16 - i
 
 loop-holds : tie.Need-loop-holds Inv-loop μ-loop
-loop-holds c = record { high = omega arith; source = search needs; wide = search needs; each = λ d h. absurd (omega arith) }
+loop-holds c = record { high = omega arith; wide = search needs; each = λ d h. absurd (omega arith); rest = λ d h. refl }
 
 mul-core-of : tie.Need-mul-core-of Inv-loop μ-loop
 mul-core-of c = search needs
@@ -40,10 +41,10 @@ loop-less : tie.Need-loop-less Inv-loop μ-loop
 loop-less c = omega arith
 
 loop-again : tie.Need-loop-again Inv-loop μ-loop
-loop-again c = fill-turn coreOf noJob noCore (c .before .before .before .before .args .t1) 16 (c .core-of .result) (c .before .before .before .loop .inv) (omega arith) (c .core-of .ensures)
+loop-again c = fill-turn (λ d. coreOf (getD (c .before .before .before .before .args .t1) d noJob)) noCore 16 _ (c .before .before .before .loop .inv) (omega arith) (c .core-of .result) (c .core-of .ensures)
 
 returns : tie.Need-returns Inv-loop μ-loop
-returns c = fill-end coreOf noJob noCore (c .before .before .args .t1) 16 refl (c .before .loop .inv) (omega arith)
+returns c = fill-map coreOf noJob noCore 16 _ (c .before .loop .next) (c .before .before .args .t1) refl (search needs) (c .before .loop .inv) (omega arith)
 
 pub cores-spec : {M : Type 1} → statement M
 cores-spec =

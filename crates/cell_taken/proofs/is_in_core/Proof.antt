@@ -1,4 +1,4 @@
--- `room::is_in_core` meets its contract. Assumes nothing.
+-- `cell_taken::is_in_core` meets its contract. Assumes nothing.
 use mathlib.Core.Path.{refl, sym, _∙_}
 use borrow.Author.Needs.{needs}
 use Rattle.cell_taken.proofs.is_in_core.Statement.{statement}

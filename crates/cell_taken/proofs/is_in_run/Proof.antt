@@ -1,4 +1,4 @@
--- `room::is_in_run` meets its contract. Assumes nothing.
+-- `cell_taken::is_in_run` meets its contract. Assumes nothing.
 use mathlib.Core.Path.{refl}
 use native.Mathlib.Omega.{arith}
 use borrow.Author.Tests.{lt-leb, le-leb}

@@ -1,4 +1,4 @@
--- `room::occupied` meets its contract. Assumes nothing.
+-- `cell_taken::occupied` meets its contract. Assumes nothing.
 use mathlib.Core.Path.{sym}
 use borrow.Author.Needs.{needs}
 use Rattle.cell_taken.proofs.occupied.Statement.{statement}

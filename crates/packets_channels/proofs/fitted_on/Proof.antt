@@ -1,4 +1,4 @@
--- `carriers::fitted_on` meets its contract. Assumes nothing.
+-- `packets_channels::fitted_on` meets its contract. Assumes nothing.
 use mathlib.Core.Path.{refl, sym}
 use Rattle.packets.specs.State.{fittedOn}
 use Rattle.packets_channels.proofs.Outside.{fitted-out}

@@ -1,4 +1,4 @@
--- `carriers::is_configured` meets its contract. Assumes nothing.
+-- `packets_channels::is_configured` meets its contract. Assumes nothing.
 use mathlib.Core.Path.{ap, _∙_}
 use native.Mathlib.Omega.{arith}
 use borrow.Author.Tests.{le-ltb, lt-ltb}

@@ -1,4 +1,4 @@
--- `carriers::is_of` meets its contract. Assumes nothing.
+-- `packets_channels::is_of` meets its contract. Assumes nothing.
 use borrow.Author.Needs.{needs}
 use Rattle.packets_channels.proofs.is_of.Statement.{statement}
 use Rattle.packets_channels.proofs.is_of.Tie as tie

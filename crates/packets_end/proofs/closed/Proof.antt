@@ -1,4 +1,4 @@
--- `endings::closed` meets its contract. Assumes nothing.
+-- `packets_end::closed` meets its contract. Assumes nothing.
 use borrow.Author.Needs.{needs}
 use Rattle.packets_end.proofs.closed.Statement.{statement}
 use Rattle.packets_end.proofs.closed.Tie as tie

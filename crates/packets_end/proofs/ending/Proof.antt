@@ -1,4 +1,4 @@
--- `endings::ending` meets its contract. Assumes nothing.
+-- `packets_end::ending` meets its contract. Assumes nothing.
 use mathlib.Core.Path.{sym, _∙_}
 use borrow.Author.Needs.{needs}
 use Rattle.packets_end.proofs.ending.Statement.{statement}

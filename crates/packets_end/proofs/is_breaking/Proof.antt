@@ -1,7 +1,7 @@
--- `endings::is_breaking` meets its contract. Assumes nothing.
+-- `packets_end::is_breaking` meets its contract. Assumes nothing.
 use mathlib.Core.Path.{sym, _∙_}
-use Rattle.packets.proofs.Laws.{not-false, not-true}
 use borrow.Author.Needs.{needs}
+use borrow.Author.Tests.{not-false, not-true}
 use Rattle.packets_end.proofs.is_breaking.Statement.{statement}
 use Rattle.packets_end.proofs.is_breaking.Tie as tie
 

@@ -1,7 +1,7 @@
--- `endings::is_done` meets its contract. Assumes nothing.
+-- `packets_end::is_done` meets its contract. Assumes nothing.
 use mathlib.Core.Path.{sym, _∙_}
-use Rattle.packets.proofs.Laws.{not-false, not-true}
 use borrow.Author.Needs.{needs}
+use borrow.Author.Tests.{not-false, not-true}
 use Rattle.packets_end.proofs.is_done.Statement.{statement}
 use Rattle.packets_end.proofs.is_done.Tie as tie
 

@@ -1,4 +1,4 @@
--- `endings::is_wrong` meets its contract, by the tests that led there. Assumes nothing.
+-- `packets_end::is_wrong` meets its contract, by the tests that led there. Assumes nothing.
 use mathlib.Core.Path.{ap}
 use mathlib.Core.Bool.{Bool, not}
 use borrow.Author.Tests.{eq-eqb, ne-eqb}

@@ -1,4 +1,4 @@
--- `endings::over` meets its contract. Assumes nothing.
+-- `packets_end::over` meets its contract. Assumes nothing.
 use borrow.Author.Needs.{needs}
 use Rattle.packets_end.proofs.over.Statement.{statement}
 use Rattle.packets_end.proofs.over.Tie as tie

@@ -1,6 +1,6 @@
--- `endings::packets_over` meets its contract. Assumes nothing.
-use Rattle.packets.proofs.Laws.{not-false, not-true}
+-- `packets_end::packets_over` meets its contract. Assumes nothing.
 use borrow.Author.Needs.{needs}
+use borrow.Author.Tests.{not-false, not-true}
 use Rattle.packets_end.proofs.packets_over.Statement.{statement}
 use Rattle.packets_end.proofs.packets_over.Tie as tie
 

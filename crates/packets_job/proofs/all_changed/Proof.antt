@@ -1,24 +1,24 @@
--- `places::all_changed` meets its contract. The invariant: the packets passed are changed, the others as they were. Assumes nothing.
-use Prim.Native.Nat.{_≤_, _-_}
-use mathlib.Core.Path.{_≡_, refl}
-use mathlib.Core.List.{map, _++_}
+-- `packets_job::all_changed` meets its contract. The invariant: the packets passed are changed, the others as they were. Assumes nothing.
+use Prim.Native.Nat.{_-_}
+use mathlib.Core.Path.{refl, ap, _∙_}
 use native.Mathlib.Omega.{arith}
-use lib.ListN.{length, take, drop}
+use lib.ListN.{getD}
+use Rattle.packets_job.proofs.AimsLaws.{blank-stays}
+use Rattle.numbers.proofs.Stores.{Filled, fill-turn, fill-map}
 use Rattle.packets.specs.State.{restatus, blank}
 use Rattle.packets_job.specs.Aims.{testOf, changeOf}
-use Rattle.packets_job.proofs.Loops.{map-step, map-done}
 use borrow.Author.Needs.{needs}
 use Rattle.packets_job.proofs.all_changed.Statement.{statement}
 use Rattle.packets_job.proofs.all_changed.Tie as tie
 
 abbrev Inv-loop : tie.InvT-loop
-Inv-loop aim out₀ i₀ out i = (i ≤ 16) × (length out₀ ≡ 16) × (out ≡ map (restatus (testOf aim) (changeOf aim)) (take i out₀) ++ drop i out₀)
+Inv-loop aim out₀ i₀ out i = Filled (λ d. restatus (testOf aim) (changeOf aim) (getD out₀ d blank)) blank 16 out₀ out i
 
 abbrev μ-loop : tie.MeasureT-loop
 μ-loop aim out₀ i₀ out i = 16 - i
 
 loop-holds : tie.Need-loop-holds Inv-loop μ-loop
-loop-holds c = (omega arith, search needs, refl)
+loop-holds c = record { high = omega arith; wide = search needs; each = λ d h. absurd (omega arith); rest = λ d h. refl }
 
 mul-changed : tie.Need-mul-changed Inv-loop μ-loop
 mul-changed c = search needs
@@ -42,15 +42,16 @@ loop-less : tie.Need-loop-less Inv-loop μ-loop
 loop-less c = omega arith
 
 loop-again : tie.Need-loop-again Inv-loop μ-loop
-loop-again c = let inv = c .before .before .before .loop .inv in (
-  omega arith,
-  inv .1,
-  map-step (restatus (testOf (c .before .before .before .before .args .aim)) (changeOf (c .before .before .before .before .args .aim))) (c .before .before .before .before .args .ps) (c .before .before .before .loop .out) (c .before .before .before .loop .i) (inv .2)
-      blank (c .changed .result) (omega arith) (c .changed .ensures),
-)
+loop-again c =
+    let l = c .before .before .before .loop in
+    let f = restatus (testOf (c .before .before .before .before .args .aim)) (changeOf (c .before .before .before .before .args .aim)) in
+    fill-turn (λ d. f (getD (c .before .before .before .before .args .ps) d blank)) blank 16 (c .before .before .before .before .args .ps) (l .inv) (omega arith) (c .changed .result)
+    (c .changed .ensures ∙ ap f (l .inv .rest (l .i) (omega arith)))
 
 returns : tie.Need-returns Inv-loop μ-loop
-returns c = map-done (restatus (testOf (c .before .before .args .aim)) (changeOf (c .before .before .args .aim))) (c .before .before .args .ps) (c .before .loop .out) (c .before .loop .i) (c .before .loop .inv .2) (omega arith)
+returns c =
+    fill-map (restatus (testOf (c .before .before .args .aim)) (changeOf (c .before .before .args .aim))) blank blank 16 (c .before .before .args .ps) (c .before .loop .out) (c .before .before .args .ps)
+    (blank-stays (c .before .before .args .aim)) (search needs) (c .before .loop .inv) (omega arith)
 
 pub all-changed-spec : {M : Type 1} → statement M
 all-changed-spec =

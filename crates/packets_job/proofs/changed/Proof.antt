@@ -1,4 +1,4 @@
--- `places::changed` meets its contract: the test says whether the status changes. Assumes nothing.
+-- `packets_job::changed` meets its contract: the test says whether the status changes. Assumes nothing.
 use mathlib.Core.Path.{sym, _∙_}
 use borrow.Author.Needs.{needs}
 use Rattle.packets_job.proofs.changed.Statement.{statement}

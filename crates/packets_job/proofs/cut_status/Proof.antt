@@ -1,4 +1,4 @@
--- `places::cut_status` meets its contract, status by status. Assumes nothing.
+-- `packets_job::cut_status` meets its contract, status by status. Assumes nothing.
 use borrow.Author.Needs.{needs}
 use Rattle.packets_job.proofs.cut_status.Statement.{statement}
 use Rattle.packets_job.proofs.cut_status.Tie as tie

@@ -1,4 +1,4 @@
--- `places::empty` meets its contract. Assumes nothing.
+-- `packets_job::empty` meets its contract. Assumes nothing.
 use borrow.Author.Needs.{needs}
 use Rattle.packets_job.proofs.empty.Statement.{statement}
 use Rattle.packets_job.proofs.empty.Tie as tie

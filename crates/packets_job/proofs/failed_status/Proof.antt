@@ -1,4 +1,4 @@
--- `places::failed_status` meets its contract, status by status. Assumes nothing.
+-- `packets_job::failed_status` meets its contract, status by status. Assumes nothing.
 use borrow.Author.Needs.{needs}
 use Rattle.packets_job.proofs.failed_status.Statement.{statement}
 use Rattle.packets_job.proofs.failed_status.Tie as tie

@@ -1,4 +1,4 @@
--- `places::is_aimed` meets its contract, by the tests that led there. Assumes nothing.
+-- `packets_job::is_aimed` meets its contract, by the tests that led there. Assumes nothing.
 use borrow.Author.Tests.{eq-eqb, ne-eqb, le-leb, lt-leb}
 use Rattle.packets_job.proofs.is_aimed.Statement.{statement}
 use Rattle.packets_job.proofs.is_aimed.Tie as tie

@@ -1,4 +1,4 @@
--- `places::is_at` meets its contract, by the test that led there. Assumes nothing.
+-- `packets_job::is_at` meets its contract, by the test that led there. Assumes nothing.
 use borrow.Author.Tests.{eq-eqb, ne-eqb}
 use Rattle.packets_job.proofs.is_at.Statement.{statement}
 use Rattle.packets_job.proofs.is_at.Tie as tie

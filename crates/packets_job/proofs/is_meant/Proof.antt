@@ -1,4 +1,4 @@
--- `places::is_meant` meets its contract: each change has its own test. Assumes nothing.
+-- `packets_job::is_meant` meets its contract: each change has its own test. Assumes nothing.
 use borrow.Author.Needs.{needs}
 use Rattle.packets_job.proofs.is_meant.Statement.{statement}
 use Rattle.packets_job.proofs.is_meant.Tie as tie

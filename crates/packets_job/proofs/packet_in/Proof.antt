@@ -1,4 +1,4 @@
--- `places::packet_in` meets its contract. Assumes nothing.
+-- `packets_job::packet_in` meets its contract. Assumes nothing.
 use mathlib.Core.Path.{_≡_, sym, _∙_}
 use native.Mathlib.Omega.{arith}
 use lib.ListN.{length, List·getD-eq-default}

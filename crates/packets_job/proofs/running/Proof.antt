@@ -1,4 +1,4 @@
--- `places::running` meets its contract. Assumes nothing.
+-- `packets_job::running` meets its contract. Assumes nothing.
 use borrow.Author.Needs.{needs}
 use Rattle.packets_job.proofs.running.Statement.{statement}
 use Rattle.packets_job.proofs.running.Tie as tie

@@ -1,4 +1,4 @@
--- `places::with_packet` meets its contract. Assumes nothing.
+-- `packets_job::with_packet` meets its contract. Assumes nothing.
 use mathlib.Core.Path.{_≡_, sym}
 use native.Mathlib.Omega.{arith}
 use lib.ListN.{length}

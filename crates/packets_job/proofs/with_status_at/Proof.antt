@@ -1,4 +1,4 @@
--- `places::with_status_at` meets its contract. Assumes nothing.
+-- `packets_job::with_status_at` meets its contract. Assumes nothing.
 use borrow.Author.Needs.{needs}
 use Rattle.packets_job.proofs.with_status_at.Statement.{statement}
 use Rattle.packets_job.proofs.with_status_at.Tie as tie

@@ -1,4 +1,4 @@
--- `queue::can_start` meets its contract, by the tests that led there. Assumes nothing.
+-- `packets_queue::can_start` meets its contract, by the tests that led there. Assumes nothing.
 use borrow.Author.Tests.{eq-eqb, ne-eqb}
 use borrow.Author.Needs.{needs}
 use Rattle.packets_queue.proofs.can_start.Statement.{statement}

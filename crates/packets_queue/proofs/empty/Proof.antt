@@ -1,4 +1,4 @@
--- `queue::empty` meets its contract. Assumes nothing.
+-- `packets_queue::empty` meets its contract. Assumes nothing.
 use borrow.Author.Needs.{needs}
 use Rattle.packets_queue.proofs.empty.Statement.{statement}
 use Rattle.packets_queue.proofs.empty.Tie as tie

@@ -1,4 +1,4 @@
--- `queue::lock_in` meets its contract. Assumes nothing.
+-- `packets_queue::lock_in` meets its contract. Assumes nothing.
 use mathlib.Core.Path.{_≡_, ap, sym}
 use native.Mathlib.Omega.{arith}
 use lib.ListN.{length, List·getD-eq-default}

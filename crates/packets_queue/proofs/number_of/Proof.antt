@@ -1,4 +1,4 @@
--- `queue::number_of` meets its contract. Assumes nothing.
+-- `packets_queue::number_of` meets its contract. Assumes nothing.
 use mathlib.Core.Path.{refl}
 use Rattle.packets.specs.State.{packetOf}
 use borrow.Author.Needs.{needs}

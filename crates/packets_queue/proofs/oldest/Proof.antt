@@ -1,4 +1,4 @@
--- `queue::oldest` meets its contract. The invariant: none of the entries passed can start. Assumes nothing.
+-- `packets_queue::oldest` meets its contract. The invariant: none of the entries passed can start. Assumes nothing.
 use Prim.Native.Nat.{ℕ, _≤_, _-_, _+_}
 use mathlib.Core.Path.{_≡_, refl, sym, ap, _∙_}
 use mathlib.Core.List.{List}
@@ -6,7 +6,8 @@ use mathlib.Core.Option.{none, some}
 use native.Mathlib.Omega.{arith}
 use lib.ListN.{length, take, getD}
 use Rattle.packets.specs.Picks.{find}
-use Rattle.packets_queue.specs.Padded.{foundOf, listOf}
+use Rattle.packets_queue.specs.Padded.{listOf}
+use Rattle.packets_queue.specs.Keeping.{foundOf}
 use Rattle.packets.proofs.PickLaws.{find-step, find-part}
 use Rattle.packets_queue.proofs.Startable.{canStartAt, starts-is, found-is}
 use borrow.Author.Needs.{needs}

@@ -1,4 +1,4 @@
--- `queue::place_of` meets its contract. Assumes nothing.
+-- `packets_queue::place_of` meets its contract. Assumes nothing.
 use mathlib.Core.Path.{refl}
 use Rattle.packets.specs.State.{placeOf}
 use borrow.Author.Needs.{needs}

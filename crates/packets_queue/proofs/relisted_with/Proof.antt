@@ -1,4 +1,4 @@
--- `queue::relisted_with` meets its contract. Assumes nothing.
+-- `packets_queue::relisted_with` meets its contract. Assumes nothing.
 use Prim.Native.Nat.{ℕ}
 use mathlib.Core.Path.{ap, _∙_}
 use mathlib.Core.List.{List}

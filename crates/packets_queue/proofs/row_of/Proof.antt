@@ -1,4 +1,4 @@
--- `queue::row_of` meets its contract. Assumes nothing.
+-- `packets_queue::row_of` meets its contract. Assumes nothing.
 use mathlib.Core.Path.{ap}
 use mathlib.Core.List.{List, []}
 use Rattle.units.specs.declared.Unit.{Unit}

@@ -1,4 +1,4 @@
--- `queue::size_of` meets its contract. Assumes nothing.
+-- `packets_queue::size_of` meets its contract. Assumes nothing.
 use Rattle.packets_queue.proofs.Relist.{sized-full}
 use borrow.Author.Needs.{needs}
 use Rattle.packets_queue.proofs.size_of.Statement.{statement}

@@ -1,4 +1,4 @@
--- `queue::stays` meets its contract. Assumes nothing.
+-- `packets_queue::stays` meets its contract. Assumes nothing.
 use borrow.Author.Tests.{eq-eqb, ne-eqb}
 use Rattle.packets.specs.State.{placeOf}
 use borrow.Author.Needs.{needs}

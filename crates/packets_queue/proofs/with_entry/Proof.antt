@@ -1,4 +1,4 @@
--- `queue::with_entry` meets its contract: room or no room. Assumes nothing.
+-- `packets_queue::with_entry` meets its contract: room or no room. Assumes nothing.
 use Rattle.packets_queue.proofs.Relist.{entry-full, entry-joins}
 use borrow.Author.Needs.{needs}
 use Rattle.packets_queue.proofs.with_entry.Statement.{statement}

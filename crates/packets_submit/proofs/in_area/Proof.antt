@@ -1,4 +1,4 @@
--- `submission::in_area` meets its contract. Assumes nothing.
+-- `packets_submit::in_area` meets its contract. Assumes nothing.
 use borrow.Author.Tests.{le-leb, lt-leb}
 use Rattle.packets_submit.proofs.Tests.{less-by}
 use Rattle.packets_submit.proofs.in_area.Statement.{statement}

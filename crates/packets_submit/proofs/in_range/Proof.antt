@@ -1,4 +1,4 @@
--- `submission::in_range` meets its contract, by the tests that led there. Assumes nothing.
+-- `packets_submit::in_range` meets its contract, by the tests that led there. Assumes nothing.
 use native.Mathlib.Omega.{arith}
 use borrow.Author.Tests.{lt-ltb, le-ltb}
 use borrow.Author.Needs.{needs}

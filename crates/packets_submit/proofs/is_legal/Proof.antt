@@ -1,4 +1,4 @@
--- `submission::is_legal` meets its contract. Assumes nothing.
+-- `packets_submit::is_legal` meets its contract. Assumes nothing.
 use borrow.Author.Needs.{needs}
 use Rattle.packets_submit.proofs.is_legal.Statement.{statement}
 use Rattle.packets_submit.proofs.is_legal.Tie as tie

@@ -1,4 +1,4 @@
--- `submission::is_listing` meets its contract. Assumes nothing.
+-- `packets_submit::is_listing` meets its contract. Assumes nothing.
 use borrow.Author.Tests.{eq-eqb, ne-eqb}
 use Rattle.packets_submit.proofs.is_listing.Statement.{statement}
 use Rattle.packets_submit.proofs.is_listing.Tie as tie

@@ -1,4 +1,4 @@
--- `submission::is_own` meets its contract, by the tests that led there. Assumes nothing.
+-- `packets_submit::is_own` meets its contract, by the tests that led there. Assumes nothing.
 use borrow.Author.Tests.{eq-eqb, ne-eqb}
 use borrow.Author.Needs.{needs}
 use Rattle.packets_submit.proofs.is_own.Statement.{statement}

@@ -1,4 +1,4 @@
--- `submission::is_unlocking` meets its contract. Assumes nothing.
+-- `packets_submit::is_unlocking` meets its contract. Assumes nothing.
 use mathlib.Core.Path.{sym, _∙_}
 use borrow.Author.Tests.{eq-eqb, ne-eqb}
 use borrow.Author.Needs.{needs}

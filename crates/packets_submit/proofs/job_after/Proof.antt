@@ -1,4 +1,4 @@
--- `submission::job_after` meets its contract. Assumes nothing.
+-- `packets_submit::job_after` meets its contract. Assumes nothing.
 use borrow.Author.Needs.{needs}
 use Rattle.packets_submit.proofs.job_after.Statement.{statement}
 use Rattle.packets_submit.proofs.job_after.Tie as tie

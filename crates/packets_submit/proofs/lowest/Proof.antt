@@ -1,4 +1,4 @@
--- `submission::lowest` meets its contract, by the tests that led there. Assumes nothing.
+-- `packets_submit::lowest` meets its contract, by the tests that led there. Assumes nothing.
 use Rattle.packets_submit.proofs.lowest.Statement.{statement}
 use Rattle.packets_submit.proofs.lowest.Tie as tie
 

@@ -1,4 +1,4 @@
--- `submission::made` meets its contract. Assumes nothing.
+-- `packets_submit::made` meets its contract. Assumes nothing.
 use mathlib.Core.Path.{sym, _∙_}
 use borrow.Author.Needs.{needs}
 use Rattle.packets_submit.proofs.made.Statement.{statement}

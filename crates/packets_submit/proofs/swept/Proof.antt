@@ -1,4 +1,4 @@
--- `submission::swept` meets its contract. Assumes nothing.
+-- `packets_submit::swept` meets its contract. Assumes nothing.
 use borrow.Author.Tests.{eq-eqb, ne-eqb}
 use borrow.Author.Needs.{needs}
 use Rattle.packets_submit.proofs.swept.Statement.{statement}

@@ -1,4 +1,4 @@
--- `submission::verdict` meets its contract: each test is the rules' own. Assumes nothing.
+-- `packets_submit::verdict` meets its contract: each test is the rules' own. Assumes nothing.
 use borrow.Author.Needs.{needs}
 use Rattle.packets_submit.proofs.verdict.Statement.{statement}
 use Rattle.packets_submit.proofs.verdict.Tie as tie

@@ -1,4 +1,4 @@
--- `holders::is_held_by` meets its contract. Assumes nothing.
+-- `packets_units::is_held_by` meets its contract. Assumes nothing.
 use borrow.Author.Needs.{needs}
 use Rattle.packets_units.proofs.is_held_by.Statement.{statement}
 use Rattle.packets_units.proofs.is_held_by.Tie as tie

@@ -1,4 +1,4 @@
--- `holders::is_taken` meets its contract. Assumes nothing.
+-- `packets_units::is_taken` meets its contract. Assumes nothing.
 use borrow.Author.Needs.{needs}
 use Rattle.packets_units.proofs.is_taken.Statement.{statement}
 use Rattle.packets_units.proofs.is_taken.Tie as tie

@@ -1,5 +1,4 @@
--- `holders::released` meets its contract. The invariant: the units passed are changed, the others as they were. Assumes nothing.
-use Rattle.packets_units.proofs.EachUnit.{Passed, passed-none, passed-set, passed-left, passed-all, release-square, released-here, released-not}
+-- `packets_units::released` meets its contract. The invariant: the units passed are changed, the others as they were. Assumes nothing.
 use Prim.Native.Nat.{ℕ, _≤_, _-_, _+_, _/_, _%_}
 use mathlib.Core.Path.{sym, ap, subst, _∙_}
 use mathlib.Core.Logic.{⊎-elim}
@@ -7,9 +6,12 @@ use native.Mathlib.Omega.{arith}
 use Rattle.units.specs.declared.Unit.{Unit}
 use Rattle.units.specs.declared.Units.{Units}
 use Rattle.units.specs.State.{unitIn, unitsFrom, Square}
+use Rattle.units.proofs.EachUnit.{Passed, passed-none, passed-set, passed-left, passed-all}
 use Rattle.units.proofs.StateLaws.{of-square}
 use Rattle.packets.specs.State.{release, releaseAll}
 use Rattle.packets.proofs.Store.{unit-release}
+use Rattle.packets.proofs.UnitLaws.{release-square}
+use Rattle.packets_units.proofs.HandedLaws.{released-here, released-not}
 use mathlib.Core.List.{List}
 use borrow.Author.Needs.{needs}
 use Rattle.packets_units.proofs.released.Statement.{statement}

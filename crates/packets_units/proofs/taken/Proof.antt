@@ -1,6 +1,5 @@
--- `holders::taken` meets its contract. The invariant: the units passed are changed, the others as they were. Assumes nothing.
+-- `packets_units::taken` meets its contract. The invariant: the units passed are changed, the others as they were. Assumes nothing.
 use mathlib.Core.Bool.{Bool, _&&_}
-use Rattle.packets_units.proofs.EachUnit.{Passed, passed-none, passed-set, passed-left, passed-all, take-square, take-read, taken-here, taken-not, wanted-is}
 use Prim.Native.Nat.{ℕ, _≤_, _-_, _+_, _/_, _%_}
 use mathlib.Core.Path.{_≡_, sym, ap, subst, _∙_}
 use mathlib.Core.Logic.{⊎-elim}
@@ -8,9 +7,12 @@ use native.Mathlib.Omega.{arith}
 use Rattle.units.specs.declared.Unit.{Unit}
 use Rattle.units.specs.declared.Units.{Units}
 use Rattle.units.specs.State.{unitIn, unitsFrom, Square, assignable}
+use Rattle.units.proofs.EachUnit.{Passed, passed-none, passed-set, passed-left, passed-all}
 use Rattle.units.proofs.StateLaws.{of-square}
 use Rattle.packets.specs.State.{takeUnit, takeAll}
+use Rattle.packets.proofs.UnitLaws.{take-square, take-read}
 use Rattle.packets_units.specs.Handed.{wantedIn}
+use Rattle.packets_units.proofs.HandedLaws.{taken-here, taken-not, wanted-is}
 use mathlib.Core.List.{List}
 use borrow.Author.Needs.{needs}
 use Rattle.packets_units.proofs.taken.Statement.{statement}

@@ -1,8 +1,7 @@
--- `holders::with_state` meets its contract. Assumes nothing.
+-- `packets_units::with_state` meets its contract. Assumes nothing.
 use mathlib.Core.Path.{sym, ap, _∙_}
 use Rattle.units.specs.State.{unitsFrom}
-use Rattle.units.proofs.StateLaws.{of-square}
-use Rattle.packets_units.proofs.EachUnit.{set-off}
+use Rattle.units.proofs.StateLaws.{of-square, set-off}
 use borrow.Author.Needs.{needs}
 use Rattle.packets_units.proofs.with_state.Statement.{statement}
 use Rattle.packets_units.proofs.with_state.Tie as tie

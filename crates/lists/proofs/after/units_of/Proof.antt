@@ -1,6 +1,6 @@
 -- `lists::after::units_of` meets its contract, by the tests that led there. Assumes nothing.
-use Rattle.packets.proofs.Laws.{not-false, not-true}
 use borrow.Author.Needs.{needs}
+use borrow.Author.Tests.{not-false, not-true}
 use Rattle.lists.proofs.after.units_of.Statement.{statement}
 use Rattle.lists.proofs.after.units_of.Tie as tie
 

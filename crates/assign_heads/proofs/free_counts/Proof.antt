@@ -1,4 +1,4 @@
--- `heads::room_of` meets its contract. The loop's invariant: the channels passed have their numbers. Assumes nothing.
+-- `assign_heads::free_counts` meets its contract. The loop's invariant: the channels passed have their numbers. Assumes nothing.
 use Prim.Native.Nat.{ℕ, _+_, _*_, _≤_, _<_, _-_}
 use mathlib.Core.Path.{_≡_, refl, _∙_}
 use native.Mathlib.Omega.{arith}
@@ -7,14 +7,14 @@ use Rattle.numbers.proofs.Stores.{stored}
 use Rattle.assign_heads.specs.Sums.{howMany}
 use Rattle.assign_heads.specs.Whose.{freeAt}
 use borrow.Author.Needs.{needs}
-use Rattle.assign_heads.proofs.room_of.Statement.{statement}
-use Rattle.assign_heads.proofs.room_of.Tie as tie
+use Rattle.assign_heads.proofs.free_counts.Statement.{statement}
+use Rattle.assign_heads.proofs.free_counts.Tie as tie
 
 abbrev Inv-loop : tie.InvT-loop
-Inv-loop free room₀ c₀ room c = ((c ≤ 16) × (length room ≡ 16)) × ((d : ℕ) → d < c → getD room d 0 ≡ howMany 16 (λ u. freeAt free (d * 16 + u)))
+Inv-loop free counts₀ c₀ counts c = ((c ≤ 16) × (length counts ≡ 16)) × ((d : ℕ) → d < c → getD counts d 0 ≡ howMany 16 (λ u. freeAt free (d * 16 + u)))
 
 abbrev μ-loop : tie.MeasureT-loop
-μ-loop free room₀ c₀ room c = 16 - c
+μ-loop free counts₀ c₀ counts c = 16 - c
 
 loop-holds : tie.Need-loop-holds Inv-loop μ-loop
 loop-holds c = ((omega arith, refl), λ d h. absurd (omega arith))
@@ -25,8 +25,8 @@ cast-t6 c = search needs
 free-on-requires : tie.Need-free-on-requires Inv-loop μ-loop
 free-on-requires c κs = search needs
 
-array-write-room : tie.Need-array-write-room Inv-loop μ-loop
-array-write-room c = search needs
+array-write-counts : tie.Need-array-write-counts Inv-loop μ-loop
+array-write-counts c = search needs
 
 add-c : tie.Need-add-c Inv-loop μ-loop
 add-c c = search needs
@@ -35,13 +35,13 @@ loop-less : tie.Need-loop-less Inv-loop μ-loop
 loop-less c = omega arith
 
 loop-again : tie.Need-loop-again Inv-loop μ-loop
-loop-again c = ((omega arith, length-set (c .before .before .loop .room) (c .before .before .loop .c) (c .free-on .result) ∙ c .before .before .loop .inv .0 .1), stored (λ (d : ℕ) (n : ℕ). n ≡ howMany 16 (λ u. freeAt (c .before .before .before .args .free .now) (d * 16 + u))) (c .before .before .loop .room) (c .before .before .loop .c) 16 (c .free-on .result) 0 (c .before .before .loop .inv .0 .1) (c .before .loop-test .taken) (c .before .before .loop .inv .1) (c .free-on .ensures))
+loop-again c = ((omega arith, length-set (c .before .before .loop .counts) (c .before .before .loop .c) (c .free-on .result) ∙ c .before .before .loop .inv .0 .1), stored (λ (d : ℕ) (n : ℕ). n ≡ howMany 16 (λ u. freeAt (c .before .before .before .args .free .now) (d * 16 + u))) (c .before .before .loop .counts) (c .before .before .loop .c) 16 (c .free-on .result) 0 (c .before .before .loop .inv .0 .1) (c .before .loop-test .taken) (c .before .before .loop .inv .1) (c .free-on .ensures))
 
 returns : tie.Need-returns Inv-loop μ-loop
 returns c = record { long = c .before .loop .inv .0 .1; each = λ d h. c .before .loop .inv .1 d (omega arith) }
 
-pub room-of-spec : {M : Type 1} → statement M
-room-of-spec =
+pub free-counts-spec : {M : Type 1} → statement M
+free-counts-spec =
     tie.close
     (tie.spec
     Inv-loop
@@ -49,7 +49,7 @@ room-of-spec =
     loop-holds
     cast-t6
     free-on-requires
-    array-write-room
+    array-write-counts
     add-c
     loop-less
     loop-again

@@ -1,0 +1,49 @@
+-- What the functions that keep the list say to each other, and the oldest packet of it that can start. Nothing here has
+-- to be believed: Padded, and Rules of packets, say what comes out.
+use Prim.Native.Nat.{ℕ, _≤_, _<_}
+use mathlib.Core.Path.{_≡_}
+use mathlib.Core.Bool.{Bool, false, not, _&&_, _||_}
+use mathlib.Core.List.{List}
+use mathlib.Core.Option.{Option, none, some}
+use lib.ListN.{take, getD}
+use lib.Dec.{eqb}
+use Rattle.units.specs.declared.Unit.{Unit as UnitState}
+use Rattle.units.specs.State.{freshUnit, unitIn}
+use Rattle.packets.specs.State.{relist}
+use Rattle.packets.specs.declared.Found.{Found}
+use Rattle.packets.specs.declared.Found.the-variants.{At, Nowhere}
+use Rattle.packets.specs.declared.Packet.{Packet}
+use Rattle.packets.specs.declared.RequestList.{RequestList}
+use Rattle.packets_queue.specs.Padded.{Tidy, listOf, padded}
+
+-- a number below 16
+pub record Within (n r : ℕ) : Type 0 where
+  pub is : r ≡ n
+  pub small : r < 16
+
+-- how many packets a list has
+pub record Sized (list : RequestList) (n : ℕ) : Type 0 where
+  pub few : n ≤ 256
+  pub is : take n (list .entries) ≡ listOf list
+
+-- a list without those packets of place j that are no longer listed
+pub record Relisted (j : ℕ) (ps : List Packet) (list r : RequestList) : Type 0 where
+  pub is : r ≡ padded (relist j ps (listOf list))
+  pub tidy : Tidy r
+
+-- the interlock of unit a of a channel with these units
+abbrev pub lockIn : List UnitState → ℕ → Bool
+lockIn row a = getD row a (freshUnit false) .interlock
+
+-- units that have the interlocks of channel c
+pub record RowOf (grid : List (List UnitState)) (c : ℕ) (row : List UnitState) : Type 0 where
+  pub locks : (a : ℕ) → lockIn row a ≡ unitIn grid c a .interlock
+
+-- a listed packet can start on channel c with these units
+abbrev pub canStart : Bool → List UnitState → ℕ → Packet → Bool
+canStart drum row c p = eqb (p .channel .0) c && (drum || not (lockIn row (p .at)))
+
+-- the oldest packet that can start, if there is one
+abbrev pub foundOf : Option ℕ → Found
+foundOf none = Nowhere
+foundOf (some e) = At e
