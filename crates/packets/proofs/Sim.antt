@@ -1,7 +1,7 @@
 -- A cell, seen from a holding, and a lone unit: when they agree, and that each store of the rules keeps them so.
 use Prim.Native.Nat.{ℕ, _<_}
 use mathlib.Core.Path.{_≡_, refl, sym, ap, _∙_}
-use mathlib.Core.Bool.{Bool, true, false, cond, _&&_}
+use mathlib.Core.Bool.{Bool, true, false, not, cond, _&&_}
 use mathlib.Core.List.{List, [], _∷_, _++_, map, append-nil}
 use mathlib.Core.Option.{Option, none, some}
 use lib.ListN.{length}
@@ -15,9 +15,9 @@ use Rattle.packets.proofs.Inv.{Elsewhere, EntryOk, Inv, kept-still, lis
 use Rattle.packets.proofs.InvStores.{New, enlisted-is, entry-packet, motion-move, put-elsewhere, restatus-elsewhere}
 use Rattle.packets.specs.Picks.{All, keep}
 use Rattle.packets.proofs.Laws.{all-imp, all-keep, and-both, and-left, and-right, clash, eqb-self, keep-all, keep-append, keep-same, settle-eq}
-use Rattle.packets.specs.Lone.{Lone, Request, carries, joins, locks, settle, still, stores, waits, write}
-use Rattle.packets.specs.State.{State, enqueue, entryOf, isBusy, isKept, isListed, motionOn, move, packetIn, packetOf, packetsIn, placeOf, put, relist, restatus, restatusAll, store, sweep}
-use Rattle.packets.proofs.Store.{packet-put, packet-restatus, sizeIn}
+use Rattle.packets.specs.Lone.{Lone, Request, carries, inUse, joins, locks, settle, still, stores, waits, write}
+use Rattle.packets.specs.State.{State, enqueue, entryOf, isBusy, isKept, isListed, isRunning, motionOn, move, packetIn, packetOf, packetsIn, placeOf, put, relist, restatus, restatusAll, stateIn, store, sweep}
+use Rattle.packets.proofs.Store.{packet-put, packet-restatus, sizeIn, state-put, state-restatus}
 use Rattle.packets.specs.declared.Job.{Job}
 use Rattle.packets.specs.declared.Motion.{Motion}
 use Rattle.packets.specs.declared.Motion.the-variants.{Busy, Idle}
@@ -48,6 +48,20 @@ pub record Sim (h : Holding) (s : State) (l : Lone) : Type 0 where
   pub table : (n : ℕ) → there h (packetIn (s .jobs) (h .place) n) ≡ true → l .packets n ≡ look (packetIn (s .jobs) (h .place) n)
   pub moving : l .moving ≡ movingThere h (s .jobs) (motionOn s (h .channel))
   pub lock : l .interlock ≡ lockThere h (s .units)
+  -- what the lone unit has listed, in progress or stopping was last submitted there
+  pub here : (n : ℕ) → inUse (l .packets n .status) ≡ true → there h (packetIn (s .jobs) (h .place) n) ≡ true
+  pub over : l .jobOver ≡ not (isRunning (stateIn (s .jobs) (h .place)))
+
+pub use-busy : (t : Status) → inUse t ≡ isBusy t
+use-busy Blank = refl
+use-busy Listed = refl
+use-busy InProgress = refl
+use-busy Stopping = refl
+use-busy (Ended k) = refl
+
+-- a packet that the lone unit has in use is busy in the cell
+pub here-busy : (h : Holding) (s : State) (l : Lone) → Sim h s l → (n : ℕ) → inUse (l .packets n .status) ≡ true → isBusy (packetIn (s .jobs) (h .place) n .status) ≡ true
+here-busy h s l S n u = sym (use-busy (packetIn (s .jobs) (h .place) n .status)) ∙ ap (λ (r : Request). inUse (r .status)) (sym (S .table n (S .here n u))) ∙ u
 
 waits-listed : (t : Status) → isListed t ≡ waits t
 waits-listed Blank = refl
@@ -87,7 +101,8 @@ module _ (h : Holding) (s : State) (I : Inv s) (l : Lone) (S : Sim h s l) where
           rw (S .table (packetOf e) (and-right (eqb (placeOf e) (h .place)) _ (k .1)), ← waits-listed (packetIn (s .jobs) (h .place) (packetOf e) .status)) (rw p at (k .0 .listed))
 
   module _ (j : ℕ) (jobs : List Job) (elsewhere : Elsewhere j (s .jobs) jobs)
-      (kept : (n : ℕ) → isBusy (packetIn (s .jobs) (h .place) n .status) ≡ true → there h (packetIn jobs (h .place) n) ≡ there h (packetIn (s .jobs) (h .place) n)) where
+      (kept : (n : ℕ) → isBusy (packetIn (s .jobs) (h .place) n .status) ≡ true → there h (packetIn jobs (h .place) n) ≡ there h (packetIn (s .jobs) (h .place) n))
+      (states : stateIn jobs (h .place) ≡ stateIn (s .jobs) (h .place)) where
     abbrev rejob : State
     rejob = record { channels = s .channels; units = s .units; moving = s .moving; jobs = jobs; queue = relist j (packetsIn jobs j) (s .queue) }
 
@@ -101,9 +116,10 @@ module _ (h : Holding) (s : State) (I : Inv s) (l : Lone) (S : Sim h s l) where
 
     pub sim-jobs : (t : ℕ → Request)
         → ((n : ℕ) → there h (packetIn jobs (h .place) n) ≡ true → t n ≡ look (packetIn jobs (h .place) n))
+        → ((n : ℕ) → inUse (t n .status) ≡ true → there h (packetIn jobs (h .place) n) ≡ true)
         → Sim h rejob (settle l t)
     unfolding relist
-    sim-jobs t table =
+    sim-jobs t table here =
         record {
           order = still-keep t (l .order) ∙ rw (S .order)
               (settle-eq (on h (s .jobs)) (on h jobs) (isKept j (packetsIn jobs j)) num (λ (n : ℕ). waits (t n .status)) (s .queue)
@@ -112,6 +128,8 @@ module _ (h : Holding) (s : State) (I : Inv s) (l : Lone) (S : Sim h s l) where
           table = table;
           moving = S .moving ∙ same-moving (motionOn s (h .channel)) refl;
           lock = S .lock;
+          here = here;
+          over = rw states (S .over);
         }
       where
         same : (e : ℕ) → EntryOk s e → on h jobs e ≡ on h (s .jobs) e
@@ -130,11 +148,16 @@ module _ (h : Holding) (s : State) (I : Inv s) (l : Lone) (S : Sim h s l) where
     pub sim-jobs-away : ((n : ℕ) → there h (packetIn jobs (h .place) n) ≡ true → l .packets n ≡ look (packetIn jobs (h .place) n)) → Sim h rejob l
     sim-jobs-away table =
         record {
-          order = sym order-waits ∙ sim-jobs (l .packets) table .order;
+          order = sym order-waits ∙ sim-jobs (l .packets) table here .order;
           table = table;
           moving = S .moving ∙ same-moving (motionOn s (h .channel)) refl;
           lock = S .lock;
+          here = here;
+          over = rw states (S .over);
         }
+      where
+        here : (n : ℕ) → inUse (l .packets n .status) ≡ true → there h (packetIn jobs (h .place) n) ≡ true
+        here n u = kept n (here-busy h s l S n u) ∙ S .here n u
 
   -- ---- one packet
 
@@ -149,10 +172,16 @@ module _ (h : Holding) (s : State) (I : Inv s) (l : Lone) (S : Sim h s l) where
         rw e (rw (x, y) (same (rw (x, y) at b))))
         (λ e. rw e))
 
-    pub sim-store : h .place ≡ j → (r : Request) → r ≡ look q → Sim h (store s j p q) (stores l p r)
-    sim-store at-j r is =
-        sim-jobs j (put (s .jobs) j p q) (put-elsewhere (s .jobs) j p q fits) store-kept (write (l .packets) p r) table
+    pub sim-store : h .place ≡ j → there h q ≡ true → (r : Request) → r ≡ look q → Sim h (store s j p q) (stores l p r)
+    sim-store at-j is-here r is =
+        sim-jobs j (put (s .jobs) j p q) (put-elsewhere (s .jobs) j p q fits) store-kept (state-put (s .jobs) j p q (h .place)) (write (l .packets) p r) table here
       where
+        here : (n : ℕ) → inUse (write (l .packets) p r n .status) ≡ true → there h (packetIn (put (s .jobs) j p q) (h .place) n) ≡ true
+        here n u =
+            let m : eqb (h .place) j ≡ true = rw at-j (eqb-self j) in
+            rw (packet-put (s .jobs) j p q (h .place) n fits, m)
+            (by-bool (eqb n p) (λ e. rw e is-here) (λ e. rw e (S .here n (rw e at u))))
+
         table : (n : ℕ) → there h (packetIn (put (s .jobs) j p q) (h .place) n) ≡ true → write (l .packets) p r n ≡ look (packetIn (put (s .jobs) j p q) (h .place) n)
         table n t =
             let t′ : there h (cond (eqb (h .place) j && eqb n p) q (packetIn (s .jobs) (h .place) n)) ≡ true = rw (packet-put (s .jobs) j p q (h .place) n fits) at t in
@@ -162,7 +191,7 @@ module _ (h : Holding) (s : State) (I : Inv s) (l : Lone) (S : Sim h s l) where
 
     pub sim-store-away : eqb (h .place) j && there h q ≡ false → Sim h (store s j p q) l
     sim-store-away away =
-        sim-jobs-away j (put (s .jobs) j p q) (put-elsewhere (s .jobs) j p q fits) store-kept table
+        sim-jobs-away j (put (s .jobs) j p q) (put-elsewhere (s .jobs) j p q fits) store-kept (state-put (s .jobs) j p q (h .place)) table
       where
         table : (n : ℕ) → there h (packetIn (put (s .jobs) j p q) (h .place) n) ≡ true → l .packets n ≡ look (packetIn (put (s .jobs) j p q) (h .place) n)
         table n t =
@@ -180,9 +209,11 @@ module _ (h : Holding) (s : State) (I : Inv s) (l : Lone) (S : Sim h s l) where
 
     pub sim-sweep : h .place ≡ j → (t : ℕ → Request)
         → ((n : ℕ) → there h (packetIn (s .jobs) (h .place) n) ≡ true → t n ≡ look (restatus test f (packetIn (s .jobs) (h .place) n)))
+        → ((n : ℕ) → inUse (t n .status) ≡ true → inUse (l .packets n .status) ≡ true)
         → Sim h (sweep s j test f) (settle l t)
-    sim-sweep at-j t is =
-        sim-jobs j (restatusAll (s .jobs) j test f) (restatus-elsewhere (s .jobs) j test f inside fb) sweep-kept t table
+    sim-sweep at-j t is uses =
+        sim-jobs j (restatusAll (s .jobs) j test f) (restatus-elsewhere (s .jobs) j test f inside fb) sweep-kept (state-restatus (s .jobs) j test f (h .place)) t table
+        (λ n u. sweep-kept n (here-busy h s l S n (uses n u)) ∙ S .here n (uses n u))
       where
         table : (n : ℕ) → there h (packetIn (restatusAll (s .jobs) j test f) (h .place) n) ≡ true → t n ≡ look (packetIn (restatusAll (s .jobs) j test f) (h .place) n)
         table n e =
@@ -192,7 +223,7 @@ module _ (h : Holding) (s : State) (I : Inv s) (l : Lone) (S : Sim h s l) where
 
     pub sim-sweep-away : ((n : ℕ) → h .place ≡ j → there h (packetIn (s .jobs) (h .place) n) ≡ true → test (packetIn (s .jobs) (h .place) n) ≡ false) → Sim h (sweep s j test f) l
     sim-sweep-away away =
-        sim-jobs-away j (restatusAll (s .jobs) j test f) (restatus-elsewhere (s .jobs) j test f inside fb) sweep-kept table
+        sim-jobs-away j (restatusAll (s .jobs) j test f) (restatus-elsewhere (s .jobs) j test f inside fb) sweep-kept (state-restatus (s .jobs) j test f (h .place)) table
       where
         table : (n : ℕ) → there h (packetIn (restatusAll (s .jobs) j test f) (h .place) n) ≡ true → l .packets n ≡ look (packetIn (restatusAll (s .jobs) j test f) (h .place) n)
         table n e =
@@ -207,27 +238,37 @@ module _ (h : Holding) (s : State) (I : Inv s) (l : Lone) (S : Sim h s l) where
 
   pub sim-units : (units : List (List UnitState)) (b : Bool) → lockThere h units ≡ b
       → Sim h (record { channels = s .channels; units = units; moving = s .moving; jobs = s .jobs; queue = s .queue }) (locks l b)
-  sim-units units b e = record { order = S .order; table = S .table; moving = S .moving; lock = sym e }
+  sim-units units b e = record { order = S .order; table = S .table; moving = S .moving; lock = sym e; here = S .here; over = S .over }
 
   pub sim-units-away : (units : List (List UnitState)) → lockThere h units ≡ lockThere h (s .units)
       → Sim h (record { channels = s .channels; units = units; moving = s .moving; jobs = s .jobs; queue = s .queue }) l
-  sim-units-away units e = record { order = S .order; table = S .table; moving = S .moving; lock = S .lock ∙ sym e }
+  sim-units-away units e = record { order = S .order; table = S .table; moving = S .moving; lock = S .lock ∙ sym e; here = S .here; over = S .over }
 
-  pub sim-same : (units : List (List UnitState)) (jobs : List Job) → lockThere h units ≡ lockThere h (s .units)
+  pub sim-same-but : (units : List (List UnitState)) (jobs : List Job) → lockThere h units ≡ lockThere h (s .units)
       → ((n : ℕ) → packetIn jobs (h .place) n ≡ packetIn (s .jobs) (h .place) n)
-      → Sim h (record { channels = s .channels; units = units; moving = s .moving; jobs = jobs; queue = s .queue }) l
-  sim-same units jobs e same =
+      → (b : Bool) → b ≡ not (isRunning (stateIn jobs (h .place)))
+      → Sim h (record { channels = s .channels; units = units; moving = s .moving; jobs = jobs; queue = s .queue })
+      (record { packets = l .packets; order = l .order; moving = l .moving; interlock = l .interlock; jobOver = b })
+  sim-same-but units jobs e same b over =
       record {
         order = S .order ∙ ap (λ (x : List ℕ). map num x)
             (keep-same (on h (s .jobs)) (on h jobs) (s .queue) (all-imp (EntryOk s) (λ (e : ℕ). on h (s .jobs) e ≡ on h jobs e) (λ e k. rw same) (s .queue) (I .queued)));
         table = λ n t. rw same (S .table n (rw same at t));
         moving = S .moving ∙ again (motionOn s (h .channel));
         lock = S .lock ∙ sym e;
+        here = λ n u. rw same (S .here n u);
+        over = over;
       }
     where
       again : (m : Motion) → movingThere h (s .jobs) m ≡ movingThere h jobs m
       again Idle = refl
       again (Busy j p) = rw same
+
+  pub sim-same : (units : List (List UnitState)) (jobs : List Job) → lockThere h units ≡ lockThere h (s .units)
+      → ((n : ℕ) → packetIn jobs (h .place) n ≡ packetIn (s .jobs) (h .place) n)
+      → isRunning (stateIn jobs (h .place)) ≡ isRunning (stateIn (s .jobs) (h .place))
+      → Sim h (record { channels = s .channels; units = units; moving = s .moving; jobs = jobs; queue = s .queue }) l
+  sim-same units jobs e same runs = sim-same-but units jobs e same (l .jobOver) (S .over ∙ ap not (sym runs))
 
   pub sim-enqueue : (j p : ℕ) → New s j p → on h (s .jobs) (entryOf j p) ≡ true → Sim h (enqueue s j p) (joins l p)
   sim-enqueue j p n o =
@@ -243,6 +284,8 @@ module _ (h : Holding) (s : State) (I : Inv s) (l : Lone) (S : Sim h s l) where
         table = S .table;
         moving = S .moving;
         lock = S .lock;
+        here = S .here;
+        over = S .over;
       }
 
   pub sim-enqueue-away : (j p : ℕ) → New s j p → on h (s .jobs) (entryOf j p) ≡ false → Sim h (enqueue s j p) l
@@ -259,6 +302,8 @@ module _ (h : Holding) (s : State) (I : Inv s) (l : Lone) (S : Sim h s l) where
         table = S .table;
         moving = S .moving;
         lock = S .lock;
+        here = S .here;
+        over = S .over;
       }
 
   pub sim-move : (c : ℕ) (m : Motion) (x : Option ℕ) → c < 16 → h .channel ≡ c → movingThere h (s .jobs) m ≡ x → Sim h (move s c m) (carries l x)
@@ -267,6 +312,8 @@ module _ (h : Holding) (s : State) (I : Inv s) (l : Lone) (S : Sim h s l) where
         order = S .order;
         table = S .table;
         lock = S .lock;
+        here = S .here;
+        over = S .over;
         moving = sym (ap (movingThere h (s .jobs)) now ∙ e);
       }
     where
@@ -279,6 +326,8 @@ module _ (h : Holding) (s : State) (I : Inv s) (l : Lone) (S : Sim h s l) where
         order = S .order;
         table = S .table;
         lock = S .lock;
+        here = S .here;
+        over = S .over;
         moving = S .moving ∙ sym (ap (movingThere h (s .jobs)) (motion-move s c m (h .channel) (rw (I .channels) small)) ∙ go);
       }
     where
