@@ -18,7 +18,8 @@ use Rattle.packets.proofs.InvStores.{idle-inv, sweep-inv}
 use Rattle.packets.proofs.Laws.{and-left, and-right, clash, eqb-self, not-false, not-true}
 use Rattle.packets.specs.Lone.{Lone, Request, become, breaks, carries, closes, completesAs, ends, endsWith, fails, halts, isHalting, locks, loneDoes, loneTakes, mayComplete, mayEnd, stops}
 use Rattle.packets.specs.Rules.{Complete, End, always, assigned, atUnit, broken, closing, codeFor, cut, ended, failed, finished, isFailure, isWrong, marked, over, returnIfDone}
-use Rattle.packets.proofs.Sim.{Sim, movingThere, sim-move, sim-move-away, sim-same, sim-same-but, sim-store, sim-store-away, sim-sweep, sim-sweep-away, sim-units, sim-units-away}
+use Rattle.packets.proofs.Sim.{Sim, movingThere, sim-store, sim-store-away, sim-sweep, sim-sweep-away}
+use Rattle.packets.proofs.SimRest.{sim-move, sim-move-away, sim-same, sim-same-but, sim-units, sim-units-away}
 use Rattle.packets.proofs.SimStart.{sim-return}
 use Rattle.packets.proofs.SimSubmit.{cut-stops, ends-use, fail-table, holder-alive, is-there, lock-away, lock-here, stops-use, there-channel, there-unit, unit-held}
 use Rattle.packets.specs.State.{State, close, drumOn, heldBy, isEmpty, isRunning, isStopping, motionOn, move, packetIn, setLock, setState, stateIn, sweep, takeAll, wanted, withLock, withStatus}

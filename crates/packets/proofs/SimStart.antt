@@ -15,7 +15,8 @@ use Rattle.packets.proofs.Laws.{all-imp, and-both, and-left, and-right,
 use Rattle.packets.specs.Lone.{Lone, become, carries, hasListed, isAtRest, loneDoes, loneTakes, setsOff, startBy, startOf, stores}
 use Rattle.packets.specs.Picks.{find, keep}
 use Rattle.packets.specs.Rules.{Start, answer, begun, returnIfDone, startable}
-use Rattle.packets.proofs.Sim.{Sim, lockThere, movingThere, num, on, sim-move, sim-move-away, sim-same, sim-store, sim-store-away}
+use Rattle.packets.proofs.Sim.{Sim, lockThere, movingThere, num, on, sim-store, sim-store-away}
+use Rattle.packets.proofs.SimRest.{sim-move, sim-move-away, sim-same}
 use Rattle.packets.proofs.SimSubmit.{there-channel, there-unit}
 use Rattle.packets.specs.State.{State, anyMoves, drumOn, isClosing, isIdle, isRunning, motionOn, packetIn, packetOf, placeOf, put, releaseAll, setState, stateIn, store, withStatus}
 use Rattle.packets.proofs.Steps.{closing-not-running, start-at, start-fits, start-store, startable-on}

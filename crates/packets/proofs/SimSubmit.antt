@@ -15,7 +15,8 @@ use Rattle.packets.proofs.InvStores.{entry-packet, entry-place, lock-in
 use Rattle.packets.proofs.Laws.{and-both, and-left, and-right, bool-iff, clash, eqb-self, not-true, or-right}
 use Rattle.packets.specs.Lone.{Lone, become, endsWith, fails, halts, hears, inUse, lists, locks, meant, request, stops, stores, unlocks}
 use Rattle.packets.specs.Rules.{aimed, atUnit, cut, enlist, failed, locked, packet, pass, submitted, terminate, unlock}
-use Rattle.packets.proofs.Sim.{Sim, here-busy, lockThere, look, on, sim-enqueue, sim-enqueue-away, sim-store, sim-store-away, sim-sweep, sim-sweep-away, sim-units, sim-units-away}
+use Rattle.packets.proofs.Sim.{Sim, here-busy, lockThere, look, on, sim-store, sim-store-away, sim-sweep, sim-sweep-away}
+use Rattle.packets.proofs.SimRest.{sim-enqueue, sim-enqueue-away, sim-units, sim-units-away}
 use Rattle.packets.specs.State.{State, drumOn, entryOf, heldBy, isBusy, isEmpty, isRunning, jobIn, lock, packetIn, put, restatus, setLock, stateIn, store, sweep, withLock}
 use Rattle.packets.proofs.Steps.{Ready, listed-new, ready-fits, ready-inside, ready-store, ready-sweep, stored-at}
 use Rattle.packets.proofs.Store.{unit-set}
