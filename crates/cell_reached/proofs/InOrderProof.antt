@@ -23,9 +23,9 @@ use Rattle.cell_selection.specs.Selecting.{Candidate, HasNone, seenIn}
 use Rattle.cell_selection.specs.declared.Selection.{Selection}
 use Rattle.cell.specs.Calls.{freshCell}
 use Rattle.cell.specs.declared.Cell.{Cell}
+use Rattle.cell_history.proofs.FromFresh.{selected-of}
 use Rattle.cell_history.specs.History.{Chosen, Does, Event, Leads, Select}
 use Rattle.cell_agreement.proofs.SoundProof.{sound-always}
-use Rattle.demands.proofs.Proved.{demand-2}
 use Rattle.cell_reached.specs.InOrder.{FirstInOrder}
 
 -- each of a list, and each two of it, by their places
@@ -70,7 +70,7 @@ module _ (es : List Entry) (keys : Pairs Ahead (requests es)) where
 
 pub first-in-order : FirstInOrder
 first-in-order configuration es c h d job s i k e =
-    let w = demand-2 .selected c d job s in
+    let w = selected-of c d job s in
     let sound = sound-always configuration es c h in
     let f : precedes (keyOf (entryAt (held (c .schedule)) i .request)) (keyOf (entryAt (held (c .schedule)) (job .at) .request)) ≡ true =
     subst (λ (r : Request). precedes (keyOf (entryAt (held (c .schedule)) i .request)) (keyOf r) ≡ true) (w .request) e in

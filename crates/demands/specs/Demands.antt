@@ -2,14 +2,16 @@
 -- cell and call as the contracts of the public functions give them, and about any history of calls from a fresh cell. A reader has to believe this page.
 use Prim.Native.Nat.{ℕ}
 use mathlib.Core.Path.{_≡_}
-use mathlib.Core.Bool.{true}
-use mathlib.Core.List.{List}
+use mathlib.Core.Bool.{true, false}
+use mathlib.Core.List.{List, [], _∷_}
 use mathlib.Core.Option.{some}
 use lib.ListN.{length, take}
 use Rattle.numbers.specs.declared.Outcome.{Outcome}
 use Rattle.numbers.specs.declared.Outcome.the-variants.{Done, Refused}
 use Rattle.numbers.specs.declared.Refusal.{Refusal}
 use Rattle.numbers.specs.declared.Refusal.the-variants.{NothingSelected}
+use Rattle.units.specs.State.{unitIn}
+use Rattle.units.specs.declared.Holder.the-variants.{Held}
 use Rattle.channels.specs.declared.Configuration.{Configuration}
 use Rattle.configuration.specs.Configured.{configurationOf}
 use Rattle.configuration_form.specs.Means.{Means}
@@ -20,16 +22,19 @@ use Rattle.cards.specs.declared.Verdict.the-variants.{Good}
 use Rattle.cards_writing.specs.Writing.{fits, takes, textOf, written}
 use Rattle.schedule_list.specs.Held.{held}
 use Rattle.packets.specs.Codes.{statusAfter}
-use Rattle.packets.specs.Demand.{Holding, Holds, Isolated, Stretch}
+use Rattle.packets.specs.Demand.{Holding, Holds, Isolated}
 use Rattle.packets.specs.Rules as Rules
-use Rattle.packets.specs.State.{packetIn}
+use Rattle.packets.specs.State.{drumOn, inMotion, isClosing, packetIn, stateIn}
+use Rattle.packets.specs.declared.Assignment.{Assignment}
+use Rattle.packets.specs.declared.Status.the-variants.{Stopping}
 use Rattle.packets.specs.declared.Verdict.the-variants.{Granted}
+use Rattle.packets_given.specs.Given.{StillOwn, taking}
 use Rattle.cell_selection.specs.Selecting.{Selected, NoneToSelect}
 use Rattle.cell_selection.specs.declared.Selection.{Selection}
 use Rattle.cell.specs.Calls.{Enters, freshCell}
 use Rattle.cell.specs.declared.Cell.{Cell}
 use Rattle.cell.specs.declared.DeckAnswer.{DeckAnswer}
-use Rattle.cell_history.specs.Heard.{heard, inside}
+use Rattle.cell_history.specs.Heard.{inside, told}
 use Rattle.cell_history.specs.History.{Call, Chosen, Does, Event, Leads, Reply, Select}
 use Rattle.demands.specs.Refusing.{refusalIn}
 
@@ -60,18 +65,39 @@ pub record Demand2 : Type 0 where
       → (x : Rules.Call) → Rules.refusal (inside c) x ≡ Granted → (place packet : ℕ)
       → packetIn (Rules.step (inside c) x .state .jobs) place packet .status ≡ statusAfter (inside c) x place packet
 
+-- calls one after the other, as `Leads` has them, before each of which the job has the holding; the last may return it
+abbrev pub WhileHeld : Holding → Cell → List Event → Cell → Type 0
+WhileHeld h c [] d = d ≡ c
+WhileHeld h c (e ∷ es) d = Holds (inside c) h × ((m : Cell) × (Does c (e .call) (e .reply) m × WhileHeld h m es d))
+
 -- "3. Take any sequence of calls from a fresh cell and one job's holding of one unit or piece of drum: the accepted calls that acted on it, given to a
 -- lone unit written separately, make the same starts in the same order and leave the same packet statuses; on a unit nothing of another job starts or
 -- moves meanwhile."
-abbrev pub Demand3 : Type 0
-Demand3 =
-    -- any sequence of calls from a fresh cell
-    (configuration : Configuration) (before : List Event) (c : Cell) → Leads (freshCell configuration) before c
-    -- then a job is selected
-    → (d : Cell) (job : Selection) → Does c Select (Chosen Done job) d
-    -- one holding of it: a unit, or its piece of the drum
-    → (h : Holding) → h .place ≡ job .place → Holds (inside d) h
-    -- and any calls while it has it, up to its return or any earlier moment
-    → (during : List Event) (e : Cell) → Leads d during e → Stretch h (inside d) (heard during)
-    -- `Isolated`: same starts, same statuses, nothing of another job; of the lists' calls in that stretch, which lead to the lists' state at its end
-    → Isolated h (inside d) (heard during) × (inside e ≡ Rules.run (inside d) (heard during))
+pub record Demand3 : Type 0 where
+  pub alike :
+      -- any sequence of calls from a fresh cell
+      (configuration : Configuration) (before : List Event) (c : Cell) → Leads (freshCell configuration) before c
+      -- then a job is selected
+      → (d : Cell) (job : Selection) → Does c Select (Chosen Done job) d
+      -- one holding of it: a unit, or its piece of the drum
+      → (h : Holding) → h .place ≡ job .place → Holds (inside d) h
+      -- and any calls while it has it, up to its return or any earlier moment
+      → (during : List Event) (e : Cell) → WhileHeld h d during e
+      -- by what the caller was told: the lone unit takes every call that acted, makes the same starts in the same order and
+      -- leaves the same statuses; what starts or moves on a unit this job has submitted there since its selection, so that it
+      -- is of no other job, nor of one that had the same place before
+      → Isolated h (told during) (inside e)
+  -- "the head is handed on at once" cannot happen: while a packet of a job is in progress or stopping, on whatever channel,
+  -- everything that its selection gave it (units, drum area, core) is still its own
+  pub own : (configuration : Configuration) (es : List Event) (c : Cell) → Leads (freshCell configuration) es c
+      → (place packet : ℕ) → inMotion (packetIn (inside c .jobs) place packet .status) ≡ true
+      → (given : Assignment) × (taking (told es) place ≡ some given) × StillOwn (inside c) place given
+  -- among it the unit that the packet is on
+  pub head : (configuration : Configuration) (es : List Event) (c : Cell) → Leads (freshCell configuration) es c
+      → (place packet : ℕ) → inMotion (packetIn (inside c .jobs) place packet .status) ≡ true
+      → drumOn (inside c .channels) (packetIn (inside c .jobs) place packet .channel .0) ≡ false
+      → unitIn (inside c .units) (packetIn (inside c .jobs) place packet .channel .0) (packetIn (inside c .jobs) place packet .at) .holder ≡ Held place
+  -- and a closing job always has a packet stopping, so that nothing of it is handed on before the last completion
+  pub closing : (configuration : Configuration) (es : List Event) (c : Cell) → Leads (freshCell configuration) es c
+      → (place : ℕ) → isClosing (stateIn (inside c .jobs) place) ≡ true
+      → (packet : ℕ) × (packetIn (inside c .jobs) place packet .status ≡ Stopping)

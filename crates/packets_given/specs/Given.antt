@@ -9,8 +9,9 @@ use lib.Dec.{eqb}
 use Rattle.units.specs.State.{Square, assignable, unitIn}
 use Rattle.units.specs.declared.Unit.{Unit as UnitState}
 use Rattle.channels.specs.declared.Channel.{Channel}
+use Rattle.packets.specs.Apart.{inCore}
 use Rattle.packets.specs.Demand.{Event, NoneHeld, events, fresh, isAccepted}
-use Rattle.packets.specs.Rules.{Call, Complete, End, Mark, Start, Submit, Take, run, step}
+use Rattle.packets.specs.Rules.{Call, Complete, End, Mark, Start, Submit, Take, inArea, run, step}
 use Rattle.packets.specs.State.{State, heldBy, isEmpty, jobIn, stateIn, wanted}
 use Rattle.packets.specs.declared.Answer.{Answer}
 use Rattle.packets.specs.declared.Assignment.{Assignment}
@@ -59,6 +60,16 @@ pub record HoldsExactly (s : State) (j : ℕ) (asg : Assignment) : Type 0 where
   pub words : jobIn (s .jobs) j .words ≡ asg .words
   pub core : jobIn (s .jobs) j .core ≡ asg .core
   pub units : (c u : ℕ) → c < 16 → u < 16 → heldBy (unitIn (s .units) c u .holder) j ≡ wanted asg c u
+
+-- all that the assignment gave is still the job's own: the job is there, it holds exactly that, and no other job holds a
+-- word of its drum area or a block of its core
+pub record StillOwn (s : State) (j : ℕ) (asg : Assignment) : Type 0 where
+  pub there : isEmpty (stateIn (s .jobs) j) ≡ false
+  pub holds : HoldsExactly s j asg
+  pub drum : (i x : ℕ) → isEmpty (stateIn (s .jobs) i) ≡ false
+      → inArea (jobIn (s .jobs) j) x ≡ true → inArea (jobIn (s .jobs) i) x ≡ true → i ≡ j
+  pub core : (i x : ℕ) → isEmpty (stateIn (s .jobs) i) ≡ false
+      → inCore (jobIn (s .jobs) j) x ≡ true → inCore (jobIn (s .jobs) i) x ≡ true → i ≡ j
 
 pub record AsGiven (s : State) (j : ℕ) (last : Option Assignment) : Type 0 where
   -- a job that runs or is closing was taken, and holds what it was given
