@@ -1,5 +1,5 @@
--- A held unit changes hands only through being free, so nothing of another job starts or moves there: what does was submitted there by the
--- job that holds it, since its taking. Assumes nothing.
+-- A held unit changes hands only through being free, so nothing of another job starts or moves there: what does was
+-- submitted there by the job that holds it, since its taking. Assumes nothing.
 use Prim.Native.Nat.{ℕ}
 use mathlib.Core.Path.{_≡_, refl, sym, ap, _∙_}
 use mathlib.Core.Bool.{Bool, true, false, not, cond, _&&_}

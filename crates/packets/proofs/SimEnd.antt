@@ -16,7 +16,7 @@ use Rattle.packets.proofs.Inv.{Inv, running-alive}
 use Rattle.packets.proofs.InvJobs.{held-once, held-taken, take-held}
 use Rattle.packets.proofs.InvStores.{idle-inv, sweep-inv}
 use Rattle.packets.proofs.Laws.{and-left, and-right, clash, eqb-self, not-false, not-true}
-use Rattle.packets.specs.Lone.{Lone, Request, become, breaks, carries, closes, completesAs, ends, endsWith, fails, halts, isHalting, locks, loneDoes, loneTakes, mayComplete, mayEnd, stops}
+use Rattle.packets.specs.Lone.{Lone, Request, become, breaks, carries, closes, completesAs, ends, endsWith, fails, halts, locks, loneDoes, loneTakes, mayComplete, mayEnd, stops}
 use Rattle.packets.specs.Rules.{Complete, End, always, assigned, atUnit, broken, closing, codeFor, cut, ended, failed, finished, isFailure, isWrong, marked, over, returnIfDone}
 use Rattle.packets.proofs.Sim.{Sim, movingThere, sim-store, sim-store-away, sim-sweep, sim-sweep-away}
 use Rattle.packets.proofs.SimRest.{sim-move, sim-move-away, sim-same, sim-same-but, sim-units, sim-units-away}
@@ -36,12 +36,12 @@ use Rattle.packets.specs.declared.Status.the-variants.{Blank, Ended, InP
 
 -- ---- the two tests of a completion say the same
 
-halts-stopping : (x : Status) → isHalting x ≡ isStopping x
-halts-stopping Blank = refl
-halts-stopping Listed = refl
-halts-stopping InProgress = refl
-halts-stopping Stopping = refl
-halts-stopping (Ended k) = refl
+cut-stopping : (x : Status) → isStopping x ≡ true → mayEnd x Cut ≡ true
+cut-stopping Blank e = clash false e refl
+cut-stopping Listed e = clash false e refl
+cut-stopping InProgress e = clash false e refl
+cut-stopping Stopping e = refl
+cut-stopping (Ended k) e = clash false e refl
 
 neither : (a b : Bool) → a || b ≡ false → (a ≡ false) × (b ≡ false)
 neither true b e = clash true refl e
@@ -49,7 +49,7 @@ neither false b e = (refl, e)
 
 may-end : (x : Status) (how : How) → isWrong x how ≡ false → mayEnd x how ≡ true
 may-end x Full e = refl
-may-end x Cut e = halts-stopping x ∙ not-false (isStopping x) e
+may-end x Cut e = cut-stopping x (not-false (isStopping x) e)
 may-end x (Failed k) e =
     let a = neither (eqb k 0o00) _ e in
     let b = neither (eqb k 0o01) _ (a .1) in

@@ -1,9 +1,9 @@
 -- A start and a return: the holding and its lone unit stay alike, and make the same start. Assumes nothing.
 use Prim.Native.Nat.{ℕ, _<_}
 use mathlib.Core.Path.{_≡_, refl, sym, ap, _∙_, subst}
-use mathlib.Core.Bool.{true, false, not, _&&_, _||_}
+use mathlib.Core.Bool.{Bool, true, false, not, _&&_, _||_}
 use mathlib.Core.List.{List, _∷_, map}
-use mathlib.Core.Option.{none, some}
+use mathlib.Core.Option.{Option, none, some}
 use lib.Dec.{eqb}
 use borrow.Author.Tests.{eqb-true, eq-eqb}
 use Rattle.numbers.proofs.Tests.{by-bool}
@@ -11,8 +11,8 @@ use Rattle.units.specs.State.{unitIn}
 use Rattle.packets.specs.Demand.{Holding, Holds, startIn, there}
 use Rattle.packets.proofs.Inv.{EntryOk, Inv}
 use Rattle.packets.proofs.InvStores.{idle-is}
-use Rattle.packets.proofs.Laws.{all-imp, and-both, and-left, and-right, eqb-self, find-holds, find-keep, not-true, or-right}
-use Rattle.packets.specs.Lone.{Lone, become, carries, hasListed, isAtRest, loneDoes, loneTakes, setsOff, startBy, startOf, stores}
+use Rattle.packets.proofs.Laws.{all-imp, and-left, and-right, eqb-self, find-holds, find-keep, not-true, or-right}
+use Rattle.packets.specs.Lone.{Lone, become, carries, loneDoes, loneTakes, setsOff, startBy, startOf, stores}
 use Rattle.packets.specs.Picks.{find, keep}
 use Rattle.packets.specs.Rules.{Start, answer, begun, returnIfDone, startable}
 use Rattle.packets.proofs.Sim.{Sim, lockThere, movingThere, num, on, sim-store, sim-store-away}
@@ -88,14 +88,21 @@ module _ (h : Holding) (s : State) (I : Inv s) (H : Holds s h) (l : Lone) (S : S
     order-is : l .order ≡ packetOf e ∷ map num (first-is .0)
     order-is = S .order ∙ ap (λ (x : List ℕ). map num x) (first-is .1)
 
-    -- the lone unit takes it: its job runs, nothing is in progress or stopping, there is no interlock, and something is listed
+    -- the lone unit takes it: its job runs, nothing is in progress or stopping, no interlock is set, and something is listed
     pub takes-start : loneTakes l (Start c) ≡ true
     unfolding loneTakes
     takes-start =
         let x : isRunning (stateIn (s .jobs) (h .place)) ≡ true = rw (← at-e) (entry-ok .running) in
         let o : l .jobOver ≡ false = S .over ∙ rw x in
         let m : l .moving ≡ none = S .moving ∙ ap (λ (k : ℕ). movingThere h (s .jobs) (motionOn s k)) channel-is ∙ ap (movingThere h (s .jobs)) (idle-is s I c idle) in
-        and-both _ _ (ap not o) (and-both _ _ (ap isAtRest m) (and-both _ _ (ap not (S .lock ∙ no-lock)) (ap hasListed order-is)))
+        ap (λ (b : Bool). takes b (l .moving) (l .interlock) (l .order)) o
+        ∙ ap (λ (x : Option ℕ). takes false x (l .interlock) (l .order)) m
+        ∙ ap (λ (b : Bool). takes false none b (l .order)) (S .lock ∙ no-lock)
+        ∙ ap (takes false none false) order-is
+      where
+        takes : Bool → Option ℕ → Bool → List ℕ → Bool
+        takes over moving interlock order =
+            loneTakes (record { packets = l .packets; order = order; moving = moving; interlock = interlock; jobOver = over }) (Start c)
 
     lone-start : loneDoes (h .drum) l (Start c) ≡ carries (stores l (packetOf e) (become (l .packets (packetOf e)) InProgress)) (some (packetOf e))
     unfolding loneDoes

@@ -34,7 +34,8 @@ pub record Always (s : State) : Type 0 where
   pub live : (j p : ℕ) → isBusy (packetAt s j p .status) ≡ true → isEmpty (stateIn (s .jobs) j) ≡ false
   -- a closing job has a packet stopping, and what of it moves is
   pub closing : (j : ℕ) → isClosing (stateIn (s .jobs) j) ≡ true → (p : ℕ) × (packetAt s j p .status ≡ Stopping)
-  pub stopping : (j p : ℕ) → isClosing (stateIn (s .jobs) j) ≡ true → inMotion (packetAt s j p .status) ≡ true → packetAt s j p .status ≡ Stopping
+  pub stopping : (j p : ℕ) → isClosing (stateIn (s .jobs) j) ≡ true → inMotion (packetAt s j p .status) ≡ true
+      → packetAt s j p .status ≡ Stopping
 
 abbrev pub Invariants : Type 0
 Invariants = (channels : List Channel) (units : List (List UnitState)) → NoneHeld units → (calls : List Call) → Always (run (fresh channels units) calls)

@@ -154,18 +154,22 @@ abbrev pub Stretch : Holding → State → List Call → Type 0
 Stretch h s [] = Unit {0}
 Stretch h s (x ∷ l) = Holds s h × Stretch h (step s x .state) l
 
--- every start on the unit is of a packet of this job that it has submitted there since the taking; t: which those were before the first call
+-- every start on the unit is of a packet that this job has submitted there since the taking; t: which packets those are
+-- before the first call
 abbrev pub OwnStarts : Holding → Seen → List Event → Type 0
 OwnStarts h t [] = Unit {0}
 OwnStarts h t (e ∷ l) =
-    ((b : Begun) → e .call ≡ Start (h .channel) → e .answer ≡ Started b → b .at ≡ h .unit → (b .place ≡ h .place) × (t (b .packet) ≡ true))
+    ((b : Begun) → e .call ≡ Start (h .channel) → e .answer ≡ Started b → b .at ≡ h .unit
+    → (b .place ≡ h .place) × (t (b .packet) ≡ true))
     × OwnStarts h (noted h t (e .call) (e .answer)) l
 
 -- so is what moves on the unit
 abbrev pub OwnMotion : Holding → Seen → State → Type 0
-OwnMotion h t s = (j p : ℕ) → motionOn s (h .channel) ≡ Busy j p → packetIn (s .jobs) j p .at ≡ h .unit → (j ≡ h .place) × (t p ≡ true)
+OwnMotion h t s =
+    (j p : ℕ) → motionOn s (h .channel) ≡ Busy j p → packetIn (s .jobs) j p .at ≡ h .unit → (j ≡ h .place) × (t p ≡ true)
 
--- of a stretch, by its calls and the answers to them, and of the state at its end; every moment of a stretch is the end of a shorter one
+-- of a stretch, by its calls and the answers to them, and of the state at its end; every moment of a stretch is the end of
+-- a shorter one
 pub record Isolated (h : Holding) (l : List Event) (end : State) : Type 0 where
   -- the lone unit takes every call that acted on the holding, each at the moment when it comes
   pub taken : loneTakesAll (h .drum) newLone (acting h noneSeen l) ≡ true
@@ -174,7 +178,7 @@ pub record Isolated (h : Holding) (l : List Event) (end : State) : Type 0 where
   -- it leaves the same status in every packet last submitted there
   pub status : (n : ℕ) → seenAfter h noneSeen l n ≡ true
       → loneRun (h .drum) newLone (acting h noneSeen l) .packets n .status ≡ packetIn (end .jobs) (h .place) n .status
-  -- on a unit that is not the drum nothing of another job starts or is still moving, nor of one that had this place before
+  -- on a unit that is not the drum nothing of another job starts or is still moving, nor of one that had the place before
   pub started : h .drum ≡ false → OwnStarts h noneSeen l
   pub moves : h .drum ≡ false → OwnMotion h (seenAfter h noneSeen l) end
 

@@ -1,6 +1,6 @@
--- A lone unit, or a lone piece of drum, that one job has to itself: what it refuses and what it does, written from document 01 and not
--- from the rules of the cell. It knows nothing of channels, places or other units. A reader has to believe this page. It shares with the
--- rules only the calls, the statuses and the shape of a start.
+-- A lone unit, or a lone piece of drum, that one job has to itself: what it refuses and what it does, written from document
+-- 01 and not from the rules of the cell. It knows nothing of channels, places or other units. A reader has to believe this
+-- page. It shares with the rules only the calls, the statuses and the shape of a start.
 use Prim.Native.Nat.{ℕ}
 use mathlib.Core.Bool.{Bool, true, false, not, cond, _&&_}
 use mathlib.Core.List.{List, [], _∷_, _++_}
@@ -192,8 +192,9 @@ abbrev pub mayComplete : Lone → How → Option ℕ → Bool
 mayComplete l how none = false
 mayComplete l how (some n) = mayEnd (l .packets n .status) how
 
--- the calls that it takes: a submission of a packet that is not listed, in progress or stopping; a start while nothing is in progress or
--- stopping, without interlock, of something listed; a completion of what moves; the job's end, once. After that only completions
+-- the calls that it takes: a submission of a packet that is not listed, in progress or stopping; a start while nothing is
+-- in progress or stopping, without interlock, of something listed; a completion of what moves; the job's end, once; and
+-- after that end nothing but completions
 unfoldable pub loneTakes : Lone → Call → Bool
 loneTakes l (Take j asg) = false
 loneTakes l (Submit j n f c w) = not (l .jobOver) && not (inUse (l .packets n .status))
