@@ -19,7 +19,8 @@ use Rattle.packets.specs.State.{State}
 use Rattle.packets.specs.declared.How.{How}
 use Rattle.packets.specs.declared.Spot.{Spot}
 use Rattle.units.specs.declared.Mark.{Mark as UnitMark}
-use Rattle.packets_given.specs.Given.{AsGiven, Wanting, Wants, taking}
+use Rattle.packets_given.specs.Given.{AsGiven, AtItsArea, Wanting, Wants, taking}
+use Rattle.packets_given.proofs.DrumProof.{on-its-own-words}
 use Rattle.packets_given.proofs.GivenProof.{holds-what-it-was-given}
 use Rattle.cell_selection.specs.Selecting.{Selected, SelectsBy, takingOf}
 use Rattle.cell_selection.specs.declared.Selection.{Selection}
@@ -136,6 +137,7 @@ every-cell configuration es c h =
       always = subst Always (sym is) (invariants channels units free (heard es));
       drum = subst (Apart Rules.inArea) (sym is) (apart .0 (fits-each Rules.inArea (fresh channels units) (heard es) (from-fresh (Fits Rules.inArea) area-takings)));
       core = subst (Apart inCore) (sym is) (apart .1 (fits-each inCore (fresh channels units) (heard es) (from-fresh (Fits inCore) core-takings)));
+      addresses = subst AtItsArea (sym is) (on-its-own-words channels units free (heard es));
       given = λ place. subst (λ (s : State). AsGiven s place (taking (told es) place)) (sym is)
           (subst (λ (l : List Told.Event). AsGiven (Rules.run (fresh channels units) (heard es)) place (taking l place)) (sym answers)
           (holds-what-it-was-given channels units free (fresh-square (configuration .down)) (heard es) (wants-each (fresh channels units) (heard es) (from-fresh Wants unit-takings)) place));

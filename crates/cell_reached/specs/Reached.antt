@@ -7,7 +7,7 @@ use Rattle.channels.specs.declared.Configuration.{Configuration}
 use Rattle.packets.specs.Always.{Always}
 use Rattle.packets.specs.Apart.{Apart, inCore}
 use Rattle.packets.specs.Rules.{inArea}
-use Rattle.packets_given.specs.Given.{AsGiven, taking}
+use Rattle.packets_given.specs.Given.{AsGiven, AtItsArea, taking}
 use Rattle.cell.specs.Calls.{freshCell}
 use Rattle.cell.specs.declared.Cell.{Cell}
 use Rattle.cell_history.specs.Heard.{inside, told}
@@ -19,6 +19,8 @@ pub record Reached (es : List Event) (c : Cell) : Type 0 where
   -- no word of the drum, and no block of core, is two jobs'
   pub drum : Apart inArea (inside c)
   pub core : Apart inCore (inside c)
+  -- a packet that is listed or moves on the drum is at an address of its job's area
+  pub addresses : AtItsArea (inside c)
   -- what was given, by the reply to the last selection into each place
   pub given : (place : ℕ) → AsGiven (inside c) place (taking (told es) place)
 

@@ -24,7 +24,7 @@ use Rattle.packets.proofs.Inv.{motion-busy}
 use Rattle.packets.specs.State.{State, heldBy, inMotion, packetIn}
 use Rattle.packets.specs.declared.Assignment.{Assignment}
 use Rattle.packets.specs.declared.Verdict.the-variants.{Granted}
-use Rattle.packets_given.specs.Given.{StillOwn, taking}
+use Rattle.packets_given.specs.Given.{OnItsOwn, StillOwn, taking}
 use Rattle.cell_selection.specs.Selecting.{takingOf}
 use Rattle.cell_selection.proofs.SelectingLaws.{refused-only, refused-when}
 use Rattle.cell_selection.specs.declared.Selection.{Selection}
@@ -147,12 +147,19 @@ its-holder : (v : Holder) (j : ℕ) → heldBy v j ≡ true → v ≡ Held j
 its-holder Free j e = never e refl
 its-holder (Held k) j e = ap Held (eqb-true k j e)
 
+on-its-own : (configuration : Configuration) (es : List Event) (c : Cell) → Leads (freshCell configuration) es c
+    → (place packet : ℕ) → inMotion (packetIn (inside c .jobs) place packet .status) ≡ true
+    → OnItsOwn (inside c) place (packetIn (inside c .jobs) place packet)
+on-its-own configuration es c l place packet m =
+    let r = every-cell configuration es c l in
+    let b = motion-busy (packetIn (inside c .jobs) place packet .status) m in
+    (λ d. its-holder _ place (r .always .held place packet b d), λ d. r .addresses place packet b d)
+
 pub demand-3 : Demand3
 demand-3 =
     record {
       alike = as-told;
       own = still-own;
-      head = λ configuration es c l place packet m d.
-          its-holder _ place (every-cell configuration es c l .always .held place packet (motion-busy (packetIn (inside c .jobs) place packet .status) m) d);
+      head = on-its-own;
       closing = λ configuration es c l. every-cell configuration es c l .always .closing;
     }

@@ -2,7 +2,7 @@
 -- cell and call as the contracts of the public functions give them, and about any history of calls from a fresh cell. A reader has to believe this page.
 use Prim.Native.Nat.{ℕ}
 use mathlib.Core.Path.{_≡_}
-use mathlib.Core.Bool.{true, false}
+use mathlib.Core.Bool.{true}
 use mathlib.Core.List.{List, [], _∷_}
 use mathlib.Core.Option.{some}
 use lib.ListN.{length, take}
@@ -10,8 +10,6 @@ use Rattle.numbers.specs.declared.Outcome.{Outcome}
 use Rattle.numbers.specs.declared.Outcome.the-variants.{Done, Refused}
 use Rattle.numbers.specs.declared.Refusal.{Refusal}
 use Rattle.numbers.specs.declared.Refusal.the-variants.{NothingSelected}
-use Rattle.units.specs.State.{unitIn}
-use Rattle.units.specs.declared.Holder.the-variants.{Held}
 use Rattle.channels.specs.declared.Configuration.{Configuration}
 use Rattle.configuration.specs.Configured.{configurationOf}
 use Rattle.configuration_form.specs.Means.{Means}
@@ -24,11 +22,11 @@ use Rattle.schedule_list.specs.Held.{held}
 use Rattle.packets.specs.Codes.{statusAfter}
 use Rattle.packets.specs.Demand.{Holding, Holds, Isolated}
 use Rattle.packets.specs.Rules as Rules
-use Rattle.packets.specs.State.{drumOn, inMotion, isClosing, packetIn, stateIn}
+use Rattle.packets.specs.State.{inMotion, isClosing, packetIn, stateIn}
 use Rattle.packets.specs.declared.Assignment.{Assignment}
 use Rattle.packets.specs.declared.Status.the-variants.{Stopping}
 use Rattle.packets.specs.declared.Verdict.the-variants.{Granted}
-use Rattle.packets_given.specs.Given.{StillOwn, taking}
+use Rattle.packets_given.specs.Given.{OnItsOwn, StillOwn, taking}
 use Rattle.cell_selection.specs.Selecting.{Selected, NoneToSelect}
 use Rattle.cell_selection.specs.declared.Selection.{Selection}
 use Rattle.cell.specs.Calls.{Enters, freshCell}
@@ -92,11 +90,10 @@ pub record Demand3 : Type 0 where
   pub own : (configuration : Configuration) (es : List Event) (c : Cell) → Leads (freshCell configuration) es c
       → (place packet : ℕ) → inMotion (packetIn (inside c .jobs) place packet .status) ≡ true
       → (given : Assignment) × (taking (told es) place ≡ some given) × StillOwn (inside c) place given
-  -- among it the unit that the packet is on
+  -- among it the unit, or on the drum the address, that the packet is on
   pub head : (configuration : Configuration) (es : List Event) (c : Cell) → Leads (freshCell configuration) es c
       → (place packet : ℕ) → inMotion (packetIn (inside c .jobs) place packet .status) ≡ true
-      → drumOn (inside c .channels) (packetIn (inside c .jobs) place packet .channel .0) ≡ false
-      → unitIn (inside c .units) (packetIn (inside c .jobs) place packet .channel .0) (packetIn (inside c .jobs) place packet .at) .holder ≡ Held place
+      → OnItsOwn (inside c) place (packetIn (inside c .jobs) place packet)
   -- and a closing job always has a packet stopping, so that nothing of it is handed on before the last completion
   pub closing : (configuration : Configuration) (es : List Event) (c : Cell) → Leads (freshCell configuration) es c
       → (place : ℕ) → isClosing (stateIn (inside c .jobs) place) ≡ true
