@@ -1,75 +1,19 @@
--- What the calls on the request lists do to the state of each place: a submission, a start and a completed packet nothing, a job's end lets it close, a
--- return empties the place. And what the fresh cell's places are. Assumes nothing.
-use Prim.Native.Nat.{ℕ, _≤_, _<_}
-use mathlib.Core.Path.{_≡_, ap, _∙_}
-use mathlib.Core.Bool.{Bool, true, cond, not, _&&_}
-use lib.Dec.{eqb}
+-- There is no job past the last place, and what the fresh cell's places are. Assumes nothing.
+use Prim.Native.Nat.{ℕ, _≤_}
+use mathlib.Core.Path.{_≡_, ap}
 use lib.ListN.{length, List·getD-eq-default}
-use Rattle.numbers.proofs.Tests.{by-bool}
 use Rattle.channels.specs.declared.Configuration.{Configuration}
 use Rattle.configuration_units.specs.Fresh.{freshUnits}
 use Rattle.configuration_units.proofs.FreshLaws.{fresh-free}
 use Rattle.packets.specs.Demand.{fresh}
-use Rattle.packets.proofs.Inv.{Inv, running-alive}
-use Rattle.packets.proofs.Laws.{and-left}
-use Rattle.packets.specs.Rules.{aimed, always, atUnit, begun, closed, closing, codeFor, cut, failed, finished, isDone, isFailure, locked, over, packet, returned, submitted}
-use Rattle.packets.specs.State.{State, drumOn, isClosing, isRunning, noJob, packetIn, packetOf, placeOf, put, restatusAll, stateIn, withStatus}
-use Rattle.packets.proofs.Steps.{closing-not-running, fresh-inv}
-use Rattle.packets.proofs.Store.{alive-in, length-restatus, state-put, state-restatus, state-state}
-use Rattle.packets.specs.declared.How.{How}
+use Rattle.packets.proofs.Inv.{Inv}
+use Rattle.packets.specs.State.{State, noJob, stateIn}
+use Rattle.packets.proofs.Steps.{fresh-inv}
 use Rattle.packets.specs.declared.Job.{Job}
-use Rattle.packets.specs.declared.JobState.{JobState}
 use Rattle.packets.specs.declared.JobState.the-variants.{Empty}
-use Rattle.packets.specs.declared.Packet.{Packet}
-use Rattle.packets.specs.declared.Status.the-variants.{Ended, InProgress, Listed}
 use Rattle.lists.proofs.History.{state-of}
 use Rattle.cell.specs.Calls.{freshCell}
 use Rattle.cell_history.specs.Heard.{inside}
-
--- ---- calls that leave the state of every place
-
--- the packets of one job swept, then one of them stored
-states-swept : (s : State) (j p : ℕ) (t : Packet → Bool) (q : Packet) (i : ℕ) → stateIn (put (restatusAll (s .jobs) j t failed) j p q) i ≡ stateIn (s .jobs) i
-states-swept s j p t q i = state-put (restatusAll (s .jobs) j t failed) j p q i ∙ state-restatus (s .jobs) j t failed i
-
-pub states-submit : (s : State) (j p f c a b i : ℕ) → stateIn (submitted s j p f c a b .jobs) i ≡ stateIn (s .jobs) i
-states-submit s j p f c a b i =
-    let done = packet (Ended 0o00) f c a in
-    let t = aimed (drumOn (s .channels) c) c a b in
-    by-bool (eqb f 0o07)
-    (λ e. rw e (by-bool (locked s c a)
-    (λ d. rw d (states-swept s j p (atUnit c a) done i))
-    (λ d. rw d (state-put (s .jobs) j p done i))))
-    (λ e. rw e (by-bool (eqb f 0o23)
-    (λ d. rw d (state-put (restatusAll (s .jobs) j t cut) j p done i ∙ state-restatus (s .jobs) j t cut i))
-    (λ d. rw d (state-put (s .jobs) j p (packet Listed f c a) i))))
-
-pub states-begun : (s : State) (c e i : ℕ) → stateIn (begun s c e .jobs) i ≡ stateIn (s .jobs) i
-states-begun s c e i = state-put (s .jobs) (placeOf e) (packetOf e) (withStatus (packetIn (s .jobs) (placeOf e) (packetOf e)) InProgress) i
-
-pub states-finished : (s : State) (c : ℕ) (how : How) (j p i : ℕ) → stateIn (finished s c how j p .jobs) i ≡ stateIn (s .jobs) i
-states-finished s c how j p i =
-    let a = packetIn (s .jobs) j p .at in
-    let o : stateIn (over s c j p (codeFor how) .jobs) i ≡ stateIn (s .jobs) i = state-put (s .jobs) j p (withStatus (packetIn (s .jobs) j p) (Ended (codeFor how))) i in
-    by-bool (isFailure how && not (drumOn (s .channels) c))
-    (λ e. rw e (state-restatus (over s c j p (codeFor how) .jobs) j (atUnit c a) failed i ∙ o))
-    (λ e. rw e o)
-
--- ---- calls that change the state of one place
-
--- a running job ends
-pub states-closed : (s : State) (j : ℕ) (e : Bool) → isRunning (stateIn (s .jobs) j) ≡ true
-    → (i : ℕ) → stateIn (closed s j e .jobs) i ≡ cond (eqb i j) (closing e) (stateIn (s .jobs) i)
-states-closed s j e r i =
-    let h : j < length (restatusAll (s .jobs) j always cut) = rw (length-restatus (s .jobs) j always cut) (alive-in (s .jobs) j (running-alive (stateIn (s .jobs) j) r)) in
-    state-state (restatusAll (s .jobs) j always cut) j (closing e) i h
-    ∙ ap (λ (t : JobState). cond (eqb i j) (closing e) t) (state-restatus (s .jobs) j always cut i)
-
--- a job that is done returns
-pub states-returned : (s : State) (j : ℕ) → isDone s j ≡ true → (i : ℕ) → stateIn (returned s j .jobs) i ≡ cond (eqb i j) Empty (stateIn (s .jobs) i)
-states-returned s j d i =
-    state-state (s .jobs) j Empty i
-    (alive-in (s .jobs) j (closing-not-running (stateIn (s .jobs) j) (and-left (isClosing (stateIn (s .jobs) j)) _ d) .1))
 
 -- there is no job past the last place
 pub states-beyond : (s : State) → Inv s → (j : ℕ) → 16 ≤ j → stateIn (s .jobs) j ≡ Empty

@@ -29,7 +29,7 @@ use Rattle.packets.specs.declared.Verdict.{Verdict}
 use Rattle.packets.specs.declared.Verdict.the-variants.{Denied, Granted}
 use Rattle.cell.specs.Calls.{follows, leftBy}
 use Rattle.cell_agreement.specs.Agreement.{standing}
-use Rattle.cell_agreement.proofs.PlaceLaws.{states-begun, states-closed, states-finished, states-returned, states-submit}
+use Rattle.packets.proofs.States.{states-begun, states-closed, states-finished, states-returned, states-submit}
 use Rattle.cell_agreement.proofs.ScheduleLaws.{Put, put-closing, put-returned, seen}
 
 -- ---- what stands in a place, by its state

@@ -1,2 +1,4 @@
 pub mod HeardLaws
+pub mod ToldLaws
+pub mod FromFresh
 pub mod One

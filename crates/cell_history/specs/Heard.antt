@@ -1,31 +1,18 @@
--- What the request lists hear of a history of the cell: each call is at most one call of theirs, and a selection is a
--- taking.
+-- What the request lists hear of a history of the cell: each call is at most one call of theirs, and a selection is a taking.
+-- And what the caller was told: each of these calls with the answer that the history records. A reader has to believe this page.
 use mathlib.Core.Bool.{cond}
 use mathlib.Core.List.{List, [], _∷_, _++_}
+use Rattle.numbers.specs.declared.Outcome.{Outcome}
+use Rattle.numbers.specs.declared.Outcome.the-variants as Outcomes
+use Rattle.packets.specs.Demand as Told
 use Rattle.packets.specs.Rules as Rules
 use Rattle.packets.specs.State.{State}
+use Rattle.packets.specs.declared.Answer.the-variants.{Done}
 use Rattle.lists.specs.Outcomes.{stateOf}
 use Rattle.cell_selection.specs.Selecting.{takingOf}
+use Rattle.cell_selection.specs.declared.Selection.{Selection}
 use Rattle.cell.specs.declared.Cell.{Cell}
-use Rattle.cell_history.specs.History.{
-  Call,
-  Chosen,
-  Complete,
-  Deck,
-  Delete,
-  End,
-  Entered,
-  Event,
-  Mark,
-  Release,
-  Reply,
-  Said,
-  Select,
-  Shown,
-  Start,
-  Status,
-  Submit,
-}
+use Rattle.cell_history.specs.History.{Call, Chosen, Complete, Deck, Delete, End, Entered, Event, Mark, Release, Reply, Said, Select, Shown, Start, Status, Submit}
 
 -- the taking that a selection makes, if it selects
 abbrev pub taken : Reply → List Rules.Call
@@ -51,6 +38,45 @@ heardOf (Status place packet) reply = []
 abbrev pub heard : List Event → List Rules.Call
 heard [] = []
 heard (e ∷ es) = heardOf (e .call) (e .reply) ++ heard es
+
+-- ---- what the caller was told
+
+-- a call of the lists with the answer that was given to it
+abbrev pub said : Rules.Call → Reply → List Told.Event
+said x (Entered o) = []
+said x (Chosen o selection) = []
+said x (Said a) = record { call = x; answer = a } ∷ []
+said x (Shown s) = []
+
+-- a selection that was answered Done is a taking that was done
+abbrev pub doneAs : Outcome → Selection → List Told.Event
+doneAs Outcomes.Done selection = record { call = takingOf selection; answer = Done } ∷ []
+doneAs (Outcomes.Refused n) selection = []
+
+abbrev pub chosen : Reply → List Told.Event
+chosen (Entered o) = []
+chosen (Chosen o selection) = doneAs o selection
+chosen (Said a) = []
+chosen (Shown s) = []
+
+abbrev pub toldOf : Call → Reply → List Told.Event
+toldOf (Deck bytes) reply = []
+toldOf Select reply = chosen reply
+toldOf (Submit place packet function channel spot) reply = said (Rules.Submit place packet function channel spot) reply
+toldOf (Start channel) reply = said (Rules.Start channel) reply
+toldOf (Complete channel how) reply = said (Rules.Complete channel how) reply
+toldOf (End place inError) reply = said (Rules.End place inError) reply
+toldOf (Mark channel unit mark on) reply = said (Rules.Mark channel unit mark on) reply
+toldOf (Release id) reply = []
+toldOf (Delete id) reply = []
+toldOf (Status place packet) reply = []
+
+-- the calls on packets, jobs and marks, and the selections, of a history, with the replies that it records
+abbrev pub told : List Event → List Told.Event
+told [] = []
+told (e ∷ es) = toldOf (e .call) (e .reply) ++ told es
+
+-- ---- the cell
 
 -- the state of the lists of a cell
 abbrev pub inside : Cell → State

@@ -1,7 +1,7 @@
 -- EVERY CELL THAT A HISTORY LEADS TO has what the page Reached says. Each selection is a taking that fits, so what the request lists' own theorems say
 -- under that condition holds of every history of the cell. Assumes nothing.
 use Prim.Native.Nat.{ℕ}
-use mathlib.Core.Path.{sym, subst}
+use mathlib.Core.Path.{_≡_, sym, ap, subst, _∙_}
 use mathlib.Core.Bool.{Bool, cond}
 use mathlib.Core.List.{List, [], _∷_, _++_}
 use Rattle.numbers.proofs.Tests.{by-bool}
@@ -12,22 +12,25 @@ use Rattle.packets.specs.Always.{Always}
 use Rattle.packets.proofs.AlwaysProof.{invariants}
 use Rattle.packets.specs.Apart.{Apart, Fits, Fitting, Part, inCore}
 use Rattle.packets.proofs.ApartProof.{disjoint}
+use Rattle.packets.specs.Demand as Told
 use Rattle.packets.specs.Demand.{events, fresh}
 use Rattle.packets.specs.Rules as Rules
 use Rattle.packets.specs.State.{State}
 use Rattle.packets.specs.declared.How.{How}
 use Rattle.packets.specs.declared.Spot.{Spot}
 use Rattle.units.specs.declared.Mark.{Mark as UnitMark}
-use Rattle.packets_given.specs.Given.{AsGiven, Wanting, Wants, taking}
+use Rattle.packets_given.specs.Given.{AsGiven, AtItsArea, Wanting, Wants, taking}
+use Rattle.packets_given.proofs.DrumProof.{on-its-own-words}
 use Rattle.packets_given.proofs.GivenProof.{holds-what-it-was-given}
 use Rattle.cell_selection.specs.Selecting.{Selected, SelectsBy, takingOf}
 use Rattle.cell_selection.specs.declared.Selection.{Selection}
 use Rattle.cell.specs.Calls.{freshCell}
 use Rattle.cell.specs.declared.Cell.{Cell}
+use Rattle.cell_history.proofs.FromFresh.{fresh-inside, reached}
 use Rattle.cell_history.proofs.HeardLaws.{does-heard}
-use Rattle.cell_history.specs.Heard.{heard, heardOf, inside}
+use Rattle.cell_history.proofs.ToldLaws.{leads-told}
+use Rattle.cell_history.specs.Heard.{heard, heardOf, inside, told}
 use Rattle.cell_history.specs.History.{Call, Complete, Deck, Delete, Does, End, Event, Leads, Mark, Release, Reply, Select, Start, Status, Submit}
-use Rattle.demands.proofs.Proved.{fresh-inside, reached}
 use Rattle.cell_reached.proofs.Fitting.{area-fits, core-fits, units-fit}
 use Rattle.cell_reached.specs.Reached.{Invariants}
 
@@ -134,9 +137,15 @@ every-cell configuration es c h =
       always = subst Always (sym is) (invariants channels units free (heard es));
       drum = subst (Apart Rules.inArea) (sym is) (apart .0 (fits-each Rules.inArea (fresh channels units) (heard es) (from-fresh (Fits Rules.inArea) area-takings)));
       core = subst (Apart inCore) (sym is) (apart .1 (fits-each inCore (fresh channels units) (heard es) (from-fresh (Fits inCore) core-takings)));
-      given = λ place. subst (λ (s : State). AsGiven s place (taking (events (fresh channels units) (heard es)) place)) (sym is)
-          (holds-what-it-was-given channels units free (fresh-square (configuration .down)) (heard es) (wants-each (fresh channels units) (heard es) (from-fresh Wants unit-takings)) place);
+      addresses = subst AtItsArea (sym is) (on-its-own-words channels units free (heard es));
+      given = λ place. subst (λ (s : State). AsGiven s place (taking (told es) place)) (sym is)
+          (subst (λ (l : List Told.Event). AsGiven (Rules.run (fresh channels units) (heard es)) place (taking l place)) (sym answers)
+          (holds-what-it-was-given channels units free (fresh-square (configuration .down)) (heard es) (wants-each (fresh channels units) (heard es) (from-fresh Wants unit-takings)) place));
     }
   where
+    -- what the caller was told, from the fresh cell on
+    answers : told es ≡ events (fresh (configuration .channels) (freshUnits (configuration .down))) (heard es)
+    answers = leads-told (freshCell configuration) c es h ∙ ap (λ (s : State). events s (heard es)) (fresh-inside configuration)
+
     from-fresh : (P : State → Rules.Call → Type 0) → OfTakings P → Each P (fresh (configuration .channels) (freshUnits (configuration .down))) (heard es)
     from-fresh P T = subst (λ (s : State). Each P s (heard es)) (fresh-inside configuration) (leads-each P T (freshCell configuration) c es h)

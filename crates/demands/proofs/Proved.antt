@@ -1,20 +1,19 @@
--- THE THREE DEMANDS ARE MET. What the request lists' own theorems say of any history of the rules is carried to any history of the cell by what the lists
--- hear of it. Assumes nothing.
+-- THE THREE DEMANDS ARE MET. What the request lists' own theorems say of any history of the rules is carried to any
+-- history of the cell by what the lists hear of it. Assumes nothing.
 use Prim.Native.Nat.{ℕ, zero, suc, _≤_}
 use mathlib.Core.Path.{_≡_, refl, sym, ap, subst, _∙_}
-use mathlib.Core.Bool.{Bool, true, false, cond, _&&_}
-use mathlib.Core.List.{List, [], _∷_}
-use mathlib.Core.Option.{none}
+use mathlib.Core.Bool.{Bool, true, cond, _&&_}
+use mathlib.Core.List.{List, [], _∷_, _++_}
+use mathlib.Core.Option.{none, some}
 use native.Mathlib.Omega.{arith}
 use lib.Dec.{ltb}
 use lib.ListN.{length, take}
-use borrow.Author.Tests.{ltb-true, ltb-false}
-use Rattle.numbers.proofs.Tests.{by-bool}
+use borrow.Author.Tests.{eqb-true}
+use Rattle.numbers.proofs.Tests.{by-bool, never}
 use Rattle.numbers.specs.declared.ChannelNumber.{ChannelNumber}
-use Rattle.numbers.specs.declared.Outcome.{Outcome}
 use Rattle.numbers.specs.declared.Outcome.the-variants.{Done, Refused}
 use Rattle.numbers.specs.declared.Refusal.{Refusal}
-use Rattle.numbers.specs.declared.Refusal.the-variants.{NothingSelected, OutOfRange}
+use Rattle.numbers.specs.declared.Refusal.the-variants.{OutOfRange}
 use Rattle.units.specs.State.{assignable, unitIn}
 use Rattle.units.specs.declared.Unit.{Unit as UnitState}
 use Rattle.channels.specs.Channels.{hasUnit}
@@ -29,7 +28,6 @@ use Rattle.configuration_form.proofs.Unique.{first-named, read-back}
 use Rattle.configuration_listing.specs.Listing.{Listed, answerText, assignableUnits, counted, linesFrom}
 use Rattle.cards.specs.declared.Request.{Request}
 use Rattle.cards_writing.specs.Writing.{fits, takes, writeAnswer, written}
-use Rattle.cards_writing.specs.declared.Wrote.the-variants as Wrote′
 use Rattle.cards_round.proofs.Fits.{always-written}
 use Rattle.cards_round.proofs.Order.{same-request}
 use Rattle.assign_heads.specs.Sums.{howMany, sumTo}
@@ -37,40 +35,38 @@ use Rattle.cards_writing.proofs.Round.{room-read}
 use Rattle.schedule_list.specs.InSchedule.{inSchedule}
 use Rattle.packets.specs.Codes.{statusAfter}
 use Rattle.packets.proofs.CodesProof.{codes}
-use Rattle.packets.specs.Demand.{Holds, Isolated, Stretch, fresh}
+use Rattle.packets.specs.Demand.{Holds, Isolated, Stretch, fresh, Holding, events}
 use Rattle.packets.proofs.DemandProof.{demand3}
-use Rattle.packets.specs.Rules as Rules
-use Rattle.packets.specs.State.{State, packetIn}
+use Rattle.packets.specs.State.{State, packetIn, heldBy, inMotion}
 use Rattle.packets.specs.declared.Status.{Status}
 use Rattle.packets.specs.declared.Verdict.{Verdict}
 use Rattle.packets.specs.declared.Verdict.the-variants.{Denied, Granted}
-use Rattle.lists.proofs.History.{state-of}
-use Rattle.cell_selection.specs.Selecting.{Selected, Selects, SelectsBy, takingOf}
+use Rattle.cell_selection.specs.Selecting.{Selects, SelectsBy, takingOf}
 use Rattle.cell_selection.proofs.SelectingLaws.{refused-only, refused-when, taking-granted}
 use Rattle.cell_selection.specs.declared.Selection.{Selection}
 use Rattle.cell.specs.Calls.{acted, freshCell, outcomeOf}
 use Rattle.cell.specs.declared.Cell.{Cell}
 use Rattle.cell.specs.declared.StatusAnswer.the-variants.{Is}
-use Rattle.cell.specs.declared.StatusAnswer.the-variants as Statuses
 use Rattle.cell_history.proofs.HeardLaws.{does-heard, leads-heard}
-use Rattle.cell_history.specs.Heard.{heard, heardOf, inside, taken}
-use Rattle.cell_history.specs.History.{Call, Chosen, Does, Event, Leads, Reply, Said, Select, Shown}
-use Rattle.demands.specs.Demands.{Demand1, Demand2, Demand3}
+use Rattle.cell_history.specs.Heard.{heard, heardOf, inside, taken, told}
+use Rattle.cell_history.specs.History.{Call, Chosen, Does, Event, Leads, Reply, Said, Select, Shown, Complete, Deck, Delete, End, Mark, Release, Start, Status, Submit}
+use Rattle.demands.specs.Demands.{Demand1, Demand2, Demand3, WhileHeld}
 use Rattle.demands.proofs.InOrder.{first-in-order}
 use Rattle.demands.specs.Refusing.{refusalIn}
 use Rattle.demands.proofs.Numbers.{answers-by, numbers, ofVerdict}
 use Rattle.demands.proofs.Standing.{deck-lent, stands}
-
--- ---- the fresh cell
-
--- the lists of a fresh cell, and of any cell that a history leads to
-pub fresh-inside : (configuration : Configuration) → inside (freshCell configuration) ≡ fresh (configuration .channels) (freshUnits (configuration .down))
-unfolding freshCell
-fresh-inside configuration = state-of (fresh (configuration .channels) (freshUnits (configuration .down)))
-
-pub reached : (configuration : Configuration) (es : List Event) (c : Cell) → Leads (freshCell configuration) es c
-    → inside c ≡ Rules.run (fresh (configuration .channels) (freshUnits (configuration .down))) (heard es)
-reached configuration es c h = leads-heard (freshCell configuration) c es h ∙ ap (λ (s : State). Rules.run s (heard es)) (fresh-inside configuration)
+use Rattle.units.specs.declared.Holder.{Holder}
+use Rattle.units.specs.declared.Holder.the-variants.{Free, Held}
+use Rattle.packets.proofs.Inv.{motion-busy}
+use Rattle.packets.specs.declared.Assignment.{Assignment}
+use Rattle.packets_given.specs.Given.{OnItsOwn, StillOwn, taking}
+use Rattle.cell_history.proofs.FromFresh.{chosen-is, reached, refused-found, selected-of, taking-of}
+use Rattle.cell_history.proofs.ToldLaws.{leads-told}
+use Rattle.cell_reached.proofs.ReachedProof.{every-cell}
+use Rattle.cards_writing.specs.declared.Wrote.the-variants as Wrote′
+use Rattle.packets.specs.Rules as Rules
+use Rattle.cell.specs.declared.StatusAnswer.the-variants as Statuses
+use Rattle.packets.specs.Demand as Told
 
 -- ---- demand 1
 
@@ -96,49 +92,6 @@ demand-1 =
       read = read-back;
       named = first-named;
     }
-
--- ---- selection's answer
-
-chosen-is : {o p : Outcome} {s t : Selection} → Chosen o s ≡ Chosen p t → (o ≡ p) × (s ≡ t)
-chosen-is {o} {p} {s} {t} e = (ap outcome e, ap selection e)
-  where
-    outcome : Reply → Outcome
-    outcome (Chosen a b) = a
-    outcome (Reply.Entered a) = o
-    outcome (Reply.Said a) = o
-    outcome (Reply.Shown a) = o
-
-    selection : Reply → Selection
-    selection (Chosen a b) = b
-    selection (Reply.Entered a) = s
-    selection (Reply.Said a) = s
-    selection (Reply.Shown a) = s
-
-not-done : {n : Refusal} → Refused n ≡ Done → ⊥
-not-done {n} e = subst (λ (o : Outcome). is o) e tt
-  where
-    is : Outcome → Type 0
-    is Done = ⊥
-    is (Refused m) = Unit {0}
-
-done-found : (b : Bool) → outcomeOf b ≡ Done → b ≡ true
-done-found true e = refl
-done-found false e = absurd (not-done e)
-
-found-of : (c d : Cell) (s : Selection) → Does c Select (Chosen Done s) d → s .found ≡ true
-found-of c d s h =
-    let e = chosen-is (h .1 .1 .0) in
-    ap (λ (x : Selection). x .found) (e .1) ∙ done-found (h .0 .selection .found) (sym (h .1 .0 .outcome) ∙ sym (e .0))
-
-selected-of : (c d : Cell) (s : Selection) → Does c Select (Chosen Done s) d → Selected (inSchedule (c .schedule)) (c .lists) s
-selected-of c d s h =
-    let e = chosen-is (h .1 .1 .0) in
-    let w : SelectsBy (s .found) (inSchedule (c .schedule)) (c .lists) s = subst (λ (x : Selection). SelectsBy (x .found) (inSchedule (c .schedule)) (c .lists) x) (sym (e .1)) (h .1 .0 .takes .selects) in
-    subst (λ (b : Bool). SelectsBy b (inSchedule (c .schedule)) (c .lists) s) (found-of c d s h) w
-
-refused-found : (b : Bool) → outcomeOf b ≡ Refused NothingSelected → b ≡ false
-refused-found true e = absurd (not-done (sym e))
-refused-found false e = refl
 
 -- ---- demand 2
 
@@ -263,25 +216,95 @@ demand-2 =
 
 -- ---- demand 3
 
--- a selection is a taking that the lists accept
-pub taking-of : (c d : Cell) (s : Selection) → Does c Select (Chosen Done s) d
-    → (Rules.refusal (inside c) (takingOf s) ≡ Granted) × (inside d ≡ Rules.step (inside c) (takingOf s) .state)
+-- a stretch of the cell is a history, and for the lists a stretch of the rules
+held-leads : (h : Holding) (c d : Cell) (es : List Event) → WhileHeld h c es d → Leads c es d
+held-leads h c d [] w = w
+held-leads h c d (e ∷ es) w = (w .1 .0, (w .1 .1 .0, held-leads h (w .1 .0) d es (w .1 .1 .1)))
+
+stretch-append : (h : Holding) (s : State) (l m : List Rules.Call) → Stretch h s l → Stretch h (Rules.run s l) m → Stretch h s (l ++ m)
 unfolding Rules.run
-taking-of c d s h = (
-  taking-granted (c .schedule) (c .lists) s (selected-of c d s h),
-  does-heard c d Select (Chosen Done s) h ∙ rw (found-of c d s h) refl,
-)
+stretch-append h s [] m a b = b
+stretch-append h s (x ∷ l) m a b = (a .0, stretch-append h (Rules.step s x .state) l m (a .1) b)
+
+taken-stretch : (h : Holding) (s : State) (reply : Reply) → Holds s h → Stretch h s (taken reply)
+taken-stretch h s (Reply.Entered o) H = tt
+taken-stretch h s (Chosen o selection) H = by-bool (selection .found) (λ t. rw t (H, tt)) (λ t. rw t tt)
+taken-stretch h s (Reply.Said a) H = tt
+taken-stretch h s (Reply.Shown x) H = tt
+
+heard-stretch : (h : Holding) (s : State) (x : Call) (reply : Reply) → Holds s h → Stretch h s (heardOf x reply)
+heard-stretch h s (Deck bytes) reply H = tt
+heard-stretch h s Select reply H = taken-stretch h s reply H
+heard-stretch h s (Submit place packet function channel spot) reply H = (H, tt)
+heard-stretch h s (Start channel) reply H = (H, tt)
+heard-stretch h s (Complete channel how) reply H = (H, tt)
+heard-stretch h s (End place inError) reply H = (H, tt)
+heard-stretch h s (Mark channel unit mark on) reply H = (H, tt)
+heard-stretch h s (Release id) reply H = tt
+heard-stretch h s (Delete id) reply H = tt
+heard-stretch h s (Status place packet) reply H = tt
+
+held-stretch : (h : Holding) (c d : Cell) (es : List Event) → WhileHeld h c es d → Stretch h (inside c) (heard es)
+held-stretch h c d [] w = tt
+held-stretch h c d (e ∷ es) w =
+    stretch-append h (inside c) (heardOf (e .call) (e .reply)) (heard es)
+    (heard-stretch h (inside c) (e .call) (e .reply) (w .0))
+    (subst (λ (s : State). Stretch h s (heard es)) (does-heard c (w .1 .0) (e .call) (e .reply) (w .1 .1 .0)) (held-stretch h (w .1 .0) d es (w .1 .1 .1)))
+
+-- the calls that the lists heard, from the cell after the selection, and what the rules answer to them
+module _ (configuration : Configuration) (before : List Event) (c : Cell) (l : Leads (freshCell configuration) before c)
+    (d : Cell) (job : Selection) (k : Does c Select (Chosen Done job) d) (h : Holding) (at : h .place ≡ job .place) (H : Holds (inside d) h) where
+  by-the-rules : (calls : List Rules.Call) → Stretch h (inside d) calls → Isolated h (events (inside d) calls) (Rules.run (inside d) calls)
+  by-the-rules calls stretch =
+      let t = taking-of c d job k in
+      subst (λ (s : State). Isolated h (events s calls) (Rules.run s calls)) (sym (t .1))
+      (subst (λ (s : State). Rules.refusal s (takingOf job) ≡ Granted → Holds (Rules.step s (takingOf job) .state) h
+      → Stretch h (Rules.step s (takingOf job) .state) calls
+      → Isolated h (events (Rules.step s (takingOf job) .state) calls) (Rules.run (Rules.step s (takingOf job) .state) calls))
+      (sym (reached configuration before c l))
+      (λ g o u. demand3 (configuration .channels) (freshUnits (configuration .down)) (fresh-free (configuration .down)) (heard before) (job .place) _ g h at o calls u)
+      (t .0)
+      (subst (λ (s : State). Holds s h) (t .1) H)
+      (subst (λ (s : State). Stretch h s calls) (t .1) stretch))
+
+  -- what the caller was told is what the rules answer, and the lists at the end are what the rules lead to
+  as-told : (during : List Event) (e : Cell) → WhileHeld h d during e → Isolated h (told during) (inside e)
+  as-told during e w =
+      let m = held-leads h d e during w in
+      subst (λ (x : List Told.Event). Isolated h x (inside e)) (sym (leads-told d e during m))
+      (subst (λ (s : State). Isolated h (events (inside d) (heard during)) s) (sym (leads-heard d e during m))
+      (by-the-rules (heard during) (held-stretch h d e during w)))
+
+still-own : (configuration : Configuration) (es : List Event) (c : Cell) → Leads (freshCell configuration) es c
+    → (place packet : ℕ) → inMotion (packetIn (inside c .jobs) place packet .status) ≡ true
+    → (given : Assignment) × (taking (told es) place ≡ some given) × StillOwn (inside c) place given
+still-own configuration es c l place packet m =
+    let r = every-cell configuration es c l in
+    let alive = r .always .live place packet (motion-busy (packetIn (inside c .jobs) place packet .status) m) in
+    let g = r .given place .live alive in (
+      g .0,
+      g .1,
+      record { there = alive; holds = g .2; drum = λ i x a p q. r .drum i place x a alive q p; core = λ i x a p q. r .core i place x a alive q p },
+    )
+
+-- who holds a unit
+its-holder : (v : Holder) (j : ℕ) → heldBy v j ≡ true → v ≡ Held j
+its-holder Free j e = never e refl
+its-holder (Held k) j e = ap Held (eqb-true k j e)
+
+on-its-own : (configuration : Configuration) (es : List Event) (c : Cell) → Leads (freshCell configuration) es c
+    → (place packet : ℕ) → inMotion (packetIn (inside c .jobs) place packet .status) ≡ true
+    → OnItsOwn (inside c) place (packetIn (inside c .jobs) place packet)
+on-its-own configuration es c l place packet m =
+    let r = every-cell configuration es c l in
+    let b = motion-busy (packetIn (inside c .jobs) place packet .status) m in
+    (λ d. its-holder _ place (r .always .held place packet b d), λ d. r .addresses place packet b d)
 
 pub demand-3 : Demand3
-demand-3 configuration before c h d job k holding e held during end l stretch =
-    let t = taking-of c d job k in (
-      subst (λ (s : State). Isolated holding s (heard during)) (sym (t .1))
-          (subst (λ (s : State). Rules.refusal s (takingOf job) ≡ Granted → Holds (Rules.step s (takingOf job) .state) holding
-          → Stretch holding (Rules.step s (takingOf job) .state) (heard during) → Isolated holding (Rules.step s (takingOf job) .state) (heard during))
-          (sym (reached configuration before c h))
-          (λ g o u. demand3 (configuration .channels) (freshUnits (configuration .down)) (fresh-free (configuration .down)) (heard before) (job .place) _ g holding e o (heard during) u)
-          (t .0)
-          (subst (λ (s : State). Holds s holding) (t .1) held)
-          (subst (λ (s : State). Stretch holding s (heard during)) (t .1) stretch)),
-      leads-heard d end during l,
-    )
+demand-3 =
+    record {
+      alike = as-told;
+      own = still-own;
+      head = on-its-own;
+      closing = λ configuration es c l. every-cell configuration es c l .always .closing;
+    }

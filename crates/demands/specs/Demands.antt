@@ -26,15 +26,13 @@ use Rattle.cards_group.specs.Group.{readGroup}
 use Rattle.cards.specs.declared.Request.{Request}
 use Rattle.cards.specs.declared.Verdict.the-variants.{Good}
 use Rattle.cards_writing.specs.Writing.{fits, takes, textOf, writeAnswer, written}
-use Rattle.cards_writing.specs.declared.Wrote.the-variants as Wrote′
 use Rattle.cards_round.specs.Permuted.{Permuted}
 use Rattle.schedule_entries.specs.Entries.{keyOf, precedes}
 use Rattle.schedule_list.specs.InSchedule.{entryAt, inSchedule}
 use Rattle.assign_heads.specs.Sums.{howMany}
 use Rattle.packets.specs.Codes.{statusAfter}
-use Rattle.packets.specs.Demand.{Holding, Holds, Isolated, Stretch}
-use Rattle.packets.specs.Rules as Rules
-use Rattle.packets.specs.State.{packetIn}
+use Rattle.packets.specs.Demand.{Holding, Holds, Isolated}
+use Rattle.packets.specs.State.{packetIn, inMotion, isClosing, stateIn}
 use Rattle.packets.specs.declared.Status.{Status}
 use Rattle.cell_selection.specs.Selecting.{Candidate, HasNone, Selected, NoneToSelect, seenIn}
 use Rattle.cell_selection.specs.declared.Selection.{Selection}
@@ -42,10 +40,15 @@ use Rattle.cell.specs.Calls.{Enters, freshCell}
 use Rattle.cell.specs.declared.Cell.{Cell}
 use Rattle.cell.specs.declared.DeckAnswer.{DeckAnswer}
 use Rattle.cell.specs.declared.StatusAnswer.the-variants.{Is}
-use Rattle.cell_history.specs.Heard.{heard, heardOf, inside}
+use Rattle.cell_history.specs.Heard.{heardOf, inside, told}
 use Rattle.cell_history.specs.History.{Call, Chosen, Does, Event, Leads, Reply, Select, Shown}
 use Rattle.demands.specs.Refusing.{refusalIn}
 use Rattle.demands.specs.Table.{RefusedBy, isSelect}
+use Rattle.packets.specs.declared.Assignment.{Assignment}
+use Rattle.packets.specs.declared.Status.the-variants.{Stopping}
+use Rattle.packets_given.specs.Given.{OnItsOwn, StillOwn, taking}
+use Rattle.cards_writing.specs.declared.Wrote.the-variants as Wrote′
+use Rattle.packets.specs.Rules as Rules
 
 -- "1. Every card, deck, configuration and call is answered, whatever is in it. Bad input gets document 01's number, and after a
 -- refused call everything stands, byte for byte, as before." That each is answered is what the check says of the public functions: none
@@ -108,18 +111,38 @@ pub record Demand2 : Type 0 where
       → assignableUnits configuration (freshUnits (configuration .down)) channel 16
       ≡ howMany 16 (λ u. hasUnit configuration channel (record { 0 = u }) && assignable (unitIn (inside (freshCell configuration) .units) (channel .0) u))
 
+-- calls one after the other, as `Leads` has them, before each of which the job has the holding; the last may return it
+abbrev pub WhileHeld : Holding → Cell → List Event → Cell → Type 0
+WhileHeld h c [] d = d ≡ c
+WhileHeld h c (e ∷ es) d = Holds (inside c) h × ((m : Cell) × (Does c (e .call) (e .reply) m × WhileHeld h m es d))
+
 -- "3. Take any sequence of calls from a fresh cell and one job's holding of one unit or piece of drum: the accepted calls that acted on it, given to a
 -- lone unit written separately, make the same starts in the same order and leave the same packet statuses; on a unit nothing of another job starts or
 -- moves meanwhile."
-abbrev pub Demand3 : Type 0
-Demand3 =
-    -- any sequence of calls from a fresh cell
-    (configuration : Configuration) (before : List Event) (c : Cell) → Leads (freshCell configuration) before c
-    -- then a job is selected
-    → (d : Cell) (job : Selection) → Does c Select (Chosen Done job) d
-    -- one holding of it: a unit, or its piece of the drum
-    → (h : Holding) → h .place ≡ job .place → Holds (inside d) h
-    -- and any calls while it has it, up to its return or any earlier moment
-    → (during : List Event) (e : Cell) → Leads d during e → Stretch h (inside d) (heard during)
-    -- `Isolated`: same starts, same statuses, nothing of another job; of the lists' calls in that stretch, which lead to the lists' state at its end
-    → Isolated h (inside d) (heard during) × (inside e ≡ Rules.run (inside d) (heard during))
+pub record Demand3 : Type 0 where
+  pub alike :
+      -- any sequence of calls from a fresh cell
+      (configuration : Configuration) (before : List Event) (c : Cell) → Leads (freshCell configuration) before c
+      -- then a job is selected
+      → (d : Cell) (job : Selection) → Does c Select (Chosen Done job) d
+      -- one holding of it: a unit, or its piece of the drum
+      → (h : Holding) → h .place ≡ job .place → Holds (inside d) h
+      -- and any calls while it has it, up to its return or any earlier moment
+      → (during : List Event) (e : Cell) → WhileHeld h d during e
+      -- by what the caller was told: the lone unit takes every call that acted, makes the same starts in the same order and
+      -- leaves the same statuses; what starts or moves on a unit this job has submitted there since its selection, so that it
+      -- is of no other job, nor of one that had the same place before
+      → Isolated h (told during) (inside e)
+  -- "the head is handed on at once" cannot happen: while a packet of a job is in progress or stopping, on whatever channel,
+  -- everything that its selection gave it (units, drum area, core) is still its own
+  pub own : (configuration : Configuration) (es : List Event) (c : Cell) → Leads (freshCell configuration) es c
+      → (place packet : ℕ) → inMotion (packetIn (inside c .jobs) place packet .status) ≡ true
+      → (given : Assignment) × (taking (told es) place ≡ some given) × StillOwn (inside c) place given
+  -- among it the unit, or on the drum the address, that the packet is on
+  pub head : (configuration : Configuration) (es : List Event) (c : Cell) → Leads (freshCell configuration) es c
+      → (place packet : ℕ) → inMotion (packetIn (inside c .jobs) place packet .status) ≡ true
+      → OnItsOwn (inside c) place (packetIn (inside c .jobs) place packet)
+  -- and a closing job always has a packet stopping, so that nothing of it is handed on before the last completion
+  pub closing : (configuration : Configuration) (es : List Event) (c : Cell) → Leads (freshCell configuration) es c
+      → (place : ℕ) → isClosing (stateIn (inside c .jobs) place) ≡ true
+      → (packet : ℕ) × (packetIn (inside c .jobs) place packet .status ≡ Stopping)

@@ -1,8 +1,9 @@
--- A held unit changes hands only through being free, so nothing of another job starts or moves there. Assumes nothing.
+-- A held unit changes hands only through being free, so nothing of another job starts or moves there: what does was
+-- submitted there by the job that holds it, since its taking. Assumes nothing.
 use Prim.Native.Nat.{ℕ}
 use mathlib.Core.Path.{_≡_, refl, sym, ap, _∙_}
 use mathlib.Core.Bool.{Bool, true, false, not, cond, _&&_}
-use mathlib.Core.List.{List, [], _∷_}
+use mathlib.Core.List.{List}
 use mathlib.Core.Option.{Option, none, some}
 use native.Mathlib.Omega.{arith}
 use lib.Dec.{eqb}
@@ -11,15 +12,16 @@ use Rattle.numbers.proofs.Tests.{by-bool, never}
 use Rattle.units.specs.State.{unitIn, markedUnit}
 use Rattle.units.specs.declared.Holder.{Holder}
 use Rattle.units.specs.declared.Holder.the-variants.{Free}
-use Rattle.packets.specs.Demand.{Holding, Holds, OwnStart, Quiet, Stretch, Undisturbed}
-use Rattle.packets.proofs.Inv.{EntryOk, Inv}
+use Rattle.packets.specs.Demand.{Holding, Holds, OwnMotion, Seen}
+use Rattle.packets.proofs.Inv.{EntryOk, Inv, listed-busy, motion-busy}
 use Rattle.packets.proofs.InvJobs.{held-once, take-held}
 use Rattle.packets.proofs.InvStores.{mark-holder}
 use Rattle.packets.proofs.Laws.{find-holds}
 use Rattle.packets.specs.Picks.{find}
 use Rattle.packets.specs.Rules.{Call, Complete, End, Mark, Start, Submit, Take, accept, always, answer, atOf, begins, begun, closing, completed, cut, decided, finished, isFailure, locked, marked, packet, refusal, returnIfDone, startable, started, step, submitted, toOf}
-use Rattle.packets.proofs.SimSubmit.{unit-held}
-use Rattle.packets.specs.State.{State, anyMoves, close, drumOn, heldBy, isClosing, motionOn, packetIn, packetOf, placeOf, setLock, stateIn, sweep, withLock}
+use Rattle.packets.proofs.SeenLaws.{SeenOk}
+use Rattle.packets.proofs.SimSubmit.{is-there, unit-held}
+use Rattle.packets.specs.State.{State, anyMoves, close, drumOn, heldBy, isBusy, isClosing, motionOn, packetIn, packetOf, placeOf, setLock, stateIn, sweep, withLock}
 use Rattle.packets.proofs.Steps.{startable-on, step-inv}
 use Rattle.packets.proofs.Store.{unit-keep, unit-release}
 use Rattle.packets.proofs.Told.{assigns-to}
@@ -135,23 +137,39 @@ mover h s I nd j p e u =
     let o : drumOn (s .channels) (h .channel) ≡ false → heldBy (unitIn (s .units) (h .channel) (h .unit) .holder) j ≡ true = rw (k .channel, u) at (k .owned) in
     o nd
 
-pub own-start : (h : Holding) (s : State) → Inv s → Holds s h → h .drum ≡ false → (x : Call) → OwnStart h s x
+-- the job's packet that is busy on the unit was seen to be submitted there
+seen-busy : (h : Holding) (s : State) (t : Seen) → SeenOk h s t → (p : ℕ) → isBusy (packetIn (s .jobs) (h .place) p .status) ≡ true
+    → packetIn (s .jobs) (h .place) p .channel .0 ≡ h .channel → packetIn (s .jobs) (h .place) p .at ≡ h .unit → t p ≡ true
+seen-busy h s t k p b c u = k p .1 b ∙ is-there h _ _ c u
+
+-- a start on the unit is of the job that holds it, and of a packet seen to be submitted there
+pub own-start : (h : Holding) (s : State) → Inv s → Holds s h → h .drum ≡ false → (t : Seen) → SeenOk h s t → (x : Call) (b : Begun)
+    → x ≡ Start (h .channel) → step s x .answer ≡ Started b → b .at ≡ h .unit → (b .place ≡ h .place) × (t (b .packet) ≡ true)
 unfolding step answer
-own-start h s I H d x b e a u = go (refusal s (Start (h .channel))) (rw e at a)
+own-start h s I H d t seen x b e a u = go (refusal s (Start (h .channel))) (rw e at a)
   where
-    by-entry : (o : Option ℕ) → find (startable s (h .channel)) (s .queue) ≡ o → begins s o ≡ Started b → b .place ≡ h .place
+    by-entry : (o : Option ℕ) → find (startable s (h .channel)) (s .queue) ≡ o → begins s o ≡ Started b → (b .place ≡ h .place) × (t (b .packet) ≡ true)
     by-entry none f g = absurd (let z : _≡_ {A = ℕ} 0 1 = cc in omega arith)
     by-entry (some y) f g =
         let q = packetIn (s .jobs) (placeOf y) (packetOf y) in
         let z : record { place = placeOf y; packet = packetOf y; function = q .function; at = q .at } ≡ b = cc in
         let k = find-holds (EntryOk s) (startable s (h .channel)) (s .queue) y (I .queued) f in
         let v : q .at ≡ h .unit = ap (λ (r : Begun). r .at) z ∙ u in
-        let o : drumOn (s .channels) (h .channel) ≡ false → heldBy (unitIn (s .units) (h .channel) (h .unit) .holder) (placeOf y) ≡ true = rw (startable-on s (h .channel) y (k .1), v) at (k .0 .owned) in
-        sym (ap (λ (r : Begun). r .place) z) ∙ held-once (unitIn (s .units) (h .channel) (h .unit) .holder) (placeOf y) (h .place) (o (H .kind ∙ d)) (unit-held h s H d)
+        let c : q .channel .0 ≡ h .channel = startable-on s (h .channel) y (k .1) in
+        let o : drumOn (s .channels) (h .channel) ≡ false → heldBy (unitIn (s .units) (h .channel) (h .unit) .holder) (placeOf y) ≡ true = rw (c, v) at (k .0 .owned) in
+        let same : placeOf y ≡ h .place = held-once (unitIn (s .units) (h .channel) (h .unit) .holder) (placeOf y) (h .place) (o (H .kind ∙ d)) (unit-held h s H d) in (
+          sym (ap (λ (r : Begun). r .place) z) ∙ same,
+          ap t (sym (ap (λ (r : Begun). r .packet) z))
+              ∙ seen-busy h s t seen (packetOf y) (rw same at (listed-busy (q .status) (k .0 .listed))) (rw same at c) (rw same at v),
+        )
 
-    go : (n : Verdict) → decided s (Start (h .channel)) n .answer ≡ Started b → b .place ≡ h .place
+    go : (n : Verdict) → decided s (Start (h .channel)) n .answer ≡ Started b → (b .place ≡ h .place) × (t (b .packet) ≡ true)
     go Granted g = by-entry (find (startable s (h .channel)) (s .queue)) refl g
     go (Denied n) g = absurd (let z : _≡_ {A = ℕ} 0 1 = cc in omega arith)
+
+-- nothing of another job is moving on the unit
+abbrev pub Quiet : Holding → State → Type 0
+Quiet h s = (j p : ℕ) → motionOn s (h .channel) ≡ Busy j p → packetIn (s .jobs) j p .at ≡ h .unit → j ≡ h .place
 
 pub quiet-held : (h : Holding) (s : State) → Inv s → Holds s h → h .drum ≡ false → Quiet h s
 quiet-held h s I H d j p e u =
@@ -162,7 +180,9 @@ quiet-after h s I H d x j p e u =
     step-same s I x (h .channel) (h .unit) (h .place) j (unit-held h s H d)
     (mover h (step s x .state) (step-inv s I x) (rw (step-config s x) (H .kind ∙ d)) j p e u)
 
-pub undisturbed : (h : Holding) (s : State) → Inv s → Quiet h s → h .drum ≡ false → (during : List Call) → Stretch h s during → Undisturbed h s during
-undisturbed h s I q d [] H = q
-undisturbed h s I q d (x ∷ during) H =
-    (q, own-start h s I (H .0) d x, undisturbed h (step s x .state) (step-inv s I x) (quiet-after h s I (H .0) d x) d during (H .1))
+-- and what is, was seen to be submitted there
+pub own-motion : (h : Holding) (s : State) → Inv s → (t : Seen) → SeenOk h s t → Quiet h s → OwnMotion h t s
+own-motion h s I t seen q j p e u =
+    let same : j ≡ h .place = q j p e u in
+    let k = I .motion (h .channel) j p e in
+    (same, seen-busy h s t seen p (rw same at (motion-busy (packetIn (s .jobs) j p .status) (k .going))) (rw same at (k .channel)) (rw same at u))

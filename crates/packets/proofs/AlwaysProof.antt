@@ -1,4 +1,5 @@
--- The page Always holds: from the invariant and from soundness, of every cell that calls lead to. Assumes nothing.
+-- The page Always holds: from the invariant, from soundness and from what closing jobs have, of every cell that calls lead
+-- to. Assumes nothing.
 use Prim.Native.Nat.{ℕ, _<_}
 use mathlib.Core.Path.{_≡_, refl, sym, subst}
 use mathlib.Core.Bool.{true, false}
@@ -7,10 +8,11 @@ use native.Mathlib.Omega.{arith}
 use lib.Dec.{eqb}
 use borrow.Author.Tests.{eqb-true}
 use Rattle.numbers.proofs.Tests.{by-bool, never}
+use Rattle.packets.proofs.Closing.{Halts, fresh-halts, run-halts}
 use Rattle.packets.specs.Always.{Always, Invariants, NoEarlyHandOver, packetAt}
 use Rattle.packets.specs.Demand.{fresh}
-use Rattle.packets.proofs.Inv.{EntryOk, Inv, OkEntry, Owned, motion-busy}
-use Rattle.packets.specs.State.{inMotion, State, entryOf, isBusy, isListed, isStill, packetOf, placeOf}
+use Rattle.packets.proofs.Inv.{EntryOk, Inv, OkEntry, Owned, motion-busy, running-alive}
+use Rattle.packets.specs.State.{inMotion, State, entryOf, isBusy, isEmpty, isListed, isStill, packetOf, placeOf, stateIn}
 use Rattle.packets.proofs.InvStores.{entry-packet, entry-place}
 use Rattle.packets.specs.Picks.{All, any}
 use Rattle.packets.proofs.Laws.{all-imp}
@@ -38,31 +40,36 @@ busy-either InProgress b l = refl
 busy-either Stopping b l = refl
 busy-either (Ended k) b l = b
 
-holds-always : (s : State) → Inv s → Sound s noPacket → Always s
-holds-always s I S =
+holds-always : (s : State) → Inv s → Sound s noPacket → Halts s → Always s
+holds-always s I S H =
     record {
       moving = λ c j p e. (I .motion c j p e .going, I .motion c j p e .channel);
       movers = λ j p h. S .mover j p refl h;
       entries = all-imp (EntryOk s) (λ (e : ℕ). isStill (s .jobs) e ≡ true) (λ e k. k .listed) (s .queue) (I .queued);
       members = λ j p h. S .member j p refl h;
       once = I .single;
-      held = held-by;
+      held = λ j p b. fact j p b .0;
+      live = λ j p b. fact j p b .1;
+      closing = λ j c. H j c .one;
+      stopping = λ j p c m. H j c .all p m;
     }
   where
-    held-by : (j p : ℕ) → isBusy (packetAt s j p .status) ≡ true → Owned s j (packetAt s j p)
-    held-by j p b d =
+    -- of a packet that is listed, from the list; of one that moves, from its motion
+    fact : (j p : ℕ) → isBusy (packetAt s j p .status) ≡ true → Owned s j (packetAt s j p) × (isEmpty (stateIn (s .jobs) j) ≡ false)
+    fact j p b =
         by-bool (isListed (packetAt s j p .status))
         (λ l. let small : p < 16 = (let k = busy-in (s .jobs) j p b in omega (arith, S .sixteen j)) in
         let k : OkEntry s (placeOf (entryOf j p)) (packetOf (entryOf j p)) = all-any (EntryOk s) (entryOf j p) (s .queue) (I .queued) (S .member j p refl l) in
         let k′ : OkEntry s j p = rw (entry-place j p small, entry-packet j p small) at k in
-        k′ .owned d)
-        (λ l. I .motion (packetAt s j p .channel .0) j p (S .mover j p refl (busy-either (packetAt s j p .status) b l)) .owned d)
+        (k′ .owned, running-alive (stateIn (s .jobs) j) (k′ .running)))
+        (λ l. let k = I .motion (packetAt s j p .channel .0) j p (S .mover j p refl (busy-either (packetAt s j p .status) b l)) in (k .owned, k .alive))
 
 pub invariants : Invariants
 invariants channels units free calls =
     holds-always (run (fresh channels units) calls)
     (run-inv (fresh channels units) (fresh-inv channels units free) calls)
     (run-sound (fresh channels units) (fresh-inv channels units free) (fresh-sound channels units) calls)
+    (run-halts (fresh channels units) (fresh-inv channels units free) (fresh-halts channels units) calls)
 
 pub no-early-hand-over : NoEarlyHandOver
 no-early-hand-over channels units free calls j p h d =

@@ -1,7 +1,7 @@
 -- The page Codes holds: each store's effect on each packet, call by call. Assumes nothing.
 use Prim.Native.Nat.{ℕ, _<_}
 use mathlib.Core.Path.{_≡_, refl, ap, _∙_}
-use mathlib.Core.Bool.{Bool, false, not, cond, _&&_}
+use mathlib.Core.Bool.{Bool, true, false, not, cond, _&&_}
 use lib.ListN.{length}
 use lib.Dec.{eqb}
 use borrow.Author.Tests.{eqb-true}
@@ -13,7 +13,7 @@ use Rattle.packets.proofs.InvStores.{sweep-inv}
 use Rattle.packets.proofs.Laws.{and-left, and-right, find-holds}
 use Rattle.packets.specs.Picks.{find}
 use Rattle.packets.specs.Rules.{Call, Complete, End, Mark, Start, Submit, Take, accept, aimed, always, atOf, atUnit, closed, closing, codeFor, cut, decided, failed, finished, isDone, isFailure, locked, over, packet, refusal, returnIfDone, run, startable, step, submitted, toOf}
-use Rattle.packets.specs.State.{isPacket, State, drumOn, motionOn, packetIn, packetOf, placeOf, put, restatusAll, stateIn, sweep, withStatus}
+use Rattle.packets.specs.State.{isPacket, State, drumOn, isRunning, motionOn, packetIn, packetOf, placeOf, put, restatusAll, stateIn, sweep, withStatus}
 use Rattle.packets.proofs.Steps.{Ready, busy-of, find-some, fresh-inv, over-fits, over-inside, ready-fits, ready-inside, ready-sweep, run-inv, start-fits, startable-on}
 use Rattle.packets.proofs.Store.{alive-in, packet-fresh, packet-put, packet-restatus, packet-state, sizeIn}
 use Rattle.packets.proofs.Told.{Submits, assigns-to, completes-on, cut-going, cut-idle, ends-of, failed-going, failed-idle, starts-on, submits}
@@ -76,7 +76,7 @@ returned-status : (s : State) (j i n : ℕ) → packetIn (returnIfDone j s .jobs
 returned-status s j i n = by-bool (isDone s j) (λ e. rw (e, packet-state (s .jobs) j Empty i n)) (λ e. rw e)
 
 module _ (s : State) (I : Inv s) (c : ℕ) (small : c < 16) (how : How) (j p : ℕ) (is : motionOn s c ≡ Busy j p) (i n : ℕ) where
-  finished-status : packetIn (finished s c how j p .jobs) i n .status ≡ afterComplete s c how (Busy j p) i n
+  pub finished-status : packetIn (finished s c how j p .jobs) i n .status ≡ afterComplete s c how (Busy j p) i n
   finished-status =
       let q = withStatus (packetIn (s .jobs) j p) (Ended (codeFor how)) in
       let s₁ = over s c j p (codeFor how) in
@@ -92,7 +92,14 @@ module _ (s : State) (I : Inv s) (c : ℕ) (small : c < 16) (how : How) (j p : �
       (λ e. rw (e, read)
       (by-bool (isPacket j p i n) (λ g. rw g) (λ g. rw g (by-bool (eqb i j) (λ h. rw h) (λ h. rw h)))))
 
-status-after : (s : State) → Inv s → (x : Call) → refusal s x ≡ Granted → (i n : ℕ) → packetIn (accept s x .jobs) i n .status ≡ statusAfter s x i n
+pub closed-status : (s : State) (j : ℕ) (e : Bool) → isRunning (stateIn (s .jobs) j) ≡ true → (i n : ℕ)
+    → packetIn (closed s j e .jobs) i n .status ≡ cond (eqb i j) (cut (packetIn (s .jobs) i n .status)) (packetIn (s .jobs) i n .status)
+closed-status s j e r i n =
+    ap (λ (q : Packet). q .status) (packet-state (restatusAll (s .jobs) j always cut) j (closing e) i n)
+    ∙ swept-status s j always cut (alive-in (s .jobs) j (running-alive (stateIn (s .jobs) j) r)) refl i n
+    ∙ by-bool (eqb i j) (λ d. rw d) (λ d. rw d)
+
+pub status-after : (s : State) → Inv s → (x : Call) → refusal s x ≡ Granted → (i n : ℕ) → packetIn (accept s x .jobs) i n .status ≡ statusAfter s x i n
 unfolding accept statusAfter
 status-after s I (Take j asg) r i n =
     rw (packet-fresh (s .jobs) j asg i (rw (I .places) (assigns-to s j asg r .0)) n) (by-bool (eqb i j) (λ e. rw e) (λ e. rw e))
@@ -110,11 +117,7 @@ status-after s I (Complete c how) r i n =
     let o = busy-of (motionOn s c) (k .1) in
     rw (o .2) (returned-status (finished s c how (o .0) (o .1)) (o .0) i n ∙ finished-status s I c (k .0) how (o .0) (o .1) (o .2) i n)
 status-after s I (End j e) r i n =
-    let h = alive-in (s .jobs) j (running-alive (stateIn (s .jobs) j) (ends-of s j e r)) in
-    returned-status (closed s j e) j i n
-    ∙ ap (λ (q : Packet). q .status) (packet-state (restatusAll (s .jobs) j always cut) j (closing e) i n)
-    ∙ swept-status s j always cut h refl i n
-    ∙ by-bool (eqb i j) (λ d. rw d) (λ d. rw d)
+    returned-status (closed s j e) j i n ∙ closed-status s j e (ends-of s j e r) i n
 status-after s I (Mark c u m on) r i n = refl
 
 pub codes : Codes

@@ -1,7 +1,7 @@
 -- Demand 3 holds: the holding and its lone unit begin alike at the taking, and stay alike through the stretch. Assumes nothing.
 use Prim.Native.Nat.{ℕ, _<_}
 use mathlib.Core.Path.{_≡_, refl, sym, ap, _∙_}
-use mathlib.Core.Bool.{Bool, true, false, cond, _&&_}
+use mathlib.Core.Bool.{Bool, true, false, not, cond, _&&_}
 use mathlib.Core.List.{List, [], _∷_, map}
 use mathlib.Core.Option.{none}
 use lib.Dec.{eqb}
@@ -11,22 +11,24 @@ use Rattle.numbers.proofs.Tests.{by-bool, never}
 use Rattle.units.specs.State.{assignable, unitIn}
 use Rattle.units.specs.declared.Holder.the-variants.{Held}
 use Rattle.packets.proofs.Acts.{Acted, sim-acts, sim-away}
-use Rattle.packets.proofs.Alone.{quiet-held, undisturbed}
-use Rattle.packets.specs.Demand.{Demand3, Holding, Holds, Seen, Stretch, acting, acts, events, fresh, noneSeen, noted, seenAfter, startIn, startsIn}
+use Rattle.packets.proofs.Alone.{Quiet, own-motion, own-start, quiet-after, quiet-held}
+use Rattle.packets.specs.Demand.{Demand3, Holding, Holds, OwnStarts, Seen, Stretch, acting, acts, events, fresh, noneSeen, noted, seenAfter, startIn, startsIn}
 use Rattle.packets.proofs.Inv.{EntryOk, Inv, running-alive}
 use Rattle.packets.proofs.Laws.{all-imp, eqb-self, keep-none}
-use Rattle.packets.specs.Lone.{Lone, Request, loneRun, loneStart, loneStarts, loneStep, newLone}
+use Rattle.packets.specs.Lone.{Lone, Request, loneRun, loneStart, loneStarts, loneStep, newLone, loneTakes, loneTakesAll}
 use Rattle.packets.specs.Rules.{Call, Take, accept, answer, assigned, decided, refusal, run, step}
 use Rattle.packets.proofs.SeenLaws.{SeenOk, accept-seen, acts-refused, acts-same, noted-refused}
 use Rattle.packets.proofs.Sim.{Sim, lockThere, movingThere, num, on}
 use Rattle.packets.proofs.SimSubmit.{unit-held}
-use Rattle.packets.specs.State.{State, blank, heldBy, isEmpty, lock, motionOn, packetIn, placeOf, stateIn, takeAll, wanted}
+use Rattle.packets.specs.State.{State, blank, heldBy, isEmpty, isRunning, lock, motionOn, packetIn, placeOf, stateIn, takeAll, wanted}
 use Rattle.packets.proofs.Steps.{fresh-inv, run-inv, step-inv}
-use Rattle.packets.proofs.Store.{packet-fresh, unit-take}
+use Rattle.packets.proofs.Store.{packet-fresh, state-fresh, unit-take}
 use Rattle.packets.proofs.Told.{assigns-to}
 use Rattle.packets.specs.declared.Answer.{Answer}
 use Rattle.packets.specs.declared.Answer.the-variants.{Refused}
 use Rattle.packets.specs.declared.Assignment.{Assignment}
+use Rattle.packets.specs.declared.JobState.{JobState}
+use Rattle.packets.specs.declared.JobState.the-variants.{Running}
 use Rattle.packets.specs.declared.Motion.{Motion}
 use Rattle.packets.specs.declared.Motion.the-variants.{Busy, Idle}
 use Rattle.packets.specs.declared.Verdict.{Verdict}
@@ -40,7 +42,7 @@ step-accepted s x e = ap (decided s x) e
 
 -- one step of the cell, and of the lone unit if the call acted
 pub record Next (h : Holding) (l : Lone) (t : Seen) (x : Call) (r : Answer) (s : State) : Type 0 where
-  pub acted : acts h t x r ≡ true → (loneStart (h .place) l x ≡ startIn r) × Sim h s (loneStep (h .drum) l x)
+  pub acted : acts h t x r ≡ true → (loneStart (h .place) l x ≡ startIn r) × Sim h s (loneStep (h .drum) l x) × (loneTakes l x ≡ true)
   pub idled : acts h t x r ≡ false → Sim h s l
   pub seen : SeenOk h s (noted h t x r)
 
@@ -51,7 +53,7 @@ next h s I H l S t k x = go (refusal s x) refl
     go : (n : Verdict) → refusal s x ≡ n → Next h l t x (decided s x n .answer) (decided s x n .state)
     go Granted e =
         record {
-          acted = λ a. let d : Acted h s l x = sim-acts h s I H l S x e (sym (acts-same h s I t k x) ∙ a) in (d .start, d .sim);
+          acted = λ a. let d : Acted h s l x = sim-acts h s I H l S x e (sym (acts-same h s I t k x) ∙ a) in (d .start, d .sim, d .taken);
           idled = λ a. sim-away h s I H l S x e (sym (acts-same h s I t k x) ∙ a);
           seen = accept-seen h s I H t k x e;
         }
@@ -63,23 +65,29 @@ next h s I H l S t k x = go (refusal s x) refl
         }
 
 pub record Through (h : Holding) (s : State) (l : Lone) (t : Seen) (during : List Call) : Type 0 where
+  pub inv : Inv (run s during)
+  pub taken : loneTakesAll (h .drum) l (acting h t (events s during)) ≡ true
   pub starts : startsIn h t (events s during) ≡ loneStarts (h .drum) (h .place) l (acting h t (events s during))
   pub sim : Sim h (run s during) (loneRun (h .drum) l (acting h t (events s during)))
   pub seen : SeenOk h (run s during) (seenAfter h t (events s during))
+  pub own : h .drum ≡ false → OwnStarts h t (events s during)
+  pub quiet : h .drum ≡ false → Quiet h (run s during)
 
-pub through : (h : Holding) (s : State) → Inv s → (l : Lone) → Sim h s l → (t : Seen) → SeenOk h s t → (during : List Call) → Stretch h s during → Through h s l t during
-unfolding startsIn acting seenAfter events loneStarts loneRun run
-through h s I l S t k [] H = record { starts = refl; sim = S; seen = k }
-through h s I l S t k (x ∷ during) H =
+pub through : (h : Holding) (s : State) → Inv s → (l : Lone) → Sim h s l → (t : Seen) → SeenOk h s t → (h .drum ≡ false → Quiet h s)
+    → (during : List Call) → Stretch h s during → Through h s l t during
+unfolding startsIn acting seenAfter events loneStarts loneTakesAll loneRun run
+through h s I l S t k q [] H = record { inv = I; taken = refl; starts = refl; sim = S; seen = k; own = λ d. tt; quiet = q }
+through h s I l S t k q (x ∷ during) H =
     let y = next h s I (H .0) l S t k x in
     let s′ = step s x .state in
     let t′ = noted h t x (step s x .answer) in
+    let q′ : h .drum ≡ false → Quiet h s′ = λ d. quiet-after h s I (H .0) d x in
     by-bool (acts h t x (step s x .answer))
     (λ a. let z = y .acted a in
-    let r : Through h s′ (loneStep (h .drum) l x) t′ during = through h s′ (step-inv s I x) (loneStep (h .drum) l x) (z .1) t′ (y .seen) during (H .1) in
-    record { starts = rw (a, z .0, r .starts); sim = rw a (r .sim); seen = r .seen })
-    (λ a. let r : Through h s′ l t′ during = through h s′ (step-inv s I x) l (y .idled a) t′ (y .seen) during (H .1) in
-    record { starts = rw (a, r .starts); sim = rw a (r .sim); seen = r .seen })
+    let r : Through h s′ (loneStep (h .drum) l x) t′ during = through h s′ (step-inv s I x) (loneStep (h .drum) l x) (z .1) t′ (y .seen) q′ during (H .1) in
+    record { inv = r .inv; taken = rw (a, z .2) (r .taken); starts = rw (a, z .0, r .starts); sim = rw a (r .sim); seen = r .seen; own = λ d. (own-start h s I (H .0) d t k x, r .own d); quiet = r .quiet })
+    (λ a. let r : Through h s′ l t′ during = through h s′ (step-inv s I x) l (y .idled a) t′ (y .seen) q′ during (H .1) in
+    record { inv = r .inv; taken = rw a (r .taken); starts = rw (a, r .starts); sim = rw a (r .sim); seen = r .seen; own = λ d. (own-start h s I (H .0) d t k x, r .own d); quiet = r .quiet })
 
 -- ---- the assignment
 
@@ -100,8 +108,13 @@ module _ (s : State) (I : Inv s) (j : ℕ) (asg : Assignment) (small : j < 16) (
         table = λ n t. rw (packet-fresh (s .jobs) j asg (h .place) (rw (I .places) small) n, at-j, eqb-self j);
         moving = sym (no-motion (motionOn s (h .channel)) refl);
         lock = sym no-lock-yet;
+        here = λ n u. never {b = false} u refl;
+        over = sym (ap (λ (x : JobState). not (isRunning x)) running-now);
       }
     where
+      running-now : stateIn (assigned s j asg .jobs) (h .place) ≡ Running
+      running-now = state-fresh (s .jobs) j asg (h .place) (rw (I .places) small) ∙ rw (at-j, eqb-self j)
+
       no-motion : (m : Motion) → motionOn s (h .channel) ≡ m → movingThere h (assigned s j asg .jobs) m ≡ none
       no-motion Idle e = refl
       no-motion (Busy i p) e = rw (not-j i (I .motion (h .channel) i p e .alive))
@@ -145,9 +158,11 @@ demand3 channels units free before j asg r h at-j H during stretch =
     let I₀ : Inv s₀ = run-inv (fresh channels units) (fresh-inv channels units free) before in
     let s = step s₀ (Take j asg) .state in
     let I : Inv s = step-inv s₀ I₀ (Take j asg) in
-    let k = through h s I newLone (assigned-sim s₀ I₀ j asg r h at-j H) noneSeen (assigned-seen s₀ I₀ j asg r h at-j) during stretch in
+    let k = through h s I newLone (assigned-sim s₀ I₀ j asg r h at-j H) noneSeen (assigned-seen s₀ I₀ j asg r h at-j) (quiet-held h s I H) during stretch in
     record {
+      taken = k .taken;
       starts = k .starts;
       status = λ n t. ap (λ (q : Request). q .status) (k .sim .table n (k .seen n .0 t));
-      alone = λ d. undisturbed h s I (quiet-held h s I H d) d during stretch;
+      started = k .own;
+      moves = λ d. own-motion h (run s during) (k .inv) (seenAfter h noneSeen (events s during)) (k .seen) (k .quiet d);
     }

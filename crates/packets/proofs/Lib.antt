@@ -9,7 +9,9 @@ pub mod Told
 pub mod Steps
 pub mod Sound
 pub mod SoundSteps
+pub mod LoneLaws
 pub mod Sim
+pub mod SimRest
 pub mod SimSubmit
 pub mod SimStart
 pub mod SimEnd
@@ -17,9 +19,11 @@ pub mod Acts
 pub mod SeenLaws
 pub mod Alone
 pub mod DemandProof
-pub mod AlwaysProof
 pub mod ApartProof
 pub mod CodesProof
+pub mod States
+pub mod Closing
+pub mod AlwaysProof
 pub mod MarkLaws
 pub mod EndsMovingProof
 pub mod PickLaws

@@ -1,8 +1,8 @@
 -- A cell, seen from a holding, and a lone unit: when they agree, and that each store of the rules keeps them so.
 use Prim.Native.Nat.{ℕ, _<_}
 use mathlib.Core.Path.{_≡_, refl, sym, ap, _∙_}
-use mathlib.Core.Bool.{Bool, true, false, cond, _&&_}
-use mathlib.Core.List.{List, [], _∷_, _++_, map, append-nil}
+use mathlib.Core.Bool.{Bool, true, false, not, cond, _&&_}
+use mathlib.Core.List.{List, [], _∷_, map}
 use mathlib.Core.Option.{Option, none, some}
 use lib.ListN.{length}
 use lib.Dec.{eqb}
@@ -12,12 +12,12 @@ use Rattle.numbers.proofs.Tests.{by-bool, never}
 use Rattle.units.specs.State.{unitIn}
 use Rattle.packets.specs.Demand.{Holding, there}
 use Rattle.packets.proofs.Inv.{Elsewhere, EntryOk, Inv, kept-still, listed-busy, motion-busy}
-use Rattle.packets.proofs.InvStores.{New, enlisted-is, entry-packet, motion-move, put-elsewhere, restatus-elsewhere}
+use Rattle.packets.proofs.InvStores.{put-elsewhere, restatus-elsewhere}
 use Rattle.packets.specs.Picks.{All, keep}
-use Rattle.packets.proofs.Laws.{all-imp, all-keep, and-both, and-left, and-right, eqb-self, keep-all, keep-append, keep-same, settle-eq}
-use Rattle.packets.specs.Lone.{Lone, Request, carries, joins, locks, settle, still, stores, waits, write}
-use Rattle.packets.specs.State.{State, enqueue, entryOf, isBusy, isKept, isListed, motionOn, move, packetIn, packetOf, packetsIn, placeOf, put, relist, restatus, restatusAll, store, sweep}
-use Rattle.packets.proofs.Store.{packet-put, packet-restatus, sizeIn}
+use Rattle.packets.proofs.Laws.{all-imp, all-keep, and-both, and-left, and-right, eqb-self, keep-all, settle-eq}
+use Rattle.packets.specs.Lone.{Lone, Request, settle, still, stores, waits, write, inUse}
+use Rattle.packets.specs.State.{State, isBusy, isKept, isListed, motionOn, packetIn, packetOf, packetsIn, placeOf, put, relist, restatus, restatusAll, store, sweep, isRunning, stateIn}
+use Rattle.packets.proofs.Store.{packet-put, packet-restatus, sizeIn, state-put, state-restatus}
 use Rattle.packets.specs.declared.Job.{Job}
 use Rattle.packets.specs.declared.Motion.{Motion}
 use Rattle.packets.specs.declared.Motion.the-variants.{Busy, Idle}
@@ -48,6 +48,20 @@ pub record Sim (h : Holding) (s : State) (l : Lone) : Type 0 where
   pub table : (n : ℕ) → there h (packetIn (s .jobs) (h .place) n) ≡ true → l .packets n ≡ look (packetIn (s .jobs) (h .place) n)
   pub moving : l .moving ≡ movingThere h (s .jobs) (motionOn s (h .channel))
   pub lock : l .interlock ≡ lockThere h (s .units)
+  -- what the lone unit has listed, in progress or stopping was last submitted there
+  pub here : (n : ℕ) → inUse (l .packets n .status) ≡ true → there h (packetIn (s .jobs) (h .place) n) ≡ true
+  pub over : l .jobOver ≡ not (isRunning (stateIn (s .jobs) (h .place)))
+
+pub use-busy : (t : Status) → inUse t ≡ isBusy t
+use-busy Blank = refl
+use-busy Listed = refl
+use-busy InProgress = refl
+use-busy Stopping = refl
+use-busy (Ended k) = refl
+
+-- a packet that the lone unit has in use is busy in the cell
+pub here-busy : (h : Holding) (s : State) (l : Lone) → Sim h s l → (n : ℕ) → inUse (l .packets n .status) ≡ true → isBusy (packetIn (s .jobs) (h .place) n .status) ≡ true
+here-busy h s l S n u = sym (use-busy (packetIn (s .jobs) (h .place) n .status)) ∙ ap (λ (r : Request). inUse (r .status)) (sym (S .table n (S .here n u))) ∙ u
 
 waits-listed : (t : Status) → isListed t ≡ waits t
 waits-listed Blank = refl
@@ -59,10 +73,6 @@ waits-listed (Ended k) = refl
 still-keep : (t : ℕ → Request) (l : List ℕ) → still t l ≡ keep (λ (n : ℕ). waits (t n .status)) l
 still-keep t [] = refl
 still-keep t (n ∷ l) = rw (still-keep t l)
-
-map-append : (f : ℕ → ℕ) (l m : List ℕ) → map f (l ++ m) ≡ map f l ++ map f m
-map-append f [] m = refl
-map-append f (x ∷ l) m = ap (λ (r : List ℕ). f x ∷ r) (map-append f l m)
 
 all-map : (P : ℕ → Type 0) (f : ℕ → ℕ) (l : List ℕ) → All (λ (e : ℕ). P (f e)) l → All P (map f l)
 all-map P f [] h = tt
@@ -87,7 +97,8 @@ module _ (h : Holding) (s : State) (I : Inv s) (l : Lone) (S : Sim h s l) where
           rw (S .table (packetOf e) (and-right (eqb (placeOf e) (h .place)) _ (k .1)), ← waits-listed (packetIn (s .jobs) (h .place) (packetOf e) .status)) (rw p at (k .0 .listed))
 
   module _ (j : ℕ) (jobs : List Job) (elsewhere : Elsewhere j (s .jobs) jobs)
-      (kept : (n : ℕ) → isBusy (packetIn (s .jobs) (h .place) n .status) ≡ true → there h (packetIn jobs (h .place) n) ≡ there h (packetIn (s .jobs) (h .place) n)) where
+      (kept : (n : ℕ) → isBusy (packetIn (s .jobs) (h .place) n .status) ≡ true → there h (packetIn jobs (h .place) n) ≡ there h (packetIn (s .jobs) (h .place) n))
+      (states : stateIn jobs (h .place) ≡ stateIn (s .jobs) (h .place)) where
     abbrev rejob : State
     rejob = record { channels = s .channels; units = s .units; moving = s .moving; jobs = jobs; queue = relist j (packetsIn jobs j) (s .queue) }
 
@@ -101,9 +112,10 @@ module _ (h : Holding) (s : State) (I : Inv s) (l : Lone) (S : Sim h s l) where
 
     pub sim-jobs : (t : ℕ → Request)
         → ((n : ℕ) → there h (packetIn jobs (h .place) n) ≡ true → t n ≡ look (packetIn jobs (h .place) n))
+        → ((n : ℕ) → inUse (t n .status) ≡ true → there h (packetIn jobs (h .place) n) ≡ true)
         → Sim h rejob (settle l t)
     unfolding relist
-    sim-jobs t table =
+    sim-jobs t table here =
         record {
           order = still-keep t (l .order) ∙ rw (S .order)
               (settle-eq (on h (s .jobs)) (on h jobs) (isKept j (packetsIn jobs j)) num (λ (n : ℕ). waits (t n .status)) (s .queue)
@@ -112,6 +124,8 @@ module _ (h : Holding) (s : State) (I : Inv s) (l : Lone) (S : Sim h s l) where
           table = table;
           moving = S .moving ∙ same-moving (motionOn s (h .channel)) refl;
           lock = S .lock;
+          here = here;
+          over = rw states (S .over);
         }
       where
         same : (e : ℕ) → EntryOk s e → on h jobs e ≡ on h (s .jobs) e
@@ -130,11 +144,16 @@ module _ (h : Holding) (s : State) (I : Inv s) (l : Lone) (S : Sim h s l) where
     pub sim-jobs-away : ((n : ℕ) → there h (packetIn jobs (h .place) n) ≡ true → l .packets n ≡ look (packetIn jobs (h .place) n)) → Sim h rejob l
     sim-jobs-away table =
         record {
-          order = sym order-waits ∙ sim-jobs (l .packets) table .order;
+          order = sym order-waits ∙ sim-jobs (l .packets) table here .order;
           table = table;
           moving = S .moving ∙ same-moving (motionOn s (h .channel)) refl;
           lock = S .lock;
+          here = here;
+          over = rw states (S .over);
         }
+      where
+        here : (n : ℕ) → inUse (l .packets n .status) ≡ true → there h (packetIn jobs (h .place) n) ≡ true
+        here n u = kept n (here-busy h s l S n u) ∙ S .here n u
 
   -- ---- one packet
 
@@ -149,10 +168,16 @@ module _ (h : Holding) (s : State) (I : Inv s) (l : Lone) (S : Sim h s l) where
         rw e (rw (x, y) (same (rw (x, y) at b))))
         (λ e. rw e))
 
-    pub sim-store : h .place ≡ j → (r : Request) → r ≡ look q → Sim h (store s j p q) (stores l p r)
-    sim-store at-j r is =
-        sim-jobs j (put (s .jobs) j p q) (put-elsewhere (s .jobs) j p q fits) store-kept (write (l .packets) p r) table
+    pub sim-store : h .place ≡ j → there h q ≡ true → (r : Request) → r ≡ look q → Sim h (store s j p q) (stores l p r)
+    sim-store at-j is-here r is =
+        sim-jobs j (put (s .jobs) j p q) (put-elsewhere (s .jobs) j p q fits) store-kept (state-put (s .jobs) j p q (h .place)) (write (l .packets) p r) table here
       where
+        here : (n : ℕ) → inUse (write (l .packets) p r n .status) ≡ true → there h (packetIn (put (s .jobs) j p q) (h .place) n) ≡ true
+        here n u =
+            let m : eqb (h .place) j ≡ true = rw at-j (eqb-self j) in
+            rw (packet-put (s .jobs) j p q (h .place) n fits, m)
+            (by-bool (eqb n p) (λ e. rw e is-here) (λ e. rw e (S .here n (rw e at u))))
+
         table : (n : ℕ) → there h (packetIn (put (s .jobs) j p q) (h .place) n) ≡ true → write (l .packets) p r n ≡ look (packetIn (put (s .jobs) j p q) (h .place) n)
         table n t =
             let t′ : there h (cond (eqb (h .place) j && eqb n p) q (packetIn (s .jobs) (h .place) n)) ≡ true = rw (packet-put (s .jobs) j p q (h .place) n fits) at t in
@@ -162,7 +187,7 @@ module _ (h : Holding) (s : State) (I : Inv s) (l : Lone) (S : Sim h s l) where
 
     pub sim-store-away : eqb (h .place) j && there h q ≡ false → Sim h (store s j p q) l
     sim-store-away away =
-        sim-jobs-away j (put (s .jobs) j p q) (put-elsewhere (s .jobs) j p q fits) store-kept table
+        sim-jobs-away j (put (s .jobs) j p q) (put-elsewhere (s .jobs) j p q fits) store-kept (state-put (s .jobs) j p q (h .place)) table
       where
         table : (n : ℕ) → there h (packetIn (put (s .jobs) j p q) (h .place) n) ≡ true → l .packets n ≡ look (packetIn (put (s .jobs) j p q) (h .place) n)
         table n t =
@@ -180,9 +205,11 @@ module _ (h : Holding) (s : State) (I : Inv s) (l : Lone) (S : Sim h s l) where
 
     pub sim-sweep : h .place ≡ j → (t : ℕ → Request)
         → ((n : ℕ) → there h (packetIn (s .jobs) (h .place) n) ≡ true → t n ≡ look (restatus test f (packetIn (s .jobs) (h .place) n)))
+        → ((n : ℕ) → inUse (t n .status) ≡ true → inUse (l .packets n .status) ≡ true)
         → Sim h (sweep s j test f) (settle l t)
-    sim-sweep at-j t is =
-        sim-jobs j (restatusAll (s .jobs) j test f) (restatus-elsewhere (s .jobs) j test f inside fb) sweep-kept t table
+    sim-sweep at-j t is uses =
+        sim-jobs j (restatusAll (s .jobs) j test f) (restatus-elsewhere (s .jobs) j test f inside fb) sweep-kept (state-restatus (s .jobs) j test f (h .place)) t table
+        (λ n u. sweep-kept n (here-busy h s l S n (uses n u)) ∙ S .here n (uses n u))
       where
         table : (n : ℕ) → there h (packetIn (restatusAll (s .jobs) j test f) (h .place) n) ≡ true → t n ≡ look (packetIn (restatusAll (s .jobs) j test f) (h .place) n)
         table n e =
@@ -192,7 +219,7 @@ module _ (h : Holding) (s : State) (I : Inv s) (l : Lone) (S : Sim h s l) where
 
     pub sim-sweep-away : ((n : ℕ) → h .place ≡ j → there h (packetIn (s .jobs) (h .place) n) ≡ true → test (packetIn (s .jobs) (h .place) n) ≡ false) → Sim h (sweep s j test f) l
     sim-sweep-away away =
-        sim-jobs-away j (restatusAll (s .jobs) j test f) (restatus-elsewhere (s .jobs) j test f inside fb) sweep-kept table
+        sim-jobs-away j (restatusAll (s .jobs) j test f) (restatus-elsewhere (s .jobs) j test f inside fb) sweep-kept (state-restatus (s .jobs) j test f (h .place)) table
       where
         table : (n : ℕ) → there h (packetIn (restatusAll (s .jobs) j test f) (h .place) n) ≡ true → l .packets n ≡ look (packetIn (restatusAll (s .jobs) j test f) (h .place) n)
         table n e =
@@ -202,87 +229,3 @@ module _ (h : Holding) (s : State) (I : Inv s) (l : Lone) (S : Sim h s l) where
             (λ d. let g : there h (packetIn (s .jobs) (h .place) n) ≡ true = rw d at e′ in
             rw (d, away n (eqb-true (h .place) j d) g) (S .table n g))
             (λ d. rw d (S .table n (rw d at e′))))
-
-  -- ---- units, queue, channels; what leaves the packets alone
-
-  pub sim-units : (units : List (List UnitState)) (b : Bool) → lockThere h units ≡ b
-      → Sim h (record { channels = s .channels; units = units; moving = s .moving; jobs = s .jobs; queue = s .queue }) (locks l b)
-  sim-units units b e = record { order = S .order; table = S .table; moving = S .moving; lock = sym e }
-
-  pub sim-units-away : (units : List (List UnitState)) → lockThere h units ≡ lockThere h (s .units)
-      → Sim h (record { channels = s .channels; units = units; moving = s .moving; jobs = s .jobs; queue = s .queue }) l
-  sim-units-away units e = record { order = S .order; table = S .table; moving = S .moving; lock = S .lock ∙ sym e }
-
-  pub sim-same : (units : List (List UnitState)) (jobs : List Job) → lockThere h units ≡ lockThere h (s .units)
-      → ((n : ℕ) → packetIn jobs (h .place) n ≡ packetIn (s .jobs) (h .place) n)
-      → Sim h (record { channels = s .channels; units = units; moving = s .moving; jobs = jobs; queue = s .queue }) l
-  sim-same units jobs e same =
-      record {
-        order = S .order ∙ ap (λ (x : List ℕ). map num x)
-            (keep-same (on h (s .jobs)) (on h jobs) (s .queue) (all-imp (EntryOk s) (λ (e : ℕ). on h (s .jobs) e ≡ on h jobs e) (λ e k. rw same) (s .queue) (I .queued)));
-        table = λ n t. rw same (S .table n (rw same at t));
-        moving = S .moving ∙ again (motionOn s (h .channel));
-        lock = S .lock ∙ sym e;
-      }
-    where
-      again : (m : Motion) → movingThere h (s .jobs) m ≡ movingThere h jobs m
-      again Idle = refl
-      again (Busy j p) = rw same
-
-  pub sim-enqueue : (j p : ℕ) → New s j p → on h (s .jobs) (entryOf j p) ≡ true → Sim h (enqueue s j p) (joins l p)
-  sim-enqueue j p n o =
-      record {
-        order = rw (
-          enlisted-is s I j p n,
-          keep-append (on h (s .jobs)) (s .queue) (entryOf j p ∷ []),
-          o,
-          map-append num (keep (on h (s .jobs)) (s .queue)) (entryOf j p ∷ []),
-          entry-packet j p (n .small),
-          S .order,
-        );
-        table = S .table;
-        moving = S .moving;
-        lock = S .lock;
-      }
-
-  pub sim-enqueue-away : (j p : ℕ) → New s j p → on h (s .jobs) (entryOf j p) ≡ false → Sim h (enqueue s j p) l
-  sim-enqueue-away j p n o =
-      record {
-        order = rw (
-          enlisted-is s I j p n,
-          keep-append (on h (s .jobs)) (s .queue) (entryOf j p ∷ []),
-          o,
-          map-append num (keep (on h (s .jobs)) (s .queue)) [],
-          S .order,
-        )
-            (sym (append-nil (map num (keep (on h (s .jobs)) (s .queue)))));
-        table = S .table;
-        moving = S .moving;
-        lock = S .lock;
-      }
-
-  pub sim-move : (c : ℕ) (m : Motion) (x : Option ℕ) → c < 16 → h .channel ≡ c → movingThere h (s .jobs) m ≡ x → Sim h (move s c m) (carries l x)
-  sim-move c m x small at-c e =
-      record {
-        order = S .order;
-        table = S .table;
-        lock = S .lock;
-        moving = sym (ap (movingThere h (s .jobs)) now ∙ e);
-      }
-    where
-      now : motionOn (move s c m) (h .channel) ≡ m
-      now = motion-move s c m (h .channel) (rw (I .channels) small) ∙ rw (at-c, eqb-self c)
-
-  pub sim-move-away : (c : ℕ) (m : Motion) → c < 16 → (h .channel ≡ c → movingThere h (s .jobs) m ≡ movingThere h (s .jobs) (motionOn s c)) → Sim h (move s c m) l
-  sim-move-away c m small e =
-      record {
-        order = S .order;
-        table = S .table;
-        lock = S .lock;
-        moving = S .moving ∙ sym (ap (movingThere h (s .jobs)) (motion-move s c m (h .channel) (rw (I .channels) small)) ∙ go);
-      }
-    where
-      go : movingThere h (s .jobs) (cond (eqb (h .channel) c) m (motionOn s (h .channel))) ≡ movingThere h (s .jobs) (motionOn s (h .channel))
-      go = by-bool (eqb (h .channel) c)
-          (λ t. let q : h .channel ≡ c = eqb-true (h .channel) c t in rw t (e q ∙ rw q))
-          (λ t. rw t)

@@ -1,11 +1,11 @@
 -- A completion, a job's end, a taking and a mark: the holding and its lone unit stay alike. Assumes nothing.
 use Prim.Native.Nat.{ℕ, _<_}
 use mathlib.Core.Path.{_≡_, refl, sym, ap, _∙_, subst}
-use mathlib.Core.Bool.{Bool, true, false, not, cond, _&&_}
+use mathlib.Core.Bool.{Bool, true, false, not, cond, _&&_, _||_}
 use mathlib.Core.Option.{Option, none, some}
 use lib.ListN.{length}
-use lib.Dec.{eqb}
-use borrow.Author.Tests.{eqb-true, eqb-false, eq-eqb, not-true}
+use lib.Dec.{eqb, ltb}
+use borrow.Author.Tests.{eqb-true, eqb-false, eq-eqb, not-true, le-leb, ltb-false, not-false}
 use Rattle.units.specs.declared.Unit.{Unit as UnitState}
 use Rattle.units.specs.declared.Mark.{Mark as UnitMark}
 use Rattle.units.specs.declared.Mark.the-variants.{Down, Reserved}
@@ -16,20 +16,46 @@ use Rattle.packets.proofs.Inv.{Inv, running-alive}
 use Rattle.packets.proofs.InvJobs.{held-once, held-taken, take-held}
 use Rattle.packets.proofs.InvStores.{idle-inv, sweep-inv}
 use Rattle.packets.proofs.Laws.{and-left, and-right, eqb-self}
-use Rattle.packets.specs.Lone.{Lone, become, breaks, carries, completesAs, ends, endsWith, fails, halts, locks, loneStep, stops}
-use Rattle.packets.specs.Rules.{Complete, End, always, assigned, atUnit, broken, closing, codeFor, cut, ended, failed, finished, isFailure, marked, over, returnIfDone}
-use Rattle.packets.proofs.Sim.{Sim, movingThere, sim-move, sim-move-away, sim-same, sim-store, sim-store-away, sim-sweep, sim-sweep-away, sim-units, sim-units-away}
+use Rattle.packets.specs.Lone.{Lone, become, breaks, carries, completesAs, ends, endsWith, fails, halts, locks, stops, Request, closes, loneDoes, loneTakes, mayComplete, mayEnd}
+use Rattle.packets.specs.Rules.{Complete, End, always, assigned, atUnit, broken, closing, codeFor, cut, ended, failed, finished, isFailure, marked, over, returnIfDone, isWrong}
+use Rattle.packets.proofs.Sim.{Sim, movingThere, sim-store, sim-store-away, sim-sweep, sim-sweep-away}
+use Rattle.packets.proofs.SimRest.{sim-move, sim-move-away, sim-same, sim-units, sim-units-away, sim-same-but}
 use Rattle.packets.proofs.SimStart.{sim-return}
-use Rattle.packets.proofs.SimSubmit.{cut-stops, fail-table, holder-alive, is-there, lock-away, lock-here, there-channel, there-unit, unit-held}
-use Rattle.packets.specs.State.{State, close, drumOn, heldBy, isEmpty, isRunning, motionOn, move, packetIn, restatusAll, setLock, setState, stateIn, sweep, takeAll, wanted, withLock, withStatus}
+use Rattle.packets.proofs.SimSubmit.{cut-stops, ends-use, fail-table, holder-alive, is-there, lock-away, lock-here, stops-use, there-channel, there-unit, unit-held}
+use Rattle.packets.specs.State.{State, close, drumOn, heldBy, isEmpty, isRunning, isStopping, motionOn, move, packetIn, setLock, setState, stateIn, sweep, takeAll, wanted, withLock, withStatus}
 use Rattle.packets.proofs.Steps.{ending-inv, finished-inv, over-fits, over-inside, over-inv}
-use Rattle.packets.proofs.Store.{alive-in, packet-fresh, packet-state, unit-keep}
+use Rattle.packets.proofs.Store.{alive-in, length-restatus, packet-fresh, packet-state, state-fresh, state-restatus, state-state, unit-keep}
 use Rattle.packets.proofs.Told.{cut-going, failed-going}
 use Rattle.packets.specs.declared.Assignment.{Assignment}
 use Rattle.packets.specs.declared.How.{How}
 use Rattle.packets.specs.declared.How.the-variants.{Cut, Failed, Full}
+use Rattle.packets.specs.declared.JobState.{JobState}
 use Rattle.packets.specs.declared.Motion.the-variants.{Busy, Idle}
-use Rattle.packets.specs.declared.Status.the-variants.{Ended}
+use Rattle.packets.specs.declared.Status.{Status}
+use Rattle.packets.specs.declared.Status.the-variants.{Blank, Ended, InProgress, Listed, Stopping}
+
+-- ---- the two tests of a completion say the same
+
+cut-stopping : (x : Status) → isStopping x ≡ true → mayEnd x Cut ≡ true
+cut-stopping Blank e = never {b = false} e refl
+cut-stopping Listed e = never {b = false} e refl
+cut-stopping InProgress e = never {b = false} e refl
+cut-stopping Stopping e = refl
+cut-stopping (Ended k) e = never {b = false} e refl
+
+neither : (a b : Bool) → a || b ≡ false → (a ≡ false) × (b ≡ false)
+neither true b e = never {b = true} refl e
+neither false b e = (refl, e)
+
+may-end : (x : Status) (how : How) → isWrong x how ≡ false → mayEnd x how ≡ true
+may-end x Full e = refl
+may-end x Cut e = cut-stopping x (not-false (isStopping x) e)
+may-end x (Failed k) e =
+    let a = neither (eqb k 0o00) _ e in
+    let b = neither (eqb k 0o01) _ (a .1) in
+    let c = neither (eqb k 0o16) _ (b .1) in
+    let d = neither (eqb k 0o17) (ltb 0o77 k) (c .1) in
+    rw (a .0, b .0, c .0, d .0) (le-leb k 0o77 (ltb-false 0o77 k (d .1)))
 
 -- ---- a completion
 
@@ -51,7 +77,7 @@ module _ (h : Holding) (s : State) (I : Inv s) (H : Holds s h) (l : Lone) (S : S
     sim-over : (k : ℕ) → Sim h (over s c j p k) (ends l p k)
     sim-over k =
         sim-store h (move s c Idle) (idle-inv s I c small) (carries l none) (sim-move h s I l S c Idle none small channel-at refl) j p
-        (withStatus (packetIn (s .jobs) j p) (Ended k)) (over-fits s I c small j p is) (λ b. refl) at-j (become (l .packets p) (Ended k))
+        (withStatus (packetIn (s .jobs) j p) (Ended k)) (over-fits s I c small j p is) (λ b. refl) at-j t (become (l .packets p) (Ended k))
         (rw (S .table p (rw at-j t), at-j))
 
     sim-broken : (k : ℕ) → h .drum ≡ false → Sim h (broken (over s c j p k) c (packetIn (s .jobs) j p .at) j) (locks (fails (ends l p k)) true)
@@ -63,7 +89,7 @@ module _ (h : Holding) (s : State) (I : Inv s) (H : Holds s h) (l : Lone) (S : S
         let u : a ≡ h .unit = there-unit h _ _ d t in
         let S₂ : Sim h (sweep s₁ j (atUnit c a) failed) (fails (ends l p k)) =
         sim-sweep h s₁ I₁ (ends l p k) (sim-over k) j (atUnit c a) failed inside refl at-j (λ m. become (ends l p k .packets m) (endsWith 0o01 (ends l p k .packets m .status)))
-        (fail-table h s₁ (ends l p k) (sim-over k) c a d (sym channel-at) u) in
+        (fail-table h s₁ (ends l p k) (sim-over k) c a d (sym channel-at) u) (λ m. ends-use 0o01 (ends l p k .packets m .status)) in
         sim-units h (sweep s₁ j (atUnit c a) failed) (sweep-inv s₁ I₁ j (atUnit c a) failed inside refl failed-going) (fails (ends l p k)) S₂
         (setLock (s .units) c a true) true (lock-here h s H c a true d channel-at (sym u))
 
@@ -79,8 +105,15 @@ module _ (h : Holding) (s : State) (I : Inv s) (H : Holds s h) (l : Lone) (S : S
         subst (λ (x : Bool). Sim h (cond (true && not x) (broken (over s c j p k) c (packetIn (s .jobs) j p .at) j) (over s c j p k)) (breaks (h .drum) (ends l p k)))
         (sym g) (by-kind k (h .drum) refl)
 
-    pub sim-complete : (how : How) → Sim h (returnIfDone j (finished s c how j p)) (loneStep (h .drum) l (Complete c how))
-    unfolding loneStep
+    -- the lone unit takes it: the packet moves there, and may end so
+    pub takes-complete : (how : How) → isWrong (packetIn (s .jobs) j p .status) how ≡ false → loneTakes l (Complete c how) ≡ true
+    unfolding loneTakes
+    takes-complete how right =
+        let e : l .packets p .status ≡ packetIn (s .jobs) j p .status = ap (λ (r : Request). r .status) (S .table p (rw at-j t)) ∙ rw at-j in
+        ap (mayComplete l how) moving-is ∙ ap (λ (x : Status). mayEnd x how) e ∙ may-end (packetIn (s .jobs) j p .status) how right
+
+    pub sim-complete : (how : How) → Sim h (returnIfDone j (finished s c how j p)) (loneDoes (h .drum) l (Complete c how))
+    unfolding loneDoes
     sim-complete how =
         subst (λ (x : Option ℕ). Sim h (returnIfDone j (finished s c how j p)) (completesAs (h .drum) l how x)) (sym moving-is)
         (sim-return h (finished s c how j p) (finished-inv s I c small j p is how) (completesAs (h .drum) l how (some p)) (sim-finished how) j)
@@ -143,23 +176,58 @@ module _ (h : Holding) (s : State) (I : Inv s) (l : Lone) (S : Sim h s l) (j : �
   its-place : j < length (s .jobs)
   its-place = alive-in (s .jobs) j (running-alive (stateIn (s .jobs) j) r)
 
-  sim-close : (l′ : Lone) → Sim h (sweep s j always cut) l′ → Sim h (ended s j err) l′
-  sim-close l′ S′ =
-      sim-return h (close (sweep s j always cut) j (closing err)) (ending-inv s I j err r) l′
-      (sim-same h (sweep s j always cut) (sweep-inv s I j always cut its-place refl cut-going) l′ S′ (s .units) (setState (restatusAll (s .jobs) j always cut) j (closing err)) refl
-      (packet-state (restatusAll (s .jobs) j always cut) j (closing err) (h .place)))
-      j
+  abbrev swept : State
+  swept = sweep s j always cut
 
-  pub sim-end : h .place ≡ j → Sim h (ended s j err) (loneStep (h .drum) l (End j err))
-  unfolding loneStep
+  swept-inv : Inv swept
+  swept-inv = sweep-inv s I j always cut its-place refl cut-going
+
+  -- the states of the places, once place j is closing
+  states : (i : ℕ) → stateIn (setState (swept .jobs) j (closing err)) i ≡ cond (eqb i j) (closing err) (stateIn (s .jobs) i)
+  states i =
+      state-state (swept .jobs) j (closing err) i (rw (length-restatus (s .jobs) j always cut) its-place)
+      ∙ rw (state-restatus (s .jobs) j always cut i)
+
+  -- the job's end is known here
+  sim-closes : h .place ≡ j → (l′ : Lone) → Sim h swept l′ → Sim h (close swept j (closing err)) (closes l′)
+  sim-closes at-j l′ S′ =
+      let e : stateIn (setState (swept .jobs) j (closing err)) (h .place) ≡ closing err = states (h .place) ∙ rw (at-j, eqb-self j) in
+      sim-same-but h swept swept-inv l′ S′ (s .units) (setState (swept .jobs) j (closing err)) refl
+      (packet-state (swept .jobs) j (closing err) (h .place)) true
+      (sym (ap (λ (t : JobState). not (isRunning t)) e ∙ over-closing err))
+    where
+      over-closing : (b : Bool) → not (isRunning (closing b)) ≡ true
+      over-closing true = refl
+      over-closing false = refl
+
+  pub takes-end : h .place ≡ j → loneTakes l (End j err) ≡ true
+  unfolding loneTakes
+  takes-end at-j =
+      let x : isRunning (stateIn (s .jobs) (h .place)) ≡ true = rw at-j r in
+      ap not (S .over ∙ ap not x)
+
+  pub sim-end : h .place ≡ j → Sim h (ended s j err) (loneDoes (h .drum) l (End j err))
+  unfolding loneDoes
   sim-end at-j =
-      sim-close (halts (λ x. true) l)
+      sim-return h (close swept j (closing err)) (ending-inv s I j err r) (closes (halts (λ x. true) l))
+      (sim-closes at-j (halts (λ x. true) l)
       (sim-sweep h s I l S j always cut its-place refl at-j (λ m. become (l .packets m) (stops (endsWith 0o16 (l .packets m .status))))
-      (λ n y. rw (S .table n y, cut-stops (packetIn (s .jobs) (h .place) n .status))))
+      (λ n y. rw (S .table n y, cut-stops (packetIn (s .jobs) (h .place) n .status)))
+      (λ n. stops-use 0o16 (l .packets n .status))))
+      j
 
   pub sim-end-away : eqb (h .place) j ≡ false → Sim h (ended s j err) l
   sim-end-away away =
-      sim-close l (sim-sweep-away h s I l S j always cut its-place refl (λ n e y. absurd (eqb-false (h .place) j away e)))
+      sim-return h (close swept j (closing err)) (ending-inv s I j err r) l
+      (sim-same h swept swept-inv l
+      (sim-sweep-away h s I l S j always cut its-place refl (λ n e y. absurd (eqb-false (h .place) j away e)))
+      (s .units) (setState (swept .jobs) j (closing err)) refl
+      (packet-state (swept .jobs) j (closing err) (h .place))
+      (ap isRunning (states (h .place) ∙ same ∙ sym (state-restatus (s .jobs) j always cut (h .place)))))
+      j
+    where
+      same : cond (eqb (h .place) j) (closing err) (stateIn (s .jobs) (h .place)) ≡ stateIn (s .jobs) (h .place)
+      same = rw away
 
 -- ---- a new job, a mark
 
@@ -169,6 +237,7 @@ sim-assign-away h s I H l S j small empty asg =
     sim-same h s I l S (takeAll (s .units) j (wanted asg)) (assigned s j asg .jobs)
     (by-bool (h .drum) (λ d. rw d) (λ d. rw (d, take-held s I j small empty asg (h .channel) (h .unit) (h .place) (unit-held h s H d))))
     (λ n. rw (packet-fresh (s .jobs) j asg (h .place) (rw (I .places) small) n, other))
+    (rw (state-fresh (s .jobs) j asg (h .place) (rw (I .places) small), other))
   where
     other : eqb (h .place) j ≡ false
     other = by-bool (eqb (h .place) j) (λ e. never {b = isEmpty (stateIn (s .jobs) j)} empty (rw (eqb-true (h .place) j e) at (holder-alive h s I H))) (λ e. e)

@@ -1,9 +1,9 @@
 -- A start and a return: the holding and its lone unit stay alike, and make the same start. Assumes nothing.
 use Prim.Native.Nat.{ℕ, _<_}
 use mathlib.Core.Path.{_≡_, refl, sym, ap, _∙_, subst}
-use mathlib.Core.Bool.{Bool, true, false, not, cond, _&&_, _||_}
-use mathlib.Core.List.{List, [], _∷_, map}
-use mathlib.Core.Option.{none, some}
+use mathlib.Core.Bool.{Bool, true, false, not, _&&_, _||_}
+use mathlib.Core.List.{List, _∷_, map}
+use mathlib.Core.Option.{Option, none, some}
 use lib.Dec.{eqb}
 use borrow.Author.Tests.{eqb-true, eq-eqb, not-true}
 use Rattle.numbers.proofs.Tests.{by-bool}
@@ -12,14 +12,15 @@ use Rattle.packets.specs.Demand.{Holding, Holds, startIn, there}
 use Rattle.packets.proofs.Inv.{EntryOk, Inv}
 use Rattle.packets.proofs.InvStores.{idle-is}
 use Rattle.packets.proofs.Laws.{all-imp, and-left, and-right, eqb-self, find-holds, find-keep, or-right}
-use Rattle.packets.specs.Lone.{Lone, become, carries, loneStart, loneStep, setsOff, startOf, stores}
+use Rattle.packets.specs.Lone.{Lone, become, carries, setsOff, startOf, stores, loneDoes, loneTakes, startBy}
 use Rattle.packets.specs.Picks.{find, keep}
 use Rattle.packets.specs.Rules.{Start, answer, begun, returnIfDone, startable}
-use Rattle.packets.proofs.Sim.{Sim, lockThere, movingThere, num, on, sim-move, sim-move-away, sim-same, sim-store, sim-store-away}
+use Rattle.packets.proofs.Sim.{Sim, lockThere, movingThere, num, on, sim-store, sim-store-away}
+use Rattle.packets.proofs.SimRest.{sim-move, sim-move-away, sim-same}
 use Rattle.packets.proofs.SimSubmit.{there-channel, there-unit}
-use Rattle.packets.specs.State.{State, anyMoves, drumOn, isClosing, isIdle, motionOn, packetIn, packetOf, placeOf, put, releaseAll, setState, stateIn, store, withStatus}
-use Rattle.packets.proofs.Steps.{start-at, start-fits, start-store, startable-on}
-use Rattle.packets.proofs.Store.{packet-state, unit-release}
+use Rattle.packets.specs.State.{State, anyMoves, drumOn, isClosing, isIdle, isRunning, motionOn, packetIn, packetOf, placeOf, put, releaseAll, setState, stateIn, store, withStatus}
+use Rattle.packets.proofs.Steps.{closing-not-running, start-at, start-fits, start-store, startable-on}
+use Rattle.packets.proofs.Store.{alive-in, packet-state, state-state, unit-release}
 use Rattle.packets.specs.declared.Job.{Job}
 use Rattle.packets.specs.declared.JobState.the-variants.{Empty}
 use Rattle.packets.specs.declared.Motion.the-variants.{Busy}
@@ -32,8 +33,15 @@ sim-return h s I l S j =
     by-bool (isClosing (stateIn (s .jobs) j) && not (anyMoves j (s .moving)))
     (λ e. rw e (sim-same h s I l S (releaseAll (s .units) j) (setState (s .jobs) j Empty)
     (by-bool (h .drum) (λ d. rw d) (λ d. rw (d, unit-release (s .units) j (h .channel) (h .unit))))
-    (packet-state (s .jobs) j Empty (h .place))))
+    (packet-state (s .jobs) j Empty (h .place)) (still-over (and-left (isClosing (stateIn (s .jobs) j)) _ e))))
     (λ e. rw e S)
+  where
+    -- a closing job does not run, nor does an empty place
+    still-over : isClosing (stateIn (s .jobs) j) ≡ true → isRunning (stateIn (setState (s .jobs) j Empty) (h .place)) ≡ isRunning (stateIn (s .jobs) (h .place))
+    still-over c =
+        let k = closing-not-running (stateIn (s .jobs) j) c in
+        rw (state-state (s .jobs) j Empty (h .place) (alive-in (s .jobs) j (k .1)))
+        (by-bool (eqb (h .place) j) (λ d. rw d (sym (rw (eqb-true (h .place) j d) (k .0)))) (λ d. rw d))
 
 -- ---- a start
 
@@ -80,25 +88,38 @@ module _ (h : Holding) (s : State) (I : Inv s) (H : Holds s h) (l : Lone) (S : S
     order-is : l .order ≡ packetOf e ∷ map num (first-is .0)
     order-is = S .order ∙ ap (λ (x : List ℕ). map num x) (first-is .1)
 
-    lone-start : loneStep (h .drum) l (Start c) ≡ carries (stores l (packetOf e) (become (l .packets (packetOf e)) InProgress)) (some (packetOf e))
-    unfolding loneStep
-    lone-start =
-        ap (λ (b : Bool). cond b l (setsOff l (l .order))) (S .lock ∙ no-lock)
-        ∙ ap (setsOff l) order-is
+    -- the lone unit takes it: its job runs, nothing is in progress or stopping, no interlock is set, and something is listed
+    pub takes-start : loneTakes l (Start c) ≡ true
+    unfolding loneTakes
+    takes-start =
+        let x : isRunning (stateIn (s .jobs) (h .place)) ≡ true = rw (← at-e) (entry-ok .running) in
+        let o : l .jobOver ≡ false = S .over ∙ rw x in
+        let m : l .moving ≡ none = S .moving ∙ ap (λ (k : ℕ). movingThere h (s .jobs) (motionOn s k)) channel-is ∙ ap (movingThere h (s .jobs)) (idle-is s I c idle) in
+        ap (λ (b : Bool). takes b (l .moving) (l .interlock) (l .order)) o
+        ∙ ap (λ (x : Option ℕ). takes false x (l .interlock) (l .order)) m
+        ∙ ap (λ (b : Bool). takes false none b (l .order)) (S .lock ∙ no-lock)
+        ∙ ap (takes false none false) order-is
+      where
+        takes : Bool → Option ℕ → Bool → List ℕ → Bool
+        takes over moving interlock order =
+            loneTakes (record { packets = l .packets; order = order; moving = moving; interlock = interlock; jobOver = over }) (Start c)
 
-    pub same-start : loneStart (h .place) l (Start c) ≡ startIn (answer s (Start c))
-    unfolding loneStart answer
+    lone-start : loneDoes (h .drum) l (Start c) ≡ carries (stores l (packetOf e) (become (l .packets (packetOf e)) InProgress)) (some (packetOf e))
+    unfolding loneDoes
+    lone-start = ap (setsOff l) order-is
+
+    pub same-start : startBy (h .place) l (Start c) ≡ startIn (answer s (Start c))
+    unfolding startBy answer
     same-start =
-        ap (λ (b : Bool). cond b [] (startOf (h .place) l (l .order))) (S .lock ∙ no-lock)
-        ∙ ap (startOf (h .place) l) order-is
+        ap (startOf (h .place) l) order-is
         ∙ rw (found, at-e, S .table (packetOf e) t)
 
-    pub sim-start : Sim h (begun s c e) (loneStep (h .drum) l (Start c))
+    pub sim-start : Sim h (begun s c e) (loneDoes (h .drum) l (Start c))
     sim-start =
         let q = withStatus (packetIn (s .jobs) (placeOf e) (packetOf e)) InProgress in
         let s₁ = store s (placeOf e) (packetOf e) q in
         let l₁ = stores l (packetOf e) (become (l .packets (packetOf e)) InProgress) in
-        let S₁ : Sim h s₁ l₁ = sim-store h s I l S (placeOf e) (packetOf e) q (start-fits s I c small e entry-ok on-channel) (λ b. refl) (sym at-e) (become (l .packets (packetOf e)) InProgress)
+        let S₁ : Sim h s₁ l₁ = sim-store h s I l S (placeOf e) (packetOf e) q (start-fits s I c small e entry-ok on-channel) (λ b. refl) (sym at-e) (rw at-e t) (become (l .packets (packetOf e)) InProgress)
         (rw (S .table (packetOf e) t, at-e)) in
         subst (λ (x : Lone). Sim h (begun s c e) x) (sym lone-start)
         (sim-move h s₁ (start-store s I c small e entry-ok on-channel) l₁ S₁ c (Busy (placeOf e) (packetOf e)) (some (packetOf e)) small channel-is now-moving)

@@ -1,6 +1,6 @@
 -- A submission: the holding and its lone unit stay alike, whether it acts there or elsewhere. Assumes nothing.
 use Prim.Native.Nat.{ℕ}
-use mathlib.Core.Path.{_≡_, refl, sym, _∙_, subst}
+use mathlib.Core.Path.{_≡_, refl, sym, ap, _∙_, subst}
 use mathlib.Core.Bool.{Bool, true, false, not, cond, _&&_}
 use mathlib.Core.List.{List}
 use lib.Dec.{ltb, leb, eqb}
@@ -13,10 +13,11 @@ use Rattle.packets.proofs.Inv.{Inv}
 use Rattle.packets.proofs.InvJobs.{held-once, held-taken}
 use Rattle.packets.proofs.InvStores.{entry-packet, entry-place, lock-inv, sweep-inv}
 use Rattle.packets.proofs.Laws.{and-both, and-left, and-right, bool-iff, eqb-self, or-right}
-use Rattle.packets.specs.Lone.{Lone, become, endsWith, fails, halts, hears, lists, locks, meant, request, stops, stores, unlocks}
+use Rattle.packets.specs.Lone.{Lone, become, endsWith, fails, halts, hears, lists, locks, meant, request, stops, stores, unlocks, inUse}
 use Rattle.packets.specs.Rules.{aimed, atUnit, cut, enlist, failed, locked, packet, pass, submitted, terminate, unlock}
-use Rattle.packets.proofs.Sim.{Sim, lockThere, look, on, sim-enqueue, sim-enqueue-away, sim-store, sim-store-away, sim-sweep, sim-sweep-away, sim-units, sim-units-away}
-use Rattle.packets.specs.State.{State, drumOn, entryOf, heldBy, isBusy, isEmpty, jobIn, lock, packetIn, put, restatus, setLock, stateIn, store, sweep, withLock}
+use Rattle.packets.proofs.Sim.{Sim, here-busy, lockThere, look, on, sim-store, sim-store-away, sim-sweep, sim-sweep-away}
+use Rattle.packets.proofs.SimRest.{sim-enqueue, sim-enqueue-away, sim-units, sim-units-away}
+use Rattle.packets.specs.State.{State, drumOn, entryOf, heldBy, isBusy, isEmpty, isRunning, jobIn, lock, packetIn, put, restatus, setLock, stateIn, store, sweep, withLock}
 use Rattle.packets.proofs.Steps.{Ready, listed-new, ready-fits, ready-inside, ready-store, ready-sweep, stored-at}
 use Rattle.packets.proofs.Store.{unit-set}
 use Rattle.packets.proofs.Told.{Submits, cut-going, cut-idle, failed-going, failed-idle}
@@ -38,6 +39,21 @@ cut-stops Listed = refl
 cut-stops InProgress = refl
 cut-stops Stopping = refl
 cut-stops (Ended k) = refl
+
+-- what either table leaves in use was in use
+pub ends-use : (k : ℕ) (x : Status) → inUse (endsWith k x) ≡ true → inUse x ≡ true
+ends-use k Blank e = e
+ends-use k Listed e = refl
+ends-use k InProgress e = e
+ends-use k Stopping e = e
+ends-use k (Ended i) e = e
+
+pub stops-use : (k : ℕ) (x : Status) → inUse (stops (endsWith k x)) ≡ true → inUse x ≡ true
+stops-use k Blank e = e
+stops-use k Listed e = refl
+stops-use k InProgress e = e
+stops-use k Stopping e = e
+stops-use k (Ended i) e = e
 
 pub eqb-flip : (a b : ℕ) → eqb a b ≡ eqb b a
 eqb-flip a b =
@@ -108,9 +124,10 @@ module _ (h : Holding) (s : State) (I : Inv s) (H : Holds s h) (l : Lone) (S : S
   ready = record { small = k .small; running = k .running; idle = k .idle }
 
   -- what is listed, or stored, where the submission says
-  store-here : (s′ : State) → Inv s′ → (l′ : Lone) → Sim h s′ l′ → Ready s′ j p → h .place ≡ j → (t : Status) → Sim h (store s′ j p (packet t f c a)) (stores l′ p (request t f a))
-  store-here s′ I′ l′ S′ r at-j t =
-      sim-store h s′ I′ l′ S′ j p (packet t f c a) (ready-fits s′ I′ j p r) (λ y. never {b = isBusy (packetIn (s′ .jobs) j p .status)} y (r .idle)) at-j (request t f a) refl
+  store-here : (s′ : State) → Inv s′ → (l′ : Lone) → Sim h s′ l′ → Ready s′ j p → h .place ≡ j → isThere h c a ≡ true → (t : Status)
+      → Sim h (store s′ j p (packet t f c a)) (stores l′ p (request t f a))
+  store-here s′ I′ l′ S′ r at-j y t =
+      sim-store h s′ I′ l′ S′ j p (packet t f c a) (ready-fits s′ I′ j p r) (λ b. never {b = (isBusy (packetIn (s′ .jobs) j p .status))} b (r .idle)) at-j y (request t f a) refl
 
   store-gone : (s′ : State) → Inv s′ → Sim h s′ l → Ready s′ j p → eqb (h .place) j && isThere h c a ≡ false → (t : Status) → Sim h (store s′ j p (packet t f c a)) l
   store-gone s′ I′ S′ r away t =
@@ -134,10 +151,10 @@ module _ (h : Holding) (s : State) (I : Inv s) (H : Holds s h) (l : Lone) (S : S
         let s₁ = sweep s j (atUnit c a) failed in
         let I₁ : Inv s₁ = sweep-inv s I j (atUnit c a) failed inside refl failed-going in
         let r₁ : Ready s₁ j p = ready-sweep s j p (atUnit c a) failed refl failed-idle ready in
-        let S₁ : Sim h s₁ (fails l) = sim-sweep h s I l S j (atUnit c a) failed inside refl at-j (λ m. become (l .packets m) (endsWith 0o01 (l .packets m .status))) (fail-table h s l S c a (drum-off d) (there-channel h c a t) (there-unit h c a (drum-off d) t)) in
+        let S₁ : Sim h s₁ (fails l) = sim-sweep h s I l S j (atUnit c a) failed inside refl at-j (λ m. become (l .packets m) (endsWith 0o01 (l .packets m .status))) (fail-table h s l S c a (drum-off d) (there-channel h c a t) (there-unit h c a (drum-off d) t)) (λ m. ends-use 0o01 (l .packets m .status)) in
         store-here (lock s₁ c a false) (lock-inv s₁ I₁ c a false) (locks (fails l) false)
         (sim-units h s₁ I₁ (fails l) S₁ (setLock (s .units) c a false) false (lock-here h s H c a false (drum-off d) (sym (there-channel h c a t)) (sym (there-unit h c a (drum-off d) t))))
-        (record { small = r₁ .small; running = r₁ .running; idle = r₁ .idle }) at-j (Ended 0o00)
+        (record { small = r₁ .small; running = r₁ .running; idle = r₁ .idle }) at-j t (Ended 0o00)
 
     -- what a 23 there aims at
     aimed-is : (n : ℕ) → there h (packetIn (s .jobs) (h .place) n) ≡ true
@@ -155,23 +172,37 @@ module _ (h : Holding) (s : State) (I : Inv s) (H : Holds s h) (l : Lone) (S : S
         rw (S .table n y, cut-stops (q .status), aimed-is n y)
         (by-bool (meant (h .drum) a b (q .at)) (λ e. rw e) (λ e. rw e))
 
+    cut-use : (n : ℕ) → inUse (cond (meant (h .drum) a b (l .packets n .at)) (become (l .packets n) (stops (endsWith 0o16 (l .packets n .status)))) (l .packets n) .status) ≡ true
+        → inUse (l .packets n .status) ≡ true
+    cut-use n u =
+        by-bool (meant (h .drum) a b (l .packets n .at)) (λ e. stops-use 0o16 (l .packets n .status) (rw e at u)) (λ e. rw e at u)
+
     sim-terminate : Sim h (terminate s j p f c a b) (stores (halts (meant (h .drum) a b) l) p (request (Ended 0o00) f a))
     sim-terminate =
         let inside = ready-inside s j p ready in
         let test = aimed (drumOn (s .channels) c) c a b in
         store-here (sweep s j test cut) (sweep-inv s I j test cut inside refl cut-going) (halts (meant (h .drum) a b) l)
-        (sim-sweep h s I l S j test cut inside refl at-j (λ m. cond (meant (h .drum) a b (l .packets m .at)) (become (l .packets m) (stops (endsWith 0o16 (l .packets m .status)))) (l .packets m)) cut-table)
-        (ready-sweep s j p test cut refl cut-idle ready) at-j (Ended 0o00)
+        (sim-sweep h s I l S j test cut inside refl at-j (λ m. cond (meant (h .drum) a b (l .packets m .at)) (become (l .packets m) (stops (endsWith 0o16 (l .packets m .status)))) (l .packets m)) cut-table cut-use)
+        (ready-sweep s j p test cut refl cut-idle ready) at-j t (Ended 0o00)
 
     sim-enlist : Sim h (enlist s j p f c a) (lists l p f a)
     sim-enlist =
         sim-enqueue h (store s j p (packet Listed f c a)) (ready-store s I j p (packet Listed f c a) ready) (stores l p (request Listed f a))
-        (store-here s I l S ready at-j Listed) j p (listed-new s I j p f c a k)
+        (store-here s I l S ready at-j t Listed) j p (listed-new s I j p f c a k)
         (rw (entry-place j p (k .small), entry-packet j p (k .small), at-j, eqb-self j, stored-at s I j p (packet Listed f c a) ready) t)
 
     sim-seven : (x : Bool) → locked s c a ≡ x → Sim h (cond x (unlock s j p f c a) (pass s j p f c a)) (unlocks l p f a x)
     sim-seven true d = sim-unlock d
-    sim-seven false d = store-here s I l S ready at-j (Ended 0o00)
+    sim-seven false d = store-here s I l S ready at-j t (Ended 0o00)
+
+    -- the lone unit takes it: its job runs, and the packet is not in use
+    pub takes-submit : not (l .jobOver) && not (inUse (l .packets p .status)) ≡ true
+    takes-submit =
+        let x : isRunning (stateIn (s .jobs) (h .place)) ≡ true = rw at-j (k .running) in
+        let y : l .jobOver ≡ false = S .over ∙ rw x in
+        let z : inUse (l .packets p .status) ≡ false =
+        by-bool (inUse (l .packets p .status)) (λ u. never {b = (isBusy (packetIn (s .jobs) j p .status))} (rw at-j at (here-busy h s l S p u)) (k .idle)) (λ u. u) in
+        and-both _ _ (ap not y) (ap not z)
 
     pub sim-submit : Sim h (submitted s j p f c a b) (hears (h .drum) l p f a b)
     sim-submit =

@@ -6,12 +6,12 @@ use mathlib.Core.List.{List}
 use lib.Dec.{ltb}
 use borrow.Author.Tests.{ltb-true, not-false}
 use Rattle.numbers.proofs.Tests.{never}
-use Rattle.numbers.specs.declared.Refusal.the-variants.{ChannelBusy, NoJob, NotLegal, NotTheJobs, NothingInProgress, NothingSelected, NothingStartable, OutOfRange, PacketInUse}
+use Rattle.numbers.specs.declared.Refusal.the-variants.{ChannelBusy, NoJob, NotLegal, NotTheJobs, NothingInProgress, NothingSelected, NothingStartable, OutOfRange, PacketInUse, WrongCompletion}
 use Rattle.units.specs.State.{unitIn}
 use Rattle.packets.specs.State.{inMotion, State, configured, drumOn, fittedOn, isBusy, isEmpty, isIdle, isListed, isRunning, jobIn, legalFor, motionOn, packetIn, stateIn}
 use Rattle.packets.proofs.Laws.{and-left, and-right, passes}
 use Rattle.packets.specs.Picks.{find}
-use Rattle.packets.specs.Rules.{Complete, End, Start, Submit, Take, atOf, cut, failed, inRange, isNone, isOwn, refusal, startable}
+use Rattle.packets.specs.Rules.{Complete, End, Start, Submit, Take, atOf, cut, failed, inRange, isNone, isOwn, isWrong, movingStatus, refusal, startable}
 use Rattle.packets.specs.declared.Assignment.{Assignment}
 use Rattle.channels.specs.declared.Channel.{Channel}
 use Rattle.packets.specs.declared.How.{How}
@@ -60,12 +60,14 @@ starts-on s c e =
     let r₃ = passes (isNone (find (startable s c) (s .queue))) NothingStartable Granted (r₂ .1) in
     (configured-in (s .channels) c (not-false _ (r₁ .0)), not-false _ (r₂ .0), r₃ .0)
 
-pub completes-on : (s : State) (c : ℕ) (how : How) → refusal s (Complete c how) ≡ Granted → (c < 16) × (isIdle (motionOn s c) ≡ false)
+pub completes-on : (s : State) (c : ℕ) (how : How) → refusal s (Complete c how) ≡ Granted
+    → (c < 16) × (isIdle (motionOn s c) ≡ false) × (isWrong (movingStatus s (motionOn s c)) how ≡ false)
 unfolding refusal
 completes-on s c how e =
     let r₁ = passes (not (configured (s .channels) c)) OutOfRange _ e in
     let r₂ = passes (isIdle (motionOn s c)) NothingInProgress _ (r₁ .1) in
-    (configured-in (s .channels) c (not-false _ (r₁ .0)), r₂ .0)
+    let r₃ = passes (isWrong (movingStatus s (motionOn s c)) how) WrongCompletion Granted (r₂ .1) in
+    (configured-in (s .channels) c (not-false _ (r₁ .0)), r₂ .0, r₃ .0)
 
 pub ends-of : (s : State) (j : ℕ) (e : Bool) → refusal s (End j e) ≡ Granted → isRunning (stateIn (s .jobs) j) ≡ true
 unfolding refusal

@@ -8,11 +8,12 @@ use Rattle.units.specs.declared.Unit.{Unit as UnitState}
 use Rattle.units.specs.State.{unitIn}
 use Rattle.channels.specs.declared.Channel.{Channel}
 use Rattle.packets.specs.Demand.{NoneHeld, fresh}
-use Rattle.packets.specs.State.{inMotion, State, drumOn, entryOf, heldBy, isBusy, isListed, isStill, motionOn, packetIn}
+use Rattle.packets.specs.State.{inMotion, State, drumOn, entryOf, heldBy, isBusy, isClosing, isEmpty, isListed, isStill, motionOn, packetIn, stateIn}
 use Rattle.packets.specs.Picks.{All, Nodup, any}
 use Rattle.packets.specs.Rules.{Call, run}
 use Rattle.packets.specs.declared.Motion.the-variants.{Busy}
 use Rattle.packets.specs.declared.Packet.{Packet}
+use Rattle.packets.specs.declared.Status.the-variants.{Stopping}
 
 -- packet p of the job in place j
 abbrev pub packetAt : State → ℕ → ℕ → Packet
@@ -30,6 +31,12 @@ pub record Always (s : State) : Type 0 where
   -- a listed or moving packet's unit is held by its job
   pub held : (j p : ℕ) → isBusy (packetAt s j p .status) ≡ true → drumOn (s .channels) (packetAt s j p .channel .0) ≡ false
       → heldBy (unitIn (s .units) (packetAt s j p .channel .0) (packetAt s j p .at) .holder) j ≡ true
+  -- a job of which a packet is listed, in progress or stopping is still there
+  pub live : (j p : ℕ) → isBusy (packetAt s j p .status) ≡ true → isEmpty (stateIn (s .jobs) j) ≡ false
+  -- a closing job has a packet stopping, and what of it moves is
+  pub closing : (j : ℕ) → isClosing (stateIn (s .jobs) j) ≡ true → (p : ℕ) × (packetAt s j p .status ≡ Stopping)
+  pub stopping : (j p : ℕ) → isClosing (stateIn (s .jobs) j) ≡ true → inMotion (packetAt s j p .status) ≡ true
+      → packetAt s j p .status ≡ Stopping
 
 abbrev pub Invariants : Type 0
 Invariants = (channels : List Channel) (units : List (List UnitState)) → NoneHeld units → (calls : List Call)

@@ -8,7 +8,7 @@ use lib.Dec.{ltb, eqb}
 use Rattle.units.specs.declared.Unit.{Unit as UnitState}
 use Rattle.units.specs.State.{unitIn}
 use Rattle.units.specs.declared.Holder.the-variants.{Free}
-use Rattle.packets.specs.Lone.{loneRun, loneStarts, newLone}
+use Rattle.packets.specs.Lone.{loneRun, loneStarts, loneTakesAll, newLone}
 use Rattle.packets.specs.Rules.{Call, Complete, End, Mark, Start, Submit, Take, atOf, refusal, run, step}
 use Rattle.packets.specs.State.{State, blank, drumOn, heldBy, isEmpty, jobIn, motionOn, noCore, packetIn, stateIn}
 use Rattle.packets.specs.declared.Answer.{Answer}
@@ -154,26 +154,33 @@ abbrev pub Stretch : Holding → State → List Call → Type 0
 Stretch h s [] = Unit {0}
 Stretch h s (x ∷ l) = Holds s h × Stretch h (step s x .state) l
 
--- nothing of another job is moving on that unit
-abbrev pub Quiet : Holding → State → Type 0
-Quiet h s = (j p : ℕ) → motionOn s (h .channel) ≡ Busy j p → packetIn (s .jobs) j p .at ≡ h .unit → j ≡ h .place
+-- every start on the unit is of a packet that this job has submitted there since the taking; t: which packets those are
+-- before the first call
+abbrev pub OwnStarts : Holding → Seen → List Event → Type 0
+OwnStarts h t [] = Unit {0}
+OwnStarts h t (e ∷ l) =
+    ((b : Begun) → e .call ≡ Start (h .channel) → e .answer ≡ Started b → b .at ≡ h .unit
+    → (b .place ≡ h .place) × (t (b .packet) ≡ true))
+    × OwnStarts h (noted h t (e .call) (e .answer)) l
 
--- nothing of another job starts there
-abbrev pub OwnStart : Holding → State → Call → Type 0
-OwnStart h s x = (b : Begun) → x ≡ Start (h .channel) → step s x .answer ≡ Started b → b .at ≡ h .unit → b .place ≡ h .place
+-- so is what moves on the unit
+abbrev pub OwnMotion : Holding → Seen → State → Type 0
+OwnMotion h t s =
+    (j p : ℕ) → motionOn s (h .channel) ≡ Busy j p → packetIn (s .jobs) j p .at ≡ h .unit → (j ≡ h .place) × (t p ≡ true)
 
-abbrev pub Undisturbed : Holding → State → List Call → Type 0
-Undisturbed h s [] = Quiet h s
-Undisturbed h s (x ∷ l) = Quiet h s × OwnStart h s x × Undisturbed h (step s x .state) l
-
-pub record Isolated (h : Holding) (s : State) (during : List Call) : Type 0 where
-  -- the same starts in the same order
-  pub starts : startsIn h noneSeen (events s during) ≡ loneStarts (h .drum) (h .place) newLone (acting h noneSeen (events s during))
-  -- the same status in every packet last submitted there
-  pub status : (n : ℕ) → seenAfter h noneSeen (events s during) n ≡ true
-      → loneRun (h .drum) newLone (acting h noneSeen (events s during)) .packets n .status ≡ packetIn (run s during .jobs) (h .place) n .status
-  -- on a unit that is not the drum nothing of another job starts or is still moving
-  pub alone : h .drum ≡ false → Undisturbed h s during
+-- of a stretch, by its calls and the answers to them, and of the state at its end; every moment of a stretch is the end of
+-- a shorter one
+pub record Isolated (h : Holding) (l : List Event) (end : State) : Type 0 where
+  -- the lone unit takes every call that acted on the holding, each at the moment when it comes
+  pub taken : loneTakesAll (h .drum) newLone (acting h noneSeen l) ≡ true
+  -- it makes the same starts in the same order
+  pub starts : startsIn h noneSeen l ≡ loneStarts (h .drum) (h .place) newLone (acting h noneSeen l)
+  -- it leaves the same status in every packet last submitted there
+  pub status : (n : ℕ) → seenAfter h noneSeen l n ≡ true
+      → loneRun (h .drum) newLone (acting h noneSeen l) .packets n .status ≡ packetIn (end .jobs) (h .place) n .status
+  -- on a unit that is not the drum nothing of another job starts or is still moving, nor of one that had the place before
+  pub started : h .drum ≡ false → OwnStarts h noneSeen l
+  pub moves : h .drum ≡ false → OwnMotion h (seenAfter h noneSeen l) end
 
 -- in a cell that any calls led to from a fresh one, a job is taken with any assignment; for all that it then holds,
 -- up to its return or any earlier moment
@@ -186,4 +193,5 @@ Demand3 =
     → Holds (step (run (fresh channels units) before) (Take j asg) .state) h
     → (during : List Call)
     → Stretch h (step (run (fresh channels units) before) (Take j asg) .state) during
-    → Isolated h (step (run (fresh channels units) before) (Take j asg) .state) during
+    → Isolated h (events (step (run (fresh channels units) before) (Take j asg) .state) during)
+    (run (step (run (fresh channels units) before) (Take j asg) .state) during)

@@ -1,15 +1,17 @@
--- A lone unit, or a lone piece of drum, that one job has to itself. It knows nothing of channels, places or other
--- units. A reader has to believe this page. It shares with the rules of the cell only the calls, the statuses and the
--- shape of a start.
+-- A lone unit, or a lone piece of drum, that one job has to itself: what it refuses and what it does, written from document
+-- 01 and not from the rules of the cell. It knows nothing of channels, places or other units. A reader has to believe this
+-- page. It shares with the rules only the calls, the statuses and the shape of a start.
 use Prim.Native.Nat.{ℕ}
-use mathlib.Core.Bool.{Bool, true, false, cond, _&&_}
+use mathlib.Core.Bool.{Bool, true, false, not, cond, _&&_}
 use mathlib.Core.List.{List, [], _∷_, _++_}
 use mathlib.Core.Option.{Option, none, some}
 use lib.Dec.{leb, eqb}
-use Rattle.packets.specs.Rules.{Call, Complete, End, Mark, Start, Submit, Take, atOf, packet, toOf}
+use Rattle.packets.specs.Rules.{Call, Complete, End, Mark, Start, Submit, Take}
 use Rattle.packets.specs.declared.Begun.{Begun}
 use Rattle.packets.specs.declared.How.{How}
 use Rattle.packets.specs.declared.How.the-variants.{Cut, Failed, Full}
+use Rattle.packets.specs.declared.Spot.{Spot}
+use Rattle.packets.specs.declared.Spot.the-variants.{OnDrum, OnUnit}
 use Rattle.packets.specs.declared.Status.{Status}
 use Rattle.packets.specs.declared.Status.the-variants.{Blank, Ended, InProgress, Listed, Stopping}
 
@@ -18,19 +20,25 @@ pub record Request : Type 0 where
   pub function : ℕ
   pub at : ℕ
 
--- packets: what was last submitted under each number. order: the numbers of the listed ones, the oldest first
 pub record Lone : Type 0 where
+  -- what was last submitted here under each number
   pub packets : ℕ → Request
+  -- the numbers of the listed ones, the oldest first
   pub order : List ℕ
+  -- the one in progress or stopping
   pub moving : Option ℕ
+  -- a failure sets it; a piece of drum never has it, since a failure there sets none
   pub interlock : Bool
+  -- the job has ended
+  pub jobOver : Bool
 
 abbrev pub unused : Request
 unused = record { status = Blank; function = 0; at = 0 }
 
 abbrev pub newLone : Lone
-newLone = record { packets = λ n. unused; order = []; moving = none; interlock = false }
+newLone = record { packets = λ n. unused; order = []; moving = none; interlock = false; jobOver = false }
 
+-- a packet is listed
 abbrev pub waits : Status → Bool
 waits Blank = false
 waits Listed = true
@@ -67,16 +75,20 @@ still t (n ∷ l) = cond (waits (t n .status)) (n ∷ still t l) (still t l)
 
 -- the packets are now these; whoever is still listed keeps its turn
 abbrev pub settle : Lone → (ℕ → Request) → Lone
-settle l t = record { packets = t; order = still t (l .order); moving = l .moving; interlock = l .interlock }
+settle l t = record { packets = t; order = still t (l .order); moving = l .moving; interlock = l .interlock; jobOver = l .jobOver }
 
 abbrev pub locks : Lone → Bool → Lone
-locks l b = record { packets = l .packets; order = l .order; moving = l .moving; interlock = b }
+locks l b = record { packets = l .packets; order = l .order; moving = l .moving; interlock = b; jobOver = l .jobOver }
 
 abbrev pub carries : Lone → Option ℕ → Lone
-carries l m = record { packets = l .packets; order = l .order; moving = m; interlock = l .interlock }
+carries l m = record { packets = l .packets; order = l .order; moving = m; interlock = l .interlock; jobOver = l .jobOver }
+
+-- the job has ended
+abbrev pub closes : Lone → Lone
+closes l = record { packets = l .packets; order = l .order; moving = l .moving; interlock = l .interlock; jobOver = true }
 
 abbrev pub joins : Lone → ℕ → Lone
-joins l n = record { packets = l .packets; order = l .order ++ (n ∷ []); moving = l .moving; interlock = l .interlock }
+joins l n = record { packets = l .packets; order = l .order ++ (n ∷ []); moving = l .moving; interlock = l .interlock; jobOver = l .jobOver }
 
 -- packet n is now this
 abbrev pub stores : Lone → ℕ → Request → Lone
@@ -132,27 +144,98 @@ hears drum l n f a b =
     cond (eqb f 0o07) (unlocks l n f a (l .interlock))
     (cond (eqb f 0o23) (stores (halts (meant drum a b) l) n (request (Ended 0o00) f a)) (lists l n f a))
 
--- what a call that acts on the unit does; drum: it is a piece of drum
+-- where a submission goes: the unit's number, or on the drum X or L
+abbrev pub spotOf : Spot → ℕ
+spotOf (OnUnit u) = u .0
+spotOf (OnDrum x h) = x
+
+-- H, which only 23 on the drum reads
+abbrev pub endOf : Spot → ℕ
+endOf (OnUnit u) = 0
+endOf (OnDrum x h) = h
+
+-- ---- what it refuses
+
+-- a packet is listed, in progress or stopping
+abbrev pub inUse : Status → Bool
+inUse Blank = false
+inUse Listed = true
+inUse InProgress = true
+inUse Stopping = true
+inUse (Ended k) = false
+
+abbrev pub isHalting : Status → Bool
+isHalting Blank = false
+isHalting Listed = false
+isHalting InProgress = false
+isHalting Stopping = true
+isHalting (Ended k) = false
+
+-- nothing is in progress or stopping
+abbrev pub isAtRest : Option ℕ → Bool
+isAtRest none = true
+isAtRest (some n) = false
+
+-- a packet is listed
+abbrev pub hasListed : List ℕ → Bool
+hasListed [] = false
+hasListed (n ∷ r) = true
+
+-- a cut is for a stopping packet alone; a failure has none of the codes 00, 01, 16, 17 (octal), and none over 77
+abbrev pub mayEnd : Status → How → Bool
+mayEnd t Full = true
+mayEnd t Cut = isHalting t
+mayEnd t (Failed k) = not (eqb k 0o00) && (not (eqb k 0o01) && (not (eqb k 0o16) && (not (eqb k 0o17) && leb k 0o77)))
+
+-- a completion is of what moves
+abbrev pub mayComplete : Lone → How → Option ℕ → Bool
+mayComplete l how none = false
+mayComplete l how (some n) = mayEnd (l .packets n .status) how
+
+-- the calls that it takes: a submission of a packet that is not listed, in progress or stopping; a start while nothing is
+-- in progress or stopping, without interlock, of something listed; a completion of what moves; the job's end, once; and
+-- after that end nothing but completions
+unfoldable pub loneTakes : Lone → Call → Bool
+loneTakes l (Take j asg) = false
+loneTakes l (Submit j n f c w) = not (l .jobOver) && not (inUse (l .packets n .status))
+loneTakes l (Start c) = not (l .jobOver) && (isAtRest (l .moving) && (not (l .interlock) && hasListed (l .order)))
+loneTakes l (Complete c how) = mayComplete l how (l .moving)
+loneTakes l (End j e) = not (l .jobOver)
+loneTakes l (Mark c u m on) = false
+
+-- ---- what it does
+
+-- what a call that it takes does; drum: it is a piece of drum
+unfoldable pub loneDoes : Bool → Lone → Call → Lone
+loneDoes drum l (Take j asg) = l
+loneDoes drum l (Submit j n f c w) = hears drum l n f (spotOf w) (endOf w)
+loneDoes drum l (Start c) = setsOff l (l .order)
+loneDoes drum l (Complete c how) = completesAs drum l how (l .moving)
+loneDoes drum l (End j e) = closes (halts (λ x. true) l)
+loneDoes drum l (Mark c u m on) = l
+
+-- a refused call leaves it as it was
 unfoldable pub loneStep : Bool → Lone → Call → Lone
-loneStep drum l (Take j asg) = l
-loneStep drum l (Submit j n f c w) = hears drum l n f (atOf w) (toOf w)
-loneStep drum l (Start c) = cond (l .interlock) l (setsOff l (l .order))
-loneStep drum l (Complete c how) = completesAs drum l how (l .moving)
-loneStep drum l (End j e) = halts (λ x. true) l
-loneStep drum l (Mark c u m on) = l
+loneStep drum l x = cond (loneTakes l x) (loneDoes drum l x) l
 
 -- the start that a call makes, if it makes one; place is where the lone unit's job is
 abbrev pub startOf : ℕ → Lone → List ℕ → List Begun
 startOf place l [] = []
 startOf place l (n ∷ r) = (record { place = place; packet = n; function = l .packets n .function; at = l .packets n .at }) ∷ []
 
+unfoldable pub startBy : ℕ → Lone → Call → List Begun
+startBy place l (Take j asg) = []
+startBy place l (Submit j n f c w) = []
+startBy place l (Start c) = startOf place l (l .order)
+startBy place l (Complete c how) = []
+startBy place l (End j e) = []
+startBy place l (Mark c u m on) = []
+
+-- a refused call starts nothing
 unfoldable pub loneStart : ℕ → Lone → Call → List Begun
-loneStart place l (Take j asg) = []
-loneStart place l (Submit j n f c w) = []
-loneStart place l (Start c) = cond (l .interlock) [] (startOf place l (l .order))
-loneStart place l (Complete c how) = []
-loneStart place l (End j e) = []
-loneStart place l (Mark c u m on) = []
+loneStart place l x = cond (loneTakes l x) (startBy place l x) []
+
+-- ---- calls one after the other
 
 unfoldable pub loneRun : Bool → Lone → List Call → Lone
 loneRun drum l [] = l
@@ -161,3 +244,8 @@ loneRun drum l (x ∷ xs) = loneRun drum (loneStep drum l x) xs
 unfoldable pub loneStarts : Bool → ℕ → Lone → List Call → List Begun
 loneStarts drum place l [] = []
 loneStarts drum place l (x ∷ xs) = loneStart place l x ++ loneStarts drum place (loneStep drum l x) xs
+
+-- it takes every one of them, each at the moment when it comes
+unfoldable pub loneTakesAll : Bool → Lone → List Call → Bool
+loneTakesAll drum l [] = true
+loneTakesAll drum l (x ∷ xs) = loneTakes l x && loneTakesAll drum (loneStep drum l x) xs

@@ -1,5 +1,6 @@
--- A live job holds exactly what it was given: its drum area, its core and its units are those of the last taking into
--- its place, until all facilities return together; an empty place holds no unit. A reader has to believe this page.
+-- A live job holds exactly what it was given: its drum area, its core and its units are those of the last taking into its
+-- place, until all facilities return together; an empty place holds no unit. What is listed or moves on the drum is at an
+-- address of its job's area. A reader has to believe this page.
 use Prim.Native.Nat.{ℕ, _<_}
 use mathlib.Core.Path.{_≡_}
 use mathlib.Core.Bool.{true, false, cond, _&&_}
@@ -7,13 +8,16 @@ use mathlib.Core.List.{List, [], _∷_}
 use mathlib.Core.Option.{Option, none, some}
 use lib.Dec.{eqb}
 use Rattle.units.specs.State.{Square, assignable, unitIn}
+use Rattle.units.specs.declared.Holder.the-variants.{Held}
 use Rattle.units.specs.declared.Unit.{Unit as UnitState}
 use Rattle.channels.specs.declared.Channel.{Channel}
+use Rattle.packets.specs.Apart.{inCore}
 use Rattle.packets.specs.Demand.{Event, NoneHeld, events, fresh, isAccepted}
-use Rattle.packets.specs.Rules.{Call, Complete, End, Mark, Start, Submit, Take, run, step}
-use Rattle.packets.specs.State.{State, heldBy, isEmpty, jobIn, stateIn, wanted}
+use Rattle.packets.specs.Rules.{Call, Complete, End, Mark, Start, Submit, Take, inArea, run, step}
+use Rattle.packets.specs.State.{State, drumOn, heldBy, isBusy, isEmpty, jobIn, packetIn, stateIn, wanted}
 use Rattle.packets.specs.declared.Answer.{Answer}
 use Rattle.packets.specs.declared.Assignment.{Assignment}
+use Rattle.packets.specs.declared.Packet.{Packet}
 
 -- ---- what was given, by the calls and their answers alone
 
@@ -39,8 +43,7 @@ taking l j = takenIn j none l
 -- each unit that an accepted taking wants is assignable: free and unmarked
 abbrev pub Wants : State → Call → Type 0
 Wants s (Take j asg) =
-    isAccepted (step s (Take j asg) .answer) ≡ true → (c u : ℕ) → c < 16 → u < 16
-    → wanted asg c u ≡ true → assignable (unitIn (s .units) c u) ≡ true
+    isAccepted (step s (Take j asg) .answer) ≡ true → (c u : ℕ) → c < 16 → u < 16 → wanted asg c u ≡ true → assignable (unitIn (s .units) c u) ≡ true
 Wants s (Submit j p f c w) = Unit {0}
 Wants s (Start c) = Unit {0}
 Wants s (Complete c how) = Unit {0}
@@ -54,13 +57,28 @@ Wanting s (x ∷ l) = Wants s x × Wanting (step s x .state) l
 
 -- ---- what a place holds
 
--- the job in place j holds what the assignment gives: that drum area, that core, and a unit exactly when the
--- assignment has it
+-- the job in place j holds what the assignment gives: that drum area, that core, and a unit exactly when the assignment has it
 pub record HoldsExactly (s : State) (j : ℕ) (asg : Assignment) : Type 0 where
   pub from : jobIn (s .jobs) j .from ≡ asg .from
   pub words : jobIn (s .jobs) j .words ≡ asg .words
   pub core : jobIn (s .jobs) j .core ≡ asg .core
   pub units : (c u : ℕ) → c < 16 → u < 16 → heldBy (unitIn (s .units) c u .holder) j ≡ wanted asg c u
+
+-- all that the assignment gave is still the job's own: the job is there, it holds exactly that, and no other job holds a
+-- word of its drum area or a block of its core
+pub record StillOwn (s : State) (j : ℕ) (asg : Assignment) : Type 0 where
+  pub there : isEmpty (stateIn (s .jobs) j) ≡ false
+  pub holds : HoldsExactly s j asg
+  pub drum : (i x : ℕ) → isEmpty (stateIn (s .jobs) i) ≡ false
+      → inArea (jobIn (s .jobs) j) x ≡ true → inArea (jobIn (s .jobs) i) x ≡ true → i ≡ j
+  pub core : (i x : ℕ) → isEmpty (stateIn (s .jobs) i) ≡ false
+      → inCore (jobIn (s .jobs) j) x ≡ true → inCore (jobIn (s .jobs) i) x ≡ true → i ≡ j
+
+-- the unit that a packet is on is its job's, or, on the drum, its address is of its job's area
+abbrev pub OnItsOwn : State → ℕ → Packet → Type 0
+OnItsOwn s j q =
+    (drumOn (s .channels) (q .channel .0) ≡ false → unitIn (s .units) (q .channel .0) (q .at) .holder ≡ Held j)
+    × (drumOn (s .channels) (q .channel .0) ≡ true → inArea (jobIn (s .jobs) j) (q .at) ≡ true)
 
 pub record AsGiven (s : State) (j : ℕ) (last : Option Assignment) : Type 0 where
   -- a job that runs or is closing was taken, and holds what it was given
@@ -74,3 +92,13 @@ HoldsWhatItWasGiven =
     (channels : List Channel) (units : List (List UnitState)) → NoneHeld units → Square units → (calls : List Call)
     → Wanting (fresh channels units) calls
     → (j : ℕ) → AsGiven (run (fresh channels units) calls) j (taking (events (fresh channels units) calls) j)
+
+-- a packet that is listed, in progress or stopping on the drum is at an address of its job's area
+abbrev pub AtItsArea : State → Type 0
+AtItsArea s =
+    (j p : ℕ) → isBusy (packetIn (s .jobs) j p .status) ≡ true → drumOn (s .channels) (packetIn (s .jobs) j p .channel .0) ≡ true
+    → inArea (jobIn (s .jobs) j) (packetIn (s .jobs) j p .at) ≡ true
+
+abbrev pub OnItsOwnWords : Type 0
+OnItsOwnWords =
+    (channels : List Channel) (units : List (List UnitState)) → NoneHeld units → (calls : List Call) → AtItsArea (run (fresh channels units) calls)

@@ -1,0 +1,79 @@
+-- WHAT THE CALLER WAS TOLD over a history is what the rules answer to the calls that the lists heard. So what a statement reads from the
+-- recorded replies, it could read from the rules. Assumes nothing.
+use mathlib.Core.Path.{_≡_, refl, sym, ap, subst, _∙_}
+use mathlib.Core.Bool.{Bool, cond}
+use mathlib.Core.List.{List, [], _∷_, _++_}
+use Rattle.numbers.proofs.Tests.{by-bool}
+use Rattle.numbers.specs.declared.Outcome.{Outcome}
+use Rattle.schedule_list.specs.InSchedule.{inSchedule}
+use Rattle.packets.specs.Demand as Told
+use Rattle.packets.specs.Demand.{events}
+use Rattle.packets.specs.Rules as Rules
+use Rattle.packets.specs.State.{State}
+use Rattle.packets.specs.declared.Answer.{Answer}
+use Rattle.packets.specs.declared.Answer.the-variants.{Done}
+use Rattle.packets.specs.declared.Verdict.{Verdict}
+use Rattle.packets.specs.declared.Verdict.the-variants.{Granted}
+use Rattle.lists.proofs.History.{outcome-is}
+use Rattle.cell_selection.specs.Selecting.{SelectsBy, takingOf}
+use Rattle.cell_selection.proofs.SelectingLaws.{taking-granted}
+use Rattle.cell_selection.specs.declared.Selection.{Selection}
+use Rattle.cell.specs.Calls.{acted, outcomeOf}
+use Rattle.cell.specs.declared.Cell.{Cell}
+use Rattle.cell_history.proofs.HeardLaws.{does-heard}
+use Rattle.cell_history.specs.Heard.{doneAs, heard, heardOf, inside, said, told, toldOf}
+use Rattle.cell_history.specs.History.{Call, Complete, Deck, Delete, Does, End, Event, Leads, Mark, Release, Reply, Said, Select, Start, Status, Submit}
+
+-- ---- one call
+
+acts-told : (c : Cell) (x : Rules.Call) (reply : Reply) → reply ≡ Said (acted c x .answer) → said x reply ≡ events (inside c) (x ∷ [])
+unfolding acted events
+acts-told c x reply e =
+    ap (said x) e ∙ ap (λ (a : Answer). record { call = x; answer = a } ∷ []) (outcome-is (c .lists) x .0)
+
+-- the taking of a selection is done
+taking-done : (s : State) (r : Selection) → Rules.refusal s (takingOf r) ≡ Granted → Rules.step s (takingOf r) .answer ≡ Done
+unfolding Rules.step Rules.answer
+taking-done s r g = ap (λ (v : Verdict). Rules.decided s (takingOf r) v .answer) g
+
+select-told : (c : Cell) (r : Selection) (o : Outcome) → o ≡ outcomeOf (r .found) → SelectsBy (r .found) (inSchedule (c .schedule)) (c .lists) r
+    → doneAs o r ≡ events (inside c) (cond (r .found) (takingOf r ∷ []) [])
+unfolding events
+select-told c r o e h =
+    by-bool (r .found)
+    (λ t. let g = taking-granted (c .schedule) (c .lists) r (subst (λ (b : Bool). SelectsBy b (inSchedule (c .schedule)) (c .lists) r) t h) in
+    rw (e, t) (ap (λ (a : Answer). record { call = takingOf r; answer = a } ∷ []) (sym (taking-done (inside c) r g))))
+    (λ t. rw (e, t) refl)
+
+-- EACH CALL IS TOLD AS THE RULES ANSWER IT
+pub does-told : (c d : Cell) (x : Call) (reply : Reply) → Does c x reply d → toldOf x reply ≡ events (inside c) (heardOf x reply)
+unfolding events
+does-told c d (Deck bytes) reply h = refl
+does-told c d Select reply h = rw (h .1 .1 .0) (select-told c (h .0 .selection) (h .0 .outcome) (h .1 .0 .outcome) (h .1 .0 .takes .selects))
+does-told c d (Submit place packet function channel spot) reply h = acts-told c (Rules.Submit place packet function channel spot) reply (h .0)
+does-told c d (Start channel) reply h = acts-told c (Rules.Start channel) reply (h .0)
+does-told c d (Complete channel how) reply h = acts-told c (Rules.Complete channel how) reply (h .0)
+does-told c d (End place inError) reply h = acts-told c (Rules.End place inError) reply (h .0)
+does-told c d (Mark channel unit mark on) reply h = acts-told c (Rules.Mark channel unit mark on) reply (h .0)
+does-told c d (Release id) reply h = refl
+does-told c d (Delete id) reply h = refl
+does-told c d (Status place packet) reply h = refl
+
+-- ---- a history
+
+events-append : (s : State) (l m : List Rules.Call) → events s (l ++ m) ≡ events s l ++ events (Rules.run s l) m
+unfolding events Rules.run
+events-append s [] m = refl
+events-append s (x ∷ l) m =
+    ap (λ (r : List Told.Event). record { call = x; answer = Rules.step s x .answer } ∷ r) (events-append (Rules.step s x .state) l m)
+
+-- WHAT THE CALLER WAS TOLD is what the rules answer
+pub leads-told : (c d : Cell) (es : List Event) → Leads c es d → told es ≡ events (inside c) (heard es)
+unfolding events
+leads-told c d [] h = refl
+leads-told c d (e ∷ es) h =
+    let x = heardOf (e .call) (e .reply) in
+    ap (λ (r : List Told.Event). toldOf (e .call) (e .reply) ++ r)
+    (leads-told (h .0) d es (h .1 .1) ∙ ap (λ (s : State). events s (heard es)) (does-heard c (h .0) (e .call) (e .reply) (h .1 .0)))
+    ∙ ap (λ (l : List Told.Event). l ++ events (Rules.run (inside c) x) (heard es)) (does-told c (h .0) (e .call) (e .reply) (h .1 .0))
+    ∙ sym (events-append (inside c) x (heard es))
