@@ -1,15 +1,18 @@
 //! The input cut into calls: a line, or a deck from its `DECK` line to its termination card.
 
-/// What is kept of a line. It is far more than the 255 bytes of a call and the 16,384 of a deck, so what is cut off decides nothing.
+/// What is kept of a line. It is far more than the 255 bytes of a call and the 16,384 of a deck, so what is cut off
+/// decides nothing.
 const LINE_ROOM: usize = 1 << 16;
-/// Cards are kept while the deck is not above this. It is then refused whatever follows, so only its termination card is awaited.
+/// Cards are kept while the deck is not above this. It is then refused whatever follows, so only its termination card
+/// is awaited.
 const DECK_ROOM: usize = 1 << 20;
 
 /// What the shift program gets and answers as one: lines, each with its LF.
 #[derive(Clone, Debug, PartialEq, Eq)]
 pub struct Call {
     pub text: Vec<u8>,
-    /// A deck in which the input ended. The program answers it only when its own input ends too, and it changes nothing.
+    /// A deck in which the input ended. The program answers it only when its own input ends too, and it changes
+    /// nothing.
     pub open: bool,
 }
 

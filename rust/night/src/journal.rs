@@ -17,9 +17,9 @@
 //! =18 9f3b...                         the answer's length and check sum
 //! ```
 //!
-//! A record has the calls that came together: they are on the disk together or not at all. It begins with an empty line, so that a byte that is
-//! damaged at the end of the one before does not hide it. No line of a call begins a line of the journal, so nothing that is said to the cell
-//! looks like a record.
+//! A record has the calls that came together: they are on the disk together or not at all. It begins with an empty
+//! line, so that a byte that is damaged at the end of the one before does not hide it. No line of a call begins a line
+//! of the journal, so nothing that is said to the cell looks like a record.
 
 use crate::calls::Call;
 use crate::sum::check_sum;

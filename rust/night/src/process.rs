@@ -6,10 +6,14 @@ use std::process::{Child, ChildStdin, ChildStdout, Command, ExitStatus, Stdio};
 
 use crate::calls::Call;
 
-/// Calls are handed over together up to this many bytes. A pipe takes as much at once, so that nobody waits for the other to read.
+/// Calls are handed over together up to this many bytes. A pipe takes as much at once, so that nobody waits for the
+/// other to read.
 const TOGETHER: usize = 4096;
 /// More than any answer has, so that a program that is not the shift cannot fill the memory.
 const ANSWER_ROOM: u64 = 1 << 22;
+
+/// So often may the program die on the same line.
+pub const DEATHS: usize = 3;
 
 pub struct Process {
     child: Child,
@@ -17,7 +21,8 @@ pub struct Process {
     output: BufReader<ChildStdout>,
 }
 
-/// The line that is sent behind a call. It is echoed, so that its echo ends the call's answer, and it is never what the call itself may echo.
+/// The line that is sent behind a call. It is echoed, so that its echo ends the call's answer, and it is never what
+/// the call itself may echo.
 fn behind(call: &Call) -> &'static [u8] {
     if call.text == b"\n" {
         b"#\n"
@@ -96,15 +101,29 @@ impl Process {
     }
 }
 
-/// What the program says of a whole text that is its input.
-fn said(program: &Path, text: &[u8]) -> Result<Vec<u8>, String> {
+/// What the program says of a whole text that is its input, or `None` if it did not end well.
+fn said_once(program: &Path, text: &[u8]) -> Result<Option<Vec<u8>>, String> {
     let mut process = Process::start(program, text)?;
     process.input = None;
     let mut said = Vec::new();
     let read = process.output.by_ref().take(ANSWER_ROOM).read_to_end(&mut said);
-    process.end();
     read.map_err(|error| format!("{}: {error}", program.display()))?;
-    Ok(said)
+    if said.len() as u64 == ANSWER_ROOM {
+        process.end();
+        return Ok(None);
+    }
+    let status = process.child.wait().map_err(|error| format!("{}: {error}", program.display()))?;
+    Ok(status.success().then_some(said))
+}
+
+/// What the program says of a text. It may die twice.
+fn said(program: &Path, text: &[u8]) -> Result<Vec<u8>, String> {
+    for _ in 0..DEATHS {
+        if let Some(said) = said_once(program, text)? {
+            return Ok(said);
+        }
+    }
+    Err(format!("{} died {DEATHS} times on the configuration", program.display()))
 }
 
 /// Asks the program whether a text is a configuration and nothing else; if not, what it says of it is answered.
@@ -120,7 +139,8 @@ pub fn refusal(program: &Path, text: &[u8]) -> Result<Option<Vec<u8>>, String> {
     if answer.starts_with(b"ER 14 LINE ") {
         return Ok(Some(answer));
     }
-    // The program takes what follows a configuration for calls, but here nothing may follow: the first line too many is the bad one.
+    // The program takes what follows a configuration for calls, but here nothing may follow: the first line too many
+    // is the bad one.
     for count in 1..lines.len() {
         if said(program, &[&lines[..count].concat(), &echo[..]].concat())? == echo {
             return Ok(Some(format!("ER 14 LINE {}\n", count + 1).into_bytes()));

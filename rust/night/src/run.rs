@@ -6,13 +6,11 @@ use std::path::{Path, PathBuf};
 
 use crate::calls::{Call, Gathering};
 use crate::journal::{Answer, Answered, Journal};
-use crate::process::{self, Process};
+use crate::process::{self, Process, DEATHS};
 use crate::store::Store;
 
 /// The most calls of one record. Their answers are held back until all of them are on the disk.
 const TOGETHER: usize = 256;
-/// So often may the program die on the same line.
-const DEATHS: usize = 3;
 /// More than a configuration has: what is cut off of a longer text decides nothing.
 const CONFIGURATION_ROOM: u64 = 4096;
 
@@ -58,6 +56,17 @@ fn give_out(output: &mut impl Write, answers: &[u8]) -> Result<(), String> {
     given.map_err(|error| format!("an answer cannot be given out: {error}"))
 }
 
+/// What is said of a call that is answered otherwise than it was.
+fn differs(number: usize, recorded: &Answered, answer: &[u8]) -> String {
+    let answer = answer.split(|&byte| byte == b'\n').next().unwrap_or_default();
+    let answer = String::from_utf8_lossy(answer);
+    let call = recorded.call.shown();
+    format!(
+        "call {number} of the journal, {call}, was answered otherwise than by this shift program, which says {answer}. \
+         Is it another version? The journal is left as it is"
+    )
+}
+
 impl<W: Write> Night<W> {
     /// Goes back to where the journal ended.
     fn recover(&mut self, path: &Path, journal: &Journal) -> Result<(), String> {
@@ -66,7 +75,8 @@ impl<W: Write> Night<W> {
         }
         if journal.torn > 0 {
             let (path, number, bytes) = (path.display(), journal.records, journal.torn);
-            eprintln!("night: {path}: the last record, number {number}, is torn ({bytes} bytes). It was never answered and is dropped");
+            let said = format!("the last record, number {number}, is torn ({bytes} bytes)");
+            eprintln!("night: {path}: {said}. It was never answered and is dropped");
         }
         for _ in 0..DEATHS {
             if self.revive(&journal.calls)? {
@@ -80,21 +90,14 @@ impl<W: Write> Night<W> {
     fn revive(&mut self, played: &[Answered]) -> Result<bool, String> {
         let mut process = Process::start(&self.program, &self.configuration)?;
         // A deck that was left open changed nothing, and could only be played at an end.
-        let due: Vec<&Answered> = played.iter().filter(|answered| !answered.call.open).collect();
-        let calls: Vec<Call> = due.iter().map(|answered| answered.call.clone()).collect();
-        let mut number = 0;
-        let lives = play(&mut process, &calls, |answer| {
-            let Answered { call, answer: recorded } = due[number];
-            number += 1;
-            if Answer::new(&answer) == *recorded {
-                return Ok(());
+        let due = || (1..).zip(played).filter(|(_, answered)| !answered.call.open);
+        let calls: Vec<Call> = due().map(|(_, answered)| answered.call.clone()).collect();
+        let mut due = due();
+        let lives = play(&mut process, &calls, |answer| match due.next() {
+            Some((number, recorded)) if Answer::new(&answer) != recorded.answer => {
+                Err(differs(number, recorded, &answer))
             }
-            Err(format!(
-                "call {number} of the journal, {}, was answered otherwise than this shift program answers it: {}. Is it another version? \
-                 The journal is left as it is",
-                call.shown(),
-                String::from_utf8_lossy(answer.split(|&byte| byte == b'\n').next().unwrap_or_default())
-            ))
+            _ => Ok(()),
         })?;
         self.mourn_or_keep(process, lives);
         Ok(lives)

@@ -1,4 +1,5 @@
-//! The stack that the proved programs need: one that is too small is refused at the start, and not met in the middle of a night.
+//! The stack that the proved programs need: one that is too small is refused at the start, and not met in the middle
+//! of a night.
 
 /// Kilobytes of stack with which every case was played, and some to spare; rust/README.md has what was measured.
 pub const NEEDED: u64 = 1024;
@@ -13,7 +14,8 @@ struct Limit {
 }
 
 extern "C" {
-    /// The C library has it, and std stands on that. The file /proc/self/limits says the same, but not every small root has /proc.
+    /// The C library has it, and std stands on that. The file /proc/self/limits says the same, but not every small
+    /// root has /proc.
     fn getrlimit(resource: i32, limit: *mut Limit) -> i32;
 }
 

@@ -1,4 +1,5 @@
-//! The journal's file: locked, read when a night begins, and written through to the disk before an answer is given out.
+//! The journal's file: locked, read when a night begins, and written through to the disk before an answer is given
+//! out.
 
 use std::fs::{File, OpenOptions, TryLockError};
 use std::io::{Read, Seek, SeekFrom, Write};
@@ -27,7 +28,7 @@ fn explain(path: &Path, fault: Fault) -> String {
         Fault::NoJournal => format!("{path} is no journal, and is left as it is"),
         Fault::OtherVersion => format!("{path} is a journal of another version of night, and is left as it is"),
         Fault::Damaged(number) => {
-            format!("{path}: record {number} is damaged and is not the last. Nothing is changed; a copy that is whole is needed")
+            format!("{path}: record {number} is damaged, and is not the last. Nothing is changed")
         }
     }
 }
