@@ -10,6 +10,7 @@ pub mod process;
 pub mod run;
 mod sheets;
 pub mod stack;
+pub mod standing;
 pub mod store;
 mod sum;
 pub mod svg;

@@ -5,9 +5,8 @@ use std::io::Write;
 use std::path::Path;
 use std::process::ExitCode;
 
-use night::process::beside;
 use night::run::{run_here, Options};
-use night::{stack, store, svg, tracks, who};
+use night::{stack, standing, store, svg, tracks, who};
 
 const USAGE: &str = "usage: night run --journal FILE [--shift PROGRAM] CONFIG
        night show --journal FILE [--sheet K]
@@ -28,7 +27,7 @@ fn night(words: &mut Vec<OsString>) -> Result<(), String> {
     match (command.to_str(), rest) {
         (Some("run"), [configuration]) if sheet.is_none() => {
             stack::check()?;
-            let program = program.map(Into::into).or_else(|| beside("shift"));
+            let program = program.map(Into::into).or_else(|| standing::beside("shift"));
             let program = program.ok_or("where the shift program stands cannot be told: name it with --shift")?;
             run_here(&Options { journal: journal.into(), configuration: configuration.into(), program })
         }

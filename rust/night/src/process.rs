@@ -1,7 +1,7 @@
 //! The shift program as a process: started on a configuration, handed calls, asked for their answers.
 
 use std::io::{self, BufRead, BufReader, Read, Write};
-use std::path::{Path, PathBuf};
+use std::path::Path;
 use std::process::{Child, ChildStdin, ChildStdout, Command, ExitStatus, Stdio};
 
 use crate::calls::Call;
@@ -147,12 +147,4 @@ pub fn refusal(program: &Path, text: &[u8]) -> Result<Option<Vec<u8>>, String> {
         }
     }
     Err(format!("{} does not answer as the shift program does", program.display()))
-}
-
-/// The program that is installed beside this one.
-pub fn beside(name: &str) -> Option<PathBuf> {
-    // Without /proc the system does not say where this program stands, but whoever started it by a path did.
-    let named = || std::env::args_os().next().map(PathBuf::from).filter(|path| path.components().count() > 1);
-    let this = std::env::current_exe().ok().or_else(named)?;
-    Some(this.parent()?.join(name))
 }
