@@ -66,14 +66,17 @@ impl Heads {
         let text = std::str::from_utf8(configuration).ok()?;
         let mut lines = text.lines();
         let mut heads = Heads::default();
-        for _ in 0..number(lines.next()?)? {
-            heads.add_channel(lines.next()?)?;
-        }
-        for _ in 0..number(lines.next()?)? {
-            let (channel, unit) = lines.next()?.split_once(' ')?;
-            heads.head(number(channel)?, number(unit)?)?.down = true;
-        }
+        let channels = number(lines.next()?)? as usize;
+        lines.by_ref().take(channels).try_for_each(|line| heads.add_channel(line))?;
+        let down = number(lines.next()?)? as usize;
+        lines.take(down).try_for_each(|line| heads.add_down(line))?;
         Some(heads)
+    }
+
+    fn add_down(&mut self, line: &str) -> Option<()> {
+        let (channel, unit) = line.split_once(' ')?;
+        self.head(number(channel)?, number(unit)?)?.down = true;
+        Some(())
     }
 
     fn add_channel(&mut self, line: &str) -> Option<()> {

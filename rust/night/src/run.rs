@@ -195,13 +195,25 @@ fn play(
     while !rest.is_empty() {
         let (sent, later) = rest.split_at(process::together(rest));
         process.send(sent);
-        for call in sent {
-            match process.answer(call) {
-                Some(answer) => take(answer)?,
-                None => return Ok(false),
-            }
+        if !hear(process, sent, &mut take)? {
+            return Ok(false);
         }
         rest = later;
+    }
+    Ok(true)
+}
+
+/// Hands on the answers to calls that were sent. Answers whether the process lives.
+fn hear(
+    process: &mut Process,
+    sent: &[Call],
+    take: &mut impl FnMut(Vec<u8>) -> Result<(), String>,
+) -> Result<bool, String> {
+    for call in sent {
+        match process.answer(call) {
+            Some(answer) => take(answer)?,
+            None => return Ok(false),
+        }
     }
     Ok(true)
 }

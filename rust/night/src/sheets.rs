@@ -14,7 +14,7 @@ pub const LEFT: f64 = 26.0;
 pub const RIGHT: f64 = 15.0;
 pub const TOP: f64 = 24.0;
 pub const BOTTOM: f64 = 14.0;
-pub const ROW: f64 = 5.6;
+pub const ROW: f64 = 6.0;
 /// A little over seven points.
 pub const TEXT: f64 = 2.6;
 /// What a character takes at most, in a fixed pitch.

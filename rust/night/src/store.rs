@@ -4,8 +4,13 @@
 use std::fs::{File, OpenOptions, TryLockError};
 use std::io::{Read, Seek, SeekFrom, Write};
 use std::path::{Path, PathBuf};
+use std::thread::sleep;
+use std::time::Duration;
 
 use crate::journal::{self, Answered, Fault, Journal};
+
+/// So often is the lock tried.
+const TRIES: usize = 100;
 
 pub struct Store {
     file: File,
@@ -33,6 +38,19 @@ fn explain(path: &Path, fault: Fault) -> String {
     }
 }
 
+/// Locks the journal for this night alone. One that was killed as it started its program has a child that holds the
+/// lock for a moment more, so this is tried for two seconds.
+fn lock(file: &File) -> Result<(), TryLockError> {
+    let mut locked = file.try_lock();
+    let mut tries = 0;
+    while tries < TRIES && matches!(locked, Err(TryLockError::WouldBlock)) {
+        sleep(Duration::from_millis(20));
+        locked = file.try_lock();
+        tries += 1;
+    }
+    locked
+}
+
 impl Store {
     /// Opens the journal, which may not exist yet, and answers what it has. No byte of it changes.
     pub fn open(path: &Path) -> Result<(Store, Journal), String> {
@@ -42,7 +60,7 @@ impl Store {
         if !file.metadata().map_err(failed)?.is_file() {
             return Err(format!("the journal {} is not an ordinary file", path.display()));
         }
-        file.try_lock().map_err(|error| match error {
+        lock(&file).map_err(|error| match error {
             TryLockError::WouldBlock => format!("another night is running on the journal {}", path.display()),
             TryLockError::Error(error) => failed(error),
         })?;

@@ -3,7 +3,7 @@
 use std::fmt::Write;
 
 use crate::sheets::{self, label_width, text_width, Sheet, BOTTOM, HEIGHT, LEFT, RIGHT, ROW, TEXT, TOP, WIDTH};
-use crate::tracks::{Row, Span, Track, Tracks};
+use crate::tracks::{Holding, Row, Span, Track, Tracks};
 
 /// What every sheet uses: hatching, crosses, and how each thing looks.
 const STYLE: &str = r##"<defs>
@@ -19,15 +19,15 @@ text { font-family: "DejaVu Sans Mono", "Liberation Mono", monospace; fill: blac
 .moving { fill: #203040 }
 .stopping { fill: url(#stopping); stroke: black; stroke-width: 0.15 }
 .interlock { fill: url(#interlock); stroke: #b00020; stroke-width: 0.15 }
-.down { stroke: #b00020; stroke-width: 0.7 }
-.reserved { stroke: #0050a0; stroke-width: 0.7; stroke-dasharray: 1 0.5 }
+.down { stroke: #b00020; stroke-width: 0.6 }
+.reserved { stroke: #0050a0; stroke-width: 0.6; stroke-dasharray: 1 0.5 }
 .row { stroke: #cccccc; stroke-width: 0.1 }
 .call { stroke: #cccccc; stroke-width: 0.1 }
 </style>
 "##;
 
 /// The upper part of a bar has its text, the lower part what moves.
-const BAR: f64 = 4.4;
+const BAR: f64 = 4.2;
 const LOWER: f64 = 1.4;
 
 /// Text that may stand in SVG whatever its characters are.
@@ -88,6 +88,9 @@ impl Drawing {
     }
 
     fn text(&mut self, x: f64, y: f64, text: &str) {
+        if text.is_empty() {
+            return;
+        }
         self.line(format_args!(r#"<text x="{x:.2}" y="{y:.2}">{}</text>"#, escaped(text)));
     }
 
@@ -106,8 +109,10 @@ impl Drawing {
     }
 
     fn sheet(&mut self, sheet: &Sheet, rows: &[Row], words: &[String], title: &str) {
+        // Column 0 is the fresh cell, and no call.
         let last = sheet.calls.end - 1;
-        self.text(8.0, 9.0, &format!("Luffgravel: a night, calls {} to {last}, {title}", sheet.calls.start));
+        let first = sheet.calls.start.max(1).min(last);
+        self.text(8.0, 9.0, &format!("Luffgravel: a night, calls {first} to {last}, {title}"));
         let bottom = TOP + sheet.rows.len() as f64 * ROW;
         self.call_numbers(sheet, words, bottom);
         for (row, y) in rows[sheet.rows.clone()].iter().zip((0..).map(|at| TOP + f64::from(at) * ROW)) {
@@ -139,55 +144,47 @@ impl Drawing {
     fn row(&mut self, sheet: &Sheet, row: &Row, y: f64) {
         let right = sheet.edge(sheet.calls.end);
         self.stroke("row", (LEFT, y + ROW), (right, y + ROW));
-        self.text(8.0, y + 3.6, &row.name);
-        let top = y + 0.6;
-        for span in on_sheet(sheet, &row.holdings) {
-            self.holding(sheet, row, span.from, top);
-        }
+        self.text(8.0, y + 3.9, &row.name);
+        let top = y + 0.95;
+        on_sheet(sheet, &row.holdings).for_each(|span| self.holding(sheet, row, span, top));
         let lower = top + BAR - LOWER;
-        for span in on_sheet(sheet, &row.interlock) {
-            let said = format!("{}: interlock from call {} to {}", row.name, span.from, span.to);
-            self.area("interlock", between(sheet, span), lower, LOWER, &said);
-        }
-        for span in on_sheet(sheet, &row.moves) {
+        on_sheet(sheet, &row.interlock).for_each(|span| self.lower(sheet, row, span, "interlock", "interlock", lower));
+        on_sheet(sheet, &row.moves).for_each(|span| {
             let (class, word) = if span.what.stopping { ("stopping", "is stopping") } else { ("moving", "moves") };
-            let said =
-                format!("{}: packet {} {word} from call {} to {}", row.name, span.what.packet, span.from, span.to);
-            self.area(class, between(sheet, span), lower, LOWER, &said);
-        }
-        self.marks(sheet, row, y);
+            self.lower(sheet, row, span, class, &format!("packet {} {word}", span.what.packet), lower);
+        });
+        self.mark(sheet, &row.down, "down", y + 0.5);
+        self.mark(sheet, &row.reserved, "reserved", y + ROW - 0.4);
+        let letters = [(&row.down, "D"), (&row.reserved, "R")]
+            .map(|(track, letter)| if holds_last(sheet, track) { letter } else { "" });
+        self.text(right + 1.5, y + 3.9, &letters.concat());
     }
 
-    /// The bar of the holding that begins at a call, with the job's ID.
-    fn holding(&mut self, sheet: &Sheet, row: &Row, from: usize, top: f64) {
-        let Some(span) = row.holdings.0.iter().find(|span| span.from == from) else { return };
+    /// What moves, or is locked, in the lower part of a bar.
+    fn lower<T>(&mut self, sheet: &Sheet, row: &Row, span: &Span<T>, class: &str, said: &str, y: f64) {
+        let said = format!("{}: {said} from call {} to {}", row.name, span.from, span.to);
+        self.area(class, between(sheet, span), y, LOWER, &said);
+    }
+
+    /// The bar of a holding, with the job's ID.
+    fn holding(&mut self, sheet: &Sheet, row: &Row, span: &Span<Holding>, top: f64) {
         let x = between(sheet, span);
-        let id = &span.what.id;
-        let said =
-            format!("{}: held by {id} in place {} from call {} to {}", row.name, span.what.place, span.from, span.to);
+        let Holding { place, id, area } = &span.what;
+        let said = format!("{}: held by {id} in place {place} from call {} to {}", row.name, span.from, span.to);
         self.area("held", x, top, BAR, &said);
-        let area = span.what.area.map_or(String::new(), |(first, last)| format!("{id} {first}-{last}"));
-        let shown = if !area.is_empty() && label_width(&area) <= x.1 - x.0 { &area } else { id };
+        let with_area = area.map(|(first, last)| format!("{id} {first}-{last}"));
+        let fits = |text: &&String| label_width(text) <= x.1 - x.0 + 0.01;
         // What goes on and is too narrow here has its ID on the next sheet.
-        if label_width(shown) <= x.1 - x.0 + 0.01 {
-            self.text(x.0 + 0.6, top + 2.5, shown);
+        if let Some(text) = with_area.as_ref().filter(fits).or(Some(id).filter(fits)) {
+            self.text(x.0 + 0.6, top + 2.4, text);
         }
     }
 
-    /// Marks along the row's edges while they hold, and at the right edge those that hold in the end.
-    fn marks(&mut self, sheet: &Sheet, row: &Row, y: f64) {
-        let mut letters = String::new();
-        for (track, class, letter, y) in
-            [(&row.down, "down", 'D', y + 0.35), (&row.reserved, "reserved", 'R', y + 5.25)]
-        {
-            for span in on_sheet(sheet, track) {
-                let (from, to) = between(sheet, span);
-                self.stroke(class, (from, y), (to, y));
-            }
-            let holds = track.0.iter().any(|span| (span.from..span.to).contains(&(sheet.calls.end - 1)));
-            letters.extend(holds.then_some(letter));
+    /// A mark, along an edge of its row while it holds.
+    fn mark(&mut self, sheet: &Sheet, track: &Track<()>, class: &str, y: f64) {
+        for (from, to) in on_sheet(sheet, track).map(|span| between(sheet, span)) {
+            self.stroke(class, (from, y), (to, y));
         }
-        self.text(sheet.edge(sheet.calls.end) + 1.5, y + 3.6, &letters);
     }
 
     fn legend(&mut self, y: f64) {
@@ -214,6 +211,11 @@ impl Drawing {
 /// The spans of a track that the sheet shows.
 fn on_sheet<'t, T>(sheet: &'t Sheet, track: &'t Track<T>) -> impl Iterator<Item = &'t Span<T>> {
     track.0.iter().filter(|span| span.from < sheet.calls.end && sheet.calls.start < span.to)
+}
+
+/// Does it hold where the sheet ends?
+fn holds_last(sheet: &Sheet, track: &Track<()>) -> bool {
+    on_sheet(sheet, track).any(|span| span.to >= sheet.calls.end)
 }
 
 fn between<T>(sheet: &Sheet, span: &Span<T>) -> (f64, f64) {

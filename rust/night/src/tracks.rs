@@ -103,12 +103,8 @@ fn holding(heads: &Heads, place: usize, area: Option<(u32, u32)>) -> Option<Hold
 
 impl Drawing {
     fn note(&mut self, call: usize, heads: &Heads) {
-        for (&name, row) in self.names.iter().zip(&mut self.heads) {
-            row.note_head(call, heads, name);
-        }
-        for place in 0..PLACES {
-            self.note_area(call, heads, place);
-        }
+        self.names.iter().zip(&mut self.heads).for_each(|(&name, row)| row.note_head(call, heads, name));
+        (0..PLACES).for_each(|place| self.note_area(call, heads, place));
     }
 
     /// Notes the drum area of the job in a place, in the row that the job has.

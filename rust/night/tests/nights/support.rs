@@ -89,9 +89,10 @@ impl Place {
     }
 
     pub fn start(&self) -> Running {
-        let mut child = self.command().stderr(Stdio::null()).spawn().unwrap();
+        let said = self.folder.join("said");
+        let mut child = self.command().stderr(std::fs::File::create(&said).unwrap()).spawn().unwrap();
         let (input, output) = (child.stdin.take(), child.stdout.take().unwrap());
-        Running { child, input, output }
+        Running { child, input, output, said }
     }
 }
 
@@ -100,6 +101,8 @@ pub struct Running {
     pub child: Child,
     pub input: Option<ChildStdin>,
     pub output: ChildStdout,
+    /// What it says on standard error.
+    said: PathBuf,
 }
 
 impl Running {
@@ -110,7 +113,8 @@ impl Running {
     /// Waits for an answer of this length, while the input stays open.
     pub fn answer(&mut self, length: usize) -> Vec<u8> {
         let mut answer = vec![0; length];
-        self.output.read_exact(&mut answer).unwrap();
+        let read = self.output.read_exact(&mut answer);
+        assert!(read.is_ok(), "no answer: {}", std::fs::read_to_string(&self.said).unwrap());
         answer
     }
 
