@@ -18,8 +18,9 @@ const BEGUN: &str = "A1 SCH ACK\nACK 0 A1 IB 2-3 MT1 03/00 03/01\n";
 const BLOCK: [(&str, &str); 3] =
     [("SUBMIT 0 0 42 3 0\n", "ACK\n"), ("START 3\n", "ACK 0 0 42 0\n"), ("DONE 3\n", "ACK 0 0\n")];
 
-/// How long a measurement takes at least.
-const LONG_ENOUGH: Duration = Duration::from_secs(4);
+/// How often each is measured, and how long at least.
+const ROUNDS: usize = 9;
+const LONG_ENOUGH: Duration = Duration::from_secs(1);
 
 struct Talk {
     child: Child,
@@ -104,10 +105,19 @@ fn main() {
     let _ = std::fs::remove_file(folder.join("cost.conf"));
 }
 
+/// The middle of several rates, the lowest and the highest.
+fn shown(mut rates: Vec<f64>) -> String {
+    rates.sort_by(f64::total_cmp);
+    format!("{:.0} ({:.0} to {:.0})", rates[rates.len() / 2], rates[0], rates[rates.len() - 1])
+}
+
+/// Rates with and without the journal, in turn, so that both meet the same machine.
 fn rates(shift: &Path, folder: &Path, together: usize) {
-    let without = Talk::new(Command::new(shift), &[CONFIGURATION, BEGINNING].concat()).rate(together);
-    let with = Talk::new(night(shift, folder), BEGINNING).rate(together);
-    println!("{together} together: {without:.0} calls a second without the journal, {with:.0} with it");
+    let mut alone = Talk::new(Command::new(shift), &[CONFIGURATION, BEGINNING].concat());
+    let mut kept = Talk::new(night(shift, folder), BEGINNING);
+    let (without, with) = (0..ROUNDS).map(|_| (alone.rate(together), kept.rate(together))).unzip();
+    println!("{together} together: {} calls a second without the journal, {} with it", shown(without), shown(with));
+    drop(kept);
     let _ = std::fs::remove_file(folder.join("cost.journal"));
 }
 

@@ -33,11 +33,12 @@ fn any_input_is_answered_as_the_ordinary_cell_does() {
         let input = bytes(&mut random, 4000);
         let due = converse(&[CONFIGURATION, &input[..]].concat());
         assert_eq!(place.answers(&input), due);
-        // It is there when the night goes on.
-        let mut after = input.clone();
-        after.truncate(input.iter().rposition(|&byte| byte == b'\n').map_or(0, |at| at + 1));
-        night::store::look_at(&place.journal()).unwrap();
-        place.answers(b"BOARD\n");
+        // What was said is there when the night goes on.
+        let kept = night::store::look_at(&place.journal()).unwrap().calls;
+        let whole = kept.into_iter().filter(|answered| !answered.call.open).map(|answered| answered.call.text);
+        let said = [CONFIGURATION.to_vec(), whole.collect::<Vec<_>>().concat()].concat();
+        let board = converse(&[&said[..], b"BOARD\n"].concat()).split_off(converse(&said).len());
+        assert_eq!(place.answers(b"BOARD\n"), board);
     }
 }
 

@@ -170,6 +170,16 @@ fn two_deaths_on_each_line_are_borne() {
 }
 
 #[test]
+fn a_death_in_a_deck_that_is_left_open_is_borne_too() {
+    let once = "DECK) [ -e died ] || { touch died; kill -9 $$; }; cat >/dev/null; echo NO 11;;";
+    let place = stand_in("open", once);
+    assert_eq!(place.answers(b"SELECT\nDECK\nX"), b"ACK\nNO 11\n");
+    assert!(place.folder.join("died").exists());
+    assert_eq!(place.answers(b"SELECT\n"), b"ACK\n");
+    assert_eq!(night::store::look_at(&place.journal()).unwrap().calls.len(), 3);
+}
+
+#[test]
 fn a_program_that_answers_otherwise_is_noticed() {
     let place = stand_in("otherwise", "NEVER) ;;");
     place.answers(b"SELECT\nSTART 3\nSELECT\n");
