@@ -3,12 +3,17 @@
 use std::io::{Read, Write};
 use std::path::{Path, PathBuf};
 use std::process::{Child, ChildStdin, ChildStdout, Command, Output, Stdio};
+use std::sync::Once;
+use std::time::Duration;
 
 use ordinary::configuration::Configuration;
 use ordinary::shift::Shift;
 
 use crate::random::Random;
 use crate::scripts;
+
+/// How long all tests together may take; on a busy machine they took a minute.
+const PATIENCE: Duration = Duration::from_secs(900);
 
 /// The proved shift program. There is no other to fall back on: without it a test fails.
 pub fn program() -> PathBuf {
@@ -30,6 +35,18 @@ pub fn folder(name: &str) -> PathBuf {
     folder
 }
 
+/// Ends the tests where a night does not answer at all.
+fn lose_patience() {
+    static WATCH: Once = Once::new();
+    WATCH.call_once(|| {
+        std::thread::spawn(|| {
+            std::thread::sleep(PATIENCE);
+            eprintln!("the tests have not ended within {PATIENCE:?}: a night does not answer");
+            std::process::exit(1);
+        });
+    });
+}
+
 /// A folder with a configuration in it, and the command that runs a night there.
 pub struct Place {
     pub folder: PathBuf,
@@ -38,6 +55,7 @@ pub struct Place {
 
 impl Place {
     pub fn new(name: &str, configuration: &[u8]) -> Place {
+        lose_patience();
         let folder = folder(name);
         std::fs::write(folder.join("configuration"), configuration).unwrap();
         Place { folder, program: program() }
