@@ -105,7 +105,8 @@ impl Drawing {
     fn area(&mut self, class: &str, x: (f64, f64), y: f64, height: f64, said: &str) {
         let (from, width) = (x.0, x.1 - x.0);
         let place = format!(r#"x="{from:.2}" y="{y:.2}" width="{width:.2}" height="{height:.2}""#);
-        self.line(format_args!(r#"<rect class="{class}" {place}><title>{}</title></rect>"#, escaped(said)));
+        self.line(format_args!(r#"<rect class="{class}" {place}>"#));
+        self.line(format_args!("<title>{}</title></rect>", escaped(said)));
     }
 
     fn sheet(&mut self, sheet: &Sheet, rows: &[Row], words: &[String], title: &str) {
