@@ -1,6 +1,7 @@
 //! What a night does with its journal when it starts, and when the program beneath it dies or is another one.
 
 use std::os::unix::fs::PermissionsExt;
+use std::process::Command;
 
 use night::journal::{write_record, Fault};
 use ordinary::shift::converse;
@@ -134,6 +135,22 @@ fn a_bad_configuration_is_answered_and_no_journal_is_made() {
         assert_eq!(String::from_utf8_lossy(&output.stdout), due);
         assert!(!output.status.success() && !place.journal().exists());
     }
+}
+
+#[test]
+fn a_small_stack_is_refused_before_anything_is_answered() {
+    let place = Place::new("stack", CONFIGURATION);
+    let night = place.command();
+    let run = |kilobytes: u64| {
+        let mut limited = Command::new("sh");
+        limited.args(["-c", &format!("ulimit -s {kilobytes} && exec \"$0\" \"$@\" </dev/null")]);
+        let output = limited.arg(night.get_program()).args(night.get_args()).output().unwrap();
+        (output.status.success(), output.stdout.len(), String::from_utf8_lossy(&output.stderr).into_owned())
+    };
+    let (went_well, answered, said) = run(night::stack::NEEDED - 1);
+    assert!(!went_well && answered == 0 && said.contains("the stack is limited to 1023 kilobytes"), "{said}");
+    assert!(!place.journal().exists());
+    assert!(run(night::stack::NEEDED).0 && place.journal().exists());
 }
 
 /// A place where a small shell script stands in for the program: it echoes, answers `ACK`, and does what these cases
