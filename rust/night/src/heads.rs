@@ -1,0 +1,218 @@
+//! The heads and the drum as the answers tell of them: who holds what, what moves, and what is marked. Nothing is
+//! decided here: a call counts only if the program has accepted it, and the places, units and packets are those of its
+//! answers.
+
+use std::collections::BTreeMap;
+
+use crate::journal::Answered;
+
+pub const PLACES: usize = 16;
+const CHANNELS: usize = 16;
+/// Functions that act on a holding and do not move a block.
+const REMOVE_INTERLOCK: u32 = 0o07;
+const TERMINATE: u32 = 0o23;
+
+/// A channel and a unit on it.
+pub type HeadName = (u32, u32);
+
+#[derive(Clone, Copy, Debug, Default, PartialEq, Eq)]
+pub struct Head {
+    /// The place of the job that holds it.
+    pub holder: Option<usize>,
+    /// Shown only while it is held: the next job is given the head without it.
+    pub interlock: bool,
+    pub down: bool,
+    pub reserved: bool,
+}
+
+#[derive(Clone, Debug, PartialEq, Eq)]
+pub struct Job {
+    pub id: String,
+    pub closing: bool,
+    /// The first and the last word of its drum area.
+    pub area: Option<(u32, u32)>,
+}
+
+/// A packet in progress or stopping.
+#[derive(Clone, Copy, Debug, PartialEq, Eq)]
+pub struct Moving {
+    pub place: usize,
+    pub packet: u32,
+    pub function: u32,
+    /// The unit, or on the drum channel the address.
+    pub target: u32,
+    pub stopping: bool,
+}
+
+#[derive(Clone, Debug, Default)]
+pub struct Heads {
+    pub drum: Option<u32>,
+    pub heads: BTreeMap<HeadName, Head>,
+    pub jobs: [Option<Job>; PLACES],
+    moving: [Option<Moving>; CHANNELS],
+}
+
+fn number(word: &str) -> Option<u32> {
+    word.parse().ok()
+}
+
+fn octal(word: &str) -> Option<u32> {
+    u32::from_str_radix(word, 8).ok()
+}
+
+impl Heads {
+    /// The fresh cell of a configuration that the program has accepted. What is no such text answers `None`.
+    pub fn fresh(configuration: &[u8]) -> Option<Heads> {
+        let text = std::str::from_utf8(configuration).ok()?;
+        let mut lines = text.lines();
+        let mut heads = Heads::default();
+        let channels = number(lines.next()?)? as usize;
+        lines.by_ref().take(channels).try_for_each(|line| heads.add_channel(line))?;
+        let down = number(lines.next()?)? as usize;
+        lines.take(down).try_for_each(|line| heads.add_down(line))?;
+        Some(heads)
+    }
+
+    fn add_down(&mut self, line: &str) -> Option<()> {
+        let (channel, unit) = line.split_once(' ')?;
+        self.head(number(channel)?, number(unit)?)?.down = true;
+        Some(())
+    }
+
+    fn add_channel(&mut self, line: &str) -> Option<()> {
+        let mut words = line.split(' ');
+        let (channel, kind, count) = (number(words.next()?)?, words.next()?, number(words.next()?)?);
+        if channel as usize >= CHANNELS {
+            return None;
+        }
+        if kind == "MD" {
+            self.drum = Some(channel);
+            return Some(());
+        }
+        self.heads.extend((0..count.min(16)).map(|unit| ((channel, unit), Head::default())));
+        Some(())
+    }
+
+    fn head(&mut self, channel: u32, unit: u32) -> Option<&mut Head> {
+        self.heads.get_mut(&(channel, unit))
+    }
+
+    /// What moves on a channel.
+    pub fn moving(&self, channel: u32) -> Option<Moving> {
+        *self.moving.get(channel as usize)?
+    }
+
+    /// What moves on a head.
+    pub fn moving_at(&self, (channel, unit): HeadName) -> Option<Moving> {
+        self.moving(channel).filter(|moving| moving.target == unit)
+    }
+
+    /// What moves on the drum for the job in a place.
+    pub fn moving_on_drum(&self, place: usize) -> Option<Moving> {
+        self.moving(self.drum?).filter(|moving| moving.place == place)
+    }
+
+    pub fn job(&self, place: usize) -> Option<&Job> {
+        self.jobs.get(place)?.as_ref()
+    }
+
+    /// Takes up a call with its answer. What was refused, and what only asks, changes nothing.
+    pub fn hear(&mut self, answered: &Answered) {
+        let line = answered.answer.line.as_deref().unwrap_or_default();
+        let (call, answer) = (String::from_utf8_lossy(&answered.call.text), String::from_utf8_lossy(line));
+        let words: Vec<&str> = call.lines().next().unwrap_or_default().split(' ').collect();
+        let said: Vec<&str> = answer.trim_end().split(' ').collect();
+        if said[0] == "ACK" {
+            // A call that is not as the program takes it cannot have been accepted; of a journal made by hand it is
+            // passed over.
+            let _ = self.accepted(&words, &said[1..]);
+        }
+    }
+
+    fn accepted(&mut self, words: &[&str], said: &[&str]) -> Option<()> {
+        match *words {
+            ["SELECT"] => self.selected(said),
+            ["SUBMIT", place, _, function, channel, x, ref h @ ..] => {
+                let h = h.first().map_or(Some(0), |h| number(h))?;
+                self.submitted(number(place)? as usize, octal(function)?, number(channel)?, number(x)?, h)
+            }
+            ["START", channel] => self.started(number(channel)?, said),
+            ["DONE" | "CUT", channel] => self.completed(number(channel)?, false),
+            ["FAIL", channel, _] => self.completed(number(channel)?, true),
+            ["END" | "ABORT", place] => self.ended(number(place)? as usize),
+            ["DOWN", channel, unit] => self.head(number(channel)?, number(unit)?).map(|head| head.down = true),
+            ["UP", channel, unit] => self.head(number(channel)?, number(unit)?).map(|head| head.down = false),
+            ["RESERVE", channel, unit] => self.head(number(channel)?, number(unit)?).map(|head| head.reserved = true),
+            ["UNRESERVE", channel, unit] => {
+                self.head(number(channel)?, number(unit)?).map(|head| head.reserved = false)
+            }
+            _ => None,
+        }
+    }
+
+    /// `p id IB a-b`, then perhaps `MD a-b`, and each unit as `cc/uu`.
+    fn selected(&mut self, said: &[&str]) -> Option<()> {
+        let place = number(said.first()?)? as usize;
+        let after = |name| said.iter().skip(2).skip_while(move |word| **word != name).nth(1);
+        let area = after("MD").and_then(|area| area.split_once('-'));
+        let area = area.and_then(|(first, last)| Some((number(first)?, number(last)?)));
+        *self.jobs.get_mut(place)? = Some(Job { id: said.get(1)?.to_string(), closing: false, area });
+        for (channel, unit) in said.iter().skip(2).filter_map(|word| word.split_once('/')) {
+            let head = self.head(number(channel)?, number(unit)?)?;
+            head.holder = Some(place);
+            head.interlock = false;
+        }
+        Some(())
+    }
+
+    fn submitted(&mut self, place: usize, function: u32, channel: u32, x: u32, h: u32) -> Option<()> {
+        match function {
+            REMOVE_INTERLOCK => self.head(channel, x)?.interlock = false,
+            TERMINATE => {
+                let targets = if self.drum == Some(channel) { x..=h } else { x..=x };
+                let moving = self.moving.get_mut(channel as usize)?.as_mut()?;
+                moving.stopping |= moving.place == place && targets.contains(&moving.target);
+            }
+            _ => {}
+        }
+        Some(())
+    }
+
+    /// `p k ff x`.
+    fn started(&mut self, channel: u32, said: &[&str]) -> Option<()> {
+        let [place, packet, function, target] = *said else { return None };
+        let (place, function) = (number(place)? as usize, octal(function)?);
+        let moving = Moving { place, packet: number(packet)?, function, target: number(target)?, stopping: false };
+        *self.moving.get_mut(channel as usize)? = Some(moving);
+        Some(())
+    }
+
+    fn completed(&mut self, channel: u32, failed: bool) -> Option<()> {
+        let moving = self.moving.get_mut(channel as usize)?.take()?;
+        if failed && self.drum != Some(channel) {
+            self.head(channel, moving.target)?.interlock = true;
+        }
+        self.return_if_closed(moving.place)
+    }
+
+    fn ended(&mut self, place: usize) -> Option<()> {
+        self.jobs.get_mut(place)?.as_mut()?.closing = true;
+        for moving in self.moving.iter_mut().flatten().filter(|moving| moving.place == place) {
+            moving.stopping = true;
+        }
+        self.return_if_closed(place)
+    }
+
+    /// A closing job of which nothing moves any more has returned everything.
+    fn return_if_closed(&mut self, place: usize) -> Option<()> {
+        let moves = self.moving.iter().flatten().any(|moving| moving.place == place);
+        if moves || !self.job(place)?.closing {
+            return None;
+        }
+        self.jobs[place] = None;
+        for head in self.heads.values_mut().filter(|head| head.holder == Some(place)) {
+            head.holder = None;
+        }
+        Some(())
+    }
+}

@@ -1,0 +1,18 @@
+//! A journal beneath the shift program, so that a night is not lost, and can be looked at.
+//!
+//! What decides stays in the proved program: this library hands its lines on, keeps them with their answers, and plays
+//! them back.
+
+pub mod calls;
+pub mod heads;
+pub mod journal;
+pub mod process;
+pub mod run;
+mod sheets;
+pub mod stack;
+pub mod standing;
+pub mod store;
+mod sum;
+pub mod svg;
+pub mod tracks;
+pub mod who;

@@ -1,0 +1,145 @@
+//! `show` and `who` say of random nights what the ordinary cell has after each call.
+
+use std::process::Command;
+
+use night::calls::Call;
+use night::heads::Heads;
+use night::journal::{Answer, Answered};
+use night::tracks::{tracks, Row, Track};
+use ordinary::cell::{Cell, Status};
+use ordinary::numbers::{ChannelNumber, UnitNumber};
+
+use crate::support::{script, Place, Script};
+
+/// The calls of a script as a journal has them.
+fn answered(script: &Script) -> Vec<Answered> {
+    let calls = script.steps.iter().filter(|step| step.is_call);
+    let answered = |text: &[u8], due: &[u8]| Answered {
+        call: Call { text: text.to_vec(), open: false },
+        answer: Answer::new(due),
+    };
+    calls.map(|step| answered(&step.text, &step.due)).collect()
+}
+
+/// The ID of the job in a place.
+fn id(cell: &Cell, place: usize) -> Option<String> {
+    cell.jobs().find(|(at, _)| *at == place).map(|(_, job)| job.id.clone())
+}
+
+fn is_stopping(cell: &Cell, channel: ChannelNumber) -> Option<(usize, usize, bool)> {
+    let name = cell.moving(channel)?;
+    let status = cell.status(name.place as u32, name.packet as u32);
+    Some((name.place, name.packet, status == Ok(Status::Stopping)))
+}
+
+fn compare_heads(heads: &Heads, cell: &Cell) {
+    for (&(channel, unit), head) in &heads.heads {
+        let ordinary = cell.unit(ChannelNumber(channel as u8), UnitNumber(unit as u8));
+        assert_eq!(head.holder, ordinary.holder);
+        assert_eq!((head.down, head.reserved), (ordinary.down, ordinary.reserved));
+        let locked = |interlock: bool| interlock && head.holder.is_some();
+        assert_eq!(locked(head.interlock), locked(ordinary.interlock), "interlock of {channel}/{unit}");
+        assert_eq!(
+            head.holder.and_then(|place| heads.job(place)).map(|job| job.id.clone()),
+            head.holder.and_then(|place| id(cell, place))
+        );
+    }
+}
+
+fn compare_jobs(heads: &Heads, cell: &Cell) {
+    for channel in ChannelNumber::all() {
+        let moving = heads.moving(channel.0.into());
+        let moving = moving.map(|moving| (moving.place, moving.packet as usize, moving.stopping));
+        assert_eq!(moving, is_stopping(cell, channel), "moving on {channel:?}");
+    }
+    let areas = cell.drum_areas().into_iter().map(|(area, place)| (place, (area.start, area.end - 1)));
+    let mut areas: Vec<_> = areas.collect();
+    areas.sort();
+    let held = (0..16).filter_map(|place| Some((place, heads.job(place)?.area?)));
+    assert_eq!(held.collect::<Vec<_>>(), areas);
+    let closing = |place: usize| heads.job(place).map(|job| job.closing);
+    assert!((0..16)
+        .all(|place| closing(place) == cell.jobs().find(|(at, _)| *at == place).map(|(_, job)| job.end.is_some())));
+}
+
+#[test]
+fn the_heads_are_those_of_the_ordinary_cell_after_each_call() {
+    let mut calls = 0;
+    for seed in 0..60 {
+        let script = script(seed, 400);
+        let mut heads = Heads::fresh(&script.configuration).unwrap();
+        compare_heads(&heads, script.fresh.cell());
+        for (answered, step) in answered(&script).iter().zip(script.steps.iter().filter(|step| step.is_call)) {
+            heads.hear(answered);
+            compare_heads(&heads, step.after.cell());
+            compare_jobs(&heads, step.after.cell());
+            calls += 1;
+        }
+    }
+    println!("{calls} calls compared");
+    assert!(calls > 20_000);
+}
+
+/// What a track has after a call.
+fn after<T: Clone>(track: &Track<T>, call: usize) -> Option<T> {
+    track.0.iter().find(|span| (span.from..span.to).contains(&call)).map(|span| span.what.clone())
+}
+
+fn compare_row(row: &Row, name: (u32, u32), heads: &Heads, call: usize) {
+    let head = heads.heads[&name];
+    let holding = after(&row.holdings, call).map(|holding| (holding.place, holding.id));
+    assert_eq!(holding, head.holder.map(|place| (place, heads.job(place).unwrap().id.clone())));
+    let moving = heads.moving_at(name).map(|moving| (moving.packet, moving.stopping));
+    assert_eq!(after(&row.moves, call).map(|moved| (moved.packet, moved.stopping)), moving);
+    assert_eq!(after(&row.interlock, call).is_some(), head.interlock && head.holder.is_some());
+    assert_eq!((after(&row.down, call).is_some(), after(&row.reserved, call).is_some()), (head.down, head.reserved));
+}
+
+#[test]
+fn the_rows_of_the_picture_are_the_heads_after_each_call() {
+    for seed in 100..110 {
+        let script = script(seed, 200);
+        let answered = answered(&script);
+        let drawn = tracks(&script.configuration, &answered).unwrap();
+        let mut heads = Heads::fresh(&script.configuration).unwrap();
+        for call in 0..=answered.len() {
+            if call > 0 {
+                heads.hear(&answered[call - 1]);
+            }
+            for (row, &name) in drawn.rows.iter().zip(heads.heads.keys()) {
+                compare_row(row, name, &heads, call);
+            }
+            let drum = drawn.rows.iter().skip(heads.heads.len()).filter_map(|row| after(&row.holdings, call));
+            let mut drum: Vec<_> = drum.map(|holding| (holding.place, holding.area)).collect();
+            drum.sort();
+            let areas = (0..16).filter_map(|place| Some((place, Some(heads.job(place)?.area?))));
+            assert_eq!(drum, areas.collect::<Vec<_>>());
+        }
+    }
+}
+
+fn night(words: &[&str], place: &Place) -> String {
+    let mut command = Command::new(env!("CARGO_BIN_EXE_night"));
+    let output = command.arg(words[0]).arg("--journal").arg(place.journal()).args(&words[1..]).output().unwrap();
+    assert!(output.status.success(), "{}", String::from_utf8_lossy(&output.stderr));
+    String::from_utf8(output.stdout).unwrap()
+}
+
+#[test]
+fn the_night_of_the_readme_is_shown_and_looked_up() {
+    let script = include_bytes!("../../../../examples/night.script");
+    let cut = script.iter().position(|&byte| byte == b'#').unwrap();
+    let place = Place::new("readme", &script[..cut]);
+    place.answers(&script[cut..]);
+    let shown = night(&["show"], &place);
+    assert_eq!(shown, include_str!("../../../../docs/night.svg"), "docs/night.svg is another picture: draw it again");
+    for (call, due) in [
+        ("4", "03/00 after call 4 (END 0): free\n"),
+        ("5", "03/00 after call 5 (SELECT): held by A1 (place 0); no packet moves\n"),
+        ("8", "03/00 after call 8 (START 03): held by A1 (place 0); packet 0 moves (function 42)\n"),
+        ("9", "03/00 after call 9 (END 0): held by A1 (place 0, closing); packet 0 is stopping (function 42)\n"),
+        ("12", "03/00 after call 12 (CUT 03): free\n"),
+    ] {
+        assert_eq!(night(&["who", "03", "00", call], &place), due);
+    }
+}

@@ -1,0 +1,25 @@
+//! Nights with the real programs: killed, damaged, on a full disk, with any bytes, and compared with the ordinary
+//! cell.
+//!
+//! They need the proved shift program: `target/bin/shift` at the top (`./run shift` builds it), or the one that
+//! `LUFFGRAVEL_SHIFT` names.
+
+#[allow(dead_code)]
+#[path = "../../../compare/src/configurations.rs"]
+mod configurations;
+#[allow(dead_code)]
+#[path = "../../../compare/src/decks.rs"]
+mod decks;
+#[allow(dead_code)]
+#[path = "../../../compare/src/random.rs"]
+mod random;
+#[allow(dead_code)]
+#[path = "../../../compare/src/scripts.rs"]
+mod scripts;
+
+mod any_bytes;
+mod disk;
+mod kills;
+mod looked_at;
+mod recovery;
+mod support;
