@@ -21,7 +21,7 @@ use Rattle.words.specs.declared.Class.the-variants.{Hyphened}
 use Rattle.cards_fields.specs.Fields.{fields, onto, spaceless, padded, cardByte, closed, malformed}
 use Rattle.cards_fields.proofs.FieldLaws.{fields-period, fields-comma, fields-other, by-form}
 use Rattle.cards_fields.specs.Deck.{lf}
-use Rattle.cards_fields.proofs.Groups.{NoLf}
+use Rattle.words.proofs.LineLaws.{NoLf}
 use Rattle.cards.specs.Errors.{orElse}
 use Rattle.cards.specs.Pty.{Rule, oneOf, programName, fieldError, fieldsFrom, priorityOf, ranked, lastOfAll}
 use Rattle.cards.proofs.PriorityLaws.{lettered, sequenced, rank-good, rank-last}
