@@ -6,8 +6,7 @@ use packets::Job;
 use packets::JobState;
 ghost use mathlib.Core.Path.{_≡_};
 ghost use mathlib.Core.List.{map};
-ghost use Rattle.packets.specs.State.{isEmpty};
-ghost use Rattle.packets.specs.Apart.{inRun};
+ghost use Rattle.packets.specs.State.{inRun, isEmpty};
 ghost use Rattle.cell_taken.specs.Taken.{inBlocks, coreOf, areaOf, anyHas, occupancy, LowestFree};
 
 // The lowest place without a job, or that all are taken.
