@@ -60,7 +60,7 @@ fn finish(
     len: usize,
 ) -> usize {
     let mut out = io::large_buffer();
-    let n = shift_turns::end(shift, line, room, &mut out);
+    let n = shift_turns::end_of_input(shift, line, room, &mut out);
     text::put_bytes(said, len, shift_lines::front(&out, n))
 }
 

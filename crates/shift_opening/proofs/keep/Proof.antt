@@ -1,9 +1,9 @@
--- `turns::keep` meets its contract: the line and its LF, within the room. Assumes nothing.
+-- `shift_opening::keep` meets its contract: the line and its LF, within the room. Assumes nothing.
 use Rattle.text.proofs.RoomLaws.{andThen}
-use Rattle.shift_turns.proofs.TurnLaws.{kept-within}
+use Rattle.shift_opening.proofs.OpeningLaws.{kept-within}
 use borrow.Author.Needs.{needs}
-use Rattle.shift_turns.proofs.keep.Statement.{statement}
-use Rattle.shift_turns.proofs.keep.Tie as tie
+use Rattle.shift_opening.proofs.keep.Statement.{statement}
+use Rattle.shift_opening.proofs.keep.Tie as tie
 
 within-requires : tie.Need-within-requires
 within-requires c κs = search needs

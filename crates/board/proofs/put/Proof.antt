@@ -1,9 +1,9 @@
--- `board_text::put_board` meets its contract: one part after the other. Assumes nothing.
+-- `board::put` meets its contract: one part after the other. Assumes nothing.
 use Rattle.board.proofs.Typed.{typed, boarded}
 use Rattle.text.proofs.RoomLaws.{andThen, same-room}
 use borrow.Author.Needs.{needs}
-use Rattle.board.proofs.put_board.Statement.{statement}
-use Rattle.board.proofs.put_board.Tie as tie
+use Rattle.board.proofs.put.Statement.{statement}
+use Rattle.board.proofs.put.Tie as tie
 
 put-places-requires : tie.Need-put-places-requires
 put-places-requires c κs = search needs
@@ -38,8 +38,8 @@ same-length c = same-room (andThen (c .before .before .before .before .before .b
 returns : tie.Need-returns
 returns c = boarded (typed (c .before .before .before .before .before .before .before .before .before .before .before .before .before .before .before .before .before .before .before .before .before .before .before .before .before .before .before .before .before .before .before .before .before .before .before .before .before .before .before .before .before .args .lists) (c .before .before .before .before .before .before .before .before .before .before .before .before .before .before .before .before .before .before .before .before .before .before .before .before .before .before .before .before .before .before .before .before .before .before .before .before .before .before .before .before .before .args .schedule) _ _ (c .before .before .before .before .before .before .before .before .before .before .before .before .before .before .before .before .before .before .before .before .before .before .before .before .before .before .before .before .before .before .before .before .before .before .before .before .before .before .before .before .before .good .1 .1 .0) (c .before .before .before .before .before .before .before .before .before .before .before .before .before .before .before .before .before .before .before .before .before .before .before .before .before .before .before .before .before .before .before .before .before .before .before .before .before .before .before .before .before .good .1 .1 .1 .0)) (andThen (c .before .before .before .before .before .before .before .before .before .before .before .before .before .before .before .before .before .before .before .before .before .before .before .before .before .before .before .before .before .before .before .before .before .before .before .before .put-places .ensures) (andThen (c .before .before .before .before .before .before .before .before .before .before .before .before .before .before .before .before .before .before .before .before .before .before .before .before .before .before .before .before .before .before .put-units .ensures) (andThen (c .before .before .before .before .before .before .before .before .before .before .before .before .before .before .before .before .before .before .before .before .before .before .before .before .before .before .put-core .ensures) (andThen (c .before .before .before .before .before .before .before .before .before .before .before .before .before .before .before .before .before .before .before .before .before .before .put-drum .ensures) (andThen (c .before .before .before .before .before .before .before .before .before .before .before .before .before .before .before .before .before .put-moves .ensures) (andThen (c .before .before .before .before .before .before .before .before .before .before .before .put-listed .ensures) (andThen (c .before .before .before .before .before .before .before .put-requests .ensures) (c .before .before .put-bytes .ensures))))))))
 
-pub put-board-spec : {M : Type 1} → statement M
-put-board-spec =
+pub put-spec : {M : Type 1} → statement M
+put-spec =
     tie.close
     (tie.spec
     put-places-requires

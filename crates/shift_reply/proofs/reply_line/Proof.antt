@@ -1,9 +1,9 @@
--- `reply::reply` meets its contract: what the line says is what was answered. Assumes nothing.
+-- `shift_reply::reply_line` meets its contract: what the line says is what was answered. Assumes nothing.
 use Rattle.text.proofs.RoomLaws.{none}
 use Rattle.shift_reply.proofs.ReplyLaws.{shown, gives-as}
 use borrow.Author.Needs.{needs}
-use Rattle.shift_reply.proofs.reply.Statement.{statement}
-use Rattle.shift_reply.proofs.reply.Tie as tie
+use Rattle.shift_reply.proofs.reply_line.Statement.{statement}
+use Rattle.shift_reply.proofs.reply_line.Tie as tie
 
 enum-told : tie.Need-enum-told
 enum-told c = search needs
@@ -185,8 +185,8 @@ same-length-12 c = search needs
 returns-13 : tie.Need-returns-13
 returns-13 c = rw (c .before .before .before .before .before .call6 .given .1) (c .before .before .status .ensures)
 
-pub reply-spec : {M : Type 1} → statement M
-reply-spec =
+pub reply-line-spec : {M : Type 1} → statement M
+reply-line-spec =
     tie.close
     (tie.spec
     enum-told

@@ -1,10 +1,10 @@
--- `collect::add` meets its contract: too long, or the card and its LF put one after the other. Assumes nothing.
+-- `shift_deck::add_card` meets its contract: too long, or the card and its LF put one after the other. Assumes nothing.
 use native.Mathlib.Omega.{arith}
 use Rattle.text.proofs.RoomLaws.{andThen}
 use Rattle.shift_deck.proofs.GatheringLaws.{too-long, added}
 use borrow.Author.Needs.{needs}
-use Rattle.shift_deck.proofs.add.Statement.{statement}
-use Rattle.shift_deck.proofs.add.Tie as tie
+use Rattle.shift_deck.proofs.add_card.Statement.{statement}
+use Rattle.shift_deck.proofs.add_card.Tie as tie
 
 returns : tie.Need-returns
 returns c = too-long (c .before .before .args .room .now) (c .before .before .args .kept) (c .before .before .args .line .now) (omega arith)
@@ -24,6 +24,6 @@ put-byte-requires c κs = search needs
 returns-3 : tie.Need-returns-3
 returns-3 c = added (c .before .before .before .before .before .before .before .args .room .now) (c .before .before .before .before .before .before .before .args .kept) (c .before .before .before .before .before .before .before .args .line .now) (c .put-byte .last .0) (c .put-byte .result) (search needs) (omega arith) (andThen (c .before .before .put-bytes .ensures) (c .put-byte .ensures))
 
-pub add-spec : {M : Type 1} → statement M
-add-spec =
+pub add-card-spec : {M : Type 1} → statement M
+add-card-spec =
     tie.close (tie.spec returns sub-if2 returns-2 put-bytes-requires put-byte-requires returns-3)

@@ -1,13 +1,13 @@
--- `turns::end` meets its contract: by the phase. Assumes nothing.
+-- `shift_turns::end_of_input` meets its contract: by the phase. Assumes nothing.
 use borrow.Author.Needs.{needs}
-use Rattle.shift_turns.proofs.end.Statement.{statement}
-use Rattle.shift_turns.proofs.end.Tie as tie
+use Rattle.shift_turns.proofs.end_of_input.Statement.{statement}
+use Rattle.shift_turns.proofs.end_of_input.Tie as tie
 
 enum-known-phase : tie.Need-enum-known-phase
 enum-known-phase c = search needs
 
-unfinished-requires : tie.Need-unfinished-requires
-unfinished-requires c κs = search needs
+end-of-input-requires : tie.Need-end-of-input-requires
+end-of-input-requires c κs = search needs
 
 enum-told : tie.Need-enum-told
 enum-told c = search needs
@@ -37,7 +37,7 @@ same-length : tie.Need-same-length
 same-length c = search needs
 
 returns : tie.Need-returns
-returns c = rw (c .before .before .before .before .before .before .phase .given .1) (c .before .before .unfinished .ensures)
+returns c = rw (c .before .before .before .before .before .before .phase .given .1) (c .before .before .end-of-input .ensures)
 
 same-length-2 : tie.Need-same-length-2
 same-length-2 c = search needs
@@ -63,12 +63,12 @@ same-length-5 c = search needs
 returns-5 : tie.Need-returns-5
 returns-5 c = rw (c .before .before .before .before .before .enum-told4 .given .1) (rw (c .before .before .before .before .before .enum-told4 .given .1) at (c .before .before .closes4 .ensures))
 
-pub end-spec : {M : Type 1} → statement M
-end-spec =
+pub end-of-input-spec : {M : Type 1} → statement M
+end-of-input-spec =
     tie.close
     (tie.spec
     enum-known-phase
-    unfinished-requires
+    end-of-input-requires
     enum-told
     closes-requires
     enum-told-2
