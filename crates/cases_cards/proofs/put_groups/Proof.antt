@@ -1,4 +1,5 @@
--- `cases_cards::put_groups` is safe and ends. The loop's invariant: `at` is within the deck's end, and the room as long as it was. Assumes nothing.
+-- `cases_cards::put_groups` is safe and ends. The loop's invariant: `at` is within the deck's end, and the room as
+-- long as it was. Assumes nothing.
 use Prim.Native.Nat.{_≤_, _-_}
 use mathlib.Core.Path.{_≡_}
 use lib.ListN.{length}

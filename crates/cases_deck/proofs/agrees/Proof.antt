@@ -1,17 +1,23 @@
--- `cases_deck::same_text` is safe: what is compared is what the report put. Assumes nothing.
+-- `cases_deck::agrees` is safe: what is compared is what the report put. Assumes nothing.
 use Rattle.text.proofs.RoomLaws.{written-length}
 use borrow.Author.Needs.{needs}
-use Rattle.cases_deck.proofs.same_text.Statement.{statement}
-use Rattle.cases_deck.proofs.same_text.Tie as tie
+use Rattle.cases_deck.proofs.agrees.Statement.{statement}
+use Rattle.cases_deck.proofs.agrees.Tie as tie
 
 large-buffer-requires : tie.Need-large-buffer-requires
 large-buffer-requires c κs = search needs
+
+slice-aggregate-load : tie.Need-slice-aggregate-load
+slice-aggregate-load c = search needs
 
 load-requires : tie.Need-load-requires
 load-requires c κs = search needs
 
 large-buffer-requires-2 : tie.Need-large-buffer-requires-2
 large-buffer-requires-2 c κs = search needs
+
+slice-aggregate-load-2 : tie.Need-slice-aggregate-load-2
+slice-aggregate-load-2 c = search needs
 
 load-requires-2 : tie.Need-load-requires-2
 load-requires-2 c κs = search needs
@@ -35,7 +41,7 @@ array-share-prefix-room : tie.Need-array-share-prefix-room
 array-share-prefix-room c = search needs
 
 slice-aggregate-same : tie.Need-slice-aggregate-same
-slice-aggregate-same c = written-length (c .before .before .report .ensures .text)
+slice-aggregate-same c = written-length (c .before .before .before .before .report .ensures .text)
 
 array-share-prefix-wanted : tie.Need-array-share-prefix-wanted
 array-share-prefix-wanted c = search needs
@@ -49,13 +55,18 @@ same-requires c κs = search needs
 returns : tie.Need-returns
 returns c = search needs
 
-pub same-text-spec : {M : Type 1} → statement M
-same-text-spec =
+returns-2 : tie.Need-returns-2
+returns-2 c = search needs
+
+pub agrees-spec : {M : Type 1} → statement M
+agrees-spec =
     tie.close
     (tie.spec
     large-buffer-requires
+    slice-aggregate-load
     load-requires
     large-buffer-requires-2
+    slice-aggregate-load-2
     load-requires-2
     large-buffer-requires-3
     array-share-prefix-text
@@ -67,4 +78,5 @@ same-text-spec =
     array-share-prefix-wanted
     slice-aggregate-same-2
     same-requires
-    returns)
+    returns
+    returns-2)

@@ -1,17 +1,23 @@
--- `cases_listing::same_text` is safe: what is compared is what the listing put. Assumes nothing.
+-- `cases_listing::agrees` is safe: what is compared is what the listing put. Assumes nothing.
 use Rattle.text.proofs.RoomLaws.{written-length}
 use borrow.Author.Needs.{needs}
-use Rattle.cases_listing.proofs.same_text.Statement.{statement}
-use Rattle.cases_listing.proofs.same_text.Tie as tie
+use Rattle.cases_listing.proofs.agrees.Statement.{statement}
+use Rattle.cases_listing.proofs.agrees.Tie as tie
 
 buffer-requires : tie.Need-buffer-requires
 buffer-requires c κs = search needs
+
+slice-aggregate-load : tie.Need-slice-aggregate-load
+slice-aggregate-load c = search needs
 
 load-requires : tie.Need-load-requires
 load-requires c κs = search needs
 
 buffer-requires-2 : tie.Need-buffer-requires-2
 buffer-requires-2 c κs = search needs
+
+slice-aggregate-load-2 : tie.Need-slice-aggregate-load-2
+slice-aggregate-load-2 c = search needs
 
 load-requires-2 : tie.Need-load-requires-2
 load-requires-2 c κs = search needs
@@ -32,7 +38,7 @@ array-share-prefix-room : tie.Need-array-share-prefix-room
 array-share-prefix-room c = search needs
 
 slice-aggregate-same : tie.Need-slice-aggregate-same
-slice-aggregate-same c = written-length (c .before .before .listing .ensures .text)
+slice-aggregate-same c = written-length (c .before .before .before .before .listing .ensures .text)
 
 array-share-prefix-wanted : tie.Need-array-share-prefix-wanted
 array-share-prefix-wanted c = search needs
@@ -46,13 +52,18 @@ same-requires c κs = search needs
 returns : tie.Need-returns
 returns c = search needs
 
-pub same-text-spec : {M : Type 1} → statement M
-same-text-spec =
+returns-2 : tie.Need-returns-2
+returns-2 c = search needs
+
+pub agrees-spec : {M : Type 1} → statement M
+agrees-spec =
     tie.close
     (tie.spec
     buffer-requires
+    slice-aggregate-load
     load-requires
     buffer-requires-2
+    slice-aggregate-load-2
     load-requires-2
     array-share-prefix-text
     slice-aggregate-listing
@@ -63,4 +74,5 @@ same-text-spec =
     array-share-prefix-wanted
     slice-aggregate-same-2
     same-requires
-    returns)
+    returns
+    returns-2)
