@@ -1,4 +1,5 @@
--- How long a board is at most: 17,235 bytes, if its numbers and names are what their types let them be. Assumes nothing.
+-- How long a board is at most: 17,235 bytes, if its numbers and names are what their types let them be. Assumes
+-- nothing.
 use Prim.Native.Nat.{ℕ, zero, suc, _+_, _*_, _-_, _/_, _%_, _^_, _≤_, _<_, min}
 use mathlib.Core.Path.{_≡_, refl}
 use mathlib.Core.Bool.{Bool, true, false}

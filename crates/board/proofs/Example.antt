@@ -1,5 +1,5 @@
--- One board, computed: A1 runs in place 0 with two units, one of them with interlock, and a drum area; one of its packets moves, one is listed; a unit is down;
--- B2 waits. Assumes nothing.
+-- One board, computed: A1 runs in place 0 with two units, one of them with interlock, and a drum area; one of its
+-- packets moves, one is listed; a unit is down; B2 waits. Assumes nothing.
 use Prim.Native.Nat.{ℕ}
 use mathlib.Core.Path.{_≡_, refl}
 use mathlib.Core.Bool.{Bool, true, false}

@@ -4,7 +4,7 @@ use schedule_list::Schedule;
 ghost use Rattle.board.specs.Board.{Boarded};
 
 // Puts the board and answers where it ends. 17,235 bytes hold every board; a smaller room gets what fits.
-pub fn put_board(out: &mut [u8], at: usize, lists: Lists, schedule: Schedule) -> usize
+pub fn put(out: &mut [u8], at: usize, lists: Lists, schedule: Schedule) -> usize
     ensures { λ r. ⌜ Boarded (now (out .entry)) at lists schedule (now (out .exit)) r ⌝ }
 {
     let jobs = lists.jobs;

@@ -1,5 +1,5 @@
--- The two searches: for the request whose job is in a place, and for the job that holds a block. What is left to look at has the answer of all.
--- Assumes nothing.
+-- The two searches: for the request whose job is in a place, and for the job that holds a block. What is left to look
+-- at has the answer of all. Assumes nothing.
 use Prim.Native.Nat.{ℕ, suc, _+_, _≤_, _<_}
 use mathlib.Core.Path.{_≡_, refl, sym, _∙_}
 use mathlib.Core.Bool.{Bool, true, false, cond}

@@ -1,19 +1,15 @@
--- The board's line of core: "`CORE ` and 32 characters, block 0 first: `.` free, `X` the executive's, the place in base 36 (0-9, A-F) otherwise".
+-- The board's line of core: "`CORE ` and 32 characters, block 0 first: `.` free, `X` the executive's, the place in
+-- base 36 (0-9, A-F) otherwise".
 use Prim.Native.Nat.{ℕ, suc, _+_, _-_}
-use mathlib.Core.Bool.{Bool, false, cond, _&&_, _||_}
+use mathlib.Core.Bool.{Bool, false, cond, _||_}
 use mathlib.Core.List.{List, [], _∷_, _++_}
-use lib.Dec.{ltb, leb}
+use lib.Dec.{ltb}
 use Rattle.numbers.specs.Quoted.{byte, bytes}
-use Rattle.packets.specs.State.{isEmpty}
-use Rattle.packets.specs.declared.Blocks as B
+use Rattle.packets.specs.State.{inRun, isEmpty}
 use Rattle.packets.specs.declared.Core.{Core}
 use Rattle.packets.specs.declared.Job.{Job}
 use Rattle.packets.specs.declared.JobState.{JobState}
 use Rattle.shift_pieces.specs.Pieces.{each}
-
--- a block is in a run
-abbrev pub inRun : B.Blocks → ℕ → Bool
-inRun run block = leb (run .start) block && ltb block (run .start + run .count)
 
 -- a place that is not empty holds the blocks of its job's core
 unfoldable pub holdsBlock : JobState → Core → ℕ → Bool

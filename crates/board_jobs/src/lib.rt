@@ -8,10 +8,10 @@ use schedule_entries::Entry;
 ghost use mathlib.Core.Path.{_≡_};
 ghost use Prim.Native.Nat.{_<_};
 ghost use lib.ListN.{take};
-ghost use Rattle.packets.specs.State.{isEmpty};
+ghost use Rattle.packets.specs.State.{inRun, isEmpty};
 ghost use Rattle.text.specs.Room.{Written};
 ghost use Rattle.board_jobs.specs.Places.{jobText, placeText, idIn, placesText};
-ghost use Rattle.board_jobs.specs.Blocks.{inRun, holdsBlock, digit, holderIn, blockByte, blocksText, coreText};
+ghost use Rattle.board_jobs.specs.Blocks.{holdsBlock, digit, holderIn, blockByte, blocksText, coreText};
 
 // The ID of the request whose job is in a place; blanks where there is none.
 fn id_in(entries: [Entry; 64], count: usize, place: u8) -> [u8; 6]

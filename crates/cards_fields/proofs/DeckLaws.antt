@@ -1,63 +1,40 @@
 -- The cards of a text from a position on, one card further: what the code's walks over cards keep. Assumes nothing.
 use Prim.Native.Nat.{ℕ, zero, suc, _+_, _-_, _≤_, _<_}
 use mathlib.Core.Path.{_≡_, refl, sym, ap, _∙_}
-use mathlib.Core.Bool.{Bool, true, false, cond, not}
+use mathlib.Core.Bool.{true, false}
 use mathlib.Core.List.{List, [], _∷_}
-use native.Mathlib.Nat.{le-of-suc-le-suc}
 use native.Mathlib.Omega.{arith}
-use lib.Dec.{eqb}
 use lib.ListN.{length, getD, drop, take, length-drop, drop-of-length-le}
 use lib.Seq.{drop-drop, length-take-le}
 use borrow.Author.Tests.{le-leb, lt-leb}
 use Rattle.numbers.specs.declared.Refusal.the-variants.{BadDeck}
-use Rattle.words.specs.Words.{leading, isnt}
+use Rattle.words.specs.Words.{isnt}
+use Rattle.words.specs.Lines.{lineOf}
 use Rattle.words.proofs.WordLaws.{leading-front, leading-most}
+use Rattle.words.proofs.LineLaws.{no-line, first-line}
 use Rattle.cards_fields.specs.Fields.{isPty}
 use Rattle.cards_fields.proofs.FieldLaws.{rest-is}
-use Rattle.cards_fields.specs.Deck.{cardsOf, ontoLine, isTermination, terminated, before, size, deckEnd, opens, ontoGroup, groupsOf, firstGroup}
+use Rattle.cards_fields.specs.Deck.{cardsOf, isTermination, terminated, before, size, deckEnd, opens, ontoGroup, groupsOf, firstGroup}
 use Rattle.cards_fields.specs.declared.DeckEnd.the-variants.{At, Refused}
 
-abbrev pub line : List ℕ → List ℕ
-line s = leading (isnt 10) s
-
--- no LF is left
-pub no-line : (s : List ℕ) → length s ≤ length (line s) → cardsOf s ≡ []
-no-line [] h = refl
-no-line (b ∷ s) h = test (eqb b 10) (no-line s) h
-  where
-    test : (x : Bool) → (length s ≤ length (line s) → cardsOf s ≡ []) → suc (length s) ≤ length (cond (not x) (b ∷ line s) []) → cond x ([] ∷ cardsOf s) (ontoLine b (cardsOf s)) ≡ []
-    test true ih h = absurd (omega arith)
-    test false ih h = rw (ih (le-of-suc-le-suc h))
-
--- the first card, and what is left after its LF
-pub first-line : (s : List ℕ) → length (line s) < length s → cardsOf s ≡ line s ∷ cardsOf (drop (suc (length (line s))) s)
-first-line [] h = absurd (omega arith)
-first-line (b ∷ s) h = test (eqb b 10) (first-line s) h
-  where
-    test : (x : Bool) → (length (line s) < length s → cardsOf s ≡ line s ∷ cardsOf (drop (suc (length (line s))) s)) → length (cond (not x) (b ∷ line s) []) < suc (length s)
-        → cond x ([] ∷ cardsOf s) (ontoLine b (cardsOf s)) ≡ cond (not x) (b ∷ line s) [] ∷ cardsOf (drop (suc (length (cond (not x) (b ∷ line s) []))) (b ∷ s))
-    test true ih h = refl
-    test false ih h = rw (ih (le-of-suc-le-suc h))
-
--- the card that starts at a position: it ends within the text, and is the first of those from there on, if an LF ends
--- it
+-- the card that starts at a place: it ends within the text, and is the first of those from there on, if an LF ends it
 pub record Found (s : List ℕ) (at len : ℕ) : Type 0 where
   pub most : at + len ≤ length s
   pub long : length (take len (drop at s)) ≡ len
   pub ends : length s ≤ at + len → cardsOf (drop at s) ≡ []
   pub goes : at + len < length s → cardsOf (drop at s) ≡ take len (drop at s) ∷ cardsOf (drop (at + len + 1) s)
 
-pub found : (s : List ℕ) (at : ℕ) → at < length s → (len : ℕ) → len ≡ length (line (take (length s - at) (drop at s))) → Found s at len
+pub found : (s : List ℕ) (at : ℕ) → at < length s → (len : ℕ) → len ≡ length (lineOf (take (length s - at) (drop at s))) → Found s at len
 found s at h len is =
-    let n : len ≡ length (line (drop at s)) = is ∙ ap (λ (l : List ℕ). length (line l)) (rest-is s at) in
+    let n : len ≡ length (lineOf (drop at s)) = is ∙ ap (λ (l : List ℕ). length (lineOf l)) (rest-is s at) in
     let m : at + len ≤ length s = omega (arith, leading-most (isnt 10) (drop at s), length-drop at s) in
-    let k : at + suc (length (line (drop at s))) ≡ at + len + 1 = omega arith in
-    let f : line (drop at s) ≡ take len (drop at s) = sym (leading-front (isnt 10) (drop at s)) ∙ ap (λ (m : ℕ). take m (drop at s)) (sym n) in
+    let k : at + suc (length (lineOf (drop at s))) ≡ at + len + 1 = omega arith in
+    let f : lineOf (drop at s) ≡ take len (drop at s) = sym (leading-front (isnt 10) (drop at s)) ∙ ap (λ (m : ℕ). take m (drop at s)) (sym n) in
     record {
       most = m;
       long = length-take-le len (drop at s) (omega (arith, length-drop at s));
       ends = λ e. no-line (drop at s) (omega (arith, length-drop at s));
-      goes = λ e. first-line (drop at s) (omega (arith, length-drop at s)) ∙ rw (drop-drop (suc (length (line (drop at s)))) at s, k) (ap (λ (l : List ℕ). l ∷ cardsOf (drop (at + len + 1) s)) f);
+      goes = λ e. first-line (drop at s) (omega (arith, length-drop at s)) ∙ rw (drop-drop (suc (length (lineOf (drop at s)))) at s, k) (ap (λ (l : List ℕ). l ∷ cardsOf (drop (at + len + 1) s)) f);
     }
 
 -- a part from one position to another, as long as it is
@@ -127,8 +104,8 @@ module _ (s : List ℕ) where
   deck-ends n h t e = rw (le-leb (length s) 16384 h, t, e)
 
 -- the first card of a text, as it is lent
-pub opens-none : (s : List ℕ) (len : ℕ) → len ≡ length (line s) → len ≡ length s → opens (cardsOf s) ≡ true
+pub opens-none : (s : List ℕ) (len : ℕ) → len ≡ length (lineOf s) → len ≡ length s → opens (cardsOf s) ≡ true
 opens-none s len is e = rw (no-line s (omega arith))
 
-pub opens-first : (s : List ℕ) (len : ℕ) → len ≡ length (line s) → (len ≡ length s → ⊥) → opens (cardsOf s) ≡ isPty (take len s)
+pub opens-first : (s : List ℕ) (len : ℕ) → len ≡ length (lineOf s) → (len ≡ length s → ⊥) → opens (cardsOf s) ≡ isPty (take len s)
 opens-first s len is n = rw (first-line s (omega (arith, leading-most (isnt 10) s)), is, leading-front (isnt 10) s)

@@ -1,60 +1,30 @@
--- THE GROUPS OF A DECK AS PARTS OF IT: the part up to the termination card has the cards before it, and cutting off
--- the first group's part over and over gives the groups in order. A text is cut where a card ends, so that the cards
--- of the two parts are the cards of the whole. Assumes nothing.
-use Prim.Native.Nat.{ℕ, suc, _+_, _-_, _<_}
+-- THE GROUPS OF A DECK AS PARTS OF IT: the part up to the termination card has the cards before it, and cutting off the first group's part
+-- over and over gives the groups in order. A text is cut where a card ends, so that the cards of the two parts are the cards of the whole.
+-- Assumes nothing.
+use Prim.Native.Nat.{ℕ, suc, _+_, _-_}
 use mathlib.Core.Path.{_≡_, refl, sym, ap, subst, _∙_}
-use mathlib.Core.Bool.{Bool, true, false, cond, not, _&&_}
+use mathlib.Core.Bool.{Bool, true, false, cond, _&&_}
 use mathlib.Core.List.{List, [], _∷_, _++_}
 use mathlib.Core.Logic.{⊎-elim}
-use native.Mathlib.Nat.{eq-zero-or-pos, le-of-suc-le-suc}
+use native.Mathlib.Nat.{eq-zero-or-pos}
 use native.Mathlib.Omega.{arith}
-use lib.Dec.{eqb, leb}
+use lib.Dec.{leb}
 use lib.ListN.{length, drop, take}
 use lib.Seq.{take-append-add, drop-append-add}
-use borrow.Author.Tests.{eqb-true, eqb-false, ne-eqb}
 use Rattle.numbers.proofs.Tests.{by-bool}
 use Rattle.numbers.specs.declared.Refusal.the-variants.{BadDeck}
+use Rattle.words.specs.Lines.{lineOf, lf}
+use Rattle.words.proofs.LineLaws.{NoLf, first-ended, no-line, first-line, line-split, line-clean}
 use Rattle.cards_fields.specs.Fields.{isPty}
-use Rattle.cards_fields.specs.Deck.{lf, cardsOf, isTermination, terminated, before, size, deckEnd, groupsOf, firstGroup, groupSize}
-use Rattle.cards_fields.proofs.DeckLaws.{line, no-line, first-line}
+use Rattle.cards_fields.specs.Deck.{cardsOf, isTermination, terminated, before, size, deckEnd, groupsOf, firstGroup, groupSize}
 use Rattle.cards_fields.specs.declared.DeckEnd.the-variants.{At, Refused}
-
--- a card's text has no LF
-abbrev pub NoLf : List ℕ → Type 0
-NoLf [] = Unit {0}
-NoLf (b ∷ s) = (b ≡ lf → ⊥) × NoLf s
-
--- so that with an LF behind it it is the first card
-pub first-card : (c s : List ℕ) → NoLf c → cardsOf (c ++ (lf ∷ s)) ≡ c ∷ cardsOf s
-first-card [] s n = refl
-first-card (b ∷ c) s n = rw (ne-eqb b 10 (n .0), first-card c s (n .1))
-
--- a text that has a card is that card, its LF and what follows
-line-split : (s : List ℕ) → length (line s) < length s → s ≡ line s ++ (lf ∷ drop (suc (length (line s))) s)
-line-split [] h = absurd (omega arith)
-line-split (b ∷ s) h = by-bool (eqb b 10) (λ e. ended e (eqb-true b 10 e)) (λ e. on e (line-split s))
-  where
-    ended : eqb b 10 ≡ true → b ≡ 10 → b ∷ s ≡ line (b ∷ s) ++ (lf ∷ drop (suc (length (line (b ∷ s)))) (b ∷ s))
-    ended e i = rw e (ap (λ (x : ℕ). x ∷ s) i)
-
-    on : eqb b 10 ≡ false → (length (line s) < length s → s ≡ line s ++ (lf ∷ drop (suc (length (line s))) s))
-        → b ∷ s ≡ line (b ∷ s) ++ (lf ∷ drop (suc (length (line (b ∷ s)))) (b ∷ s))
-    on e ih = rw e (ap (λ (l : List ℕ). b ∷ l) (ih (le-of-suc-le-suc (rw e at h))))
-
-line-clean : (s : List ℕ) → NoLf (line s)
-line-clean [] = tt
-line-clean (b ∷ s) = test (eqb b 10) refl (line-clean s)
-  where
-    test : (x : Bool) → eqb b 10 ≡ x → NoLf (line s) → NoLf (cond (not x) (b ∷ line s) [])
-    test true e n = tt
-    test false e n = (eqb-false b 10 e, n)
 
 -- one card further
 cut-one : (c r : List ℕ) (a b : List (List ℕ)) → NoLf c → (cardsOf (take (size a) r) ≡ a) × (cardsOf (drop (size a) r) ≡ b)
     → (cardsOf (take (size (c ∷ a)) (c ++ (lf ∷ r))) ≡ c ∷ a) × (cardsOf (drop (size (c ∷ a)) (c ++ (lf ∷ r))) ≡ b)
 cut-one c r a b n ih =
     let k : length c + 1 + size a ≡ length c + suc (size a) = omega arith in (
-      rw (k, take-append-add c (lf ∷ r) (suc (size a))) (first-card c (take (size a) r) n ∙ ap (λ (l : List (List ℕ)). c ∷ l) (ih .0)),
+      rw (k, take-append-add c (lf ∷ r) (suc (size a))) (first-ended c (take (size a) r) n ∙ ap (λ (l : List (List ℕ)). c ∷ l) (ih .0)),
       rw (k, drop-append-add c (lf ∷ r) (suc (size a))) (ih .1),
     )
 
@@ -65,14 +35,14 @@ cut (c ∷ a) b s e =
     ⊎-elim
     (λ z. let n : [] ≡ c ∷ (a ++ b) = sym (no-line s (omega arith)) ∙ e in let z : _≡_ {A = ℕ} 0 1 = cc in absurd (omega arith))
     (λ p.
-    let f : line s ∷ cardsOf (drop (suc (length (line s))) s) ≡ c ∷ (a ++ b) = sym (first-line s (omega arith)) ∙ e in
-    let i : line s ≡ c = cc in
-    let j : cardsOf (drop (suc (length (line s))) s) ≡ a ++ b = cc in
-    let r = drop (suc (length (line s))) s in
+    let f : lineOf s ∷ cardsOf (drop (suc (length (lineOf s))) s) ≡ c ∷ (a ++ b) = sym (first-line s (omega arith)) ∙ e in
+    let i : lineOf s ≡ c = cc in
+    let j : cardsOf (drop (suc (length (lineOf s))) s) ≡ a ++ b = cc in
+    let r = drop (suc (length (lineOf s))) s in
     let w : s ≡ c ++ (lf ∷ r) = line-split s (omega arith) ∙ ap (λ (l : List ℕ). l ++ (lf ∷ r)) i in
     subst (λ (l : List ℕ). (cardsOf (take (size (c ∷ a)) l) ≡ c ∷ a) × (cardsOf (drop (size (c ∷ a)) l) ≡ b)) (sym w)
     (cut-one c r a b (subst (λ (l : List ℕ). NoLf l) i (line-clean s)) (cut a b r j)))
-    (eq-zero-or-pos (length s - length (line s)))
+    (eq-zero-or-pos (length s - length (lineOf s)))
 
 -- the first group is the first cards, and the others are the groups of the rest
 record Splits (cs : List (List ℕ)) : Type 0 where

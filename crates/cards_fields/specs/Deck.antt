@@ -1,29 +1,21 @@
 -- A deck: its cards, its termination card, and its groups.
-use Prim.Native.Nat.{ℕ, _+_}
+use Prim.Native.Nat.{ℕ}
 use mathlib.Core.Bool.{Bool, true, false, cond, _&&_}
 use mathlib.Core.List.{List, [], _∷_, _++_}
-use lib.Dec.{eqb, leb}
+use lib.Dec.{leb}
 use lib.ListN.{length, getD, replicate}
 use Rattle.numbers.specs.Quoted.{byte}
 use Rattle.numbers.specs.declared.Refusal.the-variants.{BadDeck}
 use Rattle.words.specs.Words.{same}
+use Rattle.words.specs.Lines.{linesOf}
+pub use Rattle.words.specs.Lines.{lf, ontoLine, size}
 use Rattle.cards_fields.specs.Fields.{isPty}
 use Rattle.cards_fields.specs.declared.DeckEnd.{DeckEnd}
 use Rattle.cards_fields.specs.declared.DeckEnd.the-variants.{At, Refused}
 
--- the byte LF
-abbrev pub lf : ℕ
-lf = 10
-
--- one byte more in front of the first line; where no LF follows there is no line
-abbrev pub ontoLine : ℕ → List (List ℕ) → List (List ℕ)
-ontoLine b [] = []
-ontoLine b (l ∷ ls) = (b ∷ l) ∷ ls
-
 -- "cards are lines ended by LF"
 abbrev pub cardsOf : List ℕ → List (List ℕ)
-cardsOf [] = []
-cardsOf (b ∷ s) = cond (eqb b lf) ([] ∷ cardsOf s) (ontoLine b (cardsOf s))
+cardsOf s = linesOf s
 
 -- "80 characters: `)` in 1-8 and 73-80, `+` in 10-22, blanks elsewhere"
 abbrev pub termination : List ℕ
@@ -43,13 +35,7 @@ abbrev pub terminated : List (List ℕ) → Bool
 terminated [] = false
 terminated (c ∷ cs) = cond (isTermination c) true (terminated cs)
 
--- how many bytes cards take, each with its LF
-abbrev pub size : List (List ℕ) → ℕ
-size [] = 0
-size (c ∷ cs) = length c + 1 + size cs
-
--- "Deck: at most 16,384 bytes in all": where the termination card starts, or the refusal of a deck too long or
--- without one
+-- "Deck: at most 16,384 bytes in all": where the termination card starts, or the refusal of a deck too long or without one
 unfoldable pub deckEnd : List ℕ → DeckEnd
 deckEnd s = cond (leb (length s) 16384 && terminated (cardsOf s)) (At (size (before (cardsOf s)))) (Refused BadDeck)
 

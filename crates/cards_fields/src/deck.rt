@@ -6,12 +6,12 @@ ghost use mathlib.Core.Path.{_≡_};
 ghost use mathlib.Core.List.{[]};
 ghost use Prim.Native.Nat.{_≤_};
 ghost use lib.ListN.{length, getD, take};
-ghost use Rattle.words.specs.Words.{leading, isnt};
-ghost use Rattle.cards_fields.specs.Deck.{lf, cardsOf, isTermination, deckEnd, opens, groupSize};
+ghost use Rattle.words.specs.Lines.{lineOf};
+ghost use Rattle.cards_fields.specs.Deck.{cardsOf, isTermination, deckEnd, opens, groupSize};
 
 // The length of the first card of what is left of a deck, its LF not counted; the whole length where no LF is left.
 fn card_len(rest: &[u8]) -> usize
-    ensures { λ r. ⌜ r ≡ length (leading (isnt lf) (now (rest .entry))) ⌝ }
+    ensures { λ r. ⌜ r ≡ length (lineOf (now (rest .entry))) ⌝ }
 {
     words::until(rest, b'\n')
 }

@@ -11,7 +11,8 @@ use borrow.Author.Tests.{le-leb}
 use Rattle.numbers.specs.Quoted.{bytes}
 use Rattle.numbers.proofs.Tests.{by-bool, never, both}
 use Rattle.words.specs.Words.{same, value}
-use Rattle.cards_fields.specs.Deck.{cardsOf, lf}
+use Rattle.cards_fields.specs.Deck.{cardsOf}
+use Rattle.words.specs.Lines.{lf}
 use Rattle.cards_fields.specs.Fields.{field, fields, spaceless, padded, malformed}
 use Rattle.cards.specs.Errors.{good, errorIf, orElse}
 use Rattle.cards.proofs.ErrorLaws.{good-is, not-good, or-else-none}

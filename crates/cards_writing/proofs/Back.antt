@@ -22,8 +22,8 @@ use Rattle.words.specs.declared.Class.the-variants.{Hyphened}
 use Rattle.words.proofs.WordLaws.{every-append, every-weaker}
 use Rattle.cards_fields.specs.Fields.{fields, onto, spaceless, padded, cardByte, closed, malformed}
 use Rattle.cards_fields.proofs.FieldLaws.{fields-period, fields-comma, fields-other, by-form}
-use Rattle.cards_fields.specs.Deck.{lf}
-use Rattle.cards_fields.proofs.Groups.{NoLf}
+use Rattle.words.specs.Lines.{lf}
+use Rattle.words.proofs.LineLaws.{NoLf}
 use Rattle.cards.specs.Errors.{orElse}
 use Rattle.cards_pty.specs.Pty.{Rule, oneOf, programName, fieldError, fieldsFrom, priorityOf, ranked, lastOfAll}
 use Rattle.cards_pty.proofs.PriorityLaws.{lettered, sequenced, rank-good, rank-last}

@@ -15,7 +15,7 @@ use Rattle.numbers.specs.declared.Refusal.the-variants.{NoRoom, WrongRequest}
 use Rattle.text.specs.Room.{Written}
 use Rattle.text.proofs.RoomLaws.{andThen, fitted, same-room}
 use Rattle.words.proofs.WordLaws.{drop-step}
-use Rattle.cards_fields.specs.Deck.{lf}
+use Rattle.words.specs.Lines.{lf}
 use Rattle.cards.specs.Errors.{good}
 use Rattle.cards_fac.specs.Fac.{slots}
 use Rattle.cards_pty.specs.Pty.{ruleAt, fieldError}

@@ -17,8 +17,9 @@ use Rattle.text.specs.Writing.{decimalText}
 use Rattle.words.specs.Words.{same, value}
 use Rattle.words.proofs.WordLaws.{every-weaker, same-self}
 use Rattle.cards_fields.specs.Fields.{field, fields, spaceless, padded, isPty, malformed}
-use Rattle.cards_fields.specs.Deck.{lf, cardsOf}
-use Rattle.cards_fields.proofs.Groups.{NoLf, first-card}
+use Rattle.words.specs.Lines.{lf}
+use Rattle.cards_fields.specs.Deck.{cardsOf}
+use Rattle.words.proofs.LineLaws.{NoLf, first-ended}
 use Rattle.cards.specs.Errors.{good}
 use Rattle.cards.proofs.ErrorLaws.{good-is}
 use Rattle.cards_pty.specs.Pty.{rules, ruleAt, fieldsError, priorityOf, ptyError}
@@ -233,8 +234,8 @@ module _ (r : Request) (t : Taken r) where
   pub cards-back : cardsOf (textOf r) ≡ ptyText r ∷ facText r ∷ []
   unfolding textOf ptyText facText
   cards-back =
-      first-card (ptyText r) (facText r ++ (lf ∷ [])) (card-lf kept some-kept (trimmed-plain (ptyFields r) pty-plain))
-      ∙ ap (λ (cs : List (List ℕ)). ptyText r ∷ cs) (first-card (facText r) [] (card-lf (facFields r) (omega arith) fac-plain))
+      first-ended (ptyText r) (facText r ++ (lf ∷ [])) (card-lf kept some-kept (trimmed-plain (ptyFields r) pty-plain))
+      ∙ ap (λ (cs : List (List ℕ)). ptyText r ∷ cs) (first-ended (facText r) [] (card-lf (facFields r) (omega arith) fac-plain))
 
   pub read-back : length (ptyText r) ≤ 80 → length (facText r) ≤ 80 → readGroup (cardsOf (textOf r)) ≡ record { verdict = Good; request = r }
   unfolding readCards orderedError

@@ -9,7 +9,7 @@ use Rattle.numbers.specs.declared.Refusal.the-variants.{NoRoom, WrongRequest}
 use Rattle.text.specs.Class.{isLetter}
 use Rattle.text.specs.Writing.{twoText, decimalText}
 use Rattle.cards_fields.specs.Fields.{spaceless}
-use Rattle.cards_fields.specs.Deck.{lf}
+use Rattle.words.specs.Lines.{lf}
 use Rattle.cards.specs.Errors.{good}
 use Rattle.cards_pty.specs.Pty.{fieldsError}
 use Rattle.cards_fac.specs.Fac.{codes, slots, coreError, asksOf}

@@ -5,25 +5,6 @@ use cards::Verdict;
 use cards_fields::DeckEnd;
 use cards_fields::deck;
 use cards_writing::Wrote;
-use libc::STDOUT_FILENO;
-ghost use Rattle.io.specs.Counts.{Counts};
-
-// Puts the file that argument i names into a buffer, and answers its length; 0 for a file that is not there, and no
-// wanted file is empty.
-fn load(i: usize, buffer: &mut [u8; 4096]) -> usize
-    ensures { λ r. ⌜ Counts r (now (buffer .exit)) ⌝ }
-{
-    let mut path = io::buffer();
-    let n = os::arg(i, &mut path);
-    let fd = os::open_read(&path[..n]);
-    if fd < 0 {
-        os::fail(&path[..n]);
-        return 0;
-    }
-    let length = io::read_full(fd, buffer);
-    libc::close(fd);
-    length
-}
 
 // Whether a request that was read is written as cards that read and write alike. What follows the last LF of the
 // rooms is no card.
@@ -94,37 +75,26 @@ fn report(room: &mut [u8], deck: &[u8]) -> usize {
     }
 }
 
-// Whether the errors of deck i are those of file j.
+// Whether the errors of deck i are those of file j; a missing one is a failure.
 fn agrees(i: usize, j: usize) -> bool {
     let mut text = io::buffer();
-    let n = load(i, &mut text);
+    let input = cases::load(i, &mut text);
     let mut wanted = io::buffer();
-    let m = load(j, &mut wanted);
+    let output = cases::load(j, &mut wanted);
     let mut room = [0u8; 1024];
-    let length = report(&mut room, &text[..n]);
+    let length = report(&mut room, &text[..input.len]);
     if 1024 < length {
         return false;
     }
-    check::same(&room[..length], &wanted[..m])
-}
-
-fn one(b: bool) -> u64 {
-    if b { 1 } else { 0 }
+    input.there && output.there && check::same(&room[..length], &wanted[..output.len])
 }
 
 // Prints how many cases agree.
 fn main() {
-    let count = os::arg_count();
-    let mut i: usize = 1;
-    let mut good: u64 = 0;
-    while i < count {
-        good = std::num::wrapping_add_u64(good, one(agrees(i, i + 1)));
-        if count - i < 2 {
-            i = count;
-        } else {
-            i += 2;
-        }
+    let mut tally = cases::first();
+    while tally.at < tally.count {
+        let agree = agrees(tally.at, tally.at + 1);
+        tally = cases::judged(tally, agree);
     }
-    io::print_decimal(STDOUT_FILENO, good);
-    io::write_all(STDOUT_FILENO, b" cases agree\n");
+    cases::print(tally);
 }

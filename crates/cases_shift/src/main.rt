@@ -1,36 +1,10 @@
 // Runs each case of data/ and compares: the arguments are the names of the inputs, each before what must come out.
-use libc::STDOUT_FILENO;
 use shift_turns::Shift;
-ghost use Rattle.io.specs.Counts.{Counts};
 
 // The shift after a line, and how long what was said is.
 struct Said {
     shift: Shift,
     len: usize,
-}
-
-// Whether the file that argument i names is there.
-fn is_there(i: usize) -> bool {
-    let mut path = io::buffer();
-    let n = os::arg(i, &mut path);
-    let fd = os::open_read(&path[..n]);
-    if fd < 0 {
-        return false;
-    }
-    libc::close(fd);
-    true
-}
-
-// Puts the file that argument i names into a buffer, and answers its length.
-fn load(i: usize, buffer: &mut [u8; 65536]) -> usize
-    ensures { λ r. ⌜ Counts r (now (buffer .exit)) ⌝ }
-{
-    let mut path = io::buffer();
-    let n = os::arg(i, &mut path);
-    let fd = os::open_read(&path[..n]);
-    let length = io::read_full(fd, buffer);
-    libc::close(fd);
-    length
 }
 
 // Answers one line, puts the answer behind what was said before, and says where it ends.
@@ -60,7 +34,7 @@ fn finish(
     len: usize,
 ) -> usize {
     let mut out = io::large_buffer();
-    let n = shift_turns::end(shift, line, room, &mut out);
+    let n = shift_turns::end_of_input(shift, line, room, &mut out);
     text::put_bytes(said, len, shift_lines::front(&out, n))
 }
 
@@ -91,57 +65,30 @@ fn says(script: &[u8], line: &mut [u8; 20480], said: &mut [u8; 65536], wanted: &
     check::same(shift_lines::front(said, length), wanted)
 }
 
-// Whether the answers to the script in file i are file j.
-fn same_answers(i: usize, j: usize) -> bool {
+// Whether the answers to the script in file i are file j; a missing one is a failure.
+fn agrees(i: usize, j: usize) -> bool {
     let mut script = io::large_buffer();
-    let n = load(i, &mut script);
+    let input = cases::load(i, &mut script);
     let mut wanted = io::large_buffer();
-    let m = load(j, &mut wanted);
+    let output = cases::load(j, &mut wanted);
     let mut said = io::large_buffer();
     let mut line = [0u8; 20480];
-    says(&script[..n], &mut line, &mut said, &wanted[..m])
-}
-
-// Whether both files are there and agree: a missing one is a failure.
-fn agrees(i: usize, j: usize) -> bool {
-    if is_there(i) {
-        if is_there(j) {
-            return same_answers(i, j);
-        }
-    }
-    false
-}
-
-// Names a case that does not agree.
-fn name_case(i: usize) {
-    let mut path = io::buffer();
-    let n = os::arg(i, &mut path);
-    io::write_all(STDOUT_FILENO, &path[..n]);
-    io::write_all(STDOUT_FILENO, b" differs\n");
-}
-
-// What a case counts for; one that does not agree is named.
-fn run_case(i: usize, j: usize) -> u64 {
-    if agrees(i, j) {
-        return 1;
-    }
-    name_case(i);
-    0
+    input.there
+        && output.there
+        && says(
+            &script[..input.len],
+            &mut line,
+            &mut said,
+            &wanted[..output.len],
+        )
 }
 
 // Prints how many cases agree.
 fn main() {
-    let count = os::arg_count();
-    let mut i: usize = 1;
-    let mut good: u64 = 0;
-    while i < count {
-        good = std::num::wrapping_add_u64(good, run_case(i, i + 1));
-        if count - i < 2 {
-            i = count;
-        } else {
-            i += 2;
-        }
+    let mut tally = cases::first();
+    while tally.at < tally.count {
+        let agree = agrees(tally.at, tally.at + 1);
+        tally = cases::judged(tally, agree);
     }
-    io::print_decimal(STDOUT_FILENO, good);
-    io::write_all(STDOUT_FILENO, b" cases agree\n");
+    cases::print(tally);
 }

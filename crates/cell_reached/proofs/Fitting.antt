@@ -20,10 +20,10 @@ use Rattle.cards.specs.declared.Facilities.{Facilities}
 use Rattle.cards.specs.declared.Request.{Request}
 use Rattle.schedule_entries.specs.declared.Entry.{Entry}
 use Rattle.assign.specs.Assignment.{IsAssignment}
-use Rattle.packets.specs.Apart.{Fits, inCore, inRun}
+use Rattle.packets.specs.Apart.{Fits, inCore}
 use Rattle.packets.specs.Picks.{any}
 use Rattle.packets.specs.Rules as Rules
-use Rattle.packets.specs.State.{isEmpty, jobIn, noJob, stateIn, wanted}
+use Rattle.packets.specs.State.{inRun, isEmpty, jobIn, noJob, stateIn, wanted}
 use Rattle.packets.proofs.Store.{alive-in}
 use Rattle.packets.specs.declared.Core.{Core}
 use Rattle.packets.specs.declared.Job.{Job}

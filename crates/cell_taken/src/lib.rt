@@ -5,7 +5,7 @@ use packets::Core;
 use packets::Job;
 ghost use mathlib.Core.Path.{_≡_};
 ghost use mathlib.Core.List.{map};
-ghost use Rattle.packets.specs.Apart.{inRun};
+ghost use Rattle.packets.specs.State.{inRun};
 ghost use Rattle.cell_taken.specs.Taken.{inBlocks, coreOf, areaOf, anyHas, occupancy, LowestFree};
 
 // The lowest place without a job, or that all are taken.

@@ -41,13 +41,18 @@ counted configuration grid channel unit = cond (hasUnit configuration channel un
 -- how many units of a channel are assignable, of its units below `upto`
 unfoldable pub assignableUnits : Configuration → List (List Unit) → ChannelNumber → ℕ → ℕ
 assignableUnits configuration grid channel zero = 0
-assignableUnits configuration grid channel (suc upto) = assignableUnits configuration grid channel upto + counted configuration grid channel (record { 0 = upto })
+assignableUnits configuration grid channel (suc upto) =
+    assignableUnits configuration grid channel upto + counted configuration grid channel (record { 0 = upto })
+
+-- how many units of a channel are assignable in the fresh cell
+abbrev pub freshCount : Configuration → ChannelNumber → ℕ
+freshCount configuration channel = assignableUnits configuration (freshUnits (configuration .down)) channel 16
 
 -- `cc n`, n the channel's assignable units in the fresh cell
 unfoldable pub channelText : Configuration → ChannelNumber → List ℕ
 channelText configuration channel =
     cond (isListed (channelIn configuration channel))
-    (twoText (channel .0) ++ (bytes " " ++ (decimalText (assignableUnits configuration (freshUnits (configuration .down)) channel 16) ++ bytes "\n")))
+    (twoText (channel .0) ++ (bytes " " ++ (decimalText (freshCount configuration channel) ++ bytes "\n")))
     []
 
 -- the lines of `left` channels from c on
@@ -64,7 +69,8 @@ answerText (Bad line) configuration = errorText line
 abbrev pub listingOf : List ℕ → List ℕ
 listingOf s = answerText (configurationOf s .verdict) (configurationOf s .configuration)
 
--- what the listing leaves in lent room: its text from the room's start on, cut at the room's end; 96 bytes hold all of it, and what is past it is kept
+-- what the listing leaves in lent room: its text from the room's start on, cut at the room's end; 96 bytes hold all
+-- of it, and what is past it is kept
 pub record Listed (s room after : List ℕ) (r : ℕ) : Type 0 where
   pub text : Room.Written room 0 (listingOf s) after r
   pub whole : 96 ≤ length room → (take r after ≡ listingOf s) × (drop r after ≡ drop r room)

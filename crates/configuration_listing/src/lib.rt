@@ -54,8 +54,8 @@ fn count_channel(configuration: Configuration, state: Units, channel: ChannelNum
     found
 }
 
-// The line of a refused configuration.
-fn put_error(out: &mut [u8], line: usize) -> usize
+// Puts the line of a bad configuration from the room's start on.
+pub fn put_error(out: &mut [u8], line: usize) -> usize
     ensures { λ r. ⌜ Written (now (out .entry)) 0 (errorText line) (now (out .exit)) r ⌝ }
 {
     let words = text::put_bytes(out, 0, b"ER 14 LINE ");
@@ -98,7 +98,8 @@ fn put_lines(out: &mut [u8], configuration: Configuration) -> usize
     at
 }
 
-// Puts the listing of a configuration into lent room and answers its length. 96 bytes are enough; a smaller room gets what fits.
+// Puts the listing of a configuration into lent room and answers its length. 96 bytes are enough; a smaller room gets
+// what fits.
 pub fn listing(config: &[u8], out: &mut [u8]) -> usize
     ensures { λ r. ⌜ Listed (now (config .entry)) (now (out .entry)) (now (out .exit)) r ⌝ }
 {

@@ -14,7 +14,8 @@ use Rattle.units.specs.declared.Holder.the-variants.{Free, Held}
 use Rattle.channels.specs.Channels.{fitted, noChannels, noDown}
 use Rattle.channels.specs.declared.Channel.{Channel}
 use Rattle.channels.specs.declared.Configuration.{Configuration}
-use Rattle.cards_fields.specs.Deck.{lf, termination}
+use Rattle.words.specs.Lines.{lf}
+use Rattle.cards_fields.specs.Deck.{termination}
 use Rattle.cards.specs.Errors.{errorNumber}
 use Rattle.cards_group.specs.Group.{readGroup}
 use Rattle.cards.specs.declared.Verdict.{Verdict}

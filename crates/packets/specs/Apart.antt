@@ -1,21 +1,15 @@
--- Areas of drum are disjoint, and so is core, if each job was taken with words and blocks that no other job held. A
--- reader has to believe this page.
-use Prim.Native.Nat.{ℕ, _+_}
+-- Areas of drum are disjoint, and so is core, if each job was taken with words and blocks that no other job held. A reader has to believe
+-- this page.
+use Prim.Native.Nat.{ℕ}
 use mathlib.Core.Path.{_≡_}
-use mathlib.Core.Bool.{Bool, true, false, _&&_, _||_}
+use mathlib.Core.Bool.{Bool, true, false, _||_}
 use mathlib.Core.List.{List, [], _∷_}
-use lib.Dec.{leb, ltb}
 use Rattle.units.specs.declared.Unit.{Unit as UnitState}
 use Rattle.channels.specs.declared.Channel.{Channel}
 use Rattle.packets.specs.Demand.{NoneHeld, fresh}
 use Rattle.packets.specs.Rules.{Call, Complete, End, Mark, Start, Submit, Take, freshJob, inArea, run, step}
-use Rattle.packets.specs.State.{State, isEmpty, jobIn, stateIn}
-use Rattle.packets.specs.declared.Blocks.{Blocks}
+use Rattle.packets.specs.State.{State, isEmpty, inRun, jobIn, stateIn}
 use Rattle.packets.specs.declared.Job.{Job}
-
--- a block of a run
-abbrev pub inRun : Blocks → ℕ → Bool
-inRun run b = leb (run .start) b && ltb b (run .start + run .count)
 
 -- a block of a job's core
 abbrev pub inCore : Job → ℕ → Bool

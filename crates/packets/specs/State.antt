@@ -3,7 +3,7 @@ use Prim.Native.Nat.{ℕ, _+_, _*_, _/_, _%_}
 use mathlib.Core.Bool.{Bool, true, false, not, cond, _&&_, _||_}
 use mathlib.Core.List.{List, [], _∷_, _++_, map}
 use lib.ListN.{length, getD, set}
-use lib.Dec.{ltb, eqb}
+use lib.Dec.{ltb, leb, eqb}
 use Rattle.numbers.specs.Kinds.{isDrum}
 use Rattle.functions.specs.Legal.{legalOf}
 use Rattle.units.specs.State.{unitIn, unitSet, assignable}
@@ -18,6 +18,7 @@ use Rattle.packets.specs.declared.Status.the-variants.{Blank, Listed, In
 use Rattle.packets.specs.declared.Packet.{Packet}
 use Rattle.packets.specs.declared.JobState.{JobState}
 use Rattle.packets.specs.declared.JobState.the-variants.{Empty, Running, ClosingNormal, ClosingError}
+use Rattle.packets.specs.declared.Blocks.{Blocks}
 use Rattle.packets.specs.declared.Core.{Core}
 use Rattle.packets.specs.declared.Job.{Job}
 use Rattle.packets.specs.declared.Motion.{Motion}
@@ -122,6 +123,10 @@ blank = record { status = Blank; function = 0; channel = record { 0 = 0 }; at = 
 
 abbrev pub noCore : Core
 noCore = record { ib = record { start = 0; count = 0 }; db = record { start = 0; count = 0 } }
+
+-- a block of a run
+abbrev pub inRun : Blocks → ℕ → Bool
+inRun run b = leb (run .start) b && ltb b (run .start + run .count)
 
 -- no place of the cell
 abbrev pub noJob : Job

@@ -12,7 +12,8 @@ use Rattle.numbers.proofs.Tests.{by-bool, never, both}
 use Rattle.numbers.specs.Quoted.{bytes}
 use Rattle.numbers.specs.declared.Refusal.the-variants.{BadDeck}
 use Rattle.cards_fields.specs.Fields.{upToPeriod, spaceless, onto, split, fields, field, isPty}
-use Rattle.cards_fields.specs.Deck.{cardsOf, termination, isTermination, before, terminated, size, ontoLine, ontoGroup, groupsOf, deckEnd}
+use Rattle.cards_fields.specs.Deck.{cardsOf, termination, isTermination, before, terminated, size, ontoGroup, groupsOf, deckEnd}
+use Rattle.words.specs.Lines.{ontoLine}
 use Rattle.cards_fields.specs.declared.DeckEnd.the-variants.{At, Refused}
 use Rattle.words.proofs.WordLaws.{same-equal}
 use Rattle.schedule_deck.specs.Report.{deckGroups}

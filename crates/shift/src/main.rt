@@ -1,4 +1,5 @@
-// The whole cell as a program to talk to: reads a script on standard input and answers each line as soon as it has come.
+// The whole cell as a program to talk to: reads a script on standard input and answers each line as soon as it has
+// come.
 use libc::STDIN_FILENO;
 use libc::STDOUT_FILENO;
 use shift_turns::Phase;
@@ -18,8 +19,8 @@ fn answer(shift: Shift, line: &[u8], room: &mut [u8; 16384]) -> Shift {
     turn.shift
 }
 
-// Answers the lines of a piece of the input, `len` bytes of whose first came before. A line that is longer than its room is cut off there: from 16,384 bytes
-// on it is answered as what it begins with.
+// Answers the lines of a piece of the input, `len` bytes of whose first came before. A line that is longer than its
+// room is cut off there: from 16,384 bytes on it is answered as what it begins with.
 fn hear(
     first: Shift,
     len: usize,
@@ -56,11 +57,12 @@ fn is_over(phase: Phase) -> bool {
 // The end of the input, after `len` bytes of a last line.
 fn finish(shift: Shift, len: usize, line: &[u8; 20480], room: &mut [u8; 16384]) {
     let mut out = io::large_buffer();
-    let n = shift_turns::end(shift, shift_lines::front(line, len), room, &mut out);
+    let n = shift_turns::end_of_input(shift, shift_lines::front(line, len), room, &mut out);
     io::write_all(STDOUT_FILENO, shift_lines::front(&out, n));
 }
 
-// A proved loop has to end, and nothing says that the input does: the loop counts its turns down, from a number that no run uses up.
+// A proved loop has to end, and nothing says that the input does: the loop counts its turns down, from a number that
+// no run uses up.
 fn main() {
     let mut line = [0u8; 20480];
     let mut room = [0u8; 16384];

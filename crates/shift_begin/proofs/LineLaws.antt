@@ -1,41 +1,36 @@
--- The lines of a text that starts with right ones: each of these ends at its only LF, so they are counted, and a line that is there is not
--- made another by what follows. Assumes nothing.
+-- The lines of a text that starts with right ones: each of these ends at its only LF, so they are counted, and a line
+-- that is there is not made another by what follows. Assumes nothing.
 use Prim.Native.Nat.{ℕ, zero, suc, _+_, _/_, _%_, _≤_}
 use mathlib.Core.Path.{_≡_, refl, sym, ap, _∙_}
-use mathlib.Core.Bool.{true, false}
 use mathlib.Core.List.{List, [], _∷_, _++_, append-assoc}
 use native.Mathlib.Omega.{arith}
-use lib.Dec.{eqb, ltb}
-use lib.ListN.{length, length-append}
-use borrow.Author.Tests.{ne-eqb, eqb-true}
+use lib.Dec.{ltb}
+use lib.ListN.{length, drop, length-append}
 use Rattle.numbers.proofs.Tests.{by-bool}
 use Rattle.numbers.specs.Kinds.{codeOf}
 use Rattle.numbers.specs.declared.Kind.{Kind}
 use Rattle.numbers.specs.declared.Kind.the-variants.{Ma, Mt, Pr, Md}
 use Rattle.text.specs.Writing.{twoText, digitsText, decimalText}
-use Rattle.words.specs.Words.{isnt}
-use Rattle.words.proofs.WordLaws.{every-append}
-use Rattle.cards_fields.specs.Deck.{cardsOf, ontoLine, size}
-use Rattle.shift_deck.proofs.DeckLaws.{Plain, first-card}
+use Rattle.words.specs.Lines.{lineOf, linesOf, size}
+use Rattle.words.proofs.LineLaws.{NoLf, no-lf-append, first-ended, has-line, line-split, line-clean}
 use Rattle.configuration_form.specs.Form.{Item, line, written}
 
-digit-plain : (d : ℕ) → isnt 10 (48 + d) ≡ true
-digit-plain d = rw (ne-eqb (48 + d) 10 (λ e. omega arith))
-
-digits-plain : (most n : ℕ) → Plain (digitsText most n)
+digits-clean : (most n : ℕ) → NoLf (digitsText most n)
 unfolding digitsText
-digits-plain zero n = rw (digit-plain n)
-digits-plain (suc most) n =
-    by-bool (ltb n 10) (λ e. rw (e, digit-plain n)) (λ e. rw e (every-append (isnt 10) (digitsText most (n / 10)) ((48 + n % 10) ∷ []) (digits-plain most (n / 10)) (rw (digit-plain (n % 10)))))
+digits-clean zero n = ((λ e. omega arith), tt)
+digits-clean (suc most) n =
+    by-bool (ltb n 10)
+    (λ t. rw t ((λ e. omega arith), tt))
+    (λ t. rw t (no-lf-append (digitsText most (n / 10)) ((48 + n % 10) ∷ []) (digits-clean most (n / 10)) ((λ e. omega arith), tt)))
 
-two-plain : (n : ℕ) (t : List ℕ) → Plain t → Plain (twoText n ++ t)
-two-plain n t p = rw (digit-plain (n / 10), digit-plain (n % 10)) p
+two-clean : (n : ℕ) (t : List ℕ) → NoLf t → NoLf (twoText n ++ t)
+two-clean n t p = ((λ e. omega arith), ((λ e. omega arith), p))
 
-code-plain : (kind : Kind) (t : List ℕ) → Plain t → Plain (codeOf kind ++ t)
-code-plain Ma t p = p
-code-plain Mt t p = p
-code-plain Pr t p = p
-code-plain Md t p = p
+code-clean : (kind : Kind) (t : List ℕ) → NoLf t → NoLf (codeOf kind ++ t)
+code-clean Ma t p = ((λ e. omega arith), ((λ e. omega arith), p))
+code-clean Mt t p = ((λ e. omega arith), ((λ e. omega arith), p))
+code-clean Pr t p = ((λ e. omega arith), ((λ e. omega arith), p))
+code-clean Md t p = ((λ e. omega arith), ((λ e. omega arith), p))
 
 -- a line without its LF
 abbrev body : Item → List ℕ
@@ -43,13 +38,12 @@ body (Item.count n) = decimalText n
 body (Item.channel c kind n) = twoText c ++ (32 ∷ (codeOf kind ++ (32 ∷ decimalText n)))
 body (Item.down c u) = twoText c ++ (32 ∷ (twoText u ++ []))
 
-body-plain : (item : Item) → Plain (body item)
-body-plain (Item.count n) = digits-plain n n
-body-plain (Item.channel c kind n) = two-plain c (32 ∷ (codeOf kind ++ (32 ∷ decimalText n))) (code-plain kind (32 ∷ decimalText n) (digits-plain n n))
-body-plain (Item.down c u) = two-plain c (32 ∷ (twoText u ++ [])) (two-plain u [] refl)
-
-code-then : (kind : Kind) (s t : List ℕ) → (codeOf kind ++ s) ++ t ≡ codeOf kind ++ (s ++ t)
-code-then kind s t = append-assoc (codeOf kind) s t
+body-clean : (item : Item) → NoLf (body item)
+body-clean (Item.count n) = digits-clean n n
+body-clean (Item.channel c kind n) =
+    two-clean c (32 ∷ (codeOf kind ++ (32 ∷ decimalText n)))
+    ((λ e. omega arith), code-clean kind (32 ∷ decimalText n) ((λ e. omega arith), digits-clean n n))
+body-clean (Item.down c u) = two-clean c (32 ∷ (twoText u ++ [])) ((λ e. omega arith), two-clean u [] tt)
 
 line-is : (item : Item) → line item ≡ body item ++ (10 ∷ [])
 line-is (Item.count n) = refl
@@ -60,64 +54,47 @@ line-then : (item : Item) (t : List ℕ) → line item ++ t ≡ body item ++ (10
 line-then item t = ap (λ (l : List ℕ). l ++ t) (line-is item) ∙ append-assoc (body item) (10 ∷ []) t
 
 -- a right line is the first line of what starts with it
-pub first-is : (item : Item) (t : List ℕ) → cardsOf (line item ++ t) ≡ body item ∷ cardsOf t
-first-is item t = ap cardsOf (line-then item t) ∙ first-card (body item) t (body-plain item)
+pub first-is : (item : Item) (t : List ℕ) → linesOf (line item ++ t) ≡ body item ∷ linesOf t
+first-is item t = ap linesOf (line-then item t) ∙ first-ended (body item) t (body-clean item)
 
 -- lines that are written are counted
-pub counted : (items : List Item) (rest : List ℕ) → length (cardsOf (written items ++ rest)) ≡ length items + length (cardsOf rest)
+pub counted : (items : List Item) (rest : List ℕ) → length (linesOf (written items ++ rest)) ≡ length items + length (linesOf rest)
 counted [] rest = omega arith
 counted (item ∷ items) rest =
-    let e : cardsOf (written (item ∷ items) ++ rest) ≡ body item ∷ cardsOf (written items ++ rest) =
-    ap cardsOf (append-assoc (line item) (written items) rest) ∙ first-is item (written items ++ rest) in
+    let e : linesOf (written (item ∷ items) ++ rest) ≡ body item ∷ linesOf (written items ++ rest) =
+    ap linesOf (append-assoc (line item) (written items) rest) ∙ first-is item (written items ++ rest) in
     omega (arith, ap length e, counted items rest)
 
--- a text that has a line: the line, its LF, and what follows
-pub record Lined (s : List ℕ) : Type 0 where
-  pub first : List ℕ
-  pub rest : List ℕ
-  pub plain : Plain first
-  pub is : s ≡ first ++ (10 ∷ rest)
+-- what is left after the first line and its LF
+abbrev pub restOf : List ℕ → List ℕ
+restOf s = drop (suc (length (lineOf s))) s
 
-pub lined : (s : List ℕ) → 1 ≤ length (cardsOf s) → Lined s
-lined [] h = absurd (omega arith)
-lined (b ∷ s) h = by-bool (eqb b 10) here (later (lined s))
-  where
-    here : eqb b 10 ≡ true → Lined (b ∷ s)
-    here e = record { first = []; rest = s; plain = refl; is = ap (λ (x : ℕ). x ∷ s) (eqb-true b 10 e) }
-
-    some : (ls : List (List ℕ)) → 1 ≤ length (ontoLine b ls) → 1 ≤ length ls
-    some [] h = absurd (omega arith)
-    some (l ∷ ls) h = omega arith
-
-    later : (1 ≤ length (cardsOf s) → Lined s) → eqb b 10 ≡ false → Lined (b ∷ s)
-    later ih e =
-        let m = ih (some (cardsOf s) (rw e at h)) in
-        record { first = b ∷ m .first; rest = m .rest; plain = rw (e, m .plain); is = ap (λ (l : List ℕ). b ∷ l) (m .is) }
-
--- and a right line that a longer text starts with is that line
-pub there : (s more t : List ℕ) (item : Item) (l : Lined s) → s ++ more ≡ line item ++ t → s ≡ line item ++ l .rest
-there s more t item l e =
-    let f : cardsOf (s ++ more) ≡ l .first ∷ cardsOf (l .rest ++ more) =
-    ap (λ (x : List ℕ). cardsOf (x ++ more)) (l .is) ∙ ap cardsOf (append-assoc (l .first) (10 ∷ l .rest) more) ∙ first-card (l .first) (l .rest ++ more) (l .plain) in
-    let g : l .first ∷ cardsOf (l .rest ++ more) ≡ body item ∷ cardsOf t = sym f ∙ ap cardsOf e ∙ first-is item t in
-    let h : l .first ≡ body item = heads g in
-    l .is ∙ ap (λ (x : List ℕ). x ++ (10 ∷ l .rest)) h ∙ sym (line-then item (l .rest))
+-- a right line that a longer text starts with is the first line of the text, where that has one
+pub there : (s more t : List ℕ) (item : Item) → 1 ≤ length (linesOf s) → s ++ more ≡ line item ++ t → s ≡ line item ++ restOf s
+there s more t item h e =
+    let is = line-split s (has-line s h) in
+    let f : linesOf (s ++ more) ≡ lineOf s ∷ linesOf (restOf s ++ more) =
+    ap (λ (x : List ℕ). linesOf (x ++ more)) is
+    ∙ ap linesOf (append-assoc (lineOf s) (10 ∷ restOf s) more)
+    ∙ first-ended (lineOf s) (restOf s ++ more) (line-clean s) in
+    let g : lineOf s ∷ linesOf (restOf s ++ more) ≡ body item ∷ linesOf t = sym f ∙ ap linesOf e ∙ first-is item t in
+    is ∙ ap (λ (x : List ℕ). x ++ (10 ∷ restOf s)) (heads g) ∙ sym (line-then item (restOf s))
   where
     heads : {a b : List ℕ} {k m : List (List ℕ)} → a ∷ k ≡ b ∷ m → a ≡ b
     heads e = cc
 
 -- whole lines after which no LF is left end there
-sizes : (items : List Item) (rest : List ℕ) → size (cardsOf (written items ++ rest)) ≡ length (written items) + size (cardsOf rest)
+sizes : (items : List Item) (rest : List ℕ) → size (linesOf (written items ++ rest)) ≡ length (written items) + size (linesOf rest)
 sizes [] rest = omega arith
 sizes (item ∷ items) rest =
-    let e : cardsOf (written (item ∷ items) ++ rest) ≡ body item ∷ cardsOf (written items ++ rest) =
-    ap cardsOf (append-assoc (line item) (written items) rest) ∙ first-is item (written items ++ rest) in
+    let e : linesOf (written (item ∷ items) ++ rest) ≡ body item ∷ linesOf (written items ++ rest) =
+    ap linesOf (append-assoc (line item) (written items) rest) ∙ first-is item (written items ++ rest) in
     let l : length (line item) ≡ length (body item) + 1 = ap length (line-is item) ∙ length-append (body item) (10 ∷ []) in
     omega (arith, ap size e, sizes items rest, length-append (line item) (written items))
 
-pub nothing-left : (items : List Item) (rest : List ℕ) → length (cardsOf rest) ≡ 0 → size (cardsOf (written items ++ rest)) ≡ length (written items ++ rest) → rest ≡ []
+pub nothing-left : (items : List Item) (rest : List ℕ) → length (linesOf rest) ≡ 0 → size (linesOf (written items ++ rest)) ≡ length (written items ++ rest) → rest ≡ []
 nothing-left items rest none whole =
-    none-left rest (omega (arith, sizes items rest, length-append (written items) rest, no-size (cardsOf rest) none))
+    none-left rest (omega (arith, sizes items rest, length-append (written items) rest, no-size (linesOf rest) none))
   where
     no-size : (ls : List (List ℕ)) → length ls ≡ 0 → size ls ≡ 0
     no-size [] h = refl

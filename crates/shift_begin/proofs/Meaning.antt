@@ -1,7 +1,8 @@
--- What asking for the configuration after each line comes to. Good is answered for the written form of a configuration and for nothing else; a bad
--- line stays the answer whatever follows; and where more is due, every line so far is right. So no question but the one at the end of the
--- configuration is answered with good, and none before it with bad. Assumes nothing.
-use Prim.Native.Nat.{ℕ, zero, suc, _+_, _≤_, _<_}
+-- What asking for the configuration after each line comes to. Good is answered for the written form of a
+-- configuration and for nothing else; a bad line stays the answer whatever follows; and where more is due, every line
+-- so far is right. So no question but the one at the end of the configuration is answered with good, and none before
+-- it with bad. Assumes nothing.
+use Prim.Native.Nat.{ℕ, zero, _+_, _≤_, _<_}
 use mathlib.Core.Path.{_≡_, refl, sym, ap, subst, _∙_}
 use mathlib.Core.Bool.{Bool, true, false}
 use mathlib.Core.List.{List, [], _∷_, _++_, append-assoc}
@@ -12,20 +13,20 @@ use lib.Seq.{length-take-le}
 use borrow.Author.Tests.{ltb-true, ltb-false}
 use Rattle.numbers.proofs.Tests.{by-bool}
 use Rattle.channels.specs.declared.Channel.{Channel}
-use Rattle.cards_fields.specs.Deck.{cardsOf, size}
+use Rattle.words.specs.Lines.{linesOf, size}
+use Rattle.words.proofs.LineLaws.{has-line}
 use Rattle.configuration.specs.declared.Verdict.the-variants as Verdict′
 use Rattle.configuration.specs.declared.Answer.{Answer}
 use Rattle.configuration.specs.Configured.{refused, good, configurationOf}
-use Rattle.configuration_form.specs.Form.{Item, line, written, Due, Right, Complete, Reads, Bad, InForm, FirstBad}
+use Rattle.configuration_form.specs.Form.{Item, written, Due, Right, Complete, Reads, Bad, InForm, FirstBad}
 use Rattle.configuration_form.specs.Means.{Said}
 use Rattle.configuration_form.proofs.Meaning.{meaning}
 use Rattle.configuration_form.proofs.Unique.{read-back, first-named}
 use Rattle.configuration_form.proofs.Enough.{enough}
-use Rattle.shift_begin.specs.declared.Begun.{Begun}
 use Rattle.shift_begin.specs.declared.Begun.the-variants as Begun′
 use Rattle.shift_begin.specs.declared.Beginning.{Beginning}
 use Rattle.shift_begin.specs.Opening.{openingOf}
-use Rattle.shift_begin.proofs.LineLaws.{counted, lined, there, nothing-left}
+use Rattle.shift_begin.proofs.LineLaws.{counted, restOf, there, nothing-left}
 
 -- these lines are a configuration
 abbrev pub begunWith : List Channel → List Bool → Beginning
@@ -34,8 +35,8 @@ begunWith of marks = record { begun = Begun′.Good; configuration = record { ch
 -- what is answered: good for the written form, else by whether the first bad or missing line is there
 data Answered (s : List ℕ) : Type 0 where
   goods : (of : List Channel) (marks : List Bool) → InForm s of marks → openingOf true s ≡ begunWith of marks → Answered s
-  bads : (number : ℕ) → FirstBad s number → number ≤ length (cardsOf s) → openingOf true s .begun ≡ Begun′.Bad number → Answered s
-  dues : (number : ℕ) → FirstBad s number → length (cardsOf s) < number → openingOf true s .begun ≡ Begun′.More → Answered s
+  bads : (number : ℕ) → FirstBad s number → number ≤ length (linesOf s) → openingOf true s .begun ≡ Begun′.Bad number → Answered s
+  dues : (number : ℕ) → FirstBad s number → length (linesOf s) < number → openingOf true s .begun ≡ Begun′.More → Answered s
 
 answered : (s : List ℕ) → Answered s
 unfolding openingOf
@@ -44,9 +45,9 @@ answered s = by (meaning s .said)
     by : Said (configurationOf s) → Answered s
     by (Said.goods of marks e) = Answered.goods of marks (meaning s .written of marks e) (rw e)
     by (Said.bads n e) =
-        by-bool (ltb (length (cardsOf s)) n)
-        (λ t. Answered.dues n (meaning s .first n e) (ltb-true (length (cardsOf s)) n t) (rw (e, t)))
-        (λ t. Answered.bads n (meaning s .first n e) (ltb-false (length (cardsOf s)) n t) (rw (e, t)))
+        by-bool (ltb (length (linesOf s)) n)
+        (λ t. Answered.dues n (meaning s .first n e) (ltb-true (length (linesOf s)) n t) (rw (e, t)))
+        (λ t. Answered.bads n (meaning s .first n e) (ltb-false (length (linesOf s)) n t) (rw (e, t)))
 
 -- good is answered for the written form of a configuration
 pub form-good : (s : List ℕ) (of : List Channel) (marks : List Bool) → InForm s of marks → openingOf true s ≡ begunWith of marks
@@ -109,11 +110,11 @@ good-form s of marks e = by (answered s)
     by (Answered.dues n f l g) = absurd (good-not-more (sym (ap (λ (b : Beginning). b .begun) e) ∙ g))
 
 -- a bad line that is there is the first bad line of every text that starts so
-stays : (s more : List ℕ) (number : ℕ) → number ≤ length (cardsOf s) → FirstBad s number → FirstBad (s ++ more) number
+stays : (s more : List ℕ) (number : ℕ) → number ≤ length (linesOf s) → FirstBad s number → FirstBad (s ++ more) number
 stays s more number h f =
     let r = f .reads in
-    let c : length (cardsOf s) ≡ length (r .items) + length (cardsOf (f .rest)) = ap (λ (l : List ℕ). length (cardsOf l)) (r .text) ∙ counted (r .items) (f .rest) in
-    let l = lined (f .rest) (omega (arith, f .next, r .many)) in
+    let c : length (linesOf s) ≡ length (r .items) + length (linesOf (f .rest)) = ap (λ (l : List ℕ). length (linesOf l)) (r .text) ∙ counted (r .items) (f .rest) in
+    let some : 1 ≤ length (linesOf (f .rest)) = omega (arith, f .next, r .many) in
     record {
       before = f .before;
       next = f .next;
@@ -126,11 +127,10 @@ stays s more number h f =
         text = ap (λ (p : List ℕ). p ++ more) (r .text) ∙ append-assoc (written (r .items)) (f .rest) more;
       };
       bad = record {
-        none = λ item next t q e. f .bad .none item next (l .rest) q (there (f .rest) more t item l e);
+        none = λ item next t q e. f .bad .none item next (restOf (f .rest)) q (there (f .rest) more t item some e);
         more = λ of marks c e.
             let z : length (f .rest ++ more) ≡ 0 = ap length e in
-            let n : length (f .rest) ≡ length (l .first) + suc (length (l .rest)) = ap length (l .is) ∙ length-append (l .first) (10 ∷ l .rest) in
-            omega (arith, length-append (f .rest) more);
+            omega (arith, length-append (f .rest) more, has-line (f .rest) some);
       };
     }
 
@@ -147,19 +147,19 @@ bad-stays s more number e = by (answered s)
     by (Answered.dues n f l g) = absurd (more-not-bad (sym g ∙ e))
 
 -- where more is due, whole lines are all right ones, and the configuration is not complete
-pub more-due : (s : List ℕ) → size (cardsOf s) ≡ length s → openingOf true s .begun ≡ Begun′.More
-    → (due : Due) × Reads Due.first s (length (cardsOf s)) due [] × ((of : List Channel) (marks : List Bool) → Complete due of marks → ⊥)
+pub more-due : (s : List ℕ) → size (linesOf s) ≡ length s → openingOf true s .begun ≡ Begun′.More
+    → (due : Due) × Reads Due.first s (length (linesOf s)) due [] × ((of : List Channel) (marks : List Bool) → Complete due of marks → ⊥)
 more-due s whole e = by (answered s)
   where
-    by : Answered s → (due : Due) × Reads Due.first s (length (cardsOf s)) due [] × ((of : List Channel) (marks : List Bool) → Complete due of marks → ⊥)
+    by : Answered s → (due : Due) × Reads Due.first s (length (linesOf s)) due [] × ((of : List Channel) (marks : List Bool) → Complete due of marks → ⊥)
     by (Answered.goods o m w f) = absurd (good-not-more (sym (ap (λ (b : Beginning). b .begun) f) ∙ e))
     by (Answered.bads n f l g) = absurd (more-not-bad (sym e ∙ g))
     by (Answered.dues n f l g) =
         let r = f .reads in
-        let c : length (cardsOf s) ≡ length (r .items) + length (cardsOf (f .rest)) = ap (λ (l : List ℕ). length (cardsOf l)) (r .text) ∙ counted (r .items) (f .rest) in
+        let c : length (linesOf s) ≡ length (r .items) + length (linesOf (f .rest)) = ap (λ (l : List ℕ). length (linesOf l)) (r .text) ∙ counted (r .items) (f .rest) in
         let z : f .rest ≡ [] = nothing-left (r .items) (f .rest) (omega (arith, f .next, r .many)) (rw (r .text) at whole) in (
           f .due,
-          record { items = r .items; many = omega (arith, ap (λ (l : List ℕ). length (cardsOf l)) z); right = r .right; text = rw z at (r .text) },
+          record { items = r .items; many = omega (arith, ap (λ (l : List ℕ). length (linesOf l)) z); right = r .right; text = rw z at (r .text) },
           λ of marks k. f .bad .more of marks k z,
         )
 
@@ -180,7 +180,8 @@ pub ended : (s : List ℕ) (number : ℕ) → configurationOf s ≡ refused numb
 unfolding openingOf
 ended s number e = rw e
 
--- 2,048 bytes decide: of a text of as many no more need be kept, and the line that they blame is the first bad line whatever follows
+-- 2,048 bytes decide: of a text of as many no more need be kept, and the line that they blame is the first bad line
+-- whatever follows
 pub kept : (s more : List ℕ) → 2048 ≤ length s → (number : ℕ) × (openingOf false (take 2048 s) .begun ≡ Begun′.Bad number) × (configurationOf (s ++ more) ≡ refused number)
 kept s more h = by (meaning (take 2048 s) .said)
   where

@@ -1,10 +1,11 @@
--- The configuration in front of a script, "exactly as document 01 gives it, except that lines may follow it", asked for whenever a line has come.
+-- The configuration in front of a script, "exactly as document 01 gives it, except that lines may follow it", asked
+-- for whenever a line has come.
 use Prim.Native.Nat.{ℕ}
 use mathlib.Core.Bool.{Bool, cond, _&&_}
 use mathlib.Core.List.{List}
 use lib.Dec.{ltb}
 use lib.ListN.{length}
-use Rattle.cards_fields.specs.Deck.{cardsOf}
+use Rattle.words.specs.Lines.{linesOf}
 use Rattle.configuration.specs.declared.Verdict.{Verdict}
 use Rattle.configuration.specs.declared.Verdict.the-variants as Verdict′
 use Rattle.configuration.specs.Configured.{configurationOf}
@@ -19,4 +20,8 @@ saidSoFar (Verdict′.Bad line) more lines = cond (more && ltb lines line) More 
 
 -- what a text begins: its lines are those ended by LF
 unfoldable pub openingOf : Bool → List ℕ → Beginning
-openingOf more s = record { begun = saidSoFar (configurationOf s .verdict) more (length (cardsOf s)); configuration = configurationOf s .configuration }
+openingOf more s =
+    record {
+      begun = saidSoFar (configurationOf s .verdict) more (length (linesOf s));
+      configuration = configurationOf s .configuration;
+    }

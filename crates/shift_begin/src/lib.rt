@@ -1,9 +1,8 @@
-// The configuration in front of a script: whether the lines so far are one, are wrong, or are still to be followed by more.
+// The configuration in front of a script: whether the lines so far are one, are wrong, or are still to be followed by
+// more.
 use channels::Configuration;
 use configuration::Verdict;
 ghost use mathlib.Core.Path.{_≡_};
-ghost use lib.ListN.{length};
-ghost use Rattle.cards_fields.specs.Deck.{cardsOf};
 ghost use Rattle.shift_begin.specs.Opening.{saidSoFar, openingOf};
 
 // More lines are due; they are a configuration; or the line of this number is bad, whatever follows.
@@ -19,7 +18,8 @@ pub struct Beginning {
     pub configuration: Configuration,
 }
 
-// What a reader's verdict on so many lines comes to: where more may come, a bad line that is not there yet is one that is due.
+// What a reader's verdict on so many lines comes to: where more may come, a bad line that is not there yet is one
+// that is due.
 fn so_far(verdict: Verdict, more: bool, lines: usize) -> Begun
     ensures { λ r. ⌜ r ≡ saidSoFar verdict more lines ⌝ }
 {
@@ -37,7 +37,7 @@ fn so_far(verdict: Verdict, more: bool, lines: usize) -> Begun
 }
 
 // What the text so far begins, where more may come or not.
-pub fn configured(text: &[u8], more: bool) -> Beginning
+pub fn judge(text: &[u8], more: bool) -> Beginning
     ensures { λ r. ⌜ r ≡ openingOf more (now (text .entry)) ⌝ }
 {
     let answer = configuration::read(text);

@@ -1,6 +1,7 @@
--- What adding a card comes to, and what a deck gathered so holds: its cards, each with its LF, as long as it is not too long. Assumes nothing.
+-- What adding a card comes to, and what a deck gathered so holds: its cards, each with its LF, as long as it is not
+-- too long. Assumes nothing.
 use Prim.Native.Nat.{ℕ, _+_, _-_, _≤_, _<_}
-use mathlib.Core.Path.{_≡_, refl, sym, ap, subst, _∙_}
+use mathlib.Core.Path.{_≡_, refl, sym, subst, _∙_}
 use mathlib.Core.List.{List, [], _∷_, _++_}
 use native.Mathlib.Omega.{arith}
 use lib.ListN.{length, take, drop, length-append}
@@ -8,7 +9,8 @@ use lib.Seq.{sets, sets-eq, take-append-seam}
 use borrow.Author.Tests.{le-leb, lt-leb, leb-true, leb-false}
 use Rattle.numbers.proofs.Tests.{by-bool}
 use Rattle.text.specs.Room.{Written}
-use Rattle.shift_deck.specs.Gathering.{Adds, hasRoom, cardText}
+use Rattle.words.specs.Lines.{lineText}
+use Rattle.shift_deck.specs.Gathering.{Adds, hasRoom}
 use Rattle.shift_deck.specs.declared.Gathered.{Gathered}
 use Rattle.shift_deck.specs.declared.Gathered.the-variants.{Kept, TooLong}
 
@@ -16,7 +18,7 @@ module _ (room : List ℕ) (kept : ℕ) (line : List ℕ) where
   pub too-long : 16384 < kept + (length line + 1) → Adds room kept line room TooLong
   too-long h = let e = lt-leb (kept + (length line + 1)) 16384 h in record { is = rw e; bytes = rw e }
 
-  pub added : (after : List ℕ) (next : ℕ) → length room ≡ 16384 → kept + (length line + 1) ≤ 16384 → Written room kept (cardText line) after next → Adds room kept line after (Kept next)
+  pub added : (after : List ℕ) (next : ℕ) → length room ≡ 16384 → kept + (length line + 1) ≤ 16384 → Written room kept (lineText line) after next → Adds room kept line after (Kept next)
   added after next l h w =
       let e = le-leb (kept + (length line + 1)) 16384 h in
       let n : next ≡ kept + (length line + 1) = omega (arith, w .place, length-append line (10 ∷ [])) in
@@ -32,23 +34,23 @@ pub holds-none : (room : List ℕ) → Holds [] room (Kept 0)
 holds-none room = (refl, omega arith, refl)
 
 -- a card more
-pub holds-more : (s room line after : List ℕ) (kept : ℕ) (r : Gathered) → length room ≡ 16384 → Holds s room (Kept kept) → Adds room kept line after r → Holds (s ++ cardText line) after r
+pub holds-more : (s room line after : List ℕ) (kept : ℕ) (r : Gathered) → length room ≡ 16384 → Holds s room (Kept kept) → Adds room kept line after r → Holds (s ++ lineText line) after r
 holds-more s room line after kept r l h a =
     by-bool (hasRoom kept line)
     (λ t. let m = leb-true (kept + (length line + 1)) 16384 t in
     let e : r ≡ Kept (kept + (length line + 1)) = a .is ∙ rw t in
-    let b : after ≡ sets room kept (cardText line) = a .bytes ∙ rw t in
-    subst (Holds (s ++ cardText line) after) (sym e) (omega (arith, n, h .0), omega (arith, n, h .0), within m b))
+    let b : after ≡ sets room kept (lineText line) = a .bytes ∙ rw t in
+    subst (Holds (s ++ lineText line) after) (sym e) (omega (arith, n, h .0), omega (arith, n, h .0), within m b))
     (λ t. let m = leb-false (kept + (length line + 1)) 16384 t in
     let e : r ≡ TooLong = a .is ∙ rw t in
-    subst (Holds (s ++ cardText line) after) (sym e) (omega (arith, n, h .0)))
+    subst (Holds (s ++ lineText line) after) (sym e) (omega (arith, n, h .0)))
   where
-    n : length (s ++ cardText line) ≡ length s + (length line + 1)
-    n = omega (arith, length-append s (cardText line), length-append line (10 ∷ []))
+    n : length (s ++ lineText line) ≡ length s + (length line + 1)
+    n = omega (arith, length-append s (lineText line), length-append line (10 ∷ []))
 
-    within : kept + (length line + 1) ≤ 16384 → after ≡ sets room kept (cardText line) → take (kept + (length line + 1)) after ≡ s ++ cardText line
+    within : kept + (length line + 1) ≤ 16384 → after ≡ sets room kept (lineText line) → take (kept + (length line + 1)) after ≡ s ++ lineText line
     within m b =
-        let c : length (cardText line) ≡ length line + 1 = length-append line (10 ∷ []) in
-        let f = sets-eq (cardText line) room kept (omega arith) in
-        let k : kept + (length line + 1) ≡ length (s ++ cardText line) = omega (arith, n, h .0) in
-        rw (b, f, h .2, k) (take-append-seam (s ++ cardText line) (drop (kept + length (cardText line)) room))
+        let c : length (lineText line) ≡ length line + 1 = length-append line (10 ∷ []) in
+        let f = sets-eq (lineText line) room kept (omega arith) in
+        let k : kept + (length line + 1) ≡ length (s ++ lineText line) = omega (arith, n, h .0) in
+        rw (b, f, h .2, k) (take-append-seam (s ++ lineText line) (drop (kept + length (lineText line)) room))

@@ -11,14 +11,14 @@ pub enum Gathered {
 }
 
 // Whether a line is the termination card.
-pub fn is_last(line: &[u8]) -> bool
+pub fn is_last_card(line: &[u8]) -> bool
     ensures { λ r. ⌜ r ≡ isTermination (now (line .entry)) ⌝ }
 {
     cards_fields::deck::is_termination(line)
 }
 
 // Puts a card with its LF behind the bytes of the deck that stand in the room; where that is too long, nothing.
-pub fn add(room: &mut [u8; 16384], kept: usize, line: &[u8]) -> Gathered
+pub fn add_card(room: &mut [u8; 16384], kept: usize, line: &[u8]) -> Gathered
     ensures { λ r. ⌜ Adds (now (room .entry)) kept (now (line .entry)) (now (room .exit)) r ⌝ }
 {
     if 16384 <= kept {

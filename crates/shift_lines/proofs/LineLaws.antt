@@ -1,5 +1,5 @@
--- WHAT TAKING UP A LINE MEANS: something of a piece is always taken up and no more than there is; where the line is not whole all of the piece is; and
--- however the input is cut into pieces, the line is the same. Assumes nothing.
+-- WHAT TAKING UP A LINE MEANS: something of a piece is always taken up and no more than there is; where the line is
+-- not whole all of the piece is; and however the input is cut into pieces, the line is the same. Assumes nothing.
 use Prim.Native.Nat.{ℕ, _+_, _-_, _≤_, _<_}
 use mathlib.Core.Path.{_≡_, refl, sym, ap, _∙_}
 use mathlib.Core.Bool.{Bool, true, false, cond}
@@ -10,7 +10,8 @@ use borrow.Author.Tests.{ltb-true, ltb-false}
 use Rattle.numbers.proofs.Tests.{by-bool}
 use Rattle.words.specs.Words.{leading, isnt}
 use Rattle.words.proofs.WordLaws.{leading-most}
-use Rattle.shift_lines.specs.Lines.{lineOf, isWhole, TakesUp}
+use Rattle.words.specs.Lines.{lineOf}
+use Rattle.shift_lines.specs.Lines.{isWhole, TakesUp}
 use Rattle.shift_lines.specs.declared.Cut.{Cut}
 
 module _ {line piece after : List ℕ} {kept : ℕ} {r : Cut} (t : TakesUp line kept piece after r) where

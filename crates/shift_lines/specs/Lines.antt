@@ -6,19 +6,15 @@ use mathlib.Core.List.{List}
 use lib.Dec.{ltb}
 use lib.ListN.{length}
 use Rattle.text.specs.Room.{Written}
-use Rattle.words.specs.Words.{leading, isnt}
-use Rattle.cards_fields.specs.Deck.{lf}
+use Rattle.words.specs.Lines.{lineOf}
 use Rattle.shift_lines.specs.declared.Cut.{Cut}
-
--- what a piece has of the line that it begins with: all up to its first LF
-abbrev pub lineOf : List ℕ → List ℕ
-lineOf piece = leading (isnt lf) piece
 
 -- the line is whole: its LF is in the piece
 abbrev pub isWhole : List ℕ → Bool
 isWhole piece = ltb (length (lineOf piece)) (length piece)
 
--- a line is taken up: its bytes stand behind those that are kept, cut at the room's end; its LF is taken up with it and not kept
+-- a line is taken up: its bytes stand behind those that are kept, cut at the room's end; its LF is taken up with it
+-- and not kept
 pub record TakesUp (line : List ℕ) (kept : ℕ) (piece after : List ℕ) (r : Cut) : Type 0 where
   pub put : Written line kept (lineOf piece) after (r .kept)
   pub whole : r .whole ≡ isWhole piece

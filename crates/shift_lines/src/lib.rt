@@ -1,16 +1,19 @@
-// The lines of an input that comes in pieces: the bytes of the next line are taken up from a piece, behind those that came before.
+// The lines of an input that comes in pieces: the bytes of the next line are taken up from a piece, behind those that
+// came before.
 ghost use mathlib.Core.Path.{_≡_};
 ghost use lib.ListN.{take};
 ghost use Rattle.shift_lines.specs.Lines.{TakesUp};
 
-// How many bytes of the line stand in its room, how many of the piece were taken up, the LF with them, and whether that came: the line is whole.
+// How many bytes of the line stand in its room, how many of the piece were taken up, the LF with them, and whether
+// that came: the line is whole.
 pub struct Cut {
     pub kept: usize,
     pub taken: usize,
     pub whole: bool,
 }
 
-// Puts a piece up to its first LF, or all of it, behind what is kept of the line; what is past the room's end is cut off.
+// Puts a piece up to its first LF, or all of it, behind what is kept of the line; what is past the room's end is cut
+// off.
 pub fn take_up(line: &mut [u8], kept: usize, piece: &[u8]) -> Cut
     ensures { λ r. ⌜ TakesUp (now (line .entry)) kept (now (piece .entry)) (now (line .exit)) r ⌝ }
 {

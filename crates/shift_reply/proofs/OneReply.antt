@@ -2,6 +2,7 @@
 use Prim.Native.Nat.{ℕ}
 use mathlib.Core.Path.{_≡_, sym, ap, ap₂, subst, _∙_}
 use mathlib.Core.List.{List}
+use Rattle.text.proofs.RoomLaws.{written-one}
 use Rattle.cell_selection.proofs.SelectingLaws.{takes-one}
 use Rattle.cell_selection.specs.declared.Taking.{Taking}
 use Rattle.cell.specs.Calls.{cellOf, outcomeOf, SelectsIn}
@@ -16,7 +17,7 @@ abbrev replied : Cell → ℕ → Replied
 replied cell at = record { cell = cell; at = at }
 
 pub shows-one : {text room a b : List ℕ} {next : Cell} {r q : Replied} → Shows text next room a r → Shows text next room b q → (a ≡ b) × (r ≡ q)
-shows-one x y = (x .put .bytes ∙ sym (y .put .bytes), ap₂ replied (x .cell ∙ sym (y .cell)) (x .put .place ∙ sym (y .put .place)))
+shows-one x y = let w = written-one (x .put) (y .put) in (w .0, ap₂ replied (x .cell ∙ sym (y .cell)) (w .1))
 
 -- the text of a selection
 abbrev shownBy : Cell → SelectAnswer → List ℕ

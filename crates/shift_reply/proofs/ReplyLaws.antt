@@ -1,11 +1,9 @@
 -- What the parts of a reply come to. Assumes nothing.
-use Prim.Native.Nat.{ℕ, min, _≤_, _<_}
-use mathlib.Core.Path.{_≡_, refl, sym, ap, ap₂, subst, _∙_}
+use Prim.Native.Nat.{ℕ, min}
+use mathlib.Core.Path.{_≡_, refl, ap, ap₂, subst, _∙_}
 use mathlib.Core.Bool.{Bool, true, false}
 use mathlib.Core.List.{List, _++_}
-use native.Mathlib.Omega.{arith}
 use Rattle.numbers.specs.declared.Outcome.{Outcome}
-use Rattle.numbers.specs.declared.UnitNumber.{UnitNumber}
 use Rattle.channels.specs.declared.Channel.{Channel}
 use Rattle.channels.specs.declared.Fitted.{Fitted}
 use Rattle.text.specs.Room.{Written}

@@ -60,7 +60,8 @@ selectText (Outcome′.Refused refusal) selection channels = refusedText refusal
 abbrev pub echoText : List ℕ → List ℕ
 echoText line = line ++ bytes "\n"
 
--- "x the unit, or on the drum channel the address, or for 23 there L, with h as H"; a unit number over 255 is out of range as 255 is
+-- "x the unit, or on the drum channel the address, or for 23 there L, with h as H"; a unit number over 255 is out of
+-- range as 255 is
 unfoldable pub spotOf : List Channel → Submission → Spot
 spotOf channels s = cond (drumOn channels (s .channel .0)) (OnDrum (s .at) (s .to)) (OnUnit (record { 0 = min (s .at) 255 }))
 
@@ -95,7 +96,8 @@ deckCell cell deck = cellOf (deckSchedule (cell .schedule) deck) (cell .lists)
 abbrev pub EntersDeck : Cell → List ℕ → List ℕ → List ℕ → Replied → Type 0
 EntersDeck cell deck room after r = Shows (deckReply cell deck) (deckCell cell deck) room after r
 
--- THE ANSWER TO A LINE: what it says, the ID that it names, and the line itself; `DECK` is answered when its deck has been gathered
+-- THE ANSWER TO A LINE: what it says, the ID that it names, and the line itself; `DECK` is answered when its deck has
+-- been gathered
 abbrev pub Replies : Cell → Line → List ℕ → List ℕ → List ℕ → List ℕ → Replied → Type 0
 Replies cell Line′.NoCall id line room after r = Shows noCallText cell room after r
 Replies cell Line′.Echo id line room after r = Shows (echoText line) cell room after r
@@ -106,7 +108,8 @@ Replies cell (Line′.Submit s) id line room after r = Gives (submitting cell s)
 Replies cell (Line′.Start channel) id line room after r = Gives (acted cell (Rules.Start (channel .0))) room after r
 Replies cell (Line′.Complete channel how) id line room after r = Gives (acted cell (Rules.Complete (channel .0) how)) room after r
 Replies cell (Line′.End place inError) id line room after r = Gives (acted cell (Rules.End place inError)) room after r
-Replies cell (Line′.Mark channel unit mark on) id line room after r = Gives (acted cell (Rules.Mark (channel .0) (unit .0) mark on)) room after r
+Replies cell (Line′.Mark channel unit mark on) id line room after r =
+    Gives (acted cell (Rules.Mark (channel .0) (unit .0) mark on)) room after r
 Replies cell Line′.Release id line room after r = Gives (releasing cell id) room after r
 Replies cell Line′.Delete id line room after r = Gives (deleting cell id) room after r
 Replies cell (Line′.Status place packet) id line room after r = Shows (statusAnswerText (statusOf cell place packet)) cell room after r

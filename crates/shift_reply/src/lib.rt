@@ -15,7 +15,8 @@ ghost use mathlib.Core.Path.{_≡_};
 ghost use Rattle.text.specs.Room.{Written};
 ghost use Rattle.board.specs.Board.{boardText};
 ghost use Rattle.cell.specs.Calls.{statusOf};
-ghost use Rattle.shift_reply.specs.Replies.{answerText, statusAnswerText, selectText, refusalText, echoText, spotOf, submitting, Shows, Gives, Selects, EntersDeck, Replies};
+ghost use Rattle.shift_reply.specs.Replies.{answerText, statusAnswerText, selectText, refusalText, echoText, spotOf};
+ghost use Rattle.shift_reply.specs.Replies.{submitting, Shows, Gives, Selects, EntersDeck, Replies};
 
 // The cell after a line, and where the answer ends in the lent room.
 pub struct Replied {
@@ -48,7 +49,8 @@ fn with_answer(out: &mut [u8], answered: Answered) -> Replied
     }
 }
 
-// Where a submission goes: on the drum channel to an address or two, elsewhere to a unit. A unit number over 255 is out of range as 255 is.
+// Where a submission goes: on the drum channel to an address or two, elsewhere to a unit. A unit number over 255 is
+// out of range as 255 is.
 fn spot_of(channels: [Channel; 16], submission: Submission) -> Spot
     ensures { λ r. ⌜ r ≡ spotOf channels submission ⌝ }
 {
@@ -152,7 +154,7 @@ fn put_refusal(out: &mut [u8], at: usize, outcome: Outcome) -> usize
 }
 
 // Enters a deck that has been gathered.
-pub fn enter(cell: Cell, deck: &[u8], out: &mut [u8]) -> Replied
+pub fn reply_deck(cell: Cell, deck: &[u8], out: &mut [u8]) -> Replied
     ensures { λ r. ⌜ EntersDeck cell (now (deck .entry)) (now (out .entry)) (now (out .exit)) r ⌝ }
 {
     let entered = cell::enter(cell, deck, out);
@@ -177,11 +179,11 @@ fn board(cell: Cell, out: &mut [u8]) -> Replied
 {
     let lists = cell.lists;
     let schedule = cell.schedule;
-    unchanged(cell, board::put_board(out, 0, lists, schedule))
+    unchanged(cell, board::put(out, 0, lists, schedule))
 }
 
 // The answer to a line that says this.
-pub fn reply(cell: Cell, said: Said, line: &[u8], out: &mut [u8]) -> Replied
+pub fn reply_line(cell: Cell, said: Said, line: &[u8], out: &mut [u8]) -> Replied
     ensures { λ r. ⌜ Replies cell (said .line) (said .id) (now (line .entry)) (now (out .entry)) (now (out .exit)) r ⌝ }
 {
     let id = said.id;

@@ -1,20 +1,21 @@
--- A line has one turn, and the input's end one answer: what is promised of them leaves one shift, one room and one text. Assumes nothing.
+-- A line has one turn, and the input's end one answer: what is promised of them leaves one shift, one room and one
+-- text. Assumes nothing.
 use Prim.Native.Nat.{ℕ}
 use mathlib.Core.Path.{_≡_, sym, ap, ap₂, subst, _∙_}
 use mathlib.Core.Bool.{Bool, true, false}
 use mathlib.Core.List.{List, [], _∷_}
-use lib.Dec.{ltb}
-use lib.ListN.{take}
 use Rattle.text.specs.Room.{Written}
+use Rattle.text.proofs.RoomLaws.{written-one}
 use Rattle.cards_fields.specs.Deck.{isTermination}
-use Rattle.shift_begin.specs.Opening.{openingOf}
+use Rattle.shift_opening.specs.declared.Opening.{Opening}
+use Rattle.shift_opening.proofs.OpeningLaws.{opens-one, unfinished-one}
 use Rattle.shift_deck.specs.declared.Gathered.{Gathered}
 use Rattle.shift_deck.specs.declared.Gathered.the-variants as Gathered′
 use Rattle.cell.specs.declared.Cell.{Cell}
 use Rattle.shift_script.specs.Script.{lineSays}
 use Rattle.shift_reply.proofs.OneReply.{replies-one}
 use Rattle.shift_reply.specs.declared.Replied.{Replied}
-use Rattle.shift_turns.specs.Turns.{turnOf, Says, Keeps, openingText, openingShift, Begins, afterLine, Talks, PassSays, CardSays, Gathers, Turns, endText, Unfinished, LastTurn, Closes, Ends}
+use Rattle.shift_turns.specs.Turns.{turnOf, Says, openingTurn, Begins, afterLine, Talks, PassSays, CardSays, Gathers, Turns, endText, LastTurn, Closes, Ends}
 use Rattle.shift_turns.specs.declared.Phase.{Phase}
 use Rattle.shift_turns.specs.declared.Phase.the-variants as Phase′
 use Rattle.shift_turns.specs.declared.Shift.{Shift}
@@ -22,31 +23,21 @@ use Rattle.shift_turns.specs.declared.Turn.{Turn}
 
 -- ---- the parts
 
-written-one : {out text a b : List ℕ} {at n m : ℕ} → Written out at text a n → Written out at text b m → (a ≡ b) × (n ≡ m)
-written-one x y = (x .bytes ∙ sym (y .bytes), x .place ∙ sym (y .place))
-
 abbrev made : Shift → ℕ → Turn
 made s n = record { shift = s; at = n }
 
 says-one : {text out a b : List ℕ} {next : Shift} {t u : Turn} → Says text next out a t → Says text next out b u → (a ≡ b) × (t ≡ u)
-says-one x y = (x .put .bytes ∙ sym (y .put .bytes), ap₂ made (x .shift ∙ sym (y .shift)) (x .put .place ∙ sym (y .put .place)))
+says-one x y = let w = written-one (x .put) (y .put) in (w .0, ap₂ made (x .shift ∙ sym (y .shift)) (w .1))
 
 -- room, text and turn of one line are those of another
 abbrev Same : List ℕ → List ℕ → List ℕ → List ℕ → Turn → Turn → Type 0
 Same room room′ a b t u = (room ≡ room′) × (a ≡ b) × (t ≡ u)
 
--- what the first n bytes of a room begin is said
-abbrev SaysBegun : Cell → List ℕ → List ℕ → Turn → ℕ → List ℕ → Type 0
-SaysBegun cell out a t n room = Says (openingText (openingOf (ltb n 2048) (take n room))) (openingShift (openingOf (ltb n 2048) (take n room)) n cell) out a t
-
 begins-one : (cell : Cell) (kept : ℕ) (line room room₁ room₂ out a b : List ℕ) (t u : Turn) → Begins cell kept line room room₁ out a t → Begins cell kept line room room₂ out b u
     → Same room₁ room₂ a b t u
 begins-one cell kept line room room₁ room₂ out a b t u x y =
-    let k = written-one (x .keeps .put) (y .keeps .put) in
-    let z : SaysBegun cell out a t (x .n) room₂ = subst (SaysBegun cell out a t (x .n)) (k .0) (x .says) in
-    let w : SaysBegun cell out a t (y .n) room₂ = subst (λ (n : ℕ). SaysBegun cell out a t n room₂) (k .1) z in
-    let s = says-one w (y .says) in
-    (k .0, s .0, s .1)
+    let o = opens-one kept line room room₁ room₂ out a b (x .opening) (y .opening) (x .opens) (y .opens) in
+    (o .0, o .1, x .is ∙ ap (λ (p : Opening). openingTurn p cell) (o .2) ∙ sym (y .is))
 
 talks-one : (cell : Cell) (line out a b : List ℕ) (t u : Turn) → Talks cell line out a t → Talks cell line out b u → (a ≡ b) × (t ≡ u)
 talks-one cell line out a b t u x y =
@@ -100,15 +91,6 @@ closes-one phase cell rest room room₁ room₂ out a b n m x y =
     let w : Written (y .between) (y .turn .at) (endText (y .turn .shift .phase)) a n = subst (λ (t : Turn). Written (y .between) (t .at) (endText (t .shift .phase)) a n) (l .2) z in
     let s = written-one w (y .put) in
     (l .0, s .0, s .1)
-
-unfinished-one : (kept : ℕ) (rest room room₁ room₂ out a b : List ℕ) (n m : ℕ) → Unfinished kept rest room room₁ out a n → Unfinished kept rest room room₂ out b m
-    → SameEnd room₁ room₂ a b n m
-unfinished-one kept rest room room₁ room₂ out a b n m x y =
-    let k = written-one (x .keeps .put) (y .keeps .put) in
-    let z : Written out 0 (openingText (openingOf false (take (x .n) room₂))) a n = subst (λ (r : List ℕ). Written out 0 (openingText (openingOf false (take (x .n) r))) a n) (k .0) (x .put) in
-    let w : Written out 0 (openingText (openingOf false (take (y .n) room₂))) a n = subst (λ (i : ℕ). Written out 0 (openingText (openingOf false (take i room₂))) a n) (k .1) z in
-    let s = written-one w (y .put) in
-    (k .0, s .0, s .1)
 
 -- ---- ONE END
 pub ends-one : (phase : Phase) (cell : Cell) (rest room room₁ room₂ out a b : List ℕ) (n m : ℕ) → Ends phase cell rest room room₁ out a n → Ends phase cell rest room room₂ out b m

@@ -1,7 +1,7 @@
 -- What the parts of a turn come to. Assumes nothing.
-use Prim.Native.Nat.{ℕ, min, _+_, _≤_}
+use Prim.Native.Nat.{ℕ, _+_, _≤_}
 use mathlib.Core.Path.{_≡_, refl, sym, ap, subst, _∙_}
-use mathlib.Core.Bool.{Bool, true, false}
+use mathlib.Core.Bool.{Bool}
 use mathlib.Core.List.{List, [], _∷_}
 use native.Mathlib.Omega.{arith}
 use lib.ListN.{length}
@@ -10,7 +10,6 @@ use Rattle.numbers.proofs.Tests.{by-bool}
 use Rattle.text.specs.Room.{Written}
 use Rattle.text.proofs.RoomLaws.{none}
 use Rattle.cards_fields.specs.Deck.{isTermination}
-use Rattle.shift_begin.specs.declared.Beginning.{Beginning}
 use Rattle.shift_deck.specs.Gathering.{hasRoom, Adds}
 use Rattle.shift_deck.specs.declared.Gathered.{Gathered}
 use Rattle.shift_deck.specs.declared.Gathered.the-variants as Gathered′
@@ -19,7 +18,7 @@ use Rattle.shift_script.specs.Script.{lineSays}
 use Rattle.shift_script.specs.declared.Said.{Said}
 use Rattle.shift_reply.specs.Replies.{Shows, Replies}
 use Rattle.shift_reply.specs.declared.Replied.{Replied}
-use Rattle.shift_turns.specs.Turns.{shiftOf, turnOf, Says, Keeps, openingText, openingShift, afterLine, Talks, Gathers, CardSays, Turns, endText, Closes}
+use Rattle.shift_turns.specs.Turns.{shiftOf, turnOf, Says, afterLine, Talks, Gathers, CardSays, Turns, endText, Closes}
 use Rattle.shift_turns.specs.declared.Phase.{Phase}
 use Rattle.shift_turns.specs.declared.Phase.the-variants as Phase′
 use Rattle.shift_turns.specs.declared.Turn.{Turn}
@@ -30,15 +29,6 @@ says e w = rw e (record { shift = refl; put = w })
 
 pub silent : {phase : Phase} {cell : Cell} {out : List ℕ} {t : Turn} → t ≡ turnOf phase cell 0 → Says [] (shiftOf phase cell) out out t
 silent {out = out} e = says e (none out 0)
-
--- a text kept in the room stays within it
-pub kept-within : (room : List ℕ) (kept from : ℕ) (text after : List ℕ) (n : ℕ) → length room ≡ 16384 → from ≡ min kept 16384 → Written room from text after n → Keeps room kept text after n
-kept-within room kept from text after n l e w =
-    record { put = subst (λ (m : ℕ). Written room m text after n) e w; within = omega (arith, w .place) }
-
--- what was asked is what the text begins
-pub opens-as : (n : ℕ) (cell : Cell) {b c : Beginning} {out after : List ℕ} {t : Turn} → b ≡ c → Says (openingText b) (openingShift b n cell) out after t → Says (openingText c) (openingShift c n cell) out after t
-opens-as n cell {out = out} {after = after} {t = t} e s = subst (λ (b : Beginning). Says (openingText b) (openingShift b n cell) out after t) e s
 
 -- a line that is answered
 pub talked : {cell : Cell} {said : Said} (line : List ℕ) {out after : List ℕ} {replied : Replied} {phase : Phase} {t : Turn} → said ≡ lineSays line

@@ -1,22 +1,21 @@
 -- A shift line by line: what each line does, and what is answered to it.
-use Prim.Native.Nat.{ℕ, min, _≤_}
+use Prim.Native.Nat.{ℕ}
 use mathlib.Core.Path.{_≡_}
-use mathlib.Core.Bool.{Bool, true, false, cond}
-use mathlib.Core.List.{List, [], _∷_, _++_}
-use lib.Dec.{ltb}
-use lib.ListN.{length, take}
+use mathlib.Core.Bool.{Bool, true, false}
+use mathlib.Core.List.{List, [], _∷_}
+use lib.ListN.{take}
 use Rattle.numbers.specs.declared.Refusal.the-variants.{BadDeck}
 use Rattle.text.specs.Room.{Written}
 use Rattle.channels.specs.Channels.{noChannels, noDown}
 use Rattle.cards_fields.specs.Deck.{isTermination}
-use Rattle.shift_begin.specs.Opening.{openingOf}
 use Rattle.shift_begin.specs.declared.Begun.{Begun}
 use Rattle.shift_begin.specs.declared.Begun.the-variants as Begun′
 use Rattle.shift_begin.specs.declared.Beginning.{Beginning}
-use Rattle.shift_deck.specs.Gathering.{cardText, Adds}
+use Rattle.shift_opening.specs.Openings.{Opens, Unfinished}
+use Rattle.shift_opening.specs.declared.Opening.{Opening}
+use Rattle.shift_deck.specs.Gathering.{Adds}
 use Rattle.shift_deck.specs.declared.Gathered.{Gathered}
 use Rattle.shift_deck.specs.declared.Gathered.the-variants as Gathered′
-use Rattle.configuration_listing.specs.Listing.{errorText}
 use Rattle.shift_answers.specs.Answers.{refusedText}
 use Rattle.cell.specs.Calls.{freshCell}
 use Rattle.cell.specs.declared.Cell.{Cell}
@@ -30,6 +29,7 @@ use Rattle.shift_turns.specs.declared.Phase.the-variants as Phase′
 use Rattle.shift_turns.specs.declared.Shift.{Shift}
 use Rattle.shift_turns.specs.declared.Turn.{Turn}
 
+-- a phase and a cell
 abbrev pub shiftOf : Phase → Cell → Shift
 shiftOf phase cell = record { phase = phase; cell = cell }
 
@@ -44,34 +44,21 @@ pub record Says (text : List ℕ) (next : Shift) (out after : List ℕ) (t : Tur
 
 -- ---- the configuration
 
--- a text behind what is kept at the room's start, cut at the room's end, and how many bytes are kept then
-pub record Keeps (room : List ℕ) (kept : ℕ) (text after : List ℕ) (n : ℕ) : Type 0 where
-  pub put : Written room (min kept 16384) text after n
-  pub within : n ≤ 16384
-
--- "A bad one prints `ER 14 LINE n`"
-abbrev pub begunText : Begun → List ℕ
-begunText Begun′.More = []
-begunText Begun′.Good = []
-begunText (Begun′.Bad line) = errorText line
-
-abbrev pub openingText : Beginning → List ℕ
-openingText b = begunText (b .begun)
-
--- "and the program ends"
+-- more of it is due; it is whole; or it was bad "and the program ends"
 abbrev pub begunShift : Begun → Beginning → ℕ → Cell → Shift
 begunShift Begun′.More b kept cell = shiftOf (Phase′.Begins kept) cell
 begunShift Begun′.Good b kept cell = shiftOf Phase′.Talks (freshCell (b .configuration))
 begunShift (Begun′.Bad line) b kept cell = shiftOf Phase′.Over cell
 
-abbrev pub openingShift : Beginning → ℕ → Cell → Shift
-openingShift b kept cell = begunShift (b .begun) b kept cell
+-- the turn that an opening comes to
+abbrev pub openingTurn : Opening → Cell → Turn
+openingTurn o cell = record { shift = begunShift (o .beginning .begun) (o .beginning) (o .kept) cell; at = o .at }
 
--- a line of the configuration: it is kept with its LF, and what the text so far begins is asked; 2,048 bytes decide
+-- a line of the configuration: what it opens, and the turn then
 pub record Begins (cell : Cell) (kept : ℕ) (line room room′ out after : List ℕ) (t : Turn) : Type 0 where
-  pub n : ℕ
-  pub keeps : Keeps room kept (cardText line) room′ n
-  pub says : Says (openingText (openingOf (ltb n 2048) (take n room′))) (openingShift (openingOf (ltb n 2048) (take n room′)) n cell) out after t
+  pub opening : Opening
+  pub opens : Opens kept line room room′ out after opening
+  pub is : t ≡ openingTurn opening cell
 
 -- ---- calls
 
@@ -91,6 +78,7 @@ afterLine Line′.Release = Phase′.Talks
 afterLine Line′.Delete = Phase′.Talks
 afterLine (Line′.Status place packet) = Phase′.Talks
 
+-- a turn to this phase and this cell
 abbrev pub turnOf : Phase → Cell → ℕ → Turn
 turnOf phase cell at = record { shift = shiftOf phase cell; at = at }
 
@@ -102,14 +90,19 @@ pub record Talks (cell : Cell) (line out after : List ℕ) (t : Turn) : Type 0 w
 
 -- ---- decks
 
--- a card of a deck that is too long: "the answer is `NO 11`; .. reading goes on after the termination card, wherever that comes"
+-- a card of a deck that is too long: "the answer is `NO 11`; .. reading goes on after the termination card, wherever
+-- that comes"
 abbrev pub PassSays : Bool → Cell → List ℕ → List ℕ → Turn → Type 0
 PassSays true cell out after t = Says (refusedText BadDeck) (shiftOf Phase′.Talks cell) out after t
 PassSays false cell out after t = Says [] (shiftOf Phase′.Passes cell) out after t
 
+-- a deck that is complete: it is entered
+abbrev pub Entered : Cell → List ℕ → List ℕ → List ℕ → Turn → Type 0
+Entered cell deck out after t = Says (deckReply cell deck) (shiftOf Phase′.Talks (deckCell cell deck)) out after t
+
 -- a card of a deck, where it is the last card or not: the deck is entered or goes on
 abbrev pub CardSays : Gathered → Bool → Cell → List ℕ → List ℕ → List ℕ → Turn → Type 0
-CardSays (Gathered′.Kept n) true cell room out after t = Says (deckReply cell (take n room)) (shiftOf Phase′.Talks (deckCell cell (take n room))) out after t
+CardSays (Gathered′.Kept n) true cell room out after t = Entered cell (take n room) out after t
 CardSays (Gathered′.Kept n) false cell room out after t = Says [] (shiftOf (Phase′.Gathers n) cell) out after t
 CardSays Gathered′.TooLong last cell room out after t = PassSays last cell out after t
 
@@ -137,17 +130,12 @@ endText (Phase′.Gathers kept) = refusedText BadDeck
 endText Phase′.Passes = refusedText BadDeck
 endText Phase′.Over = []
 
--- a configuration that is not complete: what there is of it is all, a last line without LF too
-pub record Unfinished (kept : ℕ) (rest room room′ out after : List ℕ) (r : ℕ) : Type 0 where
-  pub n : ℕ
-  pub keeps : Keeps room kept rest room′ n
-  pub put : Written out 0 (openingText (openingOf false (take n room′))) after r
-
 -- "a last line without LF is taken as if it had one"; no line where nothing is left
 abbrev pub LastTurn : Phase → Cell → List ℕ → List ℕ → List ℕ → List ℕ → List ℕ → Turn → Type 0
 LastTurn phase cell [] room room′ out after t = (room′ ≡ room) × (after ≡ out) × (t ≡ turnOf phase cell 0)
 LastTurn phase cell (b ∷ s) room room′ out after t = Turns phase cell (b ∷ s) room room′ out after t
 
+-- the last line's turn, and then what the shift leaves unanswered
 pub record Closes (phase : Phase) (cell : Cell) (rest room room′ out after : List ℕ) (r : ℕ) : Type 0 where
   pub turn : Turn
   pub between : List ℕ

@@ -57,6 +57,10 @@ turn g w after next v = g after next (andThen w v)
 pub end : {room₀ whole room : List ℕ} {at₀ at : ℕ} → Going room₀ at₀ whole room at [] → Written room₀ at₀ whole room at
 end {room = room} {at = at} g = g room at (none room at)
 
+-- a text put into a room leaves one room and one next index
+pub written-one : {s t u p : List ℕ} {a b c : ℕ} → Written s a p t b → Written s a p u c → (t ≡ u) × (b ≡ c)
+written-one x y = (x .bytes ∙ sym (y .bytes), x .place ∙ sym (y .place))
+
 -- the room is as long as before
 pub same-room : {s t p : List ℕ} {a b : ℕ} → Written s a p t b → length t ≡ length s
 same-room {s} {t} {p} {a} w = ap length (w .bytes) ∙ length-sets s a p

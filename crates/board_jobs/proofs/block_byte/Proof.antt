@@ -1,4 +1,4 @@
--- `job_lines::block_byte` meets its contract: the executive's blocks first. Assumes nothing.
+-- `board_jobs::block_byte` meets its contract: the executive's blocks first. Assumes nothing.
 use borrow.Author.Tests.{lt-ltb, le-ltb}
 use Rattle.board_jobs.specs.Blocks.{blockByte}
 use borrow.Author.Needs.{needs}

@@ -1,4 +1,4 @@
--- `job_lines::digit` meets its contract. Assumes nothing.
+-- `board_jobs::digit` meets its contract. Assumes nothing.
 use borrow.Author.Tests.{lt-ltb, le-ltb}
 use borrow.Author.Needs.{needs}
 use Rattle.board_jobs.proofs.digit.Statement.{statement}

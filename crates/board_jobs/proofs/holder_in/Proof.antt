@@ -1,4 +1,4 @@
--- `job_lines::holder_in` meets its contract: the places that are left have the answer of all. Assumes nothing.
+-- `board_jobs::holder_in` meets its contract: the places that are left have the answer of all. Assumes nothing.
 use Prim.Native.Nat.{_-_}
 use native.Mathlib.Omega.{arith}
 use Rattle.board_jobs.proofs.Loops.{AtPlaces, places-start, places-end, places-found, places-turn}

@@ -1,4 +1,4 @@
--- `job_lines::holds` meets its contract: one test and then the other. Assumes nothing.
+-- `board_jobs::holds` meets its contract: one test and then the other. Assumes nothing.
 use mathlib.Core.Path.{sym, _∙_}
 use Rattle.board_jobs.specs.Blocks.{holdsBlock}
 use borrow.Author.Needs.{needs}

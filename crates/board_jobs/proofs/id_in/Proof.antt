@@ -1,4 +1,4 @@
--- `job_lines::id_in` meets its contract: the entries that are left have the answer of all. Assumes nothing.
+-- `board_jobs::id_in` meets its contract: the entries that are left have the answer of all. Assumes nothing.
 use Prim.Native.Nat.{_-_}
 use native.Mathlib.Omega.{arith}
 use Rattle.board_jobs.proofs.Loops.{AtEntries, entries-start, entries-over, entries-end, entries-found, entries-turn}

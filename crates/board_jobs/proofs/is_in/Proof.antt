@@ -1,4 +1,4 @@
--- `job_lines::is_in` meets its contract: one test and then the other. Assumes nothing.
+-- `board_jobs::is_in` meets its contract: one test and then the other. Assumes nothing.
 use borrow.Author.Tests.{le-leb, lt-leb}
 use borrow.Author.Needs.{needs}
 use Rattle.board_jobs.proofs.is_in.Statement.{statement}

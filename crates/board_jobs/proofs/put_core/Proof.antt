@@ -1,4 +1,4 @@
--- `job_lines::put_core` meets its contract: one piece after the other. Assumes nothing.
+-- `board_jobs::put_core` meets its contract: one piece after the other. Assumes nothing.
 use Rattle.text.proofs.RoomLaws.{andThen}
 use borrow.Author.Needs.{needs}
 use Rattle.board_jobs.proofs.put_core.Statement.{statement}

@@ -1,4 +1,4 @@
--- `job_lines::put_job` meets its contract: one piece after the other. Assumes nothing.
+-- `board_jobs::put_job` meets its contract: one piece after the other. Assumes nothing.
 use Rattle.text.proofs.RoomLaws.{andThen}
 use borrow.Author.Needs.{needs}
 use Rattle.board_jobs.proofs.put_job.Statement.{statement}

@@ -1,4 +1,4 @@
--- `job_lines::put_place` meets its contract, by cases on the place's state. Assumes nothing.
+-- `board_jobs::put_place` meets its contract, by cases on the place's state. Assumes nothing.
 use Rattle.text.proofs.RoomLaws.{none}
 use borrow.Author.Needs.{needs}
 use Rattle.board_jobs.proofs.put_place.Statement.{statement}

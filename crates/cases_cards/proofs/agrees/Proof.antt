@@ -10,11 +10,17 @@ use Rattle.cases_cards.proofs.agrees.Tie as tie
 buffer-requires : tie.Need-buffer-requires
 buffer-requires c κs = search needs
 
+slice-aggregate-load : tie.Need-slice-aggregate-load
+slice-aggregate-load c = search needs
+
 load-requires : tie.Need-load-requires
 load-requires c κs = search needs
 
 buffer-requires-2 : tie.Need-buffer-requires-2
 buffer-requires-2 c κs = search needs
+
+slice-aggregate-load-2 : tie.Need-slice-aggregate-load-2
+slice-aggregate-load-2 c = search needs
 
 load-requires-2 : tie.Need-load-requires-2
 load-requires-2 c κs = search needs
@@ -38,7 +44,7 @@ array-share-prefix-room : tie.Need-array-share-prefix-room
 array-share-prefix-room c = search needs
 
 slice-aggregate-same : tie.Need-slice-aggregate-same
-slice-aggregate-same c = let l : length (c .before .before .before .report .last .0) ≡ 1024 = search needs in sym (length-take-le (c .before .before .before .report .result) (c .before .before .before .report .last .0) (omega arith))
+slice-aggregate-same c = let l : length (c .before .before .before .before .before .report .last .0) ≡ 1024 = search needs in sym (length-take-le (c .before .before .before .before .before .report .result) (c .before .before .before .before .before .report .last .0) (omega arith))
 
 array-share-prefix-wanted : tie.Need-array-share-prefix-wanted
 array-share-prefix-wanted c = search needs
@@ -52,13 +58,18 @@ same-requires c κs = search needs
 returns-2 : tie.Need-returns-2
 returns-2 c = search needs
 
+returns-3 : tie.Need-returns-3
+returns-3 c = search needs
+
 pub agrees-spec : {M : Type 1} → statement M
 agrees-spec =
     tie.close
     (tie.spec
     buffer-requires
+    slice-aggregate-load
     load-requires
     buffer-requires-2
+    slice-aggregate-load-2
     load-requires-2
     slice-aggregate-report
     array-share-prefix-text
@@ -70,4 +81,5 @@ agrees-spec =
     array-share-prefix-wanted
     slice-aggregate-same-2
     same-requires
-    returns-2)
+    returns-2
+    returns-3)

@@ -1,4 +1,5 @@
--- `listing_text::count_channel` meets its contract. The loop's invariant is `AtUnits` of proofs/Counting.antt. Assumes nothing.
+-- `configuration_listing::count_channel` meets its contract. The loop's invariant is `AtUnits` of
+-- proofs/Counting.antt. Assumes nothing.
 use Prim.Native.Nat.{_-_}
 use native.Mathlib.Omega.{arith}
 use Rattle.configuration_listing.proofs.Counting.{AtUnits, units-start, units-turn, units-fits, units-end}

@@ -1,4 +1,4 @@
--- `listing_text::count_unit` meets its contract: by what the two tests answered. Assumes nothing.
+-- `configuration_listing::count_unit` meets its contract: by what the two tests answered. Assumes nothing.
 use mathlib.Core.Path.{sym, ap, _∙_}
 use Rattle.units.specs.State.{assignable}
 use Rattle.configuration_listing.specs.Listing.{counted}

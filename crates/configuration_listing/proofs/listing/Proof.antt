@@ -1,4 +1,5 @@
--- `listing_text::listing` meets its contract: the text of the answer that the reader gave, whole in a room of 96 bytes. Assumes nothing.
+-- `configuration_listing::listing` meets its contract: the text of the answer that the reader gave, whole in a room
+-- of 96 bytes. Assumes nothing.
 use Rattle.configuration.specs.declared.Verdict.the-variants.{Good, Bad}
 use Rattle.configuration_listing.proofs.Lines.{answered}
 use Rattle.configuration_listing.proofs.Bounds.{listed}

@@ -1,4 +1,5 @@
--- `listing_text::put_channel` meets its contract: the channel's number, a space, its count and the line's end, or nothing. Assumes nothing.
+-- `configuration_listing::put_channel` meets its contract: the channel's number, a space, its count and the line's
+-- end, or nothing. Assumes nothing.
 use Rattle.text.proofs.RoomLaws.{none, andThen}
 use Rattle.configuration_listing.proofs.Lines.{channel-line, no-line}
 use borrow.Author.Needs.{needs}

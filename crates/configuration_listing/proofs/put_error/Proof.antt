@@ -1,4 +1,5 @@
--- `listing_text::put_error` meets its contract: the words, the number and the line's end, one after the other. Assumes nothing.
+-- `configuration_listing::put_error` meets its contract: the words, the number and the line's end, one after the
+-- other. Assumes nothing.
 use Rattle.text.proofs.RoomLaws.{andThen}
 use borrow.Author.Needs.{needs}
 use Rattle.configuration_listing.proofs.put_error.Statement.{statement}

@@ -1,4 +1,5 @@
--- `listing_text::put_lines` meets its contract. The loop's invariant is `Going`: whoever puts the lines that are left has put them all. Assumes nothing.
+-- `configuration_listing::put_lines` meets its contract. The loop's invariant is `Going`: whoever puts the lines that
+-- are left has put them all. Assumes nothing.
 use Prim.Native.Nat.{_-_, _≤_}
 use native.Mathlib.Omega.{arith}
 use Rattle.text.proofs.RoomLaws.{Going, start, turn, end, same-room}

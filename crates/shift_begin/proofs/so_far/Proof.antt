@@ -1,4 +1,5 @@
--- `begin::so_far` meets its contract: by the verdict, whether more may come, and whether the bad line is there. Assumes nothing.
+-- `shift_begin::so_far` meets its contract: by the verdict, whether more may come, and whether the bad line is there.
+-- Assumes nothing.
 use Prim.Native.Nat.{ℕ, _≤_, _<_}
 use mathlib.Core.Path.{_≡_}
 use mathlib.Core.Bool.{Bool, true, false}

@@ -1,4 +1,4 @@
--- `lines::front` meets its contract: what is lent is as long as it says. Assumes nothing.
+-- `shift_lines::front` meets its contract: what is lent is as long as it says. Assumes nothing.
 use native.Mathlib.Omega.{arith}
 use mathlib.Core.Path.{sym}
 use lib.Seq.{length-take-le, take-all}

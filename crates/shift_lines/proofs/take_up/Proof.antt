@@ -1,4 +1,4 @@
--- `lines::take_up` meets its contract: by whether the piece has an LF. Assumes nothing.
+-- `shift_lines::take_up` meets its contract: by whether the piece has an LF. Assumes nothing.
 use native.Mathlib.Omega.{arith}
 use mathlib.Core.Path.{sym}
 use lib.Seq.{length-take-le}

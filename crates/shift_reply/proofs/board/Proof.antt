@@ -1,11 +1,11 @@
--- `reply::board` meets its contract. Assumes nothing.
+-- `shift_reply::board` meets its contract. Assumes nothing.
 use Rattle.shift_reply.proofs.ReplyLaws.{shown}
 use borrow.Author.Needs.{needs}
 use Rattle.shift_reply.proofs.board.Statement.{statement}
 use Rattle.shift_reply.proofs.board.Tie as tie
 
-put-board-requires : tie.Need-put-board-requires
-put-board-requires c κs = search needs
+put-requires : tie.Need-put-requires
+put-requires c κs = search needs
 
 unchanged-requires : tie.Need-unchanged-requires
 unchanged-requires c κs = search needs
@@ -14,7 +14,7 @@ same-length : tie.Need-same-length
 same-length c = search needs
 
 returns : tie.Need-returns
-returns c = shown (c .unchanged .ensures) (c .before .before .before .put-board .ensures .text)
+returns c = shown (c .unchanged .ensures) (c .before .before .before .put .ensures .text)
 
 pub board-spec : {M : Type 1} → statement M
-board-spec = tie.close (tie.spec put-board-requires unchanged-requires same-length returns)
+board-spec = tie.close (tie.spec put-requires unchanged-requires same-length returns)

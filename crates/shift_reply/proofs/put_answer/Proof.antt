@@ -1,4 +1,4 @@
--- `reply::put_answer` meets its contract: each answer has its line. Assumes nothing.
+-- `shift_reply::put_answer` meets its contract: each answer has its line. Assumes nothing.
 use borrow.Author.Needs.{needs}
 use Rattle.shift_reply.proofs.put_answer.Statement.{statement}
 use Rattle.shift_reply.proofs.put_answer.Tie as tie

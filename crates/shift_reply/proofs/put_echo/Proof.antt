@@ -1,4 +1,4 @@
--- `reply::put_echo` meets its contract: the line, and its LF. Assumes nothing.
+-- `shift_reply::put_echo` meets its contract: the line, and its LF. Assumes nothing.
 use Rattle.text.proofs.RoomLaws.{andThen}
 use borrow.Author.Needs.{needs}
 use Rattle.shift_reply.proofs.put_echo.Statement.{statement}

@@ -1,4 +1,4 @@
--- `reply::put_refusal` meets its contract. Assumes nothing.
+-- `shift_reply::put_refusal` meets its contract. Assumes nothing.
 use Rattle.text.proofs.RoomLaws.{none}
 use borrow.Author.Needs.{needs}
 use Rattle.shift_reply.proofs.put_refusal.Statement.{statement}

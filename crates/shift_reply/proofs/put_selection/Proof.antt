@@ -1,4 +1,4 @@
--- `reply::put_selection` meets its contract. Assumes nothing.
+-- `shift_reply::put_selection` meets its contract. Assumes nothing.
 use borrow.Author.Needs.{needs}
 use Rattle.shift_reply.proofs.put_selection.Statement.{statement}
 use Rattle.shift_reply.proofs.put_selection.Tie as tie

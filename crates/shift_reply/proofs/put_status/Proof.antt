@@ -1,4 +1,4 @@
--- `reply::put_status` meets its contract. Assumes nothing.
+-- `shift_reply::put_status` meets its contract. Assumes nothing.
 use borrow.Author.Needs.{needs}
 use Rattle.shift_reply.proofs.put_status.Statement.{statement}
 use Rattle.shift_reply.proofs.put_status.Tie as tie

@@ -1,4 +1,5 @@
--- `reply::spot_of` meets its contract: by the channel, and by whether the number is too large for a unit. Assumes nothing.
+-- `shift_reply::spot_of` meets its contract: by the channel, and by whether the number is too large for a unit.
+-- Assumes nothing.
 use mathlib.Core.Path.{sym, _∙_}
 use native.Mathlib.Omega.{arith}
 use Rattle.shift_reply.proofs.ReplyLaws.{drum-of, to-drum, to-unit}

@@ -1,4 +1,4 @@
--- `reply::status` meets its contract. Assumes nothing.
+-- `shift_reply::status` meets its contract. Assumes nothing.
 use Rattle.shift_reply.proofs.ReplyLaws.{shown}
 use borrow.Author.Needs.{needs}
 use Rattle.shift_reply.proofs.status.Statement.{statement}

@@ -1,4 +1,4 @@
--- `reply::submit` meets its contract: the spot is that of the channel. Assumes nothing.
+-- `shift_reply::submit` meets its contract: the spot is that of the channel. Assumes nothing.
 use mathlib.Core.Path.{ap, _∙_}
 use Rattle.packets.specs.Rules.{Submit}
 use Rattle.packets.specs.declared.Spot.{Spot}

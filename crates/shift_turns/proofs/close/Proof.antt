@@ -1,4 +1,4 @@
--- `turns::close` meets its contract: by the phase. Assumes nothing.
+-- `shift_turns::close` meets its contract: by the phase. Assumes nothing.
 use Rattle.text.proofs.RoomLaws.{none}
 use borrow.Author.Needs.{needs}
 use Rattle.shift_turns.proofs.close.Statement.{statement}

@@ -1,4 +1,4 @@
--- `turns::closes` meets its contract: with a last line, or without. Assumes nothing.
+-- `shift_turns::closes` meets its contract: with a last line, or without. Assumes nothing.
 use Rattle.shift_turns.proofs.TurnLaws.{closes-none, closes-some}
 use borrow.Author.Needs.{needs}
 use Rattle.shift_turns.proofs.closes.Statement.{statement}

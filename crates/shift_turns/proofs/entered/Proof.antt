@@ -1,4 +1,4 @@
--- `turns::entered` meets its contract. Assumes nothing.
+-- `shift_turns::entered` meets its contract. Assumes nothing.
 use mathlib.Core.Path.{sym}
 use lib.Seq.{length-take-le}
 use Rattle.shift_turns.proofs.TurnLaws.{entered}
@@ -6,11 +6,11 @@ use borrow.Author.Needs.{needs}
 use Rattle.shift_turns.proofs.entered.Statement.{statement}
 use Rattle.shift_turns.proofs.entered.Tie as tie
 
-slice-aggregate-enter : tie.Need-slice-aggregate-enter
-slice-aggregate-enter c = sym (length-take-le (c .before .before .before .args .n) (c .before .before .before .args .room .now) (c .before .before .before .pre))
+slice-aggregate-reply-deck : tie.Need-slice-aggregate-reply-deck
+slice-aggregate-reply-deck c = sym (length-take-le (c .before .before .before .args .n) (c .before .before .before .args .room .now) (c .before .before .before .pre))
 
-enter-requires : tie.Need-enter-requires
-enter-requires c κs = search needs
+reply-deck-requires : tie.Need-reply-deck-requires
+reply-deck-requires c κs = search needs
 
 turned-requires : tie.Need-turned-requires
 turned-requires c κs = search needs
@@ -19,8 +19,8 @@ same-length : tie.Need-same-length
 same-length c = search needs
 
 returns : tie.Need-returns
-returns c = entered (c .before .before .before .before .enter .ensures) (c .turned .ensures)
+returns c = entered (c .before .before .before .before .reply-deck .ensures) (c .turned .ensures)
 
 pub entered-spec : {M : Type 1} → statement M
 entered-spec =
-    tie.close (tie.spec slice-aggregate-enter enter-requires turned-requires same-length returns)
+    tie.close (tie.spec slice-aggregate-reply-deck reply-deck-requires turned-requires same-length returns)

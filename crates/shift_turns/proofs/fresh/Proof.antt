@@ -1,4 +1,4 @@
--- `turns::fresh` meets its contract. Assumes nothing.
+-- `shift_turns::fresh` meets its contract. Assumes nothing.
 use mathlib.Core.Path.{ap, _∙_}
 use mathlib.Core.List.{List}
 use Rattle.channels.specs.declared.Channel.{Channel}

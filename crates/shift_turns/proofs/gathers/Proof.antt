@@ -1,12 +1,13 @@
--- `turns::gathers` meets its contract: by whether the deck is too long, and whether the card is the termination card. Assumes nothing.
+-- `shift_turns::gathers` meets its contract: by whether the deck is too long, and whether the card is the termination
+-- card. Assumes nothing.
 use mathlib.Core.Path.{refl, sym, _∙_}
 use Rattle.shift_turns.proofs.TurnLaws.{silent, entered, deck-within, gathered}
 use borrow.Author.Needs.{needs}
 use Rattle.shift_turns.proofs.gathers.Statement.{statement}
 use Rattle.shift_turns.proofs.gathers.Tie as tie
 
-add-requires : tie.Need-add-requires
-add-requires c κs = search needs
+add-card-requires : tie.Need-add-card-requires
+add-card-requires c κs = search needs
 
 enum-known-n : tie.Need-enum-known-n
 enum-known-n c = search needs
@@ -21,37 +22,37 @@ same-length : tie.Need-same-length
 same-length c = search needs
 
 returns : tie.Need-returns
-returns c = gathered (c .before .before .before .before .before .before .add .ensures) (c .before .before .before .before .enum-told .given .1) refl (c .before .before .passes .ensures)
+returns c = gathered (c .before .before .before .before .before .before .add-card .ensures) (c .before .before .before .before .enum-told .given .1) refl (c .before .before .passes .ensures)
 
-is-last-requires : tie.Need-is-last-requires
-is-last-requires c κs = search needs
+is-last-card-requires : tie.Need-is-last-card-requires
+is-last-card-requires c κs = search needs
 
 entered-requires : tie.Need-entered-requires
-entered-requires c κs = let d = deck-within (c .before .before .before .before .before .before .before .before .add .ensures) (c .before .before .before .before .before .before .n .given .1) in search needs
+entered-requires c κs = let d = deck-within (c .before .before .before .before .before .before .before .before .add-card .ensures) (c .before .before .before .before .before .before .n .given .1) in search needs
 
 same-length-2 : tie.Need-same-length-2
 same-length-2 c = search needs
 
 returns-2 : tie.Need-returns-2
-returns-2 c = gathered (c .before .before .before .before .before .before .before .before .before .before .before .add .ensures) (c .before .before .before .before .before .before .before .before .before .n .given .1) (sym (c .before .before .before .before .before .before .if1 .taken) ∙ c .before .before .before .before .before .before .before .is-last .ensures) (c .before .before .entered .ensures)
+returns-2 c = gathered (c .before .before .before .before .before .before .before .before .before .before .before .add-card .ensures) (c .before .before .before .before .before .before .before .before .before .n .given .1) (sym (c .before .before .before .before .before .before .if1 .taken) ∙ c .before .before .before .before .before .before .before .is-last-card .ensures) (c .before .before .entered .ensures)
 
 turned-requires : tie.Need-turned-requires
 turned-requires c κs = search needs
 
 returns-3 : tie.Need-returns-3
-returns-3 c = gathered (c .before .before .before .before .before .before .add .ensures) (c .before .before .before .before .n .given .1) (sym (c .before .if1 .left) ∙ c .before .before .is-last .ensures) (silent (c .turned .ensures))
+returns-3 c = gathered (c .before .before .before .before .before .before .add-card .ensures) (c .before .before .before .before .n .given .1) (sym (c .before .if1 .left) ∙ c .before .before .is-last-card .ensures) (silent (c .turned .ensures))
 
 pub gathers-spec : {M : Type 1} → statement M
 gathers-spec =
     tie.close
     (tie.spec
-    add-requires
+    add-card-requires
     enum-known-n
     enum-told
     passes-requires
     same-length
     returns
-    is-last-requires
+    is-last-card-requires
     entered-requires
     same-length-2
     returns-2

@@ -1,4 +1,4 @@
--- `turns::take_line` meets its contract: by the phase. Assumes nothing.
+-- `shift_turns::take_line` meets its contract: by the phase. Assumes nothing.
 use mathlib.Core.Path.{refl}
 use Rattle.shift_turns.proofs.TurnLaws.{silent}
 use borrow.Author.Needs.{needs}

@@ -1,4 +1,4 @@
--- `turns::talks` meets its contract: what the line says is answered, and a deck follows `DECK`. Assumes nothing.
+-- `shift_turns::talks` meets its contract: what the line says is answered, and a deck follows `DECK`. Assumes nothing.
 use Rattle.shift_turns.proofs.TurnLaws.{talked}
 use borrow.Author.Needs.{needs}
 use Rattle.shift_turns.proofs.talks.Statement.{statement}
@@ -7,8 +7,8 @@ use Rattle.shift_turns.proofs.talks.Tie as tie
 read-line-requires : tie.Need-read-line-requires
 read-line-requires c κs = search needs
 
-reply-requires : tie.Need-reply-requires
-reply-requires c κs = search needs
+reply-line-requires : tie.Need-reply-line-requires
+reply-line-requires c κs = search needs
 
 after-line-requires : tie.Need-after-line-requires
 after-line-requires c κs = search needs
@@ -20,14 +20,14 @@ same-length : tie.Need-same-length
 same-length c = search needs
 
 returns : tie.Need-returns
-returns c = talked (c .before .before .before .before .before .before .before .before .before .before .args .line .now) (c .before .before .before .before .before .before .before .read-line .ensures) (c .before .before .before .before .before .reply .ensures) (c .before .after-line .ensures) (c .turned .ensures)
+returns c = talked (c .before .before .before .before .before .before .before .before .before .before .args .line .now) (c .before .before .before .before .before .before .before .read-line .ensures) (c .before .before .before .before .before .reply-line .ensures) (c .before .after-line .ensures) (c .turned .ensures)
 
 pub talks-spec : {M : Type 1} → statement M
 talks-spec =
     tie.close
     (tie.spec
     read-line-requires
-    reply-requires
+    reply-line-requires
     after-line-requires
     turned-requires
     same-length

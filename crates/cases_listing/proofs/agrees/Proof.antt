@@ -1,0 +1,78 @@
+-- `cases_listing::agrees` is safe: what is compared is what the listing put. Assumes nothing.
+use Rattle.text.proofs.RoomLaws.{written-length}
+use borrow.Author.Needs.{needs}
+use Rattle.cases_listing.proofs.agrees.Statement.{statement}
+use Rattle.cases_listing.proofs.agrees.Tie as tie
+
+buffer-requires : tie.Need-buffer-requires
+buffer-requires c κs = search needs
+
+slice-aggregate-load : tie.Need-slice-aggregate-load
+slice-aggregate-load c = search needs
+
+load-requires : tie.Need-load-requires
+load-requires c κs = search needs
+
+buffer-requires-2 : tie.Need-buffer-requires-2
+buffer-requires-2 c κs = search needs
+
+slice-aggregate-load-2 : tie.Need-slice-aggregate-load-2
+slice-aggregate-load-2 c = search needs
+
+load-requires-2 : tie.Need-load-requires-2
+load-requires-2 c κs = search needs
+
+array-share-prefix-text : tie.Need-array-share-prefix-text
+array-share-prefix-text c = search needs
+
+slice-aggregate-listing : tie.Need-slice-aggregate-listing
+slice-aggregate-listing c = search needs
+
+slice-aggregate-listing-2 : tie.Need-slice-aggregate-listing-2
+slice-aggregate-listing-2 c = search needs
+
+listing-requires : tie.Need-listing-requires
+listing-requires c κs = search needs
+
+array-share-prefix-room : tie.Need-array-share-prefix-room
+array-share-prefix-room c = search needs
+
+slice-aggregate-same : tie.Need-slice-aggregate-same
+slice-aggregate-same c = written-length (c .before .before .before .before .listing .ensures .text)
+
+array-share-prefix-wanted : tie.Need-array-share-prefix-wanted
+array-share-prefix-wanted c = search needs
+
+slice-aggregate-same-2 : tie.Need-slice-aggregate-same-2
+slice-aggregate-same-2 c = search needs
+
+same-requires : tie.Need-same-requires
+same-requires c κs = search needs
+
+returns : tie.Need-returns
+returns c = search needs
+
+returns-2 : tie.Need-returns-2
+returns-2 c = search needs
+
+pub agrees-spec : {M : Type 1} → statement M
+agrees-spec =
+    tie.close
+    (tie.spec
+    buffer-requires
+    slice-aggregate-load
+    load-requires
+    buffer-requires-2
+    slice-aggregate-load-2
+    load-requires-2
+    array-share-prefix-text
+    slice-aggregate-listing
+    slice-aggregate-listing-2
+    listing-requires
+    array-share-prefix-room
+    slice-aggregate-same
+    array-share-prefix-wanted
+    slice-aggregate-same-2
+    same-requires
+    returns
+    returns-2)
