@@ -1,4 +1,5 @@
--- An assigner that antt computes: it meets the contract of `assign`, so what `assign` answers is what it computes. Assumes nothing.
+-- An assigner that antt computes: it meets the contract of `assign`, so what `assign` answers is what it computes.
+-- Assumes nothing.
 use Prim.Native.Nat.{ℕ, zero, suc, _+_, _*_, _<_}
 use mathlib.Core.Path.{_≡_, refl}
 use mathlib.Core.Bool.{Bool, true, false, cond}

@@ -20,7 +20,8 @@ pub record Chosen (cell : Cell) (wanted : Facilities) (a : Assigned) : Type 0 wh
   pub drum : (b : Assigned) → IsAssignment cell wanted b → b .drum < a .drum → ⊥
   -- per kind, entries in ascending logical channel take the lexicographically least list of channels that some
   -- assignment has
-  pub channels : (kind : ℕ) → kind < unitKinds → (b : Assigned) → IsAssignment cell wanted b → LexLe (channelsOf a kind) (channelsOf b kind)
+  pub channels : (kind : ℕ) → kind < unitKinds → (b : Assigned) → IsAssignment cell wanted b
+      → LexLe (channelsOf a kind) (channelsOf b kind)
   -- lowest units on each; then logical 0 takes the lowest remaining channel and unit numbers
   pub units : (kind : ℕ) → kind < unitKinds → Lowest (freeOf cell kind) (givenOf cell kind a)
 

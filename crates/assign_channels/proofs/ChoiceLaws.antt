@@ -1,5 +1,5 @@
--- What the definitions of Choice mean: the statement for each logical channel and the one by the list say the same; the greedy choice meets the
--- promise; and the promise leaves one answer. Assumes nothing.
+-- What the definitions of Choice mean: the statement for each logical channel and the one by the list say the same;
+-- the greedy choice meets the promise; and the promise leaves one answer. Assumes nothing.
 use Prim.Native.Nat.{ℕ, zero, suc, _≤_, _<_, suc-le-suc}
 use mathlib.Core.Path.{_≡_, refl, sym, ap, _∙_, subst}
 use mathlib.Core.Bool.{Bool, true, false}

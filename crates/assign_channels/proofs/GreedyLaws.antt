@@ -1,5 +1,6 @@
--- The greedy choice is the least: it is a choice where the threshold condition holds, no choice comes before it, and where the condition does
--- not hold there is none. `Choice` is the statement of Choice by the list, a channel that is taken having no units left. Assumes nothing.
+-- The greedy choice is the least: it is a choice where the threshold condition holds, no choice comes before it,
+-- and where the condition does not hold there is none. `Choice` is the statement of Choice by the list, a channel
+-- that is taken having no units left. Assumes nothing.
 use Prim.Native.Nat.{ℕ, zero, suc, _+_, _≤_, _<_}
 use mathlib.Core.Path.{_≡_, refl, sym, subst}
 use mathlib.Core.Logic.{_⊎_, inl, inr, ⊎-elim}

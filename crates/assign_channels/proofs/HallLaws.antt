@@ -1,5 +1,5 @@
--- Counting by thresholds: what taking a channel does to the counts, the channel that fits best, the exchange, and that the test decides the
--- condition. Assumes nothing.
+-- Counting by thresholds: what taking a channel does to the counts, the channel that fits best, the exchange, and
+-- that the test decides the condition. Assumes nothing.
 use Prim.Native.Nat.{ℕ, zero, suc, _+_, _≤_, _<_, suc-le-suc}
 use mathlib.Core.Path.{_≡_, refl}
 use mathlib.Core.Bool.{true, _||_}

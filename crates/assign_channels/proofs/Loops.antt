@@ -1,4 +1,5 @@
--- The loops of `can_serve`, `lowest` and `choose`: what a turn does to the computation that remains, and what that is at the end. Assumes nothing.
+-- The loops of `can_serve`, `lowest` and `choose`: what a turn does to the computation that remains, and what that
+-- is at the end. Assumes nothing.
 use Prim.Native.Nat.{ℕ, zero, suc, _+_, _-_, _≤_, _<_}
 use mathlib.Core.Path.{_≡_, refl, sym, ap, _∙_, subst}
 use mathlib.Core.Bool.{true, false}

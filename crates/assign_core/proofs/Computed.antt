@@ -1,4 +1,5 @@
--- A search that antt computes: it meets the search's contract, so by `answers-one` it is what the search answers. Assumes nothing.
+-- A search that antt computes: it meets the search's contract, so by `answers-one` it is what the search answers.
+-- Assumes nothing.
 use Prim.Native.Nat.{ℕ, zero, suc, _+_, _*_, _≤_, _<_, _/_, _%_}
 use mathlib.Core.Path.{_≡_, refl, ap, _∙_, subst}
 use mathlib.Core.Logic.{_⊎_, inl, inr, ⊎-elim}

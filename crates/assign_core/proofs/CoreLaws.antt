@@ -1,4 +1,5 @@
--- What the definitions of Core mean: they leave one answer, and a DB that is not asked for starts at 0. Assumes nothing.
+-- What the definitions of Core mean: they leave one answer, and a DB that is not asked for starts at 0. Assumes
+-- nothing.
 use Prim.Native.Nat.{ℕ, _-_, _<_}
 use mathlib.Core.Path.{_≡_, refl, sym, ap}
 use mathlib.Core.Logic.{_⊎_, inl, inr, ⊎-elim}

@@ -1,4 +1,5 @@
--- An area that is in the way of a start is in the way of every later start up to its end; a start that is clear is free. Assumes nothing.
+-- An area that is in the way of a start is in the way of every later start up to its end; a start that is clear is
+-- free. Assumes nothing.
 use Prim.Native.Nat.{ℕ, _+_, _≤_, _<_}
 use mathlib.Core.List.{List}
 use mathlib.Core.Logic.{⊎-elim}

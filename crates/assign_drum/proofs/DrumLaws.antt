@@ -1,4 +1,5 @@
--- What the definitions of Drum mean: they leave one answer, and an area that is not asked for starts at 0. Assumes nothing.
+-- What the definitions of Drum mean: they leave one answer, and an area that is not asked for starts at 0. Assumes
+-- nothing.
 use Prim.Native.Nat.{ℕ}
 use mathlib.Core.Path.{_≡_, refl, ap}
 use mathlib.Core.List.{List}

@@ -1,5 +1,5 @@
--- What the definitions of Assignable mean: a channel of another kind has no unit of the kind, no unit is of two kinds, none stands past the
--- last, and the marks are one list. Assumes nothing.
+-- What the definitions of Assignable mean: a channel of another kind has no unit of the kind, no unit is of two
+-- kinds, none stands past the last, and the marks are one list. Assumes nothing.
 use Prim.Native.Nat.{ℕ, _≤_, _/_, _%_}
 use mathlib.Core.Path.{_≡_, refl, sym, ap, _∙_}
 use mathlib.Core.Bool.{Bool, true, false, cond}

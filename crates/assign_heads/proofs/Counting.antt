@@ -1,4 +1,5 @@
--- Units counted by channel and by entry: as many are assignable as the channels have counts for, and each is given at most once. Assumes nothing.
+-- Units counted by channel and by entry: as many are assignable as the channels have counts for, and each is given
+-- at most once. Assumes nothing.
 use Prim.Native.Nat.{ℕ, zero, suc, _+_, _*_, _≤_, _<_, _/_, suc-le-suc}
 use mathlib.Core.Path.{_≡_, refl, sym, ap, _∙_}
 use mathlib.Core.Bool.{Bool, true}

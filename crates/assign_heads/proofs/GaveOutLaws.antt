@@ -1,4 +1,5 @@
--- What the units of a kind are given to when all have been passed, what is known while they are, and that each turn keeps it. Assumes nothing.
+-- What the units of a kind are given to when all have been passed, what is known while they are, and that each turn
+-- keeps it. Assumes nothing.
 use Prim.Native.Nat.{ℕ, _+_, _-_, _≤_, _<_, _/_}
 use mathlib.Core.Path.{_≡_, refl, sym, ap, _∙_, subst}
 use mathlib.Core.Bool.{Bool, true, false, cond}

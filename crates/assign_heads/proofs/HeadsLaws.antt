@@ -1,5 +1,6 @@
--- What the definitions of Heads mean. Units that are given in ascending order serve every entry where the channels have counts, and are the lowest;
--- an assignment's channels are as Choice says; and the channels decide the lowest units. Assumes nothing.
+-- What the definitions of Heads mean. Units that are given in ascending order serve every entry where the channels
+-- have counts, and are the lowest; an assignment's channels are as Choice says; and the channels decide the lowest
+-- units. Assumes nothing.
 use Prim.Native.Nat.{ℕ, _+_, _*_, _≤_, _<_, _/_}
 use mathlib.Core.Path.{_≡_, refl, sym, ap, _∙_, subst}
 use mathlib.Core.Bool.{Bool, true}

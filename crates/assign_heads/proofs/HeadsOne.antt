@@ -1,4 +1,5 @@
--- The channels decide the lowest units: two ways to serve a kind's entries on the same channels, both lowest, give every unit alike. Assumes nothing.
+-- The channels decide the lowest units: two ways to serve a kind's entries on the same channels, both lowest, give
+-- every unit alike. Assumes nothing.
 use Prim.Native.Nat.{ℕ, zero, suc, _≤_, _<_}
 use mathlib.Core.Path.{_≡_, refl, sym, ap, _∙_, subst}
 use mathlib.Core.Bool.{Bool, true, false}
@@ -27,7 +28,8 @@ alike Nothing (To n) p q = never (q (n .0) (eq-eqb (n .0) (n .0) refl)) refl
 alike (To m) Nothing p q = never (p (m .0) (eq-eqb (m .0) (m .0) refl)) refl
 alike (To m) (To n) p q = let e : m .0 ≡ n .0 = sym (eqb-true (n .0) (m .0) (p (m .0) (eq-eqb (m .0) (m .0) refl))) in λ i. To (record { 0 = e i })
 
--- a unit that an entry has in the one way, after units that are alike, is in the other way passed over by a later one, or the entry has it too
+-- a unit that an entry has in the one way, after units that are alike, is in the other way passed over by a later
+-- one, or the entry has it too
 later : (want i l : ℕ) (a b : ℕ → Given) → i < 256 → ((j : ℕ) → j < i → a j ≡ b j) → howMany 256 (λ j. isTo l (a j)) ≡ want → howMany 256 (λ j. isTo l (b j)) ≡ want
     → isTo l (a i) ≡ true → isTo l (b i) ≡ false → (j : ℕ) × ((i < j) × (isTo l (b j) ≡ true))
 later want i l a b h same ca cb t e =

@@ -1,4 +1,5 @@
--- Serving: what the choice of channels and the giving of units make together, and that the promise leaves one answer. Assumes nothing.
+-- Serving: what the choice of channels and the giving of units make together, and that the promise leaves one
+-- answer. Assumes nothing.
 use Prim.Native.Nat.{ℕ}
 use mathlib.Core.Path.{_≡_, refl, sym, ap, _∙_, subst}
 use mathlib.Core.Bool.{Bool, true, false, cond}

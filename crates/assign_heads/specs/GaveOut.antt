@@ -35,7 +35,8 @@ pub record Logical (own : List LogicalChannel) : Type 0 where
   pub each : (c : ℕ) → c < 16 → ownAt own c < 16
 
 -- the units below i have been given; the units of other kinds keep what they were given to
-pub record Gave (free : List Bool) (own : List LogicalChannel) (wants : List ℕ) (before after : List Head) (left : List ℕ) (i : ℕ) : Type 0 where
+pub record Gave (free : List Bool) (own : List LogicalChannel) (wants : List ℕ) (before after : List Head) (left : List ℕ)
+    (i : ℕ) : Type 0 where
   pub high : i ≤ 256
   pub wide : length after ≡ 256
   pub long : length left ≡ 16

@@ -21,7 +21,8 @@ pub record Possible (free : List Bool) (wants : List ℕ) (channels : List Chann
 
 -- served: the least list of channels that some assignment has, the lowest units; the units of other kinds keep what
 -- they were given to
-pub record Chosen (free : List Bool) (wants : List ℕ) (before : List Head) (channels : List ChannelNumber) (heads : List Head) : Type 0 where
+pub record Chosen (free : List Bool) (wants : List ℕ) (before : List Head) (channels : List ChannelNumber)
+    (heads : List Head) : Type 0 where
   pub long : length channels ≡ 16
   pub wide : length heads ≡ 256
   pub served : Served (freeAt free) (want wants) (on channels) (toAt free heads)
@@ -30,7 +31,8 @@ pub record Chosen (free : List Bool) (wants : List ℕ) (before : List Head) (ch
   pub kept : (i : ℕ) → freeAt free i ≡ false → getD heads i blank ≡ getD before i blank
 
 -- not served: no assignment has any list of channels
-pub record Lacking (free : List Bool) (wants : List ℕ) (before : List Head) (channels : List ChannelNumber) (heads : List Head) : Type 0 where
+pub record Lacking (free : List Bool) (wants : List ℕ) (before : List Head) (channels : List ChannelNumber)
+    (heads : List Head) : Type 0 where
   pub never : (others : List ChannelNumber) → Possible free wants others → ⊥
   pub none : channels ≡ replicate 16 (channel 0)
   pub same : heads ≡ before

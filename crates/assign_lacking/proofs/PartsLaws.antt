@@ -1,4 +1,5 @@
--- What the searches and the two tests say of a part; and the first part that is lacking is one, and nothing exactly if all are there. Assumes nothing.
+-- What the searches and the two tests say of a part; and the first part that is lacking is one, and nothing exactly
+-- if all are there. Assumes nothing.
 use Prim.Native.Nat.{ℕ, _<_, _≤_}
 use mathlib.Core.Path.{_≡_, refl, sym, ap, _∙_, subst}
 use mathlib.Core.Bool.{Bool, false}

@@ -1,6 +1,6 @@
--- THE GROUPS OF A DECK AS PARTS OF IT: the part up to the termination card has the cards before it, and cutting off the first group's part
--- over and over gives the groups in order. A text is cut where a card ends, so that the cards of the two parts are the cards of the whole.
--- Assumes nothing.
+-- THE GROUPS OF A DECK AS PARTS OF IT: the part up to the termination card has the cards before it, and cutting off
+-- the first group's part over and over gives the groups in order. A text is cut where a card ends, so that the
+-- cards of the two parts are the cards of the whole. Assumes nothing.
 use Prim.Native.Nat.{ℕ, suc, _+_, _-_}
 use mathlib.Core.Path.{_≡_, refl, sym, ap, subst, _∙_}
 use mathlib.Core.Bool.{Bool, true, false, cond, _&&_}

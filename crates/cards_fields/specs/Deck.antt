@@ -35,7 +35,8 @@ abbrev pub terminated : List (List ℕ) → Bool
 terminated [] = false
 terminated (c ∷ cs) = cond (isTermination c) true (terminated cs)
 
--- "Deck: at most 16,384 bytes in all": where the termination card starts, or the refusal of a deck too long or without one
+-- "Deck: at most 16,384 bytes in all": where the termination card starts, or the refusal of a deck too long or
+-- without one
 unfoldable pub deckEnd : List ℕ → DeckEnd
 deckEnd s = cond (leb (length s) 16384 && terminated (cardsOf s)) (At (size (before (cardsOf s)))) (Refused BadDeck)
 

@@ -1,5 +1,6 @@
--- EVERY REQUEST READ FROM CARDS IS WRITTEN where the room has 162 bytes, and is read back as itself: neither 13 nor 12 arises. The PTY
--- card's fields have at most 50 characters, and the FAC card is no longer than the one that was read. Assumes nothing.
+-- EVERY REQUEST READ FROM CARDS IS WRITTEN where the room has 162 bytes, and is read back as itself: neither 13 nor
+-- 12 arises. The PTY card's fields have at most 50 characters, and the FAC card is no longer than the one that was
+-- read. Assumes nothing.
 use Prim.Native.Nat.{ℕ, zero, suc, _+_, _≤_}
 use mathlib.Core.Path.{_≡_, refl, sym, ap, subst, _∙_}
 use mathlib.Core.Bool.{Bool, true, false, _&&_, not}
@@ -93,7 +94,7 @@ fac-short id fac m i l e =
       tail-total (bytes "FAC" ∷ entryTexts 0 (asked fac)),
       first-two (fields fac) (omega arith),
       fields-short fac m,
-      entries-short (entriesOf fac) e
+      entries-short (entriesOf fac) e,
     )
 
 -- a name without the blanks that fill it

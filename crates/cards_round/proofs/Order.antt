@@ -1,5 +1,6 @@
--- EQUAL REQUESTS, ENTRY ORDER APART: two FAC cards whose entries are permutations of each other ask for the same, so that the groups read as the
--- same request. Two neighbouring entries fill different slots, or the second of them would be wrong. Assumes nothing.
+-- EQUAL REQUESTS, ENTRY ORDER APART: two FAC cards whose entries are permutations of each other ask for the same,
+-- so that the groups read as the same request. Two neighbouring entries fill different slots, or the second of them
+-- would be wrong. Assumes nothing.
 use Prim.Native.Nat.{ℕ, zero, suc, _+_, _*_, _-_, _≤_, _<_}
 use mathlib.Core.Path.{_≡_, refl, sym, ap, subst, _∙_}
 use mathlib.Core.Bool.{Bool, true, false, not, _&&_}
@@ -86,7 +87,8 @@ permuted (Permuted.next {ts} {us} {vs} p q) asks l e =
     let y = permuted q asks l (x .0) in
     (y .0, x .1 ∙ y .1)
 
--- EQUAL REQUESTS: two groups with the same PTY card whose FAC cards have the same entries in any order read as the same request
+-- EQUAL REQUESTS: two groups with the same PTY card whose FAC cards have the same entries in any order read as the
+-- same request
 pub same-request : (pty fac other : List ℕ) (r s : Request)
     → readGroup (pty ∷ fac ∷ []) ≡ record { verdict = Good; request = r } → readGroup (pty ∷ other ∷ []) ≡ record { verdict = Good; request = s }
     → Permuted (entriesOf fac) (entriesOf other) → r ≡ s

@@ -1,6 +1,6 @@
--- EVERY REQUEST READ FROM CARDS IS WRITTEN where the room has 162 bytes: the PTY card's fields have at most 50 characters, and each
--- entry that was read is no longer when it is written again, so that the FAC card is no longer than the one that was read. So 12 never
--- arises, as 13 never does. Assumes nothing.
+-- EVERY REQUEST READ FROM CARDS IS WRITTEN where the room has 162 bytes: the PTY card's fields have at most 50
+-- characters, and each entry that was read is no longer when it is written again, so that the FAC card is no longer
+-- than the one that was read. So 12 never arises, as 13 never does. Assumes nothing.
 use Prim.Native.Nat.{ℕ, zero, suc, _+_, _-_, _*_, _^_, _/_, _%_, _≤_, _<_}
 use mathlib.Core.Path.{_≡_, refl, sym, ap, subst, _∙_}
 use mathlib.Core.Bool.{Bool, true, false, cond, _&&_, _||_, not}

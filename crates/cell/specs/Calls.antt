@@ -110,9 +110,11 @@ outcomeOf false = Outcomes.Refused NothingSelected
 
 pub record SelectsIn (cell : Cell) (r : SelectAnswer) : Type 0 where
   pub outcome : r .outcome ≡ outcomeOf (r .selection .found)
-  pub takes : Takes (cell .schedule) (cell .lists) (record { selection = r .selection; schedule = r .cell .schedule; lists = r .cell .lists })
+  pub takes :
+      Takes (cell .schedule) (cell .lists) (record { selection = r .selection; schedule = r .cell .schedule; lists = r .cell .lists })
 
 -- READ A PACKET'S STATUS: "1 if p or k is out of range"; nothing changes
 abbrev pub statusOf : Cell → ℕ → ℕ → StatusAnswer
 statusOf cell place packet =
-    cond (ltb place 16 && ltb packet 16) (StatusAnswers.Is (packetIn (cell .lists .jobs) place packet .status)) (StatusAnswers.Refused OutOfRange)
+    cond (ltb place 16 && ltb packet 16) (StatusAnswers.Is (packetIn (cell .lists .jobs) place packet .status))
+    (StatusAnswers.Refused OutOfRange)

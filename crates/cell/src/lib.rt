@@ -16,7 +16,8 @@ use packets::Status;
 use schedule_list::Schedule;
 ghost use mathlib.Core.Path.{_≡_};
 ghost use Rattle.packets.specs.Rules.{Submit, Start, Complete, End, Mark};
-ghost use Rattle.cell.specs.Calls.{freshCell, acted, leftBy, afterCompletion, afterEnd, releasing, deleting, answerOf, outcomeOf, statusOf, Enters, SelectsIn};
+ghost use Rattle.cell.specs.Calls.{freshCell, acted, leftBy, afterCompletion, afterEnd, releasing};
+ghost use Rattle.cell.specs.Calls.{deleting, answerOf, outcomeOf, statusOf, Enters, SelectsIn};
 
 pub struct Cell {
     pub schedule: Schedule,

@@ -1,5 +1,6 @@
--- SCHEDULE AND PLACES AGREE, call by call: a selection puts a waiting request into the empty place that its job takes, the calls on the request lists
--- keep the agreement, and the calls on the schedule alone touch no request whose job runs or closes. Assumes nothing.
+-- SCHEDULE AND PLACES AGREE, call by call: a selection puts a waiting request into the empty place that its job
+-- takes, the calls on the request lists keep the agreement, and the calls on the schedule alone touch no request
+-- whose job runs or closes. Assumes nothing.
 use Prim.Native.Nat.{ℕ, _<_}
 use mathlib.Core.Path.{_≡_, refl, sym, ap, subst, _∙_}
 use mathlib.Core.Bool.{Bool, true, false, not, _&&_}

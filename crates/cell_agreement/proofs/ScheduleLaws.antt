@@ -1,5 +1,6 @@
--- What the calls on the schedule do to the requests in each place: a deck, a release and a deletion nothing, since they touch no request whose job runs
--- or closes; a taking puts one into an empty place, a job's end lets it close there, and a return takes it out of the place. Assumes nothing.
+-- What the calls on the schedule do to the requests in each place: a deck, a release and a deletion nothing, since
+-- they touch no request whose job runs or closes; a taking puts one into an empty place, a job's end lets it close
+-- there, and a return takes it out of the place. Assumes nothing.
 use Prim.Native.Nat.{ℕ, _≤_, _<_}
 use mathlib.Core.Path.{_≡_, refl, sym, ap, subst, _∙_}
 use mathlib.Core.Bool.{Bool, true, false, cond, _&&_}

@@ -1,5 +1,5 @@
--- THE SCHEDULE IS SOUND in every cell that a history leads to: a call on the cell is at most one call on the schedule, or a deck, and each keeps it
--- sound. Assumes nothing.
+-- THE SCHEDULE IS SOUND in every cell that a history leads to: a call on the cell is at most one call on the
+-- schedule, or a deck, and each keeps it sound. Assumes nothing.
 use Prim.Native.Nat.{ℕ}
 use mathlib.Core.Path.{_≡_, sym, subst}
 use mathlib.Core.Bool.{Bool, true, false}

@@ -1,5 +1,6 @@
--- What becomes of the states of the requests in a place as a request is taken out of the list, put into it, or changes its state: the list is parted
--- before and behind that request, and what stands there is as it was. Assumes nothing.
+-- What becomes of the states of the requests in a place as a request is taken out of the list, put into it, or
+-- changes its state: the list is parted before and behind that request, and what stands there is as it was. Assumes
+-- nothing.
 use Prim.Native.Nat.{ℕ, suc, _+_, _≤_, _<_}
 use mathlib.Core.Path.{_≡_, refl, sym, ap, _∙_}
 use mathlib.Core.Bool.{true, false, cond, not}

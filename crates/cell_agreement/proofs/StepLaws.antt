@@ -1,5 +1,5 @@
--- What each call on the request lists leaves agrees: an end lets the request and the place close, a return empties both, and every other call, refused or
--- not, leaves both as they are. Assumes nothing.
+-- What each call on the request lists leaves agrees: an end lets the request and the place close, a return empties
+-- both, and every other call, refused or not, leaves both as they are. Assumes nothing.
 use Prim.Native.Nat.{ℕ}
 use mathlib.Core.Path.{_≡_, refl, sym, ap, _∙_}
 use mathlib.Core.Bool.{Bool, true, false, cond}
@@ -77,7 +77,7 @@ agree-put place x s t st after P S A j =
     ∙ by-bool (eqb j place) (λ q. rw q (ap (standing x) (sym (eqb-true j place q)))) (λ q. rw q (A j q))
     ∙ ap (λ (y : JobState). standing y j) (sym (S j))
 
--- ---- a return, if the job is done: the schedule and the place are cleared together, else the other schedule stays with the state
+-- ---- a return, if the job is done: schedule and place are cleared together, else the other schedule stays
 
 module _ (s other : Schedule) (st : State) (j : ℕ) (y : RequestState) (one : seen j s ≡ y ∷ []) where
   gone : (t : JobState) → isClosing t ≡ true → Put j [] s (leftBy (leavingAs t) s j other)

@@ -1,5 +1,6 @@
--- A CELL THAT IS COMPUTED: what each call answers and leaves, as functions that compute. Whatever the contracts allow is what they compute, so that
--- cases are shown by computing. Selection goes through the candidates with the computed assigner. Assumes nothing.
+-- A CELL THAT IS COMPUTED: what each call answers and leaves, as functions that compute. Whatever the contracts
+-- allow is what they compute, so that cases are shown by computing. Selection goes through the candidates with the
+-- computed assigner. Assumes nothing.
 use Prim.Native.Nat.{ℕ, zero, suc, _+_, _≤_, _<_}
 use mathlib.Core.Path.{_≡_, refl, sym, ap, subst, _∙_}
 use mathlib.Core.Bool.{Bool, true, false, cond, _&&_}

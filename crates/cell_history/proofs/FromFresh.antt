@@ -1,4 +1,5 @@
--- The lists of a fresh cell and of any cell that a history leads to, and what a selection's answer says. Assumes nothing.
+-- The lists of a fresh cell and of any cell that a history leads to, and what a selection's answer says. Assumes
+-- nothing.
 use mathlib.Core.Path.{_≡_, refl, sym, ap, subst, _∙_}
 use mathlib.Core.Bool.{Bool, true, false}
 use mathlib.Core.List.{List}

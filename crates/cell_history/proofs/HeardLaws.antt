@@ -1,5 +1,5 @@
--- THE LISTS' STATE AFTER A HISTORY of the cell is what the calls that they heard lead to by the rules. So all that holds of any
--- history of the rules holds of any history of the cell. Assumes nothing.
+-- THE LISTS' STATE AFTER A HISTORY of the cell is what the calls that they heard lead to by the rules. So all that
+-- holds of any history of the rules holds of any history of the cell. Assumes nothing.
 use mathlib.Core.Path.{_≡_, refl, sym, ap, _∙_}
 use mathlib.Core.Bool.{cond}
 use mathlib.Core.List.{List, [], _∷_, _++_}

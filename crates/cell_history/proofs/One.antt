@@ -1,5 +1,5 @@
--- ONE OUTCOME: the contracts leave each call one answer and one cell, so that the same calls from the same cell are answered alike and lead to the same
--- cell. Assumes nothing.
+-- ONE OUTCOME: the contracts leave each call one answer and one cell, so that the same calls from the same cell are
+-- answered alike and lead to the same cell. Assumes nothing.
 use mathlib.Core.Path.{_≡_, sym, ap, _∙_}
 use mathlib.Core.List.{List}
 use Prim.Native.Nat.{ℕ}

@@ -1,5 +1,5 @@
--- WHAT THE CALLER WAS TOLD over a history is what the rules answer to the calls that the lists heard. So what a statement reads from the
--- recorded replies, it could read from the rules. Assumes nothing.
+-- WHAT THE CALLER WAS TOLD over a history is what the rules answer to the calls that the lists heard. So what a
+-- statement reads from the recorded replies, it could read from the rules. Assumes nothing.
 use mathlib.Core.Path.{_≡_, refl, sym, ap, subst, _∙_}
 use mathlib.Core.Bool.{Bool, cond}
 use mathlib.Core.List.{List, [], _∷_, _++_}

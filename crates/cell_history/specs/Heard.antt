@@ -1,5 +1,6 @@
--- What the request lists hear of a history of the cell: each call is at most one call of theirs, and a selection is a taking.
--- And what the caller was told: each of these calls with the answer that the history records. A reader has to believe this page.
+-- What the request lists hear of a history of the cell: each call is at most one call of theirs, and a selection is
+-- a taking. And what the caller was told: each of these calls with the answer that the history records. A reader
+-- has to believe this page.
 use mathlib.Core.Bool.{cond}
 use mathlib.Core.List.{List, [], _∷_, _++_}
 use Rattle.numbers.specs.declared.Outcome.{Outcome}
@@ -12,7 +13,25 @@ use Rattle.lists.specs.Outcomes.{stateOf}
 use Rattle.cell_selection.specs.Selecting.{takingOf}
 use Rattle.cell_selection.specs.declared.Selection.{Selection}
 use Rattle.cell.specs.declared.Cell.{Cell}
-use Rattle.cell_history.specs.History.{Call, Chosen, Complete, Deck, Delete, End, Entered, Event, Mark, Release, Reply, Said, Select, Shown, Start, Status, Submit}
+use Rattle.cell_history.specs.History.{
+  Call,
+  Chosen,
+  Complete,
+  Deck,
+  Delete,
+  End,
+  Entered,
+  Event,
+  Mark,
+  Release,
+  Reply,
+  Said,
+  Select,
+  Shown,
+  Start,
+  Status,
+  Submit,
+}
 
 -- the taking that a selection makes, if it selects
 abbrev pub taken : Reply → List Rules.Call

@@ -1,5 +1,6 @@
--- A SELECTION IS A TAKING OF ASSIGNABLE FACILITIES: words of drum and blocks of core that no job holds, and units that are free and unmarked. So every
--- history of the cell is, for the lists, one in which each taking fits. Assumes nothing.
+-- A SELECTION IS A TAKING OF ASSIGNABLE FACILITIES: words of drum and blocks of core that no job holds, and units
+-- that are free and unmarked. So every history of the cell is, for the lists, one in which each taking fits.
+-- Assumes nothing.
 use Prim.Native.Nat.{ℕ, zero, suc, _+_, _*_, _/_, _%_, _≤_, _<_}
 use mathlib.Core.Path.{_≡_, refl, sym, ap, subst, _∙_}
 use mathlib.Core.Bool.{Bool, true, false, cond}

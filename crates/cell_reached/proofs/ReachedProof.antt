@@ -1,5 +1,5 @@
--- EVERY CELL THAT A HISTORY LEADS TO has what the page Reached says. Each selection is a taking that fits, so what the request lists' own theorems say
--- under that condition holds of every history of the cell. Assumes nothing.
+-- EVERY CELL THAT A HISTORY LEADS TO has what the page Reached says. Each selection is a taking that fits, so what
+-- the request lists' own theorems say under that condition holds of every history of the cell. Assumes nothing.
 use Prim.Native.Nat.{ℕ}
 use mathlib.Core.Path.{_≡_, sym, ap, subst, _∙_}
 use mathlib.Core.Bool.{Bool, cond}

@@ -1,6 +1,6 @@
--- WHAT HOLDS OF EVERY CELL that a history leads to from a fresh one: packets, request list and motions are in order; no two jobs hold the same words of
--- drum or blocks of core; a running or closing job holds exactly what it was given at its selection, and an empty place holds no unit. A reader has to
--- believe this page.
+-- WHAT HOLDS OF EVERY CELL that a history leads to from a fresh one: packets, request list and motions are in
+-- order; no two jobs hold the same words of drum or blocks of core; a running or closing job holds exactly what it
+-- was given at its selection, and an empty place holds no unit. A reader has to believe this page.
 use Prim.Native.Nat.{ℕ}
 use mathlib.Core.List.{List}
 use Rattle.channels.specs.declared.Configuration.{Configuration}
@@ -14,7 +14,8 @@ use Rattle.cell_history.specs.Heard.{inside, told}
 use Rattle.cell_history.specs.History.{Event, Leads}
 
 pub record Reached (es : List Event) (c : Cell) : Type 0 where
-  -- listed packets are exactly those in the list, one packet moves per channel, and a listed or moving packet's unit is held by its job
+  -- listed packets are exactly those in the list, one packet moves per channel, and a listed or moving packet's
+  -- unit is held by its job
   pub always : Always (inside c)
   -- no word of the drum, and no block of core, is two jobs'
   pub drum : Apart inArea (inside c)

@@ -1,5 +1,5 @@
--- What selection's promise means: there is one outcome, refusal 10 is given exactly when no place is free or no candidate has an assignment, and the
--- taking that a selection makes is accepted by the lists. Assumes nothing.
+-- What selection's promise means: there is one outcome, refusal 10 is given exactly when no place is free or no
+-- candidate has an assignment, and the taking that a selection makes is accepted by the lists. Assumes nothing.
 use Prim.Native.Nat.{ℕ, _≤_}
 use mathlib.Core.Path.{_≡_, refl, sym, ap, subst, _∙_}
 use mathlib.Core.Bool.{Bool, true, false}

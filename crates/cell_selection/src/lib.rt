@@ -45,8 +45,8 @@ pub struct Taking {
     pub lists: Lists,
 }
 
-// The first candidate in order that has an assignment. The units are looked at once, and only the one found is assigned
-// to: whether another has an assignment is told from the counts.
+// The first candidate in order that has an assignment. The units are looked at once, and only the one found is
+// assigned to: whether another has an assignment is told from the counts.
 fn first_fit(
     schedule: Schedule,
     units: Units,

@@ -1,5 +1,5 @@
--- What the occupancy word means: bit b of it is 1 exactly where block b is taken, and it has no more bits; and two answers to the lowest free place
--- are one. Assumes nothing.
+-- What the occupancy word means: bit b of it is 1 exactly where block b is taken, and it has no more bits; and two
+-- answers to the lowest free place are one. Assumes nothing.
 use Prim.Native.Nat.{ℕ, zero, suc, _+_, _*_, _/_, _%_, _^_, _<_, _-_}
 use mathlib.Core.Path.{_≡_, refl, sym, ap, _∙_}
 use mathlib.Core.Bool.{Bool, true, false, cond}

@@ -1,4 +1,5 @@
--- The loops over the lines of a section: what is read of the lines that are left is what is read of them all. Assumes nothing.
+-- The loops over the lines of a section: what is read of the lines that are left is what is read of them all.
+-- Assumes nothing.
 use Prim.Native.Nat.{ℕ, suc, _+_, _-_, _*_, _≤_, _<_}
 use mathlib.Core.Path.{_≡_, sym, _∙_}
 use mathlib.Core.Bool.{Bool, true, false, cond, _||_}

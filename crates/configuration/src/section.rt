@@ -14,7 +14,8 @@ ghost use lib.ListN.{length, drop};
 ghost use Rattle.configuration.specs.Sections.{channelAllowed, downAllowed, badChannels, badDowns, ChannelsRead, downsFrom};
 ghost use Rattle.channels.specs.Channels.{noDown};
 
-// The channels of the first section, and where it ends: the next line's number and place. Where a line is bad: its number.
+// The channels of the first section, and where it ends: the next line's number and place. Where a line is bad: its
+// number.
 pub struct Channels {
     pub good: bool,
     pub line: usize,

@@ -1,5 +1,5 @@
--- The channel lines: those that were read are right ones written, one after the other, and where the reader stops no right one follows.
--- By the count of lines that are left. Assumes nothing.
+-- The channel lines: those that were read are right ones written, one after the other, and where the reader stops
+-- no right one follows. By the count of lines that are left. Assumes nothing.
 use Prim.Native.Nat.{ℕ, zero, suc, _+_, _-_, _≤_}
 use mathlib.Core.Path.{_≡_, refl, sym, ap, _∙_}
 use mathlib.Core.Bool.{Bool, true, false, cond, not, _&&_, _||_}

@@ -1,5 +1,6 @@
--- The first 2,048 bytes decide: a longer text is read as what it begins with, so a program need not keep more.
--- No right lines take more than 1,767 bytes, so a text of 2,048 bytes has a bad line, and that line lies within them. Assumes nothing.
+-- The first 2,048 bytes decide: a longer text is read as what it begins with, so a program need not keep more. No
+-- right lines take more than 1,767 bytes, so a text of 2,048 bytes has a bad line, and that line lies within them.
+-- Assumes nothing.
 use Prim.Native.Nat.{ℕ, suc, _+_, _*_, _^_, _≤_, _<_}
 use mathlib.Core.Path.{_≡_, sym, ap, _∙_}
 use mathlib.Core.Bool.{Bool}

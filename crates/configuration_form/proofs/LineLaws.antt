@@ -1,4 +1,5 @@
--- One line, both ways: what is read as a line is that line written, and a line written is read as itself. Assumes nothing.
+-- One line, both ways: what is read as a line is that line written, and a line written is read as itself. Assumes
+-- nothing.
 use Prim.Native.Nat.{ℕ, zero, suc, _+_, _^_, _≤_, _<_}
 use mathlib.Core.Path.{_≡_, refl, sym, ap, _∙_}
 use mathlib.Core.Bool.{cond}

@@ -1,6 +1,6 @@
--- What reading a configuration means: a good answer is given for the written form of just that configuration, and refusal 14 names the first bad or
--- missing line. The count line, the channel lines, the second count line and the down lines are joined, one case for each way out.
--- Assumes nothing.
+-- What reading a configuration means: a good answer is given for the written form of just that configuration, and
+-- refusal 14 names the first bad or missing line. The count line, the channel lines, the second count line and the
+-- down lines are joined, one case for each way out. Assumes nothing.
 use Prim.Native.Nat.{ℕ, _+_, _-_, _^_, _≤_, _<_}
 use mathlib.Core.Path.{_≡_, refl, ap, subst, _∙_}
 use mathlib.Core.Bool.{Bool, true, false}

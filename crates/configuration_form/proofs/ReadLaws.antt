@@ -1,4 +1,5 @@
--- Right lines one after the other: none, one more, and a section of them, read to its end or to its first bad line. Assumes nothing.
+-- Right lines one after the other: none, one more, and a section of them, read to its end or to its first bad line.
+-- Assumes nothing.
 use Prim.Native.Nat.{ℕ, suc, _+_, _-_, _≤_}
 use mathlib.Core.Path.{_≡_, refl, sym, ap, _∙_}
 use mathlib.Core.List.{List, [], _∷_, _++_, append-assoc}

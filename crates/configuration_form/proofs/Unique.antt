@@ -1,6 +1,6 @@
--- A text is read in one way: where a line is due, at most one right line comes. So the written form of a configuration is read as that
--- configuration, the first bad line is the one that is named, and neither leaves a choice.
--- Two readings of one text are compared line by line. Assumes nothing.
+-- A text is read in one way: where a line is due, at most one right line comes. So the written form of a
+-- configuration is read as that configuration, the first bad line is the one that is named, and neither leaves a
+-- choice. Two readings of one text are compared line by line. Assumes nothing.
 use Prim.Native.Nat.{ℕ, zero, suc, _+_, _^_, _≤_, _<_}
 use mathlib.Core.Path.{_≡_, refl, sym, ap, subst, _∙_}
 use mathlib.Core.Bool.{Bool}

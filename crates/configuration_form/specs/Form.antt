@@ -1,4 +1,5 @@
--- The written form of a configuration: one item a line, and which item is right where, judged with the lines before it.
+-- The written form of a configuration: one item a line, and which item is right where, judged with the lines before
+-- it.
 use Prim.Native.Nat.{ℕ, zero, suc, _+_, _*_, _≤_, _<_}
 use mathlib.Core.Path.{_≡_}
 use mathlib.Core.Bool.{Bool, false, _&&_, _||_, true}
@@ -28,8 +29,8 @@ abbrev pub written : List Item → List ℕ
 written [] = []
 written (item ∷ items) = line item ++ written items
 
--- what is due next: the count of channels; `left` channel lines, from channel `next` on, a drum before or not, and then the count of
--- down units; `left` down lines, from place `next` on. With them, what is configured so far.
+-- what is due next: the count of channels; `left` channel lines, from channel `next` on, a drum before or not, and
+-- then the count of down units; `left` down lines, from place `next` on. With them, what is configured so far.
 pub data Due : Type 0 where
   first : Due
   channels : (left next : ℕ) (drum : Bool) (of : List Channel) → Due
@@ -42,7 +43,8 @@ pub data Right : Due → Item → Due → Type 0 where
   -- lines `cc KK n`, ascending strictly, n as the kind has it, at most one drum
   channelLine : {left next c n : ℕ} {drum : Bool} {kind : Kind} {of : List Channel}
       → c ≤ 15 → least kind ≤ n → n ≤ most kind → next ≤ c → (drum && isDrum kind) ≡ false
-      → Right (channels (suc left) next drum of) (channel c kind n) (channels left (c + 1) (drum || isDrum kind) (set of c (fitted kind n)))
+      → Right (channels (suc left) next drum of) (channel c kind n)
+      (channels left (c + 1) (drum || isDrum kind) (set of c (fitted kind n)))
   -- then the count of down units, at most 256
   downCount : {next m : ℕ} {drum : Bool} {of : List Channel} → m ≤ 256 → Right (channels 0 next drum of) (count m) (downs m 0 of noDown)
   -- and lines `cc uu`, ascending strictly, each a configured unit
@@ -53,7 +55,8 @@ pub data Right : Due → Item → Due → Type 0 where
 -- items that are right one after the other
 pub data AllRight : Due → List Item → Due → Type 0 where
   none : {due : Due} → AllRight due [] due
-  more : {due next end : Due} {item : Item} {items : List Item} → Right due item next → AllRight next items end → AllRight due (item ∷ items) end
+  more : {due next end : Due} {item : Item} {items : List Item} → Right due item next
+      → AllRight next items end → AllRight due (item ∷ items) end
 
 -- nothing is due any more, and this is configured
 abbrev pub Complete : Due → List Channel → List Bool → Type 0

@@ -1,4 +1,5 @@
--- What the reader's answer says of a text: a configuration exactly for its written form, refusal 14 with the first bad or missing line.
+-- What the reader's answer says of a text: a configuration exactly for its written form, refusal 14 with the first
+-- bad or missing line.
 use Prim.Native.Nat.{ℕ}
 use mathlib.Core.Path.{_≡_}
 use mathlib.Core.Bool.{Bool}

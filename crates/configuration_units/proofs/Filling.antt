@@ -1,5 +1,5 @@
--- The loop that makes the fresh units, one after the other: those passed are as they should be, the others still free and unmarked.
--- Assumes nothing.
+-- The loop that makes the fresh units, one after the other: those passed are as they should be, the others still
+-- free and unmarked. Assumes nothing.
 use Prim.Native.Nat.{ℕ, _+_, _*_, _/_, _%_, _≤_, _<_}
 use mathlib.Core.Path.{_≡_, sym, ap, subst, _∙_}
 use mathlib.Core.Bool.{Bool, false}

@@ -1,5 +1,5 @@
--- What the definitions of Answers mean: 0 is the answer for a configuration and for nothing else, any other number is that of the first bad or missing
--- line, and `Placed` leaves one outcome. Assumes nothing.
+-- What the definitions of Answers mean: 0 is the answer for a configuration and for nothing else, any other number
+-- is that of the first bad or missing line, and `Placed` leaves one outcome. Assumes nothing.
 use Prim.Native.Nat.{ℕ, _≤_}
 use mathlib.Core.Path.{_≡_, refl, sym, ap, subst, _∙_}
 use mathlib.Core.Bool.{Bool, true, false}

@@ -1,5 +1,5 @@
--- THE JOB SELECTED IS THE FIRST IN ORDER, shown: the schedule stands in selection order in every cell that a history leads to, so the
--- first of its candidates is the first in order. Assumes nothing.
+-- THE JOB SELECTED IS THE FIRST IN ORDER, shown: the schedule stands in selection order in every cell that a
+-- history leads to, so the first of its candidates is the first in order. Assumes nothing.
 use Prim.Native.Nat.{ℕ, zero, suc, _≤_, _<_}
 use mathlib.Core.Path.{_≡_, refl, sym, subst}
 use mathlib.Core.Bool.{true, false}

@@ -1,5 +1,5 @@
--- DEMAND 1: each call is refused with the number of its table's lowest sentence that holds, and accepted if none does. By the kinds of call: the
--- rules' chain of tests is the chain of rows. Assumes nothing.
+-- DEMAND 1: each call is refused with the number of its table's lowest sentence that holds, and accepted if none
+-- does. By the kinds of call: the rules' chain of tests is the chain of rows. Assumes nothing.
 use Prim.Native.Nat.{ℕ}
 use mathlib.Core.Path.{_≡_, refl, sym, ap, subst, _∙_}
 use mathlib.Core.Bool.{Bool, true, false, not, cond, _&&_}

@@ -1,4 +1,5 @@
--- DEMAND 1: after a refused call everything stands. By the kinds of call; an accepted call's answer is never a refusal. Assumes nothing.
+-- DEMAND 1: after a refused call everything stands. By the kinds of call; an accepted call's answer is never a
+-- refusal. Assumes nothing.
 use Prim.Native.Nat.{ℕ}
 use mathlib.Core.Path.{_≡_, refl, sym, ap, subst, _∙_}
 use mathlib.Core.Bool.{Bool, true, false}

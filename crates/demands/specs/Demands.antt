@@ -1,5 +1,6 @@
--- THE THREE DEMANDS, one page, to be laid beside the words of the people who asked. Each is a theorem, proved in the files named beside it, about any
--- cell and call as the contracts of the public functions give them, and about any history of calls from a fresh cell. A reader has to believe this page.
+-- THE THREE DEMANDS, one page, to be laid beside the words of the people who asked. Each is a theorem, proved in
+-- the files named beside it, about any cell and call as the contracts of the public functions give them, and about
+-- any history of calls from a fresh cell. A reader has to believe this page.
 use Prim.Native.Nat.{ℕ, _≤_}
 use mathlib.Core.Path.{_≡_}
 use mathlib.Core.Bool.{Bool, true, _&&_}
@@ -50,11 +51,12 @@ use Rattle.packets_given.specs.Given.{OnItsOwn, StillOwn, taking}
 use Rattle.cards_writing.specs.declared.Wrote.the-variants as Wrote′
 use Rattle.packets.specs.Rules as Rules
 
--- "1. Every card, deck, configuration and call is answered, whatever is in it. Bad input gets document 01's number, and after a
--- refused call everything stands, byte for byte, as before." That each is answered is what the check says of the public functions: none
--- has a condition on its input, and each ends.
+-- "1. Every card, deck, configuration and call is answered, whatever is in it. Bad input gets document 01's number,
+-- and after a refused call everything stands, byte for byte, as before." That each is answered is what the check
+-- says of the public functions: none has a condition on its input, and each ends.
 pub record Demand1 : Type 0 where
-  -- "Bad input gets document 01's number": a call is refused with the lowest number of the table whose sentence holds, and only then
+  -- "Bad input gets document 01's number": a call is refused with the lowest number of the table whose sentence
+  -- holds, and only then
   pub numbers : (c d : Cell) (x : Call) (reply : Reply) → Does c x reply d → RefusedBy (isSelect x) c x (refusalIn reply)
   -- "after a refused call everything stands, byte for byte, as before": the cell,
   pub stands : (c d : Cell) (x : Call) (reply : Reply) (n : Refusal) → Does c x reply d → refusalIn reply ≡ some n → d ≡ c
@@ -63,38 +65,44 @@ pub record Demand1 : Type 0 where
       → r .outcome ≡ Refused n → after ≡ room
   -- and the room that was lent for cards to be written, after 13 and after 12
   pub kept : (r : Request) (room : List ℕ) (n : Refusal) → writeAnswer r (length room) ≡ Wrote′.Refused n → written r room ≡ room
-  -- a configuration is read exactly if it is the written form of one; else refusal 14 names the first bad or missing line
+  -- a configuration is read exactly if it is the written form of one; else refusal 14 names the first bad or
+  -- missing line
   pub configuration : (s : List ℕ) → Means s (configurationOf s)
   pub read : (s : List ℕ) (of : List Channel) (marks : List Bool) → InForm s of marks → configurationOf s ≡ good of marks
   pub named : (s : List ℕ) (line : ℕ) → FirstBad s line → configurationOf s ≡ refused line
 
--- "2. It is right: cards written are read back as the same request; the job selected is the first in order, of those allowed to run,
--- for which all facilities can be found; selection is refused exactly when no place is free or no such job exists; packets end with the
--- stated codes."
+-- "2. It is right: cards written are read back as the same request; the job selected is the first in order, of
+-- those allowed to run, for which all facilities can be found; selection is refused exactly when no place is free
+-- or no such job exists; packets end with the stated codes."
 pub record Demand2 : Type 0 where
   -- "cards written are read back as the same request": whatever request the writer takes,
   pub cards : (r : Request) (room : List ℕ) → takes r ≡ true → fits r (length room) ≡ true
       → readGroup (cardsOf (take (length (textOf r)) (written r room))) ≡ record { verdict = Good; request = r }
-  -- and every request that was read from cards is taken, and written where the room has 162 bytes: neither 13 nor 12 arises
+  -- and every request that was read from cards is taken, and written where the room has 162 bytes: neither 13 nor
+  -- 12 arises
   pub again : (group : List (List ℕ)) (r : Request) (room : List ℕ) → readGroup group ≡ record { verdict = Good; request = r }
       → 162 ≤ length room
       → (writeAnswer r (length room) ≡ Wrote′.Cards (length (textOf r)))
       × (readGroup (cardsOf (take (length (textOf r)) (written r room))) ≡ record { verdict = Good; request = r })
-  -- "equal requests, entry order apart": the same entries in another order are the same request, so its cards are the same
+  -- "equal requests, entry order apart": the same entries in another order are the same request, so its cards are
+  -- the same
   pub same : (pty fac other : List ℕ) (r s : Request) → readGroup (pty ∷ fac ∷ []) ≡ record { verdict = Good; request = r }
       → readGroup (pty ∷ other ∷ []) ≡ record { verdict = Good; request = s } → Permuted (entriesOf fac) (entriesOf other) → r ≡ s
   -- "the job selected" is a candidate with an assignment, the one chosen, and the place the lowest that is free,
   pub selected : (c d : Cell) (s : Selection) → Does c Select (Chosen Done s) d → Selected (inSchedule (c .schedule)) (c .lists) s
-  -- and it is "the first in order": by letter, then precedence, then sequence no candidate with an assignment comes before it
+  -- and it is "the first in order": by letter, then precedence, then sequence no candidate with an assignment comes
+  -- before it
   pub first : (configuration : Configuration) (es : List Event) (c : Cell) → Leads (freshCell configuration) es c
       → (d : Cell) (s : Selection) → Does c Select (Chosen Done s) d
-      → (i : ℕ) → Candidate (inSchedule (c .schedule)) i → precedes (keyOf (entryAt (inSchedule (c .schedule)) i .request)) (keyOf (s .request)) ≡ true
+      → (i : ℕ) → Candidate (inSchedule (c .schedule)) i
+      → precedes (keyOf (entryAt (inSchedule (c .schedule)) i .request)) (keyOf (s .request)) ≡ true
       → HasNone (seenIn (c .lists)) (entryAt (inSchedule (c .schedule)) i .request)
   -- "selection is refused exactly when no place is free or no such job exists"
   pub refused : (c d : Cell) (o : Outcome) (s : Selection) → Does c Select (Chosen o s) d
       → (o ≡ Refused NothingSelected → NoneToSelect (c .schedule) (c .lists))
       × (NoneToSelect (c .schedule) (c .lists) → o ≡ Refused NothingSelected)
-  -- "packets end with the stated codes": over any history, after an accepted call each packet's status is the stated one,
+  -- "packets end with the stated codes": over any history, after an accepted call each packet's status is the
+  -- stated one,
   pub codes : (configuration : Configuration) (es : List Event) (c : Cell) → Leads (freshCell configuration) es c
       → (d : Cell) (x : Call) (reply : Reply) → Does c x reply d → refusalIn reply ≡ none
       → (y : Rules.Call) → heardOf x reply ≡ y ∷ []
@@ -104,21 +112,23 @@ pub record Demand2 : Type 0 where
   -- and that is the status that is shown
   pub shown : (c d : Cell) (place packet : ℕ) (status : Status) → Does c (Call.Status place packet) (Shown (Is status)) d
       → status ≡ packetIn (inside c .jobs) place packet .status
-  -- "the second program": for each channel but the drum's its number and how many of its units are assignable in the fresh cell
+  -- "the second program": for each channel but the drum's its number and how many of its units are assignable in
+  -- the fresh cell
   pub listing : (s room after : List ℕ) (r : ℕ) (of : List Channel) (marks : List Bool) → InForm s of marks → Listed s room after r
       → 96 ≤ length room → take r after ≡ linesFrom (record { channels = of; down = marks }) 16 0
   pub counted : (configuration : Configuration) (channel : ChannelNumber)
       → assignableUnits configuration (freshUnits (configuration .down)) channel 16
-      ≡ howMany 16 (λ u. hasUnit configuration channel (record { 0 = u }) && assignable (unitIn (inside (freshCell configuration) .units) (channel .0) u))
+      ≡ howMany 16 (λ u. hasUnit configuration channel (record { 0 = u })
+      && assignable (unitIn (inside (freshCell configuration) .units) (channel .0) u))
 
 -- calls one after the other, as `Leads` has them, before each of which the job has the holding; the last may return it
 abbrev pub WhileHeld : Holding → Cell → List Event → Cell → Type 0
 WhileHeld h c [] d = d ≡ c
 WhileHeld h c (e ∷ es) d = Holds (inside c) h × ((m : Cell) × (Does c (e .call) (e .reply) m × WhileHeld h m es d))
 
--- "3. Take any sequence of calls from a fresh cell and one job's holding of one unit or piece of drum: the accepted calls that acted on it, given to a
--- lone unit written separately, make the same starts in the same order and leave the same packet statuses; on a unit nothing of another job starts or
--- moves meanwhile."
+-- "3. Take any sequence of calls from a fresh cell and one job's holding of one unit or piece of drum: the accepted
+-- calls that acted on it, given to a lone unit written separately, make the same starts in the same order and leave
+-- the same packet statuses; on a unit nothing of another job starts or moves meanwhile."
 pub record Demand3 : Type 0 where
   pub alike :
       -- any sequence of calls from a fresh cell
@@ -129,12 +139,12 @@ pub record Demand3 : Type 0 where
       → (h : Holding) → h .place ≡ job .place → Holds (inside d) h
       -- and any calls while it has it, up to its return or any earlier moment
       → (during : List Event) (e : Cell) → WhileHeld h d during e
-      -- by what the caller was told: the lone unit takes every call that acted, makes the same starts in the same order and
-      -- leaves the same statuses; what starts or moves on a unit this job has submitted there since its selection, so that it
-      -- is of no other job, nor of one that had the same place before
+      -- by what the caller was told: the lone unit takes every call that acted, makes the same starts in the same
+      -- order and leaves the same statuses; what starts or moves on a unit this job has submitted there since its
+      -- selection, so that it is of no other job, nor of one that had the same place before
       → Isolated h (told during) (inside e)
-  -- "the head is handed on at once" cannot happen: while a packet of a job is in progress or stopping, on whatever channel,
-  -- everything that its selection gave it (units, drum area, core) is still its own
+  -- "the head is handed on at once" cannot happen: while a packet of a job is in progress or stopping, on whatever
+  -- channel, everything that its selection gave it (units, drum area, core) is still its own
   pub own : (configuration : Configuration) (es : List Event) (c : Cell) → Leads (freshCell configuration) es c
       → (place packet : ℕ) → inMotion (packetIn (inside c .jobs) place packet .status) ≡ true
       → (given : Assignment) × (taking (told es) place ≡ some given) × StillOwn (inside c) place given

@@ -1,5 +1,5 @@
--- THE TABLE OF REFUSED CALLS: for each call the sentences that may refuse it, in the order of their numbers, and whether each of them
--- holds. The lowest answers. A reader has to believe this page.
+-- THE TABLE OF REFUSED CALLS: for each call the sentences that may refuse it, in the order of their numbers, and
+-- whether each of them holds. The lowest answers. A reader has to believe this page.
 use Prim.Native.Nat.{ℕ}
 use mathlib.Core.Path.{_≡_}
 use mathlib.Core.Bool.{Bool, true, false, not, cond, _&&_}
@@ -9,7 +9,21 @@ use mathlib.Core.Option.{Option, none, some}
 use lib.Dec.{ltb, leb}
 use lib.ListN.{length, getD}
 use Rattle.numbers.specs.declared.Refusal.{Refusal}
-use Rattle.numbers.specs.declared.Refusal.the-variants.{OutOfRange, NoJob, NotTheJobs, NotLegal, PacketInUse, ChannelBusy, NothingStartable, NothingInProgress, WrongCompletion, NothingSelected, BadDeck, NoSuchRequest, JobRuns}
+use Rattle.numbers.specs.declared.Refusal.the-variants.{
+  OutOfRange,
+  NoJob,
+  NotTheJobs,
+  NotLegal,
+  PacketInUse,
+  ChannelBusy,
+  NothingStartable,
+  NothingInProgress,
+  WrongCompletion,
+  NothingSelected,
+  BadDeck,
+  NoSuchRequest,
+  JobRuns,
+}
 use Rattle.units.specs.State.{unitIn}
 use Rattle.channels.specs.declared.Fitted.{Fitted}
 use Rattle.cards_fields.specs.Deck.{cardsOf, terminated}
@@ -19,7 +33,20 @@ use Rattle.schedule_list.specs.InSchedule.{find, inSchedule}
 use Rattle.schedule.specs.ByIndex.{ofName}
 use Rattle.packets.specs.Picks.{find as findListed}
 use Rattle.packets.specs.Rules.{atOf, inRange, isNone, isOwn, isWrong, movingStatus, reaches, startable}
-use Rattle.packets.specs.State.{State, blank, configured, fittedOn, isBusy, isDrumOf, isIdle, isRunning, jobIn, legalFor, motionOn, stateIn}
+use Rattle.packets.specs.State.{
+  State,
+  blank,
+  configured,
+  fittedOn,
+  isBusy,
+  isDrumOf,
+  isIdle,
+  isRunning,
+  jobIn,
+  legalFor,
+  motionOn,
+  stateIn,
+}
 use Rattle.packets.specs.declared.Spot.{Spot}
 use Rattle.packets.specs.declared.Spot.the-variants.{OnUnit}
 use Rattle.cell_selection.specs.Selecting.{NoneToSelect}
@@ -80,7 +107,8 @@ rowsIn s es (Start k) =
     ∷ row ChannelBusy (not (isIdle (motionOn s k)))
     ∷ row NothingStartable (isNone (findListed (startable s k) (s .queue)))
     ∷ []
--- 1; 8: completion with nothing in progress; 9: cut for a packet not stopping, failure code 00, 01, 16o, 17o or over 77o
+-- 1; 8: completion with nothing in progress; 9: cut for a packet not stopping, failure code 00, 01, 16o, 17o or
+-- over 77o
 rowsIn s es (Complete k how) =
     row OutOfRange (not (configured (s .channels) k))
     ∷ row NothingInProgress (isIdle (motionOn s k))
@@ -119,7 +147,8 @@ abbrev pub SelectRefused : Cell → Option Refusal → Type 0
 SelectRefused c o =
     ((o ≡ some NothingSelected) × NoneToSelect (c .schedule) (c .lists)) ⊎ ((o ≡ none) × (NoneToSelect (c .schedule) (c .lists) → ⊥))
 
--- WHICH REFUSAL ANSWERS, if any: for a selection 10 exactly when its sentence holds, for any other call the lowest of its sentences that hold
+-- WHICH REFUSAL ANSWERS, if any: for a selection 10 exactly when its sentence holds, for any other call the lowest
+-- of its sentences that hold
 abbrev pub RefusedBy : Bool → Cell → Call → Option Refusal → Type 0
 RefusedBy true c x o = SelectRefused c o
 RefusedBy false c x o = o ≡ lowest (rows c x)

@@ -1,5 +1,5 @@
--- The table of legal functions, and its rule: one test that antt computes over all 256 entries, and one law that carries it to each.
--- No code past the table is legal. Assumes nothing.
+-- The table of legal functions, and its rule: one test that antt computes over all 256 entries, and one law that
+-- carries it to each. No code past the table is legal. Assumes nothing.
 use mathlib.Core.Path.{_≡_, refl, _∙_, ap}
 use mathlib.Core.Bool.{Bool, true, false}
 use mathlib.Core.List.{List, [], _∷_, _++_}

@@ -1,4 +1,5 @@
--- A state seen at one place: each store of the rules there is one store of the job and one pass over the list. Assumes nothing.
+-- A state seen at one place: each store of the rules there is one store of the job and one pass over the list.
+-- Assumes nothing.
 use Prim.Native.Nat.{ℕ, suc, zero, _<_}
 use mathlib.Core.Path.{_≡_, refl, ap}
 use mathlib.Core.Bool.{Bool, true, false, cond, not, _&&_}

@@ -1,5 +1,5 @@
--- The code's outcomes are the steps of the rules: a history of calls of the code is a history of the rules, so that demand 3, the codes and
--- the invariants, which are of any history of the rules, are of the code. Assumes nothing.
+-- The code's outcomes are the steps of the rules: a history of calls of the code is a history of the rules, so that
+-- demand 3, the codes and the invariants, which are of any history of the rules, are of the code. Assumes nothing.
 use mathlib.Core.Path.{_≡_, refl, ap, _∙_}
 use mathlib.Core.List.{List, [], _∷_, _++_}
 use Rattle.units.specs.declared.Holder.the-variants.{Free, Held}

@@ -1,4 +1,5 @@
--- A submission's outcome, from what its parts have computed: each function's stores are one store of the job and one pass over the list. Assumes nothing.
+-- A submission's outcome, from what its parts have computed: each function's stores are one store of the job and
+-- one pass over the list. Assumes nothing.
 use Prim.Native.Nat.{ℕ, _%_, _<_}
 use mathlib.Core.Path.{_≡_, refl, sym, ap, _∙_}
 use mathlib.Core.Bool.{Bool, true, false, not, cond}

@@ -17,7 +17,8 @@ ghost use Rattle.packets.specs.State.{carrying, placeOf, packetOf, relist};
 ghost use Rattle.packets_queue.specs.Padded.{listOf, padded};
 ghost use Rattle.lists.specs.Parts.{listAfter, listedAs, entryIn, placeIn, packetNo, startedAt, unitsAfter};
 
-// The list after a submission of packet p of the job in place j; any function but 07 and 23 is listed, as the youngest.
+// The list after a submission of packet p of the job in place j; any function but 07 and 23 is listed, as the
+// youngest.
 pub fn list_of(job: Job, j: u8, p: u8, f: u8, list: RequestList) -> RequestList
     ensures { λ r. ⌜ r ≡ padded (listAfter f (listedAs j p) (relist j (job .packets) (listOf list))) ⌝ }
 {
@@ -90,7 +91,8 @@ pub fn packet_of(carrier: Carrier) -> u8
     }
 }
 
-// The units after a completion: one with its interlock set if it broke, those of the job in place j free if it is done.
+// The units after a completion: one with its interlock set if it broke, those of the job in place j free if it is
+// done.
 pub fn units_of(units: Units, c: ChannelNumber, a: u32, breaking: bool, j: u8, done: bool) -> Units
     ensures { λ r. ⌜ r ≡ unitsFrom (unitsAfter (units .of) (c .0) a breaking j done) ⌝ }
 {

@@ -15,7 +15,8 @@ use packets::Verdict;
 ghost use mathlib.Core.Path.{_≡_};
 ghost use mathlib.Core.Bool.{not, _&&_};
 ghost use lib.Dec.{ltb};
-ghost use Rattle.numbers.specs.declared.Refusal.the-variants.{OutOfRange, NoJob, ChannelBusy, NothingStartable, NothingInProgress, WrongCompletion, NothingSelected};
+ghost use Rattle.numbers.specs.declared.Refusal.the-variants.{OutOfRange, NoJob, ChannelBusy};
+ghost use Rattle.numbers.specs.declared.Refusal.the-variants.{NothingStartable, NothingInProgress, WrongCompletion, NothingSelected};
 ghost use Rattle.packets.specs.declared.Verdict.the-variants.{Granted};
 ghost use Rattle.packets.specs.declared.Spot.the-variants.{OnUnit};
 ghost use Rattle.packets.specs.State.{configured, isIdle, isRunning, isEmpty};
@@ -47,7 +48,8 @@ fn is_nowhere(found: Found) -> bool
 }
 
 pub fn of_start(channels: [Channel; 16], motion: Motion, found: Found, c: ChannelNumber) -> Verdict
-    ensures { λ r. ⌜ r ≡ first (not (configured channels (c .0))) OutOfRange (first (not (isIdle motion)) ChannelBusy (first (isNowhere found) NothingStartable Granted)) ⌝ }
+    ensures { λ r. ⌜ r ≡ first (not (configured channels (c .0))) OutOfRange
+        (first (not (isIdle motion)) ChannelBusy (first (isNowhere found) NothingStartable Granted)) ⌝ }
 {
     if !packets_channels::is_configured(channels, c) {
         return Verdict::Denied(Refusal::OutOfRange);
@@ -69,7 +71,8 @@ pub fn of_complete(
     how: How,
     c: ChannelNumber,
 ) -> Verdict
-    ensures { λ r. ⌜ r ≡ first (not (configured channels (c .0))) OutOfRange (first (isIdle (carrier .motion)) NothingInProgress (first (isWrong (packet .status) how) WrongCompletion Granted)) ⌝ }
+    ensures { λ r. ⌜ r ≡ first (not (configured channels (c .0))) OutOfRange
+        (first (isIdle (carrier .motion)) NothingInProgress (first (isWrong (packet .status) how) WrongCompletion Granted)) ⌝ }
 {
     let motion = carrier.motion;
     let status = packet.status;

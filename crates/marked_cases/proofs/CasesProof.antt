@@ -1,5 +1,5 @@
--- THE MARKED CASES HOLD, all of them, by computing: decks and cards from their bytes, calls by the computed cell, which is what the contracts allow.
--- Assumes nothing.
+-- THE MARKED CASES HOLD, all of them, by computing: decks and cards from their bytes, calls by the computed cell,
+-- which is what the contracts allow. Assumes nothing.
 use mathlib.Core.Path.{_≡_, refl, sym, ap, subst, _∙_}
 use mathlib.Core.Bool.{true}
 use mathlib.Core.List.{List, [], _∷_}

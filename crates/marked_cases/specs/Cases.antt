@@ -1,4 +1,5 @@
--- THE MARKED CASES K1 TO K9 of document 01, one list, and what it is that each holds. A reader has to believe this page.
+-- THE MARKED CASES K1 TO K9 of document 01, one list, and what it is that each holds. A reader has to believe this
+-- page.
 use Prim.Native.Nat.{ℕ, _+_, _-_}
 use mathlib.Core.Path.{_≡_}
 use mathlib.Core.Bool.{cond, false}
@@ -36,7 +37,8 @@ use Rattle.cell_history.specs.History.{Call, Chosen, Deck, Does, End, Entered, 
 
 -- ---- what is seen of a reply
 
--- of a selection: the job's place, the starts of IB and DB, the first and last word of its drum area, the channels of MT's entries 1 and 2
+-- of a selection: the job's place, the starts of IB and DB, the first and last word of its drum area, the channels
+-- of MT's entries 1 and 2
 pub data Seen : Type 0 where
   Accepted : Seen
   Refused : Refusal → Seen

@@ -1,5 +1,5 @@
--- What the definitions of Kinds mean, proved: a kind's code is read as that kind and nothing else is, and kinds have rows of their own.
--- Assumes nothing.
+-- What the definitions of Kinds mean, proved: a kind's code is read as that kind and nothing else is, and kinds
+-- have rows of their own. Assumes nothing.
 use Prim.Native.Nat.{ℕ, zero, suc}
 use mathlib.Core.Path.{_≡_, refl, ap, _∙_}
 use mathlib.Core.Bool.{true}

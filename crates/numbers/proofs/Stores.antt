@@ -1,4 +1,5 @@
--- A list after one store, and a loop that stores one entry after the other: what is known of those so far stays known. Assumes nothing.
+-- A list after one store, and a loop that stores one entry after the other: what is known of those so far stays
+-- known. Assumes nothing.
 use Prim.Native.Nat.{ℕ, zero, suc, _+_, _≤_, _<_}
 use mathlib.Core.Path.{_≡_, refl, sym, subst, _∙_}
 use mathlib.Core.Bool.{cond}

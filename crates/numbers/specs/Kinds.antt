@@ -1,4 +1,5 @@
--- The kinds of channel: MA (UNISERVO IIA), MT (UNISERVO IIIA), PR (printer) and MD (drum), each with its code and its row in a table.
+-- The kinds of channel: MA (UNISERVO IIA), MT (UNISERVO IIIA), PR (printer) and MD (drum), each with its code and
+-- its row in a table.
 use Prim.Native.Nat.{ℕ, _<_}
 use mathlib.Core.Path.{_≡_}
 use mathlib.Core.Bool.{Bool, true, false, cond}

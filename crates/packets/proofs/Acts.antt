@@ -1,5 +1,5 @@
--- Every accepted call either acts on the holding, and then its lone unit makes the same step and the same start, or the lone unit stands still.
--- Assumes nothing.
+-- Every accepted call either acts on the holding, and then its lone unit makes the same step and the same start, or
+-- the lone unit stands still. Assumes nothing.
 use Prim.Native.Nat.{ℕ}
 use mathlib.Core.Path.{_≡_, refl, sym, ap, subst, _∙_}
 use mathlib.Core.Bool.{Bool, true, false, cond, _&&_}
@@ -44,8 +44,8 @@ actsNow h s (Complete c how) = answersThere h s c (answer s (Complete c how))
 actsNow h s (End j e) = eqb j (h .place)
 actsNow h s (Mark c u m on) = false
 
--- the call acts on the holding, and the lone unit takes it and makes the same step and the same start; or it doesn't, and
--- the lone unit stands still
+-- the call acts on the holding, and the lone unit takes it and makes the same step and the same start; or it
+-- doesn't, and the lone unit stands still
 pub record Acted (h : Holding) (s : State) (l : Lone) (x : Call) : Type 0 where
   pub taken : loneTakes l x ≡ true
   pub sim : Sim h (accept s x) (loneStep (h .drum) l x)

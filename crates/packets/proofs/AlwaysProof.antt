@@ -1,5 +1,5 @@
--- The page Always holds: from the invariant, from soundness and from what closing jobs have, of every cell that calls lead
--- to. Assumes nothing.
+-- The page Always holds: from the invariant, from soundness and from what closing jobs have, of every cell that
+-- calls lead to. Assumes nothing.
 use Prim.Native.Nat.{ℕ, _<_}
 use mathlib.Core.Path.{_≡_, refl, sym, subst}
 use mathlib.Core.Bool.{true, false}

@@ -1,4 +1,5 @@
--- Drum and core stay disjoint: only a taking changes what a place holds, and no other call makes a place live. Assumes nothing.
+-- Drum and core stay disjoint: only a taking changes what a place holds, and no other call makes a place live.
+-- Assumes nothing.
 use Prim.Native.Nat.{ℕ, _<_}
 use mathlib.Core.Path.{_≡_, refl, sym, ap, _∙_}
 use mathlib.Core.Bool.{Bool, true, false, not, cond, _&&_}

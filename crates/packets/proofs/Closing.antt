@@ -1,5 +1,5 @@
--- A closing job has a packet stopping, and what of it still moves is stopping: an end makes it so, nothing of a closing job
--- starts, and at its last completion it is no longer closing. Assumes nothing.
+-- A closing job has a packet stopping, and what of it still moves is stopping: an end makes it so, nothing of a
+-- closing job starts, and at its last completion it is no longer closing. Assumes nothing.
 use Prim.Native.Nat.{ℕ, zero, suc, _<_}
 use mathlib.Core.Path.{_≡_, refl, sym, ap, _∙_}
 use mathlib.Core.Bool.{Bool, true, false, not, cond, _&&_}

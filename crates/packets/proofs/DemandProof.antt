@@ -1,4 +1,5 @@
--- Demand 3 holds: the holding and its lone unit begin alike at the taking, and stay alike through the stretch. Assumes nothing.
+-- Demand 3 holds: the holding and its lone unit begin alike at the taking, and stay alike through the stretch.
+-- Assumes nothing.
 use Prim.Native.Nat.{ℕ, _<_}
 use mathlib.Core.Path.{_≡_, refl, sym, ap, _∙_}
 use mathlib.Core.Bool.{Bool, true, false, not, cond, _&&_}

@@ -1,4 +1,5 @@
--- What holds in every cell that calls lead to: the invariant, and what becomes of the list when packets change. Assumes nothing.
+-- What holds in every cell that calls lead to: the invariant, and what becomes of the list when packets change.
+-- Assumes nothing.
 use Prim.Native.Nat.{ℕ}
 use mathlib.Core.Path.{_≡_, refl, sym, _∙_}
 use mathlib.Core.Bool.{Bool, true, false}

@@ -118,7 +118,8 @@ module _ {A : Type 0} where
   keep-append f [] m = refl
   keep-append f (x ∷ l) m = by-bool (f x) (λ e. rw (e, keep-append f l m)) (λ e. rw (e, keep-append f l m))
 
-  -- what a settled list looks like through a test f that the change to f′ leaves alone, and through the numbers of its elements
+  -- what a settled list looks like through a test f that the change to f′ leaves alone, and through the numbers of
+  -- its elements
   pub settle-eq : (f f′ g : A → Bool) (num : A → ℕ) (w : ℕ → Bool) (l : List A)
       → All (λ (x : A). (f′ x ≡ f x) × (f x ≡ true → g x ≡ w (num x))) l
       → keep w (map num (keep f l)) ≡ map num (keep f′ (keep g l))

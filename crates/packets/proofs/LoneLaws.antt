@@ -1,5 +1,5 @@
--- What the lone unit refuses, one law for each of document 01's sentences, and that a refused call leaves it as it was and
--- starts nothing. So a lone unit that took more would not be proved. Assumes nothing.
+-- What the lone unit refuses, one law for each of document 01's sentences, and that a refused call leaves it as it
+-- was and starts nothing. So a lone unit that took more would not be proved. Assumes nothing.
 use Prim.Native.Nat.{ℕ, _<_}
 use mathlib.Core.Path.{_≡_, refl, ap, _∙_}
 use mathlib.Core.Bool.{Bool, true, false, not, cond, _&&_}

@@ -1,4 +1,5 @@
--- What a mark call means for every unit of the cell: the one that is named is marked, and no other changes. Assumes nothing.
+-- What a mark call means for every unit of the cell: the one that is named is marked, and no other changes. Assumes
+-- nothing.
 use Prim.Native.Nat.{ℕ, _<_}
 use mathlib.Core.Path.{_≡_}
 use mathlib.Core.Bool.{Bool, cond, _&&_}

@@ -1,4 +1,5 @@
--- Where the packets of a job were last submitted, read from calls and answers alone, is what the cell holds. Assumes nothing.
+-- Where the packets of a job were last submitted, read from calls and answers alone, is what the cell holds.
+-- Assumes nothing.
 use Prim.Native.Nat.{ℕ, _<_}
 use mathlib.Core.Path.{_≡_, refl, sym, _∙_}
 use mathlib.Core.Bool.{Bool, true, false, not, _&&_}

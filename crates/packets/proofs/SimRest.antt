@@ -1,5 +1,5 @@
--- The stores of the rules that leave the packets alone (units, places, the request list, what moves) keep a cell and a lone
--- unit alike. Assumes nothing.
+-- The stores of the rules that leave the packets alone (units, places, the request list, what moves) keep a cell
+-- and a lone unit alike. Assumes nothing.
 use Prim.Native.Nat.{ℕ, _<_}
 use mathlib.Core.Path.{_≡_, refl, sym, ap, _∙_}
 use mathlib.Core.Bool.{Bool, true, false, not, cond}

@@ -88,7 +88,8 @@ module _ (h : Holding) (s : State) (I : Inv s) (H : Holds s h) (l : Lone) (S : S
     order-is : l .order ≡ packetOf e ∷ map num (first-is .0)
     order-is = S .order ∙ ap (λ (x : List ℕ). map num x) (first-is .1)
 
-    -- the lone unit takes it: its job runs, nothing is in progress or stopping, no interlock is set, and something is listed
+    -- the lone unit takes it: its job runs, nothing is in progress or stopping, no interlock is set, and something
+    -- is listed
     pub takes-start : loneTakes l (Start c) ≡ true
     unfolding loneTakes
     takes-start =

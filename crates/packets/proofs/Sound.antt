@@ -1,5 +1,5 @@
--- Every packet in progress or stopping moves on its channel, and every listed packet is in the list: each store of the rules keeps it, one
--- packet apart while a call is at work on it. Assumes nothing.
+-- Every packet in progress or stopping moves on its channel, and every listed packet is in the list: each store of
+-- the rules keeps it, one packet apart while a call is at work on it. Assumes nothing.
 use Prim.Native.Nat.{ℕ, _≤_, _<_}
 use mathlib.Core.Path.{_≡_, refl, _∙_, subst}
 use mathlib.Core.Bool.{Bool, true, false, cond, _||_}

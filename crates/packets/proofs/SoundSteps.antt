@@ -1,4 +1,5 @@
--- Every call keeps each moving packet on its channel and each listed packet in the list, and the fresh cell has neither. Assumes nothing.
+-- Every call keeps each moving packet on its channel and each listed packet in the list, and the fresh cell has
+-- neither. Assumes nothing.
 use Prim.Native.Nat.{ℕ, zero, suc, _≤_, _<_}
 use mathlib.Core.Path.{_≡_, refl, sym, ap, _∙_}
 use mathlib.Core.Bool.{true, false, not, _&&_}

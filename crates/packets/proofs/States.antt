@@ -1,5 +1,5 @@
--- What the calls do to the state of each place: a submission, a start and a completed packet nothing, a job's end lets it
--- close, a return empties the place. Assumes nothing.
+-- What the calls do to the state of each place: a submission, a start and a completed packet nothing, a job's end
+-- lets it close, a return empties the place. Assumes nothing.
 use Prim.Native.Nat.{ℕ, _<_}
 use mathlib.Core.Path.{_≡_, ap, _∙_}
 use mathlib.Core.Bool.{Bool, true, cond, not, _&&_}

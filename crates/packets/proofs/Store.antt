@@ -1,4 +1,5 @@
--- What the stores of Rules leave: each packet, job state and unit after put, restatusAll, setState, unitSet, releaseAll, takeAll.
+-- What the stores of Rules leave: each packet, job state and unit after put, restatusAll, setState, unitSet,
+-- releaseAll, takeAll.
 use Prim.Native.Nat.{ℕ, zero, suc, _+_, _<_}
 use mathlib.Core.Path.{_≡_, refl, sym, ap, _∙_, subst}
 use mathlib.Core.Bool.{Bool, true, false, cond, _&&_}

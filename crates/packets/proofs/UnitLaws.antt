@@ -1,5 +1,5 @@
--- What taking all units of an assignment and releasing all units of a job leave: 16 channels of 16 units, each taken or released. Assumes
--- nothing.
+-- What taking all units of an assignment and releasing all units of a job leave: 16 channels of 16 units, each
+-- taken or released. Assumes nothing.
 use Prim.Native.Nat.{ℕ, _+_, _<_}
 use mathlib.Core.Path.{_≡_, ap, _∙_}
 use mathlib.Core.Bool.{Bool, false}

@@ -8,7 +8,21 @@ use Rattle.units.specs.declared.Unit.{Unit as UnitState}
 use Rattle.units.specs.State.{unitIn}
 use Rattle.channels.specs.declared.Channel.{Channel}
 use Rattle.packets.specs.Demand.{NoneHeld, fresh}
-use Rattle.packets.specs.State.{inMotion, State, drumOn, entryOf, heldBy, isBusy, isClosing, isEmpty, isListed, isStill, motionOn, packetIn, stateIn}
+use Rattle.packets.specs.State.{
+  inMotion,
+  State,
+  drumOn,
+  entryOf,
+  heldBy,
+  isBusy,
+  isClosing,
+  isEmpty,
+  isListed,
+  isStill,
+  motionOn,
+  packetIn,
+  stateIn,
+}
 use Rattle.packets.specs.Picks.{All, Nodup, any}
 use Rattle.packets.specs.Rules.{Call, run}
 use Rattle.packets.specs.declared.Motion.the-variants.{Busy}
@@ -48,4 +62,5 @@ NoEarlyHandOver =
     (channels : List Channel) (units : List (List UnitState)) → NoneHeld units → (calls : List Call) (j p : ℕ)
     → inMotion (packetAt (run (fresh channels units) calls) j p .status) ≡ true
     → drumOn (run (fresh channels units) calls .channels) (packetAt (run (fresh channels units) calls) j p .channel .0) ≡ false
-    → heldBy (unitIn (run (fresh channels units) calls .units) (packetAt (run (fresh channels units) calls) j p .channel .0) (packetAt (run (fresh channels units) calls) j p .at) .holder) j ≡ true
+    → heldBy (unitIn (run (fresh channels units) calls .units) (packetAt (run (fresh channels units) calls) j p .channel .0)
+    (packetAt (run (fresh channels units) calls) j p .at) .holder) j ≡ true

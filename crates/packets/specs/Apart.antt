@@ -1,5 +1,5 @@
--- Areas of drum are disjoint, and so is core, if each job was taken with words and blocks that no other job held. A reader has to believe
--- this page.
+-- Areas of drum are disjoint, and so is core, if each job was taken with words and blocks that no other job held. A
+-- reader has to believe this page.
 use Prim.Native.Nat.{ℕ}
 use mathlib.Core.Path.{_≡_}
 use mathlib.Core.Bool.{Bool, true, false, _||_}

@@ -127,7 +127,8 @@ acts h t (Mark c u m on) r = false
 unfoldable pub acting : Holding → Seen → List Event → List Call
 acting h t [] = []
 acting h t (e ∷ l) =
-    cond (acts h t (e .call) (e .answer)) (e .call ∷ acting h (noted h t (e .call) (e .answer)) l) (acting h (noted h t (e .call) (e .answer)) l)
+    cond (acts h t (e .call) (e .answer)) (e .call ∷ acting h (noted h t (e .call) (e .answer)) l)
+    (acting h (noted h t (e .call) (e .answer)) l)
 
 abbrev pub startIn : Answer → List Begun
 startIn Done = []
@@ -140,7 +141,8 @@ startIn (Refused n) = []
 unfoldable pub startsIn : Holding → Seen → List Event → List Begun
 startsIn h t [] = []
 startsIn h t (e ∷ l) =
-    cond (acts h t (e .call) (e .answer)) (startIn (e .answer) ++ startsIn h (noted h t (e .call) (e .answer)) l) (startsIn h (noted h t (e .call) (e .answer)) l)
+    cond (acts h t (e .call) (e .answer)) (startIn (e .answer) ++ startsIn h (noted h t (e .call) (e .answer)) l)
+    (startsIn h (noted h t (e .call) (e .answer)) l)
 
 -- the packets that were last submitted there, after a stretch
 unfoldable pub seenAfter : Holding → Seen → List Event → Seen
@@ -154,8 +156,8 @@ abbrev pub Stretch : Holding → State → List Call → Type 0
 Stretch h s [] = Unit {0}
 Stretch h s (x ∷ l) = Holds s h × Stretch h (step s x .state) l
 
--- every start on the unit is of a packet that this job has submitted there since the taking; t: which packets those are
--- before the first call
+-- every start on the unit is of a packet that this job has submitted there since the taking; t: which packets those
+-- are before the first call
 abbrev pub OwnStarts : Holding → Seen → List Event → Type 0
 OwnStarts h t [] = Unit {0}
 OwnStarts h t (e ∷ l) =
@@ -168,8 +170,8 @@ abbrev pub OwnMotion : Holding → Seen → State → Type 0
 OwnMotion h t s =
     (j p : ℕ) → motionOn s (h .channel) ≡ Busy j p → packetIn (s .jobs) j p .at ≡ h .unit → (j ≡ h .place) × (t p ≡ true)
 
--- of a stretch, by its calls and the answers to them, and of the state at its end; every moment of a stretch is the end of
--- a shorter one
+-- of a stretch, by its calls and the answers to them, and of the state at its end; every moment of a stretch is the
+-- end of a shorter one
 pub record Isolated (h : Holding) (l : List Event) (end : State) : Type 0 where
   -- the lone unit takes every call that acted on the holding, each at the moment when it comes
   pub taken : loneTakesAll (h .drum) newLone (acting h noneSeen l) ≡ true
@@ -178,7 +180,8 @@ pub record Isolated (h : Holding) (l : List Event) (end : State) : Type 0 where
   -- it leaves the same status in every packet last submitted there
   pub status : (n : ℕ) → seenAfter h noneSeen l n ≡ true
       → loneRun (h .drum) newLone (acting h noneSeen l) .packets n .status ≡ packetIn (end .jobs) (h .place) n .status
-  -- on a unit that is not the drum nothing of another job starts or is still moving, nor of one that had the place before
+  -- on a unit that is not the drum nothing of another job starts or is still moving, nor of one that had the place
+  -- before
   pub started : h .drum ≡ false → OwnStarts h noneSeen l
   pub moves : h .drum ≡ false → OwnMotion h (seenAfter h noneSeen l) end
 

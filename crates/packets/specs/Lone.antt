@@ -1,6 +1,6 @@
--- A lone unit, or a lone piece of drum, that one job has to itself: what it refuses and what it does, written from document
--- 01 and not from the rules of the cell. It knows nothing of channels, places or other units. A reader has to believe this
--- page. It shares with the rules only the calls, the statuses and the shape of a start.
+-- A lone unit, or a lone piece of drum, that one job has to itself: what it refuses and what it does, written from
+-- document 01 and not from the rules of the cell. It knows nothing of channels, places or other units. A reader has
+-- to believe this page. It shares with the rules only the calls, the statuses and the shape of a start.
 use Prim.Native.Nat.{ℕ}
 use mathlib.Core.Bool.{Bool, true, false, not, cond, _&&_}
 use mathlib.Core.List.{List, [], _∷_, _++_}
@@ -88,7 +88,8 @@ abbrev pub closes : Lone → Lone
 closes l = record { packets = l .packets; order = l .order; moving = l .moving; interlock = l .interlock; jobOver = true }
 
 abbrev pub joins : Lone → ℕ → Lone
-joins l n = record { packets = l .packets; order = l .order ++ (n ∷ []); moving = l .moving; interlock = l .interlock; jobOver = l .jobOver }
+joins l n =
+    record { packets = l .packets; order = l .order ++ (n ∷ []); moving = l .moving; interlock = l .interlock; jobOver = l .jobOver }
 
 -- packet n is now this
 abbrev pub stores : Lone → ℕ → Request → Lone
@@ -117,7 +118,8 @@ meant false a b x = true
 
 -- what is listed, and meant, ends with 16o; what is in progress, and meant, is stopping
 abbrev pub halts : (ℕ → Bool) → Lone → Lone
-halts t l = settle l (λ m. cond (t (l .packets m .at)) (become (l .packets m) (stops (endsWith 0o16 (l .packets m .status)))) (l .packets m))
+halts t l =
+    settle l (λ m. cond (t (l .packets m .at)) (become (l .packets m) (stops (endsWith 0o16 (l .packets m .status)))) (l .packets m))
 
 -- the oldest listed packet is in progress
 abbrev pub setsOff : Lone → List ℕ → Lone
@@ -192,9 +194,9 @@ abbrev pub mayComplete : Lone → How → Option ℕ → Bool
 mayComplete l how none = false
 mayComplete l how (some n) = mayEnd (l .packets n .status) how
 
--- the calls that it takes: a submission of a packet that is not listed, in progress or stopping; a start while nothing is
--- in progress or stopping, without interlock, of something listed; a completion of what moves; the job's end, once; and
--- after that end nothing but completions
+-- the calls that it takes: a submission of a packet that is not listed, in progress or stopping; a start while
+-- nothing is in progress or stopping, without interlock, of something listed; a completion of what moves; the job's
+-- end, once; and after that end nothing but completions
 unfoldable pub loneTakes : Lone → Call → Bool
 loneTakes l (Take j asg) = false
 loneTakes l (Submit j n f c w) = not (l .jobOver) && not (inUse (l .packets n .status))

@@ -109,7 +109,8 @@ toOf (OnDrum x h) = h
 
 -- ---- submission
 
--- a unit, 0 to 15, that the channel has; on the drum channel any address (it is never out of range, only not the job's)
+-- a unit, 0 to 15, that the channel has; on the drum channel any address (it is never out of range, only not the
+-- job's)
 abbrev pub reaches : Fitted → Spot → Bool
 reaches Nothing w = false
 reaches (With kind n) (OnUnit u) = not (isDrum kind) && (ltb (u .0) 16 && ltb (u .0) n)
@@ -194,7 +195,8 @@ startable s c e = startableOn (drumOn (s .channels) c) (s .units) (s .jobs) c e
 -- the packet is in progress
 abbrev pub begun : State → ℕ → ℕ → State
 begun s c e =
-    move (store s (placeOf e) (packetOf e) (withStatus (packetIn (s .jobs) (placeOf e) (packetOf e)) InProgress)) c (Busy (placeOf e) (packetOf e))
+    move (store s (placeOf e) (packetOf e) (withStatus (packetIn (s .jobs) (placeOf e) (packetOf e)) InProgress)) c
+    (Busy (placeOf e) (packetOf e))
 
 -- start takes the oldest such packet
 abbrev pub started : State → ℕ → Option ℕ → State
@@ -217,7 +219,13 @@ isDone s j = isClosing (stateIn (s .jobs) j) && not (anyMoves j (s .moving))
 -- all facilities return together; the packets keep their statuses until the next job is taken there
 abbrev pub returned : State → ℕ → State
 returned s j =
-    record { channels = s .channels; queue = s .queue; moving = s .moving; units = releaseAll (s .units) j; jobs = setState (s .jobs) j Empty }
+    record {
+      channels = s .channels;
+      queue = s .queue;
+      moving = s .moving;
+      units = releaseAll (s .units) j;
+      jobs = setState (s .jobs) j Empty;
+    }
 
 abbrev pub returnIfDone : ℕ → State → State
 returnIfDone j s = cond (isDone s j) (returned s j) s

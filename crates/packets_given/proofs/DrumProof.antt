@@ -1,5 +1,6 @@
--- A packet that is listed, in progress or stopping on the drum is at an address of its job's area: its submission would have
--- been refused otherwise, and neither its address nor the area changes until it has ended. Assumes nothing.
+-- A packet that is listed, in progress or stopping on the drum is at an address of its job's area: its submission
+-- would have been refused otherwise, and neither its address nor the area changes until it has ended. Assumes
+-- nothing.
 use Prim.Native.Nat.{ℕ, _+_, _<_}
 use mathlib.Core.Path.{_≡_, refl, sym, ap, _∙_}
 use mathlib.Core.Bool.{Bool, true, false, cond, _&&_, _||_}

@@ -1,5 +1,6 @@
--- That a live job holds exactly what it was given is shown call by call: a taking gives place j what it wants and touches no unit of another
--- place, a return frees the units of place j alone, and every other call changes nothing that a job holds. Assumes nothing.
+-- That a live job holds exactly what it was given is shown call by call: a taking gives place j what it wants and
+-- touches no unit of another place, a return frees the units of place j alone, and every other call changes nothing
+-- that a job holds. Assumes nothing.
 use Prim.Native.Nat.{ℕ, _<_}
 use mathlib.Core.Path.{_≡_, refl, sym, ap, _∙_, subst}
 use mathlib.Core.Bool.{Bool, true, false, not, cond, _&&_}
@@ -109,7 +110,8 @@ free-unheld : (h : Holder) (i : ℕ) → isFree h ≡ true → heldBy h i ≡ fa
 free-unheld Free i e = refl
 free-unheld (Held k) i e = never {b = false} e refl
 
--- a unit that is not held by place j is held by it after the taking exactly when it is wanted, if all that is wanted is assignable
+-- a unit that is not held by place j is held by it after the taking exactly when it is wanted, if all that is
+-- wanted is assignable
 taken-own : (j : ℕ) (w : Bool) (v : UnitState) → (w ≡ true → assignable v ≡ true) → heldBy (v .holder) j ≡ false → heldBy (takeUnit j w v .holder) j ≡ w
 taken-own j true v f n = rw (f refl) (eqb-self j)
 taken-own j false v f n = n

@@ -1,5 +1,5 @@
--- Only a taking and a return change which places are live, their drum areas and core, and who holds a unit: every other store leaves all that as
--- it is, and so do the calls, up to a return. Assumes nothing.
+-- Only a taking and a return change which places are live, their drum areas and core, and who holds a unit: every
+-- other store leaves all that as it is, and so do the calls, up to a return. Assumes nothing.
 use Prim.Native.Nat.{ℕ}
 use mathlib.Core.Path.{_≡_, refl, sym, ap, _∙_, subst}
 use mathlib.Core.Bool.{Bool, true, false, not, _&&_}

@@ -1,6 +1,6 @@
--- A live job holds exactly what it was given: its drum area, its core and its units are those of the last taking into its
--- place, until all facilities return together; an empty place holds no unit. What is listed or moves on the drum is at an
--- address of its job's area. A reader has to believe this page.
+-- A live job holds exactly what it was given: its drum area, its core and its units are those of the last taking
+-- into its place, until all facilities return together; an empty place holds no unit. What is listed or moves on
+-- the drum is at an address of its job's area. A reader has to believe this page.
 use Prim.Native.Nat.{ℕ, _<_}
 use mathlib.Core.Path.{_≡_}
 use mathlib.Core.Bool.{true, false, cond, _&&_}
@@ -43,7 +43,8 @@ taking l j = takenIn j none l
 -- each unit that an accepted taking wants is assignable: free and unmarked
 abbrev pub Wants : State → Call → Type 0
 Wants s (Take j asg) =
-    isAccepted (step s (Take j asg) .answer) ≡ true → (c u : ℕ) → c < 16 → u < 16 → wanted asg c u ≡ true → assignable (unitIn (s .units) c u) ≡ true
+    isAccepted (step s (Take j asg) .answer) ≡ true → (c u : ℕ) → c < 16 → u < 16 → wanted asg c u ≡ true
+    → assignable (unitIn (s .units) c u) ≡ true
 Wants s (Submit j p f c w) = Unit {0}
 Wants s (Start c) = Unit {0}
 Wants s (Complete c how) = Unit {0}
@@ -57,15 +58,16 @@ Wanting s (x ∷ l) = Wants s x × Wanting (step s x .state) l
 
 -- ---- what a place holds
 
--- the job in place j holds what the assignment gives: that drum area, that core, and a unit exactly when the assignment has it
+-- the job in place j holds what the assignment gives: that drum area, that core, and a unit exactly when the
+-- assignment has it
 pub record HoldsExactly (s : State) (j : ℕ) (asg : Assignment) : Type 0 where
   pub from : jobIn (s .jobs) j .from ≡ asg .from
   pub words : jobIn (s .jobs) j .words ≡ asg .words
   pub core : jobIn (s .jobs) j .core ≡ asg .core
   pub units : (c u : ℕ) → c < 16 → u < 16 → heldBy (unitIn (s .units) c u .holder) j ≡ wanted asg c u
 
--- all that the assignment gave is still the job's own: the job is there, it holds exactly that, and no other job holds a
--- word of its drum area or a block of its core
+-- all that the assignment gave is still the job's own: the job is there, it holds exactly that, and no other job
+-- holds a word of its drum area or a block of its core
 pub record StillOwn (s : State) (j : ℕ) (asg : Assignment) : Type 0 where
   pub there : isEmpty (stateIn (s .jobs) j) ≡ false
   pub holds : HoldsExactly s j asg
@@ -101,4 +103,5 @@ AtItsArea s =
 
 abbrev pub OnItsOwnWords : Type 0
 OnItsOwnWords =
-    (channels : List Channel) (units : List (List UnitState)) → NoneHeld units → (calls : List Call) → AtItsArea (run (fresh channels units) calls)
+    (channels : List Channel) (units : List (List UnitState)) → NoneHeld units → (calls : List Call)
+    → AtItsArea (run (fresh channels units) calls)

@@ -1,4 +1,5 @@
--- A packet that was never submitted stays so, whatever the statuses of a job's packets are changed for. Assumes nothing.
+-- A packet that was never submitted stays so, whatever the statuses of a job's packets are changed for. Assumes
+-- nothing.
 use mathlib.Core.Path.{_≡_, refl}
 use Rattle.numbers.proofs.Tests.{by-bool}
 use Rattle.packets.specs.State.{blank, restatus}

@@ -1,4 +1,5 @@
--- The list as an array with 0 past its packets: reading it back, keeping what is still listed, and one packet more. Assumes nothing.
+-- The list as an array with 0 past its packets: reading it back, keeping what is still listed, and one packet more.
+-- Assumes nothing.
 use Prim.Native.Nat.{ℕ, suc, _+_, _-_, _≤_, _<_}
 use mathlib.Core.Path.{_≡_, sym, ap, _∙_, subst}
 use mathlib.Core.Bool.{Bool, true, false, cond}
@@ -41,7 +42,8 @@ keep-step : (f : ℕ → Bool) (l : List ℕ) (i : ℕ) → i < length l
     → keep f (take (i + 1) l) ≡ keep f (take i l) ++ cond (f (getD l i 0)) (getD l i 0 ∷ []) []
 keep-step f l i h = rw (add-one i, take-suc l i 0 h, keep-append f (take i l) (getD l i 0 ∷ []))
 
--- what the loop of `relisted` keeps: of the first i entries, those that pass the test are the first n of out, and zeros follow
+-- what the loop of `relisted` keeps: of the first i entries, those that pass the test are the first n of out, and
+-- zeros follow
 pub record Relisting (f : ℕ → Bool) (old out : List ℕ) (n i : ℕ) : Type 0 where
   pub size : n ≡ length (keep f (take i old))
   pub few : n ≤ i

@@ -1,5 +1,5 @@
--- What the functions that keep the list say to each other, and the oldest packet of it that can start. Nothing here has
--- to be believed: Padded, and Rules of packets, say what comes out.
+-- What the functions that keep the list say to each other, and the oldest packet of it that can start. Nothing here
+-- has to be believed: Padded, and Rules of packets, say what comes out.
 use Prim.Native.Nat.{ℕ, _≤_, _<_}
 use mathlib.Core.Path.{_≡_}
 use mathlib.Core.Bool.{Bool, false, not, _&&_, _||_}

@@ -105,7 +105,8 @@ fn is_busy(status: Status) -> bool
 
 // The lowest number answers.
 fn lowest(in_range: bool, running: bool, own: bool, legal: bool, busy: bool) -> Verdict
-    ensures { λ r. ⌜ r ≡ first (not in_range) OutOfRange (first (not running) NoJob (first (not own) NotTheJobs (first (not legal) NotLegal (first busy PacketInUse Granted)))) ⌝ }
+    ensures { λ r. ⌜ r ≡ first (not in_range) OutOfRange (first (not running) NoJob (first (not own) NotTheJobs
+        (first (not legal) NotLegal (first busy PacketInUse Granted)))) ⌝ }
 {
     if !in_range {
         return Verdict::Denied(Refusal::OutOfRange);

@@ -1,5 +1,5 @@
--- A unit in other hands, and the units that an assignment wants. Nothing here has to be believed: State of packets says
--- what comes out.
+-- A unit in other hands, and the units that an assignment wants. Nothing here has to be believed: State of packets
+-- says what comes out.
 use Prim.Native.Nat.{ℕ, _+_, _*_}
 use mathlib.Core.Bool.{Bool, false}
 use mathlib.Core.List.{List}

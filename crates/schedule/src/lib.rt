@@ -1,4 +1,5 @@
-// What the calls make of the schedule: a request enters, is released or deleted; its job is taken, closes, has returned.
+// What the calls make of the schedule: a request enters, is released or deleted; its job is taken, closes, has
+// returned.
 use cards::CardError;
 use cards::Request;
 use cards::Verdict;

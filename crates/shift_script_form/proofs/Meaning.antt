@@ -1,5 +1,6 @@
--- What reading a line means. Every call that a line can say is read back from the line that is written for it; a line that is read as a call has exactly the
--- words of one row of the table, with single spaces between them; and an ID is that of one word alone. Assumes nothing.
+-- What reading a line means. Every call that a line can say is read back from the line that is written for it; a
+-- line that is read as a call has exactly the words of one row of the table, with single spaces between them; and
+-- an ID is that of one word alone. Assumes nothing.
 use Prim.Native.Nat.{ℕ, zero, suc, _+_, _^_, _≤_, _<_}
 use mathlib.Core.Path.{_≡_, refl, sym, ap, _∙_}
 use mathlib.Core.Bool.{true, false}
@@ -125,7 +126,8 @@ read-back (Status place packet) id h =
     let b = byte (h .2) in
     rw (h .0) (said-by 83 (bytes "TATUS") (decimal place ∷ decimal packet ∷ []) (said (Status place packet)) refl refl (a .plain, (b .plain, tt)) (omega (arith, a .short, b .short)) (status-row a (h .1) b (h .2)))
 
--- a line that is read as a call: at most 255 bytes, no echo, the words of one row of the table with single spaces between them, and what that row says
+-- a line that is read as a call: at most 255 bytes, no echo, the words of one row of the table with single spaces
+-- between them, and what that row says
 pub record Called (s : List ℕ) : Type 0 where
   pub few : length s ≤ 255
   pub loud : isEcho s ≡ false

@@ -13,7 +13,8 @@ use numbers::LogicalChannel;
 use numbers::UnitNumber;
 ghost use mathlib.Core.Path.{_≡_};
 ghost use Rattle.text.specs.Room.{Written};
-ghost use Rattle.shift_selected.specs.Selected.{runText, isOfKind, isTo, givenText, unitsText, entryText, asked, askedText, kindText, areasText, kindsText, selectedText};
+ghost use Rattle.shift_selected.specs.Selected.{runText, isOfKind, isTo, givenText, unitsText, entryText};
+ghost use Rattle.shift_selected.specs.Selected.{asked, askedText, kindText, areasText, kindsText, selectedText};
 
 // Puts a run of blocks or words behind its code, nothing where none is asked for.
 fn put_run(out: &mut [u8], at: usize, code: &[u8], first: u32, count: u32) -> usize

@@ -1,5 +1,5 @@
--- The laws of writing into lent room: pieces join, a loop's pieces join, and what fits stands there byte for byte with the rest of the room kept.
--- Assumes nothing.
+-- The laws of writing into lent room: pieces join, a loop's pieces join, and what fits stands there byte for byte
+-- with the rest of the room kept. Assumes nothing.
 use Prim.Native.Nat.{ℕ, suc, _+_, _-_, _≤_}
 use mathlib.Core.Path.{_≡_, refl, sym, ap, _∙_}
 use mathlib.Core.List.{List, [], _∷_, _++_}
@@ -69,6 +69,7 @@ same-room {s} {t} {p} {a} w = ap length (w .bytes) ∙ length-sets s a p
 pub fitted : {s t p : List ℕ} {a b : ℕ} → Written s a p t b → a + length p ≤ length s → (b ≡ a + length p) × (t ≡ take a s ++ p ++ drop (a + length p) s)
 fitted {s} {t} {p} {a} {b} w h = (omega (arith, w .place), w .bytes ∙ sets-eq p s a h)
 
--- a text put from the room's start on is the room's first bytes: those up to the next place, all of them within the room
+-- a text put from the room's start on is the room's first bytes: those up to the next place, all of them within the
+-- room
 pub written-length : {s t p : List ℕ} {b : ℕ} → Written s 0 p t b → b ≡ length (take b t)
 written-length {s} {t} {p} {b} w = let h : b ≤ length t = omega (arith, same-room w, w .place) in sym (length-take-le b t h)

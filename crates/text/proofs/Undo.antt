@@ -1,5 +1,5 @@
--- Reading undoes writing: a number that was written, with no digit after it, is read as itself, and so is a two-digit number.
--- Assumes nothing.
+-- Reading undoes writing: a number that was written, with no digit after it, is read as itself, and so is a
+-- two-digit number. Assumes nothing.
 use Prim.Native.Nat.{ℕ, zero, suc, _+_, _-_, _*_, _/_, _%_, _^_, _≤_, _<_}
 use mathlib.Core.Path.{_≡_, refl, ap, _∙_}
 use mathlib.Core.Bool.{false}

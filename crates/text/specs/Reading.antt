@@ -19,7 +19,9 @@ digitsFrom more value length [] = Is value length
 digitsFrom more value length (b ∷ bs) =
     cond (isDigit b) (cond (ltb 0 more) (digitsFrom (more - 1) (value * 10 + (b - byte "0")) (length + 1) bs) Wrong) (Is value length)
 
--- a decimal number without leading zero, of at most seven digits: 0 alone, or the leading digits, the first of them not 0
+-- a decimal number without leading zero, of at most seven digits: 0 alone, or the leading digits, the first of them
+-- not 0
 unfoldable pub decimalOf : List ℕ → Number
 decimalOf s =
-    cond (isDigit (getD s 0 0)) (cond (eqb (getD s 0 0) (byte "0")) (cond (isDigit (getD s 1 0)) Wrong (Is 0 1)) (digitsFrom 7 0 0 s)) Wrong
+    cond (isDigit (getD s 0 0))
+    (cond (eqb (getD s 0 0) (byte "0")) (cond (isDigit (getD s 1 0)) Wrong (Is 0 1)) (digitsFrom 7 0 0 s)) Wrong

@@ -1,4 +1,5 @@
--- What changing one unit means, proved: that unit is the new one, every other stays, and a state is known by its units. Assumes nothing.
+-- What changing one unit means, proved: that unit is the new one, every other stays, and a state is known by its
+-- units. Assumes nothing.
 use Prim.Native.Nat.{ℕ, _≤_, _<_}
 use mathlib.Core.Path.{_≡_, refl, sym, ap, subst, _∙_}
 use mathlib.Core.Bool.{false, cond, _&&_}

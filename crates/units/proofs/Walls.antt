@@ -1,6 +1,7 @@
--- The field `of` of Units, an array of arrays of units, at the type that a parameter or a result `[[Unit; 16]; 16]` has.
--- In the struct it stands at the units' tuples, `map (map to)` of the author's lists (`denote.Struct.Field`'s `array-field`); as a parameter it stands at the lists themselves. `in-field` and `of-field` carry the relation over.
--- Assumes nothing.
+-- The field `of` of Units, an array of arrays of units, at the type that a parameter or a result `[[Unit; 16]; 16]`
+-- has. In the struct it stands at the units' tuples, `map (map to)` of the author's lists (`denote.Struct.Field`'s
+-- `array-field`); as a parameter it stands at the lists themselves. `in-field` and `of-field` carry the relation
+-- over. Assumes nothing.
 use mathlib.Core.Path.{_≡_, sym, _∙_}
 use Prim.Native.Nat.{ℕ, zero, suc, _<_}
 use native.Mathlib.Omega.{arith}

@@ -1,5 +1,5 @@
--- The lines of a text: without an LF it has none; with one it is its first line, the LF and what follows, whose lines are the others.
--- Assumes nothing.
+-- The lines of a text: without an LF it has none; with one it is its first line, the LF and what follows, whose
+-- lines are the others. Assumes nothing.
 use Prim.Native.Nat.{ℕ, suc, _≤_, _<_}
 use mathlib.Core.Path.{_≡_, refl, ap}
 use mathlib.Core.Bool.{Bool, true, false, cond, not}

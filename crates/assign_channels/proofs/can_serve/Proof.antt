@@ -1,4 +1,5 @@
--- `assign_channels::can_serve` meets its contract. The loop's invariant: the tests that are left give the whole answer. Assumes nothing.
+-- `assign_channels::can_serve` meets its contract. The loop's invariant: the tests that are left give the whole
+-- answer. Assumes nothing.
 use Prim.Native.Nat.{_≤_, _-_}
 use mathlib.Core.Path.{_≡_, sym, _∙_}
 use mathlib.Core.Logic.{⊎-elim}

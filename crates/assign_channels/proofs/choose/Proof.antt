@@ -1,4 +1,5 @@
--- `assign_channels::choose` meets its contract: it is the greedy choice. The loop's invariant is `Going`. Assumes nothing.
+-- `assign_channels::choose` meets its contract: it is the greedy choice. The loop's invariant is `Going`. Assumes
+-- nothing.
 use Prim.Native.Nat.{_-_}
 use mathlib.Core.Path.{sym, _∙_}
 use mathlib.Core.Logic.{⊎-elim}

@@ -1,4 +1,5 @@
--- `assign_channels::count_ge` meets its contract. The loop's invariant: what is counted, and what of the list is left, make the whole. Assumes nothing.
+-- `assign_channels::count_ge` meets its contract. The loop's invariant: what is counted, and what of the list is
+-- left, make the whole. Assumes nothing.
 use Prim.Native.Nat.{_+_, _≤_, _-_}
 use mathlib.Core.Path.{_≡_}
 use mathlib.Core.Logic.{⊎-elim}

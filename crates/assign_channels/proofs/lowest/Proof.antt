@@ -1,4 +1,5 @@
--- `assign_channels::lowest` meets its contract. The loop's invariant: the search that is left gives the whole answer. Assumes nothing.
+-- `assign_channels::lowest` meets its contract. The loop's invariant: the search that is left gives the whole
+-- answer. Assumes nothing.
 use Prim.Native.Nat.{_≤_, _-_}
 use mathlib.Core.Path.{_≡_, sym, _∙_}
 use mathlib.Core.Logic.{⊎-elim}

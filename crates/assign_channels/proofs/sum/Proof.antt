@@ -1,4 +1,5 @@
--- `assign_channels::sum` meets its contract. The loop's invariant: what is added, and what of the list is left, make the whole. Assumes nothing.
+-- `assign_channels::sum` meets its contract. The loop's invariant: what is added, and what of the list is left,
+-- make the whole. Assumes nothing.
 use Prim.Native.Nat.{_+_, _*_, _≤_, _-_}
 use mathlib.Core.Path.{_≡_}
 use native.Mathlib.Omega.{arith}

@@ -1,4 +1,5 @@
--- `assign_core::search` meets its contract. The loops' invariants: no pair before the one at hand fits. Assumes nothing.
+-- `assign_core::search` meets its contract. The loops' invariants: no pair before the one at hand fits. Assumes
+-- nothing.
 use Prim.Native.Nat.{ℕ, _≤_, _<_, _-_}
 use mathlib.Core.Path.{subst}
 use mathlib.Core.Logic.{⊎-elim}

@@ -1,5 +1,5 @@
--- `assign_drum::lowest_start` meets its contract. The loop's invariant: no lower start fits. It ends since an area that is in the way ends later.
--- Assumes nothing.
+-- `assign_drum::lowest_start` meets its contract. The loop's invariant: no lower start fits. It ends since an area
+-- that is in the way ends later. Assumes nothing.
 use mathlib.Core.Path.{subst}
 use Rattle.numbers.proofs.Order.{le-or-lt}
 use Rattle.assign_drum.specs.Blocks.{Seen, InTheWay}

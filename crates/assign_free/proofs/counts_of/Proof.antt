@@ -1,4 +1,5 @@
--- `assign_free::counts_of` meets its contract. The loop's invariant: the channels passed have their numbers. Assumes nothing.
+-- `assign_free::counts_of` meets its contract. The loop's invariant: the channels passed have their numbers.
+-- Assumes nothing.
 use Prim.Native.Nat.{ℕ, _≤_, _<_, _-_}
 use mathlib.Core.Path.{_≡_, refl, _∙_}
 use native.Mathlib.Omega.{arith}

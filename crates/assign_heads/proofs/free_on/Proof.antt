@@ -1,4 +1,5 @@
--- `assign_heads::free_on` meets its contract. The loop's invariant: n is how many of the units passed are assignable. Assumes nothing.
+-- `assign_heads::free_on` meets its contract. The loop's invariant: n is how many of the units passed are
+-- assignable. Assumes nothing.
 use Prim.Native.Nat.{ℕ, _+_, _*_, _≤_, _-_}
 use mathlib.Core.Path.{_≡_, sym, ap, _∙_}
 use mathlib.Core.Bool.{true, false}

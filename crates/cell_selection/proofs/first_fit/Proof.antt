@@ -1,4 +1,5 @@
--- `cell_selection::first_fit` meets its contract: the loop keeps that the candidates so far have no assignment. Assumes nothing.
+-- `cell_selection::first_fit` meets its contract: the loop keeps that the candidates so far have no assignment.
+-- Assumes nothing.
 use Prim.Native.Nat.{_-_}
 use mathlib.Core.Path.{refl, sym, _∙_}
 use mathlib.Core.Logic.{⊎-elim}

@@ -1,4 +1,5 @@
--- `cell_taken::is_taken` meets its contract. The loop's invariant stands first; the lemmas of its turns are in this folder's other files. Assumes nothing.
+-- `cell_taken::is_taken` meets its contract. The loop's invariant stands first; the lemmas of its turns are in this
+-- folder's other files. Assumes nothing.
 use Prim.Native.Nat.{_-_, _≤_}
 use mathlib.Core.Path.{_≡_, refl, sym, _∙_}
 use native.Mathlib.Omega.{arith}

@@ -1,4 +1,5 @@
--- `cell_taken::lowest_free` meets its contract. The loop's invariant stands first; the lemmas of its turns are in this folder's other files. Assumes nothing.
+-- `cell_taken::lowest_free` meets its contract. The loop's invariant stands first; the lemmas of its turns are in
+-- this folder's other files. Assumes nothing.
 use Rattle.packets.specs.State.{stateIn}
 use Rattle.cell_taken.proofs.Loops.{pass-turn, Passed}
 use Prim.Native.Nat.{_-_}

@@ -1,4 +1,5 @@
--- `cell_taken::word_of` meets its contract. The loop's invariant stands first; the lemmas of its turns are in this folder's other files. Assumes nothing.
+-- `cell_taken::word_of` meets its contract. The loop's invariant stands first; the lemmas of its turns are in this
+-- folder's other files. Assumes nothing.
 use mathlib.Core.Path.{refl, sym, _∙_}
 use native.Mathlib.Omega.{arith}
 use Rattle.cell_taken.specs.Taken.{wordFrom, anyHas}

@@ -1,4 +1,5 @@
--- `channels::channel_of` meets its contract: past the table the definition answers that there is nothing too. Assumes nothing.
+-- `channels::channel_of` meets its contract: past the table the definition answers that there is nothing too.
+-- Assumes nothing.
 use mathlib.Core.Path.{sym, _∙_}
 use lib.ListN.{List·getD-eq-default}
 use native.Mathlib.Omega.{arith}

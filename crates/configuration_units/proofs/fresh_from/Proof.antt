@@ -1,4 +1,5 @@
--- `configuration_units::fresh_from` meets its contract. The loop's invariant is `Filled` of proofs/Filling.antt. Assumes nothing.
+-- `configuration_units::fresh_from` meets its contract. The loop's invariant is `Filled` of proofs/Filling.antt.
+-- Assumes nothing.
 use Prim.Native.Nat.{_-_}
 use Rattle.configuration_units.proofs.Filling.{Filled, fill-start, fill-turn, fill-end}
 use borrow.Author.Needs.{needs}

@@ -1,4 +1,5 @@
--- `functions::legal` meets its contract: the table's rule at the entry that is read, and nothing is legal past the table. Assumes nothing.
+-- `functions::legal` meets its contract: the table's rule at the entry that is read, and nothing is legal past the
+-- table. Assumes nothing.
 use mathlib.Core.Path.{_∙_, ap, sym}
 use mathlib.Core.Bool.{false}
 use Prim.Native.Nat.{ℕ, _+_, _*_}

@@ -1,4 +1,5 @@
--- `packets_channels::any_moves` meets its contract. The invariant: no packet of the job moves on the channels passed. Assumes nothing.
+-- `packets_channels::any_moves` meets its contract. The invariant: no packet of the job moves on the channels
+-- passed. Assumes nothing.
 use Prim.Native.Nat.{_≤_, _-_}
 use mathlib.Core.Path.{_≡_, refl, sym, _∙_}
 use mathlib.Core.Bool.{false}

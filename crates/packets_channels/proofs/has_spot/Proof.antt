@@ -1,4 +1,5 @@
--- `packets_channels::has_spot` meets its contract, by what the channel has and where the submission goes. Assumes nothing.
+-- `packets_channels::has_spot` meets its contract, by what the channel has and where the submission goes. Assumes
+-- nothing.
 use mathlib.Core.Path.{sym, _∙_}
 use native.Mathlib.Omega.{arith}
 use borrow.Author.Tests.{lt-ltb, le-ltb}

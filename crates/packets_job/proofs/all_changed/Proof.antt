@@ -1,4 +1,5 @@
--- `packets_job::all_changed` meets its contract. The invariant: the packets passed are changed, the others as they were. Assumes nothing.
+-- `packets_job::all_changed` meets its contract. The invariant: the packets passed are changed, the others as they
+-- were. Assumes nothing.
 use Prim.Native.Nat.{_-_}
 use mathlib.Core.Path.{refl, ap, _∙_}
 use native.Mathlib.Omega.{arith}

@@ -1,4 +1,5 @@
--- `packets_units::released` meets its contract. The invariant: the units passed are changed, the others as they were. Assumes nothing.
+-- `packets_units::released` meets its contract. The invariant: the units passed are changed, the others as they
+-- were. Assumes nothing.
 use Prim.Native.Nat.{ℕ, _≤_, _-_, _+_, _/_, _%_}
 use mathlib.Core.Path.{sym, ap, subst, _∙_}
 use mathlib.Core.Logic.{⊎-elim}

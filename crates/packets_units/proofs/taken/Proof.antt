@@ -1,4 +1,5 @@
--- `packets_units::taken` meets its contract. The invariant: the units passed are changed, the others as they were. Assumes nothing.
+-- `packets_units::taken` meets its contract. The invariant: the units passed are changed, the others as they were.
+-- Assumes nothing.
 use mathlib.Core.Bool.{Bool, _&&_}
 use Prim.Native.Nat.{ℕ, _≤_, _-_, _+_, _/_, _%_}
 use mathlib.Core.Path.{_≡_, sym, ap, subst, _∙_}

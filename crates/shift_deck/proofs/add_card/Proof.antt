@@ -1,4 +1,5 @@
--- `shift_deck::add_card` meets its contract: too long, or the card and its LF put one after the other. Assumes nothing.
+-- `shift_deck::add_card` meets its contract: too long, or the card and its LF put one after the other. Assumes
+-- nothing.
 use native.Mathlib.Omega.{arith}
 use Rattle.text.proofs.RoomLaws.{andThen}
 use Rattle.shift_deck.proofs.GatheringLaws.{too-long, added}

@@ -1,4 +1,5 @@
--- `text::put_decimal` meets its contract. The digits of n / 10, and then the last one; the measure is n. Assumes nothing.
+-- `text::put_decimal` meets its contract. The digits of n / 10, and then the last one; the measure is n. Assumes
+-- nothing.
 use Rattle.text.proofs.RoomLaws.{andThen}
 use Rattle.text.proofs.Tens.{one-digit, more-digits}
 use borrow.Author.Needs.{needs}

@@ -1,4 +1,5 @@
--- `text::digits` meets its contract. The loop's invariant is `Passed` of proofs/Scan.antt: what is read of the rest is what is read of the whole. Assumes nothing.
+-- `text::digits` meets its contract. The loop's invariant is `Passed` of proofs/Scan.antt: what is read of the rest
+-- is what is read of the whole. Assumes nothing.
 use lib.ListN.{getD, length}
 use mathlib.Core.Path.{sym, _∙_}
 use borrow.Author.Tests.{not-true, not-false}

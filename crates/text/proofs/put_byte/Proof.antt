@@ -1,4 +1,5 @@
--- `text::put_byte` meets its contract: stored where the room has the place, and nothing else past its end. Assumes nothing.
+-- `text::put_byte` meets its contract: stored where the room has the place, and nothing else past its end. Assumes
+-- nothing.
 use mathlib.Core.Path.{sym}
 use lib.Seq.{set-out}
 use native.Mathlib.Omega.{arith}

@@ -1,4 +1,5 @@
--- `text::put_bytes` meets its contract. The loop's invariant is `Going`: whoever writes the rest has written the whole. Assumes nothing.
+-- `text::put_bytes` meets its contract. The loop's invariant is `Going`: whoever writes the rest has written the
+-- whole. Assumes nothing.
 use Prim.Native.Nat.{_-_, _≤_}
 use native.Mathlib.Omega.{arith}
 use native.Mathlib.Numerals.{add-one}

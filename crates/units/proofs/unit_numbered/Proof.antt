@@ -1,4 +1,5 @@
--- `units::unit_numbered` meets its contract: the state's own entry, or what stands for a unit where the cell has none. Assumes nothing.
+-- `units::unit_numbered` meets its contract: the state's own entry, or what stands for a unit where the cell has
+-- none. Assumes nothing.
 use mathlib.Core.Path.{sym, refl, _∙_}
 use native.Mathlib.Omega.{arith}
 use Rattle.units.specs.State.{unitIn}

@@ -1,4 +1,5 @@
--- `units::with_unit` meets its contract: the one store, and nothing changes where the cell has no such unit. Assumes nothing.
+-- `units::with_unit` meets its contract: the one store, and nothing changes where the cell has no such unit.
+-- Assumes nothing.
 use mathlib.Core.Path.{sym, ap}
 use native.Mathlib.Omega.{arith}
 use Rattle.units.specs.State.{unitsFrom, unitSet}

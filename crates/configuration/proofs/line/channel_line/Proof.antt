@@ -1,4 +1,5 @@
--- `configuration::line::channel_line` meets its contract. Each answer rewrites the definition by the tests that led there; the rest of the text is lent. Assumes nothing.
+-- `configuration::line::channel_line` meets its contract. Each answer rewrites the definition by the tests that led
+-- there; the rest of the text is lent. Assumes nothing.
 use lib.ListN.{drop, length-drop}
 use Rattle.numbers.specs.Kinds.{kindOf}
 use Rattle.configuration.specs.Lines.{channelLine, lastNumber, least, most}

@@ -1,4 +1,5 @@
--- `configuration::line::down_line` meets its contract. Each answer rewrites the definition by the tests that led there. Assumes nothing.
+-- `configuration::line::down_line` meets its contract. Each answer rewrites the definition by the tests that led
+-- there. Assumes nothing.
 use native.Mathlib.Omega.{arith}
 use borrow.Author.Tests.{le-leb, lt-leb, eq-eqb, ne-eqb}
 use Rattle.text.specs.Reading.{twoDigitsOf}
