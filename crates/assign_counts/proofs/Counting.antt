@@ -1,4 +1,5 @@
--- The loops of `assignable_on` and `count`: one more unit looked at, one more channel counted; and the counts are one list. Assumes nothing.
+-- The loops of `assignable_on` and `count`: one more unit looked at, one more channel counted; and the counts are one
+-- list. Assumes nothing.
 use Prim.Native.Nat.{ℕ, _+_, _*_, _≤_, _<_, _/_, _%_}
 use mathlib.Core.Path.{_≡_, refl, sym, ap, _∙_, subst}
 use mathlib.Core.Bool.{Bool, false, cond, _&&_}

@@ -1,4 +1,5 @@
--- THE THEOREM: by the counts of a cell, the first part that is lacking is the first that alone has no solution in the cell, and nothing is lacking
+-- THE THEOREM: by the counts of a cell, the first part that is lacking is the first that alone has no solution in the
+-- cell, and nothing is lacking
 -- exactly if there is an assignment. Assumes nothing.
 use Prim.Native.Nat.{ℕ, zero, suc, _<_}
 use mathlib.Core.Path.{_≡_, refl, subst}

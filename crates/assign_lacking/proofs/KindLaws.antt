@@ -1,4 +1,5 @@
--- A kind's entries can have channels, by the counts of a cell, exactly if they are served in it in some way. Assumes nothing.
+-- A kind's entries can have channels, by the counts of a cell, exactly if they are served in it in some way. Assumes
+-- nothing.
 use Prim.Native.Nat.{ℕ, _+_, _*_, _<_}
 use mathlib.Core.Path.{_≡_, refl, sym, ap, _∙_, subst}
 use mathlib.Core.Bool.{Bool, true}

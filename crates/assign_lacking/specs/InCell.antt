@@ -25,7 +25,8 @@ HasIn cell wanted Core = HasCore (cell .occupancy) wanted
 HasIn cell wanted Drum = HasDrum (cell .areas) (drumLength (cell .channels)) wanted
 HasIn cell wanted (Units kind) = HasKind cell wanted (rowOf kind)
 
--- What is told of a cell: a part is lacking exactly if it alone has no solution and the parts before it have one; nothing is exactly if there is an
+-- What is told of a cell: a part is lacking exactly if it alone has no solution and the parts before it have one;
+-- nothing is exactly if there is an
 -- assignment.
 pub record Tells (cell : Cell) (wanted : Facilities) (r : Lacking) : Type 0 where
   pub first : First (HasIn cell wanted) parts r

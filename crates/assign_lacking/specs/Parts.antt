@@ -1,4 +1,5 @@
--- The parts of an assignment, in the order core, drum, MA, MT, PR, and the first that is lacking, by what is counted and held.
+-- The parts of an assignment, in the order core, drum, MA, MT, PR, and the first that is lacking, by what is counted
+-- and held.
 use Prim.Native.Nat.{ℕ}
 use mathlib.Core.Path.{_≡_}
 use mathlib.Core.Bool.{Bool, true, false}
@@ -67,7 +68,8 @@ Has counts occupancy areas length wanted Core = HasCore occupancy wanted
 Has counts occupancy areas length wanted Drum = HasDrum areas length wanted
 Has counts occupancy areas length wanted (Units kind) = Servable (wantsOf counts (rowOf kind)) (wantsOf (wanted .units) (rowOf kind))
 
--- what is answered: the first part that is lacking; and that a request's table has a number for each logical channel of each kind
+-- what is answered: the first part that is lacking; and that a request's table has a number for each logical channel
+-- of each kind
 pub record Answers (counts : List ℕ) (occupancy : ℕ) (areas : List Area) (length : ℕ) (wanted : Facilities) (r : Lacking) : Type 0 where
   pub first : First (Has counts occupancy areas length wanted) parts r
   pub full : N.length (wanted .units) ≡ 48

@@ -1,4 +1,5 @@
-// Which part of what a job asks for is lacking first: told from the number of assignable units, the occupancy word and the drum areas alone, so
+// Which part of what a job asks for is lacking first: told from the number of assignable units, the occupancy word
+// and the drum areas alone, so
 // that no unit is looked at and nothing is assigned.
 use assign_core::Found;
 use assign_counts::Counts;
@@ -46,7 +47,8 @@ fn row_at(table: [u8; 48], row: usize) -> [u8; 16]
     part
 }
 
-// Whether the entries of a kind can be served: there are as many units as they ask for together, and each with logical channel 1 to 15 can have a
+// Whether the entries of a kind can be served: there are as many units as they ask for together, and each with
+// logical channel 1 to 15 can have a
 // channel of its own.
 fn is_servable(counts: [u8; 16], wants: [u8; 16]) -> bool
     ensures { λ r. ⌜ Decides (Servable counts wants) r ⌝ }

@@ -64,8 +64,8 @@ fn nothing() -> Assigned
     }
 }
 
-// The first candidate in order that has an assignment. The units are looked at once, and only the one found is assigned to: whether another has
-// an assignment is told from the counts.
+// The first candidate in order that has an assignment. The units are looked at once: whether a candidate has one is
+// told from the counts, and only the one found is assigned to.
 fn first_fit(
     schedule: Schedule,
     units: Units,

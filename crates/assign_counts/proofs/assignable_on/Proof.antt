@@ -1,4 +1,5 @@
--- `assign_counts::assignable_on` meets its contract. The loop keeps how many of the units passed are assignable. Assumes nothing.
+-- `assign_counts::assignable_on` meets its contract. The loop keeps how many of the units passed are assignable.
+-- Assumes nothing.
 use Prim.Native.Nat.{_-_, _≤_}
 use mathlib.Core.Path.{_≡_, sym, _∙_}
 use mathlib.Core.Logic.{⊎-elim}

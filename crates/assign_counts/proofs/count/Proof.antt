@@ -1,4 +1,5 @@
--- `assign_counts::count` meets its contract. The loop keeps `Counting`: the channels below c are counted, the others not yet. Assumes nothing.
+-- `assign_counts::count` meets its contract. The loop keeps `Counting`: the channels below c are counted, the others
+-- not yet. Assumes nothing.
 use Prim.Native.Nat.{ℕ, _-_}
 use mathlib.Core.Path.{subst}
 use mathlib.Core.Logic.{⊎-elim}
