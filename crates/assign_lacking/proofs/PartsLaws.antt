@@ -22,7 +22,7 @@ use Rattle.assign_channels.proofs.Loops.{too-many, not-served, found, lent}
 use Rattle.cards.specs.declared.Facilities.{Facilities}
 use Rattle.assign_lacking.specs.declared.Lacking.{Lacking}
 use Rattle.assign_lacking.specs.declared.Lacking.the-variants.{Nothing}
-use Rattle.assign_lacking.specs.Parts.{isNothing, First, HasCore, HasDrum, Servable}
+use Rattle.assign_lacking.specs.Parts.{isNothing, parts, First, HasCore, HasDrum, Servable, Has, Answers}
 
 -- ---- the core and the drum
 module _ (occupancy : ℕ) (wanted : Facilities) {r : Found} (a : C.Answers occupancy (wanted .ib) (wanted .db) r) where
@@ -73,3 +73,8 @@ all-there has p ps t a = ⊎-elim (λ x. never (ap isNothing (sym (x .1))) t) (�
 -- where a part is there it is not the one that is lacking
 pub not-this : (has : Lacking → Type 0) (p : Lacking) (ps : List Lacking) (r : Lacking) → has p → First has (p ∷ ps) r → First has ps r
 not-this has p ps r h a = ⊎-elim (λ x. absurd (x .0 h)) (λ x. x .1) a
+
+-- two answers are one
+pub answers-one : (counts : List ℕ) (occupancy : ℕ) (areas : List Area) (size : ℕ) (wanted : Facilities) (r s : Lacking) → Answers counts occupancy areas size wanted r
+    → Answers counts occupancy areas size wanted s → r ≡ s
+answers-one counts occupancy areas size wanted r s a b = first-one (Has counts occupancy areas size wanted) parts r s (a .first) (b .first)
