@@ -9,7 +9,7 @@ use Rattle.channels.specs.Channels.{noChannels}
 use Rattle.packets.specs.Demand.{fresh}
 use Rattle.cell.specs.Calls.{acted, freshCell}
 use Rattle.cell.specs.declared.Cell.{Cell}
-use Rattle.cell_computed.proofs.Computed.{cellAfter, does-computed, replyOf, sized}
+use Rattle.marked_cases.proofs.Computed.{cellAfter, does-computed, replyOf, sized}
 use Rattle.cell_history.specs.History.{Does, Reply}
 use Rattle.schedule_deck.specs.Report.{after, groupText, reportText, shownBy}
 use Rattle.cards_writing.specs.Writing.{priorityText}
