@@ -1,5 +1,6 @@
--- The board's lines of units: "for each configured channel but the drum's and each unit, ascending, that isn't free and unmarked: `UNIT cc/uu` and
--- then, of these words, those that hold: `HELD p`, `DOWN`, `RESERVED`, `LOCKED` (interlock, shown only while held)".
+-- The board's lines of units: "for each configured channel but the drum's and each unit, ascending, that isn't free
+-- and unmarked: `UNIT cc/uu` and then, of these words, those that hold: `HELD p`, `DOWN`, `RESERVED`, `LOCKED`
+-- (interlock, shown only while held)".
 use Prim.Native.Nat.{ℕ, min}
 use mathlib.Core.Bool.{Bool, false, cond}
 use mathlib.Core.List.{List, [], _++_}
@@ -29,7 +30,8 @@ stateText c u unit =
     bytes "UNIT "
     ++ (unitText c u
     ++ (holderText (unit .holder)
-    ++ (wordText (unit .down) (bytes " DOWN") ++ (wordText (unit .reserved) (bytes " RESERVED") ++ (wordText (isLocked unit) (bytes " LOCKED") ++ bytes "\n")))))
+    ++ (wordText (unit .down) (bytes " DOWN")
+    ++ (wordText (unit .reserved) (bytes " RESERVED") ++ (wordText (isLocked unit) (bytes " LOCKED") ++ bytes "\n")))))
 
 -- the line of a unit that isn't free and unmarked
 unfoldable pub unitLine : ℕ → ℕ → Unit → List ℕ

@@ -1,4 +1,5 @@
--- The pieces of text that the answers and the board share, and texts that are made of a piece for each of some numbers or things.
+-- The pieces of text that the answers and the board share, and texts that are made of a piece for each of some
+-- numbers or things.
 use Prim.Native.Nat.{ℕ, zero, suc, _+_, _-_, _/_, _%_}
 use mathlib.Core.Bool.{Bool, cond}
 use mathlib.Core.List.{List, [], _∷_, _++_}

@@ -8,9 +8,11 @@ ghost use mathlib.Core.Path.{_≡_};
 ghost use Prim.Native.Nat.{min};
 ghost use lib.ListN.{drop};
 ghost use Rattle.shift_words.specs.Forms.{wordsOf};
-ghost use Rattle.shift_script.specs.Script.{said, named, smallAt, codeAt, channelAt, unitAt, submissionOf, isEcho, sayBy, table, lineSays};
+ghost use Rattle.shift_script.specs.Script.{said, named, smallAt, codeAt, channelAt, unitAt, submissionOf};
+ghost use Rattle.shift_script.specs.Script.{isEcho, sayBy, table, lineSays};
 
-// A submission: place, packet, function, channel; at: the unit, or on the drum channel the address X or L; to: H there, 0 where it was left out.
+// A submission: place, packet, function, channel; at: the unit, or on the drum channel the address X or L; to: H
+// there, 0 where it was left out.
 pub struct Submission {
     pub place: u8,
     pub packet: u8,
@@ -20,8 +22,8 @@ pub struct Submission {
     pub to: u32,
 }
 
-// What a line says: no call, an echo, or one of the calls. End: the place, and whether in error; Mark: whether it is set; the ID of a
-// release or a deletion stands beside it.
+// What a line says: no call, an echo, or one of the calls. End: the place, and whether in error; Mark: whether it is
+// set; the ID of a release or a deletion stands beside it.
 pub enum Line {
     NoCall,
     Echo,
@@ -64,8 +66,8 @@ fn naming(line: &[u8], call: Line) -> Said
     }
 }
 
-// A number as a place, packet, function, channel, unit or failure code: 255 for a larger one, which is out of range as each of these, so that
-// the call is refused with the same number.
+// A number as a place, packet, function, channel, unit or failure code: 255 for a larger one, which is out of range
+// as each of these, so that the call is refused with the same number.
 fn small(n: u32) -> u8
     ensures { λ r. ⌜ r ≡ min n 255 ⌝ }
 {

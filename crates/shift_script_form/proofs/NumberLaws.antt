@@ -1,4 +1,5 @@
--- A number that is written is read as that number, in either base: one law for both, over what dividing by the base does. Assumes nothing.
+-- A number that is written is read as that number, in either base: one law for both, over what dividing by the base
+-- does. Assumes nothing.
 use Prim.Native.Nat.{ℕ, zero, suc, _+_, _-_, _*_, _/_, _%_, _^_, _≤_, _<_}
 use mathlib.Core.Path.{_≡_, refl, sym, ap, _∙_}
 use mathlib.Core.Bool.{Bool, true, false, _&&_}

@@ -1,4 +1,5 @@
--- What the words of each row of the table say, whatever words write its numbers. The table's words are compared by computing. Assumes nothing.
+-- What the words of each row of the table say, whatever words write its numbers. The table's words are compared by
+-- computing. Assumes nothing.
 use Prim.Native.Nat.{ℕ, min, _≤_, _<_}
 use mathlib.Core.Path.{_≡_, refl}
 use mathlib.Core.Bool.{true, false}

@@ -1,5 +1,6 @@
--- The rows of the table: at most one fits a line, since no two have the same first word and as many words, which is computed over the table once. So a line
--- says what the row that it fits says, wherever that stands, and is no call where it fits none. Assumes nothing.
+-- The rows of the table: at most one fits a line, since no two have the same first word and as many words, which is
+-- computed over the table once. So a line says what the row that it fits says, wherever that stands, and is no call
+-- where it fits none. Assumes nothing.
 use Prim.Native.Nat.{ℕ, suc}
 use mathlib.Core.Path.{_≡_, refl, sym, ap, _∙_}
 use mathlib.Core.Bool.{Bool, true, false, cond, _&&_, not}

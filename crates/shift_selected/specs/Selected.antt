@@ -29,7 +29,8 @@ abbrev pub runText : List ℕ → ℕ → ℕ → List ℕ
 runText code first count = cond (eqb count 0) [] (code ++ spanText first count)
 
 abbrev pub areasText : Facilities → ℕ → ℕ → ℕ → List ℕ
-areasText wanted ib db drum = runText (bytes " IB ") ib (wanted .ib) ++ (runText (bytes " DB ") db (wanted .db) ++ runText (bytes " MD ") drum (wanted .md))
+areasText wanted ib db drum =
+    runText (bytes " IB ") ib (wanted .ib) ++ (runText (bytes " DB ") db (wanted .db) ++ runText (bytes " MD ") drum (wanted .md))
 
 -- a channel is of a kind
 abbrev pub isKindOf : Kind → Fitted → Bool
@@ -44,9 +45,9 @@ abbrev pub isTo : LogicalChannel → Given → Bool
 isTo l G.Nothing = false
 isTo l (G.To its) = eqb (its .0) (l .0)
 
--- ` cc/uu` for unit `place`, cc * 16 + uu, where it is given to this entry of its channel's kind
+-- ` cc/uu` for the unit with index cc * 16 + uu, where it is given to this entry of its channel's kind
 unfoldable pub givenText : Kind → LogicalChannel → Channel → Given → ℕ → List ℕ
-givenText kind l channel to place = cond (isOfKind kind channel && isTo l to) (bytes " " ++ unitText (place / 16) (place % 16)) []
+givenText kind l channel to index = cond (isOfKind kind channel && isTo l to) (bytes " " ++ unitText (index / 16) (index % 16)) []
 
 abbrev pub unitAt : List Channel → List Head → Kind → LogicalChannel → ℕ → List ℕ
 unitAt channels heads kind l i = givenText kind l (getD channels (i / 16) noChannel) (getD heads i blank .to) i
@@ -57,7 +58,8 @@ unitsText channels heads kind l = each (unitAt channels heads kind l) 256
 
 -- ` KKl`, "l as on the written card, nothing for 0", and its units
 unfoldable pub entryText : List Channel → List Head → Kind → LogicalChannel → List ℕ
-entryText channels heads kind l = bytes " " ++ (codeOf kind ++ (cond (eqb (l .0) 0) [] (decimalText (l .0)) ++ unitsText channels heads kind l))
+entryText channels heads kind l =
+    bytes " " ++ (codeOf kind ++ (cond (eqb (l .0) 0) [] (decimalText (l .0)) ++ unitsText channels heads kind l))
 
 -- how many units an entry asks for
 unfoldable pub asked : List ℕ → Kind → LogicalChannel → ℕ

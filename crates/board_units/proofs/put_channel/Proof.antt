@@ -1,5 +1,5 @@
--- `unit_lines::put_channel` meets its contract. The loop's invariant is `Going`: whoever puts the units that are left has put them all.
--- Assumes nothing.
+-- `board_units::put_channel` meets its contract. The loop's invariant is `Going`: whoever puts the units that are
+-- left has put them all. Assumes nothing.
 use mathlib.Core.Path.{_≡_}
 use Prim.Native.Nat.{_-_, _≤_}
 use native.Mathlib.Omega.{arith}

@@ -1,4 +1,5 @@
--- `controller::luffgravel_is_legal` meets its contract: the table is asked of the kind that the two letters name. Assumes nothing.
+-- `controller::luffgravel_is_legal` meets its contract: the table is asked of the kind that the two letters name.
+-- Assumes nothing.
 use mathlib.Core.Path.{sym, ap, _∙_}
 use borrow.Author.Needs.{needs}
 use Rattle.numbers.specs.declared.Coded.{Coded}

@@ -1,4 +1,5 @@
--- `selected_text::put_given` meets its contract: a space and the unit where both tests hold, else nothing. Assumes nothing.
+-- `shift_selected::put_given` meets its contract: a space and the unit where both tests hold, else nothing. Assumes
+-- nothing.
 use mathlib.Core.Path.{sym, _∙_}
 use Rattle.text.proofs.RoomLaws.{none, andThen}
 use Rattle.shift_selected.specs.Selected.{givenText}

@@ -1,4 +1,5 @@
--- `line_words::fits` meets its contract. The loop's invariant: the words passed fit, so those from `at` and `on` on tell. Assumes nothing.
+-- `shift_words::fits` meets its contract. The loop's invariant: the words passed fit, so those from `at` and `on` on
+-- tell. Assumes nothing.
 use Prim.Native.Nat.{_≤_, _-_}
 use mathlib.Core.Path.{_≡_, sym, _∙_}
 use native.Mathlib.Omega.{arith}
