@@ -30,8 +30,8 @@ stateText c u unit =
     bytes "UNIT "
     ++ (unitText c u
     ++ (holderText (unit .holder)
-    ++ (wordText (unit .down) (bytes " DOWN") ++ (wordText (unit .reserved) (bytes " RESERVED")
-    ++ (wordText (isLocked unit) (bytes " LOCKED") ++ bytes "\n")))))
+    ++ (wordText (unit .down) (bytes " DOWN")
+    ++ (wordText (unit .reserved) (bytes " RESERVED") ++ (wordText (isLocked unit) (bytes " LOCKED") ++ bytes "\n")))))
 
 -- the line of a unit that isn't free and unmarked
 unfoldable pub unitLine : ℕ → ℕ → Unit → List ℕ

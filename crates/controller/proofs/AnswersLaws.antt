@@ -1,5 +1,5 @@
--- What the definitions of Answers mean: 0 is the answer for a configuration and for nothing else, any other number
--- is that of the first bad or missing line, and `Placed` leaves one outcome. Assumes nothing.
+-- What the definitions of Answers mean: 0 is the answer for a configuration and for nothing else, any other number is
+-- that of the first bad or missing line, and `Placed` leaves one outcome. Assumes nothing.
 use Prim.Native.Nat.{ℕ, _≤_}
 use mathlib.Core.Path.{_≡_, refl, sym, ap, subst, _∙_}
 use mathlib.Core.Bool.{Bool, true, false}
@@ -15,15 +15,15 @@ use Rattle.configuration_form.specs.Form.{InForm, FirstBad}
 use Rattle.configuration_form.specs.Means.{Said}
 use Rattle.configuration_form.proofs.Meaning.{meaning}
 use Rattle.configuration_form.proofs.Unique.{read-back, first-named}
-use Rattle.controller.specs.Answers.{lineOf, Placed}
+use Rattle.controller.specs.Answers.{badLineOf, Placed}
 
 -- one answer of the reader has one line
-same-line : {a b : Answer} → a ≡ b → lineOf (a .verdict) ≡ lineOf (b .verdict)
-same-line e = ap (λ (a : Answer). lineOf (a .verdict)) e
+same-line : {a b : Answer} → a ≡ b → badLineOf (a .verdict) ≡ badLineOf (b .verdict)
+same-line e = ap (λ (a : Answer). badLineOf (a .verdict)) e
 
 -- the number that a text gets
 abbrev pub badLine : List ℕ → ℕ
-badLine s = lineOf (configurationOf s .verdict)
+badLine s = badLineOf (configurationOf s .verdict)
 
 -- a text in the written form of some channels and down units
 pub record Configures (s : List ℕ) : Type 0 where

@@ -11,9 +11,9 @@ use Rattle.assign_core.specs.declared.Found.the-variants.{At, Nothing}
 use Rattle.assign_core.specs.Core as Core
 
 -- a verdict as one number: the line of a bad configuration, 0 for a good one
-abbrev pub lineOf : Verdict → ℕ
-lineOf Good = 0
-lineOf (Bad line) = line
+abbrev pub badLineOf : Verdict → ℕ
+badLineOf Good = 0
+badLineOf (Bad line) = line
 
 -- a function is legal on a kind that two letters name; where they name none it is not
 abbrev pub legalBy : Coded → ℕ → Bool

@@ -1,6 +1,6 @@
 // What a controller links: functions over numbers and lent bytes, under names that C can call. Each hands its
-// arguments on and keeps the promise of the function that it calls. None has a state of its own or a `requires`;
-// what no contract can ask of a caller in another language is in docs/LINKING.md.
+// arguments on and keeps the promise of the function that it calls. None has a state of its own or a `requires`; what
+// no contract can ask of a caller in another language is in docs/LINKING.md.
 use assign_core::Found;
 use configuration::Verdict;
 use numbers::Coded;
@@ -9,10 +9,10 @@ ghost use Rattle.configuration_listing.specs.Listing.{Listed};
 ghost use Rattle.schedule_deck.specs.Reading.{Reported};
 ghost use Rattle.numbers.specs.Kinds.{kindOf};
 ghost use Rattle.configuration.specs.Configured.{configurationOf};
-ghost use Rattle.controller.specs.Answers.{lineOf, legalBy, Placed};
+ghost use Rattle.controller.specs.Answers.{badLineOf, legalBy, Placed};
 
-// Puts the listing of a configuration into lent room and answers its length. 96 bytes are enough; a smaller room
-// gets what fits.
+// Puts the listing of a configuration into lent room and answers its length. 96 bytes are enough; a smaller room gets
+// what fits.
 #[no_mangle]
 pub extern "C" fn luffgravel_listing(config: &[u8], out: &mut [u8]) -> usize
     ensures { λ r. ⌜ Listed (now (config .entry)) (now (out .entry)) (now (out .exit)) r ⌝ }
@@ -30,8 +30,8 @@ pub extern "C" fn luffgravel_deck(deck: &[u8], out: &mut [u8]) -> usize
 }
 
 // The number by which a verdict goes.
-fn line_of(verdict: Verdict) -> usize
-    ensures { λ r. ⌜ r ≡ lineOf verdict ⌝ }
+fn bad_line_of(verdict: Verdict) -> usize
+    ensures { λ r. ⌜ r ≡ badLineOf verdict ⌝ }
 {
     match verdict {
         Verdict::Good => 0,
@@ -42,11 +42,11 @@ fn line_of(verdict: Verdict) -> usize
 // The first bad or missing line of a configuration, counted from 1; 0 where the text is one.
 #[no_mangle]
 pub extern "C" fn luffgravel_bad_line(config: &[u8]) -> usize
-    ensures { λ r. ⌜ r ≡ lineOf (configurationOf (now (config .entry)) .verdict) ⌝ }
+    ensures { λ r. ⌜ r ≡ badLineOf (configurationOf (now (config .entry)) .verdict) ⌝ }
 {
     let answer = configuration::read(config);
     let verdict = answer.verdict;
-    line_of(verdict)
+    bad_line_of(verdict)
 }
 
 // Whether a function code is legal on channels of the kind with this code of two letters; none is on any other's.

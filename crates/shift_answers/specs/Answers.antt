@@ -21,8 +21,8 @@ doneText = bytes "ACK\n"
 -- a start: `ACK p k ff x`, place, packet, function in two octal digits, unit or address
 abbrev pub startedText : Begun → List ℕ
 startedText b =
-    bytes "ACK " ++ (packetText (b .place) (b .packet) ++ (bytes " " ++ (octalText (b .function)
-    ++ (bytes " " ++ (decimalText (b .at) ++ bytes "\n")))))
+    bytes "ACK "
+    ++ (packetText (b .place) (b .packet) ++ (bytes " " ++ (octalText (b .function) ++ (bytes " " ++ (decimalText (b .at) ++ bytes "\n")))))
 
 -- a completion: `ACK p k`, the packet that it ends
 abbrev pub completedText : ℕ → ℕ → List ℕ

@@ -1,5 +1,5 @@
--- What a loop that puts one piece after the other keeps: whoever puts the pieces that are left has put them all.
--- How long such a text is. Assumes nothing.
+-- What a loop that puts one piece after the other keeps: whoever puts the pieces that are left has put them all. How
+-- long such a text is. Assumes nothing.
 use Prim.Native.Nat.{ℕ, zero, suc, _+_, _-_, _*_, _≤_, _<_}
 use mathlib.Core.Path.{_≡_}
 use mathlib.Core.List.{List, [], _∷_, _++_}

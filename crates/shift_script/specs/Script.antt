@@ -14,29 +14,16 @@ use Rattle.shift_words.specs.declared.Base.the-variants.{Decimal, Octal}
 use Rattle.shift_words.specs.Forms.{wordsOf, numberIn, fitting, idOf}
 use Rattle.shift_script.specs.declared.Submission.{Submission}
 use Rattle.shift_script.specs.declared.Line.{Line}
-use Rattle.shift_script.specs.declared.Line.the-variants.{
-  NoCall,
-  Echo,
-  Deck,
-  Select,
-  Board,
-  Submit,
-  Start,
-  Complete,
-  End,
-  Mark,
-  Release,
-  Delete,
-  Status,
-}
+use Rattle.shift_script.specs.declared.Line.the-variants.{NoCall, Echo, Deck, Select, Board, Submit, Start, Complete}
+use Rattle.shift_script.specs.declared.Line.the-variants.{End, Mark, Release, Delete, Status}
 use Rattle.shift_script.specs.declared.Said.{Said}
 
 -- the number that word k writes, the line's first word at 0
 abbrev pub decimalAt : ℕ → List (List ℕ) → ℕ
 decimalAt k words = numberIn Decimal (getD words k [])
 
--- a place, packet, channel or unit number, a function or failure code: 255 for a larger number, which is out of
--- range as each of these, so that the call answers the same number
+-- a place, packet, channel or unit number, a function or failure code: 255 for a larger number, which is out of range
+-- as each of these, so that the call answers the same number
 abbrev pub smallAt : ℕ → List (List ℕ) → ℕ
 smallAt k words = min (decimalAt k words) 255
 

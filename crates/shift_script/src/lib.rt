@@ -8,8 +8,8 @@ ghost use mathlib.Core.Path.{_≡_};
 ghost use Prim.Native.Nat.{min};
 ghost use lib.ListN.{drop};
 ghost use Rattle.shift_words.specs.Forms.{wordsOf};
-ghost use Rattle.shift_script.specs.Script.{said, named, smallAt, codeAt, channelAt};
-ghost use Rattle.shift_script.specs.Script.{unitAt, submissionOf, isEcho, sayBy, table, lineSays};
+ghost use Rattle.shift_script.specs.Script.{said, named, smallAt, codeAt, channelAt, unitAt, submissionOf};
+ghost use Rattle.shift_script.specs.Script.{isEcho, sayBy, table, lineSays};
 
 // A submission: place, packet, function, channel; at: the unit, or on the drum channel the address X or L; to: H
 // there, 0 where it was left out.
@@ -22,8 +22,8 @@ pub struct Submission {
     pub to: u32,
 }
 
-// What a line says: no call, an echo, or one of the calls. End: the place, and whether in error; Mark: whether it
-// is set; the ID of a release or a deletion stands beside it.
+// What a line says: no call, an echo, or one of the calls. End: the place, and whether in error; Mark: whether it is
+// set; the ID of a release or a deletion stands beside it.
 pub enum Line {
     NoCall,
     Echo,

@@ -1,6 +1,6 @@
--- What reading a line means. Every call that a line can say is read back from the line that is written for it; a
--- line that is read as a call has exactly the words of one row of the table, with single spaces between them; and
--- an ID is that of one word alone. Assumes nothing.
+-- What reading a line means. Every call that a line can say is read back from the line that is written for it; a line
+-- that is read as a call has exactly the words of one row of the table, with single spaces between them; and an ID is
+-- that of one word alone. Assumes nothing.
 use Prim.Native.Nat.{ℕ, zero, suc, _+_, _^_, _≤_, _<_}
 use mathlib.Core.Path.{_≡_, refl, sym, ap, _∙_}
 use mathlib.Core.Bool.{true, false}
@@ -23,7 +23,7 @@ use Rattle.shift_script.specs.declared.Line.{Line}
 use Rattle.shift_script.specs.declared.Line.the-variants.{NoCall, Echo, Deck, Select, Board, Submit, Start, Complete, End, Mark, Release, Delete, Status}
 use Rattle.shift_script.specs.declared.Said.{Said}
 use Rattle.shift_script.specs.Script.{said, table, sayBy, isEcho, lineSays}
-use Rattle.shift_script_form.specs.Written.{spaced, decimal, octal, lineOf, Word, Sayable}
+use Rattle.shift_script_form.specs.Written.{spaced, decimal, octal, lineFor, Word, Sayable}
 use Rattle.shift_script_form.proofs.SpacedLaws.{Plain, AllPlain, words-spaced, spaced-words, total, spaced-long, spaced-first}
 use Rattle.shift_script_form.proofs.NumberLaws.{Writes, writes}
 use Rattle.shift_script_form.proofs.TableLaws.{Fitted, says-row}
@@ -66,7 +66,7 @@ code : {n : ℕ} → n ≤ 255 → Writes Octal n (octal n)
 code {n} h = writes Octal n (omega arith)
 
 -- every call that a line can say is read back from its line
-pub read-back : (line : Line) (id : List ℕ) → Sayable line id → lineSays (lineOf line id) ≡ record { line = line; id = idOf id }
+pub read-back : (line : Line) (id : List ℕ) → Sayable line id → lineSays (lineFor line id) ≡ record { line = line; id = idOf id }
 read-back NoCall id h = absurd h
 read-back Echo id h = absurd h
 read-back Deck id h = rw h (said-by 68 (bytes "ECK") [] (said Deck) refl refl tt (omega arith) deck-row)

@@ -1,5 +1,5 @@
--- Words with single spaces between them are read as just these words, and every line is its words with single
--- spaces between them. Assumes nothing.
+-- Words with single spaces between them are read as just these words, and every line is its words with single spaces
+-- between them. Assumes nothing.
 use Prim.Native.Nat.{ℕ, suc, _+_, _≤_}
 use mathlib.Core.Path.{_≡_, refl, sym, ap, _∙_}
 use mathlib.Core.Bool.{Bool, true, false, cond}

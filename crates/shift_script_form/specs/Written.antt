@@ -13,21 +13,8 @@ use Rattle.shift_words.specs.declared.Base.{Base}
 use Rattle.shift_words.specs.declared.Base.the-variants.{Decimal, Octal}
 use Rattle.shift_words.specs.Forms.{baseOf, idOf}
 use Rattle.shift_script.specs.declared.Line.{Line}
-use Rattle.shift_script.specs.declared.Line.the-variants.{
-  NoCall,
-  Echo,
-  Deck,
-  Select,
-  Board,
-  Submit,
-  Start,
-  Complete,
-  End,
-  Mark,
-  Release,
-  Delete,
-  Status,
-}
+use Rattle.shift_script.specs.declared.Line.the-variants.{NoCall, Echo, Deck, Select, Board, Submit, Start, Complete}
+use Rattle.shift_script.specs.declared.Line.the-variants.{End, Mark, Release, Delete, Status}
 
 -- words with single spaces between them
 abbrev pub spaced : List (List ℕ) → List ℕ
@@ -57,8 +44,8 @@ callWords Deck id = bytes "DECK" ∷ []
 callWords Select id = bytes "SELECT" ∷ []
 callWords Board id = bytes "BOARD" ∷ []
 callWords (Submit s) id =
-    bytes "SUBMIT" ∷ decimal (s .place) ∷ decimal (s .packet) ∷ octal (s .function) ∷ decimal (s .channel .0)
-    ∷ decimal (s .at) ∷ decimal (s .to) ∷ []
+    bytes "SUBMIT"
+    ∷ decimal (s .place) ∷ decimal (s .packet) ∷ octal (s .function) ∷ decimal (s .channel .0) ∷ decimal (s .at) ∷ decimal (s .to) ∷ []
 callWords (Start channel) id = bytes "START" ∷ decimal (channel .0) ∷ []
 callWords (Complete channel Full) id = bytes "DONE" ∷ decimal (channel .0) ∷ []
 callWords (Complete channel Cut) id = bytes "CUT" ∷ decimal (channel .0) ∷ []
@@ -74,8 +61,8 @@ callWords Delete id = bytes "DELETE" ∷ id ∷ []
 callWords (Status place packet) id = bytes "STATUS" ∷ decimal place ∷ decimal packet ∷ []
 
 -- the line of a call
-abbrev pub lineOf : Line → List ℕ → List ℕ
-lineOf line id = spaced (callWords line id)
+abbrev pub lineFor : Line → List ℕ → List ℕ
+lineFor line id = spaced (callWords line id)
 
 -- a word: no space in it, and at least one byte
 pub record Word (s : List ℕ) : Type 0 where
@@ -91,8 +78,7 @@ Sayable Deck id = id ≡ []
 Sayable Select id = id ≡ []
 Sayable Board id = id ≡ []
 Sayable (Submit s) id =
-    (id ≡ []) × (s .place ≤ 255) × (s .packet ≤ 255) × (s .function ≤ 255) × (s .channel .0 ≤ 255)
-    × (s .at < 10 ^ 9) × (s .to < 10 ^ 9)
+    (id ≡ []) × (s .place ≤ 255) × (s .packet ≤ 255) × (s .function ≤ 255) × (s .channel .0 ≤ 255) × (s .at < 10 ^ 9) × (s .to < 10 ^ 9)
 Sayable (Start channel) id = (id ≡ []) × (channel .0 ≤ 255)
 Sayable (Complete channel Full) id = (id ≡ []) × (channel .0 ≤ 255)
 Sayable (Complete channel Cut) id = (id ≡ []) × (channel .0 ≤ 255)

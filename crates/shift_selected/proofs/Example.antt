@@ -1,5 +1,5 @@
--- The example of a selection's answer, computed: A1 asks for IB/2 and MT1/2 and gets blocks 2 and 3 and the first
--- two units of channel 3. Assumes nothing.
+-- The example of a selection's answer, computed: A1 asks for IB/2 and MT1/2 and gets blocks 2 and 3 and the first two
+-- units of channel 3. Assumes nothing.
 use mathlib.Core.Path.{_≡_, refl}
 use mathlib.Core.Bool.{true}
 use mathlib.Core.List.{List, []}

@@ -45,9 +45,9 @@ abbrev pub isTo : LogicalChannel → Given → Bool
 isTo l G.Nothing = false
 isTo l (G.To its) = eqb (its .0) (l .0)
 
--- ` cc/uu` for unit `place`, cc * 16 + uu, where it is given to this entry of its channel's kind
+-- ` cc/uu` for the unit with index cc * 16 + uu, where it is given to this entry of its channel's kind
 unfoldable pub givenText : Kind → LogicalChannel → Channel → Given → ℕ → List ℕ
-givenText kind l channel to place = cond (isOfKind kind channel && isTo l to) (bytes " " ++ unitText (place / 16) (place % 16)) []
+givenText kind l channel to index = cond (isOfKind kind channel && isTo l to) (bytes " " ++ unitText (index / 16) (index % 16)) []
 
 abbrev pub unitAt : List Channel → List Head → Kind → LogicalChannel → ℕ → List ℕ
 unitAt channels heads kind l i = givenText kind l (getD channels (i / 16) noChannel) (getD heads i blank .to) i

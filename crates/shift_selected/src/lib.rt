@@ -48,7 +48,7 @@ fn is_to(to: Given, logical: LogicalChannel) -> bool
     }
 }
 
-// Puts a unit where it is given to an entry of its channel's kind, else nothing.
+// Puts the unit with an index, channel * 16 + unit, where it is given to an entry of its channel's kind, else nothing.
 fn put_given(
     out: &mut [u8],
     at: usize,
@@ -56,9 +56,9 @@ fn put_given(
     logical: LogicalChannel,
     channel: Channel,
     to: Given,
-    place: u8,
+    index: u8,
 ) -> usize
-    ensures { λ r. ⌜ Written (now (out .entry)) at (givenText kind logical channel to place) (now (out .exit)) r ⌝ }
+    ensures { λ r. ⌜ Written (now (out .entry)) at (givenText kind logical channel to index) (now (out .exit)) r ⌝ }
 {
     if is_of_kind(channel, kind) {
         if is_to(to, logical) {
@@ -66,8 +66,8 @@ fn put_given(
             return shift_pieces::put_unit(
                 out,
                 next,
-                ChannelNumber(place / 16),
-                UnitNumber(place % 16),
+                ChannelNumber(index / 16),
+                UnitNumber(index % 16),
             );
         }
     }

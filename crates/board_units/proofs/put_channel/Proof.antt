@@ -1,4 +1,4 @@
--- `unit_lines::put_channel` meets its contract. The loop's invariant is `Going`: whoever puts the units that are
+-- `board_units::put_channel` meets its contract. The loop's invariant is `Going`: whoever puts the units that are
 -- left has put them all. Assumes nothing.
 use mathlib.Core.Path.{_≡_}
 use Prim.Native.Nat.{_-_, _≤_}

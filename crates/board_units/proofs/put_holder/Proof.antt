@@ -1,4 +1,4 @@
--- `unit_lines::put_holder` meets its contract, by cases on who holds the unit. Assumes nothing.
+-- `board_units::put_holder` meets its contract, by cases on who holds the unit. Assumes nothing.
 use Rattle.text.proofs.RoomLaws.{none, andThen}
 use borrow.Author.Needs.{needs}
 use Rattle.board_units.proofs.put_holder.Statement.{statement}

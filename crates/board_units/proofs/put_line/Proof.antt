@@ -1,4 +1,4 @@
--- `unit_lines::put_line` meets its contract: nothing for a unit that is free and unmarked. Assumes nothing.
+-- `board_units::put_line` meets its contract: nothing for a unit that is free and unmarked. Assumes nothing.
 use mathlib.Core.Path.{sym, _∙_}
 use Rattle.text.proofs.RoomLaws.{none}
 use Rattle.board_units.specs.Units.{unitLine}

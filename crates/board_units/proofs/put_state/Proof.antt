@@ -1,4 +1,4 @@
--- `unit_lines::put_state` meets its contract: one piece after the other. Assumes nothing.
+-- `board_units::put_state` meets its contract: one piece after the other. Assumes nothing.
 use Rattle.text.proofs.RoomLaws.{andThen}
 use Rattle.board_units.specs.Units.{stateText}
 use borrow.Author.Needs.{needs}

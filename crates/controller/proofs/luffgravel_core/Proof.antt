@@ -1,5 +1,5 @@
--- `controller::luffgravel_core` meets its contract: the pair that the search found stands in i and j; where it
--- found none they are kept. Assumes nothing.
+-- `controller::luffgravel_core` meets its contract: the pair that the search found stands in i and j; where it found
+-- none they are kept. Assumes nothing.
 use mathlib.Core.Path.{refl, subst}
 use borrow.Author.Needs.{needs}
 use Rattle.numbers.proofs.Tests.{never}

@@ -1,4 +1,4 @@
--- `answer_text::put_started` meets its contract: one piece after the other. Assumes nothing.
+-- `shift_answers::put_started` meets its contract: one piece after the other. Assumes nothing.
 use Rattle.text.proofs.RoomLaws.{andThen}
 use borrow.Author.Needs.{needs}
 use Rattle.shift_answers.proofs.put_started.Statement.{statement}

@@ -1,4 +1,4 @@
--- `answer_text::put_status` meets its contract: one piece after the other. Assumes nothing.
+-- `shift_answers::put_status` meets its contract: one piece after the other. Assumes nothing.
 use Rattle.text.proofs.RoomLaws.{andThen}
 use borrow.Author.Needs.{needs}
 use Rattle.shift_answers.proofs.put_status.Statement.{statement}

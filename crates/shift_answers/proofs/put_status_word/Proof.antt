@@ -1,4 +1,4 @@
--- `answer_text::put_status_word` meets its contract: the word of each status, an ended one's with its code. Assumes
+-- `shift_answers::put_status_word` meets its contract: the word of each status, an ended one's with its code. Assumes
 -- nothing.
 use Rattle.text.proofs.RoomLaws.{andThen}
 use borrow.Author.Needs.{needs}

@@ -1,4 +1,4 @@
--- `pieces::put_octal` meets its contract: one digit and then the other. Assumes nothing.
+-- `shift_pieces::put_octal` meets its contract: one digit and then the other. Assumes nothing.
 use Rattle.text.proofs.RoomLaws.{andThen}
 use borrow.Author.Needs.{needs}
 use Rattle.shift_pieces.proofs.put_octal.Statement.{statement}

@@ -1,4 +1,4 @@
--- `pieces::put_packet` meets its contract: number, space, number. Assumes nothing.
+-- `shift_pieces::put_packet` meets its contract: number, space, number. Assumes nothing.
 use Rattle.text.proofs.RoomLaws.{andThen}
 use borrow.Author.Needs.{needs}
 use Rattle.shift_pieces.proofs.put_packet.Statement.{statement}

@@ -1,4 +1,4 @@
--- `pieces::put_span` meets its contract: number, hyphen, number. Assumes nothing.
+-- `shift_pieces::put_span` meets its contract: number, hyphen, number. Assumes nothing.
 use Rattle.text.proofs.RoomLaws.{andThen}
 use borrow.Author.Needs.{needs}
 use Rattle.shift_pieces.proofs.put_span.Statement.{statement}

@@ -1,4 +1,4 @@
--- `pieces::put_unit` meets its contract: number, slash, number. Assumes nothing.
+-- `shift_pieces::put_unit` meets its contract: number, slash, number. Assumes nothing.
 use Rattle.text.proofs.RoomLaws.{andThen}
 use borrow.Author.Needs.{needs}
 use Rattle.shift_pieces.proofs.put_unit.Statement.{statement}

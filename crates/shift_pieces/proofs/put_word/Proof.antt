@@ -1,4 +1,4 @@
--- `pieces::put_word` meets its contract: the word, or nothing. Assumes nothing.
+-- `shift_pieces::put_word` meets its contract: the word, or nothing. Assumes nothing.
 use Rattle.text.proofs.RoomLaws.{none}
 use borrow.Author.Needs.{needs}
 use Rattle.shift_pieces.proofs.put_word.Statement.{statement}

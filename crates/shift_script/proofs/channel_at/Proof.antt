@@ -1,4 +1,4 @@
--- `script::channel_at` meets its contract. Assumes nothing.
+-- `shift_script::channel_at` meets its contract. Assumes nothing.
 use Prim.Native.Nat.{ℕ}
 use mathlib.Core.Path.{ap}
 use borrow.Author.Needs.{needs}

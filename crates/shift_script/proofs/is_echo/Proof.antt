@@ -1,4 +1,4 @@
--- `script::is_echo` meets its contract. Assumes nothing.
+-- `shift_script::is_echo` meets its contract. Assumes nothing.
 use Prim.Native.Nat.{ℕ}
 use mathlib.Core.Path.{ap}
 use lib.Dec.{eqb}

@@ -1,4 +1,4 @@
--- `script::naming` meets its contract. Assumes nothing.
+-- `shift_script::naming` meets its contract. Assumes nothing.
 use Prim.Native.Nat.{ℕ}
 use mathlib.Core.Path.{ap}
 use mathlib.Core.List.{List}

@@ -1,5 +1,5 @@
--- `script::on_packets` meets its contract: each answer by the rows that did not fit and the one that did. Assumes
--- nothing.
+-- `shift_script::on_packets` meets its contract: each answer by the rows that did not fit and the one that did.
+-- Assumes nothing.
 use Prim.Native.Nat.{ℕ}
 use mathlib.Core.Path.{sym, ap, ap₂, _∙_}
 use Rattle.shift_words.specs.Forms.{wordsOf}

@@ -1,5 +1,5 @@
--- `script::on_requests` meets its contract: each answer by the rows that did not fit and the one that did. Assumes
--- nothing.
+-- `shift_script::on_requests` meets its contract: each answer by the rows that did not fit and the one that did.
+-- Assumes nothing.
 use Prim.Native.Nat.{ℕ}
 use mathlib.Core.Path.{sym, _∙_, ap₂}
 use Rattle.shift_script.specs.Script.{said, sayBy, table}

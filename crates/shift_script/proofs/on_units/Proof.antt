@@ -1,4 +1,4 @@
--- `script::on_units` meets its contract: each answer by the rows that did not fit and the one that did. Assumes
+-- `shift_script::on_units` meets its contract: each answer by the rows that did not fit and the one that did. Assumes
 -- nothing.
 use Prim.Native.Nat.{ℕ}
 use mathlib.Core.Path.{sym, ap, ap₂, _∙_}

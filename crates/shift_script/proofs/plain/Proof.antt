@@ -1,4 +1,4 @@
--- `script::plain` meets its contract: six blanks are no ID. Assumes nothing.
+-- `shift_script::plain` meets its contract: six blanks are no ID. Assumes nothing.
 use mathlib.Core.Path.{refl}
 use Rattle.shift_words.specs.Forms.{idOf}
 use Rattle.shift_script.proofs.plain.Statement.{statement}

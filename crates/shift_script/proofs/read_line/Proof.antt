@@ -1,4 +1,4 @@
--- `script::read_line` meets its contract: each answer by the tests that led there. Assumes nothing.
+-- `shift_script::read_line` meets its contract: each answer by the tests that led there. Assumes nothing.
 use mathlib.Core.Path.{sym, _∙_}
 use lib.ListN.{length}
 use borrow.Author.Tests.{lt-ltb, le-ltb}

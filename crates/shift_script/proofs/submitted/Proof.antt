@@ -1,4 +1,4 @@
--- `script::submitted` meets its contract, field by field. Assumes nothing.
+-- `shift_script::submitted` meets its contract, field by field. Assumes nothing.
 use borrow.Author.Needs.{needs}
 use Rattle.shift_script.proofs.submitted.Statement.{statement}
 use Rattle.shift_script.proofs.submitted.Tie as tie

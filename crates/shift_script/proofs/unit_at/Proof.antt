@@ -1,4 +1,4 @@
--- `script::unit_at` meets its contract. Assumes nothing.
+-- `shift_script::unit_at` meets its contract. Assumes nothing.
 use Prim.Native.Nat.{ℕ}
 use mathlib.Core.Path.{ap}
 use borrow.Author.Needs.{needs}

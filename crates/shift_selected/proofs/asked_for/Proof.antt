@@ -1,4 +1,4 @@
--- `selected_text::asked_for` meets its contract: what stands at the entry's slot, 0 past the last. Assumes nothing.
+-- `shift_selected::asked_for` meets its contract: what stands at the entry's slot, 0 past the last. Assumes nothing.
 use native.Mathlib.Omega.{arith}
 use lib.ListN.{length, List·getD-eq-default}
 use Rattle.cards.specs.Requests.{counts}

@@ -1,4 +1,4 @@
--- `selected_text::is_of_kind` meets its contract, by cases on what the channel has. Assumes nothing.
+-- `shift_selected::is_of_kind` meets its contract, by cases on what the channel has. Assumes nothing.
 use borrow.Author.Needs.{needs}
 use Rattle.shift_selected.proofs.is_of_kind.Statement.{statement}
 use Rattle.shift_selected.proofs.is_of_kind.Tie as tie

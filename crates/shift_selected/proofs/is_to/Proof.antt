@@ -1,4 +1,4 @@
--- `selected_text::is_to` meets its contract, by cases on what the unit is given to. Assumes nothing.
+-- `shift_selected::is_to` meets its contract, by cases on what the unit is given to. Assumes nothing.
 use borrow.Author.Needs.{needs}
 use Rattle.shift_selected.proofs.is_to.Statement.{statement}
 use Rattle.shift_selected.proofs.is_to.Tie as tie

@@ -1,4 +1,4 @@
--- `selected_text::put_areas` meets its contract: one piece after the other. Assumes nothing.
+-- `shift_selected::put_areas` meets its contract: one piece after the other. Assumes nothing.
 use Rattle.text.proofs.RoomLaws.{andThen}
 use borrow.Author.Needs.{needs}
 use Rattle.shift_selected.proofs.put_areas.Statement.{statement}

@@ -1,4 +1,4 @@
--- `selected_text::put_asked` meets its contract: the entry where units are asked for, else nothing. Assumes nothing.
+-- `shift_selected::put_asked` meets its contract: the entry where units are asked for, else nothing. Assumes nothing.
 use borrow.Author.Tests.{eq-eqb, ne-eqb}
 use Rattle.text.proofs.RoomLaws.{none}
 use Rattle.shift_selected.specs.Selected.{askedText}

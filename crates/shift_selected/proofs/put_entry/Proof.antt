@@ -1,5 +1,5 @@
--- `selected_text::put_entry` meets its contract: a space, the code, the logical channel unless that is 0, the
--- units. Assumes nothing.
+-- `shift_selected::put_entry` meets its contract: a space, the code, the logical channel unless that is 0, the units.
+-- Assumes nothing.
 use borrow.Author.Tests.{eq-eqb, ne-eqb}
 use Rattle.text.proofs.RoomLaws.{andThen}
 use Rattle.shift_selected.specs.Selected.{entryText}

@@ -1,4 +1,4 @@
--- `selected_text::put_kinds` meets its contract: one kind after the other. Assumes nothing.
+-- `shift_selected::put_kinds` meets its contract: one kind after the other. Assumes nothing.
 use Rattle.text.proofs.RoomLaws.{andThen}
 use borrow.Author.Needs.{needs}
 use Rattle.shift_selected.proofs.put_kinds.Statement.{statement}

@@ -1,4 +1,4 @@
--- `selected_text::put_run` meets its contract: nothing, or code and span. Assumes nothing.
+-- `shift_selected::put_run` meets its contract: nothing, or code and span. Assumes nothing.
 use borrow.Author.Tests.{eq-eqb, ne-eqb}
 use Rattle.text.proofs.RoomLaws.{none, andThen}
 use borrow.Author.Needs.{needs}

@@ -1,4 +1,4 @@
--- `selected_text::put_units` meets its contract. The loop's invariant is `Going`: whoever puts the units that are
+-- `shift_selected::put_units` meets its contract. The loop's invariant is `Going`: whoever puts the units that are
 -- left has put them all. Assumes nothing.
 use Prim.Native.Nat.{_-_, _≤_}
 use native.Mathlib.Omega.{arith}

@@ -1,4 +1,4 @@
--- `line_words::fits` meets its contract. The loop's invariant: the words passed fit, so those from `at` and `on` on
+-- `shift_words::fits` meets its contract. The loop's invariant: the words passed fit, so those from `at` and `on` on
 -- tell. Assumes nothing.
 use Prim.Native.Nat.{_≤_, _-_}
 use mathlib.Core.Path.{_≡_, sym, _∙_}

@@ -1,4 +1,4 @@
--- `line_words::id_at` meets its contract: the word, padded. Assumes nothing.
+-- `shift_words::id_at` meets its contract: the word, padded. Assumes nothing.
 use mathlib.Core.Path.{ap, _∙_}
 use Rattle.shift_words.specs.Forms.{idOf}
 use borrow.Author.Needs.{needs}

@@ -1,4 +1,4 @@
--- `line_words::is_number` meets its contract: too short, too long, or its digits tell. Assumes nothing.
+-- `shift_words::is_number` meets its contract: too short, too long, or its digits tell. Assumes nothing.
 use mathlib.Core.Path.{sym, ap, _∙_}
 use Rattle.words.specs.Words.{every, has}
 use Rattle.shift_words.specs.Forms.{digits}

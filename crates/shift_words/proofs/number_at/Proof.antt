@@ -1,4 +1,4 @@
--- `line_words::number_at` meets its contract: what the digits of the word write, or 0. Assumes nothing.
+-- `shift_words::number_at` meets its contract: what the digits of the word write, or 0. Assumes nothing.
 use mathlib.Core.Path.{sym, ap, _∙_}
 use native.Mathlib.Omega.{arith}
 use borrow.Author.Tests.{not-true, not-false}

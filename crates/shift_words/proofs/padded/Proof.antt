@@ -1,4 +1,4 @@
--- `line_words::padded` meets its contract. The loop's invariant: the first i bytes of the word, and blanks. Assumes
+-- `shift_words::padded` meets its contract. The loop's invariant: the first i bytes of the word, and blanks. Assumes
 -- nothing.
 use Prim.Native.Nat.{_≤_, _-_}
 use mathlib.Core.Path.{_≡_, sym, ap, _∙_}

@@ -1,4 +1,4 @@
--- `line_words::value_of` meets its contract. The loop's invariant: n is the number of the first i digits, below ten
+-- `shift_words::value_of` meets its contract. The loop's invariant: n is the number of the first i digits, below ten
 -- to their count. Assumes nothing.
 use Prim.Native.Nat.{_≤_, _<_, _-_}
 use mathlib.Core.Path.{_≡_, sym, _∙_}

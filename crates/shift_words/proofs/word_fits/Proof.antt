@@ -1,4 +1,4 @@
--- `line_words::word_fits` meets its contract: each answer by the tests that led there. Assumes nothing.
+-- `shift_words::word_fits` meets its contract: each answer by the tests that led there. Assumes nothing.
 use mathlib.Core.Path.{sym, ap, _∙_}
 use Rattle.text.specs.Class.{isLetter}
 use Rattle.shift_words.proofs.FormLaws.{fits-itself, fits-octal, fits-id, fits-decimal}
