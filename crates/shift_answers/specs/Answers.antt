@@ -22,7 +22,8 @@ doneText = bytes "ACK\n"
 abbrev pub startedText : Begun → List ℕ
 startedText b =
     bytes "ACK "
-    ++ (packetText (b .place) (b .packet) ++ (bytes " " ++ (octalText (b .function) ++ (bytes " " ++ (decimalText (b .at) ++ bytes "\n")))))
+    ++ (packetText (b .place) (b .packet)
+    ++ (bytes " " ++ (octalText (b .function) ++ (bytes " " ++ (decimalText (b .at) ++ bytes "\n")))))
 
 -- a completion: `ACK p k`, the packet that it ends
 abbrev pub completedText : ℕ → ℕ → List ℕ
