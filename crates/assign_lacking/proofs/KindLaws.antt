@@ -26,7 +26,7 @@ use Rattle.assign_heads.specs.Whose.{freeAt, blank, toAt}
 use Rattle.assign_heads.specs.Giving.{FreeCounts}
 use Rattle.assign_heads.proofs.HeadsLaws.{served-placed}
 use Rattle.assign_heads.proofs.ServingLaws.{served-so}
-use Rattle.assign_heads.proofs.Computed.{roomOf, serviceOf, serveOf, serve-answers}
+use Rattle.assign_heads.proofs.Computed.{countsOf, serviceOf, serveOf, serve-answers}
 use Rattle.assign_free.specs.Assignable.{isFreeOf}
 use Rattle.assign_free.proofs.AssignableLaws.{marks}
 use Rattle.assign_free.proofs.Computed.{marksOf, marks-answer}
@@ -76,8 +76,8 @@ module _ (units : List (List Unit)) (channels : List Channel) (size : length cha
     each = λ d h. part-at counts d h ∙ c .each row d is h ∙ ap (λ (f : ℕ → Bool). howMany 16 (λ u. f (d * 16 + u))) (sym marked);
   }
 
-  room-one : wantsOf counts row ≡ roomOf free
-  room-one = ext-getD 0 (wantsOf counts row) (roomOf free) (room .long) λ d h.
+  room-one : wantsOf counts row ≡ countsOf free
+  room-one = ext-getD 0 (wantsOf counts row) (countsOf free) (room .long) λ d h.
       let k : d < 16 = omega (arith, room .long) in
       room .each d k ∙ sym (values-at (λ c. howMany 16 (λ u. freeAt free (c * 16 + u))) 16 d 0 k)
 
@@ -93,17 +93,17 @@ module _ (units : List (List Unit)) (channels : List Channel) (size : length cha
   abbrev none : List Head
   none = replicate 256 blank
 
-  serve-ok : chooseOf (roomOf free) (wantsOf asked row) .ok ≡ true → serveOf free (wantsOf asked row) none .ok ≡ true
+  serve-ok : chooseOf (countsOf free) (wantsOf asked row) .ok ≡ true → serveOf free (wantsOf asked row) none .ok ≡ true
   unfolding serveOf serviceOf
   serve-ok t = rw t refl
 
   pub servable-kind : Servable (wantsOf counts row) (wantsOf asked row)
       → (its : ℕ → ℕ) × ((to : ℕ → Given) × Served (isFreeOf units channels row) (want (wantsOf asked row)) its to)
   servable-kind s =
-      by-bool (chooseOf (roomOf free) (wantsOf asked row) .ok)
+      by-bool (chooseOf (countsOf free) (wantsOf asked row) .ok)
       (λ t.
       let r = serveOf free (wantsOf asked row) none in
       let k = served-so free (wantsOf asked row) none r (serve-ok t) (serve-answers free (wantsOf asked row) none refl (part-long asked full) refl) in
       (on (r .on), (toAt free (r .heads), subst (λ (f : ℕ → Bool). Served f (want (wantsOf asked row)) (on (r .on)) (toAt free (r .heads))) marked (k .served))))
-      (λ t. absurd (found-none (roomOf free) (wantsOf asked row) (chooseOf (roomOf free) (wantsOf asked row)) t (chosen (roomOf free) (wantsOf asked row) refl (part-long asked full)) .never (s .channels)
+      (λ t. absurd (found-none (countsOf free) (wantsOf asked row) (chooseOf (countsOf free) (wantsOf asked row)) t (chosen (countsOf free) (wantsOf asked row) refl (part-long asked full)) .never (s .channels)
       (subst (λ (x : List ℕ). Placed x (wantsOf asked row) (s .channels)) room-one (s .placed))))

@@ -33,7 +33,7 @@ boardText lists schedule =
 abbrev pub most : ℕ
 most = 17235
 
--- what the board leaves in lent room: its text from a place on, cut at the room's end; where there are that many
+-- what the board leaves in lent room: its text from a position on, cut at the room's end; where there are that many
 -- bytes, all of it, and the rest of the room is kept
 pub record Boarded (room : List ℕ) (at : ℕ) (lists : Lists) (schedule : Schedule) (after : List ℕ) (r : ℕ) : Type 0 where
   pub text : Room.Written room at (boardText lists schedule) after r

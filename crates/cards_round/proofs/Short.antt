@@ -18,7 +18,7 @@ use Rattle.words.specs.Words.{every, same, value}
 use Rattle.words.proofs.WordLaws.{value-below, tens}
 use Rattle.cards_fields.specs.Fields.{field, fields, split, onto, spaceless, upToPeriod, closed, cardByte, malformed}
 use Rattle.cards_fac.specs.Fac.{codes, codeText, codeOf, channelText, slashAt, numberText, channelGood, most, numberGood, entryGood, slot, slotOf, codeError, formError, entryError, entered, entriesError, allEntered, nothing}
-use Rattle.lists.specs.Parts.{placeIn}
+use Rattle.cards_fac.specs.Fac.{indexIn}
 use Rattle.cards.specs.Errors.{errorIf}
 use Rattle.cards.proofs.ErrorLaws.{or-else-none, not-good}
 use Rattle.cards.specs.declared.CardError.the-variants.{WrongEntry}
@@ -95,13 +95,13 @@ same-length [] (y ∷ t) e = never e refl
 same-length (x ∷ s) [] e = never e refl
 same-length (x ∷ s) (y ∷ t) e = ap suc (same-length s t (both (eqb x y) (same s t) e .1))
 
-code-length : (ks : List (List ℕ)) (c : List ℕ) → placeIn ks c < length ks → length (getD ks (placeIn ks c) []) ≡ length c
+code-length : (ks : List (List ℕ)) (c : List ℕ) → indexIn ks c < length ks → length (getD ks (indexIn ks c) []) ≡ length c
 code-length [] c h = absurd (omega arith)
 code-length (k ∷ ks) c h =
     by-bool (same k c) (λ t. rw t (same-length k c t)) (λ t. rw t (code-length ks c (less t)))
   where
-    less : same k c ≡ false → placeIn ks c < length ks
-    less t = let g : suc (placeIn ks c) < suc (length ks) = rw t at h in omega arith
+    less : same k c ≡ false → indexIn ks c < length ks
+    less t = let g : suc (indexIn ks c) < suc (length ks) = rw t at h in omega arith
 
 -- the channel of a good entry, written again; 0 is not written
 channel-few : (code : ℕ) (s : List ℕ) → channelGood code s ≡ true → length (cond (eqb (value s) 0) [] (decimalText (value s))) ≤ length s

@@ -22,7 +22,7 @@ use Rattle.cards_pty.specs.Pty.{ruleAt, fieldError}
 use Rattle.cards_pty.proofs.PtyLaws.{fromIndex, field-wrong, field-right, most-small, much-too-long}
 use Rattle.cards.specs.declared.Request.{Request}
 use Rattle.cards_writing.specs.Writing.{formedFrom, formed, limit, numbersFit, ptyText, facText, textOf, takes, fits, writeAnswer, written}
-use Rattle.cards_writing.proofs.PutLaws.{put-place, put-whole}
+use Rattle.cards_writing.proofs.PutLaws.{put-reached, put-whole}
 use Rattle.cards_writing.specs.declared.Wrote.the-variants.{Cards, Refused}
 
 -- a name from a position on, one byte further
@@ -68,7 +68,7 @@ module _ (fs : List (List ℕ)) (k : ℕ) (h : k < 14) (b : Bool) (is : b ≡ go
 pub field-put : (k : ℕ) {p after : List ℕ} {next : ℕ} → Written (replicate 13 0) 0 p after next
     → fieldError k (ruleAt k) (take next after) ≡ fieldError k (ruleAt k) p
 field-put k {p} {after} {next} w =
-    let e = put-place 13 w in
+    let e = put-reached 13 w in
     let l : length (take next after) ≡ next = length-take-le next after (omega (arith, same-room w, length-replicate {A = ℕ} 13 0)) in
     ⊎-elim
     (λ z. ap (fieldError k (ruleAt k)) (put-whole 13 w (omega arith) .1))
@@ -89,19 +89,19 @@ module _ (r : Request) (room : List ℕ) where
     module _ {pty : List ℕ} {p : ℕ} (wp : Written (replicate 81 0) 0 (ptyText r) pty p) where
       pub pty-long : 80 < p → (Refused NoRoom ≡ writeAnswer r (length room)) × (room ≡ written r room)
       unfolding fits
-      pty-long h = let e = put-place 81 wp in not-fit (rw (lt-leb (length (ptyText r)) 80 (omega arith)))
+      pty-long h = let e = put-reached 81 wp in not-fit (rw (lt-leb (length (ptyText r)) 80 (omega arith)))
 
       module _ (hp : p ≤ 80) {fac : List ℕ} {f : ℕ} (wf : Written (replicate 81 0) 0 (facText r) fac f) where
         pty-is : length (ptyText r) ≤ 80
-        pty-is = let e = put-place 81 wp in omega arith
+        pty-is = let e = put-reached 81 wp in omega arith
 
         pub fac-long : 80 < f → (Refused NoRoom ≡ writeAnswer r (length room)) × (room ≡ written r room)
         unfolding fits
-        fac-long h = let e = put-place 81 wf in not-fit (rw (le-leb (length (ptyText r)) 80 pty-is, lt-leb (length (facText r)) 80 (omega arith)))
+        fac-long h = let e = put-reached 81 wf in not-fit (rw (le-leb (length (ptyText r)) 80 pty-is, lt-leb (length (facText r)) 80 (omega arith)))
 
         module _ (hf : f ≤ 80) where
           fac-is : length (facText r) ≤ 80
-          fac-is = let e = put-place 81 wf in omega arith
+          fac-is = let e = put-reached 81 wf in omega arith
 
           text-long : length (textOf r) ≡ p + f + 2
           unfolding textOf

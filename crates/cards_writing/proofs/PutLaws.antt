@@ -162,8 +162,8 @@ module _ (asks : List ℕ) where
 
 -- what was put into an array of m bytes, by whether it shows as longer than a card or a field may be
 module _ (m : ℕ) {p after : List ℕ} {next : ℕ} (w : Written (replicate m 0) 0 p after next) where
-  pub put-place : next ≡ reach 0 (length p) m
-  put-place = w .place ∙ ap (reach 0 (length p)) (length-replicate {A = ℕ} m 0)
+  pub put-reached : next ≡ reach 0 (length p) m
+  put-reached = w .reached ∙ ap (reach 0 (length p)) (length-replicate {A = ℕ} m 0)
 
   pub put-whole : length p ≤ m → (next ≡ length p) × (take next after ≡ p)
   put-whole h =
@@ -174,7 +174,7 @@ module _ (m : ℕ) {p after : List ℕ} {next : ℕ} (w : Written (replicate m 0
 -- a piece is empty where nothing of it is put
 pub put-empty : {p after : List ℕ} {next : ℕ} → Written (replicate 1 0) 0 p after next → eqb next 0 ≡ eqb (length p) 0
 put-empty {p} {after} {next} w =
-    let e = put-place 1 w in
+    let e = put-reached 1 w in
     ⊎-elim
     (λ z. rw (eq-eqb next 0 (omega arith), eq-eqb (length p) 0 z))
     (λ q. rw (ne-eqb next 0 (λ i. omega arith), ne-eqb (length p) 0 (λ i. omega arith)))

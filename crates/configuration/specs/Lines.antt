@@ -42,7 +42,7 @@ abbrev pub onKind : {A : Type 0} → Coded → A → (Kind → A) → A
 onKind (Coded′.Is kind) wrong go = go kind
 onKind Coded′.Unknown wrong go = wrong
 
--- the byte at a place is b
+-- the byte at an index is b
 abbrev pub stands : ℕ → ℕ → List ℕ → Bool
 stands b at s = eqb (getD s at 0) b
 

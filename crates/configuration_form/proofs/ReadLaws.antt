@@ -44,7 +44,7 @@ and-then {rest = rest} a b =
           ∙ ap (λ (l : List ℕ). l ++ rest) (sym (written-append (a .items) (b .items)));
     }
 
--- a section that was read: as many lines as there are, from a place of the text to another
+-- a section that was read: as many lines as there are, from one position of the text to another
 pub record Ended (due : Due) (s : List ℕ) (count : ℕ) (end : Due) (from at : ℕ) : Type 0 where
   pub on : from ≤ at
   pub reads : Reads due s count end (drop (at - from) s)

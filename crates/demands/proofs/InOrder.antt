@@ -44,7 +44,7 @@ not-itself k e =
     let a : precedes k k ≡ false = rw (eq-eqb (k .letter) (k .letter) refl, eq-eqb (k .precedence) (k .precedence) refl, le-ltb (k .sequence) (k .sequence) (omega arith)) refl in
     never e a
 
--- the places of the schedule go by the order
+-- the schedule stands in the order
 module _ (es : List Entry) (keys : Pairs Ahead (requests es)) where
   ahead : (i j : ℕ) → i < j → j < length es → precedes (keyOf (entryAt es i .request)) (keyOf (entryAt es j .request)) ≡ true
   ahead i j l h =

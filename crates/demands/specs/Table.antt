@@ -30,7 +30,6 @@ use Rattle.cards_fields.specs.Deck.{cardsOf, terminated}
 use Rattle.schedule_entries.specs.Entries.{active, isNamed, suspended}
 use Rattle.schedule_entries.specs.declared.Entry.{Entry}
 use Rattle.schedule_list.specs.InSchedule.{find, inSchedule}
-use Rattle.schedule.specs.ByIndex.{ofName}
 use Rattle.packets.specs.Picks.{find as findListed}
 use Rattle.packets.specs.Rules.{atOf, inRange, isNone, isOwn, isWrong, movingStatus, reaches, startable}
 use Rattle.packets.specs.State.{

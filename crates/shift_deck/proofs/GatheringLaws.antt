@@ -21,7 +21,7 @@ module _ (room : List ℕ) (kept : ℕ) (line : List ℕ) where
   pub added : (after : List ℕ) (next : ℕ) → length room ≡ 16384 → kept + (length line + 1) ≤ 16384 → Written room kept (lineText line) after next → Adds room kept line after (Kept next)
   added after next l h w =
       let e = le-leb (kept + (length line + 1)) 16384 h in
-      let n : next ≡ kept + (length line + 1) = omega (arith, w .place, length-append line (10 ∷ [])) in
+      let n : next ≡ kept + (length line + 1) = omega (arith, w .reached, length-append line (10 ∷ [])) in
       record { is = rw (e, n); bytes = rw e (w .bytes) }
 
 -- what stands in the room of a deck that has the bytes s so far

@@ -35,7 +35,7 @@ module _ {line piece after : List ℕ} {kept : ℕ} {r : Cut} (t : TakesUp line 
       let e : r .taken ≡ length (lineOf piece) + 0 = t .taken ∙ rw v in
       omega (arith, ltb-false (length (lineOf piece)) (length piece) v, leading-most (isnt 10) piece)
 
--- the same of what a piece has from a place on
+-- the same of what a piece has from a position on
 pub taken-within : {line after : List ℕ} {kept : ℕ} {r : Cut} (s : List ℕ) (at : ℕ) → at < length s → TakesUp line kept (take (length s - at) (drop at s)) after r
     → (at + r .taken ≤ length s) × (0 < r .taken)
 taken-within s at h t =

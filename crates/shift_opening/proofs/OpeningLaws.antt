@@ -17,7 +17,7 @@ use Rattle.shift_opening.specs.declared.Opening.{Opening}
 -- a text kept in the room stays within it
 pub kept-within : (room : List ℕ) (kept from : ℕ) (text after : List ℕ) (n : ℕ) → length room ≡ 16384 → from ≡ min kept 16384 → Written room from text after n → Keeps room kept text after n
 kept-within room kept from text after n l e w =
-    record { put = subst (λ (m : ℕ). Written room m text after n) e w; within = omega (arith, w .place) }
+    record { put = subst (λ (m : ℕ). Written room m text after n) e w; within = omega (arith, w .reached) }
 
 -- what was asked is what the text begins
 pub answers-as : {b c : Beginning} {n : ℕ} {out after : List ℕ} {r : Opening} → b ≡ c → Answers b n out after r → Answers c n out after r

@@ -1,4 +1,4 @@
--- The words of a line from a place on, one word further: what the code's walks over words keep. Assumes nothing.
+-- The words of a line from a position on, one word further: what the code's walks over words keep. Assumes nothing.
 use Prim.Native.Nat.{ℕ, zero, suc, _+_, _-_, _≤_, _<_}
 use mathlib.Core.Path.{_≡_, refl, sym, ap, _∙_}
 use mathlib.Core.Bool.{Bool, true, false, cond, not, _&&_}
@@ -42,7 +42,7 @@ first-word (b ∷ s) h = test (eqb b 32) (first-word s) h
     test true ih h = refl
     test false ih h = rw (ih (le-of-suc-le-suc h))
 
--- the word that starts at a place: it ends within the line, and is the first of those from there on
+-- the word that starts at a position: it ends within the line, and is the first of those from there on
 pub record Word (s : List ℕ) (at len : ℕ) : Type 0 where
   pub most : at + len ≤ length s
   pub rest : List (List ℕ)
@@ -74,7 +74,7 @@ word s at h len is =
     })
     (eq-or-lt-of-le m)
 
--- the word at a place of those from there on
+-- the word at an index, of those from there on
 module _ (s : List ℕ) (at len left : ℕ) (w : Word s at len) where
   pub at-here : left ≡ 0 → take (at + len - at) (drop at s) ≡ getD (wordsOf (drop at s)) left []
   at-here z = part-is s at len ∙ rw (w .first, z)

@@ -14,7 +14,7 @@ pub enum Base {
     Octal,
 }
 
-// The word at a place of a line, the first at 0; empty where there is none.
+// The word at an index of a line, the first at 0; empty where there is none.
 fn word_at(line: &[u8], k: usize) -> &[u8]
     ensures { λ r. ⌜ now r ≡ getD (wordsOf (now (line .entry))) k [] ⌝ }
 {

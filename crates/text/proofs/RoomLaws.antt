@@ -31,16 +31,16 @@ sets-on s at count next p e =
 
 -- nothing is written
 pub none : (s : List ℕ) (at : ℕ) → Written s at [] s at
-none s at = record { bytes = refl; place = omega arith }
+none s at = record { bytes = refl; reached = omega arith }
 
 -- a piece, and then another
 pub andThen : {s t u p q : List ℕ} {a b c : ℕ} → Written s a p t b → Written t b q u c → Written s a (p ++ q) u c
 andThen {s} {t} {u} {p} {q} {a} {b} {c} v w =
     let l : length t ≡ length s = ap length (v .bytes) ∙ length-sets s a p in
-    let e : sets t b q ≡ sets t (a + length p) q = sets-on t a (length p) b q (omega (arith, v .place)) in
+    let e : sets t b q ≡ sets t (a + length p) q = sets-on t a (length p) b q (omega (arith, v .reached)) in
     record {
       bytes = w .bytes ∙ e ∙ ap (λ (x : List ℕ). sets x (a + length p) q) (v .bytes) ∙ sets-sets s a p q;
-      place = omega (arith, length-append p q, w .place, v .place);
+      reached = omega (arith, length-append p q, w .reached, v .reached);
     }
 
 -- whoever writes `rest` from here on has then written `whole` from there on: what a loop keeps
@@ -59,7 +59,7 @@ end {room = room} {at = at} g = g room at (none room at)
 
 -- a text put into a room leaves one room and one next index
 pub written-one : {s t u p : List ℕ} {a b c : ℕ} → Written s a p t b → Written s a p u c → (t ≡ u) × (b ≡ c)
-written-one x y = (x .bytes ∙ sym (y .bytes), x .place ∙ sym (y .place))
+written-one x y = (x .bytes ∙ sym (y .bytes), x .reached ∙ sym (y .reached))
 
 -- the room is as long as before
 pub same-room : {s t p : List ℕ} {a b : ℕ} → Written s a p t b → length t ≡ length s
@@ -67,9 +67,9 @@ same-room {s} {t} {p} {a} w = ap length (w .bytes) ∙ length-sets s a p
 
 -- where it fits: what stood before, the piece, and what stood after
 pub fitted : {s t p : List ℕ} {a b : ℕ} → Written s a p t b → a + length p ≤ length s → (b ≡ a + length p) × (t ≡ take a s ++ p ++ drop (a + length p) s)
-fitted {s} {t} {p} {a} {b} w h = (omega (arith, w .place), w .bytes ∙ sets-eq p s a h)
+fitted {s} {t} {p} {a} {b} w h = (omega (arith, w .reached), w .bytes ∙ sets-eq p s a h)
 
 -- a text put from the room's start on is the room's first bytes: those up to the next place, all of them within the
 -- room
 pub written-length : {s t p : List ℕ} {b : ℕ} → Written s 0 p t b → b ≡ length (take b t)
-written-length {s} {t} {p} {b} w = let h : b ≤ length t = omega (arith, same-room w, w .place) in sym (length-take-le b t h)
+written-length {s} {t} {p} {b} w = let h : b ≤ length t = omega (arith, same-room w, w .reached) in sym (length-take-le b t h)

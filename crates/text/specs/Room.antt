@@ -6,11 +6,11 @@ use mathlib.Core.List.{List}
 use lib.ListN.{length}
 use lib.Seq.{sets}
 
--- the place `count` bytes on from `at`, but not past the room's end
+-- the index `count` bytes on from `at`, but not past the room's end
 abbrev pub reach : ℕ → ℕ → ℕ → ℕ
 reach at count end = max at (min (at + count) end)
 
--- `room` with the bytes of `piece` stored one after the other from `at` on is `after`, and the next place is `next`
+-- `room` with the bytes of `piece` stored one after the other from `at` on is `after`, and the next index is `next`
 pub record Written (room : List ℕ) (at : ℕ) (piece after : List ℕ) (next : ℕ) : Type 0 where
   pub bytes : after ≡ sets room at piece
-  pub place : next ≡ reach at (length piece) (length room)
+  pub reached : next ≡ reach at (length piece) (length room)

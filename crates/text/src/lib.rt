@@ -34,7 +34,7 @@ pub fn is_alnum(b: u8) -> bool
     is_letter(b) || is_digit(b)
 }
 
-// The byte at a place of a text, 0 past its end.
+// The byte at an index of a text, 0 past its end.
 pub fn byte_at(s: &[u8], at: usize) -> u8
     ensures { λ r. ⌜ r ≡ getD (now (s .entry)) at 0 ⌝ }
 {
@@ -95,7 +95,7 @@ pub fn decimal(s: &[u8]) -> Number
     digits(s)
 }
 
-// Puts a byte at a place of the room and answers the next place; where the room is full, nothing.
+// Puts a byte at an index of the room and answers the next; where the room is full, nothing.
 pub fn put_byte(room: &mut [u8], at: usize, b: u8) -> usize
     ensures { λ r. ⌜ Written (now (room .entry)) at (b ∷ []) (now (room .exit)) r ⌝ }
 {
