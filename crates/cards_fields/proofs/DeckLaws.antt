@@ -17,7 +17,8 @@ use Rattle.cards_fields.proofs.FieldLaws.{rest-is}
 use Rattle.cards_fields.specs.Deck.{cardsOf, isTermination, terminated, before, size, deckEnd, opens, ontoGroup, groupsOf, firstGroup}
 use Rattle.cards_fields.specs.declared.DeckEnd.the-variants.{At, Refused}
 
--- the card that starts at a position: it ends within the text, and is the first of those from there on, if an LF ends it
+-- the card that starts at a position: it ends within the text, and is the first of those from there on, if an LF
+-- ends it
 pub record Found (s : List ℕ) (at len : ℕ) : Type 0 where
   pub most : at + len ≤ length s
   pub long : length (take len (drop at s)) ≡ len

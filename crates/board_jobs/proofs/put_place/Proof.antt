@@ -55,8 +55,8 @@ same-length-3 c = search needs
 returns-4 : tie.Need-returns-4
 returns-4 c = rw (c .before .before .before .before .before .enum-told4 .given .1) (c .before .before .put-job3 .ensures)
 
-pub put-reached-spec : {M : Type 1} → statement M
-put-reached-spec =
+pub put-place-spec : {M : Type 1} → statement M
+put-place-spec =
     tie.close
     (tie.spec
     enum-told

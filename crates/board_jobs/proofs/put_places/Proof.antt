@@ -33,11 +33,11 @@ cast-id-in c = search needs
 id-in-requires : tie.Need-id-in-requires Inv-loop μ-loop
 id-in-requires c κs = search needs
 
-cast-put-reached : tie.Need-cast-put-reached Inv-loop μ-loop
-cast-put-reached c = search needs
+cast-put-place : tie.Need-cast-put-place Inv-loop μ-loop
+cast-put-place c = search needs
 
-put-reached-requires : tie.Need-put-reached-requires Inv-loop μ-loop
-put-reached-requires c κs = search needs
+put-place-requires : tie.Need-put-place-requires Inv-loop μ-loop
+put-place-requires c κs = search needs
 
 add-p : tie.Need-add-p Inv-loop μ-loop
 add-p c = search needs
@@ -46,7 +46,7 @@ loop-less : tie.Need-loop-less Inv-loop μ-loop
 loop-less c = omega arith
 
 loop-again : tie.Need-loop-again Inv-loop μ-loop
-loop-again c = (omega arith, on (λ q. placeText q (idIn (take (c .before .before .before .before .before .before .before .before .before .args .count) (c .before .before .before .before .before .before .before .before .before .args .entries)) q) (jobIn (c .before .before .before .before .before .before .before .before .before .args .t3) q .state)) 16 (c .before .before .before .before .before .before .loop-test .taken) (c .before .before .before .before .before .before .before .loop .inv .1) (rw (c .before .before .before .before .id-in .ensures) at (c .before .before .put-reached .ensures)))
+loop-again c = (omega arith, on (λ q. placeText q (idIn (take (c .before .before .before .before .before .before .before .before .before .args .count) (c .before .before .before .before .before .before .before .before .before .args .entries)) q) (jobIn (c .before .before .before .before .before .before .before .before .before .args .t3) q .state)) 16 (c .before .before .before .before .before .before .loop-test .taken) (c .before .before .before .before .before .before .before .loop .inv .1) (rw (c .before .before .before .before .id-in .ensures) at (c .before .before .put-place .ensures)))
 
 same-length : tie.Need-same-length Inv-loop μ-loop
 same-length c = same-room (over (λ q. placeText q (idIn (take (c .before .before .before .args .count) (c .before .before .before .args .entries)) q) (jobIn (c .before .before .before .args .t3) q .state)) 16 (c .loop-test .left) (c .before .loop .inv .1))
@@ -54,8 +54,8 @@ same-length c = same-room (over (λ q. placeText q (idIn (take (c .before .befor
 returns : tie.Need-returns Inv-loop μ-loop
 returns c = over (λ q. placeText q (idIn (take (c .before .before .before .args .count) (c .before .before .before .args .entries)) q) (jobIn (c .before .before .before .args .t3) q .state)) 16 (c .loop-test .left) (c .before .loop .inv .1)
 
-pub put-reacheds-spec : {M : Type 1} → statement M
-put-reacheds-spec =
+pub put-places-spec : {M : Type 1} → statement M
+put-places-spec =
     tie.close
     (tie.spec
     Inv-loop
@@ -65,8 +65,8 @@ put-reacheds-spec =
     array-copy-out-job
     cast-id-in
     id-in-requires
-    cast-put-reached
-    put-reached-requires
+    cast-put-place
+    put-place-requires
     add-p
     loop-less
     loop-again
