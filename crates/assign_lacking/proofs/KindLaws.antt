@@ -36,11 +36,11 @@ use Rattle.assign_lacking.specs.Parts.{Servable}
 
 -- ---- the channels of the entries as a list
 abbrev pub listed : (ℕ → ℕ) → List ChannelNumber
-listed its = values (λ l. channel (its l)) 16
+listed its = values 16 (λ l. channel (its l))
 
 module _ (free : ℕ → Bool) (wants : ℕ → ℕ) (its : ℕ → ℕ) (to : ℕ → Given) (s : Served free wants its to) where
   same : (l : ℕ) → l < 16 → on (listed its) l ≡ its l
-  same l h = ap (λ (c : ChannelNumber). c .0) (values-at (λ l. channel (its l)) 16 l (channel 0) h)
+  same l h = ap (λ (c : ChannelNumber). c .0) (values-at 16 (λ l. channel (its l)) l (channel 0) h)
 
   pub by-list : Served free wants (on (listed its)) to
   by-list = record {
@@ -79,7 +79,7 @@ module _ (units : List (List Unit)) (channels : List Channel) (size : length cha
   room-one : wantsOf counts row ≡ countsOf free
   room-one = ext-getD 0 (wantsOf counts row) (countsOf free) (room .long) λ d h.
       let k : d < 16 = omega (arith, room .long) in
-      room .each d k ∙ sym (values-at (λ c. howMany 16 (λ u. freeAt free (c * 16 + u))) 16 d 0 k)
+      room .each d k ∙ sym (values-at 16 (λ c. howMany 16 (λ u. freeAt free (c * 16 + u))) d 0 k)
 
   -- entries that are served can have channels
   pub kind-servable : (its : ℕ → ℕ) (to : ℕ → Given) → Served (isFreeOf units channels row) (want (wantsOf asked row)) its to → Servable (wantsOf counts row) (wantsOf asked row)
