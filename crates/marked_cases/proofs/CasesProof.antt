@@ -15,16 +15,14 @@ use Rattle.schedule_deck.specs.Report.{after, groupText, reportText, shownBy}
 use Rattle.cards_writing.specs.Writing.{priorityText}
 use Rattle.packets.proofs.EndsMovingProof.{k9}
 use Rattle.cards_fac.specs.Fac.{askedOf, codeError, codes, entryOf, formError, facError, facOf}
-use Rattle.schedule.specs.Calls.{barred, clashError, enterError, sameThere}
-use Rattle.schedule.specs.ByIndex.{returnedAt}
+use Rattle.schedule.specs.Calls.{clashError, enterError, sameThere}
 use Rattle.schedule_candidates.specs.Candidates.{candidate}
 use Rattle.cards_fields.specs.Fields.{cardByte, fields, malformed}
 use Rattle.cards_fields.specs.Deck.{deckEnd}
 use Rattle.text.specs.Writing.{digitsText}
 use Rattle.cards_group.specs.Group.{frontError, orderedError, readCards}
 use Rattle.cards_pty.specs.Pty.{ptyError, priorityOf, programName, ranked, rules}
-use Rattle.schedule_list.specs.InSchedule.{changedAt, inserted, scheduleOf, withState}
-use Rattle.schedule_list.specs.Queries.{insertedInto, spliced, without}
+use Rattle.schedule_list.specs.InSchedule.{changedAt, inserted, removed, scheduleOf, setState as setStateIn, withState}
 use Rattle.numbers.specs.Quoted.{is2, bytes}
 use Rattle.text.specs.Class.{isAlnum, isDigit, isLetter}
 use Rattle.numbers.specs.Kinds.{kindOf}
@@ -61,7 +59,7 @@ follows c (s ∷ ss) k = λ reply d h.
 -- ---- K1 and K3, from the cards' bytes
 
 k1 : Holds (Prints k1Deck (bytes "SP B7 ER 31\nD4 01A05\nA1 02A05\nD4 SCH ACK\n"))
-unfolding after askedOf barred cardByte clashError codeError codes deckEnd digitsText enterError entryOf facError facOf fields formError frontError groupText inserted insertedInto is2 isAlnum isDigit isLetter kindOf lowerSequence malformed numberOfText orderedError precedes priorityOf priorityText programName ptyError ranked readCards reportText rules sameKey sameRank sameThere scheduleOf shownBy spliced twoDigitsOf without
+unfolding after askedOf cardByte clashError codeError codes deckEnd digitsText enterError entryOf facError facOf fields formError frontError groupText inserted is2 isAlnum isDigit isLetter kindOf lowerSequence malformed numberOfText orderedError precedes priorityOf priorityText programName ptyError ranked readCards reportText rules sameKey sameRank sameThere scheduleOf shownBy twoDigitsOf removed setStateIn
 k1 = refl
 
 k3 : Holds (Errs (bytes "A1,PTY,2,,ECU,,T,PROG,P,A5,P,3." ∷ bytes "A1,FAC,IB/14,DB/15." ∷ []) 14)
@@ -71,27 +69,27 @@ k3 = refl
 -- ---- K2 and K4 to K8, by the computed cell
 
 k2 : Holds (Plays (with· noChannels) (alone (bytes "IB/28") (Given 0 2 0 0 0 0 0)))
-unfolding after askedOf barred cardByte clashError codeError codes deckEnd digitsText enterError entryOf facError facOf fields formError frontError inserted insertedInto is2 isAlnum isDigit isLetter kindOf lowerSequence malformed numberOfText orderedError precedes priorityOf programName ptyError ranked readCards rules sameKey sameRank sameThere scheduleOf shownBy spliced twoDigitsOf without assignOf kindsFrom searchOf runB fitsB startOf areaB drumLength serveOf serviceOf giveFrom chooseOf picks lowestFrom testsB ge sumTo isFreeOf unitIn unitSet assignable legalOf refusal accept answer fresh fittedOn drumOn configured packetIn stateIn put relist enlisted entryOf′ placeOf packetOf setState restatusAll takeAll releaseAll freshCell acted outcome candidate wordFrom freshUnits changedAt withState returnedAt
+unfolding after askedOf cardByte clashError codeError codes deckEnd digitsText enterError entryOf facError facOf fields formError frontError inserted is2 isAlnum isDigit isLetter kindOf lowerSequence malformed numberOfText orderedError precedes priorityOf programName ptyError ranked readCards rules sameKey sameRank sameThere scheduleOf shownBy twoDigitsOf assignOf kindsFrom searchOf runB fitsB startOf areaB drumLength serveOf serviceOf giveFrom chooseOf picks lowestFrom testsB ge sumTo isFreeOf unitIn unitSet assignable legalOf refusal accept answer fresh fittedOn drumOn configured packetIn stateIn put relist enlisted entryOf′ placeOf packetOf setState restatusAll takeAll releaseAll freshCell acted outcome candidate wordFrom freshUnits changedAt withState removed setStateIn
 k2 = let k : Computes (freshCell (with· noChannels)) (alone (bytes "IB/28") (Given 0 2 0 0 0 0 0)) = (refl, (refl, (refl, (refl, tt)))) in follows (freshCell (with· noChannels)) (alone (bytes "IB/28") (Given 0 2 0 0 0 0 0)) k
 
 k4 : Holds (Plays (with· noChannels) k4Steps)
-unfolding after askedOf barred cardByte clashError codeError codes deckEnd digitsText enterError entryOf facError facOf fields formError frontError inserted insertedInto is2 isAlnum isDigit isLetter kindOf lowerSequence malformed numberOfText orderedError precedes priorityOf programName ptyError ranked readCards rules sameKey sameRank sameThere scheduleOf shownBy spliced twoDigitsOf without assignOf kindsFrom searchOf runB fitsB startOf areaB drumLength serveOf serviceOf giveFrom chooseOf picks lowestFrom testsB ge sumTo isFreeOf unitIn unitSet assignable legalOf refusal accept answer fresh fittedOn drumOn configured packetIn stateIn put relist enlisted entryOf′ placeOf packetOf setState restatusAll takeAll releaseAll freshCell acted outcome candidate wordFrom freshUnits changedAt withState returnedAt
+unfolding after askedOf cardByte clashError codeError codes deckEnd digitsText enterError entryOf facError facOf fields formError frontError inserted is2 isAlnum isDigit isLetter kindOf lowerSequence malformed numberOfText orderedError precedes priorityOf programName ptyError ranked readCards rules sameKey sameRank sameThere scheduleOf shownBy twoDigitsOf assignOf kindsFrom searchOf runB fitsB startOf areaB drumLength serveOf serviceOf giveFrom chooseOf picks lowestFrom testsB ge sumTo isFreeOf unitIn unitSet assignable legalOf refusal accept answer fresh fittedOn drumOn configured packetIn stateIn put relist enlisted entryOf′ placeOf packetOf setState restatusAll takeAll releaseAll freshCell acted outcome candidate wordFrom freshUnits changedAt withState removed setStateIn
 k4 = let k : Computes (freshCell (with· noChannels)) k4Steps = (refl, (refl, (refl, (refl, (refl, (refl, (refl, (refl, (refl, (refl, (refl, (refl, (refl, (refl, (refl, (refl, tt)))))))))))))))) in follows (freshCell (with· noChannels)) k4Steps k
 
 k5 : Holds (Plays (with· mtChannels) (alone (bytes "IB/1,MT1/2,MT2/3") (Given 0 2 0 0 0 5 3)))
-unfolding after askedOf barred cardByte clashError codeError codes deckEnd digitsText enterError entryOf facError facOf fields formError frontError inserted insertedInto is2 isAlnum isDigit isLetter kindOf lowerSequence malformed numberOfText orderedError precedes priorityOf programName ptyError ranked readCards rules sameKey sameRank sameThere scheduleOf shownBy spliced twoDigitsOf without assignOf kindsFrom searchOf runB fitsB startOf areaB drumLength serveOf serviceOf giveFrom chooseOf picks lowestFrom testsB ge sumTo isFreeOf unitIn unitSet assignable legalOf refusal accept answer fresh fittedOn drumOn configured packetIn stateIn put relist enlisted entryOf′ placeOf packetOf setState restatusAll takeAll releaseAll freshCell acted outcome candidate wordFrom freshUnits changedAt withState returnedAt
+unfolding after askedOf cardByte clashError codeError codes deckEnd digitsText enterError entryOf facError facOf fields formError frontError inserted is2 isAlnum isDigit isLetter kindOf lowerSequence malformed numberOfText orderedError precedes priorityOf programName ptyError ranked readCards rules sameKey sameRank sameThere scheduleOf shownBy twoDigitsOf assignOf kindsFrom searchOf runB fitsB startOf areaB drumLength serveOf serviceOf giveFrom chooseOf picks lowestFrom testsB ge sumTo isFreeOf unitIn unitSet assignable legalOf refusal accept answer fresh fittedOn drumOn configured packetIn stateIn put relist enlisted entryOf′ placeOf packetOf setState restatusAll takeAll releaseAll freshCell acted outcome candidate wordFrom freshUnits changedAt withState removed setStateIn
 k5 = let k : Computes (freshCell (with· mtChannels)) (alone (bytes "IB/1,MT1/2,MT2/3") (Given 0 2 0 0 0 5 3)) = (refl, (refl, (refl, (refl, tt)))) in follows (freshCell (with· mtChannels)) (alone (bytes "IB/1,MT1/2,MT2/3") (Given 0 2 0 0 0 5 3)) k
 
 k6 : Holds (Plays (with· mtChannels) (alone (bytes "IB/1,MT1/2,MT/4") (Given 0 2 0 0 0 3 0)))
-unfolding after askedOf barred cardByte clashError codeError codes deckEnd digitsText enterError entryOf facError facOf fields formError frontError inserted insertedInto is2 isAlnum isDigit isLetter kindOf lowerSequence malformed numberOfText orderedError precedes priorityOf programName ptyError ranked readCards rules sameKey sameRank sameThere scheduleOf shownBy spliced twoDigitsOf without assignOf kindsFrom searchOf runB fitsB startOf areaB drumLength serveOf serviceOf giveFrom chooseOf picks lowestFrom testsB ge sumTo isFreeOf unitIn unitSet assignable legalOf refusal accept answer fresh fittedOn drumOn configured packetIn stateIn put relist enlisted entryOf′ placeOf packetOf setState restatusAll takeAll releaseAll freshCell acted outcome candidate wordFrom freshUnits changedAt withState returnedAt
+unfolding after askedOf cardByte clashError codeError codes deckEnd digitsText enterError entryOf facError facOf fields formError frontError inserted is2 isAlnum isDigit isLetter kindOf lowerSequence malformed numberOfText orderedError precedes priorityOf programName ptyError ranked readCards rules sameKey sameRank sameThere scheduleOf shownBy twoDigitsOf assignOf kindsFrom searchOf runB fitsB startOf areaB drumLength serveOf serviceOf giveFrom chooseOf picks lowestFrom testsB ge sumTo isFreeOf unitIn unitSet assignable legalOf refusal accept answer fresh fittedOn drumOn configured packetIn stateIn put relist enlisted entryOf′ placeOf packetOf setState restatusAll takeAll releaseAll freshCell acted outcome candidate wordFrom freshUnits changedAt withState removed setStateIn
 k6 = let k : Computes (freshCell (with· mtChannels)) (alone (bytes "IB/1,MT1/2,MT/4") (Given 0 2 0 0 0 3 0)) = (refl, (refl, (refl, (refl, tt)))) in follows (freshCell (with· mtChannels)) (alone (bytes "IB/1,MT1/2,MT/4") (Given 0 2 0 0 0 3 0)) k
 
 k7 : Holds (Plays (with· mtChannels) (alone (bytes "IB/1,MT1/2,MT/5") (Refused NothingSelected)))
-unfolding after askedOf barred cardByte clashError codeError codes deckEnd digitsText enterError entryOf facError facOf fields formError frontError inserted insertedInto is2 isAlnum isDigit isLetter kindOf lowerSequence malformed numberOfText orderedError precedes priorityOf programName ptyError ranked readCards rules sameKey sameRank sameThere scheduleOf shownBy spliced twoDigitsOf without assignOf kindsFrom searchOf runB fitsB startOf areaB drumLength serveOf serviceOf giveFrom chooseOf picks lowestFrom testsB ge sumTo isFreeOf unitIn unitSet assignable legalOf refusal accept answer fresh fittedOn drumOn configured packetIn stateIn put relist enlisted entryOf′ placeOf packetOf setState restatusAll takeAll releaseAll freshCell acted outcome candidate wordFrom freshUnits changedAt withState returnedAt
+unfolding after askedOf cardByte clashError codeError codes deckEnd digitsText enterError entryOf facError facOf fields formError frontError inserted is2 isAlnum isDigit isLetter kindOf lowerSequence malformed numberOfText orderedError precedes priorityOf programName ptyError ranked readCards rules sameKey sameRank sameThere scheduleOf shownBy twoDigitsOf assignOf kindsFrom searchOf runB fitsB startOf areaB drumLength serveOf serviceOf giveFrom chooseOf picks lowestFrom testsB ge sumTo isFreeOf unitIn unitSet assignable legalOf refusal accept answer fresh fittedOn drumOn configured packetIn stateIn put relist enlisted entryOf′ placeOf packetOf setState restatusAll takeAll releaseAll freshCell acted outcome candidate wordFrom freshUnits changedAt withState removed setStateIn
 k7 = let k : Computes (freshCell (with· mtChannels)) (alone (bytes "IB/1,MT1/2,MT/5") (Refused NothingSelected)) = (refl, (refl, (refl, (refl, tt)))) in follows (freshCell (with· mtChannels)) (alone (bytes "IB/1,MT1/2,MT/5") (Refused NothingSelected)) k
 
 k8 : Holds (Plays (with· drumChannels) (alone (bytes "IB/1,MD/1500") (Given 0 2 0 35329 36828 0 0)))
-unfolding after askedOf barred cardByte clashError codeError codes deckEnd digitsText enterError entryOf facError facOf fields formError frontError inserted insertedInto is2 isAlnum isDigit isLetter kindOf lowerSequence malformed numberOfText orderedError precedes priorityOf programName ptyError ranked readCards rules sameKey sameRank sameThere scheduleOf shownBy spliced twoDigitsOf without assignOf kindsFrom searchOf runB fitsB startOf areaB drumLength serveOf serviceOf giveFrom chooseOf picks lowestFrom testsB ge sumTo isFreeOf unitIn unitSet assignable legalOf refusal accept answer fresh fittedOn drumOn configured packetIn stateIn put relist enlisted entryOf′ placeOf packetOf setState restatusAll takeAll releaseAll freshCell acted outcome candidate wordFrom freshUnits changedAt withState returnedAt
+unfolding after askedOf cardByte clashError codeError codes deckEnd digitsText enterError entryOf facError facOf fields formError frontError inserted is2 isAlnum isDigit isLetter kindOf lowerSequence malformed numberOfText orderedError precedes priorityOf programName ptyError ranked readCards rules sameKey sameRank sameThere scheduleOf shownBy twoDigitsOf assignOf kindsFrom searchOf runB fitsB startOf areaB drumLength serveOf serviceOf giveFrom chooseOf picks lowestFrom testsB ge sumTo isFreeOf unitIn unitSet assignable legalOf refusal accept answer fresh fittedOn drumOn configured packetIn stateIn put relist enlisted entryOf′ placeOf packetOf setState restatusAll takeAll releaseAll freshCell acted outcome candidate wordFrom freshUnits changedAt withState removed setStateIn
 k8 = let k : Computes (freshCell (with· drumChannels)) (alone (bytes "IB/1,MD/1500") (Given 0 2 0 35329 36828 0 0)) = (refl, (refl, (refl, (refl, tt)))) in follows (freshCell (with· drumChannels)) (alone (bytes "IB/1,MD/1500") (Given 0 2 0 35329 36828 0 0)) k
 
 -- K1 TO K9
