@@ -59,7 +59,7 @@ not-done {n} e = subst (λ (o : Outcome). is o) e tt
     is Done = ⊥
     is (Refused m) = Unit {0}
 
-done-found : (b : Bool) → outcomeOf b ≡ Done → b ≡ true
+pub done-found : (b : Bool) → outcomeOf b ≡ Done → b ≡ true
 done-found true e = refl
 done-found false e = absurd (not-done e)
 

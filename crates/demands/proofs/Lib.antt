@@ -1,4 +1,5 @@
 pub mod Numbers
 pub mod Standing
 pub mod InOrder
+pub mod Texts
 pub mod Proved

@@ -2,9 +2,9 @@
 -- does. By the kinds of call: the rules' chain of tests is the chain of rows. Assumes nothing.
 use Prim.Native.Nat.{ℕ}
 use mathlib.Core.Path.{_≡_, refl, sym, ap, subst, _∙_}
-use mathlib.Core.Bool.{Bool, true, false, not, cond, _&&_}
+use mathlib.Core.Bool.{Bool, not, cond, _&&_}
 use mathlib.Core.List.{List, [], _∷_}
-use mathlib.Core.Logic.{_⊎_, inl, inr}
+use mathlib.Core.Logic.{inl, inr}
 use mathlib.Core.Option.{Option, none, some}
 use lib.Dec.{leb, ltb}
 use lib.ListN.{length}
@@ -18,7 +18,7 @@ use Rattle.schedule_entries.specs.declared.Entry.{Entry}
 use Rattle.schedule_list.specs.InSchedule.{find as findNamed, inSchedule}
 use Rattle.schedule_list.specs.declared.Schedule.{Schedule}
 use Rattle.schedule_deck.specs.Report.{outcomeBy}
-use Rattle.schedule.specs.ByIndex.{deletedAt, ofName, releasedAt}
+use Rattle.schedule.specs.Calls.{deletedBy, releasedBy}
 use Rattle.packets.specs.Picks.{find}
 use Rattle.packets.specs.Rules as Rules
 use Rattle.packets.specs.State.{State, motionOn, stateIn}

@@ -1,57 +1,48 @@
 -- THE THREE DEMANDS ARE MET. What the request lists' own theorems say of any history of the rules is carried to any
 -- history of the cell by what the lists hear of it. Assumes nothing.
-use Prim.Native.Nat.{ℕ, zero, suc, _≤_}
+use Prim.Native.Nat.{ℕ}
 use mathlib.Core.Path.{_≡_, refl, sym, ap, subst, _∙_}
 use mathlib.Core.Bool.{Bool, true, cond, _&&_}
 use mathlib.Core.List.{List, [], _∷_, _++_}
 use mathlib.Core.Option.{none, some}
 use native.Mathlib.Omega.{arith}
 use lib.Dec.{ltb}
-use lib.ListN.{length, take}
 use borrow.Author.Tests.{eqb-true}
 use Rattle.numbers.proofs.Tests.{by-bool, never}
-use Rattle.numbers.specs.declared.ChannelNumber.{ChannelNumber}
 use Rattle.numbers.specs.declared.Outcome.the-variants.{Done, Refused}
 use Rattle.numbers.specs.declared.Refusal.{Refusal}
 use Rattle.numbers.specs.declared.Refusal.the-variants.{OutOfRange}
-use Rattle.units.specs.State.{assignable, unitIn}
-use Rattle.units.specs.declared.Unit.{Unit as UnitState}
-use Rattle.channels.specs.Channels.{hasUnit}
-use Rattle.channels.specs.declared.Channel.{Channel}
 use Rattle.channels.specs.declared.Configuration.{Configuration}
-use Rattle.configuration.specs.declared.Answer.{Answer}
 use Rattle.configuration_units.specs.Fresh.{freshUnits}
 use Rattle.configuration_units.proofs.FreshLaws.{fresh-free}
-use Rattle.configuration_form.specs.Form.{InForm}
 use Rattle.configuration_form.proofs.Meaning.{meaning}
 use Rattle.configuration_form.proofs.Unique.{first-named, read-back}
-use Rattle.configuration_listing.specs.Listing.{Listed, answerText, assignableUnits, counted, linesFrom}
-use Rattle.cards.specs.declared.Request.{Request}
-use Rattle.cards_writing.specs.Writing.{fits, takes, writeAnswer, written}
+use Rattle.configuration_listing.specs.Listing.{counted}
+use Rattle.cards_writing.specs.Writing.{takes}
 use Rattle.cards_round.proofs.Fits.{always-written}
 use Rattle.cards_round.proofs.Order.{same-request}
-use Rattle.assign_heads.specs.Sums.{howMany, sumTo}
 use Rattle.cards_writing.proofs.Round.{room-read}
 use Rattle.schedule_list.specs.InSchedule.{inSchedule}
 use Rattle.packets.specs.Codes.{statusAfter}
 use Rattle.packets.proofs.CodesProof.{codes}
-use Rattle.packets.specs.Demand.{Holds, Isolated, Stretch, fresh, Holding, events}
+use Rattle.packets.specs.Demand.{Holds, Isolated, Stretch, Holding, events}
 use Rattle.packets.proofs.DemandProof.{demand3}
 use Rattle.packets.specs.State.{State, packetIn, heldBy, inMotion}
 use Rattle.packets.specs.declared.Status.{Status}
 use Rattle.packets.specs.declared.Verdict.{Verdict}
 use Rattle.packets.specs.declared.Verdict.the-variants.{Denied, Granted}
-use Rattle.cell_selection.specs.Selecting.{Selects, SelectsBy, takingOf}
+use Rattle.cell_selection.specs.Selecting.{Selects, SelectsBy, takingOf, leftBy}
 use Rattle.cell_selection.proofs.SelectingLaws.{refused-only, refused-when, taking-granted}
 use Rattle.cell_selection.specs.declared.Selection.{Selection}
-use Rattle.cell.specs.Calls.{acted, freshCell, outcomeOf}
+use Rattle.cell.specs.Calls.{acted, freshCell, outcomeOf, Enters}
 use Rattle.cell.specs.declared.Cell.{Cell}
 use Rattle.cell.specs.declared.StatusAnswer.the-variants.{Is}
 use Rattle.cell_history.proofs.HeardLaws.{does-heard, leads-heard}
 use Rattle.cell_history.specs.Heard.{heard, heardOf, inside, taken, told}
-use Rattle.cell_history.specs.History.{Call, Chosen, Does, Event, Leads, Reply, Said, Select, Shown, Complete, Deck, Delete, End, Mark, Release, Start, Status, Submit}
+use Rattle.cell_history.specs.History.{Call, Chosen, Does, Event, Leads, Reply, Said, Select, Shown, Complete, Deck, Delete, End, Mark, Release, Start, Submit}
 use Rattle.demands.specs.Demands.{Demand1, Demand2, Demand3, WhileHeld}
 use Rattle.demands.proofs.InOrder.{first-in-order}
+use Rattle.demands.proofs.Texts.{counted-fresh, kept-room, listed, listed-bad, writes-12, writes-13, writes-so}
 use Rattle.demands.specs.Refusing.{refusalIn}
 use Rattle.demands.proofs.Numbers.{answers-by, numbers, ofVerdict}
 use Rattle.demands.proofs.Standing.{deck-lent, stands}
@@ -60,26 +51,19 @@ use Rattle.units.specs.declared.Holder.the-variants.{Free, Held}
 use Rattle.packets.proofs.Inv.{motion-busy}
 use Rattle.packets.specs.declared.Assignment.{Assignment}
 use Rattle.packets_given.specs.Given.{OnItsOwn, StillOwn, taking}
-use Rattle.cell_history.proofs.FromFresh.{chosen-is, reached, refused-found, selected-of, taking-of}
+use Rattle.cell_history.proofs.FromFresh.{chosen-is, done-found, reached, refused-found, selected-of, taking-of}
 use Rattle.cell_history.proofs.ToldLaws.{leads-told}
 use Rattle.cell_reached.proofs.ReachedProof.{every-cell}
-use Rattle.cards_writing.specs.declared.Wrote.the-variants as Wrote′
 use Rattle.packets.specs.Rules as Rules
 use Rattle.cell.specs.declared.StatusAnswer.the-variants as Statuses
+use Rattle.schedule.specs.Calls.{taken as taken′}
+use Rattle.schedule_list.specs.declared.Schedule.{Schedule}
+use Rattle.schedule_deck.specs.Report.{deckSchedule}
+use Rattle.packets.specs.declared.Lists.{Lists}
+use Rattle.cell.specs.declared.DeckAnswer.{DeckAnswer}
 use Rattle.packets.specs.Demand as Told
 
 -- ---- demand 1
-
--- the writer keeps every byte where it refuses
-kept-room : (r : Request) (room : List ℕ) (n : Refusal) → writeAnswer r (length room) ≡ Wrote′.Refused n → written r room ≡ room
-unfolding writeAnswer written
-kept-room r room n e =
-    by-bool (takes r)
-    (λ t. by-bool (fits r (length room)) (λ f. absurd (not-cards (rw (t, f) at e))) (λ f. rw (t, f) refl))
-    (λ t. rw t refl)
-  where
-    not-cards : {k : ℕ} → Wrote′.Cards k ≡ Wrote′.Refused n → ⊥
-    not-cards {k} q = let z : _≡_ {A = ℕ} 0 1 = cc in omega arith
 
 pub demand-1 : Demand1
 demand-1 =
@@ -88,9 +72,12 @@ demand-1 =
       stands = stands;
       lent = deck-lent;
       kept = kept-room;
+      wrong = writes-13;
+      short = writes-12;
       configuration = meaning;
       read = read-back;
       named = first-named;
+      printed = listed-bad;
     }
 
 -- ---- demand 2
@@ -171,35 +158,31 @@ shown-is c d place packet status h =
     not-refused : {n : Refusal} → Shown (Is status) ≡ Shown (Statuses.Refused n) → ⊥
     not-refused {n} e = let z : _≡_ {A = ℕ} 0 1 = cc in omega arith
 
--- what the listing program puts for the written form of a configuration
-listed : (s room after : List ℕ) (r : ℕ) (of : List Channel) (marks : List Bool) → InForm s of marks → Listed s room after r
-    → 96 ≤ length room → take r after ≡ linesFrom (record { channels = of; down = marks }) 16 0
-listed s room after r of marks f l h =
-    l .whole h .0 ∙ ap (λ (a : Answer). answerText (a .verdict) (a .configuration)) (read-back s of marks f)
+-- a deck that is taken is entered
+entered-so : (c : Cell) (deck room after : List ℕ) (r : DeckAnswer) → Enters c deck room after r → r .cell .schedule ≡ deckSchedule (c .schedule) deck
+entered-so c deck room after r h = h .deck .then
 
--- the units that it counts are those of the fresh cell
-counted-to : (configuration : Configuration) (grid : List (List UnitState)) (channel : ChannelNumber) (n : ℕ)
-    → assignableUnits configuration grid channel n
-    ≡ howMany n (λ u. hasUnit configuration channel (record { 0 = u }) && assignable (unitIn grid (channel .0) u))
-unfolding assignableUnits counted sumTo
-counted-to configuration grid channel zero = refl
-counted-to configuration grid channel (suc n) = omega (arith, counted-to configuration grid channel n)
-
-counted-fresh : (configuration : Configuration) (channel : ChannelNumber)
-    → assignableUnits configuration (freshUnits (configuration .down)) channel 16
-    ≡ howMany 16 (λ u. hasUnit configuration channel (record { 0 = u }) && assignable (unitIn (inside (freshCell configuration) .units) (channel .0) u))
-unfolding fresh
-counted-fresh configuration channel =
-    counted-to configuration (freshUnits (configuration .down)) channel 16
-    ∙ ap (λ (s : State). howMany 16 (λ u. hasUnit configuration channel (record { 0 = u }) && assignable (unitIn (s .units) (channel .0) u))) (sym (fresh-inside configuration))
+-- the request of the job selected runs in its place
+runs-then : (c d : Cell) (s : Selection) → Does c Select (Chosen Done s) d → d .schedule ≡ taken′ (c .schedule) (s .at) (s .place)
+runs-then c d s h =
+    let e = chosen-is (h .1 .1 .0) in
+    let f : h .0 .selection .found ≡ true = done-found (h .0 .selection .found) (sym (h .1 .0 .outcome) ∙ sym (e .0)) in
+    ap (λ (x : Cell). x .schedule) (h .1 .1 .1)
+    ∙ ap (λ (x : Schedule × Lists). x .0) (h .1 .0 .takes .leaves ∙ ap (λ (b : Bool). leftBy b (c .schedule) (c .lists) (h .0 .selection)) f)
+    ∙ ap (λ (x : Selection). taken′ (c .schedule) (x .at) (x .place)) (sym (e .1))
 
 pub demand-2 : Demand2
 demand-2 =
     record {
       cards = λ r room t f. room-read r room t f .1;
       again = always-written;
+      wrote = writes-so;
       same = same-request;
+      entered = entered-so;
       selected = selected-of;
+      runs = runs-then;
+      released = λ c d id reply h. ap (λ (x : Cell). x .schedule) (h .1);
+      deleted = λ c d id reply h. ap (λ (x : Cell). x .schedule) (h .1);
       first = λ configuration es c h d s k. first-in-order configuration es c h s (selected-of c d s k);
       refused = λ c d o s h.
           let e = chosen-is (h .1 .1 .0) in
@@ -242,7 +225,7 @@ heard-stretch h s (End place inError) reply H = (H, tt)
 heard-stretch h s (Mark channel unit mark on) reply H = (H, tt)
 heard-stretch h s (Release id) reply H = tt
 heard-stretch h s (Delete id) reply H = tt
-heard-stretch h s (Status place packet) reply H = tt
+heard-stretch h s (Call.Status place packet) reply H = tt
 
 held-stretch : (h : Holding) (c d : Cell) (es : List Event) → WhileHeld h c es d → Stretch h (inside c) (heard es)
 held-stretch h c d [] w = tt

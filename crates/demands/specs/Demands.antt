@@ -3,7 +3,7 @@
 -- any history of calls from a fresh cell. A reader has to believe this page.
 use Prim.Native.Nat.{ℕ, _≤_}
 use mathlib.Core.Path.{_≡_}
-use mathlib.Core.Bool.{Bool, true, _&&_}
+use mathlib.Core.Bool.{Bool, true, false, _&&_}
 use mathlib.Core.List.{List, [], _∷_}
 use mathlib.Core.Option.{none, some}
 use lib.ListN.{length, take}
@@ -11,7 +11,7 @@ use Rattle.numbers.specs.declared.ChannelNumber.{ChannelNumber}
 use Rattle.numbers.specs.declared.Outcome.{Outcome}
 use Rattle.numbers.specs.declared.Outcome.the-variants.{Done, Refused}
 use Rattle.numbers.specs.declared.Refusal.{Refusal}
-use Rattle.numbers.specs.declared.Refusal.the-variants.{NothingSelected}
+use Rattle.numbers.specs.declared.Refusal.the-variants.{NoRoom, NothingSelected, WrongRequest}
 use Rattle.units.specs.State.{assignable, unitIn}
 use Rattle.channels.specs.Channels.{hasUnit}
 use Rattle.channels.specs.declared.Channel.{Channel}
@@ -20,7 +20,7 @@ use Rattle.configuration.specs.Configured.{configurationOf, good, refused}
 use Rattle.configuration_form.specs.Form.{FirstBad, InForm}
 use Rattle.configuration_form.specs.Means.{Means}
 use Rattle.configuration_units.specs.Fresh.{freshUnits}
-use Rattle.configuration_listing.specs.Listing.{Listed, assignableUnits, linesFrom}
+use Rattle.configuration_listing.specs.Listing.{Listed, assignableUnits, errorText, linesFrom}
 use Rattle.cards_fields.specs.Deck.{cardsOf}
 use Rattle.cards_fac.specs.Fac.{entriesOf}
 use Rattle.cards_group.specs.Group.{readGroup}
@@ -30,6 +30,8 @@ use Rattle.cards_writing.specs.Writing.{fits, takes, textOf, writeAnswer, writt
 use Rattle.cards_round.specs.Permuted.{Permuted}
 use Rattle.schedule_entries.specs.Entries.{keyOf, precedes}
 use Rattle.schedule_list.specs.InSchedule.{entryAt, inSchedule}
+use Rattle.schedule.specs.Calls as Schedule
+use Rattle.schedule_deck.specs.Report.{deckSchedule}
 use Rattle.assign_heads.specs.Sums.{howMany}
 use Rattle.packets.specs.Codes.{statusAfter}
 use Rattle.packets.specs.Demand.{Holding, Holds, Isolated}
@@ -42,7 +44,7 @@ use Rattle.cell.specs.declared.Cell.{Cell}
 use Rattle.cell.specs.declared.DeckAnswer.{DeckAnswer}
 use Rattle.cell.specs.declared.StatusAnswer.the-variants.{Is}
 use Rattle.cell_history.specs.Heard.{heardOf, inside, told}
-use Rattle.cell_history.specs.History.{Call, Chosen, Does, Event, Leads, Reply, Select, Shown}
+use Rattle.cell_history.specs.History.{Call, Chosen, Delete, Does, Event, Leads, Release, Reply, Select, Shown}
 use Rattle.demands.specs.Refusing.{refusalIn}
 use Rattle.demands.specs.Table.{RefusedBy, isSelect}
 use Rattle.packets.specs.declared.Assignment.{Assignment}
@@ -65,11 +67,17 @@ pub record Demand1 : Type 0 where
       → r .outcome ≡ Refused n → after ≡ room
   -- and the room that was lent for cards to be written, after 13 and after 12
   pub kept : (r : Request) (room : List ℕ) (n : Refusal) → writeAnswer r (length room) ≡ Wrote′.Refused n → written r room ≡ room
+  -- 13 is given for a request that breaks a rule, before 12; 12 where a card or the room is too short
+  pub wrong : (r : Request) (room : ℕ) → takes r ≡ false → writeAnswer r room ≡ Wrote′.Refused WrongRequest
+  pub short : (r : Request) (room : ℕ) → takes r ≡ true → fits r room ≡ false → writeAnswer r room ≡ Wrote′.Refused NoRoom
   -- a configuration is read exactly if it is the written form of one; else refusal 14 names the first bad or
   -- missing line
   pub configuration : (s : List ℕ) → Means s (configurationOf s)
   pub read : (s : List ℕ) (of : List Channel) (marks : List Bool) → InForm s of marks → configurationOf s ≡ good of marks
   pub named : (s : List ℕ) (line : ℕ) → FirstBad s line → configurationOf s ≡ refused line
+  -- and the second program prints that line
+  pub printed : (s room after : List ℕ) (r line : ℕ) → FirstBad s line → Listed s room after r → 96 ≤ length room
+      → take r after ≡ errorText line
 
 -- "2. It is right: cards written are read back as the same request; the job selected is the first in order, of
 -- those allowed to run, for which all facilities can be found; selection is refused exactly when no place is free
@@ -78,6 +86,8 @@ pub record Demand2 : Type 0 where
   -- "cards written are read back as the same request": whatever request the writer takes,
   pub cards : (r : Request) (room : List ℕ) → takes r ≡ true → fits r (length room) ≡ true
       → readGroup (cardsOf (take (length (textOf r)) (written r room))) ≡ record { verdict = Good; request = r }
+  pub wrote : (r : Request) (room : ℕ) → takes r ≡ true → fits r room ≡ true
+      → writeAnswer r room ≡ Wrote′.Cards (length (textOf r))
   -- and every request that was read from cards is taken, and written where the room has 162 bytes: neither 13 nor
   -- 12 arises
   pub again : (group : List (List ℕ)) (r : Request) (room : List ℕ) → readGroup group ≡ record { verdict = Good; request = r }
@@ -88,8 +98,18 @@ pub record Demand2 : Type 0 where
   -- the same
   pub same : (pty fac other : List ℕ) (r s : Request) → readGroup (pty ∷ fac ∷ []) ≡ record { verdict = Good; request = r }
       → readGroup (pty ∷ other ∷ []) ≡ record { verdict = Good; request = s } → Permuted (entriesOf fac) (entriesOf other) → r ≡ s
+  -- what a deck asks for is entered, group by group, or gets its card error; a released request waits, a deleted one is gone
+  pub entered : (c : Cell) (deck room after : List ℕ) (r : DeckAnswer) → Enters c deck room after r
+      → r .cell .schedule ≡ deckSchedule (c .schedule) deck
+  pub released : (c d : Cell) (id : List ℕ) (reply : Reply) → Does c (Release id) reply d
+      → d .schedule ≡ Schedule.released (c .schedule) id .schedule
+  pub deleted : (c d : Cell) (id : List ℕ) (reply : Reply) → Does c (Delete id) reply d
+      → d .schedule ≡ Schedule.deleted (c .schedule) id .schedule
   -- "the job selected" is a candidate with an assignment, the one chosen, and the place the lowest that is free,
   pub selected : (c d : Cell) (s : Selection) → Does c Select (Chosen Done s) d → Selected (inSchedule (c .schedule)) (c .lists) s
+  -- it runs then, so that it is not selected again,
+  pub runs : (c d : Cell) (s : Selection) → Does c Select (Chosen Done s) d
+      → d .schedule ≡ Schedule.taken (c .schedule) (s .at) (s .place)
   -- and it is "the first in order": by letter, then precedence, then sequence no candidate with an assignment comes
   -- before it
   pub first : (configuration : Configuration) (es : List Event) (c : Cell) → Leads (freshCell configuration) es c

@@ -1,0 +1,82 @@
+-- What the writer answers and keeps, and what the listing prints and counts: what the demands say of texts. Assumes nothing.
+use Prim.Native.Nat.{ℕ, zero, suc, _≤_}
+use mathlib.Core.Path.{_≡_, refl, sym, ap, _∙_}
+use mathlib.Core.Bool.{false, Bool, true, _&&_}
+use mathlib.Core.List.{List}
+use native.Mathlib.Omega.{arith}
+use lib.ListN.{length, take}
+use Rattle.numbers.proofs.Tests.{by-bool}
+use Rattle.numbers.specs.declared.ChannelNumber.{ChannelNumber}
+use Rattle.numbers.specs.declared.Outcome.the-variants.{Refused}
+use Rattle.numbers.specs.declared.Refusal.{Refusal}
+use Rattle.numbers.specs.declared.Refusal.the-variants.{NoRoom, WrongRequest}
+use Rattle.units.specs.State.{assignable, unitIn}
+use Rattle.units.specs.declared.Unit.{Unit as UnitState}
+use Rattle.channels.specs.Channels.{hasUnit}
+use Rattle.channels.specs.declared.Channel.{Channel}
+use Rattle.channels.specs.declared.Configuration.{Configuration}
+use Rattle.configuration.specs.declared.Answer.{Answer}
+use Rattle.configuration_units.specs.Fresh.{freshUnits}
+use Rattle.configuration_form.specs.Form.{InForm, FirstBad}
+use Rattle.configuration_form.proofs.Unique.{first-named, read-back}
+use Rattle.configuration_listing.specs.Listing.{Listed, answerText, assignableUnits, counted, linesFrom, errorText}
+use Rattle.cards.specs.declared.Request.{Request}
+use Rattle.cards_writing.specs.Writing.{fits, takes, writeAnswer, written, textOf}
+use Rattle.assign_heads.specs.Sums.{howMany, sumTo}
+use Rattle.packets.specs.Demand.{fresh}
+use Rattle.packets.specs.State.{State}
+use Rattle.cell.specs.Calls.{freshCell}
+use Rattle.cell_history.specs.Heard.{inside}
+use Rattle.cell_history.proofs.FromFresh.{fresh-inside}
+use Rattle.cards_writing.specs.declared.Wrote.the-variants as Wrote′
+
+-- the writer keeps every byte where it refuses
+pub kept-room : (r : Request) (room : List ℕ) (n : Refusal) → writeAnswer r (length room) ≡ Wrote′.Refused n → written r room ≡ room
+unfolding writeAnswer written
+kept-room r room n e =
+    by-bool (takes r)
+    (λ t. by-bool (fits r (length room)) (λ f. absurd (not-cards (rw (t, f) at e))) (λ f. rw (t, f) refl))
+    (λ t. rw t refl)
+  where
+    not-cards : {k : ℕ} → Wrote′.Cards k ≡ Wrote′.Refused n → ⊥
+    not-cards {k} q = let z : _≡_ {A = ℕ} 0 1 = cc in omega arith
+
+-- what a bad configuration is listed as
+pub listed-bad : (s room after : List ℕ) (r line : ℕ) → FirstBad s line → Listed s room after r → 96 ≤ length room → take r after ≡ errorText line
+listed-bad s room after r line f l h =
+    l .whole h .0 ∙ ap (λ (a : Answer). answerText (a .verdict) (a .configuration)) (first-named s line f)
+
+-- the writer's numbers
+pub writes-so : (r : Request) (n : ℕ) → takes r ≡ true → fits r n ≡ true → writeAnswer r n ≡ Wrote′.Cards (length (textOf r))
+unfolding writeAnswer
+writes-so r n t f = rw (t, f) refl
+
+pub writes-13 : (r : Request) (n : ℕ) → takes r ≡ false → writeAnswer r n ≡ Wrote′.Refused WrongRequest
+unfolding writeAnswer
+writes-13 r n t = rw t refl
+
+pub writes-12 : (r : Request) (n : ℕ) → takes r ≡ true → fits r n ≡ false → writeAnswer r n ≡ Wrote′.Refused NoRoom
+unfolding writeAnswer
+writes-12 r n t f = rw (t, f) refl
+
+-- what the listing program puts for the written form of a configuration
+pub listed : (s room after : List ℕ) (r : ℕ) (of : List Channel) (marks : List Bool) → InForm s of marks → Listed s room after r
+    → 96 ≤ length room → take r after ≡ linesFrom (record { channels = of; down = marks }) 16 0
+listed s room after r of marks f l h =
+    l .whole h .0 ∙ ap (λ (a : Answer). answerText (a .verdict) (a .configuration)) (read-back s of marks f)
+
+-- the units that it counts are those of the fresh cell
+counted-to : (configuration : Configuration) (grid : List (List UnitState)) (channel : ChannelNumber) (n : ℕ)
+    → assignableUnits configuration grid channel n
+    ≡ howMany n (λ u. hasUnit configuration channel (record { 0 = u }) && assignable (unitIn grid (channel .0) u))
+unfolding assignableUnits counted sumTo
+counted-to configuration grid channel zero = refl
+counted-to configuration grid channel (suc n) = omega (arith, counted-to configuration grid channel n)
+
+pub counted-fresh : (configuration : Configuration) (channel : ChannelNumber)
+    → assignableUnits configuration (freshUnits (configuration .down)) channel 16
+    ≡ howMany 16 (λ u. hasUnit configuration channel (record { 0 = u }) && assignable (unitIn (inside (freshCell configuration) .units) (channel .0) u))
+unfolding fresh
+counted-fresh configuration channel =
+    counted-to configuration (freshUnits (configuration .down)) channel 16
+    ∙ ap (λ (s : State). howMany 16 (λ u. hasUnit configuration channel (record { 0 = u }) && assignable (unitIn (s .units) (channel .0) u))) (sym (fresh-inside configuration))
