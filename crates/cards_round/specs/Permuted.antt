@@ -2,7 +2,7 @@
 use Prim.Native.Nat.{ℕ}
 use mathlib.Core.List.{List, [], _∷_}
 
--- one list of texts is another one in some order: two neighbours change places, as often as one likes
+-- one list of texts is another one in some order: two neighbours are exchanged, as often as one likes
 pub data Permuted : List (List ℕ) → List (List ℕ) → Type 0 where
   none : Permuted [] []
   more : {t : List ℕ} {ts us : List (List ℕ)} → Permuted ts us → Permuted (t ∷ ts) (t ∷ us)

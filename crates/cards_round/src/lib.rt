@@ -1,1 +1,1 @@
-// Theorems about cards that are read and written: no function.
+// Cards that are read and written again: definitions in specs/, theorems in proofs/; there is no code.

@@ -1,2 +1,2 @@
-// In every cell that a history leads to the schedule is sound and agrees with the job places: definitions and
-// theorems alone, in specs/; there is no code.
+// In every cell that a history leads to the schedule is sound and agrees with the job places: definitions in
+// specs/, theorems in proofs/; there is no code.

@@ -1,1 +1,2 @@
-// Any sequence of calls on the cell, and what it is for the request lists: see specs/. No code.
+// Any sequence of calls on the cell, and what it is for the request lists: definitions in specs/, theorems in
+// proofs/; there is no code.

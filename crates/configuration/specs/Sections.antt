@@ -23,7 +23,7 @@ use Rattle.channels.specs.Channels.{fitted, noChannel, noChannels, noDown, unit
 unfoldable pub channelAllowed : ℕ → Bool → ChannelNumber → Kind → Bool
 channelAllowed next drum channel kind = leb next (channel .0) && not (drum && isDrum kind)
 
--- down units ascend strictly, channel first, so from the place `next` on; a down unit is a configured one
+-- down units ascend strictly, channel first, so from channel * 16 + unit `next` on; a down unit is a configured one
 unfoldable pub downAllowed : ℕ → Channel → ChannelNumber → UnitNumber → Bool
 downAllowed next on channel unit = leb next (channel .0 * 16 + unit .0) && ltb (unit .0) (unitsOf on)
 

@@ -14,7 +14,7 @@ ghost use lib.ListN.{length, drop};
 ghost use Rattle.configuration.specs.Sections.{channelAllowed, downAllowed, badChannels, badDowns, ChannelsRead, downsFrom};
 ghost use Rattle.channels.specs.Channels.{noDown};
 
-// The channels of the first section, and where it ends: the next line's number and place. Where a line is bad: its
+// The channels of the first section, and where it ends: the next line's number and index. Where a line is bad: its
 // number.
 pub struct Channels {
     pub good: bool,
@@ -50,7 +50,7 @@ fn channel_allowed(next: u8, drum: bool, channel: ChannelNumber, kind: Kind) -> 
     true
 }
 
-// Whether a down unit may come where the lowest place is `next`, on the channel that has its number.
+// Whether a down unit may come where the lowest index is `next`, on the channel that has its number.
 fn down_allowed(next: usize, on: Channel, channel: ChannelNumber, unit: UnitNumber) -> bool
     ensures { λ r. ⌜ r ≡ downAllowed next on channel unit ⌝ }
 {
@@ -144,9 +144,9 @@ pub fn read_downs(
         if !down_allowed(next, channels[i], c, u) {
             return bad_downs(line);
         }
-        let place = i * 16 + u.0 as usize;
-        of[place] = true;
-        next = place + 1;
+        let index = i * 16 + u.0 as usize;
+        of[index] = true;
+        next = index + 1;
         at += 6;
         line += 1;
         left -= 1;

@@ -102,7 +102,7 @@ pub record ChannelIs (s : List ℕ) (c : ℕ) (kind : Kind) (n k : ℕ) : Type 0
   pub most : n ≤ most kind
   pub starts : Starts s (Item.channel c kind n) k
 
--- the two letters at places 3 and 4, each with a space before and after, are what stands there
+-- the two letters at indices 3 and 4, each with a space before and after, are what stands there
 six : (s : List ℕ) (c : ℕ) → s ≡ twoText c ++ drop 2 s → getD s 2 0 ≡ byte " " → getD s 5 0 ≡ byte " "
     → s ≡ twoText c ++ (bytes " " ++ ((getD s 3 0 ∷ getD s 4 0 ∷ []) ++ (bytes " " ++ drop 6 s)))
 six [] c e p q = absurd (omega arith)
@@ -218,7 +218,7 @@ pub record DownIs (s : List ℕ) (c u : ℕ) : Type 0 where
   pub unit : u ≤ 15
   pub starts : Starts s (Item.down c u) 6
 
--- the bytes at places 2 and 5, and what stands between
+-- the bytes at indices 2 and 5, and what stands between
 five : (s : List ℕ) (c u : ℕ) → s ≡ twoText c ++ drop 2 s → getD s 2 0 ≡ byte " " → drop 3 s ≡ twoText u ++ drop 2 (drop 3 s) → getD s 5 0 ≡ byte "\n"
     → s ≡ line (Item.down c u) ++ drop 6 s
 five [] c u e p f q = absurd (omega arith)

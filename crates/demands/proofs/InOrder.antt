@@ -25,7 +25,7 @@ use Rattle.cell.specs.declared.Cell.{Cell}
 use Rattle.cell_history.specs.History.{Event, Leads}
 use Rattle.cell_agreement.proofs.SoundProof.{sound-always}
 
--- each of a list, and each two of it, by their places
+-- each of a list, and each two of it, by their indices
 each-at : (P : Request → Type 0) (rs : List Request) (j : ℕ) (d : Request) → j < length rs → Each P rs → P (getD rs j d)
 each-at P [] j d h e = absurd (omega arith)
 each-at P (r ∷ rs) zero d h e = e .0

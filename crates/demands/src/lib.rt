@@ -1,2 +1,2 @@
-// The three demands of the people who asked, as theorems about the functions as their contracts give them: see
-// specs/. No code.
+// The three demands of the people who asked, as theorems about the functions as their contracts give them:
+// definitions in specs/, theorems in proofs/; there is no code.

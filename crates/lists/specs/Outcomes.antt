@@ -1,8 +1,6 @@
 -- The state as the code holds it, and the one outcome of each call: what the rules say, with every byte determined.
 use mathlib.Core.Path.{_≡_}
-use Rattle.numbers.specs.declared.Refusal.{Refusal}
 use Rattle.units.specs.State.{unitsFrom}
-use Rattle.units.specs.declared.Units.{Units}
 use Rattle.packets.specs.Lone.{lists}
 use Rattle.packets.specs.Rules.{Call, Complete, End, Mark, Start, Submit, Take, accept, answer, refusal}
 use Rattle.packets.specs.State.{State}
@@ -24,10 +22,6 @@ listsOf s = record { channels = s .channels; jobs = s .jobs; list = padded (s .q
 -- the same where a call does not touch the list, whose bytes stay
 abbrev pub keeping : Lists → State → Lists
 keeping r s = record { channels = s .channels; jobs = s .jobs; list = r .list; moving = s .moving; units = unitsFrom (s .units) }
-
--- the state with other units
-abbrev pub withUnits : Lists → Units → Lists
-withUnits r units = record { channels = r .channels; jobs = r .jobs; list = r .list; moving = r .moving; units = units }
 
 -- a state as the code holds it, and with 0 past the list's packets
 pub record Kept (s : State) (r : Lists) : Type 0 where
@@ -52,7 +46,3 @@ settled r x (Denied n) = record { answer = Refused n; lists = r }
 -- the one outcome of a call
 unfoldable pub outcome : Lists → Call → Acted
 outcome r x = settled r x (refusal (stateOf r) x)
-
--- a refused call returns the number alone
-abbrev pub refusedWith : Lists → Refusal → Acted
-refusedWith r n = record { answer = Refused n; lists = r }

@@ -1,1 +1,1 @@
-// That a live job holds exactly what it was given: definitions and theorems alone, in specs/; there is no code.
+// That a live job holds exactly what it was given: definitions in specs/, theorems in proofs/; there is no code.

@@ -1,1 +1,1 @@
-// What holds of every schedule that the calls build: see specs/. No code.
+// What holds of every schedule that the calls build: definitions in specs/, theorems in proofs/; there is no code.

@@ -80,7 +80,7 @@ pub record Shows (text : List ℕ) (next : Cell) (room after : List ℕ) (r : Re
 abbrev pub Gives : Answered → List ℕ → List ℕ → Replied → Type 0
 Gives a room after r = Shows (answerText (a .answer)) (a .cell) room after r
 
--- a selection: what is selected is as cell/specs/Calls.antt says
+-- a selection: what is selected is as crates/cell/specs/Calls.antt says
 pub record Selects (cell : Cell) (room after : List ℕ) (r : Replied) : Type 0 where
   pub answer : SelectAnswer
   pub selects : SelectsIn cell answer

@@ -93,7 +93,7 @@ module _ (s : List ℕ) (at len left : ℕ) (w : Word s at len) where
       later zero n = absurd (n refl)
       later (suc k) n = let p : suc k - 1 ≡ k = omega arith in rw p
 
--- a line and a form from their places on
+-- a line and a form, each from an index on
 module _ (s t : List ℕ) (at len on size : ℕ) (w : Word s at len) (f : Word t on size) where
   abbrev Fits : Bool → Type 0
   Fits b = wordFits (take (on + size - on) (drop on t)) (take (at + len - at) (drop at s)) ≡ b

@@ -21,7 +21,7 @@ sets-out : (s : List ℕ) (at : ℕ) (p : List ℕ) → length s ≤ at → sets
 sets-out s at [] h = refl
 sets-out s at (x ∷ p) h = rw (set-out s at x h) (sets-out s (suc at) p (omega arith))
 
--- from the next place on is from past the piece on: the two differ past the end alone
+-- from the next index on is from past the piece on: the two differ past the end alone
 sets-on : (s : List ℕ) (at count next : ℕ) (p : List ℕ) → next ≡ reach at count (length s) → sets s next p ≡ sets s (at + count) p
 sets-on s at count next p e =
     ⊎-elim
@@ -69,7 +69,7 @@ same-room {s} {t} {p} {a} w = ap length (w .bytes) ∙ length-sets s a p
 pub fitted : {s t p : List ℕ} {a b : ℕ} → Written s a p t b → a + length p ≤ length s → (b ≡ a + length p) × (t ≡ take a s ++ p ++ drop (a + length p) s)
 fitted {s} {t} {p} {a} {b} w h = (omega (arith, w .reached), w .bytes ∙ sets-eq p s a h)
 
--- a text put from the room's start on is the room's first bytes: those up to the next place, all of them within the
+-- a text put from the room's start on is the room's first bytes: those up to the next index, all of them within the
 -- room
 pub written-length : {s t p : List ℕ} {b : ℕ} → Written s 0 p t b → b ≡ length (take b t)
 written-length {s} {t} {p} {b} w = let h : b ≤ length t = omega (arith, same-room w, w .reached) in sym (length-take-le b t h)

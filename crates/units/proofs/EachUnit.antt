@@ -1,4 +1,4 @@
--- A loop over all units that changes each at the one place where units change, and what it leaves. Assumes nothing.
+-- A loop over all units that changes each by the one function that changes units, and what it leaves. Assumes nothing.
 use Prim.Native.Nat.{ℕ, _+_, _*_, _/_, _%_, _≤_, _<_}
 use mathlib.Core.Path.{_≡_, sym, _∙_}
 use mathlib.Core.Bool.{false, cond, _&&_}

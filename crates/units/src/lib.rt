@@ -62,7 +62,7 @@ pub fn none_held() -> Units
     units_from([[fresh_unit(false); 16]; 16])
 }
 
-// The unit of a channel that has this number, whatever it is: the one place where a unit is read by its numbers. Free
+// The unit of a channel that has this number, whatever it is: here alone a unit is read by its numbers. Free
 // and unmarked where the cell has none.
 pub fn unit_numbered(units: Units, channel: ChannelNumber, number: u32) -> Unit
     ensures { λ r. ⌜ r ≡ unitIn (units .of) (channel .0) number ⌝ }
@@ -86,7 +86,7 @@ pub fn unit_at(units: Units, channel: ChannelNumber, unit: UnitNumber) -> Unit
     unit_numbered(units, channel, unit.0 as u32)
 }
 
-// The state with one unit changed: the one place where a unit's state changes. Where the cell has no such unit
+// The state with one unit changed: here alone a unit's state changes. Where the cell has no such unit
 // nothing does.
 pub fn with_unit(units: Units, channel: ChannelNumber, unit: UnitNumber, state: Unit) -> Units
     ensures { λ r. ⌜ r ≡ unitsFrom (unitSet (units .of) (channel .0) (unit .0) state) ⌝ }
