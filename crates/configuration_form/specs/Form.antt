@@ -30,7 +30,8 @@ written [] = []
 written (item ∷ items) = line item ++ written items
 
 -- what is due next: the count of channels; `left` channel lines, from channel `next` on, a drum before or not, and
--- then the count of down units; `left` down lines, from channel * 16 + unit `next` on. With them, what is configured so far.
+-- then the count of down units; `left` down lines, from channel * 16 + unit `next` on. With them, what is
+-- configured so far.
 pub data Due : Type 0 where
   first : Due
   channels : (left next : ℕ) (drum : Bool) (of : List Channel) → Due

@@ -1,4 +1,5 @@
--- What the writer answers and keeps, and what the listing prints and counts: what the demands say of texts. Assumes nothing.
+-- What the writer answers and keeps, and what the listing prints and counts: what the demands say of texts. Assumes
+-- nothing.
 use Prim.Native.Nat.{ℕ, zero, suc, _≤_}
 use mathlib.Core.Path.{_≡_, refl, sym, ap, _∙_}
 use mathlib.Core.Bool.{false, Bool, true, _&&_}

@@ -98,7 +98,8 @@ pub record Demand2 : Type 0 where
   -- the same
   pub same : (pty fac other : List ℕ) (r s : Request) → readGroup (pty ∷ fac ∷ []) ≡ record { verdict = Good; request = r }
       → readGroup (pty ∷ other ∷ []) ≡ record { verdict = Good; request = s } → Permuted (entriesOf fac) (entriesOf other) → r ≡ s
-  -- what a deck asks for is entered, group by group, or gets its card error; a released request waits, a deleted one is gone
+  -- what a deck asks for is entered, group by group, or gets its card error; a released request waits, a deleted
+  -- one is gone
   pub entered : (c : Cell) (deck room after : List ℕ) (r : DeckAnswer) → Enters c deck room after r
       → r .cell .schedule ≡ deckSchedule (c .schedule) deck
   pub released : (c d : Cell) (id : List ℕ) (reply : Reply) → Does c (Release id) reply d
