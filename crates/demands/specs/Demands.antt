@@ -1,6 +1,6 @@
 -- THE THREE DEMANDS, one page, to be laid beside the words of the people who asked. Each is a theorem, proved in
--- the files named beside it, about any cell and call as the contracts of the public functions give them, and about
--- any history of calls from a fresh cell. A reader has to believe this page.
+-- proofs/Proved.antt, about any cell and call as the contracts of the public functions give them, and about any
+-- history of calls from a fresh cell. A reader has to believe this page.
 use Prim.Native.Nat.{ℕ, _≤_}
 use mathlib.Core.Path.{_≡_}
 use mathlib.Core.Bool.{Bool, true, false, _&&_}
