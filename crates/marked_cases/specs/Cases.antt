@@ -33,6 +33,7 @@ use Rattle.packets.specs.declared.Leaving.the-variants.{AfterNormal, Stays}
 use Rattle.cell_selection.specs.declared.Selection.{Selection}
 use Rattle.cell.specs.Calls.{freshCell}
 use Rattle.cell.specs.declared.Cell.{Cell}
+use Rattle.cell.specs.declared.StatusAnswer.the-variants as StatusAnswers
 use Rattle.cell_history.specs.History.{Call, Chosen, Deck, Does, End, Entered, Reply, Said, Select}
 
 -- ---- what is seen of a reply
@@ -64,7 +65,8 @@ seen (Entered (Outcomes.Refused n)) = Refused n
 seen (Chosen Outcomes.Done s) = given s
 seen (Chosen (Outcomes.Refused n) s) = Refused n
 seen (Said a) = Answered a
-seen (Reply.Shown s) = Accepted
+seen (Reply.Shown (StatusAnswers.Is status)) = Accepted
+seen (Reply.Shown (StatusAnswers.Refused n)) = Refused n
 
 -- ---- the cases
 
