@@ -2,8 +2,9 @@
 //!
 //! `compare deck|listing|shift [--seed N] [--count N] [--calls N] [--jobs N] [--save FOLDER] [--first] [--show] [-- COMMAND..]`
 //!
-//! Input number i of a run is made from seed N + i alone, so `--seed S --count 1` gives it again. For `shift` `--calls` is the length of a
-//! script, and every fiftieth script is short and handed over line by line, each line after the answer to the one before.
+//! Input number i of a run is made from seed N + i alone, so `--seed S --count 1` gives it again. For `shift`
+//! `--calls` is the length of a script, and every fiftieth script is short and handed over line by line, each line
+//! after the answer to the one before.
 
 mod configurations;
 mod decks;
@@ -264,7 +265,8 @@ fn one(options: &Options, program: &Program, seed: u64, tally: &Mutex<Tally>) {
     tally.differences += u64::from(differs);
 }
 
-/// The lines of a script, each with its answer. A bad configuration and what follows the last LF are answered at the end.
+/// The lines of a script, each with its answer. A bad configuration and what follows the last LF are answered at the
+/// end.
 fn conversation(text: &[u8]) -> Vec<(&[u8], Vec<u8>)> {
     let mut conversation = Vec::new();
     let mut lines = text.split_inclusive(|&byte| byte == b'\n');

@@ -68,8 +68,8 @@ impl Program {
         Outcome { output, fault }
     }
 
-    /// Hands over one line after the other, each only when the answer that is expected to the last has come, and answers all output. It
-    /// breaks off where an answer is another one.
+    /// Hands over one line after the other, each only when the answer that is expected to the last has come, and
+    /// answers all output. It breaks off where an answer is another one.
     pub fn talk(&self, conversation: &[(&[u8], Vec<u8>)]) -> Outcome {
         let mut running = match self.start() {
             Ok(running) => running,

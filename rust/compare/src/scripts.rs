@@ -1,4 +1,5 @@
-//! Random shift scripts. A shift of the ordinary implementation runs beside, so that most calls make sense in the state they meet.
+//! Random shift scripts. A shift of the ordinary implementation runs beside, so that most calls make sense in the
+//! state they meet.
 
 use ordinary::cell::{Job, PacketName, Status};
 use ordinary::configuration::{Channel, Configuration, DRUM_START};

@@ -136,8 +136,8 @@ fn least_list(needs: &[usize], counts: Vec<usize>) -> Option<Vec<usize>> {
     search(needs, &mut counts, &mut list).then_some(list)
 }
 
-/// Can each need have a place of its own? It can exactly when the largest fits the largest, the next the next, and so on.
-/// So a search that asks this first never has to give up a step that it has taken.
+/// Can each need have a place of its own? It can exactly when the largest fits the largest, the next the next, and so
+/// on. So a search that asks this first never has to give up a step that it has taken.
 fn can_serve(needs: &[usize], counts: &[usize]) -> bool {
     let descending = |numbers: &[usize]| {
         let mut numbers = numbers.to_vec();

@@ -245,7 +245,8 @@ impl Request {
         Ok(request)
     }
 
-    /// Writes both cards, each with its LF, into the front of `room` and answers their length. A refusal leaves `room` as it was.
+    /// Writes both cards, each with its LF, into the front of `room` and answers their length. A refusal leaves `room`
+    /// as it was.
     pub fn write(&self, room: &mut [u8]) -> Result<usize, Refusal> {
         if !self.is_good() {
             return Err(Refusal::BadRequest);
@@ -333,7 +334,8 @@ pub fn shown_id(card: &[u8]) -> Option<String> {
     (is_pty(card) && is_id(&id)).then_some(id)
 }
 
-/// A field, counted from 1, of any card, malformed ones too: spaces dropped, up to a comma; a period or the card's end ends all fields.
+/// A field, counted from 1, of any card, malformed ones too: spaces dropped, up to a comma; a period or the card's end
+/// ends all fields.
 fn loose_field(card: &[u8], number: usize) -> Option<Vec<u8>> {
     let end = card.iter().position(|&byte| byte == b'.').unwrap_or(card.len());
     let field = card[..end].split(|&byte| byte == b',').nth(number - 1)?;

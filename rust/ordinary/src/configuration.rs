@@ -60,8 +60,8 @@ impl Configuration {
         }
     }
 
-    /// Reads a configuration from lines, each with its LF, and takes no line more than it needs. A line is judged with the lines
-    /// before it and no others.
+    /// Reads a configuration from lines, each with its LF, and takes no line more than it needs. A line is judged with
+    /// the lines before it and no others.
     pub fn from_lines<L: AsRef<[u8]>>(next_line: impl FnMut() -> Option<L>) -> Result<Configuration, BadLine> {
         let mut lines = Lines { next_line, number: 0 };
         let mut configuration = Configuration::default();
@@ -138,7 +138,8 @@ struct Lines<F> {
 }
 
 impl<L: AsRef<[u8]>, F: FnMut() -> Option<L>> Lines<F> {
-    /// Hands the next line without its LF to `judge`. A missing line, one without LF and one that `judge` does not take is bad.
+    /// Hands the next line without its LF to `judge`. A missing line, one without LF and one that `judge` does not
+    /// take is bad.
     fn judge<T>(&mut self, judge: impl FnOnce(&[u8]) -> Option<T>) -> Result<T, BadLine> {
         self.number += 1;
         let line = (self.next_line)();

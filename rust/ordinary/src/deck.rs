@@ -89,7 +89,8 @@ fn groups<'c, 'd>(cards: &'c [&'d [u8]]) -> impl Iterator<Item = &'c [&'d [u8]]>
     })
 }
 
-/// What the deck program prints for a deck read into an empty schedule: errors, the schedule in selection order, the last good ID.
+/// What the deck program prints for a deck read into an empty schedule: errors, the schedule in selection order, the
+/// last good ID.
 pub fn report(deck: &[u8]) -> String {
     let mut schedule = Schedule::default();
     let Ok(outcome) = enter(&mut schedule, deck) else {

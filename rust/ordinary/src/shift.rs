@@ -1,4 +1,5 @@
-//! The shift: a cell that is talked to line by line. Each call gets one line for an answer, a deck and the board several.
+//! The shift: a cell that is talked to line by line. Each call gets one line for an answer, a deck and the board
+//! several.
 
 use std::fmt::Write;
 
@@ -123,7 +124,8 @@ impl Shift {
         }
     }
 
-    /// What is answered when the input ends; `rest` is what stands after its last LF, a line as if it had one, a card of a deck too.
+    /// What is answered when the input ends; `rest` is what stands after its last LF, a line as if it had one, a card
+    /// of a deck too.
     pub fn finish(mut self, rest: &[u8]) -> Vec<u8> {
         let mut answer = Vec::new();
         if !rest.is_empty() {

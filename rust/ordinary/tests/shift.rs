@@ -73,7 +73,8 @@ fn long_lines_and_the_last_line() {
 
 #[test]
 fn decks_that_are_refused() {
-    // Too long: reading goes on after the termination card. One without LF at the input's end is taken as if it had one.
+    // Too long: reading goes on after the termination card. One without LF at the input's end is taken as if it had
+    // one.
     let long = "X\n".repeat(9000);
     let input = format!("0\n0\nDECK\n{long}{TERMINATION}STATUS 0 0\nDECK\nX\n{}", TERMINATION.trim_end());
     assert_eq!(converse(input.as_bytes()), b"NO 11\nACK BLANK\nSP ------ ER 25\n------ SCH ACK\n");

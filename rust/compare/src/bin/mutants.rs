@@ -1,5 +1,5 @@
-//! How sharp is the comparison? Each change of `mutants.txt` is made to a copy of the ordinary implementation, which is then compared with the
-//! proved program, or with COMMAND: there must be a difference.
+//! How sharp is the comparison? Each change of `mutants.txt` is made to a copy of the ordinary implementation, which
+//! is then compared with the proved program, or with COMMAND: there must be a difference.
 //!
 //! `mutants deck|listing|shift [--count N] [-- COMMAND..]`
 //!
