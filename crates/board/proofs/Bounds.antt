@@ -13,7 +13,9 @@ use Rattle.numbers.proofs.Tests.{by-bool}
 use Rattle.text.specs.Writing.{twoText, decimalText}
 use Rattle.text.proofs.Undo.{few-digits}
 use Rattle.cards_fields.specs.Fields.{spaceless}
+use Rattle.cards_fields.proofs.FieldLaws.{spaceless-short}
 use Rattle.cards_writing.specs.Writing.{priorityText}
+use Rattle.cards_writing.proofs.PutLaws.{priority-short}
 use Rattle.cards.specs.declared.Request.{Request}
 use Rattle.schedule_entries.specs.Entries.{blank, inPlace}
 use Rattle.schedule_entries.specs.declared.State.{State}
@@ -65,10 +67,6 @@ pub record InTypes (lists : Lists) (schedule : Schedule) : Type 0 where
   pub packets : (i : ℕ) → getD (lists .list .entries) i 0 < 256
 
 -- ---- names and numbers
-name-few : (s : List ℕ) → length (spaceless s) ≤ length s
-name-few [] = omega arith
-name-few (b ∷ s) = by-bool (eqb b (byte " ")) (λ t. rw t (omega (arith, name-few s))) (λ f. rw f (omega (arith, name-few s)))
-
 word-few : (b : Bool) (w : List ℕ) → length (wordText b w) ≤ length w
 word-few true w = omega arith
 word-few false w = omega arith
@@ -81,7 +79,7 @@ id-few (e ∷ es) p h = by-bool (inPlace p (e .state)) (λ t. rw t (h 0 (omega a
 
 job-few : (p : ℕ) (id word : List ℕ) → p < 16 → length id ≤ 6 → length (jobText p id word) ≤ 15 + length word
 job-few p id word h k =
-    omega (arith, length-append (decimalText p) (bytes " " ++ (spaceless id ++ word)), length-append (spaceless id) word, few-digits 1 p (omega arith), name-few id)
+    omega (arith, length-append (decimalText p) (bytes " " ++ (spaceless id ++ word)), length-append (spaceless id) word, few-digits 1 p (omega arith), spaceless-short id)
 
 place-few : (p : ℕ) (id : List ℕ) (state : JobState) → p < 16 → length id ≤ 6 → length (placeText p id state) ≤ 23
 place-few p id J.Empty h k = omega arith
@@ -186,10 +184,6 @@ entry-few ps e h =
     (omega (arith, length-append (decimalText (e / 16)) (bytes " " ++ decimalText (e % 16)), few-digits 1 (e / 16) (omega arith), few-digits 1 (e % 16) (omega arith)))
 
 -- ---- requests
-priority-few : (r : Request) → length (priorityText r) ≤ 5
-unfolding priorityText
-priority-few r = by-bool (eqb (r .sequence) 0) (λ t. rw t (omega arith)) (λ f. rw f (omega arith))
-
 word-of-few : (s : State) → length (stateWord s) ≤ 11
 word-of-few S.Waiting = omega arith
 word-of-few S.Suspended = omega arith
@@ -203,8 +197,8 @@ request-few e h =
       arith,
       length-append (spaceless (e .request .id)) (bytes " " ++ (priorityText (e .request) ++ stateWord (e .state))),
       length-append (priorityText (e .request)) (stateWord (e .state)),
-      name-few (e .request .id),
-      priority-few (e .request),
+      spaceless-short (e .request .id),
+      priority-short (e .request),
       word-of-few (e .state),
     )
 

@@ -11,6 +11,7 @@ use lib.Dec.{eqb, ltb}
 use lib.ListN.{length, getD, drop, take, set, drop-of-length-le, length-drop, length-append}
 use lib.Seq.{take-all}
 use borrow.Author.Tests.{eq-eqb, ne-eqb, eqb-true, eqb-false, le-ltb, lt-ltb, le-leb, lt-leb}
+use Rattle.numbers.proofs.Tests.{by-bool}
 use Rattle.words.specs.Words.{same}
 use Rattle.words.proofs.WordLaws.{drop-step, and-false, same-long}
 use Rattle.cards_fields.specs.Fields.{fields, field, fieldIs, fieldOf, split, spaceless, upToPeriod, onto, padded, closed, cardByte, malformed}
@@ -229,3 +230,8 @@ module _ (s word : List ℕ) (k : ℕ) where
 
     pub word-same : f .len ≤ 12 → fieldIs s k word ≡ same (take (f .len) (f .bytes)) word
     word-same g = rw (le-leb (length word) 12 h, whole f (field s k) is g)
+
+-- a text has no fewer characters than without its spaces
+pub spaceless-short : (s : List ℕ) → length (spaceless s) ≤ length s
+spaceless-short [] = omega arith
+spaceless-short (b ∷ s) = by-bool (eqb b 32) (λ t. rw t (omega (arith, spaceless-short s))) (λ f. rw f (omega (arith, spaceless-short s)))

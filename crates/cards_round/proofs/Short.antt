@@ -17,6 +17,7 @@ use Rattle.text.specs.Class.{isDigit}
 use Rattle.words.specs.Words.{every, same, value}
 use Rattle.words.proofs.WordLaws.{value-below, tens}
 use Rattle.cards_fields.specs.Fields.{field, fields, split, onto, spaceless, upToPeriod, closed, cardByte, malformed}
+use Rattle.cards_fields.proofs.FieldLaws.{spaceless-short}
 use Rattle.cards_fac.specs.Fac.{codes, codeText, codeOf, channelText, slashAt, numberText, channelGood, most, numberGood, entryGood, slot, slotOf, codeError, formError, entryError, entered, entriesError, allEntered, nothing}
 use Rattle.cards_fac.specs.Fac.{indexIn}
 use Rattle.cards.specs.Errors.{errorIf}
@@ -41,10 +42,6 @@ split-total (b ∷ s) = by-bool (eqb b 44) (λ e. rw e (omega (arith, split-tota
     fronted [] h = absurd (omega arith)
     fronted (f ∷ fs) h = omega arith
 
-spaceless-length : (s : List ℕ) → length (spaceless s) ≤ length s
-spaceless-length [] = omega arith
-spaceless-length (b ∷ s) = by-bool (eqb b 32) (λ e. rw e (omega (arith, spaceless-length s))) (λ e. rw e (omega (arith, spaceless-length s)))
-
 -- a card that is closed has its period behind its fields
 closed-length : (s : List ℕ) → closed false s ≡ true → length (upToPeriod s) + 1 ≤ length s
 closed-length [] e = never e refl
@@ -61,7 +58,7 @@ fields-short s m =
     by-bool (ltb 80 (length s))
     (λ t. never refl (rw t at m))
     (λ t. by-bool (closed false s)
-    (λ c. omega (arith, split-total (spaceless (upToPeriod s)), spaceless-length (upToPeriod s), closed-length s c, ltb-false 80 (length s) t))
+    (λ c. omega (arith, split-total (spaceless (upToPeriod s)), spaceless-short (upToPeriod s), closed-length s c, ltb-false 80 (length s) t))
     (λ c. never refl (rw (t, c) at m)))
 
 -- ---- an entry, read and written again

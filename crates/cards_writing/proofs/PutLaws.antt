@@ -11,6 +11,7 @@ use lib.Dec.{eqb}
 use lib.ListN.{length, getD, take, drop, drop-of-length-le, length-append, length-replicate, replicate, List·getD-eq-default}
 use lib.Seq.{drop-cons, take-append-seam}
 use borrow.Author.Tests.{eq-eqb, ne-eqb}
+use Rattle.numbers.proofs.Tests.{by-bool}
 use Rattle.text.specs.Room.{reach, Written}
 use Rattle.text.proofs.RoomLaws.{Going, turn, fitted}
 use Rattle.text.specs.Writing.{decimalText}
@@ -19,7 +20,7 @@ use Rattle.words.proofs.WordLaws.{drop-step}
 use Rattle.cards_fields.specs.Fields.{spaceless}
 use Rattle.cards_fac.specs.Fac.{codes}
 use Rattle.cards.specs.declared.Request.{Request}
-use Rattle.cards_writing.specs.Writing.{ptyFields, front, trimmed, entryText, entryTexts, tailText, cardText, ptyText}
+use Rattle.cards_writing.specs.Writing.{priorityText, ptyFields, front, trimmed, entryText, entryTexts, tailText, cardText, ptyText}
 
 -- a name without its blanks, one byte further
 module _ (s : List ℕ) (i : ℕ) (h : i < length s) where
@@ -188,3 +189,8 @@ no-field r k h = List·getD-eq-default (ptyFields r) [] {n = k} h
 pub no-code : (k : ℕ) → 6 ≤ k → getD codes k [] ≡ []
 unfolding codes
 no-code k h = List·getD-eq-default codes [] {n = k} h
+
+-- a priority has at most five characters
+pub priority-short : (r : Request) → length (priorityText r) ≤ 5
+unfolding priorityText
+priority-short r = by-bool (eqb (r .sequence) 0) (λ t. rw t (omega arith)) (λ f. rw f (omega arith))

@@ -62,7 +62,9 @@ use Rattle.schedule_deck.specs.Report.{shownBy, formed, errorLine, reque
 use Rattle.schedule_deck.specs.Reading.{Whole, Reported}
 use Rattle.schedule_deck.proofs.DeckLaws.{sound-groups, each-groups}
 use Rattle.schedule_deck.specs.declared.Progress.{Progress}
-use Rattle.schedule_deck.proofs.Few.{spaceless-short, deck-few}
+use Rattle.cards_fields.proofs.FieldLaws.{spaceless-short}
+use Rattle.cards_writing.proofs.PutLaws.{priority-short}
+use Rattle.schedule_deck.proofs.Few.{deck-few}
 
 -- the lines
 below-100 : (e : CardError) → errorNumber e < 100
@@ -91,14 +93,6 @@ below-100 ScheduleFull = omega arith
 error-short : (id : List ℕ) (e : CardError) → length id ≤ 6 → length (errorLine id e) ≤ 16
 error-short id e h =
     omega (arith, length-append (spaceless id) (bytes " ER " ++ (decimalText (errorNumber e) ++ bytes "\n")), length-append (decimalText (errorNumber e)) (bytes "\n"), spaceless-short id, few-digits 1 (errorNumber e) (below-100 e))
-
-priority-short : (r : Request) → length (priorityText r) ≤ 5
-unfolding priorityText
-priority-short r = by (eqb (r .sequence) 0)
-  where
-    by : (b : Bool) → length (cond b [] (twoText (r .sequence)) ++ (r .letter ∷ twoText (r .precedence))) ≤ 5
-    by true = omega arith
-    by false = omega arith
 
 abbrev Short : Request → Type 0
 Short r = length (r .id) ≤ 6

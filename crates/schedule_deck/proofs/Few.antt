@@ -13,6 +13,7 @@ use Rattle.numbers.specs.Quoted.{bytes}
 use Rattle.numbers.specs.declared.Refusal.the-variants.{BadDeck}
 use Rattle.cards_fields.specs.Fields.{upToPeriod, spaceless, onto, split, fields, field, isPty}
 use Rattle.cards_fields.specs.Deck.{cardsOf, termination, isTermination, before, terminated, size, ontoGroup, groupsOf, deckEnd}
+use Rattle.cards_fields.proofs.FieldLaws.{spaceless-short}
 use Rattle.words.specs.Lines.{ontoLine}
 use Rattle.cards_fields.specs.declared.DeckEnd.the-variants.{At, Refused}
 use Rattle.words.proofs.WordLaws.{same-equal}
@@ -36,14 +37,6 @@ second-field (b ∷ t) = by (eqb b 44) (split t) (first-field t) (second-field t
     by true fs g h = omega arith
     by false [] g h = omega arith
     by false (f ∷ fs) g h = omega arith
-
-pub spaceless-short : (s : List ℕ) → length (spaceless s) ≤ length s
-spaceless-short [] = omega arith
-spaceless-short (b ∷ s) = by (eqb b 32) (spaceless-short s)
-  where
-    by : (x : Bool) → length (spaceless s) ≤ length s → length (cond x (spaceless s) (b ∷ spaceless s)) ≤ suc (length s)
-    by true h = omega arith
-    by false h = omega arith
 
 period-short : (s : List ℕ) → length (upToPeriod s) ≤ length s
 period-short [] = omega arith
