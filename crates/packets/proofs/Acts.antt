@@ -10,9 +10,9 @@ use Rattle.numbers.proofs.Tests.{never}
 use Rattle.packets.specs.Demand.{Holding, Holds, isThere, startIn, there}
 use Rattle.packets.proofs.Inv.{Inv}
 use Rattle.packets.proofs.Laws.{and-left, and-right}
-use Rattle.packets.specs.Lone.{Lone, loneStart, loneStep, endOf, loneDoes, loneTakes, spotOf, startBy}
+use Rattle.packets.specs.Lone.{Lone, loneStart, loneStep, loneDoes, loneTakes, startBy}
 use Rattle.packets.specs.Picks.{find}
-use Rattle.packets.specs.Rules.{Call, Complete, End, Mark, Start, Submit, Take, accept, answer, atOf, isWrong, refusal, startable, toOf}
+use Rattle.packets.specs.Rules.{Call, Complete, End, Mark, Start, Submit, Take, accept, answer, siteOf, isWrong, refusal, startable}
 use Rattle.packets.proofs.Sim.{Sim}
 use Rattle.packets.proofs.SimEnd.{sim-assign-away, sim-complete, sim-complete-away, sim-end, sim-end-away, sim-mark, takes-complete, takes-end}
 use Rattle.packets.proofs.SimStart.{on-channel, same-start, sim-start, sim-start-away, takes-start}
@@ -22,8 +22,6 @@ use Rattle.packets.proofs.Steps.{busy-of, find-some}
 use Rattle.packets.proofs.Told.{assigns-to, completes-on, ends-of, starts-on, submits}
 use Rattle.packets.specs.declared.Answer.{Answer}
 use Rattle.packets.specs.declared.Answer.the-variants.{Closed, Completed, Done, Refused, Started}
-use Rattle.packets.specs.declared.Spot.{Spot}
-use Rattle.packets.specs.declared.Spot.the-variants.{OnDrum, OnUnit}
 use Rattle.packets.specs.declared.Verdict.the-variants.{Granted}
 
 -- ---- every accepted call
@@ -38,7 +36,7 @@ answersThere h s c (Refused n) = false
 
 unfoldable pub actsNow : Holding → State → Call → Bool
 actsNow h s (Take j asg) = false
-actsNow h s (Submit j p f c w) = eqb j (h .place) && isThere h c (atOf w)
+actsNow h s (Submit j p f c w) = eqb j (h .place) && isThere h c (siteOf w)
 actsNow h s (Start c) = answersThere h s c (answer s (Start c))
 actsNow h s (Complete c how) = answersThere h s c (answer s (Complete c how))
 actsNow h s (End j e) = eqb j (h .place)
@@ -62,25 +60,16 @@ acted-by h s l x t sim start =
       start = ap (λ (b : Bool). cond b (startBy (h .place) l x) []) t ∙ start;
     }
 
--- a lone unit reads where a submission goes as the rules do
-spot-at : (w : Spot) → spotOf w ≡ atOf w
-spot-at (OnUnit u) = refl
-spot-at (OnDrum x h) = refl
-
-spot-end : (w : Spot) → endOf w ≡ toOf w
-spot-end (OnUnit u) = refl
-spot-end (OnDrum x h) = refl
-
 pub sim-acts : (h : Holding) (s : State) → Inv s → Holds s h → (l : Lone) → Sim h s l → (x : Call) → refusal s x ≡ Granted → actsNow h s x ≡ true → Acted h s l x
 unfolding accept actsNow answersThere answer startBy loneDoes loneTakes
 sim-acts h s I H l S (Take j asg) r t = never {b = false} t refl
 sim-acts h s I H l S (Submit j p f c w) r t =
     let k = submits s j p f c w r in
     let at-j : h .place ≡ j = sym (eqb-true j (h .place) (and-left (eqb j (h .place)) _ t)) in
-    let there-it-goes : isThere h c (atOf w) ≡ true = and-right (eqb j (h .place)) _ t in
+    let there-it-goes : isThere h c (siteOf w) ≡ true = and-right (eqb j (h .place)) _ t in
     acted-by h s l (Submit j p f c w)
-    (takes-submit h s I H l S j p f c (atOf w) (toOf w) k at-j there-it-goes)
-    (rw (spot-at w, spot-end w) (sim-submit h s I H l S j p f c (atOf w) (toOf w) k at-j there-it-goes))
+    (takes-submit h s I H l S j p f c w k at-j there-it-goes)
+    (sim-submit h s I H l S j p f c w k at-j there-it-goes)
     refl
 sim-acts h s I H l S (Start c) r t =
     let k = starts-on s c r in
@@ -113,7 +102,7 @@ sim-acts h s I H l S (Mark c u m on) r t = never {b = false} t refl
 pub sim-away : (h : Holding) (s : State) → Inv s → Holds s h → (l : Lone) → Sim h s l → (x : Call) → refusal s x ≡ Granted → actsNow h s x ≡ false → Sim h (accept s x) l
 unfolding accept actsNow answersThere answer
 sim-away h s I H l S (Take j asg) r t = sim-assign-away h s I H l S j (assigns-to s j asg r .0) (assigns-to s j asg r .1) asg
-sim-away h s I H l S (Submit j p f c w) r t = sim-submit-away h s I H l S j p f c (atOf w) (toOf w) (submits s j p f c w r) (rw (eqb-flip j (h .place)) at t)
+sim-away h s I H l S (Submit j p f c w) r t = sim-submit-away h s I H l S j p f c w (submits s j p f c w r) (rw (eqb-flip j (h .place)) at t)
 sim-away h s I H l S (Start c) r t =
     let k = starts-on s c r in
     let o = find-some (find (startable s c) (s .queue)) (k .2) in

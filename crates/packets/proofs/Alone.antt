@@ -12,16 +12,17 @@ use Rattle.numbers.proofs.Tests.{by-bool, never}
 use Rattle.units.specs.State.{unitIn, markedUnit}
 use Rattle.units.specs.declared.Holder.{Holder}
 use Rattle.units.specs.declared.Holder.the-variants.{Free}
-use Rattle.packets.specs.Demand.{Holding, Holds, OwnMotion, Seen}
-use Rattle.packets.proofs.Inv.{EntryOk, Inv, listed-busy, motion-busy}
+use Rattle.packets.specs.Demand.{Holding, Holds, OwnMotion, Seen, itsUnit}
+use Rattle.packets.proofs.Inv.{EntryOk, Inv, OwnedAt, listed-busy, motion-busy}
 use Rattle.packets.proofs.InvJobs.{held-once, take-held}
 use Rattle.packets.proofs.InvStores.{mark-holder}
 use Rattle.packets.proofs.Laws.{find-holds}
 use Rattle.packets.specs.Picks.{find}
-use Rattle.packets.specs.Rules.{Call, Complete, End, Mark, Start, Submit, Take, accept, always, answer, atOf, begins, begun, closing, completed, cut, decided, finished, isFailure, locked, marked, packet, refusal, returnIfDone, startable, started, step, submitted, toOf}
+use Rattle.packets.specs.Rules.{Call, Complete, End, Mark, Start, Submit, Take, accept, always, answer, siteOf, begins, begun, closing, completed, cut, decided, finished, isFailure, locked, marked, packet, refusal, returnIfDone, startable, started, step, submitted}
 use Rattle.packets.proofs.SeenLaws.{SeenOk}
 use Rattle.packets.proofs.SimSubmit.{is-there, unit-held}
-use Rattle.packets.specs.State.{State, anyMoves, close, drumOn, heldBy, isBusy, isClosing, motionOn, packetIn, packetOf, placeOf, setLock, stateIn, sweep, withLock}
+use Rattle.packets.specs.State.{State, anyMoves, close, heldBy, isBusy, isClosing, isUnit, motionOn, packetIn, packetOf, placeOf, stateIn, sweep}
+use Rattle.packets.proofs.Sites.{lock-holder}
 use Rattle.packets.proofs.Steps.{startable-on, step-inv}
 use Rattle.packets.proofs.Store.{unit-keep, unit-release}
 use Rattle.packets.proofs.Told.{assigns-to}
@@ -30,6 +31,7 @@ use Rattle.packets.specs.declared.Begun.{Begun}
 use Rattle.packets.specs.declared.How.{How}
 use Rattle.packets.specs.declared.Motion.{Motion}
 use Rattle.packets.specs.declared.Motion.the-variants.{Busy, Idle}
+use Rattle.packets.specs.declared.Spot.{Spot}
 use Rattle.packets.specs.declared.Verdict.{Verdict}
 use Rattle.packets.specs.declared.Verdict.the-variants.{Denied, Granted}
 
@@ -42,9 +44,6 @@ Same s s′ = (c u i j : ℕ) → heldBy (unitIn (s .units) c u .holder) i ≡ t
 pub same-kept : (s s′ : State) → ((c u : ℕ) → unitIn (s′ .units) c u .holder ≡ unitIn (s .units) c u .holder) → Same s s′
 same-kept s s′ e c u i j a b = held-once (unitIn (s .units) c u .holder) j i (rw e at b) a
 
-pub lock-keeps : (units : List (List UnitState)) (c a : ℕ) (b : Bool) (d u : ℕ) → unitIn (setLock units c a b) d u .holder ≡ unitIn units d u .holder
-lock-keeps units c a b d u = unit-keep (λ (v : UnitState). v .holder) units c a (withLock (unitIn units c a) b) d u refl
-
 pub released : (v : Holder) (k j : ℕ) → heldBy (cond (heldBy v k) Free v) j ≡ true → heldBy v j ≡ true
 released v k j e = by-bool (heldBy v k) (λ t. never {b = false} (rw t at e) refl) (λ t. rw t at e)
 
@@ -55,16 +54,17 @@ return-keeps s s′ k e =
     (rw e at (released (unitIn (s′ .units) c u .holder) k j (rw (unit-release (s′ .units) k c u) at b))) a))
     (λ t. rw t (same-kept s s′ e))
 
-pub submit-keeps : (s : State) (j p f c a b d u : ℕ) → unitIn (submitted s j p f c a b .units) d u .holder ≡ unitIn (s .units) d u .holder
-submit-keeps s j p f c a b d u =
+pub submit-keeps : (s : State) (j p f c : ℕ) (w : Spot) (d u : ℕ) → unitIn (submitted s j p f c w .units) d u .holder ≡ unitIn (s .units) d u .holder
+submit-keeps s j p f c w d u =
+    let a = siteOf w in
     by-bool (eqb f 0o07)
-    (λ e. by-bool (locked s c a) (λ l. rw (e, l) (lock-keeps (s .units) c a false d u)) (λ l. rw (e, l)))
+    (λ e. by-bool (locked s c a) (λ l. rw (e, l) (lock-holder (s .units) c a false d u)) (λ l. rw (e, l)))
     (λ e. by-bool (eqb f 0o23) (λ l. rw (e, l)) (λ l. rw (e, l)))
 
 pub finish-keeps : (s : State) (c : ℕ) (how : How) (j p d u : ℕ) → unitIn (finished s c how j p .units) d u .holder ≡ unitIn (s .units) d u .holder
 finish-keeps s c how j p d u =
-    by-bool (isFailure how && not (drumOn (s .channels) c))
-    (λ e. rw e (lock-keeps (s .units) c (packetIn (s .jobs) j p .at) true d u))
+    by-bool (isFailure how && isUnit (packetIn (s .jobs) j p .at))
+    (λ e. rw e (lock-holder (s .units) c (packetIn (s .jobs) j p .at) true d u))
     (λ e. rw e)
 
 pub accept-same : (s : State) → Inv s → (x : Call) → refusal s x ≡ Granted → Same s (accept s x)
@@ -72,7 +72,7 @@ unfolding accept
 accept-same s I (Take k asg) r =
     λ c u i j a b. held-once (unitIn (s .units) c u .holder) j i
     (rw (take-held s I k (assigns-to s k asg r .0) (assigns-to s k asg r .1) asg c u i a) at b) a
-accept-same s I (Submit k p f c w) r = same-kept s (submitted s k p f c (atOf w) (toOf w)) (submit-keeps s k p f c (atOf w) (toOf w))
+accept-same s I (Submit k p f c w) r = same-kept s (submitted s k p f c w) (submit-keeps s k p f c w)
 accept-same s I (Start c) r = go (find (startable s c) (s .queue))
   where
     go : (o : Option ℕ) → Same s (started s c o)
@@ -104,7 +104,7 @@ unfolding accept
 accept-config s (Take j asg) = refl
 accept-config s (Submit j p f c w) =
     by-bool (eqb f 0o07)
-    (λ e. by-bool (locked s c (atOf w)) (λ l. rw (e, l)) (λ l. rw (e, l)))
+    (λ e. by-bool (locked s c (siteOf w)) (λ l. rw (e, l)) (λ l. rw (e, l)))
     (λ e. by-bool (eqb f 0o23) (λ l. rw (e, l)) (λ l. rw (e, l)))
 accept-config s (Start c) = go (find (startable s c) (s .queue))
   where
@@ -117,34 +117,26 @@ accept-config s (Complete c how) = go (motionOn s c)
     go Idle = refl
     go (Busy j p) =
         return-config (finished s c how j p) j
-        ∙ by-bool (isFailure how && not (drumOn (s .channels) c)) (λ e. rw e) (λ e. rw e)
+        ∙ by-bool (isFailure how && isUnit (packetIn (s .jobs) j p .at)) (λ e. rw e) (λ e. rw e)
 accept-config s (End j e) = return-config (close (sweep s j always cut) j (closing e)) j
 accept-config s (Mark c u m on) = refl
 
-pub step-config : (s : State) (x : Call) → step s x .state .channels ≡ s .channels
-unfolding step
-step-config s x = go (refusal s x)
-  where
-    go : (n : Verdict) → decided s x n .state .channels ≡ s .channels
-    go Granted = accept-config s x
-    go (Denied n) = refl
-
 -- who moves on the unit holds it
-pub mover : (h : Holding) (s : State) → Inv s → drumOn (s .channels) (h .channel) ≡ false → (j p : ℕ) → motionOn s (h .channel) ≡ Busy j p → packetIn (s .jobs) j p .at ≡ h .unit
+pub mover : (h : Holding) (s : State) → Inv s → (j p : ℕ) → motionOn s (h .channel) ≡ Busy j p → packetIn (s .jobs) j p .at ≡ itsUnit h
     → heldBy (unitIn (s .units) (h .channel) (h .unit) .holder) j ≡ true
-mover h s I nd j p e u =
+mover h s I j p e u =
     let k = I .motion (h .channel) j p e in
-    let o : drumOn (s .channels) (h .channel) ≡ false → heldBy (unitIn (s .units) (h .channel) (h .unit) .holder) j ≡ true = rw (k .channel, u) at (k .owned) in
-    o nd
+    let o : OwnedAt s j (h .channel) (itsUnit h) = rw (k .channel, u) at (k .owned) in
+    o .1 refl
 
 -- the job's packet that is busy on the unit was seen to be submitted there
 seen-busy : (h : Holding) (s : State) (t : Seen) → SeenOk h s t → (p : ℕ) → isBusy (packetIn (s .jobs) (h .place) p .status) ≡ true
-    → packetIn (s .jobs) (h .place) p .channel .0 ≡ h .channel → packetIn (s .jobs) (h .place) p .at ≡ h .unit → t p ≡ true
-seen-busy h s t k p b c u = k p .1 b ∙ is-there h _ _ c u
+    → packetIn (s .jobs) (h .place) p .channel .0 ≡ h .channel → packetIn (s .jobs) (h .place) p .at ≡ itsUnit h → h .drum ≡ false → t p ≡ true
+seen-busy h s t k p b c u d = let q = packetIn (s .jobs) (h .place) p in k p .1 b ∙ is-there h (q .channel .0) (q .at) d c u
 
 -- a start on the unit is of the job that holds it, and of a packet seen to be submitted there
 pub own-start : (h : Holding) (s : State) → Inv s → Holds s h → h .drum ≡ false → (t : Seen) → SeenOk h s t → (x : Call) (b : Begun)
-    → x ≡ Start (h .channel) → step s x .answer ≡ Started b → b .at ≡ h .unit → (b .place ≡ h .place) × (t (b .packet) ≡ true)
+    → x ≡ Start (h .channel) → step s x .answer ≡ Started b → b .at ≡ itsUnit h → (b .place ≡ h .place) × (t (b .packet) ≡ true)
 unfolding step answer
 own-start h s I H d t seen x b e a u = go (refusal s (Start (h .channel))) (rw e at a)
   where
@@ -154,13 +146,13 @@ own-start h s I H d t seen x b e a u = go (refusal s (Start (h .channel))) (rw e
         let q = packetIn (s .jobs) (placeOf y) (packetOf y) in
         let z : record { place = placeOf y; packet = packetOf y; function = q .function; at = q .at } ≡ b = cc in
         let k = find-holds (EntryOk s) (startable s (h .channel)) (s .queue) y (I .queued) f in
-        let v : q .at ≡ h .unit = ap (λ (r : Begun). r .at) z ∙ u in
+        let v : q .at ≡ itsUnit h = ap (λ (r : Begun). r .at) z ∙ u in
         let c : q .channel .0 ≡ h .channel = startable-on s (h .channel) y (k .1) in
-        let o : drumOn (s .channels) (h .channel) ≡ false → heldBy (unitIn (s .units) (h .channel) (h .unit) .holder) (placeOf y) ≡ true = rw (c, v) at (k .0 .owned) in
-        let same : placeOf y ≡ h .place = held-once (unitIn (s .units) (h .channel) (h .unit) .holder) (placeOf y) (h .place) (o (H .kind ∙ d)) (unit-held h s H d) in (
+        let o : OwnedAt s (placeOf y) (h .channel) (itsUnit h) = rw (c, v) at (k .0 .owned) in
+        let same : placeOf y ≡ h .place = held-once (unitIn (s .units) (h .channel) (h .unit) .holder) (placeOf y) (h .place) (o .1 refl) (unit-held h s H d) in (
           sym (ap (λ (r : Begun). r .place) z) ∙ same,
           ap t (sym (ap (λ (r : Begun). r .packet) z))
-              ∙ seen-busy h s t seen (packetOf y) (rw same at (listed-busy (q .status) (k .0 .listed))) (rw same at c) (rw same at v),
+              ∙ seen-busy h s t seen (packetOf y) (rw same at (listed-busy (q .status) (k .0 .listed))) (rw same at c) (rw same at v) d,
         )
 
     go : (n : Verdict) → decided s (Start (h .channel)) n .answer ≡ Started b → (b .place ≡ h .place) × (t (b .packet) ≡ true)
@@ -169,20 +161,20 @@ own-start h s I H d t seen x b e a u = go (refusal s (Start (h .channel))) (rw e
 
 -- nothing of another job is moving on the unit
 abbrev pub Quiet : Holding → State → Type 0
-Quiet h s = (j p : ℕ) → motionOn s (h .channel) ≡ Busy j p → packetIn (s .jobs) j p .at ≡ h .unit → j ≡ h .place
+Quiet h s = (j p : ℕ) → motionOn s (h .channel) ≡ Busy j p → packetIn (s .jobs) j p .at ≡ itsUnit h → j ≡ h .place
 
 pub quiet-held : (h : Holding) (s : State) → Inv s → Holds s h → h .drum ≡ false → Quiet h s
 quiet-held h s I H d j p e u =
-    held-once (unitIn (s .units) (h .channel) (h .unit) .holder) j (h .place) (mover h s I (H .kind ∙ d) j p e u) (unit-held h s H d)
+    held-once (unitIn (s .units) (h .channel) (h .unit) .holder) j (h .place) (mover h s I j p e u) (unit-held h s H d)
 
 pub quiet-after : (h : Holding) (s : State) → Inv s → Holds s h → h .drum ≡ false → (x : Call) → Quiet h (step s x .state)
 quiet-after h s I H d x j p e u =
     step-same s I x (h .channel) (h .unit) (h .place) j (unit-held h s H d)
-    (mover h (step s x .state) (step-inv s I x) (rw (step-config s x) (H .kind ∙ d)) j p e u)
+    (mover h (step s x .state) (step-inv s I x) j p e u)
 
 -- and what is, was seen to be submitted there
-pub own-motion : (h : Holding) (s : State) → Inv s → (t : Seen) → SeenOk h s t → Quiet h s → OwnMotion h t s
-own-motion h s I t seen q j p e u =
+pub own-motion : (h : Holding) (s : State) → Inv s → h .drum ≡ false → (t : Seen) → SeenOk h s t → Quiet h s → OwnMotion h t s
+own-motion h s I d t seen q j p e u =
     let same : j ≡ h .place = q j p e u in
     let k = I .motion (h .channel) j p e in
-    (same, seen-busy h s t seen p (rw same at (motion-busy (packetIn (s .jobs) j p .status) (k .going))) (rw same at (k .channel)) (rw same at u))
+    (same, seen-busy h s t seen p (rw same at (motion-busy (packetIn (s .jobs) j p .status) (k .going))) (rw same at (k .channel)) (rw same at u) d)

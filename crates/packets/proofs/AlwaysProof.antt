@@ -8,11 +8,13 @@ use native.Mathlib.Omega.{arith}
 use lib.Dec.{eqb}
 use borrow.Author.Tests.{eqb-true}
 use Rattle.numbers.proofs.Tests.{by-bool, never}
+use Rattle.numbers.specs.declared.UnitNumber.{UnitNumber}
+use Rattle.units.specs.State.{unitIn}
 use Rattle.packets.proofs.Closing.{Halts, fresh-halts, run-halts}
 use Rattle.packets.specs.Always.{Always, Invariants, NoEarlyHandOver, packetAt}
 use Rattle.packets.specs.Demand.{fresh}
-use Rattle.packets.proofs.Inv.{EntryOk, Inv, OkEntry, Owned, motion-busy, running-alive}
-use Rattle.packets.specs.State.{inMotion, State, entryOf, isBusy, isEmpty, isListed, isStill, packetOf, placeOf, stateIn}
+use Rattle.packets.proofs.Inv.{EntryOk, Inv, OkEntry, Owned, OwnedAt, motion-busy, running-alive}
+use Rattle.packets.specs.State.{inMotion, State, entryOf, heldBy, isBusy, isEmpty, isListed, isStill, packetOf, placeOf, stateIn}
 use Rattle.packets.proofs.InvStores.{entry-packet, entry-place}
 use Rattle.packets.specs.Picks.{All, any}
 use Rattle.packets.proofs.Laws.{all-imp}
@@ -21,6 +23,8 @@ use Rattle.packets.proofs.Sound.{Sound, noPacket}
 use Rattle.packets.proofs.SoundSteps.{fresh-sound, run-sound}
 use Rattle.packets.proofs.Steps.{fresh-inv, run-inv}
 use Rattle.packets.proofs.Store.{busy-in}
+use Rattle.packets.specs.declared.Site.{Site}
+use Rattle.packets.specs.declared.Site.the-variants.{AtUnit}
 use Rattle.packets.specs.declared.Status.{Status}
 use Rattle.packets.specs.declared.Status.the-variants.{Blank, Ended, InProgress, Listed, Stopping}
 
@@ -40,6 +44,10 @@ busy-either InProgress b l = refl
 busy-either Stopping b l = refl
 busy-either (Ended k) b l = b
 
+-- a unit that is owned is held
+held-at : (s : State) (j c : ℕ) (a : Site) → OwnedAt s j c a → (u : UnitNumber) → a ≡ AtUnit u → heldBy (unitIn (s .units) c (u .0) .holder) j ≡ true
+held-at s j c a o u e = let k : OwnedAt s j c (AtUnit u) = subst (λ (x : Site). OwnedAt s j c x) e o in k .1 refl
+
 holds-always : (s : State) → Inv s → Sound s noPacket → Halts s → Always s
 holds-always s I S H =
     record {
@@ -48,7 +56,8 @@ holds-always s I S H =
       entries = all-imp (EntryOk s) (λ (e : ℕ). isStill (s .jobs) e ≡ true) (λ e k. k .listed) (s .queue) (I .queued);
       members = λ j p h. S .member j p refl h;
       once = I .single;
-      held = λ j p b. fact j p b .0;
+      sites = λ j p b. fact j p b .0 .0;
+      held = λ j p b u e. held-at s j (packetAt s j p .channel .0) (packetAt s j p .at) (fact j p b .0) u e;
       live = λ j p b. fact j p b .1;
       closing = λ j c. H j c .one;
       stopping = λ j p c m. H j c .all p m;

@@ -17,8 +17,8 @@ use Rattle.packets.specs.Demand.{emptyPlace, fresh}
 use Rattle.packets.proofs.Inv.{Inv, running-alive}
 use Rattle.packets.proofs.Laws.{and-left, eqb-self, getD-set-keep}
 use Rattle.packets.specs.Picks.{find}
-use Rattle.packets.specs.Rules.{Call, Complete, End, Mark, Start, Submit, Take, accept, aimed, always, assigned, atOf, atUnit, begun, broken, closed, closing, codeFor, cut, decided, ended, enlist, failed, finished, freshJob, inArea, isDone, isFailure, locked, marked, over, packet, refusal, returnIfDone, returned, run, startable, started, step, submitted, toOf}
-use Rattle.packets.specs.State.{State, drumOn, isClosing, isEmpty, jobIn, lock, motionOn, move, noJob, packetIn, packetOf, placeOf, put, restatus, restatusAll, setState, stateIn, store, sweep, withPackets, withState, withStatus}
+use Rattle.packets.specs.Rules.{Call, Complete, End, Mark, Start, Submit, Take, accept, aimed, always, assigned, siteOf, isAt, begun, broken, closed, closing, codeFor, cut, decided, ended, enlist, failed, finished, freshJob, inArea, isDone, isFailure, locked, marked, over, packet, refusal, returnIfDone, returned, run, startable, started, step, submitted}
+use Rattle.packets.specs.State.{State, isClosing, isEmpty, isUnit, jobIn, lock, motionOn, move, noJob, packetIn, packetOf, placeOf, put, restatus, restatusAll, setState, stateIn, store, sweep, withPackets, withState, withStatus}
 use Rattle.packets.proofs.Steps.{busy-of, closing-alive, closing-not-running, fresh-inv, fresh-state, step-inv}
 use Rattle.packets.proofs.Store.{alive-in, state-fresh, state-put, state-restatus, state-state}
 use Rattle.packets.proofs.Told.{assigns-to, completes-on, ends-of}
@@ -29,6 +29,7 @@ use Rattle.packets.specs.declared.JobState.{JobState}
 use Rattle.packets.specs.declared.JobState.the-variants.{Empty, Running}
 use Rattle.packets.specs.declared.Motion.the-variants.{Idle}
 use Rattle.packets.specs.declared.Packet.{Packet}
+use Rattle.packets.specs.declared.Spot.{Spot}
 use Rattle.packets.specs.declared.Status.{Status}
 use Rattle.packets.specs.declared.Status.the-variants.{Ended, InProgress, Listed}
 use Rattle.packets.specs.declared.Verdict.{Verdict}
@@ -87,22 +88,23 @@ module _ (part : Part) (L : Lasting part) where
   same-jobs : (s s′ : State) → s′ .jobs ≡ s .jobs → Held-on s s′
   same-jobs s s′ e = record { holds = λ i x. rw e; alive = λ i h. rw e at h }
 
-  same-submit : (s : State) (j p f c a b : ℕ) → Held-on s (submitted s j p f c a b)
-  same-submit s j p f c a b =
+  same-submit : (s : State) (j p f c : ℕ) (w : Spot) → Held-on s (submitted s j p f c w)
+  same-submit s j p f c w =
+      let a = siteOf w in
       by-bool (eqb f 0o07)
       (λ e. rw e (by-bool (locked s c a)
-      (λ d. rw d (same-trans (same-sweep s j (atUnit c a) failed) (same-trans (same-jobs _ (lock (sweep s j (atUnit c a) failed) c a false) refl) (same-store _ j p (packet (Ended 0o00) f c a)))))
+      (λ d. rw d (same-trans (same-sweep s j (isAt c a) failed) (same-trans (same-jobs _ (lock (sweep s j (isAt c a) failed) c a false) refl) (same-store _ j p (packet (Ended 0o00) f c a)))))
       (λ d. rw d (same-store s j p (packet (Ended 0o00) f c a)))))
       (λ e. rw e (by-bool (eqb f 0o23)
-      (λ d. rw d (same-trans (same-sweep s j (aimed (drumOn (s .channels) c) c a b) cut) (same-store _ j p (packet (Ended 0o00) f c a))))
+      (λ d. rw d (same-trans (same-sweep s j (aimed c w) cut) (same-store _ j p (packet (Ended 0o00) f c a))))
       (λ d. rw d (same-trans (same-store s j p (packet Listed f c a)) (same-jobs _ (enlist s j p f c a) refl)))))
 
   same-finished : (s : State) (c : ℕ) (how : How) (j p : ℕ) → Held-on s (finished s c how j p)
   same-finished s c how j p =
       let s₁ = over s c j p (codeFor how) in
       let o : Held-on s s₁ = same-trans (same-jobs s (move s c Idle) refl) (same-store (move s c Idle) j p (withStatus (packetIn (s .jobs) j p) (Ended (codeFor how)))) in
-      by-bool (isFailure how && not (drumOn (s .channels) c))
-      (λ e. rw e (same-trans o (same-trans (same-sweep s₁ j (atUnit c (packetIn (s .jobs) j p .at)) failed) (same-jobs _ (broken s₁ c (packetIn (s .jobs) j p .at) j) refl))))
+      by-bool (isFailure how && isUnit (packetIn (s .jobs) j p .at))
+      (λ e. rw e (same-trans o (same-trans (same-sweep s₁ j (isAt c (packetIn (s .jobs) j p .at)) failed) (same-jobs _ (broken s₁ c (packetIn (s .jobs) j p .at) j) refl))))
       (λ e. rw e o)
 
   apart-same : (s s′ : State) → Held-on s s′ → Apart part s → Apart part s′
@@ -129,7 +131,7 @@ module _ (part : Part) (L : Lasting part) where
   accept-apart : (s : State) → Inv s → Apart part s → (x : Call) → refusal s x ≡ Granted → Fits part s x → Apart part (accept s x)
   unfolding accept
   accept-apart s I A (Take j asg) r f = apart-taken s j asg (rw (I .places) (assigns-to s j asg r .0)) f A
-  accept-apart s I A (Submit j p f c w) r k = apart-same s (submitted s j p f c (atOf w) (toOf w)) (same-submit s j p f c (atOf w) (toOf w)) A
+  accept-apart s I A (Submit j p f c w) r k = apart-same s (submitted s j p f c w) (same-submit s j p f c w) A
   accept-apart s I A (Start c) r k = go (find (startable s c) (s .queue))
     where
       go : (o : Option ℕ) → Apart part (started s c o)

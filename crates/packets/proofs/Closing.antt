@@ -16,8 +16,8 @@ use Rattle.packets.specs.Demand.{emptyPlace, fresh}
 use Rattle.packets.proofs.Inv.{EntryOk, Inv}
 use Rattle.packets.proofs.Laws.{eqb-self, find-holds}
 use Rattle.packets.specs.Picks.{any, find}
-use Rattle.packets.specs.Rules.{Call, Complete, End, Mark, Start, Submit, Take, accept, atOf, atUnit, closed, closing, codeFor, completed, cut, decided, failed, finished, isDone, isFailure, refusal, returnIfDone, returned, run, startable, started, step, toOf}
-use Rattle.packets.specs.State.{State, anyMoves, carrying, drumOn, inMotion, isClosing, isPacket, isRunning, motionOn, moves, packetIn, placeOf, stateIn}
+use Rattle.packets.specs.Rules.{Call, Complete, End, Mark, Start, Submit, Take, accept, siteOf, isAt, closed, closing, codeFor, completed, cut, decided, failed, finished, isDone, isFailure, refusal, returnIfDone, returned, run, startable, started, step}
+use Rattle.packets.specs.State.{State, anyMoves, carrying, inMotion, isClosing, isPacket, isRunning, isUnit, motionOn, moves, packetIn, placeOf, stateIn}
 use Rattle.packets.proofs.States.{states-begun, states-closed, states-finished, states-returned, states-submit}
 use Rattle.packets.proofs.Steps.{busy-of, closing-not-running, ending-inv, find-some, finished-inv, fresh-state, step-inv}
 use Rattle.packets.proofs.Store.{state-fresh}
@@ -127,7 +127,7 @@ accept-halts s I H (Take j asg) r i c =
     (λ d. let b : isClosing (cond (eqb i j) Running (stateIn (s .jobs) i)) ≡ true = rw e at c in never {b = false} (rw d at b) refl)
     (λ d. elsewhere s I H (Take j asg) r i (e ∙ rw d) (λ n. rw d) c)
 accept-halts s I H (Submit j p f g w) r i c =
-    let e = states-submit s j p f g (atOf w) (toOf w) i in
+    let e = states-submit s j p f g w i in
     by-bool (eqb i j)
     (λ d. absurd (running-closing (stateIn (s .jobs) j) (submits s j p f g w r .running) (rw (eqb-true i j d) at (sym (ap isClosing e) ∙ c))))
     (λ d. elsewhere s I H (Submit j p f g w) r i e (λ n. rw d) c)
@@ -157,7 +157,7 @@ accept-halts s I H (Complete g how) r i c =
         → inMotion (statusIn (finished s g how j p) j n) ≡ true → statusIn (finished s g how j p) j n ≡ Stopping
     moved g how j p small is n x m =
         let a : statusIn (finished s g how j p) j n ≡ afterComplete s g how (Busy j p) j n = finished-status s I g small how j p is j n in
-        a ∙ go (isPacket j p j n) (eqb j j && ((isFailure how && not (drumOn (s .channels) g)) && atUnit g (packetIn (s .jobs) j p .at) (packetIn (s .jobs) j n))) (rw a at m)
+        a ∙ go (isPacket j p j n) (eqb j j && ((isFailure how && isUnit (packetIn (s .jobs) j p .at)) && isAt g (packetIn (s .jobs) j p .at) (packetIn (s .jobs) j n))) (rw a at m)
       where
         go : (b d : Bool) → inMotion (cond b (Ended (codeFor how)) (cond d (failed (statusIn s j n)) (statusIn s j n))) ≡ true
             → cond b (Ended (codeFor how)) (cond d (failed (statusIn s j n)) (statusIn s j n)) ≡ Stopping

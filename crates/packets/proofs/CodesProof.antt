@@ -12,8 +12,8 @@ use Rattle.packets.proofs.Inv.{EntryOk, Inv, running-alive}
 use Rattle.packets.proofs.InvStores.{sweep-inv}
 use Rattle.packets.proofs.Laws.{and-left, and-right, find-holds}
 use Rattle.packets.specs.Picks.{find}
-use Rattle.packets.specs.Rules.{Call, Complete, End, Mark, Start, Submit, Take, accept, aimed, always, atOf, atUnit, closed, closing, codeFor, cut, decided, failed, finished, isDone, isFailure, locked, over, packet, refusal, returnIfDone, run, startable, step, submitted, toOf}
-use Rattle.packets.specs.State.{isPacket, State, drumOn, isRunning, motionOn, packetIn, packetOf, placeOf, put, restatusAll, stateIn, sweep, withStatus}
+use Rattle.packets.specs.Rules.{Call, Complete, End, Mark, Start, Submit, Take, accept, aimed, always, siteOf, isAt, closed, closing, codeFor, cut, decided, failed, finished, isDone, isFailure, locked, over, packet, refusal, returnIfDone, run, startable, step, submitted}
+use Rattle.packets.specs.State.{isPacket, State, isRunning, isUnit, motionOn, packetIn, packetOf, placeOf, put, restatusAll, stateIn, sweep, withStatus}
 use Rattle.packets.proofs.Steps.{Ready, busy-of, find-some, fresh-inv, over-fits, over-inside, ready-fits, ready-inside, ready-sweep, run-inv, start-fits, startable-on}
 use Rattle.packets.proofs.Store.{alive-in, packet-fresh, packet-put, packet-restatus, packet-state, sizeIn}
 use Rattle.packets.proofs.Told.{Submits, assigns-to, completes-on, cut-going, cut-idle, ends-of, failed-going, failed-idle, starts-on, submits}
@@ -21,6 +21,8 @@ use Rattle.packets.specs.declared.How.{How}
 use Rattle.packets.specs.declared.JobState.the-variants.{Empty}
 use Rattle.packets.specs.declared.Motion.the-variants.{Busy}
 use Rattle.packets.specs.declared.Packet.{Packet}
+use Rattle.packets.specs.declared.Site.{Site}
+use Rattle.packets.specs.declared.Spot.{Spot}
 use Rattle.packets.specs.declared.Status.{Status}
 use Rattle.packets.specs.declared.Status.the-variants.{Blank, Ended, InProgress, Listed}
 use Rattle.packets.specs.declared.Verdict.{Verdict}
@@ -38,28 +40,31 @@ swept-status s j t f inside fb i n =
     rw (packet-restatus (s .jobs) j t f i n inside fb)
     (by-bool (eqb i j) (λ e. rw e (by-bool (t (packetIn (s .jobs) i n)) (λ d. rw d) (λ d. rw d))) (λ e. rw e))
 
-module _ (s : State) (I : Inv s) (j p f c a b : ℕ) (k : Submits s j p f c a) (i n : ℕ) where
+module _ (s : State) (I : Inv s) (j p f c : ℕ) (w : Spot) (k : Submits s j p f c w) (i n : ℕ) where
+  abbrev a : Site
+  a = siteOf w
+
   now-ready : Ready s j p
   now-ready = record { small = k .small; running = k .running; idle = k .idle }
 
-  submit-status : packetIn (submitted s j p f c a b .jobs) i n .status ≡ afterSubmit s j p f c a b i n
+  submit-status : packetIn (submitted s j p f c w .jobs) i n .status ≡ afterSubmit s j p f c w i n
   submit-status =
       let inside = ready-inside s j p now-ready in
       by-bool (eqb f 0o07)
       (λ e. by-bool (locked s c a)
-      (λ d. let s₁ = sweep s j (atUnit c a) failed in
-      let I₁ : Inv s₁ = sweep-inv s I j (atUnit c a) failed inside refl failed-going in
-      let r₁ : Ready s₁ j p = ready-sweep s j p (atUnit c a) failed refl failed-idle now-ready in
+      (λ d. let s₁ = sweep s j (isAt c a) failed in
+      let I₁ : Inv s₁ = sweep-inv s I j (isAt c a) failed inside refl failed-going in
+      let r₁ : Ready s₁ j p = ready-sweep s j p (isAt c a) failed refl failed-idle now-ready in
       rw (e, d)
       (stored-status s₁ j p (packet (Ended 0o00) f c a) (ready-fits s₁ I₁ j p r₁) i n
-      ∙ rw (swept-status s j (atUnit c a) failed inside refl i n)
+      ∙ rw (swept-status s j (isAt c a) failed inside refl i n)
       (by-bool (isPacket j p i n) (λ g. rw g)
-      (λ g. rw g (by-bool (eqb i j) (λ h. rw h (by-bool (atUnit c a (packetIn (s .jobs) i n)) (λ m. rw m) (λ m. rw m))) (λ h. rw h))))))
+      (λ g. rw g (by-bool (eqb i j) (λ h. rw h (by-bool (isAt c a (packetIn (s .jobs) i n)) (λ m. rw m) (λ m. rw m))) (λ h. rw h))))))
       (λ d. rw (e, d)
       (stored-status s j p (packet (Ended 0o00) f c a) (ready-fits s I j p now-ready) i n
       ∙ by-bool (isPacket j p i n) (λ g. rw g) (λ g. rw g (by-bool (eqb i j) (λ h. rw h) (λ h. rw h))))))
       (λ e. by-bool (eqb f 0o23)
-      (λ d. let t = aimed (drumOn (s .channels) c) c a b in
+      (λ d. let t = aimed c w in
       let s₁ = sweep s j t cut in
       let I₁ : Inv s₁ = sweep-inv s I j t cut inside refl cut-going in
       let r₁ : Ready s₁ j p = ready-sweep s j p t cut refl cut-idle now-ready in
@@ -67,7 +72,7 @@ module _ (s : State) (I : Inv s) (j p f c a b : ℕ) (k : Submits s j p f c a) (
       (stored-status s₁ j p (packet (Ended 0o00) f c a) (ready-fits s₁ I₁ j p r₁) i n
       ∙ rw (swept-status s j t cut inside refl i n)
       (by-bool (isPacket j p i n) (λ g. rw g)
-      (λ g. rw g (by-bool (eqb i j) (λ h. rw h (by-bool (aimed (drumOn (s .channels) c) c a b (packetIn (s .jobs) i n)) (λ m. rw m) (λ m. rw m))) (λ h. rw h))))))
+      (λ g. rw g (by-bool (eqb i j) (λ h. rw h (by-bool (aimed c w (packetIn (s .jobs) i n)) (λ m. rw m) (λ m. rw m))) (λ h. rw h))))))
       (λ d. rw (e, d)
       (stored-status s j p (packet Listed f c a) (ready-fits s I j p now-ready) i n
       ∙ by-bool (isPacket j p i n) (λ g. rw g) (λ g. rw g (by-bool (eqb i j) (λ h. rw h) (λ h. rw h))))))
@@ -82,12 +87,12 @@ module _ (s : State) (I : Inv s) (c : ℕ) (small : c < 16) (how : How) (j p : �
       let s₁ = over s c j p (codeFor how) in
       let a = packetIn (s .jobs) j p .at in
       let read : packetIn (s₁ .jobs) i n ≡ cond (isPacket j p i n) q (packetIn (s .jobs) i n) = packet-put (s .jobs) j p q i n (over-fits s I c small j p is) in
-      by-bool (isFailure how && not (drumOn (s .channels) c))
+      by-bool (isFailure how && isUnit (packetIn (s .jobs) j p .at))
       (λ e. rw e
-      (swept-status s₁ j (atUnit c a) failed (over-inside s I c small j p is (codeFor how)) refl i n
+      (swept-status s₁ j (isAt c a) failed (over-inside s I c small j p is (codeFor how)) refl i n
       ∙ rw read
       (by-bool (isPacket j p i n)
-      (λ g. rw g (by-bool (eqb i j && atUnit c a q) (λ m. rw m) (λ m. rw m)))
+      (λ g. rw g (by-bool (eqb i j && isAt c a q) (λ m. rw m) (λ m. rw m)))
       (λ g. rw g))))
       (λ e. rw (e, read)
       (by-bool (isPacket j p i n) (λ g. rw g) (λ g. rw g (by-bool (eqb i j) (λ h. rw h) (λ h. rw h)))))
@@ -103,7 +108,7 @@ pub status-after : (s : State) → Inv s → (x : Call) → refusal s x ≡ Gran
 unfolding accept statusAfter
 status-after s I (Take j asg) r i n =
     rw (packet-fresh (s .jobs) j asg i (rw (I .places) (assigns-to s j asg r .0)) n) (by-bool (eqb i j) (λ e. rw e) (λ e. rw e))
-status-after s I (Submit j p f c w) r i n = submit-status s I j p f c (atOf w) (toOf w) (submits s j p f c w r) i n
+status-after s I (Submit j p f c w) r i n = submit-status s I j p f c w (submits s j p f c w r) i n
 status-after s I (Start c) r i n =
     let k = starts-on s c r in
     let o = find-some (find (startable s c) (s .queue)) (k .2) in
@@ -133,9 +138,9 @@ unfolding statusAfter
 keeps-code s I (Take j asg) r i n k e b = rw b e
 keeps-code s I (Submit j p f c w) r i n k e b =
     rw (b, e)
-    (by-bool (eqb i j && (eqb f 0o07 && (locked s c (atOf w) && atUnit c (atOf w) (packetIn (s .jobs) i n))))
+    (by-bool (eqb i j && (eqb f 0o07 && (locked s c (siteOf w) && isAt c (siteOf w) (packetIn (s .jobs) i n))))
     (λ d. rw d)
-    (λ d. rw d (by-bool (eqb i j && (not (eqb f 0o07) && (eqb f 0o23 && aimed (drumOn (s .channels) c) c (atOf w) (toOf w) (packetIn (s .jobs) i n)))) (λ g. rw g) (λ g. rw g))))
+    (λ d. rw d (by-bool (eqb i j && (not (eqb f 0o07) && (eqb f 0o23 && aimed c w (packetIn (s .jobs) i n)))) (λ g. rw g) (λ g. rw g))))
 keeps-code s I (Start c) r i n k e b =
     let z = starts-on s c r in
     let o = find-some (find (startable s c) (s .queue)) (z .2) in
@@ -158,7 +163,7 @@ keeps-code s I (Complete c how) r i n k e b =
     let e′ : packetIn (s .jobs) (o .0) (o .1) .status ≡ Ended k = rw (x, y) at e in
     never {b = false} (rw e′ at g) refl)
     (λ t. rw (t, e)
-    (by-bool (eqb i (o .0) && ((isFailure how && not (drumOn (s .channels) c)) && atUnit c (packetIn (s .jobs) (o .0) (o .1) .at) (packetIn (s .jobs) i n)))
+    (by-bool (eqb i (o .0) && ((isFailure how && isUnit (packetIn (s .jobs) (o .0) (o .1) .at)) && isAt c (packetIn (s .jobs) (o .0) (o .1) .at) (packetIn (s .jobs) i n)))
     (λ d. rw d) (λ d. rw d))))
 keeps-code s I (End j err) r i n k e b = rw e (by-bool (eqb i j) (λ d. rw d) (λ d. rw d))
 keeps-code s I (Mark c u m on) r i n k e b = e

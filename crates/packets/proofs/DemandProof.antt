@@ -165,5 +165,5 @@ demand3 channels units free before j asg r h at-j H during stretch =
       starts = k .starts;
       status = λ n t. ap (λ (q : Request). q .status) (k .sim .table n (k .seen n .0 t));
       started = k .own;
-      moves = λ d. own-motion h (run s during) (k .inv) (seenAfter h noneSeen (events s during)) (k .seen) (k .quiet d);
+      moves = λ d. own-motion h (run s during) (k .inv) d (seenAfter h noneSeen (events s during)) (k .seen) (k .quiet d);
     }

@@ -29,4 +29,4 @@ k9-after = refl
 -- after the job's end and before the completion, by the rule for all cells
 pub k9-held : heldBy (holder (run cell moving)) 0 ≡ true
 unfolding run legalOf step refusal accept answer fresh unitIn unitSet assignable fittedOn drumOn configured packetIn stateIn put relist enlisted entryOf placeOf packetOf setState restatusAll takeAll releaseAll
-k9-held = no-early-hand-over channels noneHeld none-free moving 0 5 refl refl
+k9-held = no-early-hand-over channels noneHeld none-free moving 0 5 refl (record { 0 = 1 }) refl

@@ -2,7 +2,7 @@
 -- Assumes nothing.
 use Prim.Native.Nat.{ℕ}
 use mathlib.Core.Path.{_≡_, refl, sym, _∙_}
-use mathlib.Core.Bool.{Bool, true, false}
+use mathlib.Core.Bool.{Bool, true, false, not}
 use mathlib.Core.List.{List}
 use lib.ListN.{length}
 use lib.Dec.{eqb}
@@ -12,13 +12,14 @@ use Rattle.units.specs.State.{unitIn}
 use Rattle.packets.specs.Picks.{All, Nodup, keep}
 use Rattle.packets.proofs.Laws.{all-imp, all-keep}
 use Rattle.packets.proofs.Once.{nodup-keep}
-use Rattle.packets.specs.State.{State, drumOn, heldBy, isBusy, isEmpty, isKept, isListed, isRunning, isStill, motionOn, packetIn, packetOf, packetsIn, placeOf, relist, stateIn, inMotion}
+use Rattle.packets.specs.State.{State, drumOn, heldBy, isBusy, isEmpty, isKept, isListed, isRunning, isStill, motionOn, packetIn, packetOf, packetsIn, placeOf, relist, stateIn, inMotion, isUnit, unitAt}
 use Rattle.packets.proofs.Store.{sizeIn}
 use Rattle.packets.specs.declared.Job.{Job}
 use Rattle.packets.specs.declared.JobState.{JobState}
 use Rattle.packets.specs.declared.JobState.the-variants.{ClosingError, ClosingNormal, Empty, Running}
 use Rattle.packets.specs.declared.Motion.the-variants.{Busy}
 use Rattle.packets.specs.declared.Packet.{Packet}
+use Rattle.packets.specs.declared.Site.{Site}
 use Rattle.packets.specs.declared.Status.{Status}
 use Rattle.packets.specs.declared.Status.the-variants.{Blank, Ended, InProgress, Listed, Stopping}
 
@@ -42,9 +43,9 @@ running-alive Running e = refl
 running-alive ClosingNormal e = refl
 running-alive ClosingError e = refl
 
--- unit a of channel c is the job's in place j, if c is not the drum's
-abbrev pub OwnedAt : State → ℕ → ℕ → ℕ → Type 0
-OwnedAt s j c a = drumOn (s .channels) c ≡ false → heldBy (unitIn (s .units) c a .holder) j ≡ true
+-- a is an address on the drum channel, on any other a unit, and a unit is the job's in place j
+abbrev pub OwnedAt : State → ℕ → ℕ → Site → Type 0
+OwnedAt s j c a = (isUnit a ≡ not (drumOn (s .channels) c)) × (isUnit a ≡ true → heldBy (unitAt (s .units) c a .holder) j ≡ true)
 
 abbrev pub Owned : State → ℕ → Packet → Type 0
 Owned s j q = OwnedAt s j (q .channel .0) (q .at)

@@ -10,7 +10,7 @@ use Rattle.numbers.proofs.Tests.{by-bool, never}
 use Rattle.units.specs.State.{assignable, isFree, unitIn}
 use Rattle.units.specs.declared.Holder.{Holder}
 use Rattle.units.specs.declared.Holder.the-variants.{Free, Held}
-use Rattle.packets.proofs.Inv.{EntryOk, Inv, Owned, running-alive}
+use Rattle.packets.proofs.Inv.{EntryOk, Inv, Owned, OwnedAt, running-alive}
 use Rattle.packets.specs.Picks.{All}
 use Rattle.packets.proofs.Laws.{all-both, all-imp}
 use Rattle.packets.specs.Rules.{assigned, freshJob, returned}
@@ -21,6 +21,8 @@ use Rattle.packets.specs.declared.JobState.{JobState}
 use Rattle.packets.specs.declared.JobState.the-variants.{Empty, Running}
 use Rattle.packets.specs.declared.Motion.the-variants.{Busy}
 use Rattle.packets.specs.declared.Packet.{Packet}
+use Rattle.packets.specs.declared.Site.{Site}
+use Rattle.packets.specs.declared.Site.the-variants.{AtAddress, AtUnit}
 
 -- ---- a job that closes, and one that returns its facilities
 
@@ -99,12 +101,18 @@ module _ (s : State) (I : Inv s) (j : ℕ) (inside : j < length (s .jobs)) (none
           let b : isEmpty (cond (eqb i j) Empty (stateIn (s .jobs) i)) ≡ false = rw (state-state (s .jobs) j Empty i inside) at a in
           by-bool (eqb i j) (λ e. never {b = true} refl (rw e at b)) (λ e. (e, rw e at b))
 
+      keeps-at : (i c : ℕ) (a : Site) → eqb i j ≡ false → OwnedAt s i c a → OwnedAt (returned s j) i c a
+      keeps-at i c (AtUnit u) d o = (
+        o .0,
+        λ x. rw (unit-release (s .units) j c (u .0))
+            (by-bool (heldBy (unitIn (s .units) c (u .0) .holder) j)
+            (λ e. absurd (eqb-false i j d (held-once (unitIn (s .units) c (u .0) .holder) i j (o .1 x) e)))
+            (λ e. rw e (o .1 x))),
+      )
+      keeps-at i c (AtAddress x) d o = (o .0, λ y. never {b = false} y refl)
+
       keeps : (i : ℕ) (q : Packet) → eqb i j ≡ false → Owned s i q → Owned (returned s j) i q
-      keeps i q d o x =
-          rw (unit-release (s .units) j (q .channel .0) (q .at))
-          (by-bool (heldBy (unitIn (s .units) (q .channel .0) (q .at) .holder) j)
-          (λ e. absurd (eqb-false i j d (held-once (unitIn (s .units) (q .channel .0) (q .at) .holder) i j (o x) e)))
-          (λ e. rw e (o x)))
+      keeps i q = keeps-at i (q .channel .0) (q .at)
 
       entry : (e : ℕ) → EntryOk s e × NotOf j e → EntryOk (returned s j) e
       entry e k =
@@ -178,8 +186,12 @@ module _ (s : State) (I : Inv s) (j : ℕ) (inside : j < 16) (empty : isEmpty (s
           let b : isEmpty (cond (eqb i j) Running (stateIn (s .jobs) i)) ≡ false = rw (state-fresh (s .jobs) j asg i there-is) at a in
           by-bool (eqb i j) (λ e. rw e) (λ e. rw e (I .sizes i (rw e at b)))
 
+      keeps-at : (i c : ℕ) (a : Site) → OwnedAt s i c a → OwnedAt (assigned s j asg) i c a
+      keeps-at i c (AtUnit u) o = (o .0, λ x. rw (take-held c (u .0) i (o .1 x)) (o .1 x))
+      keeps-at i c (AtAddress x) o = (o .0, λ y. never {b = false} y refl)
+
       keeps : (i : ℕ) (q : Packet) → Owned s i q → Owned (assigned s j asg) i q
-      keeps i q o x = rw (take-held (q .channel .0) (q .at) i (o x)) (o x)
+      keeps i q = keeps-at i (q .channel .0) (q .at)
 
       entry : (e : ℕ) → EntryOk s e → EntryOk (assigned s j asg) e
       entry e k =

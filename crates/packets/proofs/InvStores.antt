@@ -14,17 +14,19 @@ use Rattle.units.specs.declared.Mark.the-variants.{Down, Reserved}
 use Rattle.numbers.proofs.Tests.{by-bool, never}
 use Rattle.units.specs.State.{unitIn, unitSet, markedUnit}
 use Rattle.packets.proofs.Inv.{Elsewhere, EntryOk, Inv, OkEntry, OkMotion, Owned, Spots, listed-busy, motion-busy, requeued, running-alive, single-relist}
-use Rattle.packets.specs.State.{inMotion, State, enlisted, enqueue, entryOf, isBusy, isIdle, isListed, lock, motionOn, move, packetIn, packetOf, packetsIn, placeOf, put, restatusAll, setLock, stateIn, store, sweep, withLock}
+use Rattle.packets.specs.State.{inMotion, State, enlisted, enqueue, entryOf, isBusy, isIdle, isListed, lock, motionOn, move, packetIn, packetOf, packetsIn, placeOf, put, restatusAll, setLock, stateIn, store, sweep}
 use Rattle.packets.specs.Picks.{All}
 use Rattle.packets.proofs.Laws.{all-append, all-imp, and-left, and-right}
 use Rattle.packets.proofs.Once.{few, nodup-snoc}
 use Rattle.packets.specs.Rules.{marked}
+use Rattle.packets.proofs.Sites.{holder-at, lock-holder}
 use Rattle.packets.proofs.Store.{alive-in, busy-in, length-put, length-restatus, packet-put, packet-restatus, size-put, size-restatus, sizeIn, state-put, state-restatus, unit-keep}
 use Rattle.packets.specs.declared.Carrier.{Carrier}
 use Rattle.packets.specs.declared.Job.{Job}
 use Rattle.packets.specs.declared.Motion.{Motion}
 use Rattle.packets.specs.declared.Motion.the-variants.{Busy, Idle}
 use Rattle.packets.specs.declared.Packet.{Packet}
+use Rattle.packets.specs.declared.Site.{Site}
 use Rattle.packets.specs.declared.Status.{Status}
 use Rattle.packets.specs.declared.Status.the-variants.{Blank}
 
@@ -139,20 +141,21 @@ module _ (s : State) (I : Inv s) (units : List (List UnitState))
         channels = I .channels;
         single = I .single;
         queued = all-imp (EntryOk s) (EntryOk reunit)
-            (λ e k. record { listed = k .listed; running = k .running; owned = λ d. rw same (k .owned d) }) (s .queue) (I .queued);
+            (λ e k. record { listed = k .listed; running = k .running; owned = owned (placeOf e) (packetIn (s .jobs) (placeOf e) (packetOf e)) (k .owned) }) (s .queue) (I .queued);
         motion = λ c i n e. record {
           going = I .motion c i n e .going;
           channel = I .motion c i n e .channel;
           alive = I .motion c i n e .alive;
-          owned = λ d. rw same (I .motion c i n e .owned d);
+          owned = owned i (packetIn (s .jobs) i n) (I .motion c i n e .owned);
         };
         holders = λ c u i e. I .holders c u i (rw same at e);
       }
+    where
+      owned : (i : ℕ) (q : Packet) → Owned s i q → Owned reunit i q
+      owned i q o = (o .0, λ d. rw (holder-at units (s .units) same (q .channel .0) (q .at)) (o .1 d))
 
-pub lock-inv : (s : State) → Inv s → (c a : ℕ) (b : Bool) → Inv (lock s c a b)
-lock-inv s I c a b =
-    reunit-inv s I (setLock (s .units) c a b)
-    (λ d u. unit-keep (λ (v : UnitState). v .holder) (s .units) c a (withLock (unitIn (s .units) c a) b) d u refl)
+pub lock-inv : (s : State) → Inv s → (c : ℕ) (a : Site) (b : Bool) → Inv (lock s c a b)
+lock-inv s I c a b = reunit-inv s I (setLock (s .units) c a b) (lock-holder (s .units) c a b)
 
 pub mark-holder : (m : UnitMark) (on : Bool) (v : UnitState) → markedUnit m on v .holder ≡ v .holder
 mark-holder Down on v = refl

@@ -1,5 +1,6 @@
 pub mod Laws
 pub mod Store
+pub mod Sites
 pub mod UnitLaws
 pub mod Once
 pub mod Inv

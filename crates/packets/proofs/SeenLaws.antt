@@ -15,9 +15,9 @@ use Rattle.packets.proofs.Inv.{EntryOk, Inv, listed-busy, motion-busy, 
 use Rattle.packets.proofs.InvStores.{lock-inv, sweep-inv}
 use Rattle.packets.proofs.Laws.{and-left, and-right, find-holds}
 use Rattle.packets.specs.Picks.{find}
-use Rattle.packets.specs.Rules.{Call, Complete, End, Mark, Start, Submit, Take, accept, aimed, always, answer, assigned, atOf, atUnit, begins, begun, broken, closing, codeFor, completes, cut, ended, failed, finished, isFailure, locked, over, packet, refusal, returnIfDone, returned, startable, submitted, terminate, toOf, unlock}
+use Rattle.packets.specs.Rules.{Call, Complete, End, Mark, Start, Submit, Take, accept, aimed, always, answer, assigned, siteOf, isAt, begins, begun, broken, closing, codeFor, completes, cut, ended, failed, finished, isFailure, locked, over, packet, refusal, returnIfDone, returned, startable, submitted, terminate, unlock}
 use Rattle.packets.proofs.SimSubmit.{eqb-flip, holder-alive}
-use Rattle.packets.specs.State.{State, anyMoves, close, drumOn, isBusy, isClosing, isEmpty, lock, motionOn, packetIn, packetOf, placeOf, put, restatus, restatusAll, stateIn, store, sweep, withStatus}
+use Rattle.packets.specs.State.{State, anyMoves, close, isBusy, isClosing, isEmpty, isUnit, lock, motionOn, packetIn, packetOf, placeOf, put, restatus, restatusAll, stateIn, store, sweep, withStatus}
 use Rattle.packets.proofs.Steps.{Ready, busy-of, find-some, over-fits, over-inside, ready-fits, ready-inside, ready-sweep, start-fits, startable-on, stored-at}
 use Rattle.packets.proofs.Store.{alive-in, packet-fresh, packet-put, packet-restatus, packet-state, sizeIn}
 use Rattle.packets.proofs.Told.{Submits, assigns-to, completes-on, cut-going, cut-idle, ends-of, failed-going, failed-idle, starts-on, submits}
@@ -27,6 +27,7 @@ use Rattle.packets.specs.declared.JobState.the-variants.{Empty}
 use Rattle.packets.specs.declared.Motion.{Motion}
 use Rattle.packets.specs.declared.Motion.the-variants.{Busy, Idle}
 use Rattle.packets.specs.declared.Packet.{Packet}
+use Rattle.packets.specs.declared.Spot.{Spot}
 use Rattle.packets.specs.declared.Status.{Status}
 use Rattle.packets.specs.declared.Status.the-variants.{Blank, Ended, InProgress, Listed}
 use Rattle.packets.specs.declared.Verdict.the-variants.{Granted}
@@ -86,47 +87,49 @@ calm-return h s j n =
     (λ e. rw e (calm-refl h s n))
 
 -- a submission, of another packet
-pub calm-submit : (h : Holding) (s : State) → Inv s → (j p f c a b : ℕ) → Submits s j p f c a → (n : ℕ) → eqb (h .place) j && eqb n p ≡ false → Calm h s (submitted s j p f c a b) n
-calm-submit h s I j p f c a b k n o =
+pub calm-submit : (h : Holding) (s : State) → Inv s → (j p f c : ℕ) (w : Spot) → Submits s j p f c w → (n : ℕ) → eqb (h .place) j && eqb n p ≡ false → Calm h s (submitted s j p f c w) n
+calm-submit h s I j p f c w k n o =
+    let a = siteOf w in
     let r : Ready s j p = record { small = k .small; running = k .running; idle = k .idle } in
     let inside = ready-inside s j p r in
     by-bool (eqb f 0o07)
     (λ e. rw e (by-bool (locked s c a)
     (λ d. rw d
-    (let s₁ = sweep s j (atUnit c a) failed in
-    let I₁ : Inv s₁ = sweep-inv s I j (atUnit c a) failed inside refl failed-going in
-    let r₁ : Ready s₁ j p = ready-sweep s j p (atUnit c a) failed refl failed-idle r in
-    calm-trans h s s₁ (unlock s j p f c a) n (calm-sweep h s j (atUnit c a) failed inside refl failed-idle n)
+    (let s₁ = sweep s j (isAt c a) failed in
+    let I₁ : Inv s₁ = sweep-inv s I j (isAt c a) failed inside refl failed-going in
+    let r₁ : Ready s₁ j p = ready-sweep s j p (isAt c a) failed refl failed-idle r in
+    calm-trans h s s₁ (unlock s j p f c a) n (calm-sweep h s j (isAt c a) failed inside refl failed-idle n)
     (calm-other h (lock s₁ c a false) j p (packet (Ended 0o00) f c a) (ready-fits s₁ I₁ j p r₁) n o)))
     (λ d. rw d (calm-other h s j p (packet (Ended 0o00) f c a) (ready-fits s I j p r) n o))))
     (λ e. rw e (by-bool (eqb f 0o23)
     (λ d. rw d
-    (let t = aimed (drumOn (s .channels) c) c a b in
+    (let t = aimed c w in
     let s₁ = sweep s j t cut in
     let I₁ : Inv s₁ = sweep-inv s I j t cut inside refl cut-going in
     let r₁ : Ready s₁ j p = ready-sweep s j p t cut refl cut-idle r in
-    calm-trans h s s₁ (terminate s j p f c a b) n (calm-sweep h s j t cut inside refl cut-idle n)
+    calm-trans h s s₁ (terminate s j p f c w) n (calm-sweep h s j t cut inside refl cut-idle n)
     (calm-other h s₁ j p (packet (Ended 0o00) f c a) (ready-fits s₁ I₁ j p r₁) n o)))
     (λ d. rw d (calm-other h s j p (packet Listed f c a) (ready-fits s I j p r) n o))))
 
 -- the packet that is submitted
-pub submitted-at : (h : Holding) (s : State) → Inv s → (j p f c a b : ℕ) → Submits s j p f c a → there h (packetIn (submitted s j p f c a b .jobs) j p) ≡ isThere h c a
-submitted-at h s I j p f c a b k =
+pub submitted-at : (h : Holding) (s : State) → Inv s → (j p f c : ℕ) (w : Spot) → Submits s j p f c w → there h (packetIn (submitted s j p f c w .jobs) j p) ≡ isThere h c (siteOf w)
+submitted-at h s I j p f c w k =
+    let a = siteOf w in
     let r : Ready s j p = record { small = k .small; running = k .running; idle = k .idle } in
     let inside = ready-inside s j p r in
     by-bool (eqb f 0o07)
     (λ e. rw e (by-bool (locked s c a)
     (λ d. rw (
       d,
-      stored-at (lock (sweep s j (atUnit c a) failed) c a false) (lock-inv (sweep s j (atUnit c a) failed) (sweep-inv s I j (atUnit c a) failed inside refl failed-going) c a false) j p (packet (Ended 0o00) f c a)
-          (let r₁ = ready-sweep s j p (atUnit c a) failed refl failed-idle r in record { small = r₁ .small; running = r₁ .running; idle = r₁ .idle }),
+      stored-at (lock (sweep s j (isAt c a) failed) c a false) (lock-inv (sweep s j (isAt c a) failed) (sweep-inv s I j (isAt c a) failed inside refl failed-going) c a false) j p (packet (Ended 0o00) f c a)
+          (let r₁ = ready-sweep s j p (isAt c a) failed refl failed-idle r in record { small = r₁ .small; running = r₁ .running; idle = r₁ .idle }),
     ))
     (λ d. rw (d, stored-at s I j p (packet (Ended 0o00) f c a) r))))
     (λ e. rw e (by-bool (eqb f 0o23)
     (λ d. rw (
       d,
-      stored-at (sweep s j (aimed (drumOn (s .channels) c) c a b) cut) (sweep-inv s I j (aimed (drumOn (s .channels) c) c a b) cut inside refl cut-going) j p (packet (Ended 0o00) f c a)
-          (ready-sweep s j p (aimed (drumOn (s .channels) c) c a b) cut refl cut-idle r),
+      stored-at (sweep s j (aimed c w) cut) (sweep-inv s I j (aimed c w) cut inside refl cut-going) j p (packet (Ended 0o00) f c a)
+          (ready-sweep s j p (aimed c w) cut refl cut-idle r),
     ))
     (λ d. rw (d, stored-at s I j p (packet Listed f c a) r))))
 
@@ -148,9 +151,9 @@ calm-finished h s I c small how j p is n =
     let s₁ = over s c j p (codeFor how) in
     let k : Calm h s s₁ n = calm-status h s j p (Ended (codeFor how)) (over-fits s I c small j p is) b n in
     calm-trans h s (finished s c how j p) (returnIfDone j (finished s c how j p)) n
-    (by-bool (isFailure how && not (drumOn (s .channels) c))
+    (by-bool (isFailure how && isUnit (packetIn (s .jobs) j p .at))
     (λ e. rw e (calm-trans h s s₁ (broken s₁ c (packetIn (s .jobs) j p .at) j) n k
-    (calm-sweep h s₁ j (atUnit c (packetIn (s .jobs) j p .at)) failed (over-inside s I c small j p is (codeFor how)) refl failed-idle n)))
+    (calm-sweep h s₁ j (isAt c (packetIn (s .jobs) j p .at)) failed (over-inside s I c small j p is (codeFor how)) refl failed-idle n)))
     (λ e. rw e k))
     (calm-return h (finished s c how j p) j n)
 
@@ -167,9 +170,9 @@ accept-seen h s I H t k (Submit j p f c w) r =
     λ n. by-bool (eqb j (h .place) && eqb n p)
     (λ e. let x : j ≡ h .place = eqb-true j (h .place) (and-left (eqb j (h .place)) (eqb n p) e) in
     let y : n ≡ p = eqb-true n p (and-right (eqb j (h .place)) (eqb n p) e) in
-    let z : there h (packetIn (submitted s j p f c (atOf w) (toOf w) .jobs) (h .place) n) ≡ isThere h c (atOf w) = rw (← x, y) (submitted-at h s I j p f c (atOf w) (toOf w) (submits s j p f c w r)) in
+    let z : there h (packetIn (submitted s j p f c w .jobs) (h .place) n) ≡ isThere h c (siteOf w) = rw (← x, y) (submitted-at h s I j p f c w (submits s j p f c w r)) in
     rw e (λ d. z ∙ d, λ d. sym z))
-    (λ e. rw e (seen-calm h s (submitted s j p f c (atOf w) (toOf w)) (t n) n (calm-submit h s I j p f c (atOf w) (toOf w) (submits s j p f c w r) n (rw (eqb-flip (h .place) j) e)) (k n)))
+    (λ e. rw e (seen-calm h s (submitted s j p f c w) (t n) n (calm-submit h s I j p f c w (submits s j p f c w r) n (rw (eqb-flip (h .place) j) e)) (k n)))
 accept-seen h s I H t k (Start c) r =
     let m = starts-on s c r in
     let o = find-some (find (startable s c) (s .queue)) (m .2) in

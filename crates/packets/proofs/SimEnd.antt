@@ -11,18 +11,19 @@ use Rattle.units.specs.declared.Mark.{Mark as UnitMark}
 use Rattle.units.specs.declared.Mark.the-variants.{Down, Reserved}
 use Rattle.numbers.proofs.Tests.{by-bool, never}
 use Rattle.units.specs.State.{unitIn, unitSet, markedUnit}
-use Rattle.packets.specs.Demand.{Holding, Holds, isThere, there}
-use Rattle.packets.proofs.Inv.{Inv, running-alive}
+use Rattle.packets.specs.Demand.{Holding, Holds, isThere, itsUnit, there}
+use Rattle.packets.proofs.Inv.{Inv, OwnedAt, running-alive}
 use Rattle.packets.proofs.InvJobs.{held-once, held-taken, take-held}
 use Rattle.packets.proofs.InvStores.{idle-inv, sweep-inv}
 use Rattle.packets.proofs.Laws.{and-left, and-right, eqb-self}
 use Rattle.packets.specs.Lone.{Lone, become, breaks, carries, completesAs, ends, endsWith, fails, halts, locks, stops, Request, closes, loneDoes, loneTakes, mayComplete, mayEnd}
-use Rattle.packets.specs.Rules.{Complete, End, always, assigned, atUnit, broken, closing, codeFor, cut, ended, failed, finished, isFailure, marked, over, returnIfDone, isWrong}
-use Rattle.packets.proofs.Sim.{Sim, movingThere, sim-store, sim-store-away, sim-sweep, sim-sweep-away}
+use Rattle.packets.specs.Rules.{Complete, End, always, assigned, isAt, broken, closing, codeFor, cut, ended, failed, finished, isFailure, marked, over, returnIfDone, isWrong}
+use Rattle.packets.proofs.Sim.{Sim, lockThere, movingThere, sim-store, sim-store-away, sim-sweep, sim-sweep-away}
 use Rattle.packets.proofs.SimRest.{sim-move, sim-move-away, sim-same, sim-units, sim-units-away, sim-same-but}
 use Rattle.packets.proofs.SimStart.{sim-return}
-use Rattle.packets.proofs.SimSubmit.{cut-stops, ends-use, fail-table, holder-alive, is-there, lock-away, lock-here, stops-use, there-channel, there-unit, unit-held}
-use Rattle.packets.specs.State.{State, close, drumOn, heldBy, isEmpty, isRunning, isStopping, motionOn, move, packetIn, setLock, setState, stateIn, sweep, takeAll, wanted, withLock, withStatus}
+use Rattle.packets.proofs.SimSubmit.{cut-stops, ends-use, fail-table, holder-alive, is-there, lock-away, lock-here, stops-use, there-channel, there-kind, there-unit, unit-held}
+use Rattle.packets.specs.State.{State, close, heldBy, isEmpty, isRunning, isStopping, isUnit, motionOn, move, packetIn, same, setLock, setState, stateIn, sweep, takeAll, unitAt, wanted, withStatus}
+use Rattle.packets.proofs.Sites.{same-is}
 use Rattle.packets.proofs.Steps.{ending-inv, finished-inv, over-fits, over-inside, over-inv}
 use Rattle.packets.proofs.Store.{alive-in, length-restatus, packet-fresh, packet-state, state-fresh, state-restatus, state-state, unit-keep}
 use Rattle.packets.proofs.Told.{cut-going, failed-going}
@@ -31,6 +32,7 @@ use Rattle.packets.specs.declared.How.{How}
 use Rattle.packets.specs.declared.How.the-variants.{Cut, Failed, Full}
 use Rattle.packets.specs.declared.JobState.{JobState}
 use Rattle.packets.specs.declared.Motion.the-variants.{Busy, Idle}
+use Rattle.packets.specs.declared.Site.{Site}
 use Rattle.packets.specs.declared.Status.{Status}
 use Rattle.packets.specs.declared.Status.the-variants.{Blank, Ended, InProgress, Listed, Stopping}
 
@@ -66,7 +68,7 @@ module _ (h : Holding) (s : State) (I : Inv s) (H : Holds s h) (l : Lone) (S : S
 
   module _ (at-j : h .place ≡ j) (t : there h (packetIn (s .jobs) j p) ≡ true) where
     channel-at : h .channel ≡ c
-    channel-at = sym (there-channel h _ _ t) ∙ its-channel
+    channel-at = sym (there-channel h (packetIn (s .jobs) j p .channel .0) (packetIn (s .jobs) j p .at) t) ∙ its-channel
 
     moving-is : l .moving ≡ some p
     moving-is = S .moving ∙ ap (movingThere h (s .jobs)) now ∙ rw (at-j, eqb-self j, t)
@@ -86,12 +88,13 @@ module _ (h : Holding) (s : State) (I : Inv s) (H : Holds s h) (l : Lone) (S : S
         let s₁ = over s c j p k in
         let I₁ : Inv s₁ = over-inv s I c small j p is k in
         let inside = over-inside s I c small j p is k in
-        let u : a ≡ h .unit = there-unit h _ _ d t in
-        let S₂ : Sim h (sweep s₁ j (atUnit c a) failed) (fails (ends l p k)) =
-        sim-sweep h s₁ I₁ (ends l p k) (sim-over k) j (atUnit c a) failed inside refl at-j (λ m. become (ends l p k .packets m) (endsWith 0o01 (ends l p k .packets m .status)))
+        let u : a ≡ itsUnit h = there-unit h (packetIn (s .jobs) j p .channel .0) a d t in
+        let S₂ : Sim h (sweep s₁ j (isAt c a) failed) (fails (ends l p k)) =
+        sim-sweep h s₁ I₁ (ends l p k) (sim-over k) j (isAt c a) failed inside refl at-j (λ m. become (ends l p k .packets m) (endsWith 0o01 (ends l p k .packets m .status)))
         (fail-table h s₁ (ends l p k) (sim-over k) c a d (sym channel-at) u) (λ m. ends-use 0o01 (ends l p k .packets m .status)) in
-        sim-units h (sweep s₁ j (atUnit c a) failed) (sweep-inv s₁ I₁ j (atUnit c a) failed inside refl failed-going) (fails (ends l p k)) S₂
-        (setLock (s .units) c a true) true (lock-here h s H c a true d channel-at (sym u))
+        sim-units h (sweep s₁ j (isAt c a) failed) (sweep-inv s₁ I₁ j (isAt c a) failed inside refl failed-going) (fails (ends l p k)) S₂
+        (setLock (s .units) c a true) true
+        (ap (λ (x : Site). lockThere h (setLock (s .units) c x true)) u ∙ lock-here h s H c true d channel-at)
 
     by-kind : (k : ℕ) (x : Bool) → h .drum ≡ x → Sim h (cond (true && not x) (broken (over s c j p k) c (packetIn (s .jobs) j p .at) j) (over s c j p k)) (breaks x (ends l p k))
     by-kind k true d = sim-over k
@@ -101,9 +104,8 @@ module _ (h : Holding) (s : State) (I : Inv s) (H : Holds s h) (l : Lone) (S : S
     sim-finished Full = sim-over 0o00
     sim-finished Cut = sim-over 0o17
     sim-finished (Failed k) =
-        let g : drumOn (s .channels) c ≡ h .drum = rw (← channel-at) (H .kind) in
-        subst (λ (x : Bool). Sim h (cond (true && not x) (broken (over s c j p k) c (packetIn (s .jobs) j p .at) j) (over s c j p k)) (breaks (h .drum) (ends l p k)))
-        (sym g) (by-kind k (h .drum) refl)
+        subst (λ (x : Bool). Sim h (cond (true && x) (broken (over s c j p k) c (packetIn (s .jobs) j p .at) j) (over s c j p k)) (breaks (h .drum) (ends l p k)))
+        (sym (there-kind h (packetIn (s .jobs) j p .channel .0) (packetIn (s .jobs) j p .at) t)) (by-kind k (h .drum) refl)
 
     -- the lone unit takes it: the packet moves there, and may end so
     pub takes-complete : (how : How) → isWrong (packetIn (s .jobs) j p .status) how ≡ false → loneTakes l (Complete c how) ≡ true
@@ -134,39 +136,40 @@ module _ (h : Holding) (s : State) (I : Inv s) (H : Holds s h) (l : Lone) (S : S
             (λ x. let y : h .place ≡ j = sym (eqb-true j (h .place) x) in rw (x, y, none-here y))
             (λ x. rw x))
 
-    sim-broken-away : (k : ℕ) → drumOn (s .channels) c ≡ false → Sim h (broken (over s c j p k) c (packetIn (s .jobs) j p .at) j) l
+    sim-broken-away : (k : ℕ) → isUnit (packetIn (s .jobs) j p .at) ≡ true → Sim h (broken (over s c j p k) c (packetIn (s .jobs) j p .at) j) l
     sim-broken-away k nd =
         let a = packetIn (s .jobs) j p .at in
         let s₁ = over s c j p k in
         let I₁ : Inv s₁ = over-inv s I c small j p is k in
         let inside = over-inside s I c small j p is k in
-        sim-units-away h (sweep s₁ j (atUnit c a) failed) (sweep-inv s₁ I₁ j (atUnit c a) failed inside refl failed-going) l
-        (sim-sweep-away h s₁ I₁ l (sim-over-away k) j (atUnit c a) failed inside refl miss)
-        (setLock (s .units) c a true) (lock-away h (s .units) c a (withLock (unitIn (s .units) c a) true) (held-taken (unitIn (s .units) c a .holder) j theirs) other)
+        sim-units-away h (sweep s₁ j (isAt c a) failed) (sweep-inv s₁ I₁ j (isAt c a) failed inside refl failed-going) l
+        (sim-sweep-away h s₁ I₁ l (sim-over-away k) j (isAt c a) failed inside refl miss)
+        (setLock (s .units) c a true) (lock-away h (s .units) c a true (held-taken (unitAt (s .units) c a .holder) j theirs) other)
       where
-        theirs : heldBy (unitIn (s .units) c (packetIn (s .jobs) j p .at) .holder) j ≡ true
-        theirs = let o : drumOn (s .channels) c ≡ false → heldBy (unitIn (s .units) c (packetIn (s .jobs) j p .at) .holder) j ≡ true = rw its-channel at (I .motion c j p is .owned) in o nd
+        theirs : heldBy (unitAt (s .units) c (packetIn (s .jobs) j p .at) .holder) j ≡ true
+        theirs = let o : OwnedAt s j c (packetIn (s .jobs) j p .at) = rw its-channel at (I .motion c j p is .owned) in o .1 nd
 
-        other : h .drum ≡ false → h .channel ≡ c → h .unit ≡ packetIn (s .jobs) j p .at → ⊥
+        other : h .drum ≡ false → h .channel ≡ c → packetIn (s .jobs) j p .at ≡ itsUnit h → ⊥
         other o x y =
+            let z : heldBy (unitIn (s .units) c (h .unit) .holder) j ≡ true = subst (λ (v : Site). heldBy (unitAt (s .units) c v .holder) j ≡ true) y theirs in
             never {b = there h (packetIn (s .jobs) j p)}
-            (is-there h _ _ (its-channel ∙ sym x) (sym y))
-            (none-here (held-once (unitIn (s .units) c (packetIn (s .jobs) j p .at) .holder) (h .place) j (rw (x, y) at (unit-held h s H o)) theirs))
+            (is-there h (packetIn (s .jobs) j p .channel .0) (packetIn (s .jobs) j p .at) o (its-channel ∙ sym x) y)
+            (none-here (held-once (unitIn (s .units) c (h .unit) .holder) (h .place) j (rw x at (unit-held h s H o)) z))
 
-        miss : (n : ℕ) → h .place ≡ j → there h (packetIn (over s c j p k .jobs) (h .place) n) ≡ true → atUnit c (packetIn (s .jobs) j p .at) (packetIn (over s c j p k .jobs) (h .place) n) ≡ false
+        miss : (n : ℕ) → h .place ≡ j → there h (packetIn (over s c j p k .jobs) (h .place) n) ≡ true → isAt c (packetIn (s .jobs) j p .at) (packetIn (over s c j p k .jobs) (h .place) n) ≡ false
         miss n e y =
             let q = packetIn (over s c j p k .jobs) (h .place) n in
             let a = packetIn (s .jobs) j p .at in
-            by-bool (atUnit c a q)
-            (λ z. let y′ : isThere h c a ≡ true = rw (eqb-true (q .channel .0) c (and-left (eqb (q .channel .0) c) (eqb (q .at) a) z), eqb-true (q .at) a (and-right (eqb (q .channel .0) c) (eqb (q .at) a) z)) at y in
+            by-bool (isAt c a q)
+            (λ z. let y′ : isThere h c a ≡ true = rw (eqb-true (q .channel .0) c (and-left (eqb (q .channel .0) c) (same (q .at) a) z), same-is (q .at) a (and-right (eqb (q .channel .0) c) (same (q .at) a) z)) at y in
             never {b = there h (packetIn (s .jobs) j p)} (rw its-channel y′) (none-here e))
             (λ z. z)
 
     pub sim-complete-away : (how : How) → Sim h (returnIfDone j (finished s c how j p)) l
     sim-complete-away how =
         sim-return h (finished s c how j p) (finished-inv s I c small j p is how) l
-        (by-bool (isFailure how && not (drumOn (s .channels) c))
-        (λ e. rw e (sim-broken-away (codeFor how) (not-true _ (and-right (isFailure how) _ e))))
+        (by-bool (isFailure how && isUnit (packetIn (s .jobs) j p .at))
+        (λ e. rw e (sim-broken-away (codeFor how) (and-right (isFailure how) _ e)))
         (λ e. rw e (sim-over-away (codeFor how))))
         j
 

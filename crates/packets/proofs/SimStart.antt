@@ -1,24 +1,23 @@
 -- A start and a return: the holding and its lone unit stay alike, and make the same start. Assumes nothing.
 use Prim.Native.Nat.{ℕ, _<_}
 use mathlib.Core.Path.{_≡_, refl, sym, ap, _∙_, subst}
-use mathlib.Core.Bool.{Bool, true, false, not, _&&_, _||_}
+use mathlib.Core.Bool.{Bool, true, false, not, _&&_}
 use mathlib.Core.List.{List, _∷_, map}
 use mathlib.Core.Option.{Option, none, some}
 use lib.Dec.{eqb}
 use borrow.Author.Tests.{eqb-true, eq-eqb, not-true}
 use Rattle.numbers.proofs.Tests.{by-bool}
-use Rattle.units.specs.State.{unitIn}
-use Rattle.packets.specs.Demand.{Holding, Holds, startIn, there}
+use Rattle.packets.specs.Demand.{Holding, Holds, isThere, startIn, there}
 use Rattle.packets.proofs.Inv.{EntryOk, Inv}
 use Rattle.packets.proofs.InvStores.{idle-is}
-use Rattle.packets.proofs.Laws.{all-imp, and-left, and-right, eqb-self, find-holds, find-keep, or-right}
+use Rattle.packets.proofs.Laws.{all-imp, and-left, and-right, eqb-self, find-holds, find-keep}
 use Rattle.packets.specs.Lone.{Lone, become, carries, setsOff, startOf, stores, loneDoes, loneTakes, startBy}
 use Rattle.packets.specs.Picks.{find, keep}
 use Rattle.packets.specs.Rules.{Start, answer, begun, returnIfDone, startable}
 use Rattle.packets.proofs.Sim.{Sim, lockThere, movingThere, num, on, sim-store, sim-store-away}
 use Rattle.packets.proofs.SimRest.{sim-move, sim-move-away, sim-same}
-use Rattle.packets.proofs.SimSubmit.{there-channel, there-unit}
-use Rattle.packets.specs.State.{State, anyMoves, drumOn, isClosing, isIdle, isRunning, motionOn, packetIn, packetOf, placeOf, put, releaseAll, setState, stateIn, store, withStatus}
+use Rattle.packets.proofs.SimSubmit.{lock-is, there-channel}
+use Rattle.packets.specs.State.{State, anyMoves, isClosing, isIdle, isRunning, motionOn, packetIn, packetOf, placeOf, put, releaseAll, setState, stateIn, store, unitAt, withStatus}
 use Rattle.packets.proofs.Steps.{closing-not-running, start-at, start-fits, start-store, startable-on}
 use Rattle.packets.proofs.Store.{alive-in, packet-state, state-state, unit-release}
 use Rattle.packets.specs.declared.Job.{Job}
@@ -58,27 +57,24 @@ module _ (h : Holding) (s : State) (I : Inv s) (H : Holds s h) (l : Lone) (S : S
 
   module _ (at-e : placeOf e ≡ h .place) (t : there h (packetIn (s .jobs) (h .place) (packetOf e)) ≡ true) where
     channel-is : h .channel ≡ c
-    channel-is = sym (there-channel h _ _ t) ∙ rw at-e at on-channel
+    channel-is = let q = packetIn (s .jobs) (h .place) (packetOf e) in sym (there-channel h (q .channel .0) (q .at) t) ∙ rw at-e at on-channel
 
     no-lock : lockThere h (s .units) ≡ false
     no-lock =
-        by-bool (h .drum)
-        (λ d. rw d)
-        (λ d. let w : drumOn (s .channels) c || not (unitIn (s .units) c (packetIn (s .jobs) (placeOf e) (packetOf e) .at) .interlock) ≡ true = and-right (eqb (packetIn (s .jobs) (placeOf e) (packetOf e) .channel .0) c) _ can-start in
-        let g : drumOn (s .channels) c ≡ false = rw (← channel-is) (H .kind ∙ d) in
-        let v : not (unitIn (s .units) c (packetIn (s .jobs) (placeOf e) (packetOf e) .at) .interlock) ≡ true = or-right (drumOn (s .channels) c) _ g w in
-        let u : packetIn (s .jobs) (h .place) (packetOf e) .at ≡ h .unit = there-unit h _ _ d t in
-        rw d (not-true _ (rw (at-e, u, ← channel-is) at v)))
+        let q = packetIn (s .jobs) (placeOf e) (packetOf e) in
+        let v : not (unitAt (s .units) c (q .at) .interlock) ≡ true = and-right (eqb (q .channel .0) c) _ can-start in
+        let t₁ : there h q ≡ true = rw at-e t in
+        let t₂ : isThere h c (q .at) ≡ true = rw on-channel at t₁ in
+        sym (lock-is h (s .units) c (q .at) t₂) ∙ not-true _ v
 
     others : (x : ℕ) → on h (s .jobs) x ≡ true → startable s c x ≡ true
     others x o =
         let p : placeOf x ≡ h .place = eqb-true (placeOf x) (h .place) (and-left (eqb (placeOf x) (h .place)) _ o) in
         let y : there h (packetIn (s .jobs) (h .place) (packetOf x)) ≡ true = and-right (eqb (placeOf x) (h .place)) _ o in
-        rw (p, there-channel h _ _ y, channel-is, eqb-self c)
-        (by-bool (h .drum)
-        (λ d. let g : drumOn (s .channels) c ≡ true = rw (← channel-is) (H .kind ∙ d) in rw g)
-        (λ d. let n : unitIn (s .units) c (h .unit) .interlock ≡ false = rw (d, channel-is) at no-lock in
-        rw (there-unit h _ _ d y, n) (by-bool (drumOn (s .channels) c) (λ g. rw g) (λ g. rw g))))
+        let q = packetIn (s .jobs) (h .place) (packetOf x) in
+        let k : q .channel .0 ≡ c = there-channel h (q .channel .0) (q .at) y ∙ channel-is in
+        let y′ : isThere h c (q .at) ≡ true = rw k at y in
+        rw (p, k, eqb-self c, lock-is h (s .units) c (q .at) y′, no-lock)
 
     first-is : (r : List ℕ) × (keep (on h (s .jobs)) (s .queue) ≡ e ∷ r)
     first-is =

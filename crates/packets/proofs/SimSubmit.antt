@@ -3,24 +3,29 @@ use Prim.Native.Nat.{ℕ}
 use mathlib.Core.Path.{_≡_, refl, sym, ap, _∙_, subst}
 use mathlib.Core.Bool.{Bool, true, false, not, cond, _&&_}
 use mathlib.Core.List.{List}
-use lib.Dec.{ltb, leb, eqb}
+use lib.Dec.{ltb, eqb}
 use borrow.Author.Tests.{eqb-true, eq-eqb, not-true}
 use Rattle.units.specs.declared.Unit.{Unit as UnitState}
 use Rattle.numbers.proofs.Tests.{by-bool, never}
-use Rattle.units.specs.State.{isFree, unitIn, unitSet}
-use Rattle.packets.specs.Demand.{Holding, Holds, isThere, there}
+use Rattle.units.specs.State.{isFree, unitIn}
+use Rattle.packets.specs.Demand.{Holding, Holds, isThere, itsUnit, there}
 use Rattle.packets.proofs.Inv.{Inv}
 use Rattle.packets.proofs.InvJobs.{held-once, held-taken}
 use Rattle.packets.proofs.InvStores.{entry-packet, entry-place, lock-inv, sweep-inv}
-use Rattle.packets.proofs.Laws.{and-both, and-left, and-right, bool-iff, eqb-self, or-right}
-use Rattle.packets.specs.Lone.{Lone, become, endsWith, fails, halts, hears, lists, locks, meant, request, stops, stores, unlocks, inUse}
-use Rattle.packets.specs.Rules.{aimed, atUnit, cut, enlist, failed, locked, packet, pass, submitted, terminate, unlock}
+use Rattle.packets.proofs.Laws.{and-both, and-left, and-right, bool-iff, eqb-self}
+use Rattle.packets.specs.Lone.{Lone, become, endsWith, fails, goesTo, halts, hears, lists, locks, meant, request, stops, stores, unlocks, inUse}
+use Rattle.packets.specs.Rules.{aimed, covers, cut, enlist, failed, isAt, locked, packet, pass, siteOf, submitted, terminate, unlock}
 use Rattle.packets.proofs.Sim.{Sim, here-busy, lockThere, look, on, sim-store, sim-store-away, sim-sweep, sim-sweep-away}
 use Rattle.packets.proofs.SimRest.{sim-enqueue, sim-enqueue-away, sim-units, sim-units-away}
-use Rattle.packets.specs.State.{State, drumOn, entryOf, heldBy, isBusy, isEmpty, isRunning, jobIn, lock, packetIn, put, restatus, setLock, stateIn, store, sweep, withLock}
+use Rattle.packets.specs.State.{State, entryOf, heldBy, isBusy, isEmpty, isRunning, isUnit, jobIn, lock, packetIn, put, restatus, same, setLock, stateIn, store, sweep, unitAt, withLock}
 use Rattle.packets.proofs.Steps.{Ready, listed-new, ready-fits, ready-inside, ready-store, ready-sweep, stored-at}
+use Rattle.packets.proofs.Sites.{locked-unit, same-eq, same-is}
 use Rattle.packets.proofs.Store.{unit-set}
-use Rattle.packets.proofs.Told.{Submits, cut-going, cut-idle, failed-going, failed-idle}
+use Rattle.packets.proofs.Told.{Submits, cut-going, cut-idle, failed-going, failed-idle, owns-unit}
+use Rattle.packets.specs.declared.Site.{Site}
+use Rattle.packets.specs.declared.Site.the-variants.{AtAddress, AtUnit}
+use Rattle.packets.specs.declared.Spot.{Spot}
+use Rattle.packets.specs.declared.Spot.the-variants.{OnDrum, OnUnit}
 use Rattle.packets.specs.declared.Status.{Status}
 use Rattle.packets.specs.declared.Status.the-variants.{Blank, Ended, InProgress, Listed, Stopping}
 
@@ -73,53 +78,94 @@ pub unit-held : (h : Holding) (s : State) → Holds s h → h .drum ≡ false �
 unit-held h s H d = rw d at (H .held)
 
 -- the channel and the unit of what is there, off the drum
-pub there-channel : (h : Holding) (c a : ℕ) → isThere h c a ≡ true → c ≡ h .channel
+pub there-channel : (h : Holding) (c : ℕ) (a : Site) → isThere h c a ≡ true → c ≡ h .channel
 there-channel h c a t = eqb-true c (h .channel) (and-left (eqb c (h .channel)) _ t)
 
-pub there-unit : (h : Holding) (c a : ℕ) → h .drum ≡ false → isThere h c a ≡ true → a ≡ h .unit
-there-unit h c a d t = eqb-true a (h .unit) (or-right (h .drum) (eqb a (h .unit)) d (and-right (eqb c (h .channel)) _ t))
+-- a holding is a unit exactly if what is there is at one
+pub there-kind : (h : Holding) (c : ℕ) (a : Site) → isThere h c a ≡ true → isUnit a ≡ not (h .drum)
+there-kind h c (AtUnit u) t = sym (and-left (not (h .drum)) _ (and-right (eqb c (h .channel)) _ t))
+there-kind h c (AtAddress x) t = sym (ap not (and-right (eqb c (h .channel)) _ t))
 
-pub is-there : (h : Holding) (c a : ℕ) → c ≡ h .channel → a ≡ h .unit → isThere h c a ≡ true
-is-there h c a p q = rw (p, q, eqb-self (h .channel), eqb-self (h .unit)) (by-bool (h .drum) (λ d. rw d) (λ d. rw d))
+pub there-unit : (h : Holding) (c : ℕ) (a : Site) → h .drum ≡ false → isThere h c a ≡ true → a ≡ itsUnit h
+there-unit h c (AtUnit u) d t =
+    ap (λ (n : ℕ). AtUnit (record { 0 = n })) (eqb-true (u .0) (h .unit) (and-right (not (h .drum)) _ (and-right (eqb c (h .channel)) _ t)))
+there-unit h c (AtAddress x) d t = never {b = h .drum} (and-right (eqb c (h .channel)) _ t) d
+
+pub is-there : (h : Holding) (c : ℕ) (a : Site) → h .drum ≡ false → c ≡ h .channel → a ≡ itsUnit h → isThere h c a ≡ true
+is-there h c a d p q = rw (q, p, d, eqb-self (h .channel), eqb-self (h .unit))
 
 -- the interlock after a change at a unit that the holding isn't on
-pub lock-away : (h : Holding) (units : List (List UnitState)) (c a : ℕ) (v : UnitState) → isFree (unitIn units c a .holder) ≡ false
-    → (h .drum ≡ false → h .channel ≡ c → h .unit ≡ a → ⊥) → lockThere h (unitSet units c a v) ≡ lockThere h units
-lock-away h units c a v f away =
+pub lock-away : (h : Holding) (units : List (List UnitState)) (c : ℕ) (a : Site) (b : Bool) → isFree (unitAt units c a .holder) ≡ false
+    → (h .drum ≡ false → h .channel ≡ c → a ≡ itsUnit h → ⊥) → lockThere h (setLock units c a b) ≡ lockThere h units
+lock-away h units c (AtUnit u) b f away =
     by-bool (h .drum)
     (λ d. rw d)
-    (λ d. rw (d, unit-set units c a v (h .channel) (h .unit) f)
-    (by-bool (eqb (h .channel) c && eqb (h .unit) a)
-    (λ t. absurd (away d (eqb-true (h .channel) c (and-left (eqb (h .channel) c) _ t)) (eqb-true (h .unit) a (and-right (eqb (h .channel) c) _ t))))
+    (λ d. rw (d, unit-set units c (u .0) (withLock (unitIn units c (u .0)) b) (h .channel) (h .unit) f)
+    (by-bool (eqb (h .channel) c && eqb (h .unit) (u .0))
+    (λ t. absurd (away d (eqb-true (h .channel) c (and-left (eqb (h .channel) c) _ t))
+    (ap (λ (n : ℕ). AtUnit (record { 0 = n })) (sym (eqb-true (h .unit) (u .0) (and-right (eqb (h .channel) c) _ t))))))
     (λ t. rw t)))
+lock-away h units c (AtAddress x) b f away = refl
 
-pub lock-here : (h : Holding) (s : State) → Holds s h → (c a : ℕ) (b : Bool) → h .drum ≡ false → h .channel ≡ c → h .unit ≡ a → lockThere h (setLock (s .units) c a b) ≡ b
-lock-here h s H c a b d p q =
+pub lock-here : (h : Holding) (s : State) → Holds s h → (c : ℕ) (b : Bool) → h .drum ≡ false → h .channel ≡ c → lockThere h (setLock (s .units) c (itsUnit h) b) ≡ b
+lock-here h s H c b d p =
     rw (
       d,
-      unit-set (s .units) c a (withLock (unitIn (s .units) c a) b) (h .channel) (h .unit)
-          (held-taken (unitIn (s .units) c a .holder) (h .place) (rw (← p, ← q) (unit-held h s H d))),
+      unit-set (s .units) c (h .unit) (withLock (unitIn (s .units) c (h .unit)) b) (h .channel) (h .unit)
+          (held-taken (unitIn (s .units) c (h .unit) .holder) (h .place) (rw (← p) (unit-held h s H d))),
       p,
-      q,
       eqb-self c,
-      eqb-self a,
+      eqb-self (h .unit),
     )
 
+-- the interlock of what is there
+pub lock-is : (h : Holding) (units : List (List UnitState)) (c : ℕ) (a : Site) → isThere h c a ≡ true → unitAt units c a .interlock ≡ lockThere h units
+lock-is h units c a t =
+    by-bool (h .drum)
+    (λ d. rw d (on-drum a (there-kind h c a t ∙ ap not d)))
+    (λ d. rw (d, there-channel h c a t) (ap (λ (x : Site). unitAt units (h .channel) x .interlock) (there-unit h c a d t)))
+  where
+    on-drum : (a : Site) → isUnit a ≡ false → unitAt units c a .interlock ≡ false
+    on-drum (AtUnit u) e = never {b = true} refl e
+    on-drum (AtAddress x) e = refl
+
+-- a lone unit reads where a submission goes as the rules do
+goes-to : (w : Spot) → goesTo w ≡ siteOf w
+goes-to (OnUnit u) = refl
+goes-to (OnDrum x h) = refl
+
+-- what 23 is for, of what is there
+covers-meant : (h : Holding) (c : ℕ) (w : Spot) (d : ℕ) (a : Site) → isThere h c (siteOf w) ≡ true → isThere h d a ≡ true → covers w a ≡ meant w a
+covers-meant h c (OnUnit u) d a t y =
+    let k = not-true (h .drum) (sym (there-kind h c (AtUnit u) t)) in
+    same-eq a (AtUnit u) (there-unit h d a k y ∙ sym (there-unit h c (AtUnit u) k t))
+covers-meant h c (OnDrum l m) d (AtUnit v) t y = refl
+covers-meant h c (OnDrum l m) d (AtAddress x) t y = refl
+
+-- it is there, if it is for something there
+covers-there : (h : Holding) (c : ℕ) (w : Spot) (a : Site) → covers w a ≡ true → isThere h c a ≡ true → isThere h c (siteOf w) ≡ true
+covers-there h c (OnUnit u) a e y = subst (λ (x : Site). isThere h c x ≡ true) (same-is a (AtUnit u) e) y
+covers-there h c (OnDrum l m) (AtUnit v) e y = never {b = false} e refl
+covers-there h c (OnDrum l m) (AtAddress x) e y = y
+
 -- what a failure does to what is listed on a unit
-pub fail-table : (h : Holding) (s : State) (l : Lone) → Sim h s l → (c a : ℕ) → h .drum ≡ false → c ≡ h .channel → a ≡ h .unit
+pub fail-table : (h : Holding) (s : State) (l : Lone) → Sim h s l → (c : ℕ) (a : Site) → h .drum ≡ false → c ≡ h .channel → a ≡ itsUnit h
     → (n : ℕ) → there h (packetIn (s .jobs) (h .place) n) ≡ true
-    → become (l .packets n) (endsWith 0o01 (l .packets n .status)) ≡ look (restatus (atUnit c a) failed (packetIn (s .jobs) (h .place) n))
+    → become (l .packets n) (endsWith 0o01 (l .packets n .status)) ≡ look (restatus (isAt c a) failed (packetIn (s .jobs) (h .place) n))
 fail-table h s l S c a d e f n y =
     let q = packetIn (s .jobs) (h .place) n in
     rw (
       S .table n y,
       failed-ends (q .status),
-      and-both (eqb (q .channel .0) c) (eqb (q .at) a) (eq-eqb _ c (there-channel h (q .channel .0) (q .at) y ∙ sym e)) (eq-eqb _ a (there-unit h (q .channel .0) (q .at) d y ∙ sym f)),
+      and-both (eqb (q .channel .0) c) (same (q .at) a) (eq-eqb _ c (there-channel h (q .channel .0) (q .at) y ∙ sym e)) (same-eq (q .at) a (there-unit h (q .channel .0) (q .at) d y ∙ sym f)),
     )
 
 -- ---- a submission there
 
-module _ (h : Holding) (s : State) (I : Inv s) (H : Holds s h) (l : Lone) (S : Sim h s l) (j p f c a b : ℕ) (k : Submits s j p f c a) where
+module _ (h : Holding) (s : State) (I : Inv s) (H : Holds s h) (l : Lone) (S : Sim h s l) (j p f c : ℕ) (w : Spot) (k : Submits s j p f c w) where
+  abbrev a : Site
+  a = siteOf w
+
   ready : Ready s j p
   ready = record { small = k .small; running = k .running; idle = k .idle }
 
@@ -134,61 +180,58 @@ module _ (h : Holding) (s : State) (I : Inv s) (H : Holds s h) (l : Lone) (S : S
       sim-store-away h s′ I′ l S′ j p (packet t f c a) (ready-fits s′ I′ j p r) (λ y. never {b = isBusy (packetIn (s′ .jobs) j p .status)} y (r .idle)) away
 
   module _ (at-j : h .place ≡ j) (t : isThere h c a ≡ true) where
-    drum-is : drumOn (s .channels) c ≡ h .drum
-    drum-is = rw (there-channel h c a t) (H .kind)
-
     locked-is : locked s c a ≡ l .interlock
-    locked-is =
-        rw (S .lock, drum-is)
-        (by-bool (h .drum) (λ d. rw d) (λ d. rw (d, there-channel h c a t, there-unit h c a d t)))
+    locked-is = lock-is h (s .units) c a t ∙ sym (S .lock)
 
     drum-off : locked s c a ≡ true → h .drum ≡ false
-    drum-off d = sym drum-is ∙ not-true _ (and-left (not (drumOn (s .channels) c)) _ d)
+    drum-off d = not-true (h .drum) (sym (there-kind h c a t) ∙ locked-unit (s .units) c a d)
 
     sim-unlock : locked s c a ≡ true → Sim h (unlock s j p f c a) (stores (locks (fails l) false) p (request (Ended 0o00) f a))
     sim-unlock d =
         let inside = ready-inside s j p ready in
-        let s₁ = sweep s j (atUnit c a) failed in
-        let I₁ : Inv s₁ = sweep-inv s I j (atUnit c a) failed inside refl failed-going in
-        let r₁ : Ready s₁ j p = ready-sweep s j p (atUnit c a) failed refl failed-idle ready in
-        let S₁ : Sim h s₁ (fails l) = sim-sweep h s I l S j (atUnit c a) failed inside refl at-j (λ m. become (l .packets m) (endsWith 0o01 (l .packets m .status))) (fail-table h s l S c a (drum-off d) (there-channel h c a t) (there-unit h c a (drum-off d) t)) (λ m. ends-use 0o01 (l .packets m .status)) in
+        let s₁ = sweep s j (isAt c a) failed in
+        let I₁ : Inv s₁ = sweep-inv s I j (isAt c a) failed inside refl failed-going in
+        let r₁ : Ready s₁ j p = ready-sweep s j p (isAt c a) failed refl failed-idle ready in
+        let S₁ : Sim h s₁ (fails l) = sim-sweep h s I l S j (isAt c a) failed inside refl at-j (λ m. become (l .packets m) (endsWith 0o01 (l .packets m .status))) (fail-table h s l S c a (drum-off d) (there-channel h c a t) (there-unit h c a (drum-off d) t)) (λ m. ends-use 0o01 (l .packets m .status)) in
         store-here (lock s₁ c a false) (lock-inv s₁ I₁ c a false) (locks (fails l) false)
-        (sim-units h s₁ I₁ (fails l) S₁ (setLock (s .units) c a false) false (lock-here h s H c a false (drum-off d) (sym (there-channel h c a t)) (sym (there-unit h c a (drum-off d) t))))
+        (sim-units h s₁ I₁ (fails l) S₁ (setLock (s .units) c a false) false
+        (ap (λ (x : Site). lockThere h (setLock (s .units) c x false)) (there-unit h c a (drum-off d) t)
+        ∙ lock-here h s H c false (drum-off d) (sym (there-channel h c a t))))
         (record { small = r₁ .small; running = r₁ .running; idle = r₁ .idle }) at-j t (Ended 0o00)
 
     -- what a 23 there aims at
     aimed-is : (n : ℕ) → there h (packetIn (s .jobs) (h .place) n) ≡ true
-        → aimed (drumOn (s .channels) c) c a b (packetIn (s .jobs) (h .place) n) ≡ meant (h .drum) a b (packetIn (s .jobs) (h .place) n .at)
+        → aimed c w (packetIn (s .jobs) (h .place) n) ≡ meant w (packetIn (s .jobs) (h .place) n .at)
     aimed-is n y =
         let q = packetIn (s .jobs) (h .place) n in
-        rw (drum-is, eq-eqb (q .channel .0) c (there-channel h (q .channel .0) (q .at) y ∙ sym (there-channel h c a t)))
-        (by-bool (h .drum) (λ d. rw d) (λ d. rw (d, eq-eqb (q .at) a (there-unit h (q .channel .0) (q .at) d y ∙ sym (there-unit h c a d t)))))
+        rw (eq-eqb (q .channel .0) c (there-channel h (q .channel .0) (q .at) y ∙ sym (there-channel h c a t)))
+        (covers-meant h c w (q .channel .0) (q .at) t y)
 
     cut-table : (n : ℕ) → there h (packetIn (s .jobs) (h .place) n) ≡ true
-        → cond (meant (h .drum) a b (l .packets n .at)) (become (l .packets n) (stops (endsWith 0o16 (l .packets n .status)))) (l .packets n)
-        ≡ look (restatus (aimed (drumOn (s .channels) c) c a b) cut (packetIn (s .jobs) (h .place) n))
+        → cond (meant w (l .packets n .at)) (become (l .packets n) (stops (endsWith 0o16 (l .packets n .status)))) (l .packets n)
+        ≡ look (restatus (aimed c w) cut (packetIn (s .jobs) (h .place) n))
     cut-table n y =
         let q = packetIn (s .jobs) (h .place) n in
         rw (S .table n y, cut-stops (q .status), aimed-is n y)
-        (by-bool (meant (h .drum) a b (q .at)) (λ e. rw e) (λ e. rw e))
+        (by-bool (meant w (q .at)) (λ e. rw e) (λ e. rw e))
 
-    cut-use : (n : ℕ) → inUse (cond (meant (h .drum) a b (l .packets n .at)) (become (l .packets n) (stops (endsWith 0o16 (l .packets n .status)))) (l .packets n) .status) ≡ true
+    cut-use : (n : ℕ) → inUse (cond (meant w (l .packets n .at)) (become (l .packets n) (stops (endsWith 0o16 (l .packets n .status)))) (l .packets n) .status) ≡ true
         → inUse (l .packets n .status) ≡ true
     cut-use n u =
-        by-bool (meant (h .drum) a b (l .packets n .at)) (λ e. stops-use 0o16 (l .packets n .status) (rw e at u)) (λ e. rw e at u)
+        by-bool (meant w (l .packets n .at)) (λ e. stops-use 0o16 (l .packets n .status) (rw e at u)) (λ e. rw e at u)
 
-    sim-terminate : Sim h (terminate s j p f c a b) (stores (halts (meant (h .drum) a b) l) p (request (Ended 0o00) f a))
+    sim-terminate : Sim h (terminate s j p f c w) (stores (halts (meant w) l) p (request (Ended 0o00) f a))
     sim-terminate =
         let inside = ready-inside s j p ready in
-        let test = aimed (drumOn (s .channels) c) c a b in
-        store-here (sweep s j test cut) (sweep-inv s I j test cut inside refl cut-going) (halts (meant (h .drum) a b) l)
-        (sim-sweep h s I l S j test cut inside refl at-j (λ m. cond (meant (h .drum) a b (l .packets m .at)) (become (l .packets m) (stops (endsWith 0o16 (l .packets m .status)))) (l .packets m)) cut-table cut-use)
+        let test = aimed c w in
+        store-here (sweep s j test cut) (sweep-inv s I j test cut inside refl cut-going) (halts (meant w) l)
+        (sim-sweep h s I l S j test cut inside refl at-j (λ m. cond (meant w (l .packets m .at)) (become (l .packets m) (stops (endsWith 0o16 (l .packets m .status)))) (l .packets m)) cut-table cut-use)
         (ready-sweep s j p test cut refl cut-idle ready) at-j t (Ended 0o00)
 
     sim-enlist : Sim h (enlist s j p f c a) (lists l p f a)
     sim-enlist =
         sim-enqueue h (store s j p (packet Listed f c a)) (ready-store s I j p (packet Listed f c a) ready) (stores l p (request Listed f a))
-        (store-here s I l S ready at-j t Listed) j p (listed-new s I j p f c a k)
+        (store-here s I l S ready at-j t Listed) j p (listed-new s I j p f c w k)
         (rw (entry-place j p (k .small), entry-packet j p (k .small), at-j, eqb-self j, stored-at s I j p (packet Listed f c a) ready) t)
 
     sim-seven : (x : Bool) → locked s c a ≡ x → Sim h (cond x (unlock s j p f c a) (pass s j p f c a)) (unlocks l p f a x)
@@ -204,11 +247,12 @@ module _ (h : Holding) (s : State) (I : Inv s) (H : Holds s h) (l : Lone) (S : S
         by-bool (inUse (l .packets p .status)) (λ u. never {b = (isBusy (packetIn (s .jobs) j p .status))} (rw at-j at (here-busy h s l S p u)) (k .idle)) (λ u. u) in
         and-both _ _ (ap not y) (ap not z)
 
-    pub sim-submit : Sim h (submitted s j p f c a b) (hears (h .drum) l p f a b)
+    pub sim-submit : Sim h (submitted s j p f c w) (hears l p f w)
     sim-submit =
-        by-bool (eqb f 0o07)
+        rw (goes-to w)
+        (by-bool (eqb f 0o07)
         (λ e. rw e (subst (λ (x : Bool). Sim h (cond (locked s c a) (unlock s j p f c a) (pass s j p f c a)) (unlocks l p f a x)) locked-is (sim-seven (locked s c a) refl)))
-        (λ e. rw e (by-bool (eqb f 0o23) (λ d. rw d sim-terminate) (λ d. rw d sim-enlist)))
+        (λ e. rw e (by-bool (eqb f 0o23) (λ d. rw d sim-terminate) (λ d. rw d sim-enlist))))
 
   module _ (away : eqb (h .place) j && isThere h c a ≡ false) where
     not-there : h .place ≡ j → isThere h c a ≡ true → ⊥
@@ -217,55 +261,49 @@ module _ (h : Holding) (s : State) (I : Inv s) (H : Holds s h) (l : Lone) (S : S
     sim-unlock-away : locked s c a ≡ true → Sim h (unlock s j p f c a) l
     sim-unlock-away d =
         let inside = ready-inside s j p ready in
-        let s₁ = sweep s j (atUnit c a) failed in
-        let I₁ : Inv s₁ = sweep-inv s I j (atUnit c a) failed inside refl failed-going in
-        let r₁ : Ready s₁ j p = ready-sweep s j p (atUnit c a) failed refl failed-idle ready in
-        let S₁ : Sim h s₁ l = sim-sweep-away h s I l S j (atUnit c a) failed inside refl miss in
+        let s₁ = sweep s j (isAt c a) failed in
+        let I₁ : Inv s₁ = sweep-inv s I j (isAt c a) failed inside refl failed-going in
+        let r₁ : Ready s₁ j p = ready-sweep s j p (isAt c a) failed refl failed-idle ready in
+        let S₁ : Sim h s₁ l = sim-sweep-away h s I l S j (isAt c a) failed inside refl miss in
         store-gone (lock s₁ c a false) (lock-inv s₁ I₁ c a false)
-        (sim-units-away h s₁ I₁ l S₁ (setLock (s .units) c a false) (lock-away h (s .units) c a (withLock (unitIn (s .units) c a) false) (held-taken (unitIn (s .units) c a .holder) j theirs) other))
+        (sim-units-away h s₁ I₁ l S₁ (setLock (s .units) c a false) (lock-away h (s .units) c a false (held-taken (unitAt (s .units) c a .holder) j theirs) other))
         (record { small = r₁ .small; running = r₁ .running; idle = r₁ .idle }) away (Ended 0o00)
       where
-        theirs : heldBy (unitIn (s .units) c a .holder) j ≡ true
-        theirs = rw (not-true (drumOn (s .channels) c) (and-left (not (drumOn (s .channels) c)) _ d)) at (k .owned)
+        theirs : heldBy (unitAt (s .units) c a .holder) j ≡ true
+        theirs = owns-unit s j p f c w k (locked-unit (s .units) c a d)
 
-        other : h .drum ≡ false → h .channel ≡ c → h .unit ≡ a → ⊥
+        other : h .drum ≡ false → h .channel ≡ c → a ≡ itsUnit h → ⊥
         other o x y =
+            let z : heldBy (unitIn (s .units) c (h .unit) .holder) j ≡ true = subst (λ (v : Site). heldBy (unitAt (s .units) c v .holder) j ≡ true) y theirs in
             not-there
-            (held-once (unitIn (s .units) c a .holder) (h .place) j (rw (x, y) at (unit-held h s H o)) theirs)
-            (is-there h c a (sym x) (sym y))
+            (held-once (unitIn (s .units) c (h .unit) .holder) (h .place) j (rw x at (unit-held h s H o)) z)
+            (is-there h c a o (sym x) y)
 
-        miss : (n : ℕ) → h .place ≡ j → there h (packetIn (s .jobs) (h .place) n) ≡ true → atUnit c a (packetIn (s .jobs) (h .place) n) ≡ false
+        miss : (n : ℕ) → h .place ≡ j → there h (packetIn (s .jobs) (h .place) n) ≡ true → isAt c a (packetIn (s .jobs) (h .place) n) ≡ false
         miss n e y =
             let q = packetIn (s .jobs) (h .place) n in
-            by-bool (atUnit c a q)
-            (λ z. absurd (not-there e (rw (eqb-true (q .channel .0) c (and-left (eqb (q .channel .0) c) (eqb (q .at) a) z), eqb-true (q .at) a (and-right (eqb (q .channel .0) c) (eqb (q .at) a) z)) at y)))
+            by-bool (isAt c a q)
+            (λ z. absurd (not-there e (rw (eqb-true (q .channel .0) c (and-left (eqb (q .channel .0) c) (same (q .at) a) z), same-is (q .at) a (and-right (eqb (q .channel .0) c) (same (q .at) a) z)) at y)))
             (λ z. z)
 
-    sim-terminate-away : Sim h (terminate s j p f c a b) l
+    sim-terminate-away : Sim h (terminate s j p f c w) l
     sim-terminate-away =
         let inside = ready-inside s j p ready in
-        let test = aimed (drumOn (s .channels) c) c a b in
+        let test = aimed c w in
         store-gone (sweep s j test cut) (sweep-inv s I j test cut inside refl cut-going)
         (sim-sweep-away h s I l S j test cut inside refl miss)
         (ready-sweep s j p test cut refl cut-idle ready) away (Ended 0o00)
       where
-        miss : (n : ℕ) → h .place ≡ j → there h (packetIn (s .jobs) (h .place) n) ≡ true → aimed (drumOn (s .channels) c) c a b (packetIn (s .jobs) (h .place) n) ≡ false
+        miss : (n : ℕ) → h .place ≡ j → there h (packetIn (s .jobs) (h .place) n) ≡ true → aimed c w (packetIn (s .jobs) (h .place) n) ≡ false
         miss n e y =
             let q = packetIn (s .jobs) (h .place) n in
-            by-bool (aimed (drumOn (s .channels) c) c a b q)
+            by-bool (aimed c w q)
             (λ z. let x : q .channel .0 ≡ c = eqb-true (q .channel .0) c (and-left (eqb (q .channel .0) c) _ z) in
-            let w : cond (drumOn (s .channels) c) (leb a (q .at) && leb (q .at) b) (eqb (q .at) a) ≡ true = and-right (eqb (q .channel .0) c) _ z in
             let y′ : isThere h c (q .at) ≡ true = rw x at y in
-            let g : c ≡ h .channel = there-channel h c (q .at) y′ in
-            absurd (not-there e
-            (by-bool (h .drum)
-            (λ d. rw (d, eq-eqb c (h .channel) g))
-            (λ d. let v : drumOn (s .channels) c ≡ false = rw g (H .kind ∙ d) in
-            let u : eqb (q .at) a ≡ true = rw v at w in
-            rw (eqb-true (q .at) a u) at y′))))
+            absurd (not-there e (covers-there h c w (q .at) (and-right (eqb (q .channel .0) c) _ z) y′)))
             (λ z. z)
 
-    pub sim-submit-away : Sim h (submitted s j p f c a b) l
+    pub sim-submit-away : Sim h (submitted s j p f c w) l
     sim-submit-away =
         by-bool (eqb f 0o07)
         (λ e. rw e
@@ -275,7 +313,7 @@ module _ (h : Holding) (s : State) (I : Inv s) (H : Holds s h) (l : Lone) (S : S
         (λ e. rw e (by-bool (eqb f 0o23) (λ d. rw d sim-terminate-away)
         (λ d. rw d
         (sim-enqueue-away h (store s j p (packet Listed f c a)) (ready-store s I j p (packet Listed f c a) ready) l
-        (store-gone s I S ready away Listed) j p (listed-new s I j p f c a k) listed-away))))
+        (store-gone s I S ready away Listed) j p (listed-new s I j p f c w k) listed-away))))
       where
         listed-away : on h (put (s .jobs) j p (packet Listed f c a)) (entryOf j p) ≡ false
         listed-away =

@@ -13,11 +13,11 @@ use Rattle.numbers.proofs.Tests.{by-bool, never}
 use Rattle.channels.specs.declared.Channel.{Channel}
 use Rattle.packets.specs.Demand.{emptyPlace, fresh}
 use Rattle.packets.proofs.Inv.{EntryOk, Inv, running-alive}
-use Rattle.packets.specs.State.{inMotion, isPacket, State, blank, drumOn, enqueue, entryOf, isIdle, isListed, lock, motionOn, move, noJob, packetIn, packetOf, placeOf, releaseAll, setLock, stateIn, store, sweep, withStatus}
+use Rattle.packets.specs.State.{inMotion, isPacket, State, blank, enqueue, entryOf, isIdle, isListed, isUnit, lock, motionOn, move, noJob, packetIn, packetOf, placeOf, releaseAll, setLock, stateIn, store, sweep, withStatus}
 use Rattle.packets.proofs.InvStores.{New, enlisted-is, idle-is, lock-inv, motion-move, sweep-inv}
 use Rattle.packets.proofs.Laws.{eqb-self, find-holds, getD-replicate-const}
 use Rattle.packets.specs.Picks.{any, find}
-use Rattle.packets.specs.Rules.{Call, Complete, End, Mark, Start, Submit, Take, accept, aimed, always, atOf, atUnit, begun, closed, closing, codeFor, cut, decided, enlist, failed, finished, isDone, isFailure, locked, marked, over, packet, refusal, returnIfDone, run, startable, step, submitted, toOf}
+use Rattle.packets.specs.Rules.{Call, Complete, End, Mark, Start, Submit, Take, accept, aimed, always, siteOf, isAt, begun, closed, closing, codeFor, cut, decided, enlist, failed, finished, isDone, isFailure, locked, marked, over, packet, refusal, returnIfDone, run, startable, step, submitted}
 use Rattle.packets.proofs.Sound.{Sound, assigned-sound, enqueue-sound, move-sound, noPacket, sound-but, sound-whole, state-sound, store-sound, sweep-sound, units-sound}
 use Rattle.packets.proofs.Steps.{Ready, busy-of, find-some, listed-new, over-fits, over-inside, ready-fits, ready-inside, ready-store, ready-sweep, start-at, start-fits, startable-on, step-inv, stored-at}
 use Rattle.packets.proofs.Store.{alive-in, packet-put, sizeIn}
@@ -27,6 +27,8 @@ use Rattle.packets.specs.declared.Job.{Job}
 use Rattle.packets.specs.declared.JobState.the-variants.{Empty}
 use Rattle.packets.specs.declared.Motion.the-variants.{Busy, Idle}
 use Rattle.packets.specs.declared.Packet.{Packet}
+use Rattle.packets.specs.declared.Site.{Site}
+use Rattle.packets.specs.declared.Spot.{Spot}
 use Rattle.packets.specs.declared.Status.{Status}
 use Rattle.packets.specs.declared.Status.the-variants.{Blank, Ended, InProgress, Listed, Stopping}
 use Rattle.packets.specs.declared.Verdict.{Verdict}
@@ -58,7 +60,10 @@ cut-listed x e = never {b = isListed (cut x)} e (cut-unlisted x)
 
 -- ---- a submission
 
-module _ (s : State) (I : Inv s) (S : Sound s noPacket) (j p f c a b : ℕ) (k : Submits s j p f c a) where
+module _ (s : State) (I : Inv s) (S : Sound s noPacket) (j p f c : ℕ) (w : Spot) (k : Submits s j p f c w) where
+  abbrev a : Site
+  a = siteOf w
+
   ready-now : Ready s j p
   ready-now = record { small = k .small; running = k .running; idle = k .idle }
 
@@ -69,21 +74,21 @@ module _ (s : State) (I : Inv s) (S : Sound s noPacket) (j p f c a b : ℕ) (k :
       sound-whole (store s′ j p (packet (Ended 0o00) f c a)) j p (store-sound s′ j p (sound-but (isPacket j p) S′) (packet (Ended 0o00) f c a) (ready-fits s′ I′ j p r))
       (λ m. never {b = false} (rw e at m) refl) (λ m. never {b = false} (rw e at m) refl)
 
-  pub submit-sound : Sound (submitted s j p f c a b) noPacket
+  pub submit-sound : Sound (submitted s j p f c w) noPacket
   submit-sound =
       by-bool (eqb f 0o07)
       (λ e. rw e (by-bool (locked s c a)
       (λ d. rw d
-      (let s₁ = sweep s j (atUnit c a) failed in
-      let I₁ : Inv s₁ = sweep-inv s I j (atUnit c a) failed (ready-inside s j p ready-now) refl failed-going in
-      let S₁ : Sound s₁ noPacket = sweep-sound s S j (atUnit c a) failed (ready-inside s j p ready-now) refl failed-moved failed-listed in
-      let r₁ : Ready s₁ j p = ready-sweep s j p (atUnit c a) failed refl failed-idle ready-now in
+      (let s₁ = sweep s j (isAt c a) failed in
+      let I₁ : Inv s₁ = sweep-inv s I j (isAt c a) failed (ready-inside s j p ready-now) refl failed-going in
+      let S₁ : Sound s₁ noPacket = sweep-sound s S j (isAt c a) failed (ready-inside s j p ready-now) refl failed-moved failed-listed in
+      let r₁ : Ready s₁ j p = ready-sweep s j p (isAt c a) failed refl failed-idle ready-now in
       pass-sound (lock s₁ c a false) (lock-inv s₁ I₁ c a false) (units-sound s₁ noPacket S₁ (setLock (s .units) c a false))
       (record { small = r₁ .small; running = r₁ .running; idle = r₁ .idle })))
       (λ d. rw d (pass-sound s I S ready-now))))
       (λ e. rw e (by-bool (eqb f 0o23)
       (λ d. rw d
-      (let t = aimed (drumOn (s .channels) c) c a b in
+      (let t = aimed c w in
       pass-sound (sweep s j t cut) (sweep-inv s I j t cut (ready-inside s j p ready-now) refl cut-going)
       (sweep-sound s S j t cut (ready-inside s j p ready-now) refl cut-moved cut-listed) (ready-sweep s j p t cut refl cut-idle ready-now)))
       (λ d. rw d listed-sound)))
@@ -93,7 +98,7 @@ module _ (s : State) (I : Inv s) (S : Sound s noPacket) (j p f c a b : ℕ) (k :
           let q = packet Listed f c a in
           let s₁ = store s j p q in
           let I₁ : Inv s₁ = ready-store s I j p q ready-now in
-          let n : New s₁ j p = listed-new s I j p f c a k in
+          let n : New s₁ j p = listed-new s I j p f c w k in
           let e : packetIn (s₁ .jobs) j p ≡ q = stored-at s I j p q ready-now in
           sound-whole (enqueue s₁ j p) j p (enqueue-sound s₁ j p (store-sound s j p (sound-but (isPacket j p) S) q (ready-fits s I j p ready-now)) I₁ n)
           (λ m. never {b = false} (rw e at m) refl)
@@ -141,11 +146,11 @@ module _ (s : State) (I : Inv s) (S : Sound s noPacket) (c : ℕ) (small : c < 1
 
   finished-sound : (how : How) → Sound (finished s c how j p) noPacket
   finished-sound how =
-      by-bool (isFailure how && not (drumOn (s .channels) c))
+      by-bool (isFailure how && isUnit (packetIn (s .jobs) j p .at))
       (λ e. let s₁ = over s c j p (codeFor how) in
       let a = packetIn (s .jobs) j p .at in
-      rw e (units-sound (sweep s₁ j (atUnit c a) failed) noPacket
-      (sweep-sound s₁ (over-sound (codeFor how)) j (atUnit c a) failed (over-inside s I c small j p is (codeFor how)) refl failed-moved failed-listed)
+      rw e (units-sound (sweep s₁ j (isAt c a) failed) noPacket
+      (sweep-sound s₁ (over-sound (codeFor how)) j (isAt c a) failed (over-inside s I c small j p is (codeFor how)) refl failed-moved failed-listed)
       (setLock (s .units) c a true)))
       (λ e. rw e (over-sound (codeFor how)))
 
@@ -157,7 +162,7 @@ return-sound s S j = by-bool (isDone s j) (λ e. rw e (state-sound s S j Empty (
 accept-sound : (s : State) → Inv s → Sound s noPacket → (x : Call) → refusal s x ≡ Granted → Sound (accept s x) noPacket
 unfolding accept
 accept-sound s I S (Take j asg) r = assigned-sound s S j asg (rw (I .places) (assigns-to s j asg r .0))
-accept-sound s I S (Submit j p f c w) r = submit-sound s I S j p f c (atOf w) (toOf w) (submits s j p f c w r)
+accept-sound s I S (Submit j p f c w) r = submit-sound s I S j p f c w (submits s j p f c w r)
 accept-sound s I S (Start c) r =
     let k = starts-on s c r in
     let o = find-some (find (startable s c) (s .queue)) (k .2) in

@@ -8,14 +8,15 @@ use lib.ListN.{length}
 use Rattle.numbers.proofs.Tests.{by-bool}
 use Rattle.packets.proofs.Inv.{running-alive}
 use Rattle.packets.proofs.Laws.{and-left}
-use Rattle.packets.specs.Rules.{aimed, always, atUnit, begun, closed, closing, codeFor, cut, failed, finished, isDone, isFailure, locked, over, packet, returned, submitted}
-use Rattle.packets.specs.State.{State, drumOn, isClosing, isRunning, packetIn, packetOf, placeOf, put, restatusAll, stateIn, withStatus}
+use Rattle.packets.specs.Rules.{aimed, always, isAt, begun, closed, closing, codeFor, cut, failed, finished, isDone, isFailure, locked, over, packet, returned, siteOf, submitted}
+use Rattle.packets.specs.State.{State, isClosing, isRunning, isUnit, packetIn, packetOf, placeOf, put, restatusAll, stateIn, withStatus}
 use Rattle.packets.proofs.Steps.{closing-not-running}
 use Rattle.packets.proofs.Store.{alive-in, length-restatus, state-put, state-restatus, state-state}
 use Rattle.packets.specs.declared.How.{How}
 use Rattle.packets.specs.declared.JobState.{JobState}
 use Rattle.packets.specs.declared.JobState.the-variants.{Empty}
 use Rattle.packets.specs.declared.Packet.{Packet}
+use Rattle.packets.specs.declared.Spot.{Spot}
 use Rattle.packets.specs.declared.Status.the-variants.{Ended, InProgress, Listed}
 
 -- ---- calls that leave the state of every place
@@ -24,13 +25,14 @@ use Rattle.packets.specs.declared.Status.the-variants.{Ended, InProgress
 states-swept : (s : State) (j p : ℕ) (t : Packet → Bool) (q : Packet) (i : ℕ) → stateIn (put (restatusAll (s .jobs) j t failed) j p q) i ≡ stateIn (s .jobs) i
 states-swept s j p t q i = state-put (restatusAll (s .jobs) j t failed) j p q i ∙ state-restatus (s .jobs) j t failed i
 
-pub states-submit : (s : State) (j p f c a b i : ℕ) → stateIn (submitted s j p f c a b .jobs) i ≡ stateIn (s .jobs) i
-states-submit s j p f c a b i =
+pub states-submit : (s : State) (j p f c : ℕ) (w : Spot) (i : ℕ) → stateIn (submitted s j p f c w .jobs) i ≡ stateIn (s .jobs) i
+states-submit s j p f c w i =
+    let a = siteOf w in
     let done = packet (Ended 0o00) f c a in
-    let t = aimed (drumOn (s .channels) c) c a b in
+    let t = aimed c w in
     by-bool (eqb f 0o07)
     (λ e. rw e (by-bool (locked s c a)
-    (λ d. rw d (states-swept s j p (atUnit c a) done i))
+    (λ d. rw d (states-swept s j p (isAt c a) done i))
     (λ d. rw d (state-put (s .jobs) j p done i))))
     (λ e. rw e (by-bool (eqb f 0o23)
     (λ d. rw d (state-put (restatusAll (s .jobs) j t cut) j p done i ∙ state-restatus (s .jobs) j t cut i))
@@ -43,8 +45,8 @@ pub states-finished : (s : State) (c : ℕ) (how : How) (j p i : ℕ) → stateI
 states-finished s c how j p i =
     let a = packetIn (s .jobs) j p .at in
     let o : stateIn (over s c j p (codeFor how) .jobs) i ≡ stateIn (s .jobs) i = state-put (s .jobs) j p (withStatus (packetIn (s .jobs) j p) (Ended (codeFor how))) i in
-    by-bool (isFailure how && not (drumOn (s .channels) c))
-    (λ e. rw e (state-restatus (over s c j p (codeFor how) .jobs) j (atUnit c a) failed i ∙ o))
+    by-bool (isFailure how && isUnit (packetIn (s .jobs) j p .at))
+    (λ e. rw e (state-restatus (over s c j p (codeFor how) .jobs) j (isAt c a) failed i ∙ o))
     (λ e. rw e o)
 
 -- ---- calls that change the state of one place

@@ -15,14 +15,14 @@ use Rattle.units.specs.State.{unitIn}
 use Rattle.units.specs.declared.Holder.{Holder}
 use Rattle.packets.specs.Demand.{NoneHeld, emptyPlace, fresh}
 use Rattle.packets.proofs.Inv.{EntryOk, Inv, listed-busy, motion-busy, running-alive}
-use Rattle.packets.specs.State.{inMotion, State, anyMoves, close, drumOn, entryOf, heldBy, isBusy, isClosing, isEmpty, isIdle, isListed, isKept, isRunning, lock, motionOn, move, moves, noJob, packetIn, packetOf, packetsIn, placeOf, put, relist, restatusAll, stateIn, store, sweep, withStatus}
+use Rattle.packets.specs.State.{inMotion, State, anyMoves, close, entryOf, heldBy, isBusy, isClosing, isEmpty, isIdle, isListed, isKept, isRunning, isUnit, lock, motionOn, move, moves, noJob, packetIn, packetOf, packetsIn, placeOf, put, relist, restatusAll, stateIn, store, sweep, withStatus}
 use Rattle.packets.proofs.InvJobs.{NotOf, assigned-inv, close-inv, returned-inv}
 use Rattle.packets.proofs.InvStores.{New, busy-inv, enqueue-inv, entry-packet, entry-place, idle-inv, lock-inv, marked-inv, motion-move, store-inv, sweep-inv}
 use Rattle.packets.specs.Picks.{All, find, keep}
 use Rattle.packets.proofs.Laws.{all-imp, all-keep, and-left, and-right, any-none, eqb-self, find-holds, getD-replicate-const}
-use Rattle.packets.specs.Rules.{Call, Complete, End, Mark, Start, Submit, Take, accept, aimed, always, atOf, atUnit, begun, closing, codeFor, cut, decided, failed, finished, isFailure, isNone, locked, over, packet, refusal, returnIfDone, run, startable, step, submitted, toOf}
+use Rattle.packets.specs.Rules.{Call, Complete, End, Mark, Start, Submit, Take, accept, aimed, always, siteOf, isAt, begun, closing, codeFor, cut, decided, failed, finished, isFailure, isNone, locked, over, packet, refusal, returnIfDone, run, startable, step, submitted}
 use Rattle.packets.proofs.Store.{alive-in, busy-in, packet-put, packet-restatus, sizeIn, state-put, state-restatus}
-use Rattle.packets.proofs.Told.{Submits, assigns-to, completes-on, cut-going, cut-idle, cut-unlisted, ends-of, failed-going, failed-idle, starts-on, submits}
+use Rattle.packets.proofs.Told.{Submits, assigns-to, completes-on, cut-going, cut-idle, cut-unlisted, ends-of, failed-going, failed-idle, owns-unit, starts-on, submits}
 use Rattle.packets.specs.declared.Carrier.{Carrier}
 use Rattle.channels.specs.declared.Channel.{Channel}
 use Rattle.packets.specs.declared.How.{How}
@@ -32,6 +32,7 @@ use Rattle.packets.specs.declared.JobState.the-variants.{ClosingError, C
 use Rattle.packets.specs.declared.Motion.{Motion}
 use Rattle.packets.specs.declared.Motion.the-variants.{Busy, Idle}
 use Rattle.packets.specs.declared.Packet.{Packet}
+use Rattle.packets.specs.declared.Spot.{Spot}
 use Rattle.packets.specs.declared.Status.{Status}
 use Rattle.packets.specs.declared.Status.the-variants.{Blank, Ended, InProgress, Listed}
 use Rattle.packets.specs.declared.Verdict.{Verdict}
@@ -92,41 +93,43 @@ all-relist P j ps q h =
     all-imp (λ (e : ℕ). P e × (isKept j ps e ≡ true)) P (λ e k. k .0) (keep (isKept j ps) q) (all-keep P (isKept j ps) q h)
 
 -- an ordinary function's packet is new in the list
-pub listed-new : (s : State) → Inv s → (j p f c a : ℕ) → Submits s j p f c a → New (store s j p (packet Listed f c a)) j p
-listed-new s I j p f c a k =
+pub listed-new : (s : State) → Inv s → (j p f c : ℕ) (w : Spot) → Submits s j p f c w → New (store s j p (packet Listed f c (siteOf w))) j p
+listed-new s I j p f c w k =
+    let a = siteOf w in
     let r : Ready s j p = record { small = k .small; running = k .running; idle = k .idle } in
     record {
       small = k .small;
       ok = record {
         listed = rw (stored-at s I j p (packet Listed f c a) r);
         running = rw (state-put (s .jobs) j p (packet Listed f c a) j) (k .running);
-        owned = rw (stored-at s I j p (packet Listed f c a) r) (λ n. rw n at (k .owned));
+        owned = rw (stored-at s I j p (packet Listed f c a) r) (k .kind, owns-unit s j p f c w k);
       };
       once = all-relist (λ (e : ℕ). eqb (entryOf j p) e ≡ false) j (packetsIn (put (s .jobs) j p (packet Listed f c a)) j) (s .queue)
           (all-imp (EntryOk s) (λ (e : ℕ). eqb (entryOf j p) e ≡ false) (not-listed s j p (k .small) (k .idle)) (s .queue) (I .queued));
     }
 
-pub submit-inv : (s : State) → Inv s → (j p f c a b : ℕ) → Submits s j p f c a → Inv (submitted s j p f c a b)
-submit-inv s I j p f c a b k =
+pub submit-inv : (s : State) → Inv s → (j p f c : ℕ) (w : Spot) → Submits s j p f c w → Inv (submitted s j p f c w)
+submit-inv s I j p f c w k =
+    let a = siteOf w in
     let r : Ready s j p = record { small = k .small; running = k .running; idle = k .idle } in
     by-bool (eqb f 0o07)
     (λ e. rw e
     (by-bool (locked s c a)
     (λ d. rw d
-    (let I₁ = sweep-inv s I j (atUnit c a) failed (ready-inside s j p r) refl failed-going in
-    let r₁ : Ready (sweep s j (atUnit c a) failed) j p = ready-sweep s j p (atUnit c a) failed refl failed-idle r in
-    ready-store (lock (sweep s j (atUnit c a) failed) c a false) (lock-inv (sweep s j (atUnit c a) failed) I₁ c a false) j p (packet (Ended 0o00) f c a)
+    (let I₁ = sweep-inv s I j (isAt c a) failed (ready-inside s j p r) refl failed-going in
+    let r₁ : Ready (sweep s j (isAt c a) failed) j p = ready-sweep s j p (isAt c a) failed refl failed-idle r in
+    ready-store (lock (sweep s j (isAt c a) failed) c a false) (lock-inv (sweep s j (isAt c a) failed) I₁ c a false) j p (packet (Ended 0o00) f c a)
     (record { small = r₁ .small; running = r₁ .running; idle = r₁ .idle })))
     (λ d. rw d (ready-store s I j p (packet (Ended 0o00) f c a) r))))
     (λ e. rw e
     (by-bool (eqb f 0o23)
     (λ d. rw d
-    (ready-store (sweep s j (aimed (drumOn (s .channels) c) c a b) cut)
-    (sweep-inv s I j (aimed (drumOn (s .channels) c) c a b) cut (ready-inside s j p r) refl cut-going) j p (packet (Ended 0o00) f c a)
-    (ready-sweep s j p (aimed (drumOn (s .channels) c) c a b) cut refl cut-idle r)))
+    (ready-store (sweep s j (aimed c w) cut)
+    (sweep-inv s I j (aimed c w) cut (ready-inside s j p r) refl cut-going) j p (packet (Ended 0o00) f c a)
+    (ready-sweep s j p (aimed c w) cut refl cut-idle r)))
     (λ d. rw d
     (enqueue-inv (store s j p (packet Listed f c a)) (ready-store s I j p (packet Listed f c a) r) j p
-    (listed-new s I j p f c a k)))))
+    (listed-new s I j p f c w k)))))
 
 -- ---- a return
 
@@ -213,10 +216,10 @@ module _ (s : State) (I : Inv s) (c : ℕ) (small : c < 16) (j p : ℕ) (is : mo
 
   pub finished-inv : (how : How) → Inv (finished s c how j p)
   finished-inv how =
-      by-bool (isFailure how && not (drumOn (s .channels) c))
+      by-bool (isFailure how && isUnit (packetIn (s .jobs) j p .at))
       (λ e. rw e
-      (lock-inv (sweep (over s c j p (codeFor how)) j (atUnit c (packetIn (s .jobs) j p .at)) failed)
-      (sweep-inv (over s c j p (codeFor how)) (over-inv (codeFor how)) j (atUnit c (packetIn (s .jobs) j p .at)) failed (over-inside (codeFor how)) refl failed-going)
+      (lock-inv (sweep (over s c j p (codeFor how)) j (isAt c (packetIn (s .jobs) j p .at)) failed)
+      (sweep-inv (over s c j p (codeFor how)) (over-inv (codeFor how)) j (isAt c (packetIn (s .jobs) j p .at)) failed (over-inside (codeFor how)) refl failed-going)
       c (packetIn (s .jobs) j p .at) true))
       (λ e. rw e (over-inv (codeFor how)))
 
@@ -251,7 +254,7 @@ startable-on s c e t = eqb-true _ c (and-left (eqb (packetIn (s .jobs) (placeOf 
 pub accept-inv : (s : State) → Inv s → (x : Call) → refusal s x ≡ Granted → Inv (accept s x)
 unfolding accept
 accept-inv s I (Take j asg) r = assigned-inv s I j (assigns-to s j asg r .0) (assigns-to s j asg r .1) asg
-accept-inv s I (Submit j p f c w) r = submit-inv s I j p f c (atOf w) (toOf w) (submits s j p f c w r)
+accept-inv s I (Submit j p f c w) r = submit-inv s I j p f c w (submits s j p f c w r)
 accept-inv s I (Start c) r =
     let k = starts-on s c r in
     let o = find-some (find (startable s c) (s .queue)) (k .2) in

@@ -1,21 +1,24 @@
 -- What a call's acceptance tells, and what the two changes of status leave alone. Assumes nothing.
 use Prim.Native.Nat.{ℕ, _<_}
-use mathlib.Core.Path.{_≡_, refl}
+use mathlib.Core.Path.{_≡_, refl, sym, ap}
 use mathlib.Core.Bool.{Bool, true, false, not, _&&_}
 use mathlib.Core.List.{List}
 use lib.Dec.{ltb}
 use borrow.Author.Tests.{ltb-true, not-false}
 use Rattle.numbers.proofs.Tests.{never}
+use Rattle.numbers.specs.Kinds.{isDrum}
 use Rattle.numbers.specs.declared.Refusal.the-variants.{ChannelBusy, NoJob, NotLegal, NotTheJobs, NothingInProgress, NothingSelected, NothingStartable, OutOfRange, PacketInUse, WrongCompletion}
-use Rattle.units.specs.State.{unitIn}
-use Rattle.packets.specs.State.{inMotion, State, configured, drumOn, fittedOn, isBusy, isEmpty, isIdle, isListed, isRunning, jobIn, legalFor, motionOn, packetIn, stateIn}
+use Rattle.packets.specs.State.{inMotion, State, configured, drumOn, fittedOn, heldBy, isBusy, isDrumOf, isEmpty, isIdle, isListed, isRunning, jobIn, legalFor, motionOn, packetIn, stateIn, isUnit, unitAt}
 use Rattle.packets.proofs.Laws.{and-left, and-right, passes}
 use Rattle.packets.specs.Picks.{find}
-use Rattle.packets.specs.Rules.{Complete, End, Start, Submit, Take, atOf, cut, failed, inRange, isNone, isOwn, isWrong, movingStatus, refusal, startable}
+use Rattle.packets.specs.Rules.{Complete, End, Start, Submit, Take, cut, failed, inRange, isNone, isOwn, isWrong, movingStatus, reaches, refusal, siteOf, startable}
 use Rattle.packets.specs.declared.Assignment.{Assignment}
 use Rattle.channels.specs.declared.Channel.{Channel}
+use Rattle.channels.specs.declared.Fitted.{Fitted}
+use Rattle.channels.specs.declared.Fitted.the-variants.{Nothing, With}
 use Rattle.packets.specs.declared.How.{How}
 use Rattle.packets.specs.declared.Spot.{Spot}
+use Rattle.packets.specs.declared.Spot.the-variants.{OnDrum, OnUnit}
 use Rattle.packets.specs.declared.Status.{Status}
 use Rattle.packets.specs.declared.Status.the-variants.{Blank, Ended, InProgress, Listed, Stopping}
 use Rattle.packets.specs.declared.Verdict.the-variants.{Granted}
@@ -27,30 +30,43 @@ configured-in g c e = ltb-true c 16 (and-left (ltb c 16) _ e)
 -- ---- what a call's acceptance tells
 
 -- the unit or drum address is the job's
-abbrev pub owns : State → ℕ → ℕ → ℕ → ℕ → Bool
-owns s j f c a = isOwn (drumOn (s .channels) c) (jobIn (s .jobs) j) (unitIn (s .units) c a .holder) j f a
+abbrev pub owns : State → ℕ → ℕ → ℕ → Spot → Bool
+owns s j f c w = isOwn (jobIn (s .jobs) j) (unitAt (s .units) c (siteOf w) .holder) j f w
 
-pub record Submits (s : State) (j p f c a : ℕ) : Type 0 where
+pub record Submits (s : State) (j p f c : ℕ) (w : Spot) : Type 0 where
   pub small : p < 16
   pub running : isRunning (stateIn (s .jobs) j) ≡ true
-  pub owned : owns s j f c a ≡ true
+  pub kind : isUnit (siteOf w) ≡ not (drumOn (s .channels) c)
+  pub owned : owns s j f c w ≡ true
   pub idle : isBusy (packetIn (s .jobs) j p .status) ≡ false
 
-pub submits : (s : State) (j p f c : ℕ) (w : Spot) → refusal s (Submit j p f c w) ≡ Granted → Submits s j p f c (atOf w)
+-- only the drum has addresses, and it has no units
+reached : (has : Fitted) (w : Spot) → reaches has w ≡ true → isUnit (siteOf w) ≡ not (isDrumOf has)
+reached Nothing w e = never {b = false} e refl
+reached (With kind n) (OnUnit u) e = sym (and-left (not (isDrum kind)) _ e)
+reached (With kind n) (OnDrum x h) e = sym (ap not e)
+
+pub submits : (s : State) (j p f c : ℕ) (w : Spot) → refusal s (Submit j p f c w) ≡ Granted → Submits s j p f c w
 unfolding refusal drumOn stateIn packetIn
 submits s j p f c w e =
     let r₁ = passes (not (inRange (fittedOn (s .channels) c) j p f c w)) OutOfRange _ e in
     let r₂ = passes (not (isRunning (stateIn (s .jobs) j))) NoJob _ (r₁ .1) in
-    let r₃ = passes (not (owns s j f c (atOf w))) NotTheJobs _ (r₂ .1) in
+    let r₃ = passes (not (owns s j f c w)) NotTheJobs _ (r₂ .1) in
     let r₄ = passes (not (legalFor (fittedOn (s .channels) c) f)) NotLegal _ (r₃ .1) in
     let r₅ = passes (isBusy (packetIn (s .jobs) j p .status)) PacketInUse Granted (r₄ .1) in
     let t₁ = and-right (ltb j 16) _ (not-false (inRange (fittedOn (s .channels) c) j p f c w) (r₁ .0)) in
     record {
       small = ltb-true p 16 (and-left (ltb p 16) _ t₁);
       running = not-false _ (r₂ .0);
+      kind = reached (fittedOn (s .channels) c) w (and-right (ltb c 16) _ (and-right (ltb f 64) _ (and-right (ltb p 16) _ t₁)));
       owned = not-false _ (r₃ .0);
       idle = r₅ .0;
     }
+
+-- the unit that is named is the job's
+pub owns-unit : (s : State) (j p f c : ℕ) (w : Spot) → Submits s j p f c w → isUnit (siteOf w) ≡ true → heldBy (unitAt (s .units) c (siteOf w) .holder) j ≡ true
+owns-unit s j p f c (OnUnit u) k e = k .owned
+owns-unit s j p f c (OnDrum x h) k e = never {b = false} e refl
 
 pub starts-on : (s : State) (c : ℕ) → refusal s (Start c) ≡ Granted → (c < 16) × (isIdle (motionOn s c) ≡ true) × (isNone (find (startable s c) (s .queue)) ≡ false)
 unfolding refusal

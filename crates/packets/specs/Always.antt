@@ -1,9 +1,10 @@
 -- What holds in every cell that calls lead to from a fresh one. A reader has to believe this page.
 use Prim.Native.Nat.{ℕ}
 use mathlib.Core.Path.{_≡_}
-use mathlib.Core.Bool.{true, false}
+use mathlib.Core.Bool.{true, false, not}
 use mathlib.Core.List.{List}
 use lib.Dec.{eqb}
+use Rattle.numbers.specs.declared.UnitNumber.{UnitNumber}
 use Rattle.units.specs.declared.Unit.{Unit as UnitState}
 use Rattle.units.specs.State.{unitIn}
 use Rattle.channels.specs.declared.Channel.{Channel}
@@ -19,6 +20,7 @@ use Rattle.packets.specs.State.{
   isEmpty,
   isListed,
   isStill,
+  isUnit,
   motionOn,
   packetIn,
   stateIn,
@@ -27,6 +29,7 @@ use Rattle.packets.specs.Picks.{All, Nodup, any}
 use Rattle.packets.specs.Rules.{Call, run}
 use Rattle.packets.specs.declared.Motion.the-variants.{Busy}
 use Rattle.packets.specs.declared.Packet.{Packet}
+use Rattle.packets.specs.declared.Site.the-variants.{AtUnit}
 use Rattle.packets.specs.declared.Status.the-variants.{Stopping}
 
 -- packet p of the job in place j
@@ -42,9 +45,11 @@ pub record Always (s : State) : Type 0 where
   pub entries : All (λ (e : ℕ). isStill (s .jobs) e ≡ true) (s .queue)
   pub members : (j p : ℕ) → isListed (packetAt s j p .status) ≡ true → any (eqb (entryOf j p)) (s .queue) ≡ true
   pub once : Nodup eqb (s .queue)
-  -- a listed or moving packet's unit is held by its job
-  pub held : (j p : ℕ) → isBusy (packetAt s j p .status) ≡ true → drumOn (s .channels) (packetAt s j p .channel .0) ≡ false
-      → heldBy (unitIn (s .units) (packetAt s j p .channel .0) (packetAt s j p .at) .holder) j ≡ true
+  -- a listed or moving packet is at an address on the drum channel, on any other at a unit, which its job holds
+  pub sites : (j p : ℕ) → isBusy (packetAt s j p .status) ≡ true
+      → isUnit (packetAt s j p .at) ≡ not (drumOn (s .channels) (packetAt s j p .channel .0))
+  pub held : (j p : ℕ) → isBusy (packetAt s j p .status) ≡ true → (u : UnitNumber) → packetAt s j p .at ≡ AtUnit u
+      → heldBy (unitIn (s .units) (packetAt s j p .channel .0) (u .0) .holder) j ≡ true
   -- a job of which a packet is listed, in progress or stopping is still there
   pub live : (j p : ℕ) → isBusy (packetAt s j p .status) ≡ true → isEmpty (stateIn (s .jobs) j) ≡ false
   -- a closing job has a packet stopping, and what of it moves is
@@ -61,6 +66,6 @@ abbrev pub NoEarlyHandOver : Type 0
 NoEarlyHandOver =
     (channels : List Channel) (units : List (List UnitState)) → NoneHeld units → (calls : List Call) (j p : ℕ)
     → inMotion (packetAt (run (fresh channels units) calls) j p .status) ≡ true
-    → drumOn (run (fresh channels units) calls .channels) (packetAt (run (fresh channels units) calls) j p .channel .0) ≡ false
-    → heldBy (unitIn (run (fresh channels units) calls .units) (packetAt (run (fresh channels units) calls) j p .channel .0)
-    (packetAt (run (fresh channels units) calls) j p .at) .holder) j ≡ true
+    → (u : UnitNumber) → packetAt (run (fresh channels units) calls) j p .at ≡ AtUnit u
+    → heldBy (unitIn (run (fresh channels units) calls .units) (packetAt (run (fresh channels units) calls) j p .channel .0) (u .0) .holder) j
+    ≡ true

@@ -20,23 +20,23 @@ use Rattle.packets.specs.Rules.{
   Take,
   accept,
   aimed,
-  atOf,
-  atUnit,
   codeFor,
   cut,
   failed,
+  isAt,
   isFailure,
   locked,
   refusal,
   run,
+  siteOf,
   startable,
   step,
-  toOf,
 }
-use Rattle.packets.specs.State.{isPacket, State, drumOn, motionOn, packetIn, packetOf, placeOf}
+use Rattle.packets.specs.State.{isPacket, isUnit, State, motionOn, packetIn, packetOf, placeOf}
 use Rattle.packets.specs.declared.How.{How}
 use Rattle.packets.specs.declared.Motion.{Motion}
 use Rattle.packets.specs.declared.Motion.the-variants.{Busy, Idle}
+use Rattle.packets.specs.declared.Spot.{Spot}
 use Rattle.packets.specs.declared.Status.{Status}
 use Rattle.packets.specs.declared.Status.the-variants.{Blank, Ended, InProgress, Listed}
 use Rattle.packets.specs.declared.Verdict.the-variants.{Granted}
@@ -48,12 +48,12 @@ takes (some e) i n = isPacket (placeOf e) (packetOf e) i n
 
 -- a submission: the packet itself ends with 00 (07, 23) or is listed; 07 under interlock ends with 01 what its job
 -- has listed on the unit; 23 ends with 16o what its job has listed there, and what is in progress there is stopping
-abbrev pub afterSubmit : State → ℕ → ℕ → ℕ → ℕ → ℕ → ℕ → ℕ → ℕ → Status
-afterSubmit s j p f c a b i n =
+abbrev pub afterSubmit : State → ℕ → ℕ → ℕ → ℕ → Spot → ℕ → ℕ → Status
+afterSubmit s j p f c w i n =
     let q = packetIn (s .jobs) i n in
     cond (isPacket j p i n) (cond (eqb f 0o07 || eqb f 0o23) (Ended 0o00) Listed)
-    (cond (eqb i j && (eqb f 0o07 && (locked s c a && atUnit c a q))) (failed (q .status))
-    (cond (eqb i j && (not (eqb f 0o07) && (eqb f 0o23 && aimed (drumOn (s .channels) c) c a b q))) (cut (q .status))
+    (cond (eqb i j && (eqb f 0o07 && (locked s c (siteOf w) && isAt c (siteOf w) q))) (failed (q .status))
+    (cond (eqb i j && (not (eqb f 0o07) && (eqb f 0o23 && aimed c w q))) (cut (q .status))
     (q .status)))
 
 -- a completion: the packet that moved ends with 00, 17o or the failure's code; a failure ends with 01 what is listed
@@ -62,14 +62,15 @@ abbrev pub afterComplete : State → ℕ → How → Motion → ℕ → ℕ → 
 afterComplete s c how Idle i n = packetIn (s .jobs) i n .status
 afterComplete s c how (Busy j p) i n =
     let q = packetIn (s .jobs) i n in
+    let a = packetIn (s .jobs) j p .at in
     cond (isPacket j p i n) (Ended (codeFor how))
-    (cond (eqb i j && ((isFailure how && not (drumOn (s .channels) c)) && atUnit c (packetIn (s .jobs) j p .at) q)) (failed (q .status))
+    (cond (eqb i j && ((isFailure how && isUnit a) && isAt c a q)) (failed (q .status))
     (q .status))
 
 -- packet n of place i after an accepted call
 unfoldable pub statusAfter : State → Call → ℕ → ℕ → Status
 statusAfter s (Take j asg) i n = cond (eqb i j) Blank (packetIn (s .jobs) i n .status)
-statusAfter s (Submit j p f c w) i n = afterSubmit s j p f c (atOf w) (toOf w) i n
+statusAfter s (Submit j p f c w) i n = afterSubmit s j p f c w i n
 statusAfter s (Start c) i n = cond (takes (find (startable s c) (s .queue)) i n) InProgress (packetIn (s .jobs) i n .status)
 statusAfter s (Complete c how) i n = afterComplete s c how (motionOn s c) i n
 statusAfter s (End j e) i n = cond (eqb i j) (cut (packetIn (s .jobs) i n .status)) (packetIn (s .jobs) i n .status)

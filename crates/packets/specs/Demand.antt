@@ -9,7 +9,7 @@ use Rattle.units.specs.declared.Unit.{Unit as UnitState}
 use Rattle.units.specs.State.{unitIn}
 use Rattle.units.specs.declared.Holder.the-variants.{Free}
 use Rattle.packets.specs.Lone.{loneRun, loneStarts, loneTakesAll, newLone}
-use Rattle.packets.specs.Rules.{Call, Complete, End, Mark, Start, Submit, Take, atOf, refusal, run, step}
+use Rattle.packets.specs.Rules.{Call, Complete, End, Mark, Start, Submit, Take, siteOf, refusal, run, step}
 use Rattle.packets.specs.State.{State, blank, drumOn, heldBy, isEmpty, jobIn, motionOn, noCore, packetIn, stateIn}
 use Rattle.packets.specs.declared.Answer.{Answer}
 use Rattle.packets.specs.declared.Answer.the-variants.{Closed, Completed, Done, Refused, Started}
@@ -20,6 +20,8 @@ use Rattle.packets.specs.declared.Job.{Job}
 use Rattle.packets.specs.declared.JobState.the-variants.{Empty}
 use Rattle.packets.specs.declared.Motion.the-variants.{Busy, Idle}
 use Rattle.packets.specs.declared.Packet.{Packet}
+use Rattle.packets.specs.declared.Site.{Site}
+use Rattle.packets.specs.declared.Site.the-variants.{AtAddress, AtUnit}
 use Rattle.packets.specs.declared.Verdict.the-variants.{Granted}
 
 -- ---- a fresh cell: nothing listed or moving, no job, and no unit held
@@ -56,9 +58,18 @@ pub record Holds (s : State) (h : Holding) : Type 0 where
       (heldBy (unitIn (s .units) (h .channel) (h .unit) .holder) (h .place))
       ≡ true
 
+-- a is the unit, or, where drum, an address
+abbrev pub isPart : Bool → ℕ → Site → Bool
+isPart drum unit (AtUnit u) = not drum && eqb (u .0) unit
+isPart drum unit (AtAddress x) = drum
+
 -- channel c and unit or address a are the holding's
-abbrev pub isThere : Holding → ℕ → ℕ → Bool
-isThere h c a = eqb c (h .channel) && (h .drum || eqb a (h .unit))
+abbrev pub isThere : Holding → ℕ → Site → Bool
+isThere h c a = eqb c (h .channel) && isPart (h .drum) (h .unit) a
+
+-- the holding's unit
+abbrev pub itsUnit : Holding → Site
+itsUnit h = AtUnit (record { 0 = h .unit })
 
 -- the packet was last submitted there
 abbrev pub there : Holding → Packet → Bool
@@ -91,7 +102,7 @@ noneSeen n = false
 -- an accepted submission of the job's says where its packet was last submitted
 unfoldable pub noted : Holding → Seen → Call → Answer → Seen
 noted h t (Take j asg) r n = t n
-noted h t (Submit j p f c w) r n = cond (isAccepted r && eqb j (h .place) && eqb n p) (isThere h c (atOf w)) (t n)
+noted h t (Submit j p f c w) r n = cond (isAccepted r && eqb j (h .place) && eqb n p) (isThere h c (siteOf w)) (t n)
 noted h t (Start c) r n = t n
 noted h t (Complete c how) r n = t n
 noted h t (End j e) r n = t n
@@ -117,7 +128,7 @@ endedThere h t (Refused n) = false
 -- completions of such packets, and the job's end
 unfoldable pub acts : Holding → Seen → Call → Answer → Bool
 acts h t (Take j asg) r = false
-acts h t (Submit j p f c w) r = isAccepted r && (eqb j (h .place) && isThere h c (atOf w))
+acts h t (Submit j p f c w) r = isAccepted r && (eqb j (h .place) && isThere h c (siteOf w))
 acts h t (Start c) r = tookThere h c r
 acts h t (Complete c how) r = endedThere h t r
 acts h t (End j e) r = isAccepted r && eqb j (h .place)
@@ -161,14 +172,14 @@ Stretch h s (x ∷ l) = Holds s h × Stretch h (step s x .state) l
 abbrev pub OwnStarts : Holding → Seen → List Event → Type 0
 OwnStarts h t [] = Unit {0}
 OwnStarts h t (e ∷ l) =
-    ((b : Begun) → e .call ≡ Start (h .channel) → e .answer ≡ Started b → b .at ≡ h .unit
+    ((b : Begun) → e .call ≡ Start (h .channel) → e .answer ≡ Started b → b .at ≡ itsUnit h
     → (b .place ≡ h .place) × (t (b .packet) ≡ true))
     × OwnStarts h (noted h t (e .call) (e .answer)) l
 
 -- so is what moves on the unit
 abbrev pub OwnMotion : Holding → Seen → State → Type 0
 OwnMotion h t s =
-    (j p : ℕ) → motionOn s (h .channel) ≡ Busy j p → packetIn (s .jobs) j p .at ≡ h .unit → (j ≡ h .place) × (t p ≡ true)
+    (j p : ℕ) → motionOn s (h .channel) ≡ Busy j p → packetIn (s .jobs) j p .at ≡ itsUnit h → (j ≡ h .place) × (t p ≡ true)
 
 -- of a stretch, by its calls and the answers to them, and of the state at its end; every moment of a stretch is the
 -- end of a shorter one

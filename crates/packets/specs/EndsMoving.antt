@@ -19,6 +19,7 @@ use Rattle.packets.specs.declared.Answer.the-variants.{Closed, Completed
 use Rattle.packets.specs.declared.Assignment.{Assignment}
 use Rattle.packets.specs.declared.How.the-variants.{Full}
 use Rattle.packets.specs.declared.Leaving.the-variants.{AfterNormal, Stays}
+use Rattle.packets.specs.declared.Site.the-variants.{AtUnit}
 use Rattle.packets.specs.declared.Spot.the-variants.{OnUnit}
 
 -- a fresh cell: MT on channel 3, four units
@@ -54,7 +55,7 @@ K9 =
     shown cell (moving ++ (Complete 3 Full ∷ []))
     ≡ record { answer = Done; holder = Held 0 }
     ∷ record { answer = Done; holder = Held 0 }
-    ∷ record { answer = Started (record { place = 0; packet = 5; function = 0o02; at = 1 }); holder = Held 0 }
+    ∷ record { answer = Started (record { place = 0; packet = 5; function = 0o02; at = AtUnit (record { 0 = 1 }) }); holder = Held 0 }
     ∷ record { answer = Closed Stays; holder = Held 0 }
     ∷ record { answer = Completed 0 5 AfterNormal; holder = Free }
     ∷ []

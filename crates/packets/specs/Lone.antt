@@ -10,6 +10,8 @@ use Rattle.packets.specs.Rules.{Call, Complete, End, Mark, Start, Submit
 use Rattle.packets.specs.declared.Begun.{Begun}
 use Rattle.packets.specs.declared.How.{How}
 use Rattle.packets.specs.declared.How.the-variants.{Cut, Failed, Full}
+use Rattle.packets.specs.declared.Site.{Site}
+use Rattle.packets.specs.declared.Site.the-variants.{AtAddress, AtUnit}
 use Rattle.packets.specs.declared.Spot.{Spot}
 use Rattle.packets.specs.declared.Spot.the-variants.{OnDrum, OnUnit}
 use Rattle.packets.specs.declared.Status.{Status}
@@ -18,7 +20,7 @@ use Rattle.packets.specs.declared.Status.the-variants.{Blank, Ended, InP
 pub record Request : Type 0 where
   pub status : Status
   pub function : ℕ
-  pub at : ℕ
+  pub at : Site
 
 pub record Lone : Type 0 where
   -- what was last submitted here under each number
@@ -33,7 +35,7 @@ pub record Lone : Type 0 where
   pub jobOver : Bool
 
 abbrev pub unused : Request
-unused = record { status = Blank; function = 0; at = 0 }
+unused = record { status = Blank; function = 0; at = AtUnit (record { 0 = 0 }) }
 
 abbrev pub newLone : Lone
 newLone = record { packets = λ n. unused; order = []; moving = none; interlock = false; jobOver = false }
@@ -95,11 +97,11 @@ joins l n =
 abbrev pub stores : Lone → ℕ → Request → Lone
 stores l n r = settle l (write (l .packets) n r)
 
-abbrev pub request : Status → ℕ → ℕ → Request
+abbrev pub request : Status → ℕ → Site → Request
 request t f a = record { status = t; function = f; at = a }
 
 -- an ordinary function is listed as the youngest
-abbrev pub lists : Lone → ℕ → ℕ → ℕ → Lone
+abbrev pub lists : Lone → ℕ → ℕ → Site → Lone
 lists l n f a = joins (stores l n (request Listed f a)) n
 
 -- every listed packet ends with 01
@@ -107,17 +109,22 @@ abbrev pub fails : Lone → Lone
 fails l = settle l (λ m. become (l .packets m) (endsWith 0o01 (l .packets m .status)))
 
 -- 07: under interlock what is listed ends with 01 and the interlock goes; 07 ends with 00
-abbrev pub unlocks : Lone → ℕ → ℕ → ℕ → Bool → Lone
+abbrev pub unlocks : Lone → ℕ → ℕ → Site → Bool → Lone
 unlocks l n f a true = stores (locks (fails l) false) n (request (Ended 0o00) f a)
 unlocks l n f a false = stores l n (request (Ended 0o00) f a)
 
--- is an address from a to b? On a unit all packets are meant
-abbrev pub meant : Bool → ℕ → ℕ → ℕ → Bool
-meant true a b x = leb a x && leb x b
-meant false a b x = true
+-- is it an address from L to H?
+abbrev pub within : ℕ → ℕ → Site → Bool
+within l h (AtUnit u) = false
+within l h (AtAddress x) = leb l x && leb x h
+
+-- what 23 is for: on a unit all packets, on the drum those with L ≤ X ≤ H
+abbrev pub meant : Spot → Site → Bool
+meant (OnUnit u) a = true
+meant (OnDrum l h) a = within l h a
 
 -- what is listed, and meant, ends with 16o; what is in progress, and meant, is stopping
-abbrev pub halts : (ℕ → Bool) → Lone → Lone
+abbrev pub halts : (Site → Bool) → Lone → Lone
 halts t l =
     settle l (λ m. cond (t (l .packets m .at)) (become (l .packets m) (stops (endsWith 0o16 (l .packets m .status)))) (l .packets m))
 
@@ -140,21 +147,17 @@ completesAs drum l Full (some n) = ends l n 0o00
 completesAs drum l Cut (some n) = ends l n 0o17
 completesAs drum l (Failed k) (some n) = breaks drum (ends l n k)
 
+-- where a submission goes: to the unit, or on the drum to X or L
+abbrev pub goesTo : Spot → Site
+goesTo (OnUnit u) = AtUnit u
+goesTo (OnDrum x h) = AtAddress x
+
 -- 07, 23, or a packet to be listed
-abbrev pub hears : Bool → Lone → ℕ → ℕ → ℕ → ℕ → Lone
-hears drum l n f a b =
+abbrev pub hears : Lone → ℕ → ℕ → Spot → Lone
+hears l n f w =
+    let a = goesTo w in
     cond (eqb f 0o07) (unlocks l n f a (l .interlock))
-    (cond (eqb f 0o23) (stores (halts (meant drum a b) l) n (request (Ended 0o00) f a)) (lists l n f a))
-
--- where a submission goes: the unit's number, or on the drum X or L
-abbrev pub spotOf : Spot → ℕ
-spotOf (OnUnit u) = u .0
-spotOf (OnDrum x h) = x
-
--- H, which only 23 on the drum reads
-abbrev pub endOf : Spot → ℕ
-endOf (OnUnit u) = 0
-endOf (OnDrum x h) = h
+    (cond (eqb f 0o23) (stores (halts (meant w) l) n (request (Ended 0o00) f a)) (lists l n f a))
 
 -- ---- what it refuses
 
@@ -210,7 +213,7 @@ loneTakes l (Mark c u m on) = false
 -- what a call that it takes does; drum: it is a piece of drum
 unfoldable pub loneDoes : Bool → Lone → Call → Lone
 loneDoes drum l (Take j asg) = l
-loneDoes drum l (Submit j n f c w) = hears drum l n f (spotOf w) (endOf w)
+loneDoes drum l (Submit j n f c w) = hears l n f w
 loneDoes drum l (Start c) = setsOff l (l .order)
 loneDoes drum l (Complete c how) = completesAs drum l how (l .moving)
 loneDoes drum l (End j e) = closes (halts (λ x. true) l)

@@ -36,6 +36,8 @@ use Rattle.packets.specs.declared.Motion.{Motion}
 use Rattle.packets.specs.declared.Motion.the-variants.{Idle, Busy}
 use Rattle.packets.specs.declared.Spot.{Spot}
 use Rattle.packets.specs.declared.Spot.the-variants.{OnUnit, OnDrum}
+use Rattle.packets.specs.declared.Site.{Site}
+use Rattle.packets.specs.declared.Site.the-variants.{AtUnit, AtAddress}
 use Rattle.packets.specs.declared.How.{How}
 use Rattle.packets.specs.declared.How.the-variants.{Full, Cut, Failed}
 use Rattle.packets.specs.declared.Assignment.{Assignment}
@@ -49,8 +51,6 @@ use Rattle.packets.specs.Picks.{find}
 use Rattle.packets.specs.State.{
   State,
   fittedOn,
-  isDrumOf,
-  drumOn,
   configured,
   legalFor,
   placeOf,
@@ -67,6 +67,9 @@ use Rattle.packets.specs.State.{
   stateIn,
   setState,
   heldBy,
+  isUnit,
+  same,
+  unitAt,
   releaseAll,
   takeAll,
   wanted,
@@ -98,14 +101,9 @@ pub data Call : Type 0 where
   Mark : ℕ → ℕ → UnitMark → Bool → Call
 
 -- the unit, or the address X or L
-abbrev pub atOf : Spot → ℕ
-atOf (OnUnit u) = u .0
-atOf (OnDrum x h) = x
-
--- H, which only 23 on the drum reads
-abbrev pub toOf : Spot → ℕ
-toOf (OnUnit u) = 0
-toOf (OnDrum x h) = h
+abbrev pub siteOf : Spot → Site
+siteOf (OnUnit u) = AtUnit u
+siteOf (OnDrum x h) = AtAddress x
 
 -- ---- submission
 
@@ -121,22 +119,20 @@ abbrev pub inArea : Job → ℕ → Bool
 inArea job x = leb (job .from) x && ltb x (job .from + job .words)
 
 -- the unit or drum address is the job's; for 23 on the drum having an area is enough
-abbrev pub isOwn : Bool → Job → Holder → ℕ → ℕ → ℕ → Bool
-isOwn drum job holder j f a =
-    cond drum
-    (cond (eqb f 0o23) (ltb 0 (job .words)) (inArea job a))
-    (heldBy holder j)
+abbrev pub isOwn : Job → Holder → ℕ → ℕ → Spot → Bool
+isOwn job holder j f (OnUnit u) = heldBy holder j
+isOwn job holder j f (OnDrum x h) = cond (eqb f 0o23) (ltb 0 (job .words)) (inArea job x)
 
-abbrev pub packet : Status → ℕ → ℕ → ℕ → Packet
+abbrev pub packet : Status → ℕ → ℕ → Site → Packet
 packet t f c a = record { status = t; function = f; channel = record { 0 = c }; at = a }
 
 -- an ordinary function: the packet is listed, as the youngest; packets submitted during interlock stay listed
-abbrev pub enlist : State → ℕ → ℕ → ℕ → ℕ → ℕ → State
+abbrev pub enlist : State → ℕ → ℕ → ℕ → ℕ → Site → State
 enlist s j p f c a = enqueue (store s j p (packet Listed f c a)) j p
 
--- a packet's unit is unit a of channel c
-abbrev pub atUnit : ℕ → ℕ → Packet → Bool
-atUnit c a p = eqb (p .channel .0) c && eqb (p .at) a
+-- a packet is at a on channel c
+abbrev pub isAt : ℕ → Site → Packet → Bool
+isAt c a p = eqb (p .channel .0) c && same (p .at) a
 
 -- what a failure, or 07 under interlock, does: a listed packet ends with 01
 abbrev pub failed : Status → Status
@@ -147,16 +143,16 @@ failed Stopping = Stopping
 failed (Ended k) = Ended k
 
 -- interlock, which the drum never has
-abbrev pub locked : State → ℕ → ℕ → Bool
-locked s c a = not (drumOn (s .channels) c) && unitIn (s .units) c a .interlock
+abbrev pub locked : State → ℕ → Site → Bool
+locked s c a = unitAt (s .units) c a .interlock
 
 -- 07 on the drum, or without interlock, only ends with 00
-abbrev pub pass : State → ℕ → ℕ → ℕ → ℕ → ℕ → State
+abbrev pub pass : State → ℕ → ℕ → ℕ → ℕ → Site → State
 pass s j p f c a = store s j p (packet (Ended 0o00) f c a)
 
 -- 07 under interlock ends the unit's listed packets with 01, clears the interlock and ends itself with 00
-abbrev pub unlock : State → ℕ → ℕ → ℕ → ℕ → ℕ → State
-unlock s j p f c a = pass (lock (sweep s j (atUnit c a) failed) c a false) j p f c a
+abbrev pub unlock : State → ℕ → ℕ → ℕ → ℕ → Site → State
+unlock s j p f c a = pass (lock (sweep s j (isAt c a) failed) c a false) j p f c a
 
 -- what 23, or the job's end, does: a listed packet ends with 16o, one in progress is stopping
 abbrev pub cut : Status → Status
@@ -167,30 +163,36 @@ cut Stopping = Stopping
 cut (Ended k) = Ended k
 
 -- 23 is for that unit; on the drum it takes those with L ≤ X ≤ H, none if L > H
-abbrev pub aimed : Bool → ℕ → ℕ → ℕ → Packet → Bool
-aimed drum c a b p = eqb (p .channel .0) c && cond drum (leb a (p .at) && leb (p .at) b) (eqb (p .at) a)
+abbrev pub covers : Spot → Site → Bool
+covers (OnUnit u) a = same a (AtUnit u)
+covers (OnDrum l h) (AtUnit u) = false
+covers (OnDrum l h) (AtAddress x) = leb l x && leb x h
+
+abbrev pub aimed : ℕ → Spot → Packet → Bool
+aimed c w p = eqb (p .channel .0) c && covers w (p .at)
 
 -- 23 ends the job's listed packets there with 16o, makes one in progress stopping, and ends with 00; it doesn't touch
 -- interlock
-abbrev pub terminate : State → ℕ → ℕ → ℕ → ℕ → ℕ → ℕ → State
-terminate s j p f c a b = pass (sweep s j (aimed (drumOn (s .channels) c) c a b) cut) j p f c a
+abbrev pub terminate : State → ℕ → ℕ → ℕ → ℕ → Spot → State
+terminate s j p f c w = pass (sweep s j (aimed c w) cut) j p f c (siteOf w)
 
 -- 07 remove logical interlock, 23 terminate, any other function is listed
-abbrev pub submitted : State → ℕ → ℕ → ℕ → ℕ → ℕ → ℕ → State
-submitted s j p f c a b =
+abbrev pub submitted : State → ℕ → ℕ → ℕ → ℕ → Spot → State
+submitted s j p f c w =
+    let a = siteOf w in
     cond (eqb f 0o07) (cond (locked s c a) (unlock s j p f c a) (pass s j p f c a))
-    (cond (eqb f 0o23) (terminate s j p f c a b) (enlist s j p f c a))
+    (cond (eqb f 0o23) (terminate s j p f c w) (enlist s j p f c a))
 
 -- ---- start
 
 -- a listed packet on channel c whose unit has no interlock
-abbrev pub startableOn : Bool → List (List UnitState) → List Job → ℕ → ℕ → Bool
-startableOn drum units jobs c e =
+abbrev pub startableOn : List (List UnitState) → List Job → ℕ → ℕ → Bool
+startableOn units jobs c e =
     let p = packetIn jobs (placeOf e) (packetOf e) in
-    eqb (p .channel .0) c && (drum || not (unitIn units c (p .at) .interlock))
+    eqb (p .channel .0) c && not (unitAt units c (p .at) .interlock)
 
 abbrev pub startable : State → ℕ → ℕ → Bool
-startable s c e = startableOn (drumOn (s .channels) c) (s .units) (s .jobs) c e
+startable s c e = startableOn (s .units) (s .jobs) c e
 
 -- the packet is in progress
 abbrev pub begun : State → ℕ → ℕ → State
@@ -258,14 +260,13 @@ abbrev pub over : State → ℕ → ℕ → ℕ → ℕ → State
 over s c j p k = store (move s c Idle) j p (withStatus (packetIn (s .jobs) j p) (Ended k))
 
 -- a failure on a unit other than the drum sets its interlock and ends that unit's listed packets with 01
-abbrev pub broken : State → ℕ → ℕ → ℕ → State
-broken s c a j = lock (sweep s j (atUnit c a) failed) c a true
+abbrev pub broken : State → ℕ → Site → ℕ → State
+broken s c a j = lock (sweep s j (isAt c a) failed) c a true
 
 abbrev pub finished : State → ℕ → How → ℕ → ℕ → State
 finished s c how j p =
-    cond (isFailure how && not (drumOn (s .channels) c))
-    (broken (over s c j p (codeFor how)) c (packetIn (s .jobs) j p .at) j)
-    (over s c j p (codeFor how))
+    let a = packetIn (s .jobs) j p .at in
+    cond (isFailure how && isUnit a) (broken (over s c j p (codeFor how)) c a j) (over s c j p (codeFor how))
 
 abbrev pub completed : State → ℕ → How → Motion → State
 completed s c how Idle = s
@@ -354,14 +355,14 @@ abbrev pub submitRefusal : Fitted → Job → UnitState → ℕ → ℕ → ℕ 
 submitRefusal has job unit j p f c w =
     first (not (inRange has j p f c w)) OutOfRange
     (first (not (isRunning (job .state))) NoJob
-    (first (not (isOwn (isDrumOf has) job (unit .holder) j f (atOf w))) NotTheJobs
+    (first (not (isOwn job (unit .holder) j f w)) NotTheJobs
     (first (not (legalFor has f)) NotLegal
     (first (isBusy (getD (job .packets) p blank .status)) PacketInUse
     Granted))))
 
 unfoldable pub refusal : State → Call → Verdict
 refusal s (Take j asg) = first (not (ltb j 16 && isEmpty (stateIn (s .jobs) j))) NothingSelected Granted
-refusal s (Submit j p f c w) = submitRefusal (fittedOn (s .channels) c) (jobIn (s .jobs) j) (unitIn (s .units) c (atOf w)) j p f c w
+refusal s (Submit j p f c w) = submitRefusal (fittedOn (s .channels) c) (jobIn (s .jobs) j) (unitAt (s .units) c (siteOf w)) j p f c w
 refusal s (Start c) =
     first (not (configured (s .channels) c)) OutOfRange
     (first (not (isIdle (motionOn s c))) ChannelBusy
@@ -383,7 +384,7 @@ refusal s (Mark c u m on) =
 
 unfoldable pub accept : State → Call → State
 accept s (Take j asg) = assigned s j asg
-accept s (Submit j p f c w) = submitted s j p f c (atOf w) (toOf w)
+accept s (Submit j p f c w) = submitted s j p f c w
 accept s (Start c) = started s c (find (startable s c) (s .queue))
 accept s (Complete c how) = completed s c how (motionOn s c)
 accept s (End j e) = ended s j e

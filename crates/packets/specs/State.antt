@@ -6,7 +6,7 @@ use lib.ListN.{length, getD, set}
 use lib.Dec.{ltb, leb, eqb}
 use Rattle.numbers.specs.Kinds.{isDrum}
 use Rattle.functions.specs.Legal.{legalOf}
-use Rattle.units.specs.State.{unitIn, unitSet, assignable}
+use Rattle.units.specs.State.{unitIn, unitSet, assignable, freshUnit}
 use Rattle.units.specs.declared.Holder.{Holder}
 use Rattle.units.specs.declared.Holder.the-variants.{Free, Held}
 use Rattle.units.specs.declared.Unit.{Unit as UnitState}
@@ -16,6 +16,8 @@ use Rattle.channels.specs.declared.Channel.{Channel}
 use Rattle.packets.specs.declared.Status.{Status}
 use Rattle.packets.specs.declared.Status.the-variants.{Blank, Listed, InProgress, Stopping, Ended}
 use Rattle.packets.specs.declared.Packet.{Packet}
+use Rattle.packets.specs.declared.Site.{Site}
+use Rattle.packets.specs.declared.Site.the-variants.{AtAddress, AtUnit}
 use Rattle.packets.specs.declared.JobState.{JobState}
 use Rattle.packets.specs.declared.JobState.the-variants.{Empty, Running, ClosingNormal, ClosingError}
 use Rattle.packets.specs.declared.Blocks.{Blocks}
@@ -116,10 +118,24 @@ isClosing Running = false
 isClosing ClosingNormal = true
 isClosing ClosingError = true
 
+-- ---- where packets are
+
+-- a unit, and no address
+abbrev pub isUnit : Site → Bool
+isUnit (AtUnit u) = true
+isUnit (AtAddress x) = false
+
+-- the same unit, or the same address
+abbrev pub same : Site → Site → Bool
+same (AtUnit u) (AtUnit v) = eqb (u .0) (v .0)
+same (AtUnit u) (AtAddress y) = false
+same (AtAddress x) (AtUnit v) = false
+same (AtAddress x) (AtAddress y) = eqb x y
+
 -- ---- packets, by place and number
 
 abbrev pub blank : Packet
-blank = record { status = Blank; function = 0; channel = record { 0 = 0 }; at = 0 }
+blank = record { status = Blank; function = 0; channel = record { 0 = 0 }; at = AtUnit (record { 0 = 0 }) }
 
 abbrev pub noCore : Core
 noCore = record { ib = record { start = 0; count = 0 }; db = record { start = 0; count = 0 } }
@@ -189,8 +205,15 @@ enlisted q e = cond (ltb (length q) 256) (q ++ (e ∷ [])) q
 abbrev pub withLock : UnitState → Bool → UnitState
 withLock v b = record { holder = v .holder; down = v .down; reserved = v .reserved; interlock = b }
 
-abbrev pub setLock : List (List UnitState) → ℕ → ℕ → Bool → List (List UnitState)
-setLock units c u b = unitSet units c u (withLock (unitIn units c u) b)
+-- the unit that a packet is at; on the drum there is none: a free one, without interlock
+abbrev pub unitAt : List (List UnitState) → ℕ → Site → UnitState
+unitAt units c (AtUnit u) = unitIn units c (u .0)
+unitAt units c (AtAddress x) = freshUnit false
+
+-- its interlock set or cleared; the drum has none
+abbrev pub setLock : List (List UnitState) → ℕ → Site → Bool → List (List UnitState)
+setLock units c (AtUnit u) b = unitSet units c (u .0) (withLock (unitIn units c (u .0)) b)
+setLock units c (AtAddress x) b = units
 
 abbrev pub heldBy : Holder → ℕ → Bool
 heldBy Free j = false
@@ -256,8 +279,8 @@ abbrev pub enqueue : State → ℕ → ℕ → State
 enqueue s j p =
     record { channels = s .channels; units = s .units; moving = s .moving; jobs = s .jobs; queue = enlisted (s .queue) (entryOf j p) }
 
--- the interlock of unit a of channel c is set or cleared
-abbrev pub lock : State → ℕ → ℕ → Bool → State
+-- the interlock at a on channel c is set or cleared
+abbrev pub lock : State → ℕ → Site → Bool → State
 lock s c a b = record { channels = s .channels; units = setLock (s .units) c a b; moving = s .moving; jobs = s .jobs; queue = s .queue }
 
 -- what moves on channel c

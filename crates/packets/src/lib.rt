@@ -14,12 +14,18 @@ pub enum Status {
     Ended(u8),
 }
 
-// A packet as it was last submitted; at: the unit's number, or on the drum channel the address.
+// Where on its channel a packet is: at a unit, or on the drum channel at an address.
+pub enum Site {
+    AtUnit(UnitNumber),
+    AtAddress(u32),
+}
+
+// A packet as it was last submitted.
 pub struct Packet {
     pub status: Status,
     pub function: u8,
     pub channel: ChannelNumber,
-    pub at: u32,
+    pub at: Site,
 }
 
 // A place is empty, or its job runs, or is closing after a normal end or an end in error.
@@ -102,7 +108,7 @@ pub struct Begun {
     pub place: u8,
     pub packet: u8,
     pub function: u8,
-    pub at: u32,
+    pub at: Site,
 }
 
 // Whether a call returned its job's facilities, and after which end.
@@ -151,7 +157,7 @@ pub enum Found {
 // end with 01. 23 on a unit or on words of the drum, and the job's end: listed packets end with 16 octal, those in
 // progress are stopping.
 pub enum Aim {
-    Failing(ChannelNumber, u32),
-    Cutting(bool, ChannelNumber, u32, u32),
+    Failing(ChannelNumber, UnitNumber),
+    Cutting(ChannelNumber, Spot),
     Closing,
 }
