@@ -12,6 +12,6 @@ pub blank-stays : (aim : Aim) → restatus (testOf aim) (changeOf aim) blank ≡
 blank-stays aim = by-bool (testOf aim blank) (λ e. rw (e, unchanged aim)) (λ e. rw e)
   where
     unchanged : (aim : Aim) → changeOf aim Blank ≡ Blank
-    unchanged (Failing c a) = refl
-    unchanged (Cutting drum c a b) = refl
+    unchanged (Failing c u) = refl
+    unchanged (Cutting c w) = refl
     unchanged Closing = refl

@@ -4,7 +4,7 @@ use Prim.Native.Nat.{ℕ}
 use mathlib.Core.Bool.{Bool}
 use mathlib.Core.List.{List}
 use lib.ListN.{getD, set, replicate}
-use Rattle.packets.specs.Rules.{aimed, always, atUnit, cut, failed}
+use Rattle.packets.specs.Rules.{aimed, always, cut, failed, isAt}
 use Rattle.packets.specs.State.{blank, withStatus}
 use Rattle.packets.specs.declared.Aim.{Aim}
 use Rattle.packets.specs.declared.Aim.the-variants.{Closing, Cutting, Failing}
@@ -12,18 +12,19 @@ use Rattle.packets.specs.declared.Core.{Core}
 use Rattle.packets.specs.declared.Job.{Job}
 use Rattle.packets.specs.declared.JobState.the-variants.{Running}
 use Rattle.packets.specs.declared.Packet.{Packet}
+use Rattle.packets.specs.declared.Site.the-variants.{AtUnit}
 use Rattle.packets.specs.declared.Status.{Status}
 
 -- which packets it is for
 abbrev pub testOf : Aim → Packet → Bool
-testOf (Failing c a) = atUnit (c .0) a
-testOf (Cutting drum c a b) = aimed drum (c .0) a b
+testOf (Failing c u) = isAt (c .0) (AtUnit u)
+testOf (Cutting c w) = aimed (c .0) w
 testOf Closing = always
 
 -- what becomes of their status
 abbrev pub changeOf : Aim → Status → Status
-changeOf (Failing c a) = failed
-changeOf (Cutting drum c a b) = cut
+changeOf (Failing c u) = failed
+changeOf (Cutting c w) = cut
 changeOf Closing = cut
 
 -- packet p of these in another status

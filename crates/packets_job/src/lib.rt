@@ -1,17 +1,22 @@
 // One place: its job and the job's 16 packets, each function on the part that it reads or changes.
 use numbers::ChannelNumber;
+use numbers::UnitNumber;
 use packets::Aim;
 use packets::Blocks;
 use packets::Core;
 use packets::Job;
 use packets::JobState;
 use packets::Packet;
+use packets::Site;
+use packets::Spot;
 use packets::Status;
 ghost use mathlib.Core.Path.{_≡_};
 ghost use mathlib.Core.List.{map};
 ghost use lib.ListN.{getD, set};
-ghost use Rattle.packets.specs.State.{isEmpty, isRunning, blank, withState, withStatus, restatus};
-ghost use Rattle.packets.specs.Rules.{failed, cut, aimed, atUnit};
+ghost use Rattle.packets.specs.declared.Site.the-variants.{AtUnit};
+ghost use Rattle.packets.specs.declared.Spot.the-variants.{OnDrum};
+ghost use Rattle.packets.specs.State.{isEmpty, isRunning, blank, same, withState, withStatus, restatus};
+ghost use Rattle.packets.specs.Rules.{failed, cut, covers, aimed, isAt};
 ghost use Rattle.packets.specs.Demand.{emptyPlace};
 ghost use Rattle.packets_job.specs.Aims.{testOf, changeOf, statusSet, takenJob};
 
@@ -23,7 +28,7 @@ fn blank() -> Packet
         status: Status::Blank,
         function: 0,
         channel: ChannelNumber(0),
-        at: 0,
+        at: Site::AtUnit(UnitNumber(0)),
     }
 }
 
@@ -124,11 +129,12 @@ fn with_status(p: Packet, status: Status) -> Packet
     ensures { λ r. ⌜ r ≡ withStatus p status ⌝ }
 {
     let channel = p.channel;
+    let at = p.at;
     Packet {
         status,
         function: p.function,
         channel,
-        at: p.at,
+        at,
     }
 }
 
@@ -165,24 +171,49 @@ fn cut_status(status: Status) -> Status
     }
 }
 
-// Whether a packet was submitted to unit a of channel c.
-fn is_at(p: Packet, c: ChannelNumber, a: u32) -> bool
-    ensures { λ r. ⌜ r ≡ atUnit (c .0) a p ⌝ }
+// Whether it is this unit, and no address.
+fn is_unit(at: Site, unit: UnitNumber) -> bool
+    ensures { λ r. ⌜ r ≡ same at (AtUnit unit) ⌝ }
 {
-    p.channel.0 == c.0 && p.at == a
+    match at {
+        Site::AtUnit(u) => u.0 == unit.0,
+        Site::AtAddress(_) => false,
+    }
 }
 
-// Whether a 23 to unit a, or on the drum to addresses a to b, is for a packet.
-fn is_aimed(p: Packet, drum: bool, c: ChannelNumber, a: u32, b: u32) -> bool
-    ensures { λ r. ⌜ r ≡ aimed drum (c .0) a b p ⌝ }
+// Whether it is an address from l to h, and no unit.
+fn is_between(at: Site, l: u32, h: u32) -> bool
+    ensures { λ r. ⌜ r ≡ covers (OnDrum l h) at ⌝ }
+{
+    match at {
+        Site::AtUnit(_) => false,
+        Site::AtAddress(x) => l <= x && x <= h,
+    }
+}
+
+// Whether a packet was submitted to a unit of channel c.
+fn is_at(p: Packet, c: ChannelNumber, unit: UnitNumber) -> bool
+    ensures { λ r. ⌜ r ≡ isAt (c .0) (AtUnit unit) p ⌝ }
 {
     if p.channel.0 != c.0 {
         return false;
     }
-    if drum {
-        return a <= p.at && p.at <= b;
+    let at = p.at;
+    is_unit(at, unit)
+}
+
+// Whether a 23 to a unit, or on the drum to the addresses from L to H, is for a packet.
+fn is_aimed(p: Packet, c: ChannelNumber, spot: Spot) -> bool
+    ensures { λ r. ⌜ r ≡ aimed (c .0) spot p ⌝ }
+{
+    if p.channel.0 != c.0 {
+        return false;
     }
-    p.at == a
+    let at = p.at;
+    match spot {
+        Spot::OnUnit(unit) => is_unit(at, unit),
+        Spot::OnDrum(l, h) => is_between(at, l, h),
+    }
 }
 
 // Whether a change is for a packet.
@@ -190,8 +221,8 @@ fn is_meant(p: Packet, aim: Aim) -> bool
     ensures { λ r. ⌜ r ≡ testOf aim p ⌝ }
 {
     match aim {
-        Aim::Failing(c, a) => is_at(p, c, a),
-        Aim::Cutting(drum, c, a, b) => is_aimed(p, drum, c, a, b),
+        Aim::Failing(c, unit) => is_at(p, c, unit),
+        Aim::Cutting(c, spot) => is_aimed(p, c, spot),
         Aim::Closing => true,
     }
 }
@@ -202,7 +233,7 @@ fn changed_status(status: Status, aim: Aim) -> Status
 {
     match aim {
         Aim::Failing(_, _) => failed_status(status),
-        Aim::Cutting(_, _, _, _) => cut_status(status),
+        Aim::Cutting(_, _) => cut_status(status),
         Aim::Closing => cut_status(status),
     }
 }

@@ -2,7 +2,7 @@
 -- has to be believed: Padded, and Rules of packets, say what comes out.
 use Prim.Native.Nat.{ℕ, _≤_, _<_}
 use mathlib.Core.Path.{_≡_}
-use mathlib.Core.Bool.{Bool, false, not, _&&_, _||_}
+use mathlib.Core.Bool.{Bool, false, not, _&&_}
 use mathlib.Core.List.{List}
 use mathlib.Core.Option.{Option, none, some}
 use lib.ListN.{take, getD}
@@ -14,6 +14,8 @@ use Rattle.packets.specs.declared.Found.{Found}
 use Rattle.packets.specs.declared.Found.the-variants.{At, Nowhere}
 use Rattle.packets.specs.declared.Packet.{Packet}
 use Rattle.packets.specs.declared.RequestList.{RequestList}
+use Rattle.packets.specs.declared.Site.{Site}
+use Rattle.packets.specs.declared.Site.the-variants.{AtAddress, AtUnit}
 use Rattle.packets_queue.specs.Padded.{Tidy, listOf, padded}
 
 -- a number below 16
@@ -31,17 +33,22 @@ pub record Relisted (j : ℕ) (ps : List Packet) (list r : RequestList) : Type 0
   pub is : r ≡ padded (relist j ps (listOf list))
   pub tidy : Tidy r
 
--- the interlock of unit a of a channel with these units
+-- the interlock of unit u of a channel with these units
 abbrev pub lockIn : List UnitState → ℕ → Bool
-lockIn row a = getD row a (freshUnit false) .interlock
+lockIn row u = getD row u (freshUnit false) .interlock
+
+-- the interlock where a packet is
+abbrev pub lockAt : List UnitState → Site → Bool
+lockAt row (AtUnit u) = lockIn row (u .0)
+lockAt row (AtAddress x) = false
 
 -- units that have the interlocks of channel c
 pub record RowOf (grid : List (List UnitState)) (c : ℕ) (row : List UnitState) : Type 0 where
-  pub locks : (a : ℕ) → lockIn row a ≡ unitIn grid c a .interlock
+  pub locks : (u : ℕ) → lockIn row u ≡ unitIn grid c u .interlock
 
 -- a listed packet can start on channel c with these units
-abbrev pub canStart : Bool → List UnitState → ℕ → Packet → Bool
-canStart drum row c p = eqb (p .channel .0) c && (drum || not (lockIn row (p .at)))
+abbrev pub canStart : List UnitState → ℕ → Packet → Bool
+canStart row c p = eqb (p .channel .0) c && not (lockAt row (p .at))
 
 -- the oldest packet that can start, if there is one
 abbrev pub foundOf : Option ℕ → Found

@@ -1,9 +1,11 @@
 // The list of the listed packets of all channels, the oldest first.
 use numbers::ChannelNumber;
+use numbers::UnitNumber;
 use packets::Found;
 use packets::Job;
 use packets::Packet;
 use packets::RequestList;
+use packets::Site;
 use packets::Status;
 use units::Unit;
 use units::Units;
@@ -16,7 +18,7 @@ ghost use Rattle.packets.specs.Picks.{find};
 ghost use Rattle.packets.specs.State.{isListed, placeOf, packetOf, relist, enlisted};
 ghost use Rattle.packets.specs.Rules.{startableOn};
 ghost use Rattle.packets_queue.specs.Padded.{listOf, padded, Tidy};
-ghost use Rattle.packets_queue.specs.Keeping.{Within, Sized, Relisted, canStart, lockIn, foundOf, RowOf};
+ghost use Rattle.packets_queue.specs.Keeping.{Within, Sized, Relisted, canStart, lockIn, lockAt, foundOf, RowOf};
 
 // The place of a listed packet.
 fn place_of(e: u8) -> usize
@@ -129,11 +131,11 @@ pub fn relisted_with(job: Job, j: u8, list: RequestList, e: u8) -> RequestList
     with_entry(left, e)
 }
 
-// The interlock of unit a of a channel; none where the channel has no such unit.
-fn lock_in(row: [Unit; 16], a: u32) -> bool
-    ensures { λ r. ⌜ r ≡ lockIn row a ⌝ }
+// The interlock of a unit of a channel; none where the channel has no such unit.
+fn lock_in(row: [Unit; 16], u: UnitNumber) -> bool
+    ensures { λ r. ⌜ r ≡ lockIn row (u .0) ⌝ }
 {
-    let i = a as usize;
+    let i = u.0 as usize;
     if 15 < i {
         return false;
     }
@@ -141,17 +143,25 @@ fn lock_in(row: [Unit; 16], a: u32) -> bool
     unit.interlock
 }
 
+// The interlock where a packet is; the drum has none.
+fn lock_at(row: [Unit; 16], at: Site) -> bool
+    ensures { λ r. ⌜ r ≡ lockAt row at ⌝ }
+{
+    match at {
+        Site::AtUnit(u) => lock_in(row, u),
+        Site::AtAddress(_) => false,
+    }
+}
+
 // Whether a listed packet can start on channel c: its unit has no interlock.
-fn can_start(p: Packet, row: [Unit; 16], drum: bool, c: ChannelNumber) -> bool
-    ensures { λ r. ⌜ r ≡ canStart drum row (c .0) p ⌝ }
+fn can_start(p: Packet, row: [Unit; 16], c: ChannelNumber) -> bool
+    ensures { λ r. ⌜ r ≡ canStart row (c .0) p ⌝ }
 {
     if p.channel.0 != c.0 {
         return false;
     }
-    if drum {
-        return true;
-    }
-    !lock_in(row, p.at)
+    let at = p.at;
+    !lock_at(row, at)
 }
 
 // The units of channel c; units without interlock where the cell has no such channel.
@@ -167,14 +177,8 @@ fn row_of(units: Units, c: ChannelNumber) -> [Unit; 16]
 }
 
 // The oldest packet of the list that can start on channel c.
-pub fn oldest(
-    units: Units,
-    jobs: [Job; 16],
-    list: RequestList,
-    drum: bool,
-    c: ChannelNumber,
-) -> Found
-    ensures { λ r. ⌜ r ≡ foundOf (find (startableOn drum (units .of) jobs (c .0)) (listOf list)) ⌝ }
+pub fn oldest(units: Units, jobs: [Job; 16], list: RequestList, c: ChannelNumber) -> Found
+    ensures { λ r. ⌜ r ≡ foundOf (find (startableOn (units .of) jobs (c .0)) (listOf list)) ⌝ }
 {
     let row = row_of(units, c);
     let entries = list.entries;
@@ -186,7 +190,7 @@ pub fn oldest(
         let number = number_of(e);
         let job = jobs[place];
         let p = job.packets[number];
-        if can_start(p, row, drum, c) {
+        if can_start(p, row, c) {
             return Found::At(e);
         }
         i += 1;

@@ -1,31 +1,34 @@
 // Who holds the units: the interlock of one, and the units that a job is given and returns.
 use numbers::ChannelNumber;
 use numbers::UnitNumber;
+use packets::Site;
+use packets::Spot;
 use units::Holder;
 use units::Unit;
 use units::Units;
 ghost use mathlib.Core.Path.{_≡_};
 ghost use mathlib.Core.Bool.{_&&_};
-ghost use Rattle.units.specs.State.{unitSet, unitsFrom, assignable};
-ghost use Rattle.packets.specs.State.{heldBy, setLock, releaseAll, takeAll};
+ghost use Rattle.units.specs.State.{unitsFrom, assignable};
+ghost use Rattle.packets.specs.declared.Site.the-variants.{AtUnit};
+ghost use Rattle.packets.specs.State.{heldBy, unitAt, setLock, releaseAll, takeAll};
+ghost use Rattle.packets.specs.Rules.{siteOf};
 ghost use Rattle.packets_units.specs.Handed.{handedTo, wantedIn};
 
-// The units with unit a of channel c changed; where the cell has none nothing changes.
-fn with_state(units: Units, c: ChannelNumber, a: u32, state: Unit) -> Units
-    ensures { λ r. ⌜ r ≡ unitsFrom (unitSet (units .of) (c .0) a state) ⌝ }
+// The unit that a submission names; an address names none: a free one, without interlock.
+pub fn unit_of(units: Units, c: ChannelNumber, spot: Spot) -> Unit
+    ensures { λ r. ⌜ r ≡ unitAt (units .of) (c .0) (siteOf spot) ⌝ }
 {
-    let grid = units::grid_of(units);
-    if 15 < a {
-        return units::units_from(grid);
+    match spot {
+        Spot::OnUnit(u) => units::unit_at(units, c, u),
+        Spot::OnDrum(_, _) => units::fresh_unit(false),
     }
-    units::with_unit(units, c, UnitNumber(a as u8), state)
 }
 
-// The units with the interlock of unit a of channel c set or cleared.
-pub fn with_lock(units: Units, c: ChannelNumber, a: u32, on: bool) -> Units
-    ensures { λ r. ⌜ r ≡ unitsFrom (setLock (units .of) (c .0) a on) ⌝ }
+// The units with the interlock of one set or cleared.
+fn with_lock(units: Units, c: ChannelNumber, u: UnitNumber, on: bool) -> Units
+    ensures { λ r. ⌜ r ≡ unitsFrom (setLock (units .of) (c .0) (AtUnit u) on) ⌝ }
 {
-    let unit = units::unit_numbered(units, c, a);
+    let unit = units::unit_at(units, c, u);
     let holder = unit.holder;
     let state = Unit {
         holder,
@@ -33,7 +36,17 @@ pub fn with_lock(units: Units, c: ChannelNumber, a: u32, on: bool) -> Units
         reserved: unit.reserved,
         interlock: on,
     };
-    with_state(units, c, a, state)
+    units::with_unit(units, c, u, state)
+}
+
+// The units with the interlock set or cleared where a packet is; the drum has none.
+pub fn with_lock_at(units: Units, c: ChannelNumber, at: Site, on: bool) -> Units
+    ensures { λ r. ⌜ r ≡ unitsFrom (setLock (units .of) (c .0) at on) ⌝ }
+{
+    match at {
+        Site::AtUnit(u) => with_lock(units, c, u, on),
+        Site::AtAddress(_) => units,
+    }
 }
 
 // Whether the job in place j holds it.

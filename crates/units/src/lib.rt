@@ -62,28 +62,20 @@ pub fn none_held() -> Units
     units_from([[fresh_unit(false); 16]; 16])
 }
 
-// The unit of a channel that has this number, whatever it is: here alone a unit is read by its numbers. Free
-// and unmarked where the cell has none.
-pub fn unit_numbered(units: Units, channel: ChannelNumber, number: u32) -> Unit
-    ensures { λ r. ⌜ r ≡ unitIn (units .of) (channel .0) number ⌝ }
-{
-    let grid = grid_of(units);
-    let c = channel.0 as usize;
-    let u = number as usize;
-    if 15 < c {
-        return fresh_unit(false);
-    }
-    if 15 < number {
-        return fresh_unit(false);
-    }
-    grid[c][u]
-}
-
-// Unit u of channel c.
+// Unit u of channel c: here alone a unit is read by its numbers. Free and unmarked where the cell has none.
 pub fn unit_at(units: Units, channel: ChannelNumber, unit: UnitNumber) -> Unit
     ensures { λ r. ⌜ r ≡ unitIn (units .of) (channel .0) (unit .0) ⌝ }
 {
-    unit_numbered(units, channel, unit.0 as u32)
+    let grid = grid_of(units);
+    let c = channel.0 as usize;
+    let u = unit.0 as usize;
+    if 15 < c {
+        return fresh_unit(false);
+    }
+    if 15 < unit.0 {
+        return fresh_unit(false);
+    }
+    grid[c][u]
 }
 
 // The state with one unit changed: here alone a unit's state changes. Where the cell has no such unit

@@ -9,9 +9,12 @@ use borrow.Author.Needs.{needs}
 use Rattle.packets_queue.proofs.lock_in.Statement.{statement}
 use Rattle.packets_queue.proofs.lock_in.Tie as tie
 
+cast-i : tie.Need-cast-i
+cast-i c = search needs
+
 returns : tie.Need-returns
-returns c = let n : length (c .before .args .t1) ≡ 16 = search needs in
-    sym (ap (λ (k : Unit). k .interlock) (List·getD-eq-default (c .before .args .t1) (freshUnit false) {n = c .before .args .a} (omega (arith, c .if1 .taken))))
+returns c = let n : length (c .before .before .args .t1) ≡ 16 = search needs in
+    sym (ap (λ (k : Unit). k .interlock) (List·getD-eq-default (c .before .before .args .t1) (freshUnit false) {n = c .before .before .args .u .0} (omega (arith, c .if1 .taken))))
 
 mul-unit : tie.Need-mul-unit
 mul-unit c = search needs
@@ -23,4 +26,4 @@ returns-2 : tie.Need-returns-2
 returns-2 c = search needs
 
 pub lock-in-spec : {M : Type 1} → statement M
-lock-in-spec = tie.close (tie.spec returns mul-unit array-copy-out-unit returns-2)
+lock-in-spec = tie.close (tie.spec cast-i returns mul-unit array-copy-out-unit returns-2)

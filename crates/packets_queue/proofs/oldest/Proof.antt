@@ -15,10 +15,10 @@ use Rattle.packets_queue.proofs.oldest.Statement.{statement}
 use Rattle.packets_queue.proofs.oldest.Tie as tie
 
 abbrev Inv-loop : tie.InvT-loop
-Inv-loop drum c jobs row entries end i₀ i = (i ≤ end) × (length entries ≡ 256) × (find (canStartAt drum row jobs (c .0)) (take i entries) ≡ none)
+Inv-loop c jobs row entries end i₀ i = (i ≤ end) × (length entries ≡ 256) × (find (canStartAt row jobs (c .0)) (take i entries) ≡ none)
 
 abbrev μ-loop : tie.MeasureT-loop
-μ-loop drum c jobs row entries end i₀ i = end - i
+μ-loop c jobs row entries end i₀ i = end - i
 
 row-of-requires : tie.Need-row-of-requires Inv-loop μ-loop
 row-of-requires c κs = search needs
@@ -59,12 +59,12 @@ returns c = let l = c .before .before .before .before .before .before .before .l
     let less = c .before .before .before .before .before .before .loop-test .taken in
     let entries = c .before .before .before .before .before .before .before .before .before .before .before .args .list .entries in
     let row = c .before .before .before .before .before .before .before .before .before .before .row-of .result in
-    let f = canStartAt (c .before .before .before .before .before .before .before .before .before .before .before .args .drum) row (c .before .before .before .before .before .before .before .before .before .before .before .args .t2) (c .before .before .before .before .before .before .before .before .before .before .before .args .c .0) in
-    let t : f (getD entries (l .i) 0) ≡ c .before .can-start .result = starts-is (c .before .before .before .before .before .before .before .before .before .before .before .args .drum) row (c .before .before .before .before .before .before .before .before .before .before .before .args .t2) (c .before .before .before .before .before .before .before .before .before .before .before .args .c .0) (getD entries (l .i) 0) (c .before .before .before .before .before .place-of .result) (c .before .before .before .before .number-of .result) (c .before .before .before .before .before .place-of .ensures .is) (c .before .before .before .before .number-of .ensures .is) (c .before .can-start .result) (c .before .can-start .ensures) in
+    let f = canStartAt row (c .before .before .before .before .before .before .before .before .before .before .before .args .t2) (c .before .before .before .before .before .before .before .before .before .before .before .args .c .0) in
+    let t : f (getD entries (l .i) 0) ≡ c .before .can-start .result = starts-is row (c .before .before .before .before .before .before .before .before .before .before .before .args .t2) (c .before .before .before .before .before .before .before .before .before .before .before .args .c .0) (getD entries (l .i) 0) (c .before .before .before .before .before .place-of .result) (c .before .before .before .before .number-of .result) (c .before .before .before .before .before .place-of .ensures .is) (c .before .before .before .before .number-of .ensures .is) (c .before .can-start .result) (c .before .can-start .ensures) in
     let e : find f (take (l .i + 1) entries) ≡ some (getD entries (l .i) 0) = find-step f entries (l .i) 0 (omega (arith, l .inv .1)) (l .inv .2) ∙ rw (t ∙ c .if1 .taken) in
     sym (ap foundOf (find-part f entries (l .i + 1) (c .before .before .before .before .before .before .before .before .size-of .result) (getD entries (l .i) 0) (omega arith) e))
     ∙ ap (λ (x : List ℕ). foundOf (find f x)) (c .before .before .before .before .before .before .before .before .size-of .ensures .is)
-    ∙ found-is (c .before .before .before .before .before .before .before .before .before .before .before .args .drum) (c .before .before .before .before .before .before .before .before .before .before .before .args .units .of) (c .before .before .before .before .before .before .before .before .before .before .before .args .t2) (c .before .before .before .before .before .before .before .before .before .before .before .args .c .0) row (c .before .before .before .before .before .before .before .before .before .before .row-of .ensures) (listOf (c .before .before .before .before .before .before .before .before .before .before .before .args .list))
+    ∙ found-is (c .before .before .before .before .before .before .before .before .before .before .before .args .units .of) (c .before .before .before .before .before .before .before .before .before .before .before .args .t2) (c .before .before .before .before .before .before .before .before .before .before .before .args .c .0) row (c .before .before .before .before .before .before .before .before .before .before .row-of .ensures) (listOf (c .before .before .before .before .before .before .before .before .before .before .before .args .list))
 
 add-i : tie.Need-add-i Inv-loop μ-loop
 add-i c = search needs
@@ -78,18 +78,18 @@ loop-again c = let l = c .before .before .before .before .before .before .before
     let less = c .before .before .before .before .before .before .loop-test .taken in
     let entries = c .before .before .before .before .before .before .before .before .before .before .before .args .list .entries in
     let row = c .before .before .before .before .before .before .before .before .before .before .row-of .result in
-    let f = canStartAt (c .before .before .before .before .before .before .before .before .before .before .before .args .drum) row (c .before .before .before .before .before .before .before .before .before .before .before .args .t2) (c .before .before .before .before .before .before .before .before .before .before .before .args .c .0) in
-    let t : f (getD entries (l .i) 0) ≡ c .before .can-start .result = starts-is (c .before .before .before .before .before .before .before .before .before .before .before .args .drum) row (c .before .before .before .before .before .before .before .before .before .before .before .args .t2) (c .before .before .before .before .before .before .before .before .before .before .before .args .c .0) (getD entries (l .i) 0) (c .before .before .before .before .before .place-of .result) (c .before .before .before .before .number-of .result) (c .before .before .before .before .before .place-of .ensures .is) (c .before .before .before .before .number-of .ensures .is) (c .before .can-start .result) (c .before .can-start .ensures) in
+    let f = canStartAt row (c .before .before .before .before .before .before .before .before .before .before .before .args .t2) (c .before .before .before .before .before .before .before .before .before .before .before .args .c .0) in
+    let t : f (getD entries (l .i) 0) ≡ c .before .can-start .result = starts-is row (c .before .before .before .before .before .before .before .before .before .before .before .args .t2) (c .before .before .before .before .before .before .before .before .before .before .before .args .c .0) (getD entries (l .i) 0) (c .before .before .before .before .before .place-of .result) (c .before .before .before .before .number-of .result) (c .before .before .before .before .before .place-of .ensures .is) (c .before .before .before .before .number-of .ensures .is) (c .before .can-start .result) (c .before .can-start .ensures) in
     (omega arith, l .inv .1, find-step f entries (l .i) 0 (omega (arith, l .inv .1)) (l .inv .2) ∙ rw (t ∙ c .if1 .left))
 
 returns-2 : tie.Need-returns-2 Inv-loop μ-loop
 returns-2 c = let l = c .before .loop in
     let row = c .before .before .before .before .row-of .result in
-    let f = canStartAt (c .before .before .before .before .before .args .drum) row (c .before .before .before .before .before .args .t2) (c .before .before .before .before .before .args .c .0) in
+    let f = canStartAt row (c .before .before .before .before .before .args .t2) (c .before .before .before .before .before .args .c .0) in
     let e : l .i ≡ c .before .before .size-of .result = omega (arith, l .inv .0, c .loop-test .left) in
     sym (ap foundOf (rw e at (l .inv .2)))
     ∙ ap (λ (x : List ℕ). foundOf (find f x)) (c .before .before .size-of .ensures .is)
-    ∙ found-is (c .before .before .before .before .before .args .drum) (c .before .before .before .before .before .args .units .of) (c .before .before .before .before .before .args .t2) (c .before .before .before .before .before .args .c .0) row (c .before .before .before .before .row-of .ensures) (listOf (c .before .before .before .before .before .args .list))
+    ∙ found-is (c .before .before .before .before .before .args .units .of) (c .before .before .before .before .before .args .t2) (c .before .before .before .before .before .args .c .0) row (c .before .before .before .before .row-of .ensures) (listOf (c .before .before .before .before .before .args .list))
 
 pub oldest-spec : {M : Type 1} → statement M
 oldest-spec =

@@ -3,14 +3,14 @@ use borrow.Author.Needs.{needs}
 use Rattle.packets_units.proofs.with_lock.Statement.{statement}
 use Rattle.packets_units.proofs.with_lock.Tie as tie
 
-unit-numbered-requires : tie.Need-unit-numbered-requires
-unit-numbered-requires c κs = search needs
+unit-at-requires : tie.Need-unit-at-requires
+unit-at-requires c κs = search needs
 
-with-state-requires : tie.Need-with-state-requires
-with-state-requires c κs = search needs
+with-unit-requires : tie.Need-with-unit-requires
+with-unit-requires c κs = search needs
 
 returns : tie.Need-returns
-returns c = rw (c .with-state .ensures, c .before .unit-numbered .ensures)
+returns c = rw (c .with-unit .ensures, c .before .unit-at .ensures)
 
 pub with-lock-spec : {M : Type 1} → statement M
-with-lock-spec = tie.close (tie.spec unit-numbered-requires with-state-requires returns)
+with-lock-spec = tie.close (tie.spec unit-at-requires with-unit-requires returns)
