@@ -11,10 +11,9 @@ use Rattle.numbers.proofs.Tests.{by-bool, never}
 use Rattle.numbers.specs.declared.Refusal.the-variants.{NothingInProgress, OutOfRange, WrongCompletion}
 use Rattle.units.specs.State.{unitsFrom}
 use Rattle.units.specs.declared.Units.{Units}
-use Rattle.channels.specs.declared.Fitted.{Fitted}
-use Rattle.packets.proofs.Laws.{and-left, passes}
-use Rattle.packets.specs.Rules.{Complete, accept, answer, atUnit, broken, codeFor, completed, completes, failed, finished, first, isFailure, isWrong, leaving, movingStatus, over, refusal, returnIfDone}
-use Rattle.packets.specs.State.{State, blank, carrying, configured, drumOn, fittedOn, isDrumOf, isIdle, isListed, jobIn, lock, motionOn, move, noJob, packetIn, relist, restatus, setLock, store, sweep, withPackets, withStatus}
+use Rattle.packets.proofs.Laws.{and-left, and-right, passes}
+use Rattle.packets.specs.Rules.{Complete, accept, answer, isAt, broken, codeFor, completed, completes, failed, finished, first, isFailure, isWrong, leaving, movingStatus, over, refusal, returnIfDone}
+use Rattle.packets.specs.State.{State, blank, carrying, configured, isIdle, isListed, isUnit, jobIn, lock, motionOn, move, noJob, packetIn, relist, restatus, setLock, store, sweep, withPackets, withStatus}
 use Rattle.packets.proofs.Told.{configured-in}
 use Rattle.packets.specs.declared.Acted.{Acted}
 use Rattle.packets.specs.declared.Answer.the-variants.{Completed}
@@ -27,6 +26,8 @@ use Rattle.packets.specs.declared.Motion.{Motion}
 use Rattle.packets.specs.declared.Motion.the-variants.{Busy, Idle}
 use Rattle.packets.specs.declared.Packet.{Packet}
 use Rattle.packets.specs.declared.RequestList.{RequestList}
+use Rattle.packets.specs.declared.Site.{Site}
+use Rattle.packets.specs.declared.Site.the-variants.{AtAddress, AtUnit}
 use Rattle.packets.specs.declared.Status.{Status}
 use Rattle.packets.specs.declared.Status.the-variants.{Blank, Ended, InProgress, Listed, Stopping}
 use Rattle.packets.specs.declared.Verdict.{Verdict}
@@ -34,7 +35,7 @@ use Rattle.packets.specs.declared.Verdict.the-variants.{Granted}
 use Rattle.packets_queue.specs.Padded.{listOf}
 use Rattle.packets_queue.specs.Keeping.{Relisted}
 use Rattle.packets_job.specs.Aims.{statusSet}
-use Rattle.packets_end.specs.Over.{endingOf, overJob}
+use Rattle.packets_end.specs.Over.{brokenFor, endingOf, overJob}
 use Rattle.lists.proofs.Calls.{granted-is, small-is}
 use Rattle.lists.proofs.Focus.{ending-packets, fewer-map, focus, focus-leaving, focus-return, focus-self, focus-store, focus-sweep, relist-twice, reunit}
 use Rattle.lists.specs.Outcomes.{listsOf, outcome, stateOf}
@@ -48,6 +49,11 @@ failed-listed InProgress e = e
 failed-listed Stopping e = e
 failed-listed (Ended k) e = e
 
+-- only a unit is broken
+broken-at : (c : ℕ) (a : Site) → isUnit a ≡ true → (ps : List Packet) → brokenFor ps c a ≡ map (restatus (isAt c a) failed) ps
+broken-at c (AtUnit u) e ps = refl
+broken-at c (AtAddress x) e ps = never {b = false} e refl
+
 -- the packet has ended, and what it broke
 module _ (s : State) (c j p : ℕ) (how : How) (h : j < length (s .jobs)) where
   abbrev job : Job
@@ -56,7 +62,7 @@ module _ (s : State) (c j p : ℕ) (how : How) (h : j < length (s .jobs)) where
   abbrev ended : List Packet
   ended = statusSet (job .packets) p (Ended (codeFor how))
 
-  abbrev at : ℕ
+  abbrev at : Site
   at = getD (job .packets) p blank .at
 
   over-is : over s c j p (codeFor how) ≡ focus (move s c Idle) j (withPackets job ended) (relist j ended (s .queue))
@@ -66,22 +72,22 @@ module _ (s : State) (c j p : ℕ) (how : How) (h : j < length (s .jobs)) where
       ap (λ (z : State). store z j p q) (focus-self (move s c Idle) j) ∙ focus-store (move s c Idle) j h job (s .queue) p q
 
   broken-is : broken (over s c j p (codeFor how)) c at j
-      ≡ focus (reunit (move s c Idle) (setLock (s .units) c at true)) j (withPackets job (map (restatus (atUnit c at) failed) ended)) (relist j (map (restatus (atUnit c at) failed) ended) (s .queue))
+      ≡ focus (reunit (move s c Idle) (setLock (s .units) c at true)) j (withPackets job (map (restatus (isAt c at) failed) ended)) (relist j (map (restatus (isAt c at) failed) ended) (s .queue))
   broken-is =
-      let qs = map (restatus (atUnit c at) failed) ended in
+      let qs = map (restatus (isAt c at) failed) ended in
       ap (λ (z : State). lock z c at true)
-      (ap (λ (z : State). sweep z j (atUnit c at) failed) over-is
-      ∙ focus-sweep (move s c Idle) j h (withPackets job ended) (relist j ended (s .queue)) (atUnit c at) failed
-      ∙ ap (focus (move s c Idle) j (withPackets job qs)) (relist-twice j ended qs (fewer-map ended (atUnit c at) failed failed-listed) (s .queue)))
+      (ap (λ (z : State). sweep z j (isAt c at) failed) over-is
+      ∙ focus-sweep (move s c Idle) j h (withPackets job ended) (relist j ended (s .queue)) (isAt c at) failed
+      ∙ ap (focus (move s c Idle) j (withPackets job qs)) (relist-twice j ended qs (fewer-map ended (isAt c at) failed failed-listed) (s .queue)))
 
   -- what a completion leaves before facilities return
-  pub finished-is : let b = isFailure how && not (drumOn (s .channels) c) in
+  pub finished-is : let b = isFailure how && isUnit at in
       let after = overJob job p how c b in
       finished s c how j p ≡ focus (reunit (move s c Idle) (cond b (setLock (s .units) c at true) (s .units))) j after (relist j (after .packets) (s .queue))
   unfolding packetIn
   finished-is =
-      by-bool (isFailure how && not (drumOn (s .channels) c))
-      (λ t. rw t broken-is)
+      by-bool (isFailure how && isUnit at)
+      (λ t. rw (t, broken-at c at (and-right (isFailure how) _ t) ended) broken-is)
       (λ t. rw t over-is)
 
 -- what moves is a packet of the cell, read by its place and number
@@ -122,39 +128,40 @@ module _ (r : Lists) (c : ℕ) (how : How) (m : Motion) (is : m ≡ getD (r .mov
     moves : (motionOn (stateOf r) c ≡ Busy j p) × (j < 16)
     moves = let b = busy m (rw now (told .1)) in (rw (ji, pi) (sym now ∙ b .0), rw ji (b .1))
 
-    module _ (has : Fitted) (on : has ≡ fittedOn (r .channels) c) where
-      abbrev breaks : Bool
-      breaks = isFailure how && not (isDrumOf has)
+    abbrev site : Site
+    site = getD (jobIn (r .jobs) j .packets) p blank .at
 
-      abbrev overs : Job
-      overs = overJob (jobIn (r .jobs) j) p how c breaks
+    abbrev breaks : Bool
+    breaks = isFailure how && isUnit site
 
-      abbrev shut : State
-      shut = reunit (move (stateOf r) c Idle) (cond breaks (setLock (r .units .of) c (getD (jobIn (r .jobs) j .packets) p blank .at) true) (r .units .of))
+    abbrev overs : Job
+    overs = overJob (jobIn (r .jobs) j) p how c breaks
 
-      abbrev kept : List ℕ
-      kept = relist j (overs .packets) (listOf (r .list))
+    abbrev shut : State
+    shut = reunit (move (stateOf r) c Idle) (cond breaks (setLock (r .units .of) c site true) (r .units .of))
 
-      whole : finished (stateOf r) c how j p ≡ focus shut j overs kept
-      unfolding drumOn
-      whole = rw on (finished-is (stateOf r) c j p how (omega (arith, size, moves .1)))
+    abbrev kept : List ℕ
+    kept = relist j (overs .packets) (listOf (r .list))
 
-      pub complete-is : (idle : Carrier) → idle ≡ carrying Idle
-          → (b : Bool) → b ≡ breaks
-          → (over : Ending) → over ≡ endingOf (overJob (getD (r .jobs) (j % 16) noJob) p how c b) (set (r .moving) (c % 16) idle) j
-          → (left : RequestList) → Relisted j (over .job .packets) (r .list) left
-          → (units : Units) → units ≡ unitsFrom (unitsAfter (r .units .of) c (q .at) b j (over .done))
-          → _≡_ {A = Acted} (record {
-            lists = record { channels = r .channels; jobs = set (r .jobs) (j % 16) (over .job); list = left; moving = set (r .moving) (c % 16) idle; units = units };
-            answer = Completed j p (over .leaving);
-          }) (outcome r (Complete c how))
-      unfolding accept answer
-      complete-is idle i b bi over o left l units u =
-          let k : c % 16 ≡ c = (let h = told .0 in omega arith) in
-          let n : j % 16 ≡ j = (let h = moves .1 in omega arith) in
-          let h : j < length (r .jobs) = omega (arith, size, moves .1) in
-          granted-is r (Complete c how) granted _ _
-          (rw (l .is, u, o, qi, bi, i, k, n, ending-packets _ overs)
-          (sym (ap (λ (x : Motion). listsOf (completed (stateOf r) c how x)) (moves .0) ∙ ap listsOf (ap (returnIfDone j) whole ∙ focus-return shut j h overs kept))))
-          (rw (o, bi, i, k, n)
-          (sym (ap (completes (stateOf r) c how) (moves .0) ∙ ap (Completed j p) (ap (leaving j) whole ∙ focus-leaving shut j h overs kept))))
+    whole : finished (stateOf r) c how j p ≡ focus shut j overs kept
+    whole = finished-is (stateOf r) c j p how (omega (arith, size, moves .1))
+
+    pub complete-is : (idle : Carrier) → idle ≡ carrying Idle
+        → (b : Bool) → b ≡ isFailure how && isUnit (q .at)
+        → (over : Ending) → over ≡ endingOf (overJob (getD (r .jobs) (j % 16) noJob) p how c b) (set (r .moving) (c % 16) idle) j
+        → (left : RequestList) → Relisted j (over .job .packets) (r .list) left
+        → (units : Units) → units ≡ unitsFrom (unitsAfter (r .units .of) c (q .at) b j (over .done))
+        → _≡_ {A = Acted} (record {
+          lists = record { channels = r .channels; jobs = set (r .jobs) (j % 16) (over .job); list = left; moving = set (r .moving) (c % 16) idle; units = units };
+          answer = Completed j p (over .leaving);
+        }) (outcome r (Complete c how))
+    unfolding accept answer
+    complete-is idle i b bi over o left l units u =
+        let k : c % 16 ≡ c = (let h = told .0 in omega arith) in
+        let n : j % 16 ≡ j = (let h = moves .1 in omega arith) in
+        let h : j < length (r .jobs) = omega (arith, size, moves .1) in
+        granted-is r (Complete c how) granted _ _
+        (rw (l .is, u, o, bi, qi, i, k, n, ending-packets _ overs)
+        (sym (ap (λ (x : Motion). listsOf (completed (stateOf r) c how x)) (moves .0) ∙ ap listsOf (ap (returnIfDone j) whole ∙ focus-return shut j h overs kept))))
+        (rw (o, bi, qi, i, k, n)
+        (sym (ap (completes (stateOf r) c how) (moves .0) ∙ ap (Completed j p) (ap (leaving j) whole ∙ focus-leaving shut j h overs kept))))

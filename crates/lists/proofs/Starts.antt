@@ -12,7 +12,7 @@ use Rattle.numbers.specs.declared.Refusal.the-variants.{ChannelBusy, NothingSta
 use Rattle.packets.proofs.Laws.{passes}
 use Rattle.packets.specs.Picks.{find}
 use Rattle.packets.specs.Rules.{Start, accept, answer, begins, begun, first, isNone, refusal, startable, startableOn, started}
-use Rattle.packets.specs.State.{State, carrying, configured, drumOn, fittedOn, isDrumOf, isIdle, jobIn, motionOn, move, noJob, packetIn, packetOf, placeOf, relist, store, withPackets, withStatus}
+use Rattle.packets.specs.State.{State, carrying, configured, isIdle, jobIn, motionOn, move, noJob, packetIn, packetOf, placeOf, relist, store, withPackets, withStatus}
 use Rattle.packets.proofs.Told.{configured-in}
 use Rattle.packets.specs.declared.Acted.{Acted}
 use Rattle.packets.specs.declared.Answer.{Answer}
@@ -54,14 +54,9 @@ begun-is s c e h =
     (ap (λ (z : State). store z (placeOf e) (packetOf e) q) (focus-self s (placeOf e))
     ∙ focus-store s (placeOf e) h (jobIn (s .jobs) (placeOf e)) (s .queue) (packetOf e) q)
 
-module _ (r : Lists) (c : ℕ) (drum : Bool) (on : drum ≡ isDrumOf (fittedOn (r .channels) c))
-    (found : Found) (is : found ≡ foundOf (find (startableOn drum (r .units .of) (r .jobs) c) (listOf (r .list)))) where
+module _ (r : Lists) (c : ℕ) (found : Found) (is : found ≡ foundOf (find (startableOn (r .units .of) (r .jobs) c) (listOf (r .list)))) where
   abbrev first-found : Option ℕ
   first-found = find (startable (stateOf r) c) (listOf (r .list))
-
-  look : found ≡ foundOf first-found
-  unfolding drumOn
-  look = is ∙ ap (λ (d : Bool). foundOf (find (startableOn d (r .units .of) (r .jobs) c) (listOf (r .list)))) on
 
   pub start-verdict : (v : Verdict)
       → v ≡ first (not (configured (r .channels) c)) OutOfRange (first (not (isIdle (getD (r .moving) (c % 16) (carrying Idle) .motion))) ChannelBusy (first (isNowhere found) NothingStartable Granted))
@@ -69,7 +64,7 @@ module _ (r : Lists) (c : ℕ) (drum : Bool) (on : drum ≡ isDrumOf (fittedOn (
   unfolding refusal
   start-verdict v e =
       by-bool (configured (r .channels) c)
-      (λ t. let h = configured-in (r .channels) c t in let k : c % 16 ≡ c = omega arith in rw (e, look, nowhere-is first-found, k))
+      (λ t. let h = configured-in (r .channels) c t in let k : c % 16 ≡ c = omega arith in rw (e, is, nowhere-is first-found, k))
       (λ t. rw (e, t))
 
   module _ (size : length (r .jobs) ≡ 16) (granted : refusal (stateOf r) (Start c) ≡ Granted) where
@@ -97,7 +92,7 @@ module _ (r : Lists) (c : ℕ) (drum : Bool) (on : drum ≡ isDrumOf (fittedOn (
     unfolding accept answer packetIn
     start-is e ei small ps p a ai left l busy b =
         let k : c % 16 ≡ c = (let h = told .0 in omega arith) in
-        let o : first-found ≡ some e = found-is first-found (told .1) ∙ ap some (sym (ei ∙ ap entryIn look)) in
+        let o : first-found ≡ some e = found-is first-found (told .1) ∙ ap some (sym (ei ∙ ap entryIn is)) in
         granted-is r (Start c) granted _ _
         (rw (l .is, b, p, k) (sym (ap (λ (x : Option ℕ). listsOf (started (stateOf r) c x)) o ∙ ap listsOf (begun-is (stateOf r) c e (omega (arith, size))))))
         (ai ∙ sym (ap (begins (stateOf r)) o))

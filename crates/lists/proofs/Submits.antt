@@ -8,34 +8,45 @@ use native.Mathlib.Omega.{arith}
 use lib.ListN.{length, getD, set}
 use lib.Dec.{eqb, ltb}
 use borrow.Author.Tests.{eqb-true, ltb-true, not-false}
-use Rattle.numbers.proofs.Tests.{by-bool}
+use Rattle.numbers.proofs.Tests.{by-bool, never}
 use Rattle.numbers.specs.declared.Refusal.the-variants.{OutOfRange}
-use Rattle.units.specs.State.{unitIn, unitsFrom}
+use Rattle.units.specs.State.{unitsFrom}
 use Rattle.units.specs.declared.Unit.{Unit as UnitState}
 use Rattle.units.specs.declared.Units.{Units}
 use Rattle.channels.specs.declared.Fitted.{Fitted}
 use Rattle.packets.proofs.Laws.{and-left, and-right, passes}
-use Rattle.packets.specs.Rules.{Submit, accept, aimed, answer, atOf, atUnit, cut, enlist, failed, inRange, locked, packet, pass, refusal, submitRefusal, submitted, toOf}
-use Rattle.packets.specs.State.{State, drumOn, enqueue, entryOf, fittedOn, isDrumOf, jobIn, noJob, relist, restatus, setLock, store, sweep, withPackets}
+use Rattle.packets.specs.Rules.{Submit, accept, aimed, answer, cut, enlist, failed, inRange, isAt, locked, packet, pass, refusal, siteOf, submitRefusal, submitted}
+use Rattle.packets.specs.State.{State, enqueue, entryOf, fittedOn, jobIn, noJob, relist, restatus, setLock, store, sweep, unitAt, withPackets}
 use Rattle.packets.specs.declared.Acted.{Acted}
 use Rattle.packets.specs.declared.Answer.the-variants.{Done}
 use Rattle.packets.specs.declared.Job.{Job}
 use Rattle.packets.specs.declared.Lists.{Lists}
 use Rattle.packets.specs.declared.Packet.{Packet}
 use Rattle.packets.specs.declared.RequestList.{RequestList}
+use Rattle.packets.specs.declared.Site.{Site}
 use Rattle.packets.specs.declared.Spot.{Spot}
+use Rattle.packets.specs.declared.Spot.the-variants.{OnDrum, OnUnit}
 use Rattle.packets.specs.declared.Status.{Status}
 use Rattle.packets.specs.declared.Status.the-variants.{Ended, Listed}
 use Rattle.packets.specs.declared.Verdict.{Verdict}
 use Rattle.packets.specs.declared.Verdict.the-variants.{Granted}
 use Rattle.packets_queue.specs.Padded.{listOf, padded}
-use Rattle.packets_submit.specs.After.{isUnlocking, jobAfter}
+use Rattle.packets_submit.specs.After.{isUnlocking, jobAfter, unlockedFor}
 use Rattle.lists.proofs.Calls.{granted-is, small-is}
 use Rattle.lists.proofs.Focus.{fewer-set, focus, focus-self, focus-store, focus-sweep, relist-twice, reunit}
 use Rattle.lists.specs.Outcomes.{listsOf, outcome, stateOf}
 use Rattle.lists.specs.Parts.{listAfter, listedAs}
 
-module _ (s : State) (j : ℕ) (h : j < length (s .jobs)) (p f c a : ℕ) where
+-- 07 under interlock is for a unit
+unlocked-is : (units : List (List UnitState)) (c : ℕ) (w : Spot) → unitAt units c (siteOf w) .interlock ≡ true → (ps : List Packet)
+    → unlockedFor ps c w ≡ map (restatus (isAt c (siteOf w)) failed) ps
+unlocked-is units c (OnUnit u) e ps = refl
+unlocked-is units c (OnDrum l h) e ps = never {b = false} e refl
+
+module _ (s : State) (j : ℕ) (h : j < length (s .jobs)) (p f c : ℕ) (w : Spot) where
+  abbrev a : Site
+  a = siteOf w
+
   abbrev job : Job
   job = jobIn (s .jobs) j
 
@@ -60,23 +71,23 @@ module _ (s : State) (j : ℕ) (h : j < length (s .jobs)) (p f c a : ℕ) where
       ∙ ap (focus (reunit s units) j (withPackets job (set ps p ended))) (relist-twice j ps (set ps p ended) (fewer-set ps p ended refl) (s .queue))
 
   -- what a submission leaves, as the code builds it
-  pub submitted-is : (b : ℕ) → let u = isUnlocking f (drumOn (s .channels) c) (unitIn (s .units) c a .interlock) in
-      let after = jobAfter job p f c a b (drumOn (s .channels) c) u in
-      submitted s j p f c a b
+  pub submitted-is : let u = isUnlocking f (unitAt (s .units) c a .interlock) in
+      let after = jobAfter job p f c w u in
+      submitted s j p f c w
       ≡ focus (reunit s (cond u (setLock (s .units) c a false) (s .units))) j after (listAfter f (entryOf j p) (relist j (after .packets) (s .queue)))
-  submitted-is b =
+  submitted-is =
       by-bool (eqb f 0o07)
       (λ t. by-bool (locked s c a)
-      (λ l. rw (t, l) (swept-is (atUnit c a) failed (setLock (s .units) c a false)))
+      (λ l. rw (t, l, unlocked-is (s .units) c w l (job .packets)) (swept-is (isAt c a) failed (setLock (s .units) c a false)))
       (λ l. rw (t, l, other t) pass-is))
       (λ t. by-bool (eqb f 0o23)
-      (λ d. rw (t, d) (swept-is (aimed (drumOn (s .channels) c) c a b) cut (s .units)))
+      (λ d. rw (t, d) (swept-is (aimed c w) cut (s .units)))
       (λ d. rw (t, d) enlist-is))
     where
       other : eqb f 0o07 ≡ true → eqb f 0o23 ≡ false
       other t = let q : f ≡ 0o07 = eqb-true f 0o07 t in rw q refl
 
-module _ (r : Lists) (j p f c : ℕ) (w : Spot) (has : Fitted) (on : has ≡ fittedOn (r .channels) c) (unit : UnitState) (is : unit ≡ unitIn (r .units .of) c (atOf w)) where
+module _ (r : Lists) (j p f c : ℕ) (w : Spot) (has : Fitted) (on : has ≡ fittedOn (r .channels) c) (unit : UnitState) (is : unit ≡ unitAt (r .units .of) c (siteOf w)) where
   pub submit-verdict : (v : Verdict) → v ≡ submitRefusal has (getD (r .jobs) (j % 16) noJob) unit j p f c w → refusal (stateOf r) (Submit j p f c w) ≡ v
   unfolding refusal
   submit-verdict v e = by-bool (ltb j 16) (λ t. rw (e, on, is, small-is j t)) (λ t. rw (e, t))
@@ -91,18 +102,18 @@ module _ (r : Lists) (j p f c : ℕ) (w : Spot) (has : Fitted) (on : has ≡ fit
     packet-small : p < 16
     packet-small = ltb-true p 16 (and-left (ltb p 16) _ (and-right (ltb j 16) _ inside))
 
-    pub submit-is : (unlocking : Bool) → unlocking ≡ isUnlocking f (isDrumOf has) (unit .interlock)
-        → (gone : Job) → gone ≡ jobAfter (getD (r .jobs) (j % 16) noJob) p f c (atOf w) (toOf w) (isDrumOf has) unlocking
+    pub submit-is : (unlocking : Bool) → unlocking ≡ isUnlocking f (unit .interlock)
+        → (gone : Job) → gone ≡ jobAfter (getD (r .jobs) (j % 16) noJob) p f c w unlocking
         → (left : RequestList) → left ≡ padded (listAfter f (listedAs j p) (relist j (gone .packets) (listOf (r .list))))
-        → (units : Units) → units ≡ unitsFrom (cond unlocking (setLock (r .units .of) c (atOf w) false) (r .units .of))
+        → (units : Units) → units ≡ unitsFrom (cond unlocking (setLock (r .units .of) c (siteOf w) false) (r .units .of))
         → _≡_ {A = Acted} (record {
           lists = record { channels = r .channels; jobs = set (r .jobs) (j % 16) gone; list = left; moving = r .moving; units = units };
           answer = Done;
         }) (outcome r (Submit j p f c w))
-    unfolding accept answer drumOn entryOf
+    unfolding accept answer entryOf
     submit-is unlocking ul gone g left l units u =
         let k : j % 16 ≡ j = omega (arith, place-small) in
         let m : p % 16 ≡ p = omega (arith, packet-small) in
         granted-is r (Submit j p f c w) granted _ _
-        (rw (l, u, g, ul, on, is, k, m) (sym (ap listsOf (submitted-is (stateOf r) j (omega (arith, size, place-small)) p f c (atOf w) (toOf w)))))
+        (rw (l, u, g, ul, is, k, m) (sym (ap listsOf (submitted-is (stateOf r) j (omega (arith, size, place-small)) p f c w))))
         refl

@@ -14,6 +14,7 @@ use Rattle.packets.specs.declared.Found.the-variants.{At, Nowhere}
 use Rattle.packets.specs.declared.Motion.{Motion}
 use Rattle.packets.specs.declared.Motion.the-variants.{Busy, Idle}
 use Rattle.packets.specs.declared.Packet.{Packet}
+use Rattle.packets.specs.declared.Site.{Site}
 
 -- the list after a submission: what is listed joins it
 abbrev pub listAfter : ℕ → ℕ → List ℕ → List ℕ
@@ -50,7 +51,7 @@ startedAt ps e =
     Started (record { place = placeOf e; packet = packetOf e; function = q .function; at = q .at })
 
 -- the units after a completion
-abbrev pub unitsAfter : List (List UnitState) → ℕ → ℕ → Bool → ℕ → Bool → List (List UnitState)
+abbrev pub unitsAfter : List (List UnitState) → ℕ → Site → Bool → ℕ → Bool → List (List UnitState)
 unitsAfter units c a breaking j done =
     let shut = cond breaking (setLock units c a true) units in
     cond done (releaseAll shut j) shut

@@ -9,6 +9,7 @@ use packets::Job;
 use packets::Motion;
 use packets::Packet;
 use packets::RequestList;
+use packets::Site;
 use units::Units;
 ghost use mathlib.Core.Path.{_≡_};
 ghost use Rattle.units.specs.State.{unitIn, unitSet, unitsFrom, markedUnit};
@@ -43,11 +44,12 @@ pub fn started(ps: [Packet; 16], e: u8) -> Answer
     ensures { λ r. ⌜ r ≡ startedAt ps e ⌝ }
 {
     let q = packets_job::packet_in(ps, e % 16);
+    let at = q.at;
     Answer::Started(Begun {
         place: e / 16,
         packet: e % 16,
         function: q.function,
-        at: q.at,
+        at,
     })
 }
 
@@ -93,8 +95,15 @@ pub fn packet_of(carrier: Carrier) -> u8
 
 // The units after a completion: one with its interlock set if it broke, those of the job in place j free if it is
 // done.
-pub fn units_of(units: Units, c: ChannelNumber, a: u32, breaking: bool, j: u8, done: bool) -> Units
-    ensures { λ r. ⌜ r ≡ unitsFrom (unitsAfter (units .of) (c .0) a breaking j done) ⌝ }
+pub fn units_of(
+    units: Units,
+    c: ChannelNumber,
+    at: Site,
+    breaking: bool,
+    j: u8,
+    done: bool,
+) -> Units
+    ensures { λ r. ⌜ r ≡ unitsFrom (unitsAfter (units .of) (c .0) at breaking j done) ⌝ }
 {
     if !breaking {
         if !done {
@@ -102,7 +111,7 @@ pub fn units_of(units: Units, c: ChannelNumber, a: u32, breaking: bool, j: u8, d
         }
         return packets_units::released(units, j);
     }
-    let shut = packets_units::with_lock(units, c, a, true);
+    let shut = packets_units::with_lock_at(units, c, at, true);
     if !done {
         return shut;
     }

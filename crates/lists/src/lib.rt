@@ -56,8 +56,7 @@ pub fn submit(
     let channels = next.channels;
     let units = next.units;
     let has = packets_channels::fitted_on(channels, channel);
-    let at = packets_submit::at_of(spot);
-    let unit = units::unit_numbered(units, channel, at);
+    let unit = packets_units::unit_of(units, channel, spot);
     let i = (place % 16) as usize;
     let job = next.jobs[i];
     match packets_submit::verdict(has, job, unit, place, packet, function, channel, spot) {
@@ -65,22 +64,15 @@ pub fn submit(
             answer = Answer::Refused(refusal);
         }
         Verdict::Granted => {
-            let unlocking = packets_submit::is_unlocking(function, has, unit);
-            let gone = packets_submit::job_after(
-                job,
-                packet,
-                function,
-                channel,
-                spot,
-                has,
-                unlocking,
-            );
+            let unlocking = packets_submit::is_unlocking(function, unit);
+            let gone = packets_submit::job_after(job, packet, function, channel, spot, unlocking);
             next.jobs[i] = gone;
             let list = next.list;
             let left = after::list_of(gone, place, packet, function, list);
             next.list = left;
             if unlocking {
-                let open = packets_units::with_lock(units, channel, at, false);
+                let at = packets_submit::site_of(spot);
+                let open = packets_units::with_lock_at(units, channel, at, false);
                 next.units = open;
             }
         }
@@ -101,8 +93,7 @@ pub fn start(lists: Lists, channel: ChannelNumber) -> Acted
     let jobs = next.jobs;
     let list = next.list;
     let units = next.units;
-    let drum = packets_channels::is_drum(packets_channels::fitted_on(channels, channel));
-    let found = packets_queue::oldest(units, jobs, list, drum, channel);
+    let found = packets_queue::oldest(units, jobs, list, channel);
     let c = (channel.0 % 16) as usize;
     let carrier = next.moving[c];
     let motion = carrier.motion;
@@ -154,10 +145,8 @@ pub fn complete(lists: Lists, channel: ChannelNumber, how: How) -> Acted
             let idle = after::idle();
             next.moving[c] = idle;
             let moving = next.moving;
-            let breaking = packets_end::is_breaking(
-                how,
-                packets_channels::fitted_on(channels, channel),
-            );
+            let at = q.at;
+            let breaking = packets_end::is_breaking(how, at);
             let over = packets_end::over(job, p, how, channel, breaking, moving, j);
             let gone = over.job;
             next.jobs[i] = gone;
@@ -168,7 +157,7 @@ pub fn complete(lists: Lists, channel: ChannelNumber, how: How) -> Acted
             answer = Answer::Completed(j, p, leaving);
             if breaking || over.done {
                 let units = next.units;
-                let free = after::units_of(units, channel, q.at, breaking, j, over.done);
+                let free = after::units_of(units, channel, at, breaking, j, over.done);
                 next.units = free;
             }
         }

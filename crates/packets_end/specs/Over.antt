@@ -4,7 +4,7 @@ use Prim.Native.Nat.{ℕ}
 use mathlib.Core.Bool.{Bool, true, false, not, cond, _&&_}
 use mathlib.Core.List.{List, map}
 use lib.ListN.{getD}
-use Rattle.packets.specs.Rules.{always, atUnit, closing, codeFor, cut, failed, leavingAs}
+use Rattle.packets.specs.Rules.{always, closing, codeFor, cut, failed, isAt, leavingAs}
 use Rattle.packets.specs.State.{anyMoves, blank, isClosing, restatus, withPackets, withState}
 use Rattle.packets.specs.declared.Carrier.{Carrier}
 use Rattle.packets.specs.declared.Ending.{Ending}
@@ -13,14 +13,21 @@ use Rattle.packets.specs.declared.Job.{Job}
 use Rattle.packets.specs.declared.JobState.the-variants.{Empty}
 use Rattle.packets.specs.declared.Leaving.the-variants.{Stays}
 use Rattle.packets.specs.declared.Packet.{Packet}
+use Rattle.packets.specs.declared.Site.{Site}
+use Rattle.packets.specs.declared.Site.the-variants.{AtAddress, AtUnit}
 use Rattle.packets.specs.declared.Status.the-variants.{Ended}
 use Rattle.packets_job.specs.Aims.{statusSet}
+
+-- the listed packets of a unit end with 01
+abbrev pub brokenFor : List Packet → ℕ → Site → List Packet
+brokenFor ps c (AtUnit u) = map (restatus (isAt c (AtUnit u)) failed) ps
+brokenFor ps c (AtAddress x) = ps
 
 -- packet p has ended; where that breaks the unit, its listed packets end with 01
 abbrev pub overPackets : List Packet → ℕ → How → ℕ → Bool → List Packet
 overPackets ps p how c breaking =
     let ended = statusSet ps p (Ended (codeFor how)) in
-    cond breaking (map (restatus (atUnit c (getD ps p blank .at)) failed) ended) ended
+    cond breaking (brokenFor ended c (getD ps p blank .at)) ended
 
 -- the job then
 abbrev pub overJob : Job → ℕ → How → ℕ → Bool → Job

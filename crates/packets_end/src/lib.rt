@@ -1,6 +1,5 @@
 // Completions and ends, on the parts that they read and change: the job's packets and its state, and whether its
 // facilities return.
-use channels::Fitted;
 use numbers::ChannelNumber;
 use packets::Aim;
 use packets::Carrier;
@@ -10,12 +9,13 @@ use packets::Job;
 use packets::JobState;
 use packets::Leaving;
 use packets::Packet;
+use packets::Site;
 use packets::Status;
 ghost use mathlib.Core.Path.{_≡_};
 ghost use mathlib.Core.Bool.{not, _&&_};
-ghost use Rattle.packets.specs.State.{isDrumOf, isStopping, isClosing, anyMoves};
+ghost use Rattle.packets.specs.State.{isUnit, isStopping, isClosing, anyMoves};
 ghost use Rattle.packets.specs.Rules.{isWrong, codeFor, isFailure, leavingAs, closing};
-ghost use Rattle.packets_end.specs.Over.{overPackets, overJob, closedJob, endingOf};
+ghost use Rattle.packets_end.specs.Over.{brokenFor, overPackets, overJob, closedJob, endingOf};
 
 fn is_stopping(status: Status) -> bool
     ensures { λ r. ⌜ r ≡ isStopping status ⌝ }
@@ -75,14 +75,27 @@ fn is_failure(how: How) -> bool
     }
 }
 
-// Whether a completion on what the channel has is a failure on a unit other than the drum, which sets its interlock.
-pub fn is_breaking(how: How, has: Fitted) -> bool
-    ensures { λ r. ⌜ r ≡ isFailure how && not (isDrumOf has) ⌝ }
+// Whether a completion is a failure on a unit other than the drum, which sets its interlock.
+pub fn is_breaking(how: How, at: Site) -> bool
+    ensures { λ r. ⌜ r ≡ isFailure how && isUnit at ⌝ }
 {
     if !is_failure(how) {
         return false;
     }
-    !packets_channels::is_drum(has)
+    match at {
+        Site::AtUnit(_) => true,
+        Site::AtAddress(_) => false,
+    }
+}
+
+// The packets after a failure where one of them is: the unit's listed ones end with 01.
+fn broken(ps: [Packet; 16], c: ChannelNumber, at: Site) -> [Packet; 16]
+    ensures { λ r. ⌜ r ≡ brokenFor ps (c .0) at ⌝ }
+{
+    match at {
+        Site::AtUnit(u) => packets_job::all_changed(ps, Aim::Failing(c, u)),
+        Site::AtAddress(_) => ps,
+    }
 }
 
 // The job's packets after a completion of packet p on channel c; a failure there ends the unit's listed packets with
@@ -95,7 +108,8 @@ fn packets_over(ps: [Packet; 16], p: u8, how: How, c: ChannelNumber, breaking: b
         return ended;
     }
     let q = packets_job::packet_in(ps, p);
-    packets_job::all_changed(ended, Aim::Failing(c, q.at))
+    let at = q.at;
+    broken(ended, c, at)
 }
 
 fn is_closing(state: JobState) -> bool

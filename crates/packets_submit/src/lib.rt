@@ -5,6 +5,7 @@ use numbers::Refusal;
 use packets::Aim;
 use packets::Job;
 use packets::Packet;
+use packets::Site;
 use packets::Spot;
 use packets::Status;
 use packets::Verdict;
@@ -14,27 +15,17 @@ ghost use mathlib.Core.Path.{_≡_};
 ghost use mathlib.Core.Bool.{not, _&&_};
 ghost use Rattle.numbers.specs.declared.Refusal.the-variants.{OutOfRange, NoJob, NotTheJobs, NotLegal, PacketInUse};
 ghost use Rattle.packets.specs.declared.Verdict.the-variants.{Granted};
-ghost use Rattle.packets.specs.State.{isBusy, isDrumOf, legalFor};
-ghost use Rattle.packets.specs.Rules.{atOf, toOf, first, inRange, inArea, isOwn, submitRefusal};
+ghost use Rattle.packets.specs.State.{isBusy, legalFor};
+ghost use Rattle.packets.specs.Rules.{siteOf, first, inRange, inArea, isOwn, submitRefusal};
 ghost use Rattle.packets_submit.specs.After.{isListing, isUnlocking, madeFor, sweptFor, jobAfter};
 
 // The unit, or the address X or L.
-pub fn at_of(spot: Spot) -> u32
-    ensures { λ r. ⌜ r ≡ atOf spot ⌝ }
+pub fn site_of(spot: Spot) -> Site
+    ensures { λ r. ⌜ r ≡ siteOf spot ⌝ }
 {
     match spot {
-        Spot::OnUnit(u) => u.0 as u32,
-        Spot::OnDrum(x, _) => x,
-    }
-}
-
-// H, which only 23 on the drum reads.
-fn to_of(spot: Spot) -> u32
-    ensures { λ r. ⌜ r ≡ toOf spot ⌝ }
-{
-    match spot {
-        Spot::OnUnit(_) => 0,
-        Spot::OnDrum(_, h) => h,
+        Spot::OnUnit(u) => Site::AtUnit(u),
+        Spot::OnDrum(x, _) => Site::AtAddress(x),
     }
 }
 
@@ -67,17 +58,19 @@ fn in_area(job: Job, x: u32) -> bool
     x - job.from < job.words
 }
 
-// Whether the unit or the drum address is the job's; for 23 on the drum having an area is enough.
-fn is_own(drum: bool, job: Job, holder: Holder, j: u8, f: u8, a: u32) -> bool
-    ensures { λ r. ⌜ r ≡ isOwn drum job holder j f a ⌝ }
+// Whether the unit, by its holder, or the drum address is the job's; for 23 on the drum having an area is enough.
+fn is_own(job: Job, holder: Holder, j: u8, f: u8, spot: Spot) -> bool
+    ensures { λ r. ⌜ r ≡ isOwn job holder j f spot ⌝ }
 {
-    if drum {
-        if f == 0o23 {
-            return 0 < job.words;
+    match spot {
+        Spot::OnUnit(_) => packets_units::is_held_by(holder, j),
+        Spot::OnDrum(x, _) => {
+            if f == 0o23 {
+                return 0 < job.words;
+            }
+            in_area(job, x)
         }
-        return in_area(job, a);
     }
-    packets_units::is_held_by(holder, j)
 }
 
 // Whether a function is legal on what the channel has.
@@ -147,27 +140,17 @@ pub fn verdict(
     lowest(
         in_range(has, j, p, f, c, spot),
         packets_job::is_running(state),
-        is_own(
-            packets_channels::is_drum(has),
-            job,
-            holder,
-            j,
-            f,
-            at_of(spot),
-        ),
+        is_own(job, holder, j, f, spot),
         is_legal(has, f),
         is_busy(status),
     )
 }
 
-// Whether 07 has an interlock to remove, by what the channel has and the unit: the drum never has one.
-pub fn is_unlocking(f: u8, has: Fitted, unit: Unit) -> bool
-    ensures { λ r. ⌜ r ≡ isUnlocking f (isDrumOf has) (unit .interlock) ⌝ }
+// Whether 07 has an interlock to remove, by the unit.
+pub fn is_unlocking(f: u8, unit: Unit) -> bool
+    ensures { λ r. ⌜ r ≡ isUnlocking f (unit .interlock) ⌝ }
 {
     if f != 0o07 {
-        return false;
-    }
-    if packets_channels::is_drum(has) {
         return false;
     }
     unit.interlock
@@ -184,64 +167,49 @@ pub fn is_listing(f: u8) -> bool
 }
 
 // The packet as it is submitted: listed, or ended with 00.
-fn made(f: u8, c: ChannelNumber, a: u32) -> Packet
-    ensures { λ r. ⌜ r ≡ madeFor f (c .0) a ⌝ }
+fn made(f: u8, c: ChannelNumber, at: Site) -> Packet
+    ensures { λ r. ⌜ r ≡ madeFor f (c .0) at ⌝ }
 {
     if is_listing(f) {
         return Packet {
             status: Status::Listed,
             function: f,
             channel: c,
-            at: a,
+            at,
         };
     }
     Packet {
         status: Status::Ended(0),
         function: f,
         channel: c,
-        at: a,
+        at,
     }
 }
 
-// The job's other packets: 07 under interlock ends the unit's listed ones with 01, 23 those that it is for with 16
-// octal.
-fn swept(
-    ps: [Packet; 16],
-    f: u8,
-    c: ChannelNumber,
-    a: u32,
-    b: u32,
-    drum: bool,
-    unlocking: bool,
-) -> [Packet; 16]
-    ensures { λ r. ⌜ r ≡ sweptFor ps f (c .0) a b drum unlocking ⌝ }
+// The job's other packets: 07 under interlock, which only a unit has, ends the unit's listed ones with 01, 23 those
+// that it is for with 16 octal.
+fn swept(ps: [Packet; 16], f: u8, c: ChannelNumber, spot: Spot, unlocking: bool) -> [Packet; 16]
+    ensures { λ r. ⌜ r ≡ sweptFor ps f (c .0) spot unlocking ⌝ }
 {
     if unlocking {
-        return packets_job::all_changed(ps, Aim::Failing(c, a));
+        return match spot {
+            Spot::OnUnit(u) => packets_job::all_changed(ps, Aim::Failing(c, u)),
+            Spot::OnDrum(_, _) => ps,
+        };
     }
     if f == 0o23 {
-        return packets_job::all_changed(ps, Aim::Cutting(drum, c, a, b));
+        return packets_job::all_changed(ps, Aim::Cutting(c, spot));
     }
     ps
 }
 
-// The job after an accepted submission of packet p, by what the channel has.
-pub fn job_after(
-    job: Job,
-    p: u8,
-    f: u8,
-    c: ChannelNumber,
-    spot: Spot,
-    has: Fitted,
-    unlocking: bool,
-) -> Job
-    ensures { λ r. ⌜ r ≡ jobAfter job p f (c .0) (atOf spot) (toOf spot) (isDrumOf has) unlocking ⌝ }
+// The job after an accepted submission of packet p.
+pub fn job_after(job: Job, p: u8, f: u8, c: ChannelNumber, spot: Spot, unlocking: bool) -> Job
+    ensures { λ r. ⌜ r ≡ jobAfter job p f (c .0) spot unlocking ⌝ }
 {
     let ps = job.packets;
-    let at = at_of(spot);
-    let drum = packets_channels::is_drum(has);
-    let others = swept(ps, f, c, at, to_of(spot), drum, unlocking);
-    let packet = made(f, c, at);
+    let others = swept(ps, f, c, spot, unlocking);
+    let packet = made(f, c, site_of(spot));
     let qs = packets_job::with_packet(others, p, packet);
     let mut next = job;
     next.packets = qs;

@@ -53,9 +53,6 @@ mul-idle c = search needs
 element-set-from-idle : tie.Need-element-set-from-idle
 element-set-from-idle c = search needs
 
-fitted-on-requires : tie.Need-fitted-on-requires
-fitted-on-requires c κs = search needs
-
 is-breaking-requires : tie.Need-is-breaking-requires
 is-breaking-requires c κs = search needs
 
@@ -80,16 +77,16 @@ returns c = let a = c .before .before .before .before .before .before .before .b
     (complete-verdict (a .lists) (a .channel .0) (a .how) _ refl (c .before .before .before .before .before .before .before .before .place-of .result) (c .before .before .before .before .before .before .before .packet-of .result) (c .before .before .before .before .before .before .before .before .place-of .ensures) (c .before .before .before .before .before .before .before .packet-of .ensures) (c .before .before .before .before .packet-in .result) (c .before .before .before .before .packet-in .ensures) (c .before .before .before .of-complete .result) (c .before .before .before .of-complete .ensures) ∙ c .before .refusal .given .1)
 
 returns-2 : tie.Need-returns-2
-returns-2 c = let a = c .before .before .before .before .before .before .before .before .before .before .before .before .before .before .before .before .before .before .before .before .before .before .args in
-    complete-is (a .lists) (a .channel .0) (a .how) _ refl (c .before .before .before .before .before .before .before .before .before .before .before .before .before .before .before .before .before .before .place-of .result) (c .before .before .before .before .before .before .before .before .before .before .before .before .before .before .before .before .before .packet-of .result) (c .before .before .before .before .before .before .before .before .before .before .before .before .before .before .before .before .before .before .place-of .ensures) (c .before .before .before .before .before .before .before .before .before .before .before .before .before .before .before .before .before .packet-of .ensures) (c .before .before .before .before .before .before .before .before .before .before .before .before .before .before .packet-in .result) (c .before .before .before .before .before .before .before .before .before .before .before .before .before .before .packet-in .ensures) (places (a .lists) _ (c .before .before .before .before .before .before .before .before .before .before .before .before .before .before .before .before .before .before .before .before .before .before .good .0))
-    (complete-verdict (a .lists) (a .channel .0) (a .how) _ refl (c .before .before .before .before .before .before .before .before .before .before .before .before .before .before .before .before .before .before .place-of .result) (c .before .before .before .before .before .before .before .before .before .before .before .before .before .before .before .before .before .packet-of .result) (c .before .before .before .before .before .before .before .before .before .before .before .before .before .before .before .before .before .before .place-of .ensures) (c .before .before .before .before .before .before .before .before .before .before .before .before .before .before .before .before .before .packet-of .ensures) (c .before .before .before .before .before .before .before .before .before .before .before .before .before .before .packet-in .result) (c .before .before .before .before .before .before .before .before .before .before .before .before .before .before .packet-in .ensures) (c .before .before .before .before .before .before .before .before .before .before .before .before .before .of-complete .result) (c .before .before .before .before .before .before .before .before .before .before .before .before .before .of-complete .ensures) ∙ c .before .before .before .before .before .before .before .before .before .before .before .enum-told .given .1)
-    (c .before .before .before .before .before .before .before .before .fitted-on .result) (c .before .before .before .before .before .before .before .before .fitted-on .ensures) (c .before .before .before .before .before .before .before .before .before .before .idle .result) (c .before .before .before .before .before .before .before .before .before .before .idle .ensures) (c .before .before .before .before .before .before .before .is-breaking .result) (c .before .before .before .before .before .before .before .is-breaking .ensures) (c .before .before .before .before .before .before .over .result) (c .before .before .before .before .before .before .over .ensures) (c .before .before .before .relisted .result) (c .before .before .before .relisted .ensures) (c .units-of .result) (c .units-of .ensures)
-
-returns-3 : tie.Need-returns-3
-returns-3 c = let a = c .before .before .before .before .before .before .before .before .before .before .before .before .before .before .before .before .before .before .before .before .before .args in
+returns-2 c = let a = c .before .before .before .before .before .before .before .before .before .before .before .before .before .before .before .before .before .before .before .before .before .args in
     complete-is (a .lists) (a .channel .0) (a .how) _ refl (c .before .before .before .before .before .before .before .before .before .before .before .before .before .before .before .before .before .place-of .result) (c .before .before .before .before .before .before .before .before .before .before .before .before .before .before .before .before .packet-of .result) (c .before .before .before .before .before .before .before .before .before .before .before .before .before .before .before .before .before .place-of .ensures) (c .before .before .before .before .before .before .before .before .before .before .before .before .before .before .before .before .packet-of .ensures) (c .before .before .before .before .before .before .before .before .before .before .before .before .before .packet-in .result) (c .before .before .before .before .before .before .before .before .before .before .before .before .before .packet-in .ensures) (places (a .lists) _ (c .before .before .before .before .before .before .before .before .before .before .before .before .before .before .before .before .before .before .before .before .before .good .0))
     (complete-verdict (a .lists) (a .channel .0) (a .how) _ refl (c .before .before .before .before .before .before .before .before .before .before .before .before .before .before .before .before .before .place-of .result) (c .before .before .before .before .before .before .before .before .before .before .before .before .before .before .before .before .packet-of .result) (c .before .before .before .before .before .before .before .before .before .before .before .before .before .before .before .before .before .place-of .ensures) (c .before .before .before .before .before .before .before .before .before .before .before .before .before .before .before .before .packet-of .ensures) (c .before .before .before .before .before .before .before .before .before .before .before .before .before .packet-in .result) (c .before .before .before .before .before .before .before .before .before .before .before .before .before .packet-in .ensures) (c .before .before .before .before .before .before .before .before .before .before .before .before .of-complete .result) (c .before .before .before .before .before .before .before .before .before .before .before .before .of-complete .ensures) ∙ c .before .before .before .before .before .before .before .before .before .before .enum-told .given .1)
-    (c .before .before .before .before .before .before .before .fitted-on .result) (c .before .before .before .before .before .before .before .fitted-on .ensures) (c .before .before .before .before .before .before .before .before .before .idle .result) (c .before .before .before .before .before .before .before .before .before .idle .ensures) (c .before .before .before .before .before .before .is-breaking .result) (c .before .before .before .before .before .before .is-breaking .ensures) (c .before .before .before .before .before .over .result) (c .before .before .before .before .before .over .ensures) (c .before .before .relisted .result) (c .before .before .relisted .ensures) (a .lists .units) (rw (c .before .if1 .left, c .if2 .left) refl)
+    (c .before .before .before .before .before .before .before .before .before .idle .result) (c .before .before .before .before .before .before .before .before .before .idle .ensures) (c .before .before .before .before .before .before .before .is-breaking .result) (c .before .before .before .before .before .before .before .is-breaking .ensures) (c .before .before .before .before .before .before .over .result) (c .before .before .before .before .before .before .over .ensures) (c .before .before .before .relisted .result) (c .before .before .before .relisted .ensures) (c .units-of .result) (c .units-of .ensures)
+
+returns-3 : tie.Need-returns-3
+returns-3 c = let a = c .before .before .before .before .before .before .before .before .before .before .before .before .before .before .before .before .before .before .before .before .args in
+    complete-is (a .lists) (a .channel .0) (a .how) _ refl (c .before .before .before .before .before .before .before .before .before .before .before .before .before .before .before .before .place-of .result) (c .before .before .before .before .before .before .before .before .before .before .before .before .before .before .before .packet-of .result) (c .before .before .before .before .before .before .before .before .before .before .before .before .before .before .before .before .place-of .ensures) (c .before .before .before .before .before .before .before .before .before .before .before .before .before .before .before .packet-of .ensures) (c .before .before .before .before .before .before .before .before .before .before .before .before .packet-in .result) (c .before .before .before .before .before .before .before .before .before .before .before .before .packet-in .ensures) (places (a .lists) _ (c .before .before .before .before .before .before .before .before .before .before .before .before .before .before .before .before .before .before .before .before .good .0))
+    (complete-verdict (a .lists) (a .channel .0) (a .how) _ refl (c .before .before .before .before .before .before .before .before .before .before .before .before .before .before .before .before .place-of .result) (c .before .before .before .before .before .before .before .before .before .before .before .before .before .before .before .packet-of .result) (c .before .before .before .before .before .before .before .before .before .before .before .before .before .before .before .before .place-of .ensures) (c .before .before .before .before .before .before .before .before .before .before .before .before .before .before .before .packet-of .ensures) (c .before .before .before .before .before .before .before .before .before .before .before .before .packet-in .result) (c .before .before .before .before .before .before .before .before .before .before .before .before .packet-in .ensures) (c .before .before .before .before .before .before .before .before .before .before .before .of-complete .result) (c .before .before .before .before .before .before .before .before .before .before .before .of-complete .ensures) ∙ c .before .before .before .before .before .before .before .before .before .enum-told .given .1)
+    (c .before .before .before .before .before .before .before .before .idle .result) (c .before .before .before .before .before .before .before .before .idle .ensures) (c .before .before .before .before .before .before .is-breaking .result) (c .before .before .before .before .before .before .is-breaking .ensures) (c .before .before .before .before .before .over .result) (c .before .before .before .before .before .over .ensures) (c .before .before .relisted .result) (c .before .before .relisted .ensures) (a .lists .units) (rw (c .before .if1 .left, c .if2 .left) refl)
 
 pub complete-spec : {M : Type 1} → statement M
 complete-spec =
@@ -110,7 +107,6 @@ complete-spec =
     idle-requires
     mul-idle
     element-set-from-idle
-    fitted-on-requires
     is-breaking-requires
     over-requires
     mul-gone

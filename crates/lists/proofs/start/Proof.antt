@@ -9,12 +9,6 @@ use borrow.Author.Needs.{needs}
 use Rattle.lists.proofs.start.Statement.{statement}
 use Rattle.lists.proofs.start.Tie as tie
 
-fitted-on-requires : tie.Need-fitted-on-requires
-fitted-on-requires c κs = search needs
-
-is-drum-requires : tie.Need-is-drum-requires
-is-drum-requires c κs = search needs
-
 oldest-requires : tie.Need-oldest-requires
 oldest-requires c κs = search needs
 
@@ -73,23 +67,21 @@ element-set-from-busy : tie.Need-element-set-from-busy
 element-set-from-busy c = search needs
 
 returns : tie.Need-returns
-returns c = let a = c .before .before .before .before .before .before .before .before .before .before .before .before .before .args in
+returns c = let a = c .before .before .before .before .before .before .before .before .before .before .before .args in
     refused-is (a .lists) (Start (a .channel .0)) _
-    (start-verdict (a .lists) (a .channel .0) (c .before .before .before .before .before .before .before .is-drum .result) (rw (← c .before .before .before .before .before .before .before .before .fitted-on .ensures) (c .before .before .before .before .before .before .before .is-drum .ensures)) (c .before .before .before .before .before .before .oldest .result) (c .before .before .before .before .before .before .oldest .ensures) (c .before .before .before .of-start .result) (c .before .before .before .of-start .ensures) ∙ c .before .refusal .given .1)
+    (start-verdict (a .lists) (a .channel .0) (c .before .before .before .before .before .before .oldest .result) (c .before .before .before .before .before .before .oldest .ensures) (c .before .before .before .of-start .result) (c .before .before .before .of-start .ensures) ∙ c .before .refusal .given .1)
 
 returns-2 : tie.Need-returns-2
 unfolding placeOf packetOf
-returns-2 c = let a = c .before .before .before .before .before .before .before .before .before .before .before .before .before .before .before .before .before .before .before .args in
-    start-is (a .lists) (a .channel .0) (c .before .before .before .before .before .before .before .before .before .before .before .before .before .is-drum .result) (rw (← c .before .before .before .before .before .before .before .before .before .before .before .before .before .before .fitted-on .ensures) (c .before .before .before .before .before .before .before .before .before .before .before .before .before .is-drum .ensures)) (c .before .before .before .before .before .before .before .before .before .before .before .before .oldest .result) (c .before .before .before .before .before .before .before .before .before .before .before .before .oldest .ensures) (places (a .lists) _ (c .before .before .before .before .before .before .before .before .before .before .before .before .before .before .before .before .before .before .before .good .0))
-    (start-verdict (a .lists) (a .channel .0) (c .before .before .before .before .before .before .before .before .before .before .before .before .before .is-drum .result) (rw (← c .before .before .before .before .before .before .before .before .before .before .before .before .before .before .fitted-on .ensures) (c .before .before .before .before .before .before .before .before .before .before .before .before .before .is-drum .ensures)) (c .before .before .before .before .before .before .before .before .before .before .before .before .oldest .result) (c .before .before .before .before .before .before .before .before .before .before .before .before .oldest .ensures) (c .before .before .before .before .before .before .before .before .before .of-start .result) (c .before .before .before .before .before .before .before .before .before .of-start .ensures) ∙ c .before .before .before .before .before .before .before .enum-told .given .1)
+returns-2 c = let a = c .before .before .before .before .before .before .before .before .before .before .before .before .before .before .before .before .before .args in
+    start-is (a .lists) (a .channel .0) (c .before .before .before .before .before .before .before .before .before .before .before .before .oldest .result) (c .before .before .before .before .before .before .before .before .before .before .before .before .oldest .ensures) (places (a .lists) _ (c .before .before .before .before .before .before .before .before .before .before .before .before .before .before .before .before .before .good .0))
+    (start-verdict (a .lists) (a .channel .0) (c .before .before .before .before .before .before .before .before .before .before .before .before .oldest .result) (c .before .before .before .before .before .before .before .before .before .before .before .before .oldest .ensures) (c .before .before .before .before .before .before .before .before .before .of-start .result) (c .before .before .before .before .before .before .before .before .before .of-start .ensures) ∙ c .before .before .before .before .before .before .before .enum-told .given .1)
     (c .before .before .before .before .before .before .entry-of .result) (c .before .before .before .before .before .before .entry-of .ensures) (search needs) (c .before .before .with-status-at .result) (c .before .before .with-status-at .ensures) (c .before .before .before .started .result) (c .before .before .before .started .ensures) (c .before .relisted .result) (c .before .relisted .ensures) (c .busy-with .result) (c .busy-with .ensures)
 
 pub start-spec : {M : Type 1} → statement M
 start-spec =
     tie.close
     (tie.spec
-    fitted-on-requires
-    is-drum-requires
     oldest-requires
     cast-c
     mul-carrier

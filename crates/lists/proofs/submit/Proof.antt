@@ -11,11 +11,8 @@ use Rattle.lists.proofs.submit.Tie as tie
 fitted-on-requires : tie.Need-fitted-on-requires
 fitted-on-requires c κs = search needs
 
-at-of-requires : tie.Need-at-of-requires
-at-of-requires c κs = search needs
-
-unit-numbered-requires : tie.Need-unit-numbered-requires
-unit-numbered-requires c κs = search needs
+unit-of-requires : tie.Need-unit-of-requires
+unit-of-requires c κs = search needs
 
 cast-i : tie.Need-cast-i
 cast-i c = search needs
@@ -50,24 +47,27 @@ element-set-from-gone c = search needs
 list-of-requires : tie.Need-list-of-requires
 list-of-requires c κs = search needs
 
-with-lock-requires : tie.Need-with-lock-requires
-with-lock-requires c κs = search needs
+site-of-requires : tie.Need-site-of-requires
+site-of-requires c κs = search needs
+
+with-lock-at-requires : tie.Need-with-lock-at-requires
+with-lock-at-requires c κs = search needs
 
 returns : tie.Need-returns
-returns c = let a = c .before .before .before .before .before .before .before .before .before .before .args in
+returns c = let a = c .before .before .before .before .before .before .before .before .before .args in
     refused-is (a .lists) (Submit (a .place) (a .packet) (a .function) (a .channel .0) (a .spot)) _
-    (submit-verdict (a .lists) (a .place) (a .packet) (a .function) (a .channel .0) (a .spot) (c .before .before .before .before .before .before .before .fitted-on .result) (c .before .before .before .before .before .before .before .fitted-on .ensures) (c .before .before .before .before .before .unit-numbered .result) (rw (← c .before .before .before .before .before .before .at-of .ensures) (c .before .before .before .before .before .unit-numbered .ensures)) (c .before .before .before .verdict .result) (c .before .before .before .verdict .ensures) ∙ c .before .refusal .given .1)
+    (submit-verdict (a .lists) (a .place) (a .packet) (a .function) (a .channel .0) (a .spot) (c .before .before .before .before .before .before .fitted-on .result) (c .before .before .before .before .before .before .fitted-on .ensures) (c .before .before .before .before .before .unit-of .result) (c .before .before .before .before .before .unit-of .ensures) (c .before .before .before .verdict .result) (c .before .before .before .verdict .ensures) ∙ c .before .refusal .given .1)
 
 returns-2 : tie.Need-returns-2
 returns-2 c = let a = c .before .before .before .before .before .before .before .before .before .before .before .before .before .before .before .args in
-    submit-is (a .lists) (a .place) (a .packet) (a .function) (a .channel .0) (a .spot) (c .before .before .before .before .before .before .before .before .before .before .before .before .fitted-on .result) (c .before .before .before .before .before .before .before .before .before .before .before .before .fitted-on .ensures) (c .before .before .before .before .before .before .before .before .before .before .unit-numbered .result) (rw (← c .before .before .before .before .before .before .before .before .before .before .before .at-of .ensures) (c .before .before .before .before .before .before .before .before .before .before .unit-numbered .ensures)) (places (a .lists) _ (c .before .before .before .before .before .before .before .before .before .before .before .before .before .before .before .good .0))
-    (submit-verdict (a .lists) (a .place) (a .packet) (a .function) (a .channel .0) (a .spot) (c .before .before .before .before .before .before .before .before .before .before .before .before .fitted-on .result) (c .before .before .before .before .before .before .before .before .before .before .before .before .fitted-on .ensures) (c .before .before .before .before .before .before .before .before .before .before .unit-numbered .result) (rw (← c .before .before .before .before .before .before .before .before .before .before .before .at-of .ensures) (c .before .before .before .before .before .before .before .before .before .before .unit-numbered .ensures)) (c .before .before .before .before .before .before .before .before .verdict .result) (c .before .before .before .before .before .before .before .before .verdict .ensures) ∙ c .before .before .before .before .before .before .enum-told .given .1)
-    (c .before .before .before .before .before .is-unlocking .result) (c .before .before .before .before .before .is-unlocking .ensures) (c .before .before .before .before .job-after .result) (c .before .before .before .before .job-after .ensures) (c .before .before .list-of .result) (c .before .before .list-of .ensures) (c .with-lock .result) (rw (c .before .if1 .taken, ← c .before .before .before .before .before .before .before .before .before .before .before .at-of .ensures) (c .with-lock .ensures))
+    submit-is (a .lists) (a .place) (a .packet) (a .function) (a .channel .0) (a .spot) (c .before .before .before .before .before .before .before .before .before .before .before .before .fitted-on .result) (c .before .before .before .before .before .before .before .before .before .before .before .before .fitted-on .ensures) (c .before .before .before .before .before .before .before .before .before .before .before .unit-of .result) (c .before .before .before .before .before .before .before .before .before .before .before .unit-of .ensures) (places (a .lists) _ (c .before .before .before .before .before .before .before .before .before .before .before .before .before .before .before .good .0))
+    (submit-verdict (a .lists) (a .place) (a .packet) (a .function) (a .channel .0) (a .spot) (c .before .before .before .before .before .before .before .before .before .before .before .before .fitted-on .result) (c .before .before .before .before .before .before .before .before .before .before .before .before .fitted-on .ensures) (c .before .before .before .before .before .before .before .before .before .before .before .unit-of .result) (c .before .before .before .before .before .before .before .before .before .before .before .unit-of .ensures) (c .before .before .before .before .before .before .before .before .before .verdict .result) (c .before .before .before .before .before .before .before .before .before .verdict .ensures) ∙ c .before .before .before .before .before .before .before .enum-told .given .1)
+    (c .before .before .before .before .before .before .is-unlocking .result) (c .before .before .before .before .before .before .is-unlocking .ensures) (c .before .before .before .before .before .job-after .result) (c .before .before .before .before .before .job-after .ensures) (c .before .before .before .list-of .result) (c .before .before .before .list-of .ensures) (c .with-lock-at .result) (rw (c .before .before .if1 .taken, ← c .before .site-of .ensures) (c .with-lock-at .ensures))
 
 returns-3 : tie.Need-returns-3
-returns-3 c = let a = c .before .before .before .before .before .before .before .before .before .before .before .before .before .before .args in
-    submit-is (a .lists) (a .place) (a .packet) (a .function) (a .channel .0) (a .spot) (c .before .before .before .before .before .before .before .before .before .before .before .fitted-on .result) (c .before .before .before .before .before .before .before .before .before .before .before .fitted-on .ensures) (c .before .before .before .before .before .before .before .before .before .unit-numbered .result) (rw (← c .before .before .before .before .before .before .before .before .before .before .at-of .ensures) (c .before .before .before .before .before .before .before .before .before .unit-numbered .ensures)) (places (a .lists) _ (c .before .before .before .before .before .before .before .before .before .before .before .before .before .before .good .0))
-    (submit-verdict (a .lists) (a .place) (a .packet) (a .function) (a .channel .0) (a .spot) (c .before .before .before .before .before .before .before .before .before .before .before .fitted-on .result) (c .before .before .before .before .before .before .before .before .before .before .before .fitted-on .ensures) (c .before .before .before .before .before .before .before .before .before .unit-numbered .result) (rw (← c .before .before .before .before .before .before .before .before .before .before .at-of .ensures) (c .before .before .before .before .before .before .before .before .before .unit-numbered .ensures)) (c .before .before .before .before .before .before .before .verdict .result) (c .before .before .before .before .before .before .before .verdict .ensures) ∙ c .before .before .before .before .before .enum-told .given .1)
+returns-3 c = let a = c .before .before .before .before .before .before .before .before .before .before .before .before .before .args in
+    submit-is (a .lists) (a .place) (a .packet) (a .function) (a .channel .0) (a .spot) (c .before .before .before .before .before .before .before .before .before .before .fitted-on .result) (c .before .before .before .before .before .before .before .before .before .before .fitted-on .ensures) (c .before .before .before .before .before .before .before .before .before .unit-of .result) (c .before .before .before .before .before .before .before .before .before .unit-of .ensures) (places (a .lists) _ (c .before .before .before .before .before .before .before .before .before .before .before .before .before .good .0))
+    (submit-verdict (a .lists) (a .place) (a .packet) (a .function) (a .channel .0) (a .spot) (c .before .before .before .before .before .before .before .before .before .before .fitted-on .result) (c .before .before .before .before .before .before .before .before .before .before .fitted-on .ensures) (c .before .before .before .before .before .before .before .before .before .unit-of .result) (c .before .before .before .before .before .before .before .before .before .unit-of .ensures) (c .before .before .before .before .before .before .before .verdict .result) (c .before .before .before .before .before .before .before .verdict .ensures) ∙ c .before .before .before .before .before .enum-told .given .1)
     (c .before .before .before .before .is-unlocking .result) (c .before .before .before .before .is-unlocking .ensures) (c .before .before .before .job-after .result) (c .before .before .before .job-after .ensures) (c .before .list-of .result) (c .before .list-of .ensures) (a .lists .units) (rw (c .if1 .left) refl)
 
 pub submit-spec : {M : Type 1} → statement M
@@ -75,8 +75,7 @@ submit-spec =
     tie.close
     (tie.spec
     fitted-on-requires
-    at-of-requires
-    unit-numbered-requires
+    unit-of-requires
     cast-i
     mul-job
     element-copy-out-job
@@ -88,7 +87,8 @@ submit-spec =
     mul-gone
     element-set-from-gone
     list-of-requires
-    with-lock-requires
+    site-of-requires
+    with-lock-at-requires
     returns
     returns-2
     returns-3)

@@ -1,7 +1,7 @@
 -- `packets_end::is_breaking` meets its contract. Assumes nothing.
 use mathlib.Core.Path.{sym, _∙_}
-use borrow.Author.Needs.{needs}
 use borrow.Author.Tests.{not-false, not-true}
+use borrow.Author.Needs.{needs}
 use Rattle.packets_end.proofs.is_breaking.Statement.{statement}
 use Rattle.packets_end.proofs.is_breaking.Tie as tie
 
@@ -11,11 +11,18 @@ is-failure-requires c κs = search needs
 returns : tie.Need-returns
 returns c = rw (sym (c .before .is-failure .ensures) ∙ not-true _ (c .if1 .taken))
 
-is-drum-requires : tie.Need-is-drum-requires
-is-drum-requires c κs = search needs
+enum-told : tie.Need-enum-told
+enum-told c = search needs
+
+enum-told-2 : tie.Need-enum-told-2
+enum-told-2 c = search needs
 
 returns-2 : tie.Need-returns-2
-returns-2 c = rw (sym (c .before .before .is-failure .ensures) ∙ not-false _ (c .before .if1 .left), c .is-drum .ensures)
+returns-2 c = rw (sym (c .before .before .before .is-failure .ensures) ∙ not-false _ (c .before .before .if1 .left), c .enum-told .given .1)
+
+returns-3 : tie.Need-returns-3
+returns-3 c = rw (sym (c .before .before .before .is-failure .ensures) ∙ not-false _ (c .before .before .if1 .left), c .enum-told2 .given .1)
 
 pub is-breaking-spec : {M : Type 1} → statement M
-is-breaking-spec = tie.close (tie.spec is-failure-requires returns is-drum-requires returns-2)
+is-breaking-spec =
+    tie.close (tie.spec is-failure-requires returns enum-told enum-told-2 returns-2 returns-3)

@@ -16,11 +16,11 @@ returns c = rw (c .before .with-status-at .ensures, c .before .before .code-for 
 packet-in-requires : tie.Need-packet-in-requires
 packet-in-requires c κs = search needs
 
-all-changed-requires : tie.Need-all-changed-requires
-all-changed-requires c κs = search needs
+broken-requires : tie.Need-broken-requires
+broken-requires c κs = search needs
 
 returns-2 : tie.Need-returns-2
-returns-2 c = rw (c .all-changed .ensures, c .before .packet-in .ensures, c .before .before .before .with-status-at .ensures, c .before .before .before .before .code-for .ensures, not-false (c .before .before .before .before .before .args .breaking) (c .before .before .if1 .left))
+returns-2 c = rw (c .broken .ensures, c .before .packet-in .ensures, c .before .before .before .with-status-at .ensures, c .before .before .before .before .code-for .ensures, not-false (c .before .before .before .before .before .args .breaking) (c .before .before .if1 .left))
 
 pub packets-over-spec : {M : Type 1} → statement M
 packets-over-spec =
@@ -30,5 +30,5 @@ packets-over-spec =
     with-status-at-requires
     returns
     packet-in-requires
-    all-changed-requires
+    broken-requires
     returns-2)

@@ -12,12 +12,6 @@ in-range-requires c κs = search needs
 is-running-requires : tie.Need-is-running-requires
 is-running-requires c κs = search needs
 
-is-drum-requires : tie.Need-is-drum-requires
-is-drum-requires c κs = search needs
-
-at-of-requires : tie.Need-at-of-requires
-at-of-requires c κs = search needs
-
 is-own-requires : tie.Need-is-own-requires
 is-own-requires c κs = search needs
 
@@ -31,7 +25,7 @@ lowest-requires : tie.Need-lowest-requires
 lowest-requires c κs = search needs
 
 returns : tie.Need-returns
-returns c = rw (c .lowest .ensures, c .before .is-busy .ensures, c .before .before .is-legal .ensures, c .before .before .before .is-own .ensures, c .before .before .before .before .at-of .ensures, c .before .before .before .before .before .is-drum .ensures, c .before .before .before .before .before .before .is-running .ensures, c .before .before .before .before .before .before .before .in-range .ensures, c .before .before .before .before .before .before .before .before .packet-in .ensures)
+returns c = rw (c .lowest .ensures, c .before .is-busy .ensures, c .before .before .is-legal .ensures, c .before .before .before .is-own .ensures, c .before .before .before .before .is-running .ensures, c .before .before .before .before .before .in-range .ensures, c .before .before .before .before .before .before .packet-in .ensures)
 
 pub verdict-spec : {M : Type 1} → statement M
 verdict-spec =
@@ -40,8 +34,6 @@ verdict-spec =
     packet-in-requires
     in-range-requires
     is-running-requires
-    is-drum-requires
-    at-of-requires
     is-own-requires
     is-legal-requires
     is-busy-requires
