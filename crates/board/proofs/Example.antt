@@ -20,6 +20,7 @@ use Rattle.units.specs.declared.Unit as U
 use Rattle.channels.specs.Channels.{fitted, noChannels}
 use Rattle.packets.specs.State.{placeOf, packetOf, blank, noJob}
 use Rattle.packets.specs.declared.Packet.{Packet}
+use Rattle.packets.specs.declared.Site.the-variants.{AtUnit}
 use Rattle.packets.specs.declared.Status.the-variants.{InProgress, Listed}
 use Rattle.packets.specs.declared.JobState.the-variants.{Running}
 use Rattle.packets.specs.declared.Job.{Job}
@@ -60,10 +61,10 @@ unfoldable pub unit : Bool → U.Unit
 unit lock = record { holder = Held 0; down = false; reserved = false; interlock = lock }
 
 unfoldable pub moving : Packet
-moving = record { status = InProgress; function = 2; channel = record { 0 = 3 }; at = 0 }
+moving = record { status = InProgress; function = 2; channel = record { 0 = 3 }; at = AtUnit (record { 0 = 0 }) }
 
 unfoldable pub listed : Packet
-listed = record { status = Listed; function = 2; channel = record { 0 = 3 }; at = 1 }
+listed = record { status = Listed; function = 2; channel = record { 0 = 3 }; at = AtUnit (record { 0 = 1 }) }
 
 unfoldable pub job : Job
 job =

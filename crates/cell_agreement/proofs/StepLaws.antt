@@ -16,7 +16,7 @@ use Rattle.schedule.specs.Calls as Schedules
 use Rattle.packets.proofs.Laws.{and-left}
 use Rattle.packets.specs.Picks.{find}
 use Rattle.packets.specs.Rules as Rules
-use Rattle.packets.specs.Rules.{accept, answer, atOf, closed, closing, decided, finished, isDone, leaving, leavingAs, refusal, returnIfDone, returned, startable, started, step, toOf}
+use Rattle.packets.specs.Rules.{accept, answer, closed, closing, decided, finished, isDone, leaving, leavingAs, refusal, returnIfDone, returned, startable, started, step}
 use Rattle.packets.specs.State.{State, isClosing, isEmpty, isRunning, motionOn, stateIn}
 use Rattle.packets.proofs.Steps.{busy-of}
 use Rattle.packets.proofs.Told.{completes-on, ends-of}
@@ -98,7 +98,7 @@ module _ (s : Schedule) (st : State) (A : Agree s st) where
   pub agree-submit : (j p f c : ℕ) (w : Spot) → Agree s (accept st (Rules.Submit j p f c w))
   unfolding accept
   agree-submit j p f c w =
-      agree-kept s s st (Rules.submitted st j p f c (atOf w) (toOf w)) (λ i. refl) (states-submit st j p f c (atOf w) (toOf w)) A
+      agree-kept s s st (Rules.submitted st j p f c w) (λ i. refl) (states-submit st j p f c w) A
 
   pub agree-start : (c : ℕ) → Agree s (accept st (Rules.Start c))
   unfolding accept

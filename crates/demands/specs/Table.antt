@@ -24,27 +24,26 @@ use Rattle.numbers.specs.declared.Refusal.the-variants.{
   NoSuchRequest,
   JobRuns,
 }
-use Rattle.units.specs.State.{unitIn}
 use Rattle.channels.specs.declared.Fitted.{Fitted}
 use Rattle.cards_fields.specs.Deck.{cardsOf, terminated}
 use Rattle.schedule_entries.specs.Entries.{active, isNamed, suspended}
 use Rattle.schedule_entries.specs.declared.Entry.{Entry}
 use Rattle.schedule_list.specs.InSchedule.{find, inSchedule}
 use Rattle.packets.specs.Picks.{find as findListed}
-use Rattle.packets.specs.Rules.{atOf, inRange, isNone, isOwn, isWrong, movingStatus, reaches, startable}
+use Rattle.packets.specs.Rules.{inRange, isNone, isOwn, isWrong, movingStatus, reaches, siteOf, startable}
 use Rattle.packets.specs.State.{
   State,
   blank,
   configured,
   fittedOn,
   isBusy,
-  isDrumOf,
   isIdle,
   isRunning,
   jobIn,
   legalFor,
   motionOn,
   stateIn,
+  unitAt,
 }
 use Rattle.packets.specs.declared.Spot.{Spot}
 use Rattle.packets.specs.declared.Spot.the-variants.{OnUnit}
@@ -74,7 +73,7 @@ submitRows s has j p f k w =
     -- no job in that place, or it is closing
     ∷ row NoJob (not (isRunning (stateIn (s .jobs) j)))
     -- unit or drum address not the job's
-    ∷ row NotTheJobs (not (isOwn (isDrumOf has) (jobIn (s .jobs) j) (unitIn (s .units) k (atOf w) .holder) j f (atOf w)))
+    ∷ row NotTheJobs (not (isOwn (jobIn (s .jobs) j) (unitAt (s .units) k (siteOf w) .holder) j f w))
     -- function not legal for the kind
     ∷ row NotLegal (not (legalFor has f))
     -- packet listed, in progress or stopping

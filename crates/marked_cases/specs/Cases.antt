@@ -30,6 +30,7 @@ use Rattle.packets.specs.declared.Answer.{Answer}
 use Rattle.packets.specs.declared.Answer.the-variants.{Closed, Completed, Done, Started}
 use Rattle.packets.specs.declared.How.the-variants.{Full}
 use Rattle.packets.specs.declared.Leaving.the-variants.{AfterNormal, Stays}
+use Rattle.packets.specs.declared.Site.the-variants.{AtUnit}
 use Rattle.cell_selection.specs.declared.Selection.{Selection}
 use Rattle.cell.specs.Calls.{freshCell}
 use Rattle.cell.specs.declared.Cell.{Cell}
@@ -185,7 +186,7 @@ marked =
     ∷ Keeps (moving ++ (Rules.Complete 3 Full ∷ []))
     (record { answer = Done; holder = Held 0 }
     ∷ record { answer = Done; holder = Held 0 }
-    ∷ record { answer = Started (record { place = 0; packet = 5; function = 0o02; at = 1 }); holder = Held 0 }
+    ∷ record { answer = Started (record { place = 0; packet = 5; function = 0o02; at = AtUnit (record { 0 = 1 }) }); holder = Held 0 }
     ∷ record { answer = Closed Stays; holder = Held 0 }
     ∷ record { answer = Completed 0 5 AfterNormal; holder = Free }
     ∷ [])

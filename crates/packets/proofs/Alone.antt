@@ -95,32 +95,6 @@ step-same s I x = go (refusal s x) refl
     go Granted e = accept-same s I x e
     go (Denied n) e = same-kept s s (λ c u. refl)
 
--- the configuration never changes
-pub return-config : (s : State) (j : ℕ) → returnIfDone j s .channels ≡ s .channels
-return-config s j = by-bool (isClosing (stateIn (s .jobs) j) && not (anyMoves j (s .moving))) (λ e. rw e) (λ e. rw e)
-
-pub accept-config : (s : State) (x : Call) → accept s x .channels ≡ s .channels
-unfolding accept
-accept-config s (Take j asg) = refl
-accept-config s (Submit j p f c w) =
-    by-bool (eqb f 0o07)
-    (λ e. by-bool (locked s c (siteOf w)) (λ l. rw (e, l)) (λ l. rw (e, l)))
-    (λ e. by-bool (eqb f 0o23) (λ l. rw (e, l)) (λ l. rw (e, l)))
-accept-config s (Start c) = go (find (startable s c) (s .queue))
-  where
-    go : (o : Option ℕ) → started s c o .channels ≡ s .channels
-    go none = refl
-    go (some e) = refl
-accept-config s (Complete c how) = go (motionOn s c)
-  where
-    go : (m : Motion) → completed s c how m .channels ≡ s .channels
-    go Idle = refl
-    go (Busy j p) =
-        return-config (finished s c how j p) j
-        ∙ by-bool (isFailure how && isUnit (packetIn (s .jobs) j p .at)) (λ e. rw e) (λ e. rw e)
-accept-config s (End j e) = return-config (close (sweep s j always cut) j (closing e)) j
-accept-config s (Mark c u m on) = refl
-
 -- who moves on the unit holds it
 pub mover : (h : Holding) (s : State) → Inv s → (j p : ℕ) → motionOn s (h .channel) ≡ Busy j p → packetIn (s .jobs) j p .at ≡ itsUnit h
     → heldBy (unitIn (s .units) (h .channel) (h .unit) .holder) j ≡ true

@@ -1,7 +1,7 @@
 -- Where the packets of a job were last submitted, read from calls and answers alone, is what the cell holds.
 -- Assumes nothing.
 use Prim.Native.Nat.{ℕ, _<_}
-use mathlib.Core.Path.{_≡_, refl, sym, _∙_}
+use mathlib.Core.Path.{_≡_, refl, sym, ap, _∙_}
 use mathlib.Core.Bool.{Bool, true, false, not, _&&_}
 use mathlib.Core.Option.{Option, none, some}
 use lib.ListN.{length}
@@ -39,15 +39,16 @@ abbrev pub Calm : Holding → State → State → ℕ → Type 0
 Calm h s s′ n =
     (there h (packetIn (s′ .jobs) (h .place) n) ≡ there h (packetIn (s .jobs) (h .place) n))
     × (isBusy (packetIn (s′ .jobs) (h .place) n .status) ≡ true → isBusy (packetIn (s .jobs) (h .place) n .status) ≡ true)
+    × (packetIn (s′ .jobs) (h .place) n .at ≡ packetIn (s .jobs) (h .place) n .at)
 
 pub calm-refl : (h : Holding) (s : State) (n : ℕ) → Calm h s s n
-calm-refl h s n = (refl, λ b. b)
+calm-refl h s n = (refl, λ b. b, refl)
 
 pub calm-trans : (h : Holding) (a b c : State) (n : ℕ) → Calm h a b n → Calm h b c n → Calm h a c n
-calm-trans h a b c n p q = (q .0 ∙ p .0, λ x. p .1 (q .1 x))
+calm-trans h a b c n p q = (q .0 ∙ p .0, λ x. p .1 (q .1 x), q .2 ∙ p .2)
 
 pub calm-same : (h : Holding) (s s′ : State) (n : ℕ) → packetIn (s′ .jobs) (h .place) n ≡ packetIn (s .jobs) (h .place) n → Calm h s s′ n
-calm-same h s s′ n e = (rw e, λ b. rw e at b)
+calm-same h s s′ n e = (rw e, λ b. rw e at b, ap (λ (q : Packet). q .at) e)
 
 -- a packet other than the one that is stored
 pub calm-other : (h : Holding) (s : State) (j p : ℕ) (q : Packet) → p < sizeIn (s .jobs) j → (n : ℕ) → eqb (h .place) j && eqb n p ≡ false → Calm h s (store s j p q) n
@@ -61,7 +62,7 @@ calm-status h s j p t fits b n =
     (λ e. let x : h .place ≡ j = eqb-true (h .place) j (and-left (eqb (h .place) j) (eqb n p) e) in
     let y : n ≡ p = eqb-true n p (and-right (eqb (h .place) j) (eqb n p) e) in
     let z : packetIn (put (s .jobs) j p (withStatus (packetIn (s .jobs) j p) t)) (h .place) n ≡ withStatus (packetIn (s .jobs) j p) t = packet-put (s .jobs) j p _ (h .place) n fits ∙ rw e in
-    (rw (z, x, y), λ w. rw (x, y) b))
+    (rw (z, x, y), λ w. rw (x, y) b, rw (z, x, y)))
     (λ e. calm-other h s j p (withStatus (packetIn (s .jobs) j p) t) fits n e)
 
 pub calm-sweep : (h : Holding) (s : State) (j : ℕ) (t : Packet → Bool) (f : Status → Status) → j < length (s .jobs) → f Blank ≡ Blank
@@ -70,7 +71,7 @@ calm-sweep h s j t f inside fb keeps n =
     let q = packetIn (s .jobs) (h .place) n in
     by-bool (eqb (h .place) j)
     (λ e. let z : packetIn (restatusAll (s .jobs) j t f) (h .place) n ≡ restatus t f q = packet-restatus (s .jobs) j t f (h .place) n inside fb ∙ rw e in
-    (rw z, λ b. go (isBusy (q .status)) refl (rw z at b)))
+    (rw z, λ b. go (isBusy (q .status)) refl (rw z at b), rw z))
     (λ e. calm-same h s (sweep s j t f) n (packet-restatus (s .jobs) j t f (h .place) n inside fb ∙ rw e))
   where
     go : (x : Bool) → isBusy (packetIn (s .jobs) (h .place) n .status) ≡ x → isBusy (restatus t f (packetIn (s .jobs) (h .place) n) .status) ≡ true → isBusy (packetIn (s .jobs) (h .place) n .status) ≡ true
@@ -111,9 +112,10 @@ calm-submit h s I j p f c w k n o =
     (calm-other h s₁ j p (packet (Ended 0o00) f c a) (ready-fits s₁ I₁ j p r₁) n o)))
     (λ d. rw d (calm-other h s j p (packet Listed f c a) (ready-fits s I j p r) n o))))
 
--- the packet that is submitted
-pub submitted-at : (h : Holding) (s : State) → Inv s → (j p f c : ℕ) (w : Spot) → Submits s j p f c w → there h (packetIn (submitted s j p f c w .jobs) j p) ≡ isThere h c (siteOf w)
-submitted-at h s I j p f c w k =
+-- what is read of the packet that is submitted
+pub submitted-read : {B : Type 0} (g : Packet → B) (v : B) (s : State) → Inv s → (j p f c : ℕ) (w : Spot) → Submits s j p f c w
+    → ((t : Status) → g (packet t f c (siteOf w)) ≡ v) → g (packetIn (submitted s j p f c w .jobs) j p) ≡ v
+submitted-read g v s I j p f c w k is =
     let a = siteOf w in
     let r : Ready s j p = record { small = k .small; running = k .running; idle = k .idle } in
     let inside = ready-inside s j p r in
@@ -123,15 +125,15 @@ submitted-at h s I j p f c w k =
       d,
       stored-at (lock (sweep s j (isAt c a) failed) c a false) (lock-inv (sweep s j (isAt c a) failed) (sweep-inv s I j (isAt c a) failed inside refl failed-going) c a false) j p (packet (Ended 0o00) f c a)
           (let r₁ = ready-sweep s j p (isAt c a) failed refl failed-idle r in record { small = r₁ .small; running = r₁ .running; idle = r₁ .idle }),
-    ))
-    (λ d. rw (d, stored-at s I j p (packet (Ended 0o00) f c a) r))))
+    ) (is (Ended 0o00)))
+    (λ d. rw (d, stored-at s I j p (packet (Ended 0o00) f c a) r) (is (Ended 0o00)))))
     (λ e. rw e (by-bool (eqb f 0o23)
     (λ d. rw (
       d,
       stored-at (sweep s j (aimed c w) cut) (sweep-inv s I j (aimed c w) cut inside refl cut-going) j p (packet (Ended 0o00) f c a)
           (ready-sweep s j p (aimed c w) cut refl cut-idle r),
-    ))
-    (λ d. rw (d, stored-at s I j p (packet Listed f c a) r))))
+    ) (is (Ended 0o00)))
+    (λ d. rw (d, stored-at s I j p (packet Listed f c a) r) (is Listed))))
 
 -- what was seen of a packet agrees with the cell
 abbrev pub SeenAt : Holding → State → Bool → ℕ → Type 0
@@ -170,7 +172,7 @@ accept-seen h s I H t k (Submit j p f c w) r =
     λ n. by-bool (eqb j (h .place) && eqb n p)
     (λ e. let x : j ≡ h .place = eqb-true j (h .place) (and-left (eqb j (h .place)) (eqb n p) e) in
     let y : n ≡ p = eqb-true n p (and-right (eqb j (h .place)) (eqb n p) e) in
-    let z : there h (packetIn (submitted s j p f c w .jobs) (h .place) n) ≡ isThere h c (siteOf w) = rw (← x, y) (submitted-at h s I j p f c w (submits s j p f c w r)) in
+    let z : there h (packetIn (submitted s j p f c w .jobs) (h .place) n) ≡ isThere h c (siteOf w) = rw (← x, y) (submitted-read (there h) (isThere h c (siteOf w)) s I j p f c w (submits s j p f c w r) (λ t. refl)) in
     rw e (λ d. z ∙ d, λ d. sym z))
     (λ e. rw e (seen-calm h s (submitted s j p f c w) (t n) n (calm-submit h s I j p f c w (submits s j p f c w r) n (rw (eqb-flip (h .place) j) e)) (k n)))
 accept-seen h s I H t k (Start c) r =

@@ -5,30 +5,32 @@ use Prim.Native.Nat.{ℕ, _+_, _<_}
 use mathlib.Core.Path.{_≡_, refl, sym, ap, _∙_}
 use mathlib.Core.Bool.{Bool, true, false, cond, _&&_, _||_}
 use mathlib.Core.List.{List, [], _∷_}
+use native.Mathlib.Omega.{arith}
 use lib.Dec.{eqb, leb, ltb}
 use lib.ListN.{length}
 use borrow.Author.Tests.{eqb-true}
 use Rattle.numbers.proofs.Tests.{by-bool, never}
-use Rattle.channels.specs.declared.Channel.{Channel}
-use Rattle.packets.proofs.Alone.{accept-config}
+use Rattle.units.specs.declared.Holder.{Holder}
 use Rattle.packets.proofs.AlwaysProof.{invariants}
 use Rattle.packets.specs.Codes.{statusAfter}
 use Rattle.packets.proofs.CodesProof.{status-after}
-use Rattle.packets.specs.Demand.{Holding, emptyPlace, fresh, isThere}
+use Rattle.packets.specs.Demand.{Holding, emptyPlace, fresh}
 use Rattle.packets.proofs.Inv.{EntryOk, Inv, listed-busy, running-alive}
 use Rattle.packets.proofs.Laws.{and-left, and-right, eqb-self, find-holds, getD-set-keep}
 use Rattle.numbers.proofs.Stores.{getD-set}
 use Rattle.packets.specs.Picks.{find}
-use Rattle.packets.specs.Rules.{Call, Complete, End, Mark, Start, Submit, Take, accept, always, assigned, atOf, begun, closed, closing, completed, cut, decided, ended, finished, freshJob, inArea, isDone, refusal, returnIfDone, run, startable, started, step, submitted, toOf}
-use Rattle.packets.proofs.SeenLaws.{Calm, calm-finished, calm-return, calm-same, calm-status, calm-submit, calm-sweep, calm-trans, submitted-at}
-use Rattle.packets.proofs.SimSubmit.{is-there, there-channel, there-unit}
-use Rattle.packets.specs.State.{State, drumOn, isBusy, isEmpty, jobIn, motionOn, noJob, packetIn, packetOf, placeOf, restatusAll, setState, stateIn, sweep, withState}
+use Rattle.packets.specs.Rules.{Call, Complete, End, Mark, Start, Submit, Take, accept, always, assigned, begun, closed, closing, completed, cut, decided, ended, finished, freshJob, inArea, isDone, isOwn, refusal, returnIfDone, run, startable, siteOf, started, step, submitted}
+use Rattle.packets.proofs.SeenLaws.{Calm, calm-finished, calm-return, calm-same, calm-status, calm-submit, calm-sweep, calm-trans, submitted-read}
+use Rattle.packets.specs.State.{State, isBusy, isEmpty, jobIn, motionOn, noJob, packetIn, packetOf, placeOf, restatusAll, setState, stateIn, sweep, unitAt, withState}
 use Rattle.packets.proofs.Steps.{busy-of, find-some, fresh-inv, fresh-state, start-fits, startable-on, step-inv}
 use Rattle.packets.proofs.Store.{alive-in, packet-fresh, packet-state}
 use Rattle.packets.proofs.Told.{assigns-to, completes-on, cut-idle, ends-of, starts-on, submits}
 use Rattle.packets.specs.declared.Job.{Job}
 use Rattle.packets.specs.declared.JobState.the-variants.{Empty}
+use Rattle.packets.specs.declared.Packet.{Packet}
+use Rattle.packets.specs.declared.Site.the-variants.{AtAddress}
 use Rattle.packets.specs.declared.Spot.{Spot}
+use Rattle.packets.specs.declared.Spot.the-variants.{OnDrum, OnUnit}
 use Rattle.packets.specs.declared.Status.the-variants.{Ended, InProgress, Listed}
 use Rattle.packets.specs.declared.Verdict.{Verdict}
 use Rattle.packets.specs.declared.Verdict.the-variants.{Denied, Granted}
@@ -40,29 +42,20 @@ use Rattle.packets_given.proofs.SameLaws.{Share, same-begun, same-close
 -- what is kept, of one packet
 abbrev Good : State → ℕ → ℕ → Type 0
 Good s i n =
-    isBusy (packetIn (s .jobs) i n .status) ≡ true → drumOn (s .channels) (packetIn (s .jobs) i n .channel .0) ≡ true
-    → inArea (jobIn (s .jobs) i) (packetIn (s .jobs) i n .at) ≡ true
+    isBusy (packetIn (s .jobs) i n .status) ≡ true → (x : ℕ) → packetIn (s .jobs) i n .at ≡ AtAddress x → inArea (jobIn (s .jobs) i) x ≡ true
 
--- the spot of a packet, as a holding of its job
-abbrev spot : State → ℕ → ℕ → Holding
-spot s i n = record { place = i; channel = packetIn (s .jobs) i n .channel .0; drum = false; unit = packetIn (s .jobs) i n .at }
+-- a holding of the job in place i
+abbrev its : ℕ → Holding
+its i = record { place = i; channel = 0; drum = false; unit = 0 }
 
 -- the area by a job's share
 area-same : (a b : Job) (x : ℕ) → share a ≡ share b → inArea a x ≡ inArea b x
 area-same a b x e = ap (λ (k : Share). leb (k .from) x && ltb x (k .from + k .words)) e
 
 -- a call that leaves a packet where it was submitted and its job's share, and makes it busy only if it was
-good-calm : (s s′ : State) (i n : ℕ) → Calm (spot s′ i n) s s′ n → s′ .channels ≡ s .channels → share (jobIn (s′ .jobs) i) ≡ share (jobIn (s .jobs) i)
+good-calm : (s s′ : State) (i n : ℕ) → Calm (its i) s s′ n → share (jobIn (s′ .jobs) i) ≡ share (jobIn (s .jobs) i)
     → Good s i n → Good s′ i n
-good-calm s s′ i n c g v k b d =
-    let h = spot s′ i n in
-    let q = packetIn (s .jobs) i n in
-    let q′ = packetIn (s′ .jobs) i n in
-    let y : isThere h (q .channel .0) (q .at) ≡ true = sym (c .0) ∙ is-there h (q′ .channel .0) (q′ .at) refl refl in
-    let x : q .channel .0 ≡ q′ .channel .0 = there-channel h (q .channel .0) (q .at) y in
-    let z : q .at ≡ q′ .at = there-unit h (q .channel .0) (q .at) refl y in
-    let d′ : drumOn (s .channels) (q .channel .0) ≡ true = ap (drumOn (s .channels)) x ∙ ap (λ (l : List Channel). drumOn l (q′ .channel .0)) (sym g) ∙ d in
-    area-same (jobIn (s′ .jobs) i) (jobIn (s .jobs) i) (q′ .at) v ∙ ap (inArea (jobIn (s .jobs) i)) (sym z) ∙ k (c .1 b) d′
+good-calm s s′ i n c v k b x d = area-same (jobIn (s′ .jobs) i) (jobIn (s .jobs) i) x v ∙ k (c .1 b) x (sym (c .2) ∙ d)
 
 -- ---- every call
 
@@ -80,45 +73,44 @@ listed-only true b e = never {b = false} e refl
 listed-only false true e = never {b = false} e refl
 listed-only false false e = refl
 
+-- an address that is the job's is of its area, but for 23
+own-words : (job : Job) (holder : Holder) (j f : ℕ) (w : Spot) → isOwn job holder j f w ≡ true → eqb f 0o23 ≡ false → (x : ℕ) → siteOf w ≡ AtAddress x → inArea job x ≡ true
+own-words job holder j f (OnUnit u) o n x e = absurd (let z : _≡_ {A = ℕ} 0 1 = cc in omega arith)
+own-words job holder j f (OnDrum y h) o n x e = let z : y ≡ x = cc in rw (← z) (rw n at o)
+
 module _ (s : State) (I : Inv s) (j p f c : ℕ) (w : Spot) (r : refusal s (Submit j p f c w) ≡ Granted) where
   abbrev after : State
-  after = submitted s j p f c (atOf w) (toOf w)
+  after = submitted s j p f c w
 
   -- the packet that is submitted
   good-submitted : Good after j p
-  good-submitted b d =
+  good-submitted b x d =
       let k = submits s j p f c w r in
-      let h = spot after j p in
       let q = packetIn (after .jobs) j p in
-      let y : isThere h c (atOf w) ≡ true = sym (submitted-at h s I j p f c (atOf w) (toOf w) k) ∙ is-there h (q .channel .0) (q .at) refl refl in
-      let x : c ≡ q .channel .0 = there-channel h c (atOf w) y in
-      let z : atOf w ≡ q .at = there-unit h c (atOf w) refl y in
-      let g : after .channels ≡ s .channels = unfold accept in accept-config s (Submit j p f c w) in
-      let d′ : drumOn (s .channels) c ≡ true = ap (drumOn (s .channels)) x ∙ ap (λ (l : List Channel). drumOn l (q .channel .0)) (sym g) ∙ d in
+      let z : q .at ≡ siteOf w = submitted-read (λ (q : Packet). q .at) (siteOf w) s I j p f c w k (λ t. refl) in
       let t : q .status ≡ cond (eqb f 0o07 || eqb f 0o23) (Ended 0o00) Listed = unfold accept statusAfter in status-after s I (Submit j p f c w) r j p ∙ rw (eqb-self j, eqb-self p) in
       let o : eqb f 0o23 ≡ false = listed-only (eqb f 0o07) (eqb f 0o23) (sym (ap isBusy t) ∙ b) in
-      area-same (jobIn (after .jobs) j) (jobIn (s .jobs) j) (q .at) (same-submit s j p f c (atOf w) (toOf w) .shares j)
-      ∙ ap (inArea (jobIn (s .jobs) j)) (sym z)
-      ∙ rw (d′, o) at (k .owned)
+      area-same (jobIn (after .jobs) j) (jobIn (s .jobs) j) x (same-submit s j p f c w .shares j)
+      ∙ own-words (jobIn (s .jobs) j) (unitAt (s .units) c (siteOf w) .holder) j f w (k .owned) o x (sym z ∙ d)
 
 accept-good : (s : State) → Inv s → AtItsArea s → (x : Call) → refusal s x ≡ Granted → AtItsArea (accept s x)
 unfolding accept
-accept-good s I K (Take j asg) r i n b d =
+accept-good s I K (Take j asg) r i n b x d =
     let inside : j < length (s .jobs) = rw (I .places) (assigns-to s j asg r .0) in
     by-bool (eqb i j)
     (λ e. never {b = false} (rw (packet-fresh (s .jobs) j asg i inside n, e) at b) refl)
     (λ e. good-calm s (assigned s j asg) i n
-    (calm-same (spot (assigned s j asg) i n) s (assigned s j asg) n (packet-fresh (s .jobs) j asg i inside n ∙ rw e)) refl
-    (ap share (getD-set (s .jobs) j (freshJob asg) i noJob inside) ∙ rw e) (K i n) b d)
-accept-good s I K (Submit j p f c w) r i n b d =
+    (calm-same (its i) s (assigned s j asg) n (packet-fresh (s .jobs) j asg i inside n ∙ rw e))
+    (ap share (getD-set (s .jobs) j (freshJob asg) i noJob inside) ∙ rw e) (K i n) b x d)
+accept-good s I K (Submit j p f c w) r i n b x d =
     by-bool (eqb i j && eqb n p)
-    (λ e. let x : i ≡ j = eqb-true i j (and-left (eqb i j) (eqb n p) e) in
-    let y : n ≡ p = eqb-true n p (and-right (eqb i j) (eqb n p) e) in
-    rw (x, y) (good-submitted s I j p f c w r (rw (x, y) at b) (rw (x, y) at d)))
-    (λ e. let s₁ = submitted s j p f c (atOf w) (toOf w) in
-    good-calm s s₁ i n (calm-submit (spot s₁ i n) s I j p f c (atOf w) (toOf w) (submits s j p f c w r) n e)
-    (accept-config s (Submit j p f c w)) (same-submit s j p f c (atOf w) (toOf w) .shares i) (K i n) b d)
-accept-good s I K (Start c) r i n b d =
+    (λ e. let u : i ≡ j = eqb-true i j (and-left (eqb i j) (eqb n p) e) in
+    let v : n ≡ p = eqb-true n p (and-right (eqb i j) (eqb n p) e) in
+    rw u (good-submitted s I j p f c w r (rw (u, v) at b) x (rw (u, v) at d)))
+    (λ e. let s₁ = submitted s j p f c w in
+    good-calm s s₁ i n (calm-submit (its i) s I j p f c w (submits s j p f c w r) n e)
+    (same-submit s j p f c w .shares i) (K i n) b x d)
+accept-good s I K (Start c) r i n b x d =
     let m = starts-on s c r in
     let o = find-some (find (startable s c) (s .queue)) (m .2) in
     let e = o .0 in
@@ -127,32 +119,31 @@ accept-good s I K (Start c) r i n b d =
     let fits = start-fits s I c (m .0) e (z .0) (startable-on s c e (z .1)) in
     let g : Good s₁ i n =
     good-calm s s₁ i n
-    (calm-status (spot s₁ i n) s (placeOf e) (packetOf e) InProgress fits (listed-busy (packetIn (s .jobs) (placeOf e) (packetOf e) .status) (z .0 .listed)) n)
-    refl (same-begun s c e .shares i) (K i n) in
+    (calm-status (its i) s (placeOf e) (packetOf e) InProgress fits (listed-busy (packetIn (s .jobs) (placeOf e) (packetOf e) .status) (z .0 .listed)) n)
+    (same-begun s c e .shares i) (K i n) in
     let h : Good (started s c (find (startable s c) (s .queue))) i n = rw (o .1) g in
-    h b d
-accept-good s I K (Complete c how) r i n b d =
+    h b x d
+accept-good s I K (Complete c how) r i n b x d =
     let m = completes-on s c how r in
     let o = busy-of (motionOn s c) (m .1) in
     let s₁ = finished s c how (o .0) (o .1) in
     let s₂ = returnIfDone (o .0) s₁ in
-    let config : s₂ .channels ≡ s .channels = rw (o .2) at (accept-config s (Complete c how)) in
     let g : Good s₂ i n =
-    good-calm s s₂ i n (calm-finished (spot s₂ i n) s I c (m .0) how (o .0) (o .1) (o .2) n) config
+    good-calm s s₂ i n (calm-finished (its i) s I c (m .0) how (o .0) (o .1) (o .2) n)
     (return-share s₁ (o .0) i ∙ same-finished s c how (o .0) (o .1) .shares i) (K i n) in
     let h : Good (completed s c how (motionOn s c)) i n = rw (o .2) g in
-    h b d
-accept-good s I K (End j e) r i n b d =
+    h b x d
+accept-good s I K (End j e) r i n b x d =
     let a = running-alive (stateIn (s .jobs) j) (ends-of s j e r) in
     let s₁ = sweep s j always cut in
     let s₂ = closed s j e in
     let s₃ = ended s j e in
-    let h = spot s₃ i n in
+    let h = its i in
     good-calm s s₃ i n
     (calm-trans h s s₁ s₃ n (calm-sweep h s j always cut (alive-in (s .jobs) j a) refl cut-idle n)
     (calm-trans h s₁ s₂ s₃ n (calm-same h s₁ s₂ n (packet-state (restatusAll (s .jobs) j always cut) j (closing e) i n)) (calm-return h s₂ j n)))
-    (accept-config s (End j e)) (return-share s₂ j i ∙ same-closed s j e a .shares i) (K i n) b d
-accept-good s I K (Mark c u m on) r i n b d = K i n b d
+    (return-share s₂ j i ∙ same-closed s j e a .shares i) (K i n) b x d
+accept-good s I K (Mark c u m on) r i n b x d = K i n b x d
 
 step-good : (s : State) → Inv s → AtItsArea s → (x : Call) → AtItsArea (step s x .state)
 step-good s I K x = unfold step in go (refusal s x) refl
@@ -172,6 +163,6 @@ on-its-own-words channels units free calls =
   where
     -- no job is there, so no packet is busy
     none-busy : AtItsArea (fresh channels units)
-    none-busy i n b d =
+    none-busy i n b x d =
         let a : isEmpty (stateIn (fresh channels units .jobs) i) ≡ false = unfold run in invariants channels units free [] .live i n b in
         never {b = (isEmpty (stateIn (fresh channels units .jobs) i))} (unfold fresh in ap isEmpty (fresh-state 16 emptyPlace refl i)) a

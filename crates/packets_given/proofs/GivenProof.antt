@@ -22,7 +22,7 @@ use Rattle.packets.proofs.Inv.{Inv, running-alive}
 use Rattle.packets.proofs.InvJobs.{held-once}
 use Rattle.packets.proofs.Laws.{and-left, and-right, eqb-self, getD-set-keep}
 use Rattle.packets.specs.Picks.{find}
-use Rattle.packets.specs.Rules.{Call, Complete, End, Mark, Start, Submit, Take, accept, answer, assigned, atOf, begun, closed, decided, finished, freshJob, isDone, marked, refusal, returnIfDone, returned, run, startable, started, step, submitted, toOf}
+use Rattle.packets.specs.Rules.{Call, Complete, End, Mark, Start, Submit, Take, accept, answer, assigned, begun, closed, decided, finished, freshJob, isDone, marked, refusal, returnIfDone, returned, run, startable, started, step, submitted}
 use Rattle.packets.specs.State.{State, heldBy, isClosing, isEmpty, jobIn, motionOn, noJob, setState, stateIn, takeUnit, wanted, withState}
 use Rattle.packets.proofs.Steps.{busy-of, closing-not-running, fresh-inv, fresh-state, run-inv, step-inv}
 use Rattle.packets.proofs.Store.{alive-in, state-fresh, state-state, unit-release}
@@ -172,7 +172,7 @@ accept-kept given s I (Take j asg) r f K =
   where
     accepted : isAccepted (step s (Take j asg) .answer) ≡ true
     accepted = unfold step in rw r
-accept-kept given s I (Submit j p f c w) r k K = kept-same given s (submitted s j p f c (atOf w) (toOf w)) (same-submit s j p f c (atOf w) (toOf w)) K
+accept-kept given s I (Submit j p f c w) r k K = kept-same given s (submitted s j p f c w) (same-submit s j p f c w) K
 accept-kept given s I (Start c) r k K = go (find (startable s c) (s .queue))
   where
     go : (o : Option ℕ) → Kept given (started s c o)

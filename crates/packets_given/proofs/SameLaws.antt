@@ -15,8 +15,8 @@ use Rattle.units.specs.declared.Mark.{Mark as UnitMark}
 use Rattle.units.specs.declared.Unit.{Unit as UnitState}
 use Rattle.packets.proofs.InvStores.{mark-holder}
 use Rattle.packets.proofs.Laws.{getD-set-keep}
-use Rattle.packets.specs.Rules.{aimed, always, atUnit, begun, closed, closing, codeFor, cut, enlist, failed, finished, isFailure, locked, marked, over, packet, submitted}
-use Rattle.packets.specs.State.{State, close, drumOn, isEmpty, jobIn, lock, move, noJob, packetIn, packetOf, placeOf, put, restatus, restatusAll, setState, stateIn, store, sweep, withLock, withPackets, withState, withStatus}
+use Rattle.packets.specs.Rules.{aimed, always, begun, closed, closing, codeFor, cut, enlist, failed, finished, isAt, isFailure, locked, marked, over, packet, siteOf, submitted}
+use Rattle.packets.specs.State.{State, close, isEmpty, isUnit, jobIn, lock, move, noJob, packetIn, packetOf, placeOf, put, restatus, restatusAll, setState, stateIn, store, sweep, withLock, withPackets, withState, withStatus}
 use Rattle.packets.proofs.Steps.{closing-alive}
 use Rattle.packets.proofs.Store.{state-restatus, unit-keep}
 use Rattle.packets.specs.declared.Core.{Core}
@@ -25,6 +25,9 @@ use Rattle.packets.specs.declared.Job.{Job}
 use Rattle.packets.specs.declared.JobState.{JobState}
 use Rattle.packets.specs.declared.Motion.the-variants.{Idle}
 use Rattle.packets.specs.declared.Packet.{Packet}
+use Rattle.packets.specs.declared.Site.{Site}
+use Rattle.packets.specs.declared.Site.the-variants.{AtAddress, AtUnit}
+use Rattle.packets.specs.declared.Spot.{Spot}
 use Rattle.packets.specs.declared.Status.{Status}
 use Rattle.packets.specs.declared.Status.the-variants.{Ended, InProgress, Listed}
 
@@ -94,21 +97,23 @@ same-close : (s : State) (j : ℕ) (t : JobState) → isEmpty (stateIn (s .jobs)
 unfolding setState
 same-close s j t was is = same-job s (close s j t) j (withState (jobIn (s .jobs) j) t) refl refl (is ∙ sym was) refl
 
-same-lock : (s : State) (c a : ℕ) (b : Bool) → Same s (lock s c a b)
-same-lock s c a b = same-unit s (lock s c a b) c a (withLock (unitIn (s .units) c a) b) refl refl refl
+same-lock : (s : State) (c : ℕ) (a : Site) (b : Bool) → Same s (lock s c a b)
+same-lock s c (AtUnit u) b = same-unit s (lock s c (AtUnit u) b) c (u .0) (withLock (unitIn (s .units) c (u .0)) b) refl refl refl
+same-lock s c (AtAddress x) b = same-rest s (lock s c (AtAddress x) b) refl refl
 
 -- ---- the calls that change nothing that a job holds
 
-pub same-submit : (s : State) (j p f c a b : ℕ) → Same s (submitted s j p f c a b)
-same-submit s j p f c a b =
+pub same-submit : (s : State) (j p f c : ℕ) (w : Spot) → Same s (submitted s j p f c w)
+same-submit s j p f c w =
+    let a = siteOf w in
     let done = packet (Ended 0o00) f c a in
-    let swept = sweep s j (atUnit c a) failed in
+    let swept = sweep s j (isAt c a) failed in
     by-bool (eqb f 0o07)
     (λ e. rw e (by-bool (locked s c a)
-    (λ d. rw d (same-trans (same-sweep s j (atUnit c a) failed) (same-trans (same-lock swept c a false) (same-store (lock swept c a false) j p done))))
+    (λ d. rw d (same-trans (same-sweep s j (isAt c a) failed) (same-trans (same-lock swept c a false) (same-store (lock swept c a false) j p done))))
     (λ d. rw d (same-store s j p done))))
     (λ e. rw e (by-bool (eqb f 0o23)
-    (λ d. let t = aimed (drumOn (s .channels) c) c a b in
+    (λ d. let t = aimed c w in
     rw d (same-trans (same-sweep s j t cut) (same-store (sweep s j t cut) j p done)))
     (λ d. let listed = packet Listed f c a in
     rw d (same-trans (same-store s j p listed) (same-rest (store s j p listed) (enlist s j p f c a) refl refl)))))
@@ -124,8 +129,8 @@ same-finished s c how j p =
     let a = packetIn (s .jobs) j p .at in
     let s₁ = over s c j p (codeFor how) in
     let o : Same s s₁ = same-trans (same-rest s (move s c Idle) refl refl) (same-store (move s c Idle) j p q) in
-    by-bool (isFailure how && not (drumOn (s .channels) c))
-    (λ e. rw e (same-trans o (same-trans (same-sweep s₁ j (atUnit c a) failed) (same-lock (sweep s₁ j (atUnit c a) failed) c a true))))
+    by-bool (isFailure how && isUnit a)
+    (λ e. rw e (same-trans o (same-trans (same-sweep s₁ j (isAt c a) failed) (same-lock (sweep s₁ j (isAt c a) failed) c a true))))
     (λ e. rw e o)
 
 pub same-closed : (s : State) (j : ℕ) (e : Bool) → isEmpty (stateIn (s .jobs) j) ≡ false → Same s (closed s j e)

@@ -14,10 +14,12 @@ use Rattle.channels.specs.declared.Channel.{Channel}
 use Rattle.packets.specs.Apart.{inCore}
 use Rattle.packets.specs.Demand.{Event, NoneHeld, events, fresh, isAccepted}
 use Rattle.packets.specs.Rules.{Call, Complete, End, Mark, Start, Submit, Take, inArea, run, step}
-use Rattle.packets.specs.State.{State, drumOn, heldBy, isBusy, isEmpty, jobIn, packetIn, stateIn, wanted}
+use Rattle.packets.specs.State.{State, heldBy, isBusy, isEmpty, jobIn, packetIn, stateIn, wanted}
 use Rattle.packets.specs.declared.Answer.{Answer}
 use Rattle.packets.specs.declared.Assignment.{Assignment}
 use Rattle.packets.specs.declared.Packet.{Packet}
+use Rattle.packets.specs.declared.Site.{Site}
+use Rattle.packets.specs.declared.Site.the-variants.{AtAddress, AtUnit}
 
 -- ---- what was given, by the calls and their answers alone
 
@@ -77,10 +79,12 @@ pub record StillOwn (s : State) (j : ℕ) (asg : Assignment) : Type 0 where
       → inCore (jobIn (s .jobs) j) x ≡ true → inCore (jobIn (s .jobs) i) x ≡ true → i ≡ j
 
 -- the unit that a packet is on is its job's, or, on the drum, its address is of its job's area
+abbrev pub IsOwn : State → ℕ → ℕ → Site → Type 0
+IsOwn s j c (AtUnit u) = unitIn (s .units) c (u .0) .holder ≡ Held j
+IsOwn s j c (AtAddress x) = inArea (jobIn (s .jobs) j) x ≡ true
+
 abbrev pub OnItsOwn : State → ℕ → Packet → Type 0
-OnItsOwn s j q =
-    (drumOn (s .channels) (q .channel .0) ≡ false → unitIn (s .units) (q .channel .0) (q .at) .holder ≡ Held j)
-    × (drumOn (s .channels) (q .channel .0) ≡ true → inArea (jobIn (s .jobs) j) (q .at) ≡ true)
+OnItsOwn s j q = IsOwn s j (q .channel .0) (q .at)
 
 pub record AsGiven (s : State) (j : ℕ) (last : Option Assignment) : Type 0 where
   -- a job that runs or is closing was taken, and holds what it was given
@@ -95,11 +99,11 @@ HoldsWhatItWasGiven =
     → Wanting (fresh channels units) calls
     → (j : ℕ) → AsGiven (run (fresh channels units) calls) j (taking (events (fresh channels units) calls) j)
 
--- a packet that is listed, in progress or stopping on the drum is at an address of its job's area
+-- a packet that is listed, in progress or stopping at an address is at one of its job's area
 abbrev pub AtItsArea : State → Type 0
 AtItsArea s =
-    (j p : ℕ) → isBusy (packetIn (s .jobs) j p .status) ≡ true → drumOn (s .channels) (packetIn (s .jobs) j p .channel .0) ≡ true
-    → inArea (jobIn (s .jobs) j) (packetIn (s .jobs) j p .at) ≡ true
+    (j p : ℕ) → isBusy (packetIn (s .jobs) j p .status) ≡ true → (x : ℕ) → packetIn (s .jobs) j p .at ≡ AtAddress x
+    → inArea (jobIn (s .jobs) j) x ≡ true
 
 abbrev pub OnItsOwnWords : Type 0
 OnItsOwnWords =

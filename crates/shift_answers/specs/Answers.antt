@@ -6,6 +6,8 @@ use Rattle.numbers.specs.Refusals.{numberOf}
 use Rattle.numbers.specs.declared.Refusal.{Refusal}
 use Rattle.text.specs.Writing.{decimalText}
 use Rattle.packets.specs.declared.Begun.{Begun}
+use Rattle.packets.specs.declared.Site.{Site}
+use Rattle.packets.specs.declared.Site.the-variants.{AtAddress, AtUnit}
 use Rattle.packets.specs.declared.Status.{Status}
 use Rattle.packets.specs.declared.Status.the-variants.{Blank, Listed, InProgress, Stopping, Ended}
 use Rattle.shift_pieces.specs.Pieces.{octalText, packetText}
@@ -18,12 +20,17 @@ refusedText refusal = bytes "NO " ++ (decimalText (numberOf refusal) ++ bytes "\
 abbrev pub doneText : List ℕ
 doneText = bytes "ACK\n"
 
+-- the number of the unit, or the address
+abbrev pub numberAt : Site → ℕ
+numberAt (AtUnit u) = u .0
+numberAt (AtAddress x) = x
+
 -- a start: `ACK p k ff x`, place, packet, function in two octal digits, unit or address
 abbrev pub startedText : Begun → List ℕ
 startedText b =
     bytes "ACK "
     ++ (packetText (b .place) (b .packet)
-    ++ (bytes " " ++ (octalText (b .function) ++ (bytes " " ++ (decimalText (b .at) ++ bytes "\n")))))
+    ++ (bytes " " ++ (octalText (b .function) ++ (bytes " " ++ (decimalText (numberAt (b .at)) ++ bytes "\n")))))
 
 -- a completion: `ACK p k`, the packet that it ends
 abbrev pub completedText : ℕ → ℕ → List ℕ

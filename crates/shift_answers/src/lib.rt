@@ -2,9 +2,10 @@
 
 use numbers::Refusal;
 use packets::Begun;
+use packets::Site;
 use packets::Status;
 ghost use Rattle.text.specs.Room.{Written};
-ghost use Rattle.shift_answers.specs.Answers.{refusedText, doneText, startedText, completedText, statusWord, statusText, noCallText};
+ghost use Rattle.shift_answers.specs.Answers.{refusedText, doneText, numberAt, startedText, completedText, statusWord, statusText, noCallText};
 
 // A refused call.
 pub fn put_refused(out: &mut [u8], at: usize, refusal: Refusal) -> usize
@@ -22,6 +23,16 @@ pub fn put_done(out: &mut [u8], at: usize) -> usize
     text::put_bytes(out, at, b"ACK\n")
 }
 
+// The number of the unit, or the address.
+fn number_at(at: Site) -> u32
+    ensures { λ r. ⌜ r ≡ numberAt at ⌝ }
+{
+    match at {
+        Site::AtUnit(u) => u.0 as u32,
+        Site::AtAddress(x) => x,
+    }
+}
+
 // A start: place, packet, function, unit or address.
 pub fn put_started(out: &mut [u8], at: usize, begun: Begun) -> usize
     ensures { λ r. ⌜ Written (now (out .entry)) at (startedText begun) (now (out .exit)) r ⌝ }
@@ -31,7 +42,8 @@ pub fn put_started(out: &mut [u8], at: usize, begun: Begun) -> usize
     let space = text::put_byte(out, packet, b' ');
     let function = shift_pieces::put_octal(out, space, begun.function);
     let gap = text::put_byte(out, function, b' ');
-    let spot = text::put_decimal(out, gap, begun.at as u64);
+    let place = begun.at;
+    let spot = text::put_decimal(out, gap, number_at(place) as u64);
     text::put_byte(out, spot, b'\n')
 }
 
