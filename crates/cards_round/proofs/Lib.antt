@@ -1,3 +1,4 @@
 pub mod Short
 pub mod Fits
 pub mod Order
+pub mod Allowing

@@ -1,1 +1,2 @@
 pub mod Permuted
+pub mod Allowed
