@@ -7,7 +7,7 @@ use mathlib.Core.Bool.{Bool, true, false, not, _&&_}
 use mathlib.Core.List.{List, [], _∷_}
 use native.Mathlib.Omega.{arith}
 use lib.Dec.{eqb, ltb, leb}
-use lib.ListN.{length, getD, set, length-set}
+use lib.ListN.{length, getD, set, length-set, take}
 use lib.Seq.{getD-set-same, getD-set-other}
 use borrow.Author.Tests.{eqb-true, eqb-false, leb-true, ltb-true, ltb-false, le-ltb}
 use Rattle.numbers.proofs.Tests.{by-bool, never, both}
@@ -15,10 +15,11 @@ use Rattle.text.specs.Class.{isDigit}
 use Rattle.words.specs.Words.{every, value}
 use Rattle.cards.specs.Errors.{errorIf, orElse}
 use Rattle.cards.proofs.ErrorLaws.{not-good, or-else-none}
-use Rattle.cards_fac.specs.Fac.{channelText, codeError, codeOf, entered, entriesError, entryError, entryGood, allEntered, formError, most, nothing, numberGood, numberText, slot, slotOf, slots, asked, entriesOf}
+use Rattle.cards_fields.specs.Fields.{field, fields, malformed}
+use Rattle.cards_fac.specs.Fac.{coreError, facError, channelText, codeError, codeOf, entered, entriesError, entryError, entryGood, allEntered, formError, most, nothing, numberGood, numberText, slot, slotOf, slots, asked, entriesOf}
 use Rattle.cards_fac.proofs.EntryLaws.{channel-low, code-low, good-number}
-use Rattle.cards_group.specs.Group.{orderedError, requestOf, readCards, readGroup}
-use Rattle.cards.specs.declared.CardError.the-variants.{WrongEntry}
+use Rattle.cards_group.specs.Group.{frontError, orderedError, requestOf, readCards, readGroup}
+use Rattle.cards.specs.declared.CardError.the-variants.{FacMalformed, WrongEntry}
 use Rattle.cards.specs.declared.Request.{Request}
 use Rattle.cards.specs.declared.Verdict.{Verdict}
 use Rattle.cards.specs.declared.Verdict.the-variants.{Good}
@@ -87,14 +88,40 @@ permuted (Permuted.next {ts} {us} {vs} p q) asks l e =
     let y = permuted q asks l (x .0) in
     (y .0, x .1 ∙ y .1)
 
--- EQUAL REQUESTS: two groups with the same PTY card whose FAC cards have the same entries in any order read as the
--- same request
-pub same-request : (pty fac other : List ℕ) (r s : Request)
-    → readGroup (pty ∷ fac ∷ []) ≡ record { verdict = Good; request = r } → readGroup (pty ∷ other ∷ []) ≡ record { verdict = Good; request = s }
-    → Permuted (entriesOf fac) (entriesOf other) → r ≡ s
-unfolding readCards
-same-request pty fac other r s e h p =
-    let a = answered (orderedError 2 pty fac []) (requestOf pty (asked fac)) r e in
-    let b = answered (orderedError 2 pty other []) (requestOf pty (asked other)) s h in
-    let g = entries-good 2 pty fac [] (a .0) .1 in
-    sym (a .1) ∙ ap (requestOf pty) (permuted p nothing refl g .1) ∙ b .1
+-- the first two fields of a card
+front-at : (l : List (List ℕ)) (k : ℕ) → k < 2 → getD (take 2 l) k [] ≡ getD l k []
+front-at [] zero h = refl
+front-at [] (suc k) h = refl
+front-at (x ∷ l) zero h = refl
+front-at (x ∷ []) (suc k) h = refl
+front-at (x ∷ y ∷ l) (suc zero) h = refl
+front-at (x ∷ y ∷ l) (suc (suc k)) h = absurd (omega arith)
+
+-- EQUAL REQUESTS: where a group is read, one with the same PTY card and, on a FAC card that is not malformed, the same
+-- ID and the same entries in any order is read as the same request
+module _ (pty fac other : List ℕ) (well : malformed other ≡ false) (front : take 2 (fields other) ≡ take 2 (fields fac))
+    (p : Permuted (entriesOf fac) (entriesOf other)) where
+  field-as : (k : ℕ) → k < 2 → field other k ≡ field fac k
+  field-as k h = sym (front-at (fields other) k h) ∙ ap (λ (l : List (List ℕ)). getD l k []) front ∙ front-at (fields fac) k h
+
+  front-as : frontError 2 pty other [] ≡ frontError 2 pty fac []
+  unfolding frontError
+  front-as = rw (field-as 0 (omega arith), field-as 1 (omega arith)) refl
+
+  fac-as : facError fac ≡ Good → entriesError nothing (entriesOf fac) ≡ Good → facError other ≡ Good
+  unfolding facError
+  fac-as g e =
+      let q = permuted p nothing refl e in
+      let core : coreError (asked fac) ≡ Good =
+      or-else-none (coreError (asked fac)) Good (or-else-none (entriesError nothing (entriesOf fac)) (orElse (coreError (asked fac)) Good)
+      (or-else-none (errorIf (malformed fac) FacMalformed) (orElse (entriesError nothing (entriesOf fac)) (orElse (coreError (asked fac)) Good)) g .1) .1) .0 in
+      rw (well, q .0, ← q .1, core)
+
+  pub same-request : (r : Request) → readGroup (pty ∷ fac ∷ []) ≡ record { verdict = Good; request = r } → readGroup (pty ∷ other ∷ []) ≡ record { verdict = Good; request = r }
+  unfolding readCards orderedError
+  same-request r e =
+      let a = answered (orderedError 2 pty fac []) (requestOf pty (asked fac)) r e in
+      let b = or-else-none (frontError 2 pty fac []) (facError fac) (a .0) in
+      let g = entries-good 2 pty fac [] (a .0) .1 in
+      let v : orElse (frontError 2 pty other []) (facError other) ≡ Good = rw (front-as, b .0) (fac-as (b .1) g) in
+      rw v (ap (λ (q : Request). record { verdict = Good; request = q }) (ap (requestOf pty) (sym (permuted p nothing refl g .1)) ∙ a .1))

@@ -2,7 +2,7 @@
 -- history of the cell by what the lists hear of it. Assumes nothing.
 use Prim.Native.Nat.{ℕ}
 use mathlib.Core.Path.{_≡_, refl, sym, ap, subst, _∙_}
-use mathlib.Core.Bool.{Bool, true, cond, _&&_}
+use mathlib.Core.Bool.{Bool, true, false, cond, _&&_}
 use mathlib.Core.List.{List, [], _∷_, _++_}
 use mathlib.Core.Option.{none, some}
 use native.Mathlib.Omega.{arith}
@@ -19,6 +19,9 @@ use Rattle.configuration_form.proofs.Meaning.{meaning}
 use Rattle.configuration_form.proofs.Unique.{first-named, read-back}
 use Rattle.configuration_listing.specs.Listing.{counted}
 use Rattle.cards_writing.specs.Writing.{takes}
+use Rattle.cards.specs.declared.Request.{Request}
+use Rattle.cards_round.specs.Allowed.{Allowed}
+use Rattle.cards_round.proofs.Allowing.{allowed-taken, taken-allowed}
 use Rattle.cards_round.proofs.Fits.{always-written}
 use Rattle.cards_round.proofs.Order.{same-request}
 use Rattle.cards_writing.proofs.Round.{room-read}
@@ -41,7 +44,10 @@ use Rattle.cell_history.proofs.HeardLaws.{does-heard, leads-heard}
 use Rattle.cell_history.specs.Heard.{heard, heardOf, inside, taken, told}
 use Rattle.cell_history.specs.History.{Call, Chosen, Does, Event, Leads, Reply, Said, Select, Shown, Complete, Deck, Delete, End, Mark, Release, Start, Submit}
 use Rattle.demands.specs.Demands.{Demand1, Demand2, Demand3, WhileHeld}
+use Rattle.demands.proofs.Accepted.{heard-granted}
 use Rattle.demands.proofs.InOrder.{first-in-order}
+use Rattle.demands.proofs.Owning.{free-place, holds-then, on-its-own, still-own, still-there}
+use Rattle.demands.proofs.Places.{ended-so, marked-so, runs-on}
 use Rattle.demands.proofs.Texts.{counted-fresh, kept-room, listed, listed-bad, writes-12, writes-13, writes-so}
 use Rattle.demands.specs.Refusing.{refusalIn}
 use Rattle.demands.proofs.Numbers.{answers-by, numbers, ofVerdict}
@@ -53,6 +59,7 @@ use Rattle.packets.specs.declared.Assignment.{Assignment}
 use Rattle.packets_given.specs.Given.{OnItsOwn, StillOwn, taking}
 use Rattle.cell_history.proofs.FromFresh.{chosen-is, done-found, reached, refused-found, selected-of, taking-of}
 use Rattle.cell_history.proofs.ToldLaws.{leads-told}
+use Rattle.cell_agreement.proofs.AgreementProof.{agrees-always}
 use Rattle.cell_reached.proofs.ReachedProof.{every-cell}
 use Rattle.packets.specs.Rules as Rules
 use Rattle.cell.specs.declared.StatusAnswer.the-variants as Statuses
@@ -65,6 +72,9 @@ use Rattle.packets.specs.Demand as Told
 
 -- ---- demand 1
 
+not-taken : (r : Request) → (Allowed r → ⊥) → takes r ≡ false
+not-taken r n = by-bool (takes r) (λ t. absurd (n (taken-allowed r t))) (λ t. t)
+
 pub demand-1 : Demand1
 demand-1 =
     record {
@@ -72,8 +82,8 @@ demand-1 =
       stands = stands;
       lent = deck-lent;
       kept = kept-room;
-      wrong = writes-13;
-      short = writes-12;
+      wrong = λ r room n. writes-13 r room (not-taken r n);
+      short = λ r room a. writes-12 r room (allowed-taken r a);
       configuration = meaning;
       read = read-back;
       named = first-named;
@@ -90,44 +100,6 @@ codes-at configuration es c h x =
     subst (λ (s : State). Rules.refusal s x ≡ Granted → (place packet : ℕ) → packetIn (Rules.decided s x (Rules.refusal s x) .state .jobs) place packet .status ≡ statusAfter s x place packet)
     (sym (reached configuration es c h))
     (λ g place packet. rw g (codes (configuration .channels) (freshUnits (configuration .down)) (fresh-free (configuration .down)) (heard es) x g place packet))
-
--- ---- an accepted call of the lists
-
-granted-of : (v : Verdict) → ofVerdict v ≡ none → v ≡ Granted
-granted-of Granted e = refl
-granted-of (Denied n) e = absurd (let z : _≡_ {A = ℕ} 0 1 = cc in omega arith)
-
--- what a call of the lists is accepted for
-module _ (c : Cell) (y : Rules.Call) where
-  alone : (x : Rules.Call) (reply : Reply) → reply ≡ Said (acted c x .answer) → refusalIn reply ≡ none → x ∷ [] ≡ y ∷ [] → Rules.refusal (inside c) y ≡ Granted
-  alone x reply h e q =
-      let g : Rules.refusal (inside c) x ≡ Granted = granted-of (Rules.refusal (inside c) x) (sym (answers-by c x) ∙ sym (ap refusalIn h) ∙ e) in
-      let p : x ≡ y = cc in
-      subst (λ (z : Rules.Call). Rules.refusal (inside c) z ≡ Granted) p g
-
-  not-cons : _≡_ {A = List Rules.Call} [] (y ∷ []) → ⊥
-  not-cons q = let z : _≡_ {A = ℕ} 0 1 = cc in omega arith
-
-  taken-one : (s : Selection) → Selects (c .schedule) (c .lists) s → cond (s .found) (takingOf s ∷ []) [] ≡ y ∷ [] → Rules.refusal (inside c) y ≡ Granted
-  taken-one s w q =
-      by-bool (s .found)
-      (λ t. let p : takingOf s ∷ [] ≡ y ∷ [] = rw t at q in
-      let i : takingOf s ≡ y = cc in
-      subst (λ (z : Rules.Call). Rules.refusal (inside c) z ≡ Granted) i
-      (taking-granted (c .schedule) (c .lists) s (subst (λ (b : Bool). SelectsBy b (inSchedule (c .schedule)) (c .lists) s) t w)))
-      (λ t. absurd (not-cons (rw t at q)))
-
-heard-granted : (c d : Cell) (x : Call) (reply : Reply) → Does c x reply d → refusalIn reply ≡ none → (y : Rules.Call) → heardOf x reply ≡ y ∷ [] → Rules.refusal (inside c) y ≡ Granted
-heard-granted c d (Call.Deck bytes) reply h e y q = absurd (not-cons c y q)
-heard-granted c d Select reply h e y q = taken-one c y (h .0 .selection) (h .1 .0 .takes .selects) (sym (ap taken (h .1 .1 .0)) ∙ q)
-heard-granted c d (Call.Submit j p f k w) reply h e y q = alone c y (Rules.Submit j p f k w) reply (h .0) e q
-heard-granted c d (Call.Start k) reply h e y q = alone c y (Rules.Start k) reply (h .0) e q
-heard-granted c d (Call.Complete k how) reply h e y q = alone c y (Rules.Complete k how) reply (h .0) e q
-heard-granted c d (Call.End j b) reply h e y q = alone c y (Rules.End j b) reply (h .0) e q
-heard-granted c d (Call.Mark k u m on) reply h e y q = alone c y (Rules.Mark k u m on) reply (h .0) e q
-heard-granted c d (Call.Release id) reply h e y q = absurd (not-cons c y q)
-heard-granted c d (Call.Delete id) reply h e y q = absurd (not-cons c y q)
-heard-granted c d (Call.Status j p) reply h e y q = absurd (not-cons c y q)
 
 -- the stated codes, in the cell that follows
 codes-in : (configuration : Configuration) (es : List Event) (c : Cell) → Leads (freshCell configuration) es c
@@ -174,12 +146,18 @@ runs-then c d s h =
 pub demand-2 : Demand2
 demand-2 =
     record {
-      cards = λ r room t f. room-read r room t f .1;
+      cards = λ r room a f. room-read r room (allowed-taken r a) f .1;
       again = always-written;
-      wrote = writes-so;
+      wrote = λ r room a. writes-so r room (allowed-taken r a);
       same = same-request;
       entered = entered-so;
+      noted = λ c deck room after r h l. h .deck .whole l .0;
       selected = selected-of;
+      holds = holds-then;
+      marked = marked-so;
+      ended = λ c d x reply h ok place inError. ended-so c d reply ok place inError x h;
+      runsOn = λ c d x reply h place e. runs-on c d reply place e x h;
+      stays = λ configuration es c h. agrees-always configuration es c h .places;
       runs = runs-then;
       released = λ c d id reply h. ap (λ (x : Cell). x .schedule) (h .1);
       deleted = λ c d id reply h. ap (λ (x : Cell). x .schedule) (h .1);
@@ -258,36 +236,13 @@ module _ (configuration : Configuration) (before : List Event) (c : Cell) (l : L
       (subst (λ (s : State). Isolated h (events (inside d) (heard during)) s) (sym (leads-heard d e during m))
       (by-the-rules (heard during) (held-stretch h d e during w)))
 
-still-own : (configuration : Configuration) (es : List Event) (c : Cell) → Leads (freshCell configuration) es c
-    → (place packet : ℕ) → inMotion (packetIn (inside c .jobs) place packet .status) ≡ true
-    → (given : Assignment) × (taking (told es) place ≡ some given) × StillOwn (inside c) place given
-still-own configuration es c l place packet m =
-    let r = every-cell configuration es c l in
-    let alive = r .always .live place packet (motion-busy (packetIn (inside c .jobs) place packet .status) m) in
-    let g = r .given place .live alive in (
-      g .0,
-      g .1,
-      record { there = alive; holds = g .2; drum = λ i x a p q. r .drum i place x a alive q p; core = λ i x a p q. r .core i place x a alive q p },
-    )
-
--- who holds a unit
-its-holder : (v : Holder) (j : ℕ) → heldBy v j ≡ true → v ≡ Held j
-its-holder Free j e = never e refl
-its-holder (Held k) j e = ap Held (eqb-true k j e)
-
-on-its-own : (configuration : Configuration) (es : List Event) (c : Cell) → Leads (freshCell configuration) es c
-    → (place packet : ℕ) → inMotion (packetIn (inside c .jobs) place packet .status) ≡ true
-    → OnItsOwn (inside c) place (packetIn (inside c .jobs) place packet)
-on-its-own configuration es c l place packet m =
-    let r = every-cell configuration es c l in
-    let b = motion-busy (packetIn (inside c .jobs) place packet .status) m in
-    (λ d. its-holder _ place (r .always .held place packet b d), λ d. r .addresses place packet b d)
-
 pub demand-3 : Demand3
 demand-3 =
     record {
       alike = as-told;
+      moving = still-there;
       own = still-own;
+      free = free-place;
       head = on-its-own;
       closing = λ configuration es c l. every-cell configuration es c l .always .closing;
     }

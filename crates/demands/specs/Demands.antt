@@ -1,10 +1,11 @@
 -- THE THREE DEMANDS, one page, to be laid beside the words of the people who asked. Each is a theorem, proved in
 -- proofs/Proved.antt, about any cell and call as the contracts of the public functions give them, and about any
 -- history of calls from a fresh cell. A reader has to believe this page.
-use Prim.Native.Nat.{ℕ, _≤_}
+use Prim.Native.Nat.{ℕ, _≤_, _<_}
 use mathlib.Core.Path.{_≡_}
 use mathlib.Core.Bool.{Bool, true, false, _&&_}
 use mathlib.Core.List.{List, [], _∷_}
+use mathlib.Core.Logic.{_⊎_}
 use mathlib.Core.Option.{none, some}
 use lib.ListN.{length, take}
 use Rattle.numbers.specs.declared.ChannelNumber.{ChannelNumber}
@@ -12,7 +13,9 @@ use Rattle.numbers.specs.declared.Outcome.{Outcome}
 use Rattle.numbers.specs.declared.Outcome.the-variants.{Done, Refused}
 use Rattle.numbers.specs.declared.Refusal.{Refusal}
 use Rattle.numbers.specs.declared.Refusal.the-variants.{NoRoom, NothingSelected, WrongRequest}
-use Rattle.units.specs.State.{assignable, unitIn}
+use Rattle.units.specs.State.{assignable, markedUnit, unitIn, unitSet, unitsFrom}
+use Rattle.units.specs.declared.Mark.{Mark as UnitMark}
+use Rattle.units.specs.declared.Unit.{Unit as UnitState}
 use Rattle.channels.specs.Channels.{hasUnit}
 use Rattle.channels.specs.declared.Channel.{Channel}
 use Rattle.channels.specs.declared.Configuration.{Configuration}
@@ -22,29 +25,36 @@ use Rattle.configuration_form.specs.Means.{Means}
 use Rattle.configuration_units.specs.Fresh.{freshUnits}
 use Rattle.configuration_listing.specs.Listing.{Listed, assignableUnits, errorText, linesFrom}
 use Rattle.cards_fields.specs.Deck.{cardsOf}
+use Rattle.cards_fields.specs.Fields.{fields, malformed}
 use Rattle.cards_fac.specs.Fac.{entriesOf}
 use Rattle.cards_group.specs.Group.{readGroup}
 use Rattle.cards.specs.declared.Request.{Request}
 use Rattle.cards.specs.declared.Verdict.the-variants.{Good}
-use Rattle.cards_writing.specs.Writing.{fits, takes, textOf, writeAnswer, written}
+use Rattle.cards_writing.specs.Writing.{fits, textOf, writeAnswer, written}
+use Rattle.cards_round.specs.Allowed.{Allowed}
 use Rattle.cards_round.specs.Permuted.{Permuted}
 use Rattle.schedule_entries.specs.Entries.{keyOf, precedes}
 use Rattle.schedule_list.specs.InSchedule.{entryAt, inSchedule}
 use Rattle.schedule.specs.Calls as Schedule
-use Rattle.schedule_deck.specs.Report.{deckSchedule}
+use Rattle.schedule_deck.specs.Report.{deckNotes, deckSchedule}
+use Rattle.assign_drum.specs.Drum.{noArea}
 use Rattle.assign_heads.specs.Sums.{howMany}
 use Rattle.packets.specs.Codes.{statusAfter}
 use Rattle.packets.specs.Demand.{Holding, Holds, Isolated}
-use Rattle.packets.specs.State.{packetIn, inMotion, isClosing, stateIn}
+use Rattle.packets.specs.State.{heldBy, inMotion, isClosing, isEmpty, jobIn, noCore, packetIn, stateIn}
+use Rattle.packets.specs.Rules.{closing}
+use Rattle.packets.specs.declared.JobState.the-variants.{Empty, Running}
 use Rattle.packets.specs.declared.Status.{Status}
-use Rattle.cell_selection.specs.Selecting.{Candidate, HasNone, Selected, NoneToSelect, seenIn}
+use Rattle.cell_taken.specs.Taken.{areaOf, coreOf}
+use Rattle.cell_selection.specs.Selecting.{Candidate, HasNone, Selected, NoneToSelect, assignmentOf, seenIn}
 use Rattle.cell_selection.specs.declared.Selection.{Selection}
-use Rattle.cell.specs.Calls.{Enters, freshCell}
+use Rattle.cell.specs.Calls.{Enters, cellOf, freshCell}
 use Rattle.cell.specs.declared.Cell.{Cell}
 use Rattle.cell.specs.declared.DeckAnswer.{DeckAnswer}
 use Rattle.cell.specs.declared.StatusAnswer.the-variants.{Is}
 use Rattle.cell_history.specs.Heard.{heardOf, inside, told}
-use Rattle.cell_history.specs.History.{Call, Chosen, Delete, Does, Event, Leads, Release, Reply, Select, Shown}
+use Rattle.cell_history.specs.History.{Call, Chosen, Delete, Does, End, Event, Leads, Mark, Release, Reply, Select, Shown}
+use Rattle.cell_agreement.specs.Agreement.{standing, statesIn}
 use Rattle.demands.specs.Refusing.{refusalIn}
 use Rattle.demands.specs.Table.{RefusedBy, isSelect}
 use Rattle.packets.specs.declared.Assignment.{Assignment}
@@ -67,9 +77,9 @@ pub record Demand1 : Type 0 where
       → r .outcome ≡ Refused n → after ≡ room
   -- and the room that was lent for cards to be written, after 13 and after 12
   pub kept : (r : Request) (room : List ℕ) (n : Refusal) → writeAnswer r (length room) ≡ Wrote′.Refused n → written r room ≡ room
-  -- 13 is given for a request that breaks a rule, before 12; 12 where a card or the room is too short
-  pub wrong : (r : Request) (room : ℕ) → takes r ≡ false → writeAnswer r room ≡ Wrote′.Refused WrongRequest
-  pub short : (r : Request) (room : ℕ) → takes r ≡ true → fits r room ≡ false → writeAnswer r room ≡ Wrote′.Refused NoRoom
+  -- 13 is given exactly for a request that breaks a rule, before 12; 12 where a card or the room is too short
+  pub wrong : (r : Request) (room : ℕ) → (Allowed r → ⊥) → writeAnswer r room ≡ Wrote′.Refused WrongRequest
+  pub short : (r : Request) (room : ℕ) → Allowed r → fits r room ≡ false → writeAnswer r room ≡ Wrote′.Refused NoRoom
   -- a configuration is read exactly if it is the written form of one; else refusal 14 names the first bad or
   -- missing line
   pub configuration : (s : List ℕ) → Means s (configurationOf s)
@@ -79,29 +89,49 @@ pub record Demand1 : Type 0 where
   pub printed : (s room after : List ℕ) (r line : ℕ) → FirstBad s line → Listed s room after r → 96 ≤ length room
       → take r after ≡ errorText line
 
+-- the cell with other units
+abbrev pub withUnits : Cell → List (List UnitState) → Cell
+withUnits c units =
+    cellOf (c .schedule)
+    (record {
+      channels = c .lists .channels;
+      jobs = c .lists .jobs;
+      list = c .lists .list;
+      moving = c .lists .moving;
+      units = unitsFrom units;
+    })
+
+-- a job ends by this call, or is closing since its end: in error or not
+abbrev pub Ends : Cell → Call → ℕ → Bool → Type 0
+Ends c x place inError = (x ≡ End place inError) ⊎ (stateIn (inside c .jobs) place ≡ closing inError)
+
 -- "2. It is right: cards written are read back as the same request; the job selected is the first in order, of
 -- those allowed to run, for which all facilities can be found; selection is refused exactly when no place is free
 -- or no such job exists; packets end with the stated codes."
 pub record Demand2 : Type 0 where
-  -- "cards written are read back as the same request": whatever request the writer takes,
-  pub cards : (r : Request) (room : List ℕ) → takes r ≡ true → fits r (length room) ≡ true
+  -- "cards written are read back as the same request": every request that breaks no rule is written where its cards
+  -- fit, and they are read as it,
+  pub wrote : (r : Request) (room : ℕ) → Allowed r → fits r room ≡ true → writeAnswer r room ≡ Wrote′.Cards (length (textOf r))
+  pub cards : (r : Request) (room : List ℕ) → Allowed r → fits r (length room) ≡ true
       → readGroup (cardsOf (take (length (textOf r)) (written r room))) ≡ record { verdict = Good; request = r }
-  pub wrote : (r : Request) (room : ℕ) → takes r ≡ true → fits r room ≡ true
-      → writeAnswer r room ≡ Wrote′.Cards (length (textOf r))
-  -- and every request that was read from cards is taken, and written where the room has 162 bytes: neither 13 nor
-  -- 12 arises
+  -- and every request that was read from cards is written where the room has 162 bytes: neither 13 nor 12 arises
   pub again : (group : List (List ℕ)) (r : Request) (room : List ℕ) → readGroup group ≡ record { verdict = Good; request = r }
       → 162 ≤ length room
       → (writeAnswer r (length room) ≡ Wrote′.Cards (length (textOf r)))
       × (readGroup (cardsOf (take (length (textOf r)) (written r room))) ≡ record { verdict = Good; request = r })
-  -- "equal requests, entry order apart": the same entries in another order are the same request, so its cards are
-  -- the same
-  pub same : (pty fac other : List ℕ) (r s : Request) → readGroup (pty ∷ fac ∷ []) ≡ record { verdict = Good; request = r }
-      → readGroup (pty ∷ other ∷ []) ≡ record { verdict = Good; request = s } → Permuted (entriesOf fac) (entriesOf other) → r ≡ s
+  -- "equal requests, entry order apart": where one FAC card is good, another that is not malformed, of the same ID and
+  -- with the same entries in any order, is good, and the same request, so its cards are the same
+  pub same : (pty fac other : List ℕ) → malformed other ≡ false → take 2 (fields other) ≡ take 2 (fields fac)
+      → Permuted (entriesOf fac) (entriesOf other) → (r : Request)
+      → readGroup (pty ∷ fac ∷ []) ≡ record { verdict = Good; request = r }
+      → readGroup (pty ∷ other ∷ []) ≡ record { verdict = Good; request = r }
   -- what a deck asks for is entered, group by group, or gets its card error; a released request waits, a deleted
   -- one is gone
   pub entered : (c : Cell) (deck room after : List ℕ) (r : DeckAnswer) → Enters c deck room after r
       → r .cell .schedule ≡ deckSchedule (c .schedule) deck
+  -- and the answer to it stands whole in room of 53,248 bytes: the error lines, then the last good ID
+  pub noted : (c : Cell) (deck room after : List ℕ) (r : DeckAnswer) → Enters c deck room after r → 53248 ≤ length room
+      → take (r .at) after ≡ deckNotes (c .schedule) deck
   pub released : (c d : Cell) (id : List ℕ) (reply : Reply) → Does c (Release id) reply d
       → d .schedule ≡ Schedule.released (c .schedule) id .schedule
   pub deleted : (c d : Cell) (id : List ℕ) (reply : Reply) → Does c (Delete id) reply d
@@ -118,10 +148,32 @@ pub record Demand2 : Type 0 where
       → (i : ℕ) → Candidate (inSchedule (c .schedule)) i
       → precedes (keyOf (entryAt (inSchedule (c .schedule)) i .request)) (keyOf (s .request)) ≡ true
       → HasNone (seenIn (c .lists)) (entryAt (inSchedule (c .schedule)) i .request)
+  -- what was assigned it then holds: exactly those units, that drum area and that core, and no other job has any of it
+  pub holds : (configuration : Configuration) (es : List Event) (c : Cell) → Leads (freshCell configuration) es c
+      → (d : Cell) (s : Selection) → Does c Select (Chosen Done s) d
+      → StillOwn (inside d) (s .place) (assignmentOf (s .request .facilities) (s .assigned))
   -- "selection is refused exactly when no place is free or no such job exists"
   pub refused : (c d : Cell) (o : Outcome) (s : Selection) → Does c Select (Chosen o s) d
       → (o ≡ Refused NothingSelected → NoneToSelect (c .schedule) (c .lists))
       × (NoneToSelect (c .schedule) (c .lists) → o ≡ Refused NothingSelected)
+  -- "Marks may change at any time": the unit is marked or the mark cleared, and nothing else changes
+  pub marked : (c d : Cell) (channel unit : ℕ) (mark : UnitMark) (on : Bool) (reply : Reply)
+      → Does c (Mark channel unit mark on) reply d → refusalIn reply ≡ none
+      → d ≡ withUnits c (unitSet (c .lists .units .of) channel unit (markedUnit mark on (unitIn (c .lists .units .of) channel unit)))
+  -- "only then a normal end removes its request; an error end suspends it if its sequence is 1 or more, else removes
+  -- it": a job that ends is closing so, until a call empties its place; that call does this to its request
+  pub ended : (c d : Cell) (x : Call) (reply : Reply) → Does c x reply d → refusalIn reply ≡ none
+      → (place : ℕ) (inError : Bool) → Ends c x place inError
+      → (stateIn (inside d .jobs) place ≡ closing inError)
+      ⊎ ((stateIn (inside d .jobs) place ≡ Empty) × (d .schedule ≡ Schedule.returned (c .schedule) place inError))
+  -- a job runs until its end is called,
+  pub runsOn : (c d : Cell) (x : Call) (reply : Reply) → Does c x reply d → (place : ℕ)
+      → stateIn (inside c .jobs) place ≡ Running → ((inError : Bool) → x ≡ End place inError → ⊥)
+      → stateIn (inside d .jobs) place ≡ Running
+  -- and as long as it runs or closes, its request stands in the schedule once, running or closing there
+  pub stays : (configuration : Configuration) (es : List Event) (c : Cell) → Leads (freshCell configuration) es c
+      → (place : ℕ) → place < 16
+      → statesIn place (inSchedule (c .schedule)) ≡ standing (stateIn (inside c .jobs) place) place
   -- "packets end with the stated codes": over any history, after an accepted call each packet's status is the
   -- stated one,
   pub codes : (configuration : Configuration) (es : List Event) (c : Cell) → Leads (freshCell configuration) es c
@@ -165,10 +217,19 @@ pub record Demand3 : Type 0 where
       -- selection, so that it is of no other job, nor of one that had the same place before
       → Isolated h (told during) (inside e)
   -- "the head is handed on at once" cannot happen: while a packet of a job is in progress or stopping, on whatever
-  -- channel, everything that its selection gave it (units, drum area, core) is still its own
-  pub own : (configuration : Configuration) (es : List Event) (c : Cell) → Leads (freshCell configuration) es c
+  -- channel, the job is in its place,
+  pub moving : (configuration : Configuration) (es : List Event) (c : Cell) → Leads (freshCell configuration) es c
       → (place packet : ℕ) → inMotion (packetIn (inside c .jobs) place packet .status) ≡ true
+      → isEmpty (stateIn (inside c .jobs) place) ≡ false
+  -- and as long as it is, everything that its selection gave it (units, drum area, core) is its own, and nothing else
+  pub own : (configuration : Configuration) (es : List Event) (c : Cell) → Leads (freshCell configuration) es c
+      → (place : ℕ) → isEmpty (stateIn (inside c .jobs) place) ≡ false
       → (given : Assignment) × (taking (told es) place ≡ some given) × StillOwn (inside c) place given
+  -- while an empty place has no unit, no word of drum and no block of core
+  pub free : (configuration : Configuration) (es : List Event) (c : Cell) → Leads (freshCell configuration) es c
+      → (place : ℕ) → isEmpty (stateIn (inside c .jobs) place) ≡ true
+      → ((channel unit : ℕ) → heldBy (unitIn (inside c .units) channel unit .holder) place ≡ false)
+      × ((areaOf (jobIn (inside c .jobs) place) ≡ noArea) × (coreOf (jobIn (inside c .jobs) place) ≡ noCore))
   -- among it the unit, or on the drum the address, that the packet is on
   pub head : (configuration : Configuration) (es : List Event) (c : Cell) → Leads (freshCell configuration) es c
       → (place packet : ℕ) → inMotion (packetIn (inside c .jobs) place packet .status) ≡ true

@@ -1,0 +1,68 @@
+-- AN ACCEPTED CALL on packets, jobs or marks is one that the rules grant, and the lists are then what the rules say.
+-- Assumes nothing.
+use Prim.Native.Nat.{ℕ}
+use mathlib.Core.Path.{_≡_, refl, sym, ap, subst, _∙_}
+use mathlib.Core.Bool.{Bool, true, cond}
+use mathlib.Core.List.{List, [], _∷_}
+use mathlib.Core.Option.{none, some}
+use native.Mathlib.Omega.{arith}
+use Rattle.numbers.proofs.Tests.{by-bool}
+use Rattle.schedule_list.specs.InSchedule.{inSchedule}
+use Rattle.packets.specs.Rules as Rules
+use Rattle.packets.specs.State.{State}
+use Rattle.packets.specs.declared.Verdict.{Verdict}
+use Rattle.packets.specs.declared.Verdict.the-variants.{Denied, Granted}
+use Rattle.cell_selection.specs.Selecting.{Selects, SelectsBy, takingOf}
+use Rattle.cell_selection.proofs.SelectingLaws.{taking-granted}
+use Rattle.cell_selection.specs.declared.Selection.{Selection}
+use Rattle.cell.specs.Calls.{acted}
+use Rattle.cell.specs.declared.Cell.{Cell}
+use Rattle.cell_history.proofs.HeardLaws.{does-heard}
+use Rattle.cell_history.specs.Heard.{heardOf, inside, taken}
+use Rattle.cell_history.specs.History.{Call, Does, Reply, Said, Select}
+use Rattle.demands.specs.Refusing.{refusalIn}
+use Rattle.demands.proofs.Numbers.{answers-by, ofVerdict}
+
+granted-of : (v : Verdict) → ofVerdict v ≡ none → v ≡ Granted
+granted-of Granted e = refl
+granted-of (Denied n) e = absurd (let z : _≡_ {A = ℕ} 0 1 = cc in omega arith)
+
+-- what a call of the lists is accepted for
+module _ (c : Cell) (y : Rules.Call) where
+  alone : (x : Rules.Call) (reply : Reply) → reply ≡ Said (acted c x .answer) → refusalIn reply ≡ none → x ∷ [] ≡ y ∷ [] → Rules.refusal (inside c) y ≡ Granted
+  alone x reply h e q =
+      let g : Rules.refusal (inside c) x ≡ Granted = granted-of (Rules.refusal (inside c) x) (sym (answers-by c x) ∙ sym (ap refusalIn h) ∙ e) in
+      let p : x ≡ y = cc in
+      subst (λ (z : Rules.Call). Rules.refusal (inside c) z ≡ Granted) p g
+
+  not-cons : _≡_ {A = List Rules.Call} [] (y ∷ []) → ⊥
+  not-cons q = let z : _≡_ {A = ℕ} 0 1 = cc in omega arith
+
+  taken-one : (s : Selection) → Selects (c .schedule) (c .lists) s → cond (s .found) (takingOf s ∷ []) [] ≡ y ∷ [] → Rules.refusal (inside c) y ≡ Granted
+  taken-one s w q =
+      by-bool (s .found)
+      (λ t. let p : takingOf s ∷ [] ≡ y ∷ [] = rw t at q in
+      let i : takingOf s ≡ y = cc in
+      subst (λ (z : Rules.Call). Rules.refusal (inside c) z ≡ Granted) i
+      (taking-granted (c .schedule) (c .lists) s (subst (λ (b : Bool). SelectsBy b (inSchedule (c .schedule)) (c .lists) s) t w)))
+      (λ t. absurd (not-cons (rw t at q)))
+
+pub heard-granted : (c d : Cell) (x : Call) (reply : Reply) → Does c x reply d → refusalIn reply ≡ none → (y : Rules.Call) → heardOf x reply ≡ y ∷ [] → Rules.refusal (inside c) y ≡ Granted
+heard-granted c d (Call.Deck bytes) reply h e y q = absurd (not-cons c y q)
+heard-granted c d Select reply h e y q = taken-one c y (h .0 .selection) (h .1 .0 .takes .selects) (sym (ap taken (h .1 .1 .0)) ∙ q)
+heard-granted c d (Call.Submit j p f k w) reply h e y q = alone c y (Rules.Submit j p f k w) reply (h .0) e q
+heard-granted c d (Call.Start k) reply h e y q = alone c y (Rules.Start k) reply (h .0) e q
+heard-granted c d (Call.Complete k how) reply h e y q = alone c y (Rules.Complete k how) reply (h .0) e q
+heard-granted c d (Call.End j b) reply h e y q = alone c y (Rules.End j b) reply (h .0) e q
+heard-granted c d (Call.Mark k u m on) reply h e y q = alone c y (Rules.Mark k u m on) reply (h .0) e q
+heard-granted c d (Call.Release id) reply h e y q = absurd (not-cons c y q)
+heard-granted c d (Call.Delete id) reply h e y q = absurd (not-cons c y q)
+heard-granted c d (Call.Status j p) reply h e y q = absurd (not-cons c y q)
+
+-- and the lists are then what the rules say
+pub accepted-is : (c d : Cell) (x : Call) (reply : Reply) → Does c x reply d → refusalIn reply ≡ none → (y : Rules.Call) → heardOf x reply ≡ y ∷ []
+    → (Rules.refusal (inside c) y ≡ Granted) × (inside d ≡ Rules.accept (inside c) y)
+unfolding Rules.run Rules.step
+accepted-is c d x reply h e y q =
+    let g = heard-granted c d x reply h e y q in
+    (g, does-heard c d x reply h ∙ ap (Rules.run (inside c)) q ∙ ap (λ (v : Verdict). Rules.decided (inside c) y v .state) g)

@@ -1,0 +1,121 @@
+-- WHAT A JOB HAS, shown of every cell that a history leads to: after its selection what was assigned to it, and as long
+-- as it is in its place just that; an empty place has nothing. Assumes nothing.
+use Prim.Native.Nat.{ℕ}
+use mathlib.Core.Path.{_≡_, refl, sym, ap, subst, _∙_}
+use mathlib.Core.Bool.{true, false, cond}
+use mathlib.Core.List.{List, [], _∷_, _++_}
+use mathlib.Core.Option.{Option, none, some}
+use borrow.Author.Tests.{eqb-true}
+use Rattle.numbers.proofs.Tests.{never}
+use Rattle.numbers.specs.declared.Outcome.the-variants.{Done}
+use Rattle.units.specs.State.{unitIn}
+use Rattle.units.specs.declared.Holder.{Holder}
+use Rattle.units.specs.declared.Holder.the-variants.{Free, Held}
+use Rattle.channels.specs.declared.Configuration.{Configuration}
+use Rattle.assign_drum.specs.Drum.{noArea}
+use Rattle.packets.specs.Demand as Told
+use Rattle.packets.specs.Rules as Rules
+use Rattle.packets.specs.State.{State, heldBy, inMotion, isEmpty, jobIn, noCore, packetIn, stateIn}
+use Rattle.packets.specs.declared.Assignment.{Assignment}
+use Rattle.packets.specs.declared.JobState.the-variants.{Running}
+use Rattle.packets.specs.declared.Verdict.{Verdict}
+use Rattle.packets.proofs.Inv.{Inv, motion-busy}
+use Rattle.packets.proofs.Laws.{eqb-self}
+use Rattle.packets.proofs.Store.{state-fresh}
+use Rattle.packets.proofs.Steps.{run-inv}
+use Rattle.packets_given.specs.Given.{OnItsOwn, StillOwn, takenBy, takenIn, taking}
+use Rattle.cell_taken.specs.Taken.{areaOf, coreOf}
+use Rattle.cell_selection.specs.Selecting.{assignmentOf, takingOf}
+use Rattle.cell_selection.specs.declared.Selection.{Selection}
+use Rattle.cell.specs.Calls.{freshCell}
+use Rattle.cell.specs.declared.Cell.{Cell}
+use Rattle.cell_history.proofs.FromFresh.{selected-of, taking-of}
+use Rattle.cell_history.proofs.HeardLaws.{leads-heard}
+use Rattle.cell_history.specs.Heard.{heard, inside, told, toldOf}
+use Rattle.cell_history.specs.History.{Chosen, Does, Event, Leads, Select}
+use Rattle.cell_agreement.proofs.PlaceLaws.{fresh-cell-inv}
+use Rattle.cell_reached.proofs.ReachedProof.{every-cell}
+
+module _ (configuration : Configuration) (es : List Event) (c : Cell) (l : Leads (freshCell configuration) es c) where
+  -- a job of which a packet moves is in its place
+  pub still-there : (place packet : ℕ) → inMotion (packetIn (inside c .jobs) place packet .status) ≡ true → isEmpty (stateIn (inside c .jobs) place) ≡ false
+  still-there place packet m = every-cell configuration es c l .always .live place packet (motion-busy (packetIn (inside c .jobs) place packet .status) m)
+
+  pub still-own : (place : ℕ) → isEmpty (stateIn (inside c .jobs) place) ≡ false
+      → (given : Assignment) × (taking (told es) place ≡ some given) × StillOwn (inside c) place given
+  still-own place alive =
+      let r = every-cell configuration es c l in
+      let g = r .given place .live alive in (
+        g .0,
+        g .1,
+        record { there = alive; holds = g .2; drum = λ i x a p q. r .drum i place x a alive q p; core = λ i x a p q. r .core i place x a alive q p },
+      )
+
+  pub free-place : (place : ℕ) → isEmpty (stateIn (inside c .jobs) place) ≡ true
+      → ((channel unit : ℕ) → heldBy (unitIn (inside c .units) channel unit .holder) place ≡ false)
+      × ((areaOf (jobIn (inside c .jobs) place) ≡ noArea) × (coreOf (jobIn (inside c .jobs) place) ≡ noCore))
+  unfolding stateIn
+  free-place place e = (every-cell configuration es c l .given place .empty e, (rw e refl, rw e refl))
+
+  -- who holds a unit
+  its-holder : (v : Holder) (j : ℕ) → heldBy v j ≡ true → v ≡ Held j
+  its-holder Free j e = never e refl
+  its-holder (Held k) j e = ap Held (eqb-true k j e)
+
+  pub on-its-own : (place packet : ℕ) → inMotion (packetIn (inside c .jobs) place packet .status) ≡ true → OnItsOwn (inside c) place (packetIn (inside c .jobs) place packet)
+  on-its-own place packet m =
+      let r = every-cell configuration es c l in
+      let b = motion-busy (packetIn (inside c .jobs) place packet .status) m in
+      (λ d. its-holder _ place (r .always .held place packet b d), λ d. r .addresses place packet b d)
+
+-- ---- one call more
+
+leads-more : (c d e : Cell) (es : List Event) (x : Event) → Leads c es d → Does d (x .call) (x .reply) e → Leads c (es ++ (x ∷ [])) e
+leads-more c d e [] x h k = (e, (subst (λ (m : Cell). Does m (x .call) (x .reply) e) h k, refl))
+leads-more c d e (y ∷ es) x h k = (h .0, (h .1 .0, leads-more (h .0) d e es x (h .1 .1) k))
+
+told-more : (es : List Event) (x : Event) (t : Told.Event) → toldOf (x .call) (x .reply) ≡ t ∷ [] → told (es ++ (x ∷ [])) ≡ told es ++ (t ∷ [])
+told-more [] x t e = rw e refl
+told-more (y ∷ es) x t e = ap (λ (r : List Told.Event). toldOf (y .call) (y .reply) ++ r) (told-more es x t e) ∙ joined (toldOf (y .call) (y .reply)) (told es) (t ∷ [])
+  where
+    joined : (a b m : List Told.Event) → a ++ (b ++ m) ≡ (a ++ b) ++ m
+    joined [] b m = refl
+    joined (z ∷ a) b m = ap (λ (r : List Told.Event). z ∷ r) (joined a b m)
+
+taken-more : (j : ℕ) (last : Option Assignment) (es : List Told.Event) (t : Told.Event) → takenIn j last (es ++ (t ∷ [])) ≡ takenBy j (takenIn j last es) (t .call) (t .answer)
+unfolding takenIn
+taken-more j last [] t = refl
+taken-more j last (y ∷ es) t = taken-more j (takenBy j last (y .call) (y .answer)) es t
+
+-- WHAT WAS ASSIGNED the job holds after its selection
+module _ (configuration : Configuration) (es : List Event) (c : Cell) (l : Leads (freshCell configuration) es c) (d : Cell) (s : Selection) (k : Does c Select (Chosen Done s) d) where
+  abbrev event : Event
+  event = record { call = Select; reply = Chosen Done s }
+
+  abbrev assigned : Assignment
+  assigned = assignmentOf (s .request .facilities) (s .assigned)
+
+  inv : Inv (inside c)
+  inv = rw (leads-heard (freshCell configuration) c es l) (run-inv (inside (freshCell configuration)) (fresh-cell-inv configuration) (heard es))
+
+  runs-there : stateIn (inside d .jobs) (s .place) ≡ Running
+  unfolding Rules.step Rules.accept
+  runs-there =
+      let t = taking-of c d s k in
+      let p = selected-of c d s k .place .0 in
+      ap (λ (x : State). stateIn (x .jobs) (s .place)) (t .1 ∙ ap (λ (v : Verdict). Rules.decided (inside c) (takingOf s) v .state) (t .0))
+      ∙ state-fresh (inside c .jobs) (s .place) assigned (s .place) (rw (inv .places) p) ∙ rw (eqb-self (s .place)) refl
+
+  given-then : taking (told (es ++ (event ∷ []))) (s .place) ≡ some assigned
+  unfolding takenBy
+  given-then =
+      ap (λ (m : List Told.Event). taking m (s .place)) (told-more es event _ refl)
+      ∙ taken-more (s .place) none (told es) _
+      ∙ rw (eqb-self (s .place)) refl
+
+  pub holds-then : StillOwn (inside d) (s .place) assigned
+  holds-then =
+      let g = still-own configuration (es ++ (event ∷ [])) d (leads-more (freshCell configuration) c d es event l k) (s .place) (ap isEmpty runs-there) in
+      let e : some (g .0) ≡ some assigned = sym (g .1) ∙ given-then in
+      let i : g .0 ≡ assigned = cc in
+      subst (StillOwn (inside d) (s .place)) i (g .2)

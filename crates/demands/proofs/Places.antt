@@ -1,0 +1,282 @@
+-- WHAT CALLS MAKE OF PLACES AND OF THEIR REQUESTS, shown from what each call leaves: a job that ends is closing until
+-- a call empties its place, and that call removes or suspends its request; a mark changes its unit alone. Assumes
+-- nothing.
+use Prim.Native.Nat.{ℕ}
+use mathlib.Core.Path.{_≡_, refl, sym, ap, subst, _∙_}
+use mathlib.Core.Bool.{Bool, true, false, cond}
+use mathlib.Core.List.{List, [], _∷_}
+use mathlib.Core.Logic.{_⊎_, inl, inr, ⊎-elim}
+use mathlib.Core.Option.{Option, none, some}
+use native.Mathlib.Omega.{arith}
+use lib.Dec.{eqb}
+use lib.ListN.{getD, set}
+use lib.Seq.{getD-set-other}
+use borrow.Author.Tests.{eqb-true, eqb-false}
+use Rattle.numbers.proofs.Tests.{by-bool, never, both}
+use Rattle.numbers.specs.declared.Refusal.{Refusal}
+use Rattle.units.specs.State.{markedUnit, unitIn, unitSet}
+use Rattle.units.specs.declared.Mark.{Mark as UnitMark}
+use Rattle.schedule_list.specs.declared.Schedule.{Schedule}
+use Rattle.schedule_list.specs.InSchedule.{inSchedule}
+use Rattle.schedule.specs.Calls as Schedules
+use Rattle.packets.specs.Picks.{find}
+use Rattle.packets.specs.Rules as Rules
+use Rattle.packets.specs.Rules.{closed, closing, finished, freshJob, isDone, leaving, leavingAs, returnIfDone}
+use Rattle.packets.specs.State.{State, isClosing, isEmpty, isRunning, motionOn, noJob, stateIn}
+use Rattle.packets.specs.declared.Answer.{Answer}
+use Rattle.packets.specs.declared.Assignment.{Assignment}
+use Rattle.packets.specs.declared.How.{How}
+use Rattle.packets.specs.declared.Job.{Job}
+use Rattle.packets.specs.declared.JobState.{JobState}
+use Rattle.packets.specs.declared.JobState.the-variants.{ClosingError, ClosingNormal, Empty, Running}
+use Rattle.packets.specs.declared.Motion.{Motion}
+use Rattle.packets.specs.declared.Verdict.{Verdict}
+use Rattle.packets.specs.declared.Verdict.the-variants.{Granted}
+use Rattle.packets.proofs.Laws.{eqb-self}
+use Rattle.packets.proofs.States.{states-begun, states-closed, states-finished, states-returned, states-submit}
+use Rattle.packets.proofs.Steps.{busy-of}
+use Rattle.packets.proofs.Told.{assigns-to, completes-on, ends-of}
+use Rattle.lists.proofs.History.{outcome-is}
+use Rattle.lists.specs.Outcomes.{outcome, settled}
+use Rattle.cell_selection.specs.Selecting.{SelectsBy, assignmentOf, takingOf}
+use Rattle.cell_selection.specs.declared.Selection.{Selection}
+use Rattle.cell_selection.proofs.SelectingLaws.{taking-granted}
+use Rattle.cell.specs.Calls.{acted, cellOf, follows, leftBy}
+use Rattle.cell.specs.declared.Cell.{Cell}
+use Rattle.cell_history.proofs.HeardLaws.{does-heard}
+use Rattle.cell_history.specs.Heard.{inside}
+use Rattle.cell_history.specs.History.{Call, Complete, Deck, Delete, Does, End, Mark, Release, Reply, Select, Start, Status, Submit}
+use Rattle.demands.specs.Demands.{Ends, withUnits}
+use Rattle.demands.specs.Refusing.{refusalIn}
+use Rattle.demands.proofs.Accepted.{accepted-is}
+use Rattle.demands.proofs.Standing.{stands}
+
+-- ---- a refused call, or an accepted one
+
+by-refusal : (c d : Cell) (x : Call) (reply : Reply) → Does c x reply d → (P : Cell → Type 0) → P c → (refusalIn reply ≡ none → P d) → P d
+by-refusal c d x reply h P same f = go (refusalIn reply) refl
+  where
+    go : (o : Option Refusal) → refusalIn reply ≡ o → P d
+    go none e = f e
+    go (some n) e = subst P (sym (stands c d x reply n h e)) same
+
+-- ---- the state of a place, call by call
+
+states-taken : (s : State) (j : ℕ) (asg : Assignment) (i : ℕ) → isEmpty (stateIn (s .jobs) j) ≡ true → isEmpty (stateIn (s .jobs) i) ≡ false
+    → stateIn (set (s .jobs) j (freshJob asg)) i ≡ stateIn (s .jobs) i
+unfolding stateIn
+states-taken s j asg i a b =
+    ap (λ (k : Job). k .state) (getD-set-other (s .jobs) j i (freshJob asg) noJob (λ e. never (ap (λ (n : ℕ). isEmpty (getD (s .jobs) n noJob .state)) e ∙ a) b))
+
+states-started : (s : State) (k i : ℕ) → stateIn (Rules.started s k (find (Rules.startable s k) (s .queue)) .jobs) i ≡ stateIn (s .jobs) i
+states-started s k i = go (find (Rules.startable s k) (s .queue))
+  where
+    go : (o : Option ℕ) → stateIn (Rules.started s k o .jobs) i ≡ stateIn (s .jobs) i
+    go none = refl
+    go (some e) = states-begun s k e i
+
+-- a return, if the job is done, empties its place and no other
+states-left : (s : State) (j i : ℕ) → eqb i j ≡ false → stateIn (returnIfDone j s .jobs) i ≡ stateIn (s .jobs) i
+states-left s j i n = by-bool (isDone s j) (λ d. rw d (states-returned s j d i ∙ rw n)) (λ d. rw d)
+
+abbrev given : Selection → Assignment
+given r = assignmentOf (r .request .facilities) (r .assigned)
+
+select-keeps : (c : Cell) (r : Selection) (i : ℕ) → SelectsBy (r .found) (inSchedule (c .schedule)) (c .lists) r → isEmpty (stateIn (inside c .jobs) i) ≡ false
+    → stateIn (Rules.run (inside c) (cond (r .found) (takingOf r ∷ []) []) .jobs) i ≡ stateIn (inside c .jobs) i
+unfolding Rules.run Rules.step Rules.accept
+select-keeps c r i w a =
+    by-bool (r .found)
+    (λ t. let g = taking-granted (c .schedule) (c .lists) r (subst (λ (b : Bool). SelectsBy b (inSchedule (c .schedule)) (c .lists) r) t w) in
+    rw t (ap (λ (v : Verdict). stateIn (Rules.decided (inside c) (takingOf r) v .state .jobs) i) g ∙ states-taken (inside c) (r .place) (given r) i (assigns-to (inside c) (r .place) (given r) g .1) a))
+    (λ t. rw t refl)
+
+-- what leaves the state of every live place: all calls but completions and ends
+abbrev Other : Call → Type 0
+Other (Deck bytes) = Unit {0}
+Other Select = Unit {0}
+Other (Submit j p f k w) = Unit {0}
+Other (Start k) = Unit {0}
+Other (Complete k how) = ⊥
+Other (End j e) = ⊥
+Other (Mark k u m on) = Unit {0}
+Other (Release id) = Unit {0}
+Other (Delete id) = Unit {0}
+Other (Status j p) = Unit {0}
+
+module _ (c d : Cell) (i : ℕ) (alive : isEmpty (stateIn (inside c .jobs) i) ≡ false) where
+  abbrev Same : Cell → Type 0
+  Same x = stateIn (inside x .jobs) i ≡ stateIn (inside c .jobs) i
+
+  acted-same : (x : Call) (reply : Reply) → Does c x reply d → (y : Rules.Call) → (refusalIn reply ≡ none → inside d ≡ Rules.accept (inside c) y)
+      → stateIn (Rules.accept (inside c) y .jobs) i ≡ stateIn (inside c .jobs) i → Same d
+  acted-same x reply h y is e = by-refusal c d x reply h Same refl (λ n. ap (λ (s : State). stateIn (s .jobs) i) (is n) ∙ e)
+
+  others-keep : (x : Call) (reply : Reply) → Does c x reply d → Other x → Same d
+  unfolding Rules.run Rules.accept
+  others-keep (Deck bytes) reply h o = ap (λ (s : State). stateIn (s .jobs) i) (does-heard c d (Deck bytes) reply h)
+  others-keep Select reply h o =
+      ap (λ (s : State). stateIn (s .jobs) i) (does-heard c d Select reply h)
+      ∙ rw (h .1 .1 .0) (select-keeps c (h .0 .selection) i (h .1 .0 .takes .selects) alive)
+  others-keep (Submit j p f k w) reply h o =
+      let y = Rules.Submit j p f k w in
+      acted-same (Submit j p f k w) reply h y (λ n. accepted-is c d (Submit j p f k w) reply h n y refl .1) (states-submit (inside c) j p f k (Rules.atOf w) (Rules.toOf w) i)
+  others-keep (Start k) reply h o = acted-same (Start k) reply h (Rules.Start k) (λ n. accepted-is c d (Start k) reply h n (Rules.Start k) refl .1) (states-started (inside c) k i)
+  others-keep (Complete k how) reply h o = absurd o
+  others-keep (End j e) reply h o = absurd o
+  others-keep (Mark k u m on) reply h o =
+      let y = Rules.Mark k u m on in
+      acted-same (Mark k u m on) reply h y (λ n. accepted-is c d (Mark k u m on) reply h n y refl .1) refl
+  others-keep (Release id) reply h o = ap (λ (s : State). stateIn (s .jobs) i) (does-heard c d (Release id) reply h)
+  others-keep (Delete id) reply h o = ap (λ (s : State). stateIn (s .jobs) i) (does-heard c d (Delete id) reply h)
+  others-keep (Status j p) reply h o = ap (λ (s : State). stateIn (s .jobs) i) (does-heard c d (Status j p) reply h)
+
+-- ---- what a completion and an end leave
+
+-- the schedule after an accepted call of the lists
+schedule-after : (c d : Cell) (y : Rules.Call) → d ≡ acted c y .cell → Rules.refusal (inside c) y ≡ Granted → d .schedule ≡ follows (c .schedule) y (Rules.answer (inside c) y)
+unfolding acted Rules.step
+schedule-after c d y e g =
+    ap (λ (x : Cell). x .schedule) e
+    ∙ ap (follows (c .schedule) y) (outcome-is (c .lists) y .0 ∙ ap (λ (v : Verdict). Rules.decided (inside c) y v .answer) g)
+
+-- what is left of a request, by how its job is closing
+left-as : (e : Bool) (s other : Schedule) (j : ℕ) → leftBy (leavingAs (closing e)) s j other ≡ Schedules.returned s j e
+left-as true s other j = refl
+left-as false s other j = refl
+
+closing-live : (e : Bool) → (isEmpty (closing e) ≡ false) × (isRunning (closing e) ≡ false)
+closing-live true = (refl, refl)
+closing-live false = (refl, refl)
+
+-- it is closing so, or has returned
+abbrev Over : Cell → ℕ → Bool → State → Schedule → Type 0
+Over c place inError s schedule =
+    (stateIn (s .jobs) place ≡ closing inError) ⊎ ((stateIn (s .jobs) place ≡ Empty) × (schedule ≡ Schedules.returned (c .schedule) place inError))
+
+over-left : (c : Cell) (s : State) (j : ℕ) (e : Bool) (other : Schedule) → stateIn (s .jobs) j ≡ closing e
+    → Over c j e (returnIfDone j s) (leftBy (leaving j s) (c .schedule) j other)
+over-left c s j e other is =
+    by-bool (isDone s j)
+    (λ t. rw t (inr (states-returned s j t j ∙ rw (eqb-self j) refl, ap (λ (x : JobState). leftBy (leavingAs x) (c .schedule) j other) is ∙ left-as e (c .schedule) other j)))
+    (λ t. rw t (inl is))
+
+over-as : (c : Cell) (j : ℕ) (e : Bool) {s s′ : State} {x x′ : Schedule} → s ≡ s′ → x ≡ x′ → Over c j e s x → Over c j e s′ x′
+over-as c j e {s} {s′} {x} {x′} p q o = subst (λ (y : State). Over c j e y x′) p (subst (λ (y : Schedule). Over c j e s y) q o)
+
+module _ (c d : Cell) (reply : Reply) (ok : refusalIn reply ≡ none) (place : ℕ) (inError : Bool) where
+  abbrev Is : Type 0
+  Is = Over c place inError (inside d) (d .schedule)
+
+  ended-complete : (k : ℕ) (how : How) → Does c (Complete k how) reply d → stateIn (inside c .jobs) place ≡ closing inError → Is
+  unfolding Rules.accept Rules.answer
+  ended-complete k how h e =
+      let s = inside c in
+      let a = accepted-is c d (Complete k how) reply h ok (Rules.Complete k how) refl in
+      let o = busy-of (motionOn s k) (completes-on s k how (a .0) .1) in
+      let j = o .0 in
+      let s₁ = finished s k how j (o .1) in
+      let i : inside d ≡ returnIfDone j s₁ = a .1 ∙ ap (Rules.completed s k how) (o .2) in
+      let g : d .schedule ≡ leftBy (leaving j s₁) (c .schedule) j (c .schedule) =
+      schedule-after c d (Rules.Complete k how) (h .1) (a .0) ∙ ap (λ (m : Motion). follows (c .schedule) (Rules.Complete k how) (Rules.completes s k how m)) (o .2) in
+      by-bool (eqb place j)
+      (λ t. let q : j ≡ place = sym (eqb-true place j t) in
+      let v : stateIn (s₁ .jobs) j ≡ closing inError = states-finished s k how j (o .1) j ∙ ap (stateIn (s .jobs)) q ∙ e in
+      subst (λ (n : ℕ). Over c n inError (inside d) (d .schedule)) q
+      (over-as c j inError (sym i) (sym g) (over-left c s₁ j inError (c .schedule) v)))
+      (λ t. inl (ap (λ (x : State). stateIn (x .jobs) place) i ∙ states-left s₁ j place t ∙ states-finished s k how j (o .1) place ∙ e))
+
+  ended-end : (j : ℕ) (b : Bool) → Does c (End j b) reply d → Ends c (End j b) place inError → Is
+  unfolding Rules.accept Rules.answer
+  ended-end j b h en =
+      let s = inside c in
+      let a = accepted-is c d (End j b) reply h ok (Rules.End j b) refl in
+      let run = ends-of s j b (a .0) in
+      let s₁ = closed s j b in
+      let g : d .schedule ≡ leftBy (leaving j s₁) (c .schedule) j (Schedules.closing (c .schedule) j) = schedule-after c d (Rules.End j b) (h .1) (a .0) in
+      ⊎-elim
+      (λ q. let v : stateIn (s₁ .jobs) j ≡ closing b = states-closed s j b run j ∙ rw (eqb-self j) refl in
+      let w : Over c j b (inside d) (d .schedule) = over-as c j b (sym (a .1)) (sym g) (over-left c s₁ j b (Schedules.closing (c .schedule) j) v) in
+      let x : j ≡ place = cc in
+      let y : b ≡ inError = cc in
+      subst (λ (n : ℕ). Over c n inError (inside d) (d .schedule)) x (subst (λ (z : Bool). Over c j z (inside d) (d .schedule)) y w))
+      (λ e. let n : eqb place j ≡ false =
+      by-bool (eqb place j)
+      (λ t. absurd (never (subst (λ (m : ℕ). isRunning (stateIn (s .jobs) m) ≡ true) (sym (eqb-true place j t)) run) (ap isRunning e ∙ closing-live inError .1)))
+      (λ t. t) in
+      inl (ap (λ (x : State). stateIn (x .jobs) place) (a .1) ∙ states-left s₁ j place n ∙ states-closed s j b run place ∙ rw n e))
+      en
+
+  -- any other call leaves a closing place as it is
+  ended-kept : (x : Call) → Does c x reply d → Other x → (x ≡ End place inError → ⊥) → Ends c x place inError → Is
+  ended-kept x h o not-it en =
+      ⊎-elim (λ q. absurd (not-it q)) (λ e. inl (others-keep c d place (ap isEmpty e ∙ closing-live inError .0) x reply h o ∙ e)) en
+
+  pub ended-so : (x : Call) → Does c x reply d → Ends c x place inError → Is
+  ended-so (Deck bytes) h en = ended-kept (Deck bytes) h tt (λ q. let z : _≡_ {A = ℕ} 0 1 = cc in omega arith) en
+  ended-so Select h en = ended-kept Select h tt (λ q. let z : _≡_ {A = ℕ} 0 1 = cc in omega arith) en
+  ended-so (Submit j p f k w) h en = ended-kept (Submit j p f k w) h tt (λ q. let z : _≡_ {A = ℕ} 0 1 = cc in omega arith) en
+  ended-so (Start k) h en = ended-kept (Start k) h tt (λ q. let z : _≡_ {A = ℕ} 0 1 = cc in omega arith) en
+  ended-so (Complete k how) h en = ⊎-elim (λ q. absurd (let z : _≡_ {A = ℕ} 0 1 = cc in omega arith)) (λ e. ended-complete k how h e) en
+  ended-so (End j b) h en = ended-end j b h en
+  ended-so (Mark k u m on) h en = ended-kept (Mark k u m on) h tt (λ q. let z : _≡_ {A = ℕ} 0 1 = cc in omega arith) en
+  ended-so (Release id) h en = ended-kept (Release id) h tt (λ q. let z : _≡_ {A = ℕ} 0 1 = cc in omega arith) en
+  ended-so (Delete id) h en = ended-kept (Delete id) h tt (λ q. let z : _≡_ {A = ℕ} 0 1 = cc in omega arith) en
+  ended-so (Status j p) h en = ended-kept (Status j p) h tt (λ q. let z : _≡_ {A = ℕ} 0 1 = cc in omega arith) en
+
+-- ---- a running job
+
+module _ (c d : Cell) (reply : Reply) (place : ℕ) (e : stateIn (inside c .jobs) place ≡ Running) where
+  not-done : (s : State) → stateIn (s .jobs) place ≡ Running → isDone s place ≡ false
+  not-done s r = by-bool (isDone s place) (λ t. absurd (never (both (isClosing (stateIn (s .jobs) place)) _ t .0) (ap isClosing r))) (λ t. t)
+
+  runs-left : (s : State) (j : ℕ) → stateIn (s .jobs) place ≡ Running → stateIn (returnIfDone j s .jobs) place ≡ Running
+  runs-left s j r =
+      by-bool (eqb place j)
+      (λ t. subst (λ (n : ℕ). stateIn (returnIfDone n s .jobs) place ≡ Running) (eqb-true place j t) (rw (not-done s r) r))
+      (λ t. states-left s j place t ∙ r)
+
+  kept : (x : Call) → Does c x reply d → Other x → stateIn (inside d .jobs) place ≡ Running
+  kept x h o = others-keep c d place (ap isEmpty e) x reply h o ∙ e
+
+  runs-complete : (k : ℕ) (how : How) → Does c (Complete k how) reply d → stateIn (inside d .jobs) place ≡ Running
+  unfolding Rules.accept
+  runs-complete k how h =
+      by-refusal c d (Complete k how) reply h (λ x. stateIn (inside x .jobs) place ≡ Running) e
+      (λ ok. let s = inside c in
+      let a = accepted-is c d (Complete k how) reply h ok (Rules.Complete k how) refl in
+      let o = busy-of (motionOn s k) (completes-on s k how (a .0) .1) in
+      let s₁ = finished s k how (o .0) (o .1) in
+      let i : inside d ≡ returnIfDone (o .0) s₁ = a .1 ∙ ap (Rules.completed s k how) (o .2) in
+      let v : stateIn (s₁ .jobs) place ≡ Running = states-finished s k how (o .0) (o .1) place ∙ e in
+      ap (λ (x : State). stateIn (x .jobs) place) i ∙ runs-left s₁ (o .0) v)
+
+  runs-end : (j : ℕ) (b : Bool) → Does c (End j b) reply d → (End j b ≡ End place b → ⊥) → stateIn (inside d .jobs) place ≡ Running
+  unfolding Rules.accept
+  runs-end j b h n =
+      by-refusal c d (End j b) reply h (λ x. stateIn (inside x .jobs) place ≡ Running) e
+      (λ ok. let s = inside c in
+      let a = accepted-is c d (End j b) reply h ok (Rules.End j b) refl in
+      let f : eqb place j ≡ false = by-bool (eqb place j) (λ t. absurd (n (ap (λ (m : ℕ). End m b) (sym (eqb-true place j t))))) (λ t. t) in
+      ap (λ (x : State). stateIn (x .jobs) place) (a .1) ∙ states-left (closed s j b) j place f ∙ states-closed s j b (ends-of s j b (a .0)) place ∙ rw f e)
+
+  pub runs-on : (x : Call) → Does c x reply d → ((inError : Bool) → x ≡ End place inError → ⊥) → stateIn (inside d .jobs) place ≡ Running
+  runs-on (Deck bytes) h n = kept (Deck bytes) h tt
+  runs-on Select h n = kept Select h tt
+  runs-on (Submit j p f k w) h n = kept (Submit j p f k w) h tt
+  runs-on (Start k) h n = kept (Start k) h tt
+  runs-on (Complete k how) h n = runs-complete k how h
+  runs-on (End j b) h n = runs-end j b h (n b)
+  runs-on (Mark k u m on) h n = kept (Mark k u m on) h tt
+  runs-on (Release id) h n = kept (Release id) h tt
+  runs-on (Delete id) h n = kept (Delete id) h tt
+  runs-on (Status j p) h n = kept (Status j p) h tt
+
+-- ---- a mark
+
+pub marked-so : (c d : Cell) (k u : ℕ) (m : UnitMark) (on : Bool) (reply : Reply) → Does c (Mark k u m on) reply d → refusalIn reply ≡ none
+    → d ≡ withUnits c (unitSet (c .lists .units .of) k u (markedUnit m on (unitIn (c .lists .units .of) k u)))
+unfolding acted outcome Rules.accept
+marked-so c d k u m on reply h ok =
+    let g = accepted-is c d (Mark k u m on) reply h ok (Rules.Mark k u m on) refl .0 in
+    h .1 ∙ ap (λ (v : Verdict). cellOf (follows (c .schedule) (Rules.Mark k u m on) (settled (c .lists) (Rules.Mark k u m on) v .answer)) (settled (c .lists) (Rules.Mark k u m on) v .lists)) g
