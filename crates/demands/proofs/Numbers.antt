@@ -10,8 +10,11 @@ use lib.Dec.{leb, ltb}
 use lib.ListN.{length}
 use Rattle.numbers.proofs.Tests.{by-bool, never}
 use Rattle.numbers.specs.declared.Refusal.{Refusal}
-use Rattle.numbers.specs.declared.Refusal.the-variants.{BadDeck, JobRuns, NoSuchRequest, OutOfRange}
+use Rattle.numbers.specs.declared.Refusal.the-variants.{BadDeck, ChannelBusy, JobRuns, NoSuchRequest, NothingStartable, OutOfRange}
+use Rattle.units.specs.State.{unitIn}
 use Rattle.units.specs.declared.Mark.{Mark as Mark′}
+use Rattle.channels.specs.declared.Fitted.{Fitted}
+use Rattle.channels.specs.declared.Fitted.the-variants.{Nothing, With}
 use Rattle.cards_fields.specs.Deck.{cardsOf, deckEnd, terminated}
 use Rattle.schedule_entries.specs.Entries.{active, isNamed, suspended}
 use Rattle.schedule_entries.specs.declared.Entry.{Entry}
@@ -19,13 +22,15 @@ use Rattle.schedule_list.specs.InSchedule.{find as findNamed, inSchedule}
 use Rattle.schedule_list.specs.declared.Schedule.{Schedule}
 use Rattle.schedule_deck.specs.Report.{outcomeBy}
 use Rattle.schedule.specs.Calls.{deletedBy, releasedBy}
-use Rattle.packets.specs.Picks.{find}
+use Rattle.packets.specs.Picks.{any, find}
 use Rattle.packets.specs.Rules as Rules
-use Rattle.packets.specs.State.{State, motionOn, stateIn}
+use Rattle.packets.specs.State.{State, configured, fittedOn, isIdle, jobIn, motionOn, stateIn}
 use Rattle.packets.specs.declared.How.{How}
+use Rattle.packets.specs.declared.How.the-variants.{Cut, Failed, Full}
 use Rattle.packets.specs.declared.Motion.{Motion}
 use Rattle.packets.specs.declared.Motion.the-variants.{Busy, Idle}
 use Rattle.packets.specs.declared.Spot.{Spot}
+use Rattle.packets.specs.declared.Spot.the-variants.{OnDrum, OnUnit}
 use Rattle.packets.specs.declared.Verdict.{Verdict}
 use Rattle.packets.specs.declared.Verdict.the-variants.{Denied, Granted}
 use Rattle.lists.specs.Outcomes.{outcome, settled, stateOf}
@@ -36,7 +41,7 @@ use Rattle.cell.specs.declared.Cell.{Cell}
 use Rattle.cell_history.specs.Heard.{inside}
 use Rattle.cell_history.specs.History.{Call, Complete, Deck, Delete, Does, End, Mark, Release, Reply, Select, Start, Status, Submit}
 use Rattle.demands.specs.Refusing.{ofAnswer, ofOutcome, ofStatus, refusalIn}
-use Rattle.demands.specs.Table.{RefusedBy, Row, SelectRefused, isActive, isSelect, isSuspended, isThere, lowest, rowsIn}
+use Rattle.demands.specs.Table.{RefusedBy, Row, SelectRefused, has, isActive, isSelect, isSuspended, isThere, lowest, row, rowsIn, submitRows}
 
 -- a verdict as a refusal, if it is one
 abbrev pub ofVerdict : Verdict → Option Refusal
@@ -81,17 +86,33 @@ answers-by c x = go (Rules.refusal (stateOf (c .lists)) x)
     go (Denied n) = refl
 
 -- the rules' tests of each call are its rows
+submit-is : (s : State) (on : Fitted) (j p f k : ℕ) (w : Spot)
+    → Rules.submitRefusal on (jobIn (s .jobs) j) (unitIn (s .units) k (Rules.atOf w)) j p f k w ≡ chain (submitRows s on j p f k w)
+unfolding stateIn
+submit-is s Nothing j p f k w = refl
+submit-is s (With kind n) j p f k (OnUnit u) = refl
+submit-is s (With kind n) j p f k (OnDrum x h) = refl
+
 rules-rows : (s : State) (es : List Entry) (j p f k : ℕ) (w : Spot) → ofVerdict (Rules.refusal s (Rules.Submit j p f k w)) ≡ lowest (rowsIn s es (Submit j p f k w))
-unfolding Rules.refusal stateIn
-rules-rows s es j p f k w = chained (rowsIn s es (Submit j p f k w))
+unfolding Rules.refusal
+rules-rows s es j p f k w = ap ofVerdict (submit-is s (fittedOn (s .channels) k) j p f k w) ∙ chained (rowsIn s es (Submit j p f k w))
+
+none-can : (t : ℕ → Bool) (q : List ℕ) → Rules.isNone (find t q) ≡ not (any t q)
+none-can t [] = refl
+none-can t (e ∷ q) = by-bool (t e) (λ h. rw h refl) (λ h. rw h (none-can t q))
 
 start-rows : (s : State) (es : List Entry) (k : ℕ) → ofVerdict (Rules.refusal s (Rules.Start k)) ≡ lowest (rowsIn s es (Start k))
 unfolding Rules.refusal
-start-rows s es k = chained (rowsIn s es (Start k))
+start-rows s es k =
+    ap (λ (b : Bool). ofVerdict (Rules.first (not (configured (s .channels) k)) OutOfRange (Rules.first (not (isIdle (motionOn s k))) ChannelBusy (Rules.first b NothingStartable Granted))))
+    (none-can (Rules.startable s k) (s .queue))
+    ∙ chained (rowsIn s es (Start k))
 
 complete-rows : (s : State) (es : List Entry) (k : ℕ) (how : How) → ofVerdict (Rules.refusal s (Rules.Complete k how)) ≡ lowest (rowsIn s es (Complete k how))
 unfolding Rules.refusal
-complete-rows s es k how = chained (rowsIn s es (Complete k how))
+complete-rows s es k Full = chained (rowsIn s es (Complete k Full))
+complete-rows s es k Cut = chained (rowsIn s es (Complete k Cut))
+complete-rows s es k (Failed n) = chained (rowsIn s es (Complete k (Failed n)))
 
 end-rows : (s : State) (es : List Entry) (j : ℕ) (e : Bool) → ofVerdict (Rules.refusal s (Rules.End j e)) ≡ lowest (rowsIn s es (End j e))
 unfolding Rules.refusal
@@ -99,7 +120,12 @@ end-rows s es j e = chained (rowsIn s es (End j e))
 
 mark-rows : (s : State) (es : List Entry) (k u : ℕ) (m : Mark′) (on : Bool) → ofVerdict (Rules.refusal s (Rules.Mark k u m on)) ≡ lowest (rowsIn s es (Mark k u m on))
 unfolding Rules.refusal
-mark-rows s es k u m on = chained (rowsIn s es (Mark k u m on))
+mark-rows s es k u m on = go (fittedOn (s .channels) k)
+  where
+    go : (f : Fitted) → ofVerdict (Rules.first (not (ltb k 16 && Rules.reaches f (OnUnit (record { 0 = u })))) OutOfRange Granted)
+        ≡ lowest (row OutOfRange (not (ltb k 16 && has f (OnUnit (record { 0 = u })))) ∷ [])
+    go Nothing = chained (row OutOfRange (not (ltb k 16 && has Nothing (OnUnit (record { 0 = u })))) ∷ [])
+    go (With kind n) = chained (row OutOfRange (not (ltb k 16 && has (With kind n) (OnUnit (record { 0 = u })))) ∷ [])
 
 -- ---- a deck, release, delete, a status
 

@@ -1,13 +1,14 @@
 -- THE TABLE OF REFUSED CALLS: for each call the sentences that may refuse it, in the order of their numbers, and
 -- whether each of them holds. The lowest answers. A reader has to believe this page.
-use Prim.Native.Nat.{ℕ}
+use Prim.Native.Nat.{ℕ, _+_}
 use mathlib.Core.Path.{_≡_}
-use mathlib.Core.Bool.{Bool, true, false, not, cond, _&&_}
+use mathlib.Core.Bool.{Bool, true, false, not, cond, _&&_, _||_}
 use mathlib.Core.List.{List, [], _∷_}
 use mathlib.Core.Logic.{_⊎_}
 use mathlib.Core.Option.{Option, none, some}
-use lib.Dec.{ltb, leb}
+use lib.Dec.{eqb, ltb, leb}
 use lib.ListN.{length, getD}
+use Rattle.numbers.specs.Kinds.{isDrum}
 use Rattle.numbers.specs.declared.Refusal.{Refusal}
 use Rattle.numbers.specs.declared.Refusal.the-variants.{
   OutOfRange,
@@ -24,29 +25,40 @@ use Rattle.numbers.specs.declared.Refusal.the-variants.{
   NoSuchRequest,
   JobRuns,
 }
+use Rattle.units.specs.State.{unitIn}
 use Rattle.channels.specs.declared.Fitted.{Fitted}
+use Rattle.channels.specs.declared.Fitted.the-variants.{Nothing, With}
 use Rattle.cards_fields.specs.Deck.{cardsOf, terminated}
 use Rattle.schedule_entries.specs.Entries.{active, isNamed, suspended}
 use Rattle.schedule_entries.specs.declared.Entry.{Entry}
 use Rattle.schedule_list.specs.InSchedule.{find, inSchedule}
-use Rattle.packets.specs.Picks.{find as findListed}
-use Rattle.packets.specs.Rules.{inRange, isNone, isOwn, isWrong, movingStatus, reaches, siteOf, startable}
+use Rattle.packets.specs.Picks.{any}
+use Rattle.packets.specs.Rules.{movingStatus}
 use Rattle.packets.specs.State.{
   State,
   blank,
   configured,
   fittedOn,
+  heldBy,
   isBusy,
   isIdle,
   isRunning,
+  isStopping,
   jobIn,
   legalFor,
   motionOn,
+  packetIn,
+  packetOf,
+  placeOf,
   stateIn,
-  unitAt,
 }
+use Rattle.packets.specs.declared.How.{How}
+use Rattle.packets.specs.declared.How.the-variants.{Cut, Failed, Full}
+use Rattle.packets.specs.declared.Site.{Site}
+use Rattle.packets.specs.declared.Site.the-variants.{AtAddress, AtUnit}
 use Rattle.packets.specs.declared.Spot.{Spot}
-use Rattle.packets.specs.declared.Spot.the-variants.{OnUnit}
+use Rattle.packets.specs.declared.Spot.the-variants.{OnDrum, OnUnit}
+use Rattle.packets.specs.declared.Status.{Status as PacketStatus}
 use Rattle.cell_selection.specs.Selecting.{NoneToSelect}
 use Rattle.cell.specs.declared.Cell.{Cell}
 use Rattle.cell_history.specs.Heard.{inside}
@@ -65,20 +77,50 @@ abbrev pub lowest : List Row → Option Refusal
 lowest [] = none
 lowest (r ∷ rs) = cond (r .holds) (some (r .refusal)) (lowest rs)
 
+-- a channel has the unit, or is the drum channel, where no address is out of range
+abbrev pub has : Fitted → Spot → Bool
+has Nothing w = false
+has (With kind n) (OnUnit u) = not (isDrum kind) && (ltb (u .0) 16 && ltb (u .0) n)
+has (With kind n) (OnDrum x h) = isDrum kind
+
+-- a unit is held by the job in place j; an address is of its area, or it has one, which is enough for 23
+abbrev pub isTheJobs : State → ℕ → ℕ → ℕ → Spot → Bool
+isTheJobs s j f k (OnUnit u) = heldBy (unitIn (s .units) k (u .0) .holder) j
+isTheJobs s j f k (OnDrum x h) =
+    let job = jobIn (s .jobs) j in
+    cond (eqb f 0o23) (ltb 0 (job .words)) (leb (job .from) x && ltb x (job .from + job .words))
+
 -- a submission, by what the channel has: 1, 2, 3, 4, 5
 abbrev pub submitRows : State → Fitted → ℕ → ℕ → ℕ → ℕ → Spot → List Row
-submitRows s has j p f k w =
+submitRows s on j p f k w =
     -- place, channel, unit, packet or function number out of range, or channel or unit not configured
-    row OutOfRange (not (inRange has j p f k w))
+    row OutOfRange (not (ltb j 16 && (ltb p 16 && (ltb f 0o100 && (ltb k 16 && has on w)))))
     -- no job in that place, or it is closing
     ∷ row NoJob (not (isRunning (stateIn (s .jobs) j)))
     -- unit or drum address not the job's
-    ∷ row NotTheJobs (not (isOwn (jobIn (s .jobs) j) (unitAt (s .units) k (siteOf w) .holder) j f w))
+    ∷ row NotTheJobs (not (isTheJobs s j f k w))
     -- function not legal for the kind
-    ∷ row NotLegal (not (legalFor has f))
+    ∷ row NotLegal (not (legalFor on f))
     -- packet listed, in progress or stopping
     ∷ row PacketInUse (isBusy (getD (jobIn (s .jobs) j .packets) p blank .status))
     ∷ []
+
+-- what a packet is at has no interlock; a word of the drum never has one
+abbrev pub isOpen : State → ℕ → Site → Bool
+isOpen s k (AtUnit u) = not (unitIn (s .units) k (u .0) .interlock)
+isOpen s k (AtAddress x) = true
+
+-- a listed packet that a start on channel k could take: it is on that channel, and its unit has no interlock
+abbrev pub canStart : State → ℕ → ℕ → Bool
+canStart s k e =
+    let p = packetIn (s .jobs) (placeOf e) (packetOf e) in
+    eqb (p .channel .0) k && isOpen s k (p .at)
+
+-- a completion that the packet's status does not allow, or a failure's code that none may have
+abbrev pub cannotEnd : PacketStatus → How → Bool
+cannotEnd t Full = false
+cannotEnd t Cut = not (isStopping t)
+cannotEnd t (Failed k) = eqb k 0o00 || (eqb k 0o01 || (eqb k 0o16 || (eqb k 0o17 || ltb 0o77 k)))
 
 -- of the request with an ID, if there is one: it is there, it is suspended, its job runs or closes
 abbrev pub isThere : Option Entry → Bool
@@ -103,19 +145,19 @@ rowsIn s es (Submit j p f k w) = submitRows s (fittedOn (s .channels) k) j p f k
 rowsIn s es (Start k) =
     row OutOfRange (not (configured (s .channels) k))
     ∷ row ChannelBusy (not (isIdle (motionOn s k)))
-    ∷ row NothingStartable (isNone (findListed (startable s k) (s .queue)))
+    ∷ row NothingStartable (not (any (canStart s k) (s .queue)))
     ∷ []
 -- 1; 8: completion with nothing in progress; 9: cut for a packet not stopping, failure code 00, 01, 16o, 17o or
 -- over 77o
 rowsIn s es (Complete k how) =
     row OutOfRange (not (configured (s .channels) k))
     ∷ row NothingInProgress (isIdle (motionOn s k))
-    ∷ row WrongCompletion (isWrong (movingStatus s (motionOn s k)) how)
+    ∷ row WrongCompletion (cannotEnd (movingStatus s (motionOn s k)) how)
     ∷ []
 -- 1; 2: no job in that place, or it is closing
 rowsIn s es (End j inError) = row OutOfRange (not (ltb j 16)) ∷ row NoJob (not (isRunning (stateIn (s .jobs) j))) ∷ []
 -- 1, on the drum channel too
-rowsIn s es (Mark k u mark on) = row OutOfRange (not (ltb k 16 && reaches (fittedOn (s .channels) k) (OnUnit (record { 0 = u })))) ∷ []
+rowsIn s es (Mark k u mark on) = row OutOfRange (not (ltb k 16 && has (fittedOn (s .channels) k) (OnUnit (record { 0 = u })))) ∷ []
 -- 15: no such ID, or not suspended
 rowsIn s es (Release id) = row NoSuchRequest (not (isSuspended (find (isNamed id) es))) ∷ []
 -- 15: no such ID; 16: the job runs or closes
