@@ -10,10 +10,10 @@ use Rattle.packets.specs.Demand.{fresh}
 use Rattle.cell.specs.Calls.{acted, freshCell}
 use Rattle.cell.specs.declared.Cell.{Cell}
 use Rattle.marked_cases.proofs.Computed.{cellAfter, does-computed, replyOf, sized}
+use Rattle.marked_cases.proofs.Moving.{k9}
 use Rattle.cell_history.specs.History.{Does, Reply}
 use Rattle.schedule_deck.specs.Report.{after, groupText, reportText, shownBy}
 use Rattle.cards_writing.specs.Writing.{priorityText}
-use Rattle.packets.proofs.EndsMovingProof.{k9}
 use Rattle.cards_fac.specs.Fac.{askedOf, codeError, codes, entryOf, formError, facError, facOf}
 use Rattle.schedule.specs.Calls.{clashError, enterError, sameThere}
 use Rattle.schedule_candidates.specs.Candidates.{candidate}

@@ -11,6 +11,8 @@ use Rattle.numbers.specs.declared.Kind.the-variants.{Mt, Md}
 use Rattle.numbers.specs.declared.Outcome.the-variants as Outcomes
 use Rattle.numbers.specs.declared.Refusal.{Refusal}
 use Rattle.numbers.specs.declared.Refusal.the-variants.{NothingSelected}
+use Rattle.units.specs.State.{unitIn}
+use Rattle.units.specs.declared.Holder.{Holder}
 use Rattle.units.specs.declared.Holder.the-variants.{Free, Held}
 use Rattle.channels.specs.Channels.{fitted, noChannels, noDown}
 use Rattle.channels.specs.declared.Channel.{Channel}
@@ -24,18 +26,18 @@ use Rattle.cards.specs.declared.Verdict.the-variants.{Good, Wrong}
 use Rattle.schedule_deck.specs.Report.{deckText}
 use Rattle.assign_channels.specs.Choice.{on}
 use Rattle.assign.specs.Assignment.{channelsOf}
-use Rattle.packets.specs.EndsMoving.{Shown, cell, moving, shown}
-use Rattle.packets.specs.Rules as Rules
 use Rattle.packets.specs.declared.Answer.{Answer}
 use Rattle.packets.specs.declared.Answer.the-variants.{Closed, Completed, Done, Started}
 use Rattle.packets.specs.declared.How.the-variants.{Full}
 use Rattle.packets.specs.declared.Leaving.the-variants.{AfterNormal, Stays}
 use Rattle.packets.specs.declared.Site.the-variants.{AtUnit}
+use Rattle.packets.specs.declared.Spot.the-variants.{OnUnit}
 use Rattle.cell_selection.specs.declared.Selection.{Selection}
 use Rattle.cell.specs.Calls.{freshCell}
 use Rattle.cell.specs.declared.Cell.{Cell}
 use Rattle.cell.specs.declared.StatusAnswer.the-variants as StatusAnswers
-use Rattle.cell_history.specs.History.{Call, Chosen, Deck, Does, End, Entered, Reply, Said, Select}
+use Rattle.cell_history.specs.Heard.{inside}
+use Rattle.cell_history.specs.History.{Call, Chosen, Complete, Deck, Does, End, Entered, Reply, Said, Select, Start, Submit}
 
 -- ---- what is seen of a reply
 
@@ -76,6 +78,12 @@ pub record Step : Type 0 where
   pub call : Call
   pub seen : Seen
 
+-- the same, and who then holds the unit that is watched
+pub record Watched : Type 0 where
+  pub call : Call
+  pub seen : Seen
+  pub holder : Holder
+
 -- what a case gives, and what must come out
 pub data Case : Type 0 where
   -- a deck, and what the deck program prints
@@ -84,8 +92,9 @@ pub data Case : Type 0 where
   Errs : List (List ℕ) → ℕ → Case
   -- calls on the fresh cell of a configuration, and what is seen of each reply
   Plays : Configuration → List Step → Case
-  -- calls on the request lists of K9's fresh cell, and after each its answer and who holds the unit
-  Keeps : List Rules.Call → List Shown → Case
+  -- calls on the fresh cell of a configuration, and of each what is seen of its reply and who then holds a unit of a
+  -- channel
+  Keeps : Configuration → (channel unit : ℕ) → List Watched → Case
 
 -- the number of a group's card error; 0 without
 abbrev pub numberIn : Verdict → ℕ
@@ -99,12 +108,19 @@ Follows c (s ∷ ss) =
     (reply : Reply) (d : Cell) → Does c (s .call) reply d
     → (seen reply ≡ s .seen) × Follows d ss
 
+-- the same, and after each call who holds the unit
+abbrev pub Watches : ℕ → ℕ → Cell → List Watched → Type 0
+Watches channel unit c [] = Unit {0}
+Watches channel unit c (s ∷ ss) =
+    (reply : Reply) (d : Cell) → Does c (s .call) reply d
+    → (seen reply ≡ s .seen) × ((unitIn (inside d .units) channel unit .holder ≡ s .holder) × Watches channel unit d ss)
+
 -- a case holds: of the definitions that the functions' contracts cite
 abbrev pub Holds : Case → Type 0
 Holds (Prints deck text) = deckText deck ≡ text
 Holds (Errs cards number) = numberIn (readGroup cards .verdict) ≡ number
 Holds (Plays configuration steps) = Follows (freshCell configuration) steps
-Holds (Keeps calls out) = shown cell calls ≡ out
+Holds (Keeps configuration channel unit steps) = Watches channel unit (freshCell configuration) steps
 
 -- ---- what they give
 
@@ -124,6 +140,10 @@ with· channels = record { channels = channels; down = noDown }
 -- MT channel 3 with four free and 5 with two
 abbrev pub mtChannels : List Channel
 mtChannels = set (set noChannels 3 (fitted Mt 4)) 5 (fitted Mt 2)
+
+-- MT channel 3 with four free, and no other
+abbrev pub oneChannel : List Channel
+oneChannel = set noChannels 3 (fitted Mt 4)
 
 -- a drum
 abbrev pub drumChannels : List Channel
@@ -157,6 +177,29 @@ k4Steps =
     ∷ step Select (Given 0 8 2 0 0 0 0)
     ∷ []
 
+abbrev pub watched : Call → Seen → Holder → Watched
+watched call seen holder = record { call = call; seen = seen; holder = holder }
+
+-- the job's packet 5 is submitted for unit 0 of channel 3 with function 02 (octal) and starts; then the job ends, and
+-- last the packet completes
+abbrev pub k9Ending : List Watched
+k9Ending =
+    watched (Submit 0 5 0o02 3 (OnUnit (record { 0 = 0 }))) (Answered Done) (Held 0)
+    ∷ watched (Start 3) (Answered (Started (record { place = 0; packet = 5; function = 0o02; at = AtUnit (record { 0 = 0 }) }))) (Held 0)
+    ∷ watched (End 0 false) (Answered (Closed Stays)) (Held 0)
+    ∷ watched (Complete 3 Full) (Answered (Completed 0 5 AfterNormal)) Free
+    ∷ []
+
+-- before, a request for one unit is entered and selected
+abbrev pub k9Deck : List ℕ
+k9Deck = deck (job (bytes "A1") (bytes "A5") (bytes "IB/1,MT1/1"))
+
+abbrev pub k9Steps : List Watched
+k9Steps =
+    watched (Deck k9Deck) Accepted Free
+    ∷ watched Select (Given 0 2 0 0 0 3 0) (Held 0)
+    ∷ k9Ending
+
 -- K1's cards and termination card
 abbrev pub k1Deck : List ℕ
 k1Deck =
@@ -183,13 +226,7 @@ marked =
     -- K8 fresh drum, MD/1500 holds 35,329 to 36,828
     ∷ Plays (with· drumChannels) (alone (bytes "IB/1,MD/1500") (Given 0 2 0 35329 36828 0 0))
     -- K9 job ends while moving: unit not free until the completion
-    ∷ Keeps (moving ++ (Rules.Complete 3 Full ∷ []))
-    (record { answer = Done; holder = Held 0 }
-    ∷ record { answer = Done; holder = Held 0 }
-    ∷ record { answer = Started (record { place = 0; packet = 5; function = 0o02; at = AtUnit (record { 0 = 1 }) }); holder = Held 0 }
-    ∷ record { answer = Closed Stays; holder = Held 0 }
-    ∷ record { answer = Completed 0 5 AfterNormal; holder = Free }
-    ∷ [])
+    ∷ Keeps (with· oneChannel) 3 0 k9Steps
     ∷ []
 
 -- each of a list
