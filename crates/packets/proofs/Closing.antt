@@ -10,13 +10,15 @@ use borrow.Author.Tests.{eqb-true, not-false}
 use Rattle.numbers.proofs.Tests.{by-bool, never}
 use Rattle.units.specs.declared.Unit.{Unit as UnitState}
 use Rattle.channels.specs.declared.Channel.{Channel}
-use Rattle.packets.specs.Codes.{afterComplete, statusAfter}
+use Rattle.packets.specs.Codes.{afterComplete, codeOf, statusAfter}
+use Rattle.packets.specs.Lone.{endsWith}
+use Rattle.packets.proofs.SimSubmit.{failed-ends}
 use Rattle.packets.proofs.CodesProof.{closed-status, finished-status, status-after}
 use Rattle.packets.specs.Demand.{emptyPlace, fresh}
 use Rattle.packets.proofs.Inv.{EntryOk, Inv}
 use Rattle.packets.proofs.Laws.{eqb-self, find-holds}
 use Rattle.packets.specs.Picks.{any, find}
-use Rattle.packets.specs.Rules.{Call, Complete, End, Mark, Start, Submit, Take, accept, siteOf, isAt, closed, closing, codeFor, completed, cut, decided, failed, finished, isDone, isFailure, refusal, returnIfDone, returned, run, startable, started, step}
+use Rattle.packets.specs.Rules.{Call, Complete, End, Mark, Start, Submit, Take, accept, siteOf, isAt, closed, closing, completed, cut, decided, failed, finished, isDone, isFailure, refusal, returnIfDone, returned, run, startable, started, step}
 use Rattle.packets.specs.State.{State, anyMoves, carrying, inMotion, isClosing, isPacket, isRunning, isUnit, motionOn, moves, packetIn, placeOf, stateIn}
 use Rattle.packets.proofs.States.{states-begun, states-closed, states-finished, states-returned, states-submit}
 use Rattle.packets.proofs.Steps.{busy-of, closing-not-running, ending-inv, find-some, finished-inv, fresh-state, step-inv}
@@ -159,10 +161,13 @@ accept-halts s I H (Complete g how) r i c =
         let a : statusIn (finished s g how j p) j n ≡ afterComplete s g how (Busy j p) j n = finished-status s I g small how j p is j n in
         a ∙ go (isPacket j p j n) (eqb j j && ((isFailure how && isUnit (packetIn (s .jobs) j p .at)) && isAt g (packetIn (s .jobs) j p .at) (packetIn (s .jobs) j n))) (rw a at m)
       where
-        go : (b d : Bool) → inMotion (cond b (Ended (codeFor how)) (cond d (failed (statusIn s j n)) (statusIn s j n))) ≡ true
-            → cond b (Ended (codeFor how)) (cond d (failed (statusIn s j n)) (statusIn s j n)) ≡ Stopping
+        go : (b d : Bool) → inMotion (cond b (Ended (codeOf how)) (cond d (endsWith 0o01 (statusIn s j n)) (statusIn s j n))) ≡ true
+            → cond b (Ended (codeOf how)) (cond d (endsWith 0o01 (statusIn s j n)) (statusIn s j n)) ≡ Stopping
         go true d e = never {b = false} e refl
-        go false true e = let z = failed-halts (statusIn s j n) e in z ∙ H j x .all n (sym (ap inMotion z) ∙ e)
+        go false true e =
+            let f = failed-ends (statusIn s j n) in
+            let z = f ∙ failed-halts (statusIn s j n) (sym (ap inMotion f) ∙ e) in
+            z ∙ H j x .all n (sym (ap inMotion z) ∙ e)
         go false false e = H j x .all n e
 accept-halts s I H (End j b) r i c =
     by-bool (eqb i j)

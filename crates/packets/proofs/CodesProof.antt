@@ -6,18 +6,21 @@ use lib.ListN.{length}
 use lib.Dec.{eqb}
 use borrow.Author.Tests.{eqb-true}
 use Rattle.numbers.proofs.Tests.{by-bool, never}
-use Rattle.packets.specs.Codes.{Codes, Kept, afterComplete, afterSubmit, renews, statusAfter}
+use Rattle.packets.specs.Codes.{Codes, Kept, afterComplete, afterSubmit, codeOf, renews, statusAfter}
 use Rattle.packets.specs.Demand.{fresh}
 use Rattle.packets.proofs.Inv.{EntryOk, Inv, running-alive}
 use Rattle.packets.proofs.InvStores.{sweep-inv}
 use Rattle.packets.proofs.Laws.{and-left, and-right, find-holds}
+use Rattle.packets.specs.Lone.{endsWith, stops}
 use Rattle.packets.specs.Picks.{find}
 use Rattle.packets.specs.Rules.{Call, Complete, End, Mark, Start, Submit, Take, accept, aimed, always, siteOf, isAt, closed, closing, codeFor, cut, decided, failed, finished, isDone, isFailure, locked, over, packet, refusal, returnIfDone, run, startable, step, submitted}
 use Rattle.packets.specs.State.{isPacket, State, isRunning, isUnit, motionOn, packetIn, packetOf, placeOf, put, restatusAll, stateIn, sweep, withStatus}
+use Rattle.packets.proofs.SimSubmit.{cut-stops, failed-ends}
 use Rattle.packets.proofs.Steps.{Ready, busy-of, find-some, fresh-inv, over-fits, over-inside, ready-fits, ready-inside, ready-sweep, run-inv, start-fits, startable-on}
 use Rattle.packets.proofs.Store.{alive-in, packet-fresh, packet-put, packet-restatus, packet-state, sizeIn}
 use Rattle.packets.proofs.Told.{Submits, assigns-to, completes-on, cut-going, cut-idle, ends-of, failed-going, failed-idle, starts-on, submits}
 use Rattle.packets.specs.declared.How.{How}
+use Rattle.packets.specs.declared.How.the-variants.{Cut, Failed, Full}
 use Rattle.packets.specs.declared.JobState.the-variants.{Empty}
 use Rattle.packets.specs.declared.Motion.the-variants.{Busy}
 use Rattle.packets.specs.declared.Packet.{Packet}
@@ -33,11 +36,11 @@ stored-status : (s : State) (j p : ℕ) (q : Packet) → p < sizeIn (s .jobs) j 
     → packetIn (put (s .jobs) j p q) i n .status ≡ cond (isPacket j p i n) (q .status) (packetIn (s .jobs) i n .status)
 stored-status s j p q fits i n = rw (packet-put (s .jobs) j p q i n fits) (by-bool (isPacket j p i n) (λ e. rw e) (λ e. rw e))
 
-swept-status : (s : State) (j : ℕ) (t : Packet → Bool) (f : Status → Status) → j < length (s .jobs) → f Blank ≡ Blank → (i n : ℕ)
+swept-status : (s : State) (j : ℕ) (t : Packet → Bool) (f g : Status → Status) → ((x : Status) → g x ≡ f x) → j < length (s .jobs) → f Blank ≡ Blank → (i n : ℕ)
     → packetIn (restatusAll (s .jobs) j t f) i n .status
-    ≡ cond (eqb i j && t (packetIn (s .jobs) i n)) (f (packetIn (s .jobs) i n .status)) (packetIn (s .jobs) i n .status)
-swept-status s j t f inside fb i n =
-    rw (packet-restatus (s .jobs) j t f i n inside fb)
+    ≡ cond (eqb i j && t (packetIn (s .jobs) i n)) (g (packetIn (s .jobs) i n .status)) (packetIn (s .jobs) i n .status)
+swept-status s j t f g same inside fb i n =
+    rw (packet-restatus (s .jobs) j t f i n inside fb, same (packetIn (s .jobs) i n .status))
     (by-bool (eqb i j) (λ e. rw e (by-bool (t (packetIn (s .jobs) i n)) (λ d. rw d) (λ d. rw d))) (λ e. rw e))
 
 module _ (s : State) (I : Inv s) (j p f c : ℕ) (w : Spot) (k : Submits s j p f c w) (i n : ℕ) where
@@ -57,7 +60,7 @@ module _ (s : State) (I : Inv s) (j p f c : ℕ) (w : Spot) (k : Submits s j p f
       let r₁ : Ready s₁ j p = ready-sweep s j p (isAt c a) failed refl failed-idle now-ready in
       rw (e, d)
       (stored-status s₁ j p (packet (Ended 0o00) f c a) (ready-fits s₁ I₁ j p r₁) i n
-      ∙ rw (swept-status s j (isAt c a) failed inside refl i n)
+      ∙ rw (swept-status s j (isAt c a) failed (endsWith 0o01) failed-ends inside refl i n)
       (by-bool (isPacket j p i n) (λ g. rw g)
       (λ g. rw g (by-bool (eqb i j) (λ h. rw h (by-bool (isAt c a (packetIn (s .jobs) i n)) (λ m. rw m) (λ m. rw m))) (λ h. rw h))))))
       (λ d. rw (e, d)
@@ -70,12 +73,17 @@ module _ (s : State) (I : Inv s) (j p f c : ℕ) (w : Spot) (k : Submits s j p f
       let r₁ : Ready s₁ j p = ready-sweep s j p t cut refl cut-idle now-ready in
       rw (e, d)
       (stored-status s₁ j p (packet (Ended 0o00) f c a) (ready-fits s₁ I₁ j p r₁) i n
-      ∙ rw (swept-status s j t cut inside refl i n)
+      ∙ rw (swept-status s j t cut (λ x. stops (endsWith 0o16 x)) cut-stops inside refl i n)
       (by-bool (isPacket j p i n) (λ g. rw g)
       (λ g. rw g (by-bool (eqb i j) (λ h. rw h (by-bool (aimed c w (packetIn (s .jobs) i n)) (λ m. rw m) (λ m. rw m))) (λ h. rw h))))))
       (λ d. rw (e, d)
       (stored-status s j p (packet Listed f c a) (ready-fits s I j p now-ready) i n
       ∙ by-bool (isPacket j p i n) (λ g. rw g) (λ g. rw g (by-bool (eqb i j) (λ h. rw h) (λ h. rw h))))))
+
+code-is : (how : How) → codeFor how ≡ codeOf how
+code-is Full = refl
+code-is Cut = refl
+code-is (Failed k) = refl
 
 returned-status : (s : State) (j i n : ℕ) → packetIn (returnIfDone j s .jobs) i n .status ≡ packetIn (s .jobs) i n .status
 returned-status s j i n = by-bool (isDone s j) (λ e. rw (e, packet-state (s .jobs) j Empty i n)) (λ e. rw e)
@@ -89,19 +97,19 @@ module _ (s : State) (I : Inv s) (c : ℕ) (small : c < 16) (how : How) (j p : �
       let read : packetIn (s₁ .jobs) i n ≡ cond (isPacket j p i n) q (packetIn (s .jobs) i n) = packet-put (s .jobs) j p q i n (over-fits s I c small j p is) in
       by-bool (isFailure how && isUnit (packetIn (s .jobs) j p .at))
       (λ e. rw e
-      (swept-status s₁ j (isAt c a) failed (over-inside s I c small j p is (codeFor how)) refl i n
+      (swept-status s₁ j (isAt c a) failed (endsWith 0o01) failed-ends (over-inside s I c small j p is (codeFor how)) refl i n
       ∙ rw read
       (by-bool (isPacket j p i n)
-      (λ g. rw g (by-bool (eqb i j && isAt c a q) (λ m. rw m) (λ m. rw m)))
+      (λ g. rw g (by-bool (eqb i j && isAt c a q) (λ m. rw m (ap Ended (code-is how))) (λ m. rw m (ap Ended (code-is how)))))
       (λ g. rw g))))
       (λ e. rw (e, read)
-      (by-bool (isPacket j p i n) (λ g. rw g) (λ g. rw g (by-bool (eqb i j) (λ h. rw h) (λ h. rw h)))))
+      (by-bool (isPacket j p i n) (λ g. rw g (ap Ended (code-is how))) (λ g. rw g (by-bool (eqb i j) (λ h. rw h) (λ h. rw h)))))
 
 pub closed-status : (s : State) (j : ℕ) (e : Bool) → isRunning (stateIn (s .jobs) j) ≡ true → (i n : ℕ)
     → packetIn (closed s j e .jobs) i n .status ≡ cond (eqb i j) (cut (packetIn (s .jobs) i n .status)) (packetIn (s .jobs) i n .status)
 closed-status s j e r i n =
     ap (λ (q : Packet). q .status) (packet-state (restatusAll (s .jobs) j always cut) j (closing e) i n)
-    ∙ swept-status s j always cut (alive-in (s .jobs) j (running-alive (stateIn (s .jobs) j) r)) refl i n
+    ∙ swept-status s j always cut cut (λ x. refl) (alive-in (s .jobs) j (running-alive (stateIn (s .jobs) j) r)) refl i n
     ∙ by-bool (eqb i j) (λ d. rw d) (λ d. rw d)
 
 pub status-after : (s : State) → Inv s → (x : Call) → refusal s x ≡ Granted → (i n : ℕ) → packetIn (accept s x .jobs) i n .status ≡ statusAfter s x i n
@@ -122,7 +130,7 @@ status-after s I (Complete c how) r i n =
     let o = busy-of (motionOn s c) (k .1) in
     rw (o .2) (returned-status (finished s c how (o .0) (o .1)) (o .0) i n ∙ finished-status s I c (k .0) how (o .0) (o .1) (o .2) i n)
 status-after s I (End j e) r i n =
-    returned-status (closed s j e) j i n ∙ closed-status s j e (ends-of s j e r) i n
+    returned-status (closed s j e) j i n ∙ closed-status s j e (ends-of s j e r) i n ∙ rw (cut-stops (packetIn (s .jobs) i n .status))
 status-after s I (Mark c u m on) r i n = refl
 
 pub codes : Codes

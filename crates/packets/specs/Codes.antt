@@ -9,6 +9,7 @@ use lib.Dec.{eqb}
 use Rattle.units.specs.declared.Unit.{Unit as UnitState}
 use Rattle.channels.specs.declared.Channel.{Channel}
 use Rattle.packets.specs.Demand.{NoneHeld, fresh}
+use Rattle.packets.specs.Lone.{endsWith, stops}
 use Rattle.packets.specs.Picks.{find}
 use Rattle.packets.specs.Rules.{
   Call,
@@ -20,9 +21,6 @@ use Rattle.packets.specs.Rules.{
   Take,
   accept,
   aimed,
-  codeFor,
-  cut,
-  failed,
   isAt,
   isFailure,
   locked,
@@ -34,6 +32,7 @@ use Rattle.packets.specs.Rules.{
 }
 use Rattle.packets.specs.State.{isPacket, isUnit, State, motionOn, packetIn, packetOf, placeOf}
 use Rattle.packets.specs.declared.How.{How}
+use Rattle.packets.specs.declared.How.the-variants.{Cut, Failed, Full}
 use Rattle.packets.specs.declared.Motion.{Motion}
 use Rattle.packets.specs.declared.Motion.the-variants.{Busy, Idle}
 use Rattle.packets.specs.declared.Spot.{Spot}
@@ -52,9 +51,15 @@ abbrev pub afterSubmit : State → ℕ → ℕ → ℕ → ℕ → Spot → ℕ 
 afterSubmit s j p f c w i n =
     let q = packetIn (s .jobs) i n in
     cond (isPacket j p i n) (cond (eqb f 0o07 || eqb f 0o23) (Ended 0o00) Listed)
-    (cond (eqb i j && (eqb f 0o07 && (locked s c (siteOf w) && isAt c (siteOf w) q))) (failed (q .status))
-    (cond (eqb i j && (not (eqb f 0o07) && (eqb f 0o23 && aimed c w q))) (cut (q .status))
+    (cond (eqb i j && (eqb f 0o07 && (locked s c (siteOf w) && isAt c (siteOf w) q))) (endsWith 0o01 (q .status))
+    (cond (eqb i j && (not (eqb f 0o07) && (eqb f 0o23 && aimed c w q))) (stops (endsWith 0o16 (q .status)))
     (q .status)))
+
+-- "Completion is full (00), cut (17o) or failed with a code"
+abbrev pub codeOf : How → ℕ
+codeOf Full = 0o00
+codeOf Cut = 0o17
+codeOf (Failed k) = k
 
 -- a completion: the packet that moved ends with 00, 17o or the failure's code; a failure ends with 01 what is listed
 -- on its unit
@@ -63,8 +68,8 @@ afterComplete s c how Idle i n = packetIn (s .jobs) i n .status
 afterComplete s c how (Busy j p) i n =
     let q = packetIn (s .jobs) i n in
     let a = packetIn (s .jobs) j p .at in
-    cond (isPacket j p i n) (Ended (codeFor how))
-    (cond (eqb i j && ((isFailure how && isUnit a) && isAt c a q)) (failed (q .status))
+    cond (isPacket j p i n) (Ended (codeOf how))
+    (cond (eqb i j && ((isFailure how && isUnit a) && isAt c a q)) (endsWith 0o01 (q .status))
     (q .status))
 
 -- packet n of place i after an accepted call
@@ -73,7 +78,8 @@ statusAfter s (Take j asg) i n = cond (eqb i j) Blank (packetIn (s .jobs) i n .s
 statusAfter s (Submit j p f c w) i n = afterSubmit s j p f c w i n
 statusAfter s (Start c) i n = cond (takes (find (startable s c) (s .queue)) i n) InProgress (packetIn (s .jobs) i n .status)
 statusAfter s (Complete c how) i n = afterComplete s c how (motionOn s c) i n
-statusAfter s (End j e) i n = cond (eqb i j) (cut (packetIn (s .jobs) i n .status)) (packetIn (s .jobs) i n .status)
+statusAfter s (End j e) i n =
+    cond (eqb i j) (stops (endsWith 0o16 (packetIn (s .jobs) i n .status))) (packetIn (s .jobs) i n .status)
 statusAfter s (Mark c u m on) i n = packetIn (s .jobs) i n .status
 
 -- over any history: before each accepted call s is a cell that calls led to
