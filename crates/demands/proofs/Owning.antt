@@ -37,6 +37,9 @@ use Rattle.cell_agreement.proofs.PlaceLaws.{fresh-cell-inv}
 use Rattle.cell_reached.proofs.ReachedProof.{every-cell}
 
 module _ (configuration : Configuration) (es : List Event) (c : Cell) (l : Leads (freshCell configuration) es c) where
+  pub reached-inv : Inv (inside c)
+  reached-inv = rw (leads-heard (freshCell configuration) c es l) (run-inv (inside (freshCell configuration)) (fresh-cell-inv configuration) (heard es))
+
   -- a job of which a packet moves is in its place
   pub still-there : (place packet : ℕ) → inMotion (packetIn (inside c .jobs) place packet .status) ≡ true → isEmpty (stateIn (inside c .jobs) place) ≡ false
   still-there place packet m = every-cell configuration es c l .always .live place packet (motion-busy (packetIn (inside c .jobs) place packet .status) m)
@@ -95,16 +98,13 @@ module _ (configuration : Configuration) (es : List Event) (c : Cell) (l : Leads
   abbrev assigned : Assignment
   assigned = assignmentOf (s .request .facilities) (s .assigned)
 
-  inv : Inv (inside c)
-  inv = rw (leads-heard (freshCell configuration) c es l) (run-inv (inside (freshCell configuration)) (fresh-cell-inv configuration) (heard es))
-
   runs-there : stateIn (inside d .jobs) (s .place) ≡ Running
   unfolding Rules.step Rules.accept
   runs-there =
       let t = taking-of c d s k in
       let p = selected-of c d s k .place .0 in
       ap (λ (x : State). stateIn (x .jobs) (s .place)) (t .1 ∙ ap (λ (v : Verdict). Rules.decided (inside c) (takingOf s) v .state) (t .0))
-      ∙ state-fresh (inside c .jobs) (s .place) assigned (s .place) (rw (inv .places) p) ∙ rw (eqb-self (s .place)) refl
+      ∙ state-fresh (inside c .jobs) (s .place) assigned (s .place) (rw (reached-inv configuration es c l .places) p) ∙ rw (eqb-self (s .place)) refl
 
   given-then : taking (told (es ++ (event ∷ []))) (s .place) ≡ some assigned
   unfolding takenBy

@@ -53,7 +53,7 @@ use Rattle.demands.proofs.Standing.{stands}
 
 -- ---- a refused call, or an accepted one
 
-by-refusal : (c d : Cell) (x : Call) (reply : Reply) → Does c x reply d → (P : Cell → Type 0) → P c → (refusalIn reply ≡ none → P d) → P d
+pub by-refusal : (c d : Cell) (x : Call) (reply : Reply) → Does c x reply d → (P : Cell → Type 0) → P c → (refusalIn reply ≡ none → P d) → P d
 by-refusal c d x reply h P same f = go (refusalIn reply) refl
   where
     go : (o : Option Refusal) → refusalIn reply ≡ o → P d
@@ -134,7 +134,7 @@ module _ (c d : Cell) (i : ℕ) (alive : isEmpty (stateIn (inside c .jobs) i) �
 -- ---- what a completion and an end leave
 
 -- the schedule after an accepted call of the lists
-schedule-after : (c d : Cell) (y : Rules.Call) → d ≡ acted c y .cell → Rules.refusal (inside c) y ≡ Granted → d .schedule ≡ follows (c .schedule) y (Rules.answer (inside c) y)
+pub schedule-after : (c d : Cell) (y : Rules.Call) → d ≡ acted c y .cell → Rules.refusal (inside c) y ≡ Granted → d .schedule ≡ follows (c .schedule) y (Rules.answer (inside c) y)
 unfolding acted Rules.step
 schedule-after c d y e g =
     ap (λ (x : Cell). x .schedule) e
@@ -145,7 +145,7 @@ left-as : (e : Bool) (s other : Schedule) (j : ℕ) → leftBy (leavingAs (closi
 left-as true s other j = refl
 left-as false s other j = refl
 
-closing-live : (e : Bool) → (isEmpty (closing e) ≡ false) × (isRunning (closing e) ≡ false)
+pub closing-live : (e : Bool) → (isEmpty (closing e) ≡ false) × (isRunning (closing e) ≡ false)
 closing-live true = (refl, refl)
 closing-live false = (refl, refl)
 

@@ -30,7 +30,8 @@ use Rattle.packets.specs.Codes.{statusAfter}
 use Rattle.packets.proofs.CodesProof.{codes}
 use Rattle.packets.specs.Demand.{Holds, Isolated, Stretch, Holding, events}
 use Rattle.packets.proofs.DemandProof.{demand3}
-use Rattle.packets.specs.State.{State, packetIn, heldBy, inMotion}
+use Rattle.packets.specs.Picks.{keep}
+use Rattle.packets.specs.State.{State, isStill, packetIn}
 use Rattle.packets.specs.declared.Status.{Status}
 use Rattle.packets.specs.declared.Verdict.{Verdict}
 use Rattle.packets.specs.declared.Verdict.the-variants.{Denied, Granted}
@@ -43,11 +44,13 @@ use Rattle.cell.specs.declared.StatusAnswer.the-variants.{Is}
 use Rattle.cell_history.proofs.HeardLaws.{does-heard, leads-heard}
 use Rattle.cell_history.specs.Heard.{heard, heardOf, inside, taken, told}
 use Rattle.cell_history.specs.History.{Call, Chosen, Does, Event, Leads, Reply, Said, Select, Shown, Complete, Deck, Delete, End, Mark, Release, Start, Submit}
-use Rattle.demands.specs.Demands.{Demand1, Demand2, Demand3, WhileHeld}
-use Rattle.demands.proofs.Accepted.{heard-granted}
+use Rattle.demands.specs.Demands.{Demand1, Demand2, Demand3, WhileHeld, joins}
+use Rattle.demands.proofs.Accepted.{accepted-is, heard-granted}
 use Rattle.demands.proofs.InOrder.{first-in-order}
-use Rattle.demands.proofs.Owning.{free-place, holds-then, on-its-own, still-own, still-there}
+use Rattle.demands.proofs.Oldest.{ordered}
+use Rattle.demands.proofs.Owning.{free-place, holds-then, on-its-own, reached-inv, still-own, still-there}
 use Rattle.demands.proofs.Places.{ended-so, marked-so, runs-on}
+use Rattle.demands.proofs.Requests.{closes-so, completes-so, starts-so, submits-so}
 use Rattle.demands.proofs.Texts.{counted-fresh, kept-room, listed, listed-bad, writes-12, writes-13, writes-so}
 use Rattle.demands.specs.Refusing.{refusalIn}
 use Rattle.demands.proofs.Numbers.{answers-by, numbers, ofVerdict}
@@ -156,6 +159,10 @@ demand-2 =
       holds = holds-then;
       marked = marked-so;
       ended = λ c d x reply h ok place inError. ended-so c d reply ok place inError x h;
+      closes = closes-so;
+      submits = submits-so;
+      starts = starts-so;
+      completes = completes-so;
       runsOn = λ c d x reply h place e. runs-on c d reply place e x h;
       stays = λ configuration es c h. agrees-always configuration es c h .places;
       runs = runs-then;
@@ -169,6 +176,11 @@ demand-2 =
             λ n. e .0 ∙ h .1 .0 .outcome ∙ ap outcomeOf (refused-only (c .schedule) (c .lists) (h .0 .selection) w n),
           );
       codes = codes-in;
+      order = λ configuration es c h d x reply k e y q.
+          let a = accepted-is c d x reply k e y q in
+          ap (λ (s : State). s .queue) (a .1)
+          ∙ ordered (inside c) (reached-inv configuration es c h) y (a .0)
+          ∙ ap (λ (s : State). keep (isStill (s .jobs)) (inside c .queue) ++ joins y) (sym (a .1));
       others = others-stay;
       shown = shown-is;
       listing = listed;

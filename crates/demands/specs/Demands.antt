@@ -3,10 +3,11 @@
 -- history of calls from a fresh cell. A reader has to believe this page.
 use Prim.Native.Nat.{ℕ, _≤_, _<_}
 use mathlib.Core.Path.{_≡_}
-use mathlib.Core.Bool.{Bool, true, false, _&&_}
-use mathlib.Core.List.{List, [], _∷_}
+use mathlib.Core.Bool.{Bool, true, false, cond, _&&_, _||_}
+use mathlib.Core.List.{List, [], _∷_, _++_}
 use mathlib.Core.Logic.{_⊎_}
 use mathlib.Core.Option.{none, some}
+use lib.Dec.{eqb}
 use lib.ListN.{length, take}
 use Rattle.numbers.specs.declared.ChannelNumber.{ChannelNumber}
 use Rattle.numbers.specs.declared.Outcome.{Outcome}
@@ -41,9 +42,12 @@ use Rattle.assign_drum.specs.Drum.{noArea}
 use Rattle.assign_heads.specs.Sums.{howMany}
 use Rattle.packets.specs.Codes.{statusAfter}
 use Rattle.packets.specs.Demand.{Holding, Holds, Isolated}
-use Rattle.packets.specs.State.{heldBy, inMotion, isClosing, isEmpty, jobIn, noCore, packetIn, stateIn}
+use Rattle.packets.specs.Picks.{keep}
+use Rattle.packets.specs.State.{entryOf, heldBy, inMotion, isClosing, isEmpty, isStill, jobIn, noCore, packetIn, stateIn}
 use Rattle.packets.specs.Rules.{closing}
+use Rattle.packets.specs.declared.How.{How}
 use Rattle.packets.specs.declared.JobState.the-variants.{Empty, Running}
+use Rattle.packets.specs.declared.Spot.{Spot}
 use Rattle.packets.specs.declared.Status.{Status}
 use Rattle.cell_taken.specs.Taken.{areaOf, coreOf}
 use Rattle.cell_selection.specs.Selecting.{Candidate, HasNone, Selected, NoneToSelect, assignmentOf, seenIn}
@@ -53,7 +57,23 @@ use Rattle.cell.specs.declared.Cell.{Cell}
 use Rattle.cell.specs.declared.DeckAnswer.{DeckAnswer}
 use Rattle.cell.specs.declared.StatusAnswer.the-variants.{Is}
 use Rattle.cell_history.specs.Heard.{heardOf, inside, told}
-use Rattle.cell_history.specs.History.{Call, Chosen, Delete, Does, End, Event, Leads, Mark, Release, Reply, Select, Shown}
+use Rattle.cell_history.specs.History.{
+  Call,
+  Chosen,
+  Complete,
+  Delete,
+  Does,
+  End,
+  Event,
+  Leads,
+  Mark,
+  Release,
+  Reply,
+  Select,
+  Shown,
+  Start,
+  Submit,
+}
 use Rattle.cell_agreement.specs.Agreement.{standing, statesIn}
 use Rattle.demands.specs.Refusing.{refusalIn}
 use Rattle.demands.specs.Table.{RefusedBy, isSelect}
@@ -105,6 +125,15 @@ withUnits c units =
 abbrev pub Ends : Cell → Call → ℕ → Bool → Type 0
 Ends c x place inError = (x ≡ End place inError) ⊎ (stateIn (inside c .jobs) place ≡ closing inError)
 
+-- what joins the list of listed packets: one that is submitted with a function other than 07 and 23
+abbrev pub joins : Rules.Call → List ℕ
+joins (Rules.Take place given) = []
+joins (Rules.Submit place packet function channel spot) = cond (eqb function 0o07 || eqb function 0o23) [] (entryOf place packet ∷ [])
+joins (Rules.Start channel) = []
+joins (Rules.Complete channel how) = []
+joins (Rules.End place inError) = []
+joins (Rules.Mark channel unit mark on) = []
+
 -- "2. It is right: cards written are read back as the same request; the job selected is the first in order, of
 -- those allowed to run, for which all facilities can be found; selection is refused exactly when no place is free
 -- or no such job exists; packets end with the stated codes."
@@ -129,13 +158,13 @@ pub record Demand2 : Type 0 where
   -- one is gone
   pub entered : (c : Cell) (deck room after : List ℕ) (r : DeckAnswer) → Enters c deck room after r
       → r .cell .schedule ≡ deckSchedule (c .schedule) deck
-  -- and the answer to it stands whole in room of 53,248 bytes: the error lines, then the last good ID
-  pub noted : (c : Cell) (deck room after : List ℕ) (r : DeckAnswer) → Enters c deck room after r → 53248 ≤ length room
-      → take (r .at) after ≡ deckNotes (c .schedule) deck
   pub released : (c d : Cell) (id : List ℕ) (reply : Reply) → Does c (Release id) reply d
       → d .schedule ≡ Schedule.released (c .schedule) id .schedule
   pub deleted : (c d : Cell) (id : List ℕ) (reply : Reply) → Does c (Delete id) reply d
       → d .schedule ≡ Schedule.deleted (c .schedule) id .schedule
+  -- the answer to a deck stands whole in room of 53,248 bytes: the error lines, then the last good ID
+  pub noted : (c : Cell) (deck room after : List ℕ) (r : DeckAnswer) → Enters c deck room after r → 53248 ≤ length room
+      → take (r .at) after ≡ deckNotes (c .schedule) deck
   -- "the job selected" is a candidate with an assignment, the one chosen, and the place the lowest that is free,
   pub selected : (c d : Cell) (s : Selection) → Does c Select (Chosen Done s) d → Selected (inSchedule (c .schedule)) (c .lists) s
   -- it runs then, so that it is not selected again,
@@ -166,6 +195,15 @@ pub record Demand2 : Type 0 where
       → (place : ℕ) (inError : Bool) → Ends c x place inError
       → (stateIn (inside d .jobs) place ≡ closing inError)
       ⊎ ((stateIn (inside d .jobs) place ≡ Empty) × (d .schedule ≡ Schedule.returned (c .schedule) place inError))
+  -- while it is closing its request is, and nothing else in the schedule changes; nor does anything there change by a
+  -- submission, a start, or a completion that empties no place
+  pub closes : (c d : Cell) (place : ℕ) (inError : Bool) (reply : Reply) → Does c (End place inError) reply d
+      → stateIn (inside d .jobs) place ≡ closing inError → refusalIn reply ≡ none → d .schedule ≡ Schedule.closing (c .schedule) place
+  pub submits : (c d : Cell) (place packet function channel : ℕ) (spot : Spot) (reply : Reply)
+      → Does c (Submit place packet function channel spot) reply d → d .schedule ≡ c .schedule
+  pub starts : (c d : Cell) (channel : ℕ) (reply : Reply) → Does c (Start channel) reply d → d .schedule ≡ c .schedule
+  pub completes : (c d : Cell) (channel : ℕ) (how : How) (reply : Reply) → Does c (Complete channel how) reply d
+      → ((place : ℕ) → isEmpty (stateIn (inside d .jobs) place) ≡ isEmpty (stateIn (inside c .jobs) place)) → d .schedule ≡ c .schedule
   -- a job runs until its end is called,
   pub runsOn : (c d : Cell) (x : Call) (reply : Reply) → Does c x reply d → (place : ℕ)
       → stateIn (inside c .jobs) place ≡ Running → ((inError : Bool) → x ≡ End place inError → ⊥)
@@ -180,6 +218,12 @@ pub record Demand2 : Type 0 where
       → (d : Cell) (x : Call) (reply : Reply) → Does c x reply d → refusalIn reply ≡ none
       → (y : Rules.Call) → heardOf x reply ≡ y ∷ []
       → (place packet : ℕ) → packetIn (inside d .jobs) place packet .status ≡ statusAfter (inside c) y place packet
+  -- the list from which a start takes the oldest is in the order of submission: those still listed keep their order,
+  -- and what is submitted and listed joins at its end,
+  pub order : (configuration : Configuration) (es : List Event) (c : Cell) → Leads (freshCell configuration) es c
+      → (d : Cell) (x : Call) (reply : Reply) → Does c x reply d → refusalIn reply ≡ none
+      → (y : Rules.Call) → heardOf x reply ≡ y ∷ []
+      → inside d .queue ≡ keep (isStill (inside d .jobs)) (inside c .queue) ++ joins y
   -- and a call that is none of the request lists leaves all packets as they are,
   pub others : (c d : Cell) (x : Call) (reply : Reply) → Does c x reply d → heardOf x reply ≡ [] → inside d ≡ inside c
   -- and that is the status that is shown
@@ -225,11 +269,6 @@ pub record Demand3 : Type 0 where
   pub own : (configuration : Configuration) (es : List Event) (c : Cell) → Leads (freshCell configuration) es c
       → (place : ℕ) → isEmpty (stateIn (inside c .jobs) place) ≡ false
       → (given : Assignment) × (taking (told es) place ≡ some given) × StillOwn (inside c) place given
-  -- while an empty place has no unit, no word of drum and no block of core
-  pub free : (configuration : Configuration) (es : List Event) (c : Cell) → Leads (freshCell configuration) es c
-      → (place : ℕ) → isEmpty (stateIn (inside c .jobs) place) ≡ true
-      → ((channel unit : ℕ) → heldBy (unitIn (inside c .units) channel unit .holder) place ≡ false)
-      × ((areaOf (jobIn (inside c .jobs) place) ≡ noArea) × (coreOf (jobIn (inside c .jobs) place) ≡ noCore))
   -- among it the unit, or on the drum the address, that the packet is on
   pub head : (configuration : Configuration) (es : List Event) (c : Cell) → Leads (freshCell configuration) es c
       → (place packet : ℕ) → inMotion (packetIn (inside c .jobs) place packet .status) ≡ true
@@ -238,3 +277,8 @@ pub record Demand3 : Type 0 where
   pub closing : (configuration : Configuration) (es : List Event) (c : Cell) → Leads (freshCell configuration) es c
       → (place : ℕ) → isClosing (stateIn (inside c .jobs) place) ≡ true
       → (packet : ℕ) × (packetIn (inside c .jobs) place packet .status ≡ Stopping)
+  -- and what returned is free: an empty place has no unit, no word of drum and no block of core
+  pub free : (configuration : Configuration) (es : List Event) (c : Cell) → Leads (freshCell configuration) es c
+      → (place : ℕ) → isEmpty (stateIn (inside c .jobs) place) ≡ true
+      → ((channel unit : ℕ) → heldBy (unitIn (inside c .units) channel unit .holder) place ≡ false)
+      × ((areaOf (jobIn (inside c .jobs) place) ≡ noArea) × (coreOf (jobIn (inside c .jobs) place) ≡ noCore))
