@@ -6,12 +6,11 @@ use mathlib.Core.Bool.{Bool, not, cond, _&&_}
 use mathlib.Core.List.{List, [], _∷_}
 use mathlib.Core.Logic.{inl, inr}
 use mathlib.Core.Option.{Option, none, some}
-use lib.Dec.{leb, ltb}
+use lib.Dec.{eqb, leb, ltb}
 use lib.ListN.{length}
 use Rattle.numbers.proofs.Tests.{by-bool, never}
 use Rattle.numbers.specs.declared.Refusal.{Refusal}
 use Rattle.numbers.specs.declared.Refusal.the-variants.{BadDeck, ChannelBusy, JobRuns, NoSuchRequest, NothingStartable, OutOfRange}
-use Rattle.units.specs.State.{unitIn}
 use Rattle.units.specs.declared.Mark.{Mark as Mark′}
 use Rattle.channels.specs.declared.Fitted.{Fitted}
 use Rattle.channels.specs.declared.Fitted.the-variants.{Nothing, With}
@@ -24,11 +23,13 @@ use Rattle.schedule_deck.specs.Report.{outcomeBy}
 use Rattle.schedule.specs.Calls.{deletedBy, releasedBy}
 use Rattle.packets.specs.Picks.{any, find}
 use Rattle.packets.specs.Rules as Rules
-use Rattle.packets.specs.State.{State, configured, fittedOn, isIdle, jobIn, motionOn, stateIn}
+use Rattle.packets.specs.State.{State, configured, fittedOn, isIdle, jobIn, motionOn, packetIn, packetOf, placeOf, stateIn, unitAt}
 use Rattle.packets.specs.declared.How.{How}
 use Rattle.packets.specs.declared.How.the-variants.{Cut, Failed, Full}
 use Rattle.packets.specs.declared.Motion.{Motion}
 use Rattle.packets.specs.declared.Motion.the-variants.{Busy, Idle}
+use Rattle.packets.specs.declared.Site.{Site}
+use Rattle.packets.specs.declared.Site.the-variants.{AtAddress, AtUnit}
 use Rattle.packets.specs.declared.Spot.{Spot}
 use Rattle.packets.specs.declared.Spot.the-variants.{OnDrum, OnUnit}
 use Rattle.packets.specs.declared.Verdict.{Verdict}
@@ -41,7 +42,7 @@ use Rattle.cell.specs.declared.Cell.{Cell}
 use Rattle.cell_history.specs.Heard.{inside}
 use Rattle.cell_history.specs.History.{Call, Complete, Deck, Delete, Does, End, Mark, Release, Reply, Select, Start, Status, Submit}
 use Rattle.demands.specs.Refusing.{ofAnswer, ofOutcome, ofStatus, refusalIn}
-use Rattle.demands.specs.Table.{RefusedBy, Row, SelectRefused, has, isActive, isSelect, isSuspended, isThere, lowest, row, rowsIn, submitRows}
+use Rattle.demands.specs.Table.{RefusedBy, Row, SelectRefused, canStart, has, isActive, isOpen, isSelect, isSuspended, isThere, lowest, row, rowsIn, submitRows}
 
 -- a verdict as a refusal, if it is one
 abbrev pub ofVerdict : Verdict → Option Refusal
@@ -87,9 +88,10 @@ answers-by c x = go (Rules.refusal (stateOf (c .lists)) x)
 
 -- the rules' tests of each call are its rows
 submit-is : (s : State) (on : Fitted) (j p f k : ℕ) (w : Spot)
-    → Rules.submitRefusal on (jobIn (s .jobs) j) (unitIn (s .units) k (Rules.atOf w)) j p f k w ≡ chain (submitRows s on j p f k w)
+    → Rules.submitRefusal on (jobIn (s .jobs) j) (unitAt (s .units) k (Rules.siteOf w)) j p f k w ≡ chain (submitRows s on j p f k w)
 unfolding stateIn
-submit-is s Nothing j p f k w = refl
+submit-is s Nothing j p f k (OnUnit u) = refl
+submit-is s Nothing j p f k (OnDrum x h) = refl
 submit-is s (With kind n) j p f k (OnUnit u) = refl
 submit-is s (With kind n) j p f k (OnDrum x h) = refl
 
@@ -97,15 +99,27 @@ rules-rows : (s : State) (es : List Entry) (j p f k : ℕ) (w : Spot) → ofVerd
 unfolding Rules.refusal
 rules-rows s es j p f k w = ap ofVerdict (submit-is s (fittedOn (s .channels) k) j p f k w) ∙ chained (rowsIn s es (Submit j p f k w))
 
-none-can : (t : ℕ → Bool) (q : List ℕ) → Rules.isNone (find t q) ≡ not (any t q)
-none-can t [] = refl
-none-can t (e ∷ q) = by-bool (t e) (λ h. rw h refl) (λ h. rw h (none-can t q))
+-- a word of the drum has no interlock in the rules either
+open-is : (s : State) (k : ℕ) (a : Site) → not (unitAt (s .units) k a .interlock) ≡ isOpen s k a
+open-is s k (AtUnit u) = refl
+open-is s k (AtAddress x) = refl
+
+can-is : (s : State) (k e : ℕ) → Rules.startable s k e ≡ canStart s k e
+can-is s k e =
+    let p = packetIn (s .jobs) (placeOf e) (packetOf e) in
+    ap (λ (b : Bool). eqb (p .channel .0) k && b) (open-is s k (p .at))
+
+none-can : (t u : ℕ → Bool) → ((e : ℕ) → t e ≡ u e) → (q : List ℕ) → Rules.isNone (find t q) ≡ not (any u q)
+none-can t u same [] = refl
+none-can t u same (e ∷ q) =
+    let is = same e in
+    by-bool (u e) (λ h. rw (is, h) refl) (λ h. rw (is, h) (none-can t u same q))
 
 start-rows : (s : State) (es : List Entry) (k : ℕ) → ofVerdict (Rules.refusal s (Rules.Start k)) ≡ lowest (rowsIn s es (Start k))
 unfolding Rules.refusal
 start-rows s es k =
     ap (λ (b : Bool). ofVerdict (Rules.first (not (configured (s .channels) k)) OutOfRange (Rules.first (not (isIdle (motionOn s k))) ChannelBusy (Rules.first b NothingStartable Granted))))
-    (none-can (Rules.startable s k) (s .queue))
+    (none-can (Rules.startable s k) (canStart s k) (can-is s k) (s .queue))
     ∙ chained (rowsIn s es (Start k))
 
 complete-rows : (s : State) (es : List Entry) (k : ℕ) (how : How) → ofVerdict (Rules.refusal s (Rules.Complete k how)) ≡ lowest (rowsIn s es (Complete k how))
