@@ -4,6 +4,7 @@ use numbers::Refusal;
 use packets::Begun;
 use packets::Site;
 use packets::Status;
+ghost use mathlib.Core.Path.{_≡_};
 ghost use Rattle.text.specs.Room.{Written};
 ghost use Rattle.shift_answers.specs.Answers.{refusedText, doneText, numberAt, startedText, completedText, statusWord, statusText, noCallText};
 
@@ -37,13 +38,14 @@ fn number_at(at: Site) -> u32
 pub fn put_started(out: &mut [u8], at: usize, begun: Begun) -> usize
     ensures { λ r. ⌜ Written (now (out .entry)) at (startedText begun) (now (out .exit)) r ⌝ }
 {
+    let place = begun.at;
+    let number = number_at(place);
     let word = text::put_bytes(out, at, b"ACK ");
     let packet = shift_pieces::put_packet(out, word, begun.place, begun.packet);
     let space = text::put_byte(out, packet, b' ');
     let function = shift_pieces::put_octal(out, space, begun.function);
     let gap = text::put_byte(out, function, b' ');
-    let place = begun.at;
-    let spot = text::put_decimal(out, gap, number_at(place) as u64);
+    let spot = text::put_decimal(out, gap, number as u64);
     text::put_byte(out, spot, b'\n')
 }
 

@@ -4,6 +4,9 @@ use borrow.Author.Needs.{needs}
 use Rattle.shift_answers.proofs.put_started.Statement.{statement}
 use Rattle.shift_answers.proofs.put_started.Tie as tie
 
+number-at-requires : tie.Need-number-at-requires
+number-at-requires c κs = search needs
+
 slice-aggregate-put-bytes : tie.Need-slice-aggregate-put-bytes
 slice-aggregate-put-bytes c = search needs
 
@@ -35,12 +38,13 @@ same-length : tie.Need-same-length
 same-length c = search needs
 
 returns : tie.Need-returns
-returns c = andThen (c .before .before .before .before .before .before .before .before .before .before .before .before .before .before .before .before .before .before .before .before .before .before .before .before .before .before .before .put-bytes .ensures) (andThen (c .before .before .before .before .before .before .before .before .before .before .before .before .before .before .before .before .before .before .before .before .before .before .before .put-packet .ensures) (andThen (c .before .before .before .before .before .before .before .before .before .before .before .before .before .before .before .before .before .before .before .put-byte .ensures) (andThen (c .before .before .before .before .before .before .before .before .before .before .before .before .before .before .before .put-octal .ensures) (andThen (c .before .before .before .before .before .before .before .before .before .before .before .put-byte2 .ensures) (andThen (c .before .before .before .before .before .before .put-decimal .ensures) (c .before .before .put-byte3 .ensures))))))
+returns c = andThen (c .before .before .before .before .before .before .before .before .before .before .before .before .before .before .before .before .before .before .before .before .before .before .before .before .before .before .put-bytes .ensures) (andThen (c .before .before .before .before .before .before .before .before .before .before .before .before .before .before .before .before .before .before .before .before .before .before .put-packet .ensures) (andThen (c .before .before .before .before .before .before .before .before .before .before .before .before .before .before .before .before .before .before .put-byte .ensures) (andThen (c .before .before .before .before .before .before .before .before .before .before .before .before .before .before .put-octal .ensures) (andThen (c .before .before .before .before .before .before .before .before .before .before .put-byte2 .ensures) (andThen (rw (c .before .before .before .before .before .before .before .before .before .before .before .before .before .before .before .before .before .before .before .before .before .before .before .before .before .before .before .before .before .number-at .ensures) at (c .before .before .before .before .before .before .put-decimal .ensures)) (c .before .before .put-byte3 .ensures))))))
 
 pub put-started-spec : {M : Type 1} → statement M
 put-started-spec =
     tie.close
     (tie.spec
+    number-at-requires
     slice-aggregate-put-bytes
     put-bytes-requires
     put-packet-requires
