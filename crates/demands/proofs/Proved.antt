@@ -11,6 +11,7 @@ use borrow.Author.Tests.{eqb-true}
 use Rattle.numbers.proofs.Tests.{by-bool, never}
 use Rattle.numbers.specs.declared.Outcome.the-variants.{Done, Refused}
 use Rattle.numbers.specs.declared.Refusal.{Refusal}
+use Rattle.numbers.specs.declared.UnitNumber.{UnitNumber}
 use Rattle.numbers.specs.declared.Refusal.the-variants.{OutOfRange}
 use Rattle.channels.specs.declared.Configuration.{Configuration}
 use Rattle.configuration_units.specs.Fresh.{freshUnits}
@@ -55,6 +56,7 @@ use Rattle.demands.proofs.Texts.{counted-fresh, kept-room, listed, list
 use Rattle.demands.specs.Refusing.{refusalIn}
 use Rattle.demands.proofs.Numbers.{answers-by, numbers, ofVerdict}
 use Rattle.demands.proofs.Standing.{deck-lent, stands}
+use Rattle.units.specs.State.{unitIn}
 use Rattle.units.specs.declared.Holder.{Holder}
 use Rattle.units.specs.declared.Holder.the-variants.{Free, Held}
 use Rattle.packets.proofs.Inv.{motion-busy}
