@@ -1,7 +1,5 @@
 // The units of a configured cell when it is fresh.
 use channels::Configuration;
-use numbers::ChannelNumber;
-use numbers::UnitNumber;
 use units::Units;
 ghost use mathlib.Core.Path.{_≡_};
 ghost use Rattle.units.specs.State.{unitsFrom};
@@ -15,17 +13,20 @@ pub fn fresh(configuration: Configuration) -> Units
     fresh_from(down)
 }
 
-// The same, of the down units alone.
+// The same, of the down units alone. Only down units are stored, in a local grid that becomes a state once: a state
+// that is handed on is copied whole.
 fn fresh_from(down: [bool; 256]) -> Units
     ensures { λ r. ⌜ r ≡ unitsFrom (freshUnits down) ⌝ }
 {
-    let mut state = units::none_held();
+    let mut grid = [[units::fresh_unit(false); 16]; 16];
     let mut i: usize = 0;
     while i < 256 {
-        let channel = ChannelNumber((i / 16) as u8);
-        let unit = UnitNumber((i % 16) as u8);
-        state = units::with_unit(state, channel, unit, units::fresh_unit(down[i]));
+        if down[i] {
+            let c = i / 16;
+            let u = i % 16;
+            grid[c][u] = units::fresh_unit(true);
+        }
         i += 1;
     }
-    state
+    units::units_from(grid)
 }

@@ -1,37 +1,46 @@
 -- `configuration_units::fresh_from` meets its contract. The loop's invariant is `Filled` of proofs/Filling.antt.
 -- Assumes nothing.
-use Prim.Native.Nat.{_-_}
-use Rattle.configuration_units.proofs.Filling.{Filled, fill-start, fill-turn, fill-end}
+use Prim.Native.Nat.{_+_, _-_}
+use mathlib.Core.Path.{sym, ap, subst, _∙_}
+use mathlib.Core.Logic.{⊎-elim}
+use mathlib.Core.List.{List}
+use lib.ListN.{replicate}
+use Rattle.units.specs.declared.Unit.{Unit}
+use Rattle.units.specs.State.{unitsFrom, unitSet}
+use Rattle.configuration_units.proofs.Filling.{Filled, fill-start, fill-down, fill-up, fill-end}
 use borrow.Author.Needs.{needs}
 use Rattle.configuration_units.proofs.fresh_from.Statement.{statement}
 use Rattle.configuration_units.proofs.fresh_from.Tie as tie
 
 abbrev Inv-loop : tie.InvT-loop
-Inv-loop down state₀ i₀ state i = Filled down state i
+Inv-loop down grid₀ i₀ grid i = Filled down grid i
 
 abbrev μ-loop : tie.MeasureT-loop
-μ-loop down state₀ i₀ state i = 256 - i
-
-none-held-requires : tie.Need-none-held-requires Inv-loop μ-loop
-none-held-requires c κs = search needs
-
-loop-holds : tie.Need-loop-holds Inv-loop μ-loop
-loop-holds c = fill-start (c .none-held .ensures)
-
-cast-t9 : tie.Need-cast-t9 Inv-loop μ-loop
-cast-t9 c = search needs
-
-cast-t9-2 : tie.Need-cast-t9-2 Inv-loop μ-loop
-cast-t9-2 c = search needs
-
-array-read-fresh-unit : tie.Need-array-read-fresh-unit Inv-loop μ-loop
-array-read-fresh-unit c = search needs
+μ-loop down grid₀ i₀ grid i = 256 - i
 
 fresh-unit-requires : tie.Need-fresh-unit-requires Inv-loop μ-loop
 fresh-unit-requires c κs = search needs
 
-with-unit-requires : tie.Need-with-unit-requires Inv-loop μ-loop
-with-unit-requires c κs = search needs
+loop-holds : tie.Need-loop-holds Inv-loop μ-loop
+loop-holds c = fill-start (c .before .args .t1) (ap (λ (unit : Unit). replicate 16 (replicate 16 unit)) (c .fresh-unit .ensures))
+
+array-read-if1 : tie.Need-array-read-if1 Inv-loop μ-loop
+array-read-if1 c = search needs
+
+fresh-unit-requires-2 : tie.Need-fresh-unit-requires-2 Inv-loop μ-loop
+fresh-unit-requires-2 c κs = search needs
+
+mul-t14 : tie.Need-mul-t14 Inv-loop μ-loop
+mul-t14 c = search needs
+
+mul-t17 : tie.Need-mul-t17 Inv-loop μ-loop
+mul-t17 c = search needs
+
+index-1-grid : tie.Need-index-1-grid Inv-loop μ-loop
+index-1-grid c = search needs
+
+index-2-grid : tie.Need-index-2-grid Inv-loop μ-loop
+index-2-grid c = search needs
 
 add-i : tie.Need-add-i Inv-loop μ-loop
 add-i c = search needs
@@ -40,10 +49,18 @@ loop-less : tie.Need-loop-less Inv-loop μ-loop
 loop-less c = search needs
 
 loop-again : tie.Need-loop-again Inv-loop μ-loop
-loop-again c = fill-turn (c .before .before .before .loop .inv) (c .before .before .loop-test .taken) (c .before .fresh-unit .ensures) (c .with-unit .ensures)
+unfolding unitSet
+loop-again c =
+    ⊎-elim
+    (λ w. subst (λ (g : List (List Unit)). Filled (c .before .before .before .before .args .t1) g (c .before .before .loop .i + 1)) (sym (w .2)) (fill-down (c .before .before .loop .inv) (c .before .loop-test .taken) (w .0 .taken) (w .1 .ensures)))
+    (λ w. subst (λ (g : List (List Unit)). Filled (c .before .before .before .before .args .t1) g (c .before .before .loop .i + 1)) (sym (w .1)) (fill-up (c .before .before .loop .inv) (c .before .loop-test .taken) (w .0 .left)))
+    (c .if1 .came)
+
+units-from-requires : tie.Need-units-from-requires Inv-loop μ-loop
+units-from-requires c κs = search needs
 
 returns : tie.Need-returns Inv-loop μ-loop
-returns c = fill-end (c .before .loop .inv) (c .loop-test .left)
+returns c = c .units-from .ensures ∙ ap unitsFrom (fill-end (c .before .before .loop .inv) (c .before .loop-test .left))
 
 pub fresh-from-spec : {M : Type 1} → statement M
 fresh-from-spec =
@@ -51,14 +68,16 @@ fresh-from-spec =
     (tie.spec
     Inv-loop
     μ-loop
-    none-held-requires
-    loop-holds
-    cast-t9
-    cast-t9-2
-    array-read-fresh-unit
     fresh-unit-requires
-    with-unit-requires
+    loop-holds
+    array-read-if1
+    fresh-unit-requires-2
+    mul-t14
+    mul-t17
+    index-1-grid
+    index-2-grid
     add-i
     loop-less
     loop-again
+    units-from-requires
     returns)
