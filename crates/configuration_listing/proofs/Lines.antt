@@ -13,21 +13,16 @@ use Rattle.channels.specs.Channels.{channelIn}
 use Rattle.configuration.specs.declared.Verdict.{Verdict}
 use Rattle.configuration.specs.declared.Answer.{Answer}
 use Rattle.configuration.specs.Configured.{configurationOf}
-use Rattle.units.specs.declared.Units.{Units}
-use Rattle.units.specs.State.{unitsFrom}
-use Rattle.configuration_units.specs.Fresh.{freshUnits}
-use Rattle.configuration_listing.specs.Listing.{isListed, assignableUnits, channelText, linesFrom, listingOf, answerText}
+use Rattle.configuration_listing.specs.Listing.{isListed, freshCount, channelText, linesFrom, listingOf, answerText}
 
 module _ (configuration : Configuration) (channel : ChannelNumber) {on : Channel} {t : Bool} (a : on ≡ channelIn configuration channel) (b : t ≡ isListed on) where
   listed-is : isListed (channelIn configuration channel) ≡ t
   listed-is = sym (b ∙ ap isListed a)
 
-  pub channel-line : {n : ℕ} {state : Units} → t ≡ true → state ≡ unitsFrom (freshUnits (configuration .down)) → n ≡ assignableUnits configuration (state .of) channel 16
+  pub channel-line : {n : ℕ} → t ≡ true → n ≡ freshCount configuration channel
       → twoText (channel .0) ++ (bytes " " ++ (decimalText n ++ bytes "\n")) ≡ channelText configuration channel
   unfolding channelText
-  channel-line {n} {state} e s m =
-      let i : n ≡ assignableUnits configuration (freshUnits (configuration .down)) channel 16 = m ∙ ap (λ (u : Units). assignableUnits configuration (u .of) channel 16) s in
-      rw (listed-is ∙ e, i)
+  channel-line {n} e m = rw (listed-is ∙ e, m)
 
   pub no-line : t ≡ false → [] ≡ channelText configuration channel
   unfolding channelText

@@ -5,13 +5,16 @@ use channels::Fitted;
 use configuration::Verdict;
 use numbers::ChannelNumber;
 use numbers::UnitNumber;
-use units::Units;
+use units::Unit;
 ghost use mathlib.Core.Path.{_≡_};
-ghost use Prim.Native.Nat.{_<_};
+ghost use mathlib.Core.Bool.{cond, _&&_};
+ghost use mathlib.Core.List.{[]};
+ghost use lib.Dec.{ltb};
+ghost use lib.ListN.{getD};
 ghost use Rattle.text.specs.Room.{Written};
-ghost use Rattle.units.specs.State.{unitsFrom};
+ghost use Rattle.units.specs.State.{assignable};
 ghost use Rattle.configuration_units.specs.Fresh.{freshUnits};
-ghost use Rattle.configuration_listing.specs.Listing.{isListed, counted, assignableUnits, errorText, channelText, linesFrom, Listed};
+ghost use Rattle.configuration_listing.specs.Listing.{isListed, freshCount, errorText, channelText, linesFrom, Listed};
 
 // Whether a channel is listed: every configured one but the drum's.
 fn is_listed(channel: Channel) -> bool
@@ -24,31 +27,29 @@ fn is_listed(channel: Channel) -> bool
     }
 }
 
-// What a unit counts for: 1 if it is configured and assignable.
-fn count_unit(
-    configuration: Configuration,
-    state: Units,
-    channel: ChannelNumber,
-    unit: UnitNumber,
-) -> u64
-    ensures { λ r. ⌜ r ≡ counted configuration (state .of) channel unit ⌝ }
+// What a unit counts for: 1 if it is one of the channel's n and assignable.
+fn count_unit(n: u32, unit: UnitNumber, state: Unit) -> u64
+    ensures { λ r. ⌜ r ≡ cond (ltb (unit .0) n && assignable state) 1 0 ⌝ }
 {
-    if channels::has_unit(configuration, channel, unit) {
-        if units::is_assignable(units::unit_at(state, channel, unit)) {
+    if (unit.0 as u32) < n {
+        if units::is_assignable(state) {
             return 1;
         }
     }
     0
 }
 
-// How many units of a channel are assignable.
-fn count_channel(configuration: Configuration, state: Units, channel: ChannelNumber) -> u64
-    ensures { λ r. ⌜ r ≡ assignableUnits configuration (state .of) channel 16 ⌝ }
+// How many units of a channel are assignable in the fresh cell, where they stand as in `row`: one channel's units are
+// handed on, not all of them.
+fn count_channel(configuration: Configuration, channel: ChannelNumber, row: [Unit; 16]) -> u64
+    requires { ⌜ row ≡ getD (freshUnits (configuration .down)) (channel .0) [] ⌝ }
+    ensures { λ r. ⌜ r ≡ freshCount configuration channel ⌝ }
 {
+    let n = channels::units_of(channels::channel_at(configuration, channel));
     let mut found: u64 = 0;
     let mut u: u8 = 0;
     while u < 16 {
-        found += count_unit(configuration, state, channel, UnitNumber(u));
+        found += count_unit(n, UnitNumber(u), row[u as usize]);
         u += 1;
     }
     found
@@ -63,21 +64,21 @@ pub fn put_error(out: &mut [u8], line: usize) -> usize
     text::put_byte(out, number, b'\n')
 }
 
-// The line of a channel, by the fresh cell's units.
+// The line of a channel, by its units in the fresh cell.
 fn put_channel(
     out: &mut [u8],
     at: usize,
     configuration: Configuration,
-    state: Units,
     channel: ChannelNumber,
+    row: [Unit; 16],
 ) -> usize
-    requires { ⌜ state ≡ unitsFrom (freshUnits (configuration .down)) ⌝ }
+    requires { ⌜ row ≡ getD (freshUnits (configuration .down)) (channel .0) [] ⌝ }
     ensures { λ r. ⌜ Written (now (out .entry)) at (channelText configuration channel) (now (out .exit)) r ⌝ }
 {
     if is_listed(channels::channel_at(configuration, channel)) {
         let number = text::put_two(out, at, channel.0);
         let space = text::put_byte(out, number, b' ');
-        let units = count_channel(configuration, state, channel);
+        let units = count_channel(configuration, channel, row);
         let count = text::put_decimal(out, space, units);
         return text::put_byte(out, count, b'\n');
     }
@@ -88,11 +89,12 @@ fn put_channel(
 fn put_lines(out: &mut [u8], configuration: Configuration) -> usize
     ensures { λ r. ⌜ Written (now (out .entry)) 0 (linesFrom configuration 16 0) (now (out .exit)) r ⌝ }
 {
-    let state = configuration_units::fresh(configuration);
+    let grid = units::grid_of(configuration_units::fresh(configuration));
     let mut at: usize = 0;
     let mut c: u8 = 0;
     while c < 16 {
-        at = put_channel(out, at, configuration, state, ChannelNumber(c));
+        let row = grid[c as usize];
+        at = put_channel(out, at, configuration, ChannelNumber(c), row);
         c += 1;
     }
     at

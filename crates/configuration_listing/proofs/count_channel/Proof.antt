@@ -1,5 +1,8 @@
 -- `configuration_listing::count_channel` meets its contract. The loop's invariant is `AtUnits` of
 -- proofs/Counting.antt. Assumes nothing.
+use mathlib.Core.Path.{ap, _∙_}
+use Rattle.channels.specs.Channels.{unitsOf}
+use Rattle.configuration_units.specs.Fresh.{freshUnits}
 use Prim.Native.Nat.{_-_}
 use native.Mathlib.Omega.{arith}
 use Rattle.configuration_listing.proofs.Counting.{AtUnits, units-start, units-turn, units-fits, units-end}
@@ -8,19 +11,34 @@ use Rattle.configuration_listing.proofs.count_channel.Statement.{statem
 use Rattle.configuration_listing.proofs.count_channel.Tie as tie
 
 abbrev Inv-loop : tie.InvT-loop
-Inv-loop configuration state channel found₀ u₀ found u = AtUnits configuration (state .of) channel found u
+Inv-loop row n found₀ u₀ found u = AtUnits n row found u
 
 abbrev μ-loop : tie.MeasureT-loop
-μ-loop configuration state channel found₀ u₀ found u = 16 - u
+μ-loop row n found₀ u₀ found u = 16 - u
+
+channel-at-requires : tie.Need-channel-at-requires Inv-loop μ-loop
+channel-at-requires c κs = search needs
+
+units-of-requires : tie.Need-units-of-requires Inv-loop μ-loop
+units-of-requires c κs = search needs
 
 loop-holds : tie.Need-loop-holds Inv-loop μ-loop
-loop-holds c = units-start (c .args .configuration) (c .args .state .of) (c .args .channel)
+loop-holds c = units-start (c .units-of .result) (c .before .before .args .t3)
+
+cast-count-unit : tie.Need-cast-count-unit Inv-loop μ-loop
+cast-count-unit c = search needs
+
+mul-count-unit : tie.Need-mul-count-unit Inv-loop μ-loop
+mul-count-unit c = search needs
+
+array-copy-out-count-unit : tie.Need-array-copy-out-count-unit Inv-loop μ-loop
+array-copy-out-count-unit c = search needs
 
 count-unit-requires : tie.Need-count-unit-requires Inv-loop μ-loop
 count-unit-requires c κs = search needs
 
 add-found : tie.Need-add-found Inv-loop μ-loop
-add-found c = record { fits = omega (arith, units-fits (c .before .before .loop .inv) (c .count-unit .ensures)) }
+add-found c = record { fits = omega (arith, units-fits (c .before .before .before .loop .inv) (c .count-unit .ensures)) }
 
 add-u : tie.Need-add-u Inv-loop μ-loop
 add-u c = search needs
@@ -29,10 +47,10 @@ loop-less : tie.Need-loop-less Inv-loop μ-loop
 loop-less c = search needs
 
 loop-again : tie.Need-loop-again Inv-loop μ-loop
-loop-again c = units-turn (c .before .before .loop .inv) (c .before .loop-test .taken) (c .count-unit .ensures)
+loop-again c = units-turn (c .before .before .before .loop .inv) (c .count-unit .ensures) (c .before .before .loop-test .taken)
 
 returns : tie.Need-returns Inv-loop μ-loop
-returns c = units-end (c .before .loop .inv) (c .loop-test .left)
+returns c = units-end (c .before .loop .inv) (c .loop-test .left) (c .before .before .before .before .args .configuration) (freshUnits (c .before .before .before .before .args .configuration .down)) (c .before .before .before .before .args .channel) (c .before .before .units-of .ensures ∙ ap unitsOf (c .before .before .before .channel-at .ensures)) (c .before .before .before .before .pre)
 
 pub count-channel-spec : {M : Type 1} → statement M
 count-channel-spec =
@@ -40,7 +58,12 @@ count-channel-spec =
     (tie.spec
     Inv-loop
     μ-loop
+    channel-at-requires
+    units-of-requires
     loop-holds
+    cast-count-unit
+    mul-count-unit
+    array-copy-out-count-unit
     count-unit-requires
     add-found
     add-u

@@ -31,7 +31,7 @@ same-length : tie.Need-same-length
 same-length c = search needs
 
 returns : tie.Need-returns
-returns c = rw (channel-line (c .before .before .before .before .before .before .before .before .before .before .before .before .before .before .before .before .before .before .before .before .before .args .configuration) (c .before .before .before .before .before .before .before .before .before .before .before .before .before .before .before .before .before .before .before .before .before .args .channel) (c .before .before .before .before .before .before .before .before .before .before .before .before .before .before .before .before .before .before .before .channel-at .ensures) (c .before .before .before .before .before .before .before .before .before .before .before .before .before .before .before .before .before .before .is-listed .ensures) (c .before .before .before .before .before .before .before .before .before .before .before .before .before .before .before .before .before .if1 .taken) (c .before .before .before .before .before .before .before .before .before .before .before .before .before .before .before .before .before .before .before .before .before .pre) (c .before .before .before .before .before .before .before .before .count-channel .ensures)) at (andThen (c .before .before .before .before .before .before .before .before .before .before .before .before .before .before .before .put-two .ensures) (andThen (c .before .before .before .before .before .before .before .before .before .before .before .put-byte .ensures) (andThen (c .before .before .before .before .before .before .put-decimal .ensures) (c .before .before .put-byte2 .ensures))))
+returns c = rw (channel-line (c .before .before .before .before .before .before .before .before .before .before .before .before .before .before .before .before .before .before .before .before .before .args .configuration) (c .before .before .before .before .before .before .before .before .before .before .before .before .before .before .before .before .before .before .before .before .before .args .channel) (c .before .before .before .before .before .before .before .before .before .before .before .before .before .before .before .before .before .before .before .channel-at .ensures) (c .before .before .before .before .before .before .before .before .before .before .before .before .before .before .before .before .before .before .is-listed .ensures) (c .before .before .before .before .before .before .before .before .before .before .before .before .before .before .before .before .before .if1 .taken) (c .before .before .before .before .before .before .before .before .count-channel .ensures)) at (andThen (c .before .before .before .before .before .before .before .before .before .before .before .before .before .before .before .put-two .ensures) (andThen (c .before .before .before .before .before .before .before .before .before .before .before .put-byte .ensures) (andThen (c .before .before .before .before .before .before .put-decimal .ensures) (c .before .before .put-byte2 .ensures))))
 
 returns-2 : tie.Need-returns-2
 returns-2 c = rw (no-line (c .before .before .before .before .args .configuration) (c .before .before .before .before .args .channel) (c .before .before .channel-at .ensures) (c .before .is-listed .ensures) (c .if1 .left)) at (none (c .before .before .before .before .args .out .now) (c .before .before .before .before .args .at))

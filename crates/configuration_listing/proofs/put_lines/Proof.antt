@@ -1,7 +1,12 @@
 -- `configuration_listing::put_lines` meets its contract. The loop's invariant is `Going`: whoever puts the lines that
 -- are left has put them all. Assumes nothing.
 use Prim.Native.Nat.{_-_, _≤_}
+use mathlib.Core.Path.{ap, _∙_}
+use mathlib.Core.List.{List, []}
 use native.Mathlib.Omega.{arith}
+use lib.ListN.{getD}
+use Rattle.units.specs.declared.Unit.{Unit}
+use Rattle.units.specs.declared.Units.{Units}
 use Rattle.text.proofs.RoomLaws.{Going, start, turn, end, same-room}
 use Rattle.configuration_listing.specs.Listing.{linesFrom}
 use Rattle.configuration_listing.proofs.Lines.{lines-turn, lines-end}
@@ -10,19 +15,31 @@ use Rattle.configuration_listing.proofs.put_lines.Statement.{statement}
 use Rattle.configuration_listing.proofs.put_lines.Tie as tie
 
 abbrev Inv-loop : tie.InvT-loop
-Inv-loop out₀ configuration state at₀ c₀ out at c = (c ≤ 16) × Going out₀ 0 (linesFrom configuration 16 0) out at (linesFrom configuration (16 - c) c)
+Inv-loop out₀ configuration grid at₀ c₀ out at c = (c ≤ 16) × Going out₀ 0 (linesFrom configuration 16 0) out at (linesFrom configuration (16 - c) c)
 
 abbrev μ-loop : tie.MeasureT-loop
-μ-loop out₀ configuration state at₀ c₀ out at c = 16 - c
+μ-loop out₀ configuration grid at₀ c₀ out at c = 16 - c
 
 fresh-requires : tie.Need-fresh-requires Inv-loop μ-loop
 fresh-requires c κs = search needs
 
+grid-of-requires : tie.Need-grid-of-requires Inv-loop μ-loop
+grid-of-requires c κs = search needs
+
 loop-holds : tie.Need-loop-holds Inv-loop μ-loop
 loop-holds c = (omega arith, start _ _ _)
 
+cast-row : tie.Need-cast-row Inv-loop μ-loop
+cast-row c = search needs
+
+mul-row : tie.Need-mul-row Inv-loop μ-loop
+mul-row c = search needs
+
+array-copy-out-row : tie.Need-array-copy-out-row Inv-loop μ-loop
+array-copy-out-row c = search needs
+
 put-channel-requires : tie.Need-put-channel-requires Inv-loop μ-loop
-put-channel-requires c κs = search needs
+put-channel-requires c κs = ap (λ (grid : List (List Unit)). getD grid (c .before .before .before .loop .c) []) (c .before .before .before .before .grid-of .ensures .is ∙ ap (λ (units : Units). units .of) (c .before .before .before .before .before .fresh .ensures))
 
 add-c : tie.Need-add-c Inv-loop μ-loop
 add-c c = search needs
@@ -31,13 +48,13 @@ loop-less : tie.Need-loop-less Inv-loop μ-loop
 loop-less c = search needs
 
 loop-again : tie.Need-loop-again Inv-loop μ-loop
-loop-again c = (omega arith, turn (rw (lines-turn (c .before .before .before .before .before .before .before .before .args .configuration) (c .before .before .before .before .before .loop .c) (c .before .before .before .before .loop-test .taken)) at (c .before .before .before .before .before .loop .inv .1)) (c .before .before .put-channel .ensures))
+loop-again c = (omega arith, turn (rw (lines-turn (c .before .before .before .before .before .before .before .before .before .before .args .configuration) (c .before .before .before .before .before .before .loop .c) (c .before .before .before .before .before .loop-test .taken)) at (c .before .before .before .before .before .before .loop .inv .1)) (c .before .before .put-channel .ensures))
 
 same-length : tie.Need-same-length Inv-loop μ-loop
-same-length c = same-room (end (rw (lines-end (c .before .before .before .before .args .configuration) (c .before .loop .c) (c .loop-test .left)) at (c .before .loop .inv .1)))
+same-length c = same-room (end (rw (lines-end (c .before .before .before .before .before .args .configuration) (c .before .loop .c) (c .loop-test .left)) at (c .before .loop .inv .1)))
 
 returns : tie.Need-returns Inv-loop μ-loop
-returns c = end (rw (lines-end (c .before .before .before .before .args .configuration) (c .before .loop .c) (c .loop-test .left)) at (c .before .loop .inv .1))
+returns c = end (rw (lines-end (c .before .before .before .before .before .args .configuration) (c .before .loop .c) (c .loop-test .left)) at (c .before .loop .inv .1))
 
 pub put-lines-spec : {M : Type 1} → statement M
 put-lines-spec =
@@ -46,7 +63,11 @@ put-lines-spec =
     Inv-loop
     μ-loop
     fresh-requires
+    grid-of-requires
     loop-holds
+    cast-row
+    mul-row
+    array-copy-out-row
     put-channel-requires
     add-c
     loop-less
