@@ -2,25 +2,17 @@
 -- their lines; nothing follows. Otherwise the first bad or missing line, counted from 1.
 use Prim.Native.Nat.{ℕ, _+_}
 use mathlib.Core.Bool.{Bool, false, cond}
-use mathlib.Core.List.{List, [], _∷_}
+use mathlib.Core.List.{List}
 use lib.Dec.{ltb}
 use lib.ListN.{length, drop}
-use Rattle.numbers.specs.declared.Refusal.the-variants.{BadConfiguration}
-use Rattle.numbers.specs.Refusals.{numberOf}
 use Rattle.channels.specs.declared.Channel.{Channel}
 use Rattle.configuration.specs.declared.section.Channels.{Channels}
 use Rattle.configuration.specs.declared.section.Downs.{Downs}
-use Rattle.configuration.specs.declared.Verdict.{Verdict}
 use Rattle.configuration.specs.declared.Verdict.the-variants.{Good, Bad}
 use Rattle.configuration.specs.declared.Answer.{Answer}
 use Rattle.configuration.specs.Lines.{onNumber, lastNumber}
 use Rattle.channels.specs.Channels.{noChannels, noDown}
 use Rattle.configuration.specs.Sections.{channelsFrom, downsFrom}
-
--- what a verdict says in document 01's numbers: nothing, or refusal 14 and the line
-abbrev pub saidBy : Verdict → List ℕ
-saidBy Good = []
-saidBy (Bad line) = numberOf BadConfiguration ∷ line ∷ []
 
 -- refusal 14 with its line, and nothing configured
 abbrev pub refused : ℕ → Answer

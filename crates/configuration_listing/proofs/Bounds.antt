@@ -7,6 +7,8 @@ use native.Mathlib.Omega.{arith}
 use lib.ListN.{length, take, drop, length-append}
 use lib.Seq.{take-at, drop-at}
 use Rattle.numbers.specs.Quoted.{bytes}
+use Rattle.numbers.specs.Refusals.{numberOf}
+use Rattle.numbers.specs.declared.Refusal.the-variants.{BadConfiguration}
 use Rattle.numbers.specs.declared.ChannelNumber.{ChannelNumber}
 use Rattle.text.specs.Room.{Written}
 use Rattle.text.proofs.RoomLaws.{fitted}
@@ -53,7 +55,9 @@ listing-bound s = by (meaning s .said)
   where
     by : Said (configurationOf s) → length (listingOf s) ≤ 96
     by (Said.goods of marks e) = rw e (omega (arith, lines-bound (record { channels = of; down = marks }) 16 0))
-    by (Said.bads n e) = rw e (omega (arith, length-append (decimalText n) (bytes "\n"), few-digits 2 n (omega (arith, few-lines s n (meaning s .first n e)))))
+    by (Said.bads n e) =
+        let number = decimalText (numberOf BadConfiguration) in
+        rw e (omega (arith, length-append number (bytes " LINE " ++ (decimalText n ++ bytes "\n")), few-digits 1 (numberOf BadConfiguration) (omega arith), length-append (decimalText n) (bytes "\n"), few-digits 2 n (omega (arith, few-lines s n (meaning s .first n e)))))
 
 -- so what was put is the listing
 pub listed : (s : List ℕ) {room after : List ℕ} {r : ℕ} → Written room 0 (listingOf s) after r → Listed s room after r

@@ -6,6 +6,8 @@ use mathlib.Core.List.{List, [], _++_}
 use lib.ListN.{length, take, drop}
 use Rattle.numbers.specs.Quoted.{bytes}
 use Rattle.numbers.specs.Kinds.{isDrum}
+use Rattle.numbers.specs.Refusals.{numberOf}
+use Rattle.numbers.specs.declared.Refusal.the-variants.{BadConfiguration}
 use Rattle.numbers.specs.declared.ChannelNumber.{ChannelNumber}
 use Rattle.numbers.specs.declared.UnitNumber.{UnitNumber}
 use Rattle.text.specs.Room as Room
@@ -22,9 +24,9 @@ use Rattle.units.specs.declared.Unit.{Unit}
 use Rattle.units.specs.State.{unitIn, assignable}
 use Rattle.configuration_units.specs.Fresh.{freshUnits}
 
--- a bad configuration gives `ER 14 LINE n`
+-- a bad configuration gives `ER 14 LINE n`, 14 the number of its refusal
 abbrev pub errorText : ℕ → List ℕ
-errorText line = bytes "ER 14 LINE " ++ (decimalText line ++ bytes "\n")
+errorText line = bytes "ER " ++ (decimalText (numberOf BadConfiguration) ++ (bytes " LINE " ++ (decimalText line ++ bytes "\n")))
 
 -- each channel but the drum's
 abbrev pub isListedBy : Fitted → Bool

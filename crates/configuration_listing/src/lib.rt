@@ -4,6 +4,7 @@ use channels::Configuration;
 use channels::Fitted;
 use configuration::Verdict;
 use numbers::ChannelNumber;
+use numbers::Refusal;
 use numbers::UnitNumber;
 use units::Unit;
 ghost use mathlib.Core.Path.{_≡_};
@@ -59,9 +60,12 @@ fn count_channel(configuration: Configuration, channel: ChannelNumber, row: [Uni
 pub fn put_error(out: &mut [u8], line: usize) -> usize
     ensures { λ r. ⌜ Written (now (out .entry)) 0 (errorText line) (now (out .exit)) r ⌝ }
 {
-    let words = text::put_bytes(out, 0, b"ER 14 LINE ");
-    let number = text::put_decimal(out, words, line as u64);
-    text::put_byte(out, number, b'\n')
+    let refusal = numbers::number_of(Refusal::BadConfiguration);
+    let er = text::put_bytes(out, 0, b"ER ");
+    let number = text::put_decimal(out, er, refusal as u64);
+    let word = text::put_bytes(out, number, b" LINE ");
+    let bad = text::put_decimal(out, word, line as u64);
+    text::put_byte(out, bad, b'\n')
 }
 
 // The line of a channel, by its units in the fresh cell.

@@ -1,9 +1,12 @@
--- `configuration_listing::put_error` meets its contract: the words, the number and the line's end, one after the
--- other. Assumes nothing.
+-- `configuration_listing::put_error` meets its contract: the words, the refusal's number, the line and the line's end,
+-- one after the other. Assumes nothing.
 use Rattle.text.proofs.RoomLaws.{andThen}
 use borrow.Author.Needs.{needs}
 use Rattle.configuration_listing.proofs.put_error.Statement.{statement}
 use Rattle.configuration_listing.proofs.put_error.Tie as tie
+
+number-of-requires : tie.Need-number-of-requires
+number-of-requires c κs = search needs
 
 slice-aggregate-put-bytes : tie.Need-slice-aggregate-put-bytes
 slice-aggregate-put-bytes c = search needs
@@ -11,8 +14,20 @@ slice-aggregate-put-bytes c = search needs
 put-bytes-requires : tie.Need-put-bytes-requires
 put-bytes-requires c κs = search needs
 
+cast-put-decimal : tie.Need-cast-put-decimal
+cast-put-decimal c = search needs
+
 put-decimal-requires : tie.Need-put-decimal-requires
 put-decimal-requires c κs = search needs
+
+slice-aggregate-put-bytes-2 : tie.Need-slice-aggregate-put-bytes-2
+slice-aggregate-put-bytes-2 c = search needs
+
+put-bytes-requires-2 : tie.Need-put-bytes-requires-2
+put-bytes-requires-2 c κs = search needs
+
+put-decimal-requires-2 : tie.Need-put-decimal-requires-2
+put-decimal-requires-2 c κs = search needs
 
 put-byte-requires : tie.Need-put-byte-requires
 put-byte-requires c κs = search needs
@@ -21,15 +36,20 @@ same-length : tie.Need-same-length
 same-length c = search needs
 
 returns : tie.Need-returns
-returns c = andThen (c .before .before .before .before .before .before .before .before .before .before .put-bytes .ensures) (andThen (c .before .before .before .before .before .before .put-decimal .ensures) (c .before .before .put-byte .ensures))
+returns c = andThen (c .before .before .before .before .before .before .before .before .before .before .before .before .before .before .before .before .before .before .before .put-bytes .ensures) (andThen (rw (c .before .before .before .before .before .before .before .before .before .before .before .before .before .before .before .before .before .before .before .before .before .before .number-of .ensures) at (c .before .before .before .before .before .before .before .before .before .before .before .before .before .before .before .put-decimal .ensures)) (andThen (c .before .before .before .before .before .before .before .before .before .before .put-bytes2 .ensures) (andThen (c .before .before .before .before .before .before .put-decimal2 .ensures) (c .before .before .put-byte .ensures))))
 
 pub put-error-spec : {M : Type 1} → statement M
 put-error-spec =
     tie.close
     (tie.spec
+    number-of-requires
     slice-aggregate-put-bytes
     put-bytes-requires
+    cast-put-decimal
     put-decimal-requires
+    slice-aggregate-put-bytes-2
+    put-bytes-requires-2
+    put-decimal-requires-2
     put-byte-requires
     same-length
     returns)
