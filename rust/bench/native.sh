@@ -16,23 +16,35 @@ mkdir "$work/src"
 
 # An exported function takes numbers, bools and slices, and no enum, nor a struct that holds one. So a cell is made and used inside. A loop
 # would need a proof of its own, and ten calls in a row need none.
-cat > "$work/src/lib.rt" <<'RT'
+
+# Ten calls from one state: whether all answered true. NAME, the function called, its parameters and its arguments.
+ten() {
+    printf '// Ten times %s.\nfn %s(%s) -> bool {\n' "$2" "$1" "$3"
+    for name in a b c d e f g h i j; do
+        printf '    let %s = %s(%s);\n' $name "$2" "$4"
+    done
+    printf '    a & b & c & d & e & f & g & h & i & j\n}\n\n'
+}
+{
+    cat <<'RT'
 // Functions of the proved crates under plain names, for a harness.
-use schedule_list::Schedule;
+use cell::Cell;
+use cell::StatusAnswer;
+use cell_selection::Taking;
 use numbers::ChannelNumber;
+use numbers::Outcome;
 use numbers::UnitNumber;
 use packets::Answer;
-use packets::Assignment;
-use packets::Blocks;
-use packets::Core;
 use packets::How;
 use packets::Lists;
 use packets::Spot;
-use cell_selection::Taking;
+use packets::Status;
+use schedule_list::Schedule;
+use units::Mark;
 
 // The deck program's text.
 #[no_mangle]
-pub extern "C" fn luffgravel_deck(deck: &[u8], out: &mut [u8]) -> usize {
+pub extern "C" fn luffgravel_deck(deck: &[u8], out: &mut [u8; 53248]) -> usize {
     schedule_deck::report(deck, out)
 }
 
@@ -58,67 +70,13 @@ pub extern "C" fn luffgravel_is_down(config: &[u8], channel: u8, unit: u8, at: u
     false
 }
 
-// The fresh lists of a configuration.
-fn fresh(config: &[u8]) -> Lists {
-    let answer = configuration::read(config);
-    let configuration = answer.configuration;
-    let units = configuration_units::fresh(configuration);
-    let channels = configuration.channels;
-    lists::fresh(channels, units)
+// A unit as what a submission names.
+fn on_unit(unit: u8) -> Spot {
+    Spot::OnUnit(UnitNumber(unit))
 }
 
-// The lists of a cell whose place 0 holds all units.
-fn taken(config: &[u8]) -> Lists {
-    let core = Core {
-        ib: Blocks { start: 2, count: 1 },
-        db: Blocks { start: 0, count: 0 },
-    };
-    let assignment = Assignment {
-        units: [true; 256],
-        from: 0,
-        words: 0,
-        core,
-    };
-    let acted = lists::take(fresh(config), 0, assignment);
-    acted.lists
-}
-
-// A packet is submitted, started and completed.
-fn turn(lists: Lists, channel: u8) -> Lists {
-    let submitted = lists::submit(lists, 0, 0, 2, ChannelNumber(channel), Spot::OnUnit(UnitNumber(0)));
-    let started = lists::start(submitted.lists, ChannelNumber(channel));
-    let completed = lists::complete(started.lists, ChannelNumber(channel), How::Full);
-    completed.lists
-}
-
-RT
-# Ten calls of a function from its own answer.
-ten_turns() {
-    printf '// Ten times %s.\nfn %s(lists: Lists, channel: u8) -> Lists {\n' "$2" "$1"
-    before=lists
-    for name in a b c d e f g h i; do
-        printf '    let %s = %s(%s, channel);\n' $name "$2" $before
-        before=$name
-    done
-    printf '    %s(i, channel)\n}\n\n' "$2"
-}
-# Ten calls of a function from one state: whether all found something.
-ten_selections() {
-    printf '// Ten times %s.\nfn %s(schedule: Schedule, lists: Lists) -> bool {\n' "$2" "$1"
-    for name in a b c d e f g h i j; do
-        printf '    let %s = %s(schedule, lists);\n' $name "$2"
-    done
-    printf '    a & b & c & d & e & f & g & h & i & j\n}\n\n'
-}
-{
-    ten_turns ten turn
-    ten_turns hundred ten
-    ten_turns thousand hundred
-    cat <<'RT'
-// Whether one more packet can be submitted, which is so only when the last one was completed.
-fn is_completed(lists: Lists, channel: u8) -> bool {
-    let submitted = lists::submit(lists, 0, 0, 2, ChannelNumber(channel), Spot::OnUnit(UnitNumber(0)));
-    let answer = submitted.answer;
+// Whether a call was done and answers nothing else.
+fn is_done(answer: Answer) -> bool {
     match answer {
         Answer::Done => true,
         Answer::Started(_) => false,
@@ -128,36 +86,54 @@ fn is_completed(lists: Lists, channel: u8) -> bool {
     }
 }
 
-// A thousand turns, and whether all were accepted.
+// Whether this packet of a cell was never submitted.
+fn has_blank(cell: Cell, place: u8, packet: u8) -> bool {
+    let StatusAnswer::Is(status) = cell::status(cell, place, packet) else {
+        return false;
+    };
+    match status {
+        Status::Blank => true,
+        Status::Listed => false,
+        Status::InProgress => false,
+        Status::Stopping => false,
+        Status::Ended(_) => false,
+    }
+}
+
+// The fresh cell of a configuration.
+fn fresh(config: &[u8]) -> Cell {
+    let answer = configuration::read(config);
+    let configuration = answer.configuration;
+    cell::fresh(configuration)
+}
+
+// Whether a packet of the fresh cell is blank. The call that might mark a unit has the whole cell made: it could be asked for.
 #[no_mangle]
-pub extern "C" fn luffgravel_turns(config: &[u8], channel: u8) -> bool {
-    is_completed(thousand(taken(config), channel), channel)
+pub extern "C" fn luffgravel_fresh(config: &[u8], place: u8, packet: u8, marks: bool) -> bool {
+    let cell = fresh(config);
+    if marks {
+        let marked = cell::mark(cell, ChannelNumber(place), UnitNumber(packet), Mark::Down, true);
+        let answer = marked.answer;
+        return is_done(answer);
+    }
+    has_blank(cell, place, packet)
 }
 
-// The same without a turn.
-#[no_mangle]
-pub extern "C" fn luffgravel_no_turn(config: &[u8], channel: u8) -> bool {
-    is_completed(taken(config), channel)
+// A fresh cell that has entered a deck; its text goes into the room.
+fn with_requests(config: &[u8], deck: &[u8], room: &mut [u8; 53248]) -> Cell {
+    let cell = fresh(config);
+    let answered = cell::enter(cell, deck, room);
+    answered.cell
 }
 
-// One more job is taken.
-fn next(before: Taking) -> Taking {
-    cell_selection::select(before.schedule, before.lists)
-}
-
-// The schedule that a deck gives; its text is cut to the room that it has here.
-fn entered(deck: &[u8]) -> Schedule {
-    let mut room: [u8; 256] = [0; 256];
-    let entered = schedule_deck::enter_deck(schedule_list::empty(), deck, &mut room);
-    entered.schedule
-}
-
-// A cell that has entered a deck and selected fifteen jobs.
-fn held_by_fifteen(config: &[u8], deck: &[u8]) -> Taking {
-    let first = cell_selection::select(entered(deck), fresh(config));
-    let five = next(next(next(next(first))));
-    let ten = next(next(next(next(next(five)))));
-    next(next(next(next(next(ten)))))
+// A deck can be entered into this schedule, which then is not empty.
+fn enters(schedule: Schedule, deck: &[u8], room: &mut [u8; 53248]) -> bool {
+    let entered = schedule_deck::enter_deck(schedule, deck, room);
+    let outcome = entered.outcome;
+    match outcome {
+        Outcome::Done => 0 < schedule_list::size(entered.schedule),
+        Outcome::Refused(_) => false,
+    }
 }
 
 // A selection from this state finds something.
@@ -167,25 +143,158 @@ fn finds(schedule: Schedule, lists: Lists) -> bool {
     selection.found
 }
 
-RT
-    ten_selections ten_finds finds
-    ten_selections hundred_finds ten_finds
-    cat <<'RT'
-// A hundred selections from the state in which fifteen places are held, and whether all found something.
-#[no_mangle]
-pub extern "C" fn luffgravel_selections(config: &[u8], deck: &[u8]) -> bool {
-    let held = held_by_fifteen(config, deck);
-    hundred_finds(held.schedule, held.lists)
+// One more job is taken.
+fn next(before: Taking) -> Taking {
+    cell_selection::select(before.schedule, before.lists)
 }
 
-// One such selection.
+// The cell after fifteen selections.
+fn held_by_fifteen(cell: Cell) -> Taking {
+    let first = cell_selection::select(cell.schedule, cell.lists);
+    let five = next(next(next(next(first))));
+    let ten = next(next(next(next(next(five)))));
+    next(next(next(next(next(ten)))))
+}
+
+// A packet is submitted, started and completed: packet 0 of place 0, on channel 1.
+fn turn(lists: Lists) -> Lists {
+    let submitted = lists::submit(lists, 0, 0, 2, ChannelNumber(1), on_unit(0));
+    let started = lists::start(submitted.lists, ChannelNumber(1));
+    let completed = lists::complete(started.lists, ChannelNumber(1), How::Full);
+    completed.lists
+}
+
+fn ten_turns(lists: Lists) -> Lists {
+    let five = turn(turn(turn(turn(turn(lists)))));
+    turn(turn(turn(turn(turn(five)))))
+}
+
+fn hundred_turns(lists: Lists) -> Lists {
+    let fifty = ten_turns(ten_turns(ten_turns(ten_turns(ten_turns(lists)))));
+    ten_turns(ten_turns(ten_turns(ten_turns(ten_turns(fifty)))))
+}
+
+fn thousand_turns(lists: Lists) -> Lists {
+    let half = hundred_turns(hundred_turns(hundred_turns(hundred_turns(hundred_turns(lists)))));
+    hundred_turns(hundred_turns(hundred_turns(hundred_turns(hundred_turns(half)))))
+}
+
+// One more packet is listed on channel 0, on the unit that has its place's number.
+fn with_packet(lists: Lists, place: u8, packet: u8) -> Lists {
+    let submitted = lists::submit(lists, place, packet, 2, ChannelNumber(0), on_unit(place));
+    submitted.lists
+}
+
+fn with_four(lists: Lists, place: u8, a: u8, b: u8, c: u8, d: u8) -> Lists {
+    let two = with_packet(with_packet(lists, place, a), place, b);
+    with_packet(with_packet(two, place, c), place, d)
+}
+
+// Packets 1 to 15 of a place are listed.
+fn with_fifteen(lists: Lists, place: u8) -> Lists {
+    let three = with_packet(with_packet(with_packet(lists, place, 1), place, 2), place, 3);
+    let seven = with_four(three, place, 4, 5, 6, 7);
+    let eleven = with_four(seven, place, 8, 9, 10, 11);
+    with_four(eleven, place, 12, 13, 14, 15)
+}
+
+// All packets of a place are listed.
+fn with_place(lists: Lists, place: u8) -> Lists {
+    with_packet(with_fifteen(lists, place), place, 0)
+}
+
+// As many packets are listed: none, 1, 64 or 255, all but the one that is submitted on channel 1.
+fn filled(lists: Lists, count: u8) -> Lists {
+    if count == 0 {
+        return lists;
+    }
+    if count == 1 {
+        return with_packet(lists, 1, 0);
+    }
+    let four = with_place(with_place(with_place(with_place(lists, 1), 2), 3), 4);
+    if count == 64 {
+        return four;
+    }
+    let eight = with_place(with_place(with_place(with_place(four, 5), 6), 7), 8);
+    let twelve = with_place(with_place(with_place(with_place(eight, 9), 10), 11), 12);
+    with_fifteen(with_place(with_place(with_place(twelve, 13), 14), 15), 0)
+}
+
+// Whether a packet can be submitted on a channel, to the unit that has its place's number: it is not listed.
+fn takes(lists: Lists, place: u8, packet: u8, channel: u8) -> bool {
+    let submitted = lists::submit(lists, place, packet, 2, ChannelNumber(channel), on_unit(place));
+    let answer = submitted.answer;
+    is_done(answer)
+}
+
+// Whether packet 0 of place 0 can be submitted once more, which is so only when its turns were accepted, and the last of as many packets is listed.
+fn is_so(lists: Lists, count: u8) -> bool {
+    if takes(lists, 0, 0, 1) {
+        if count == 0 {
+            return takes(lists, 1, 0, 0);
+        }
+        if count == 1 {
+            return !takes(lists, 1, 0, 0);
+        }
+        if count == 64 {
+            return !takes(lists, 4, 0, 0);
+        }
+        return !takes(lists, 0, 15, 0);
+    }
+    false
+}
+
+RT
+    ten ten_finds finds 'schedule: Schedule, lists: Lists' 'schedule, lists'
+    ten hundred_finds ten_finds 'schedule: Schedule, lists: Lists' 'schedule, lists'
+    ten ten_enters enters 'schedule: Schedule, deck: &[u8], room: &mut [u8; 53248]' 'schedule, deck, room'
+    ten hundred_enters ten_enters 'schedule: Schedule, deck: &[u8], room: &mut [u8; 53248]' 'schedule, deck, room'
+    cat <<'RT'
+// A thousand turns, or none, with as many packets listed; whether all was accepted.
 #[no_mangle]
-pub extern "C" fn luffgravel_one_selection(config: &[u8], deck: &[u8]) -> bool {
-    let held = held_by_fifteen(config, deck);
-    finds(held.schedule, held.lists)
+pub extern "C" fn luffgravel_turns(config: &[u8], deck: &[u8], count: u8, thousand: bool) -> bool {
+    let mut room: [u8; 53248] = [0; 53248];
+    let cell = with_requests(config, deck, &mut room);
+    let held = next(held_by_fifteen(cell));
+    let lists = filled(held.lists, count);
+    if thousand {
+        return is_so(thousand_turns(lists), count);
+    }
+    is_so(lists, count)
+}
+
+// A hundred selections, or one, from one state, and whether all found something.
+fn selections(schedule: Schedule, lists: Lists, hundred: bool) -> bool {
+    if hundred {
+        return hundred_finds(schedule, lists);
+    }
+    finds(schedule, lists)
+}
+
+// Selections after a deck was entered; late: after fifteen jobs were selected too.
+#[no_mangle]
+pub extern "C" fn luffgravel_selections(config: &[u8], deck: &[u8], late: bool, hundred: bool) -> bool {
+    let mut room: [u8; 53248] = [0; 53248];
+    let cell = with_requests(config, deck, &mut room);
+    if late {
+        let held = held_by_fifteen(cell);
+        return selections(held.schedule, held.lists, hundred);
+    }
+    selections(cell.schedule, cell.lists, hundred)
+}
+
+// A further deck entered a hundred times, or once, into the schedule that a first one gives; whether it was entered each time.
+#[no_mangle]
+pub extern "C" fn luffgravel_entries(deck: &[u8], further: &[u8], hundred: bool) -> bool {
+    let mut room: [u8; 53248] = [0; 53248];
+    let entered = schedule_deck::enter_deck(schedule_list::empty(), deck, &mut room);
+    if hundred {
+        return hundred_enters(entered.schedule, further, &mut room);
+    }
+    enters(entered.schedule, further, &mut room)
 }
 RT
-} >> "$work/src/lib.rt"
+} > "$work/src/lib.rt"
 
 tools=$own/toolchain
 if [ "$(uname -m)" != x86_64 ]; then

@@ -2,12 +2,13 @@
 //! the machine does not count. Each figure is the lowest of several samples, each of as many runs as take some milliseconds. That both answer
 //! the same is checked before anything is timed.
 
+mod calls;
 mod proved;
 
 use std::hint::black_box;
 use std::time::Duration;
 
-use ordinary::cell::{Cell, Completion, Submission};
+use ordinary::cell::{Cell, Status};
 use ordinary::configuration::Configuration;
 
 const TERMINATION: &str = ")))))))) +++++++++++++                                                  ))))))))\n";
@@ -66,8 +67,10 @@ fn main() {
     println!("|---|---|---|---|");
     decks();
     configurations();
-    turns();
-    selections();
+    calls::turns();
+    calls::entries();
+    calls::selections();
+    calls::late_selections();
     if !proved::LINKED {
         eprintln!("The proved functions are not linked: run bench/native.sh first.");
     }
@@ -93,7 +96,7 @@ fn decks() {
             black_box(ordinary::deck::report(black_box(&deck)));
         });
         let proved = proved::LINKED.then(|| {
-            let mut room = vec![0; 65_536];
+            let mut room: proved::Room = [0; 53_248];
             let length = proved::deck(&deck, &mut room);
             assert_eq!(&room[..length], ordinary::deck::report(&deck).as_bytes());
             time(|| {
@@ -147,98 +150,17 @@ fn configurations() {
             })
         });
         show(&format!("configuration read and listed: {what}"), ordinary, proved);
-    }
-}
 
-/// A packet submitted, started and completed.
-fn turns() {
-    let channel = 3;
-    let mut cell = fresh(CELL, &request(0, "IB/1,MT/2"));
-    cell.select().expect("a job");
-    let turn = |cell: &mut Cell| {
-        let submission = Submission { place: 0, packet: 0, function: 0o02, channel, x: 0, h: 0 };
-        cell.submit(black_box(submission)).expect("accepted");
-        black_box(cell.start(channel)).expect("accepted");
-        black_box(cell.complete(channel, Completion::Full)).expect("accepted");
-    };
-    let ordinary = time(|| turn(&mut cell));
-    let proved = proved::LINKED.then(|| {
-        let channel = channel as u8;
-        assert!(proved::turns(CELL.as_bytes(), channel) && proved::no_turn(CELL.as_bytes(), channel));
-        let thousand = time(|| {
-            black_box(proved::turns(black_box(CELL.as_bytes()), channel));
+        let fresh = |text| Cell::new(Configuration::from_text(text).expect("a good configuration"));
+        let ordinary = time(|| {
+            black_box(black_box(fresh(black_box(text))).status(15, 15) == Ok(Status::Blank));
         });
-        let none = time(|| {
-            black_box(proved::no_turn(black_box(CELL.as_bytes()), channel));
-        });
-        (thousand - none) / 1000.0
-    });
-    show("submit, start and complete", ordinary, proved);
-}
-
-/// A fresh cell that has entered these cards.
-fn fresh(configuration: &str, cards: &str) -> Cell {
-    let mut cell = Cell::new(Configuration::from_text(configuration.as_bytes()).expect("a good configuration"));
-    let outcome = cell.enter_deck(format!("{cards}{TERMINATION}").as_bytes()).expect("a good deck");
-    assert!(outcome.errors.is_empty());
-    cell
-}
-
-/// Selection over 64 requests with fifteen places held: none fits, or only the last fits.
-fn selections() {
-    let configuration: String = (0..16)
-        .map(|channel| match channel {
-            0..=4 => format!("{channel:02} MA 16\n"),
-            5..=10 => format!("{channel:02} MT 16\n"),
-            11 => format!("{channel:02} MD 400000\n"),
-            _ => format!("{channel:02} PR 4\n"),
-        })
-        .collect();
-    let configuration = format!("16\n{configuration}0\n");
-    for (what, last) in [
-        ("selection, 15 places held, none of 49 fits", "IB/1,DB/1,MD/100,MA1/4,MA2/3,MT1/4,MT2/3,PR1/5"),
-        ("selection, 15 places held, only the last of 49 fits", "IB/1,DB/1,MD/100,MA1/4,MA2/3,MT1/4,MT2/3,PR1/4"),
-    ] {
-        let mut cards = String::new();
-        for number in 0..64 {
-            cards += &request(
-                number,
-                match number {
-                    0..=14 => "IB/1,MD/100,MT/2",
-                    63 => last,
-                    // What is lacking shows last.
-                    _ => "IB/1,DB/1,MD/100,MA1/4,MA2/3,MT1/4,MT2/3,PR1/5",
-                },
-            );
-        }
-        let mut cell = fresh(&configuration, &cards);
-        for _ in 0..15 {
-            cell.select().expect("a job");
-        }
-        let fits = cell.clone().select().is_ok();
-        let clone = time(|| {
-            black_box(cell.clone());
-        });
-        let ordinary = if fits {
-            let both = time(|| {
-                black_box(cell.clone()).select().expect("a job");
-            });
-            both - clone
-        } else {
-            time(|| assert!(black_box(&mut cell).select().is_err()))
-        };
-        let deck = format!("{cards}{TERMINATION}");
         let proved = proved::LINKED.then(|| {
-            let (configuration, deck) = (configuration.as_bytes(), deck.as_bytes());
-            assert_eq!(proved::selections(configuration, deck), fits);
-            let hundred = time(|| {
-                black_box(proved::selections(black_box(configuration), black_box(deck)));
-            });
-            let one = time(|| {
-                black_box(proved::one_selection(black_box(configuration), black_box(deck)));
-            });
-            (hundred - one) / 99.0
+            assert!(proved::fresh(text, 15, 15, false) && proved::fresh(text, 0, 1, true));
+            time(|| {
+                black_box(proved::fresh(black_box(text), 15, 15, black_box(false)));
+            })
         });
-        show(what, ordinary, proved);
+        show(&format!("configuration read and fresh cell made: {what}"), ordinary, proved);
     }
 }

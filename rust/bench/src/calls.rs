@@ -1,0 +1,151 @@
+//! Calls on a cell, as its list of packets and its schedule fill. The proved functions are called a hundred or a thousand times from within and
+//! once or not at all, and the difference is divided: a cell cannot be handed to them from here.
+
+use std::hint::black_box;
+
+use ordinary::cell::{Cell, Completion, Submission};
+use ordinary::configuration::Configuration;
+
+use crate::{proved, request, show, time, TERMINATION};
+
+/// A fresh cell that has entered a deck.
+fn fresh(configuration: &str, deck: &str) -> Cell {
+    let mut cell = Cell::new(Configuration::from_text(configuration.as_bytes()).expect("a good configuration"));
+    enter(&mut cell, deck);
+    cell
+}
+
+fn enter(cell: &mut Cell, deck: &str) {
+    let outcome = cell.enter_deck(deck.as_bytes()).expect("a good deck");
+    assert!(outcome.errors.is_empty());
+}
+
+/// Requests from one number to another, all with these entries, as a deck.
+fn deck(numbers: std::ops::Range<usize>, entries: &str) -> String {
+    numbers.map(|number| request(number, entries)).collect::<String>() + TERMINATION
+}
+
+/// Nanoseconds of a call that changes the cell: from a copy of it each time, whose own time is taken off.
+fn time_from(cell: &Cell, call: impl Fn(&mut Cell)) -> f64 {
+    let copy = time(|| {
+        black_box(cell.clone());
+    });
+    let both = time(|| call(&mut black_box(cell.clone())));
+    both - copy
+}
+
+/// Nanoseconds of one of `count` calls: of all of them less those of `least`.
+fn time_of_one(count: u32, least: u32, mut run: impl FnMut(bool)) -> f64 {
+    let all = time(|| run(black_box(true)));
+    let few = time(|| run(black_box(false)));
+    (all - few) / f64::from(count - least)
+}
+
+/// A packet submitted, started and completed on channel 1, while others stand before it in the list, all on channel 0: there the job in place p
+/// holds unit p.
+pub fn turns() {
+    const CELL: &str = "2\n00 MT 16\n01 MT 16\n0\n";
+    let deck = request(0, "IB/1,MT1/1,MT2/1") + &deck(1..16, "IB/1,MT1/1");
+    let submission = |place, packet, channel| Submission { place, packet, function: 0o02, channel, x: place, h: 0 };
+    for listed in [0, 1, 64, 255] {
+        let mut cell = fresh(CELL, &deck);
+        for _ in 0..16 {
+            cell.select().expect("a job");
+        }
+        let others = (1..16).flat_map(|place| (0..16).map(move |packet| (place, packet)));
+        for (place, packet) in others.chain((1..16).map(|packet| (0, packet))).take(listed.into()) {
+            cell.submit(submission(place, packet, 0)).expect("accepted");
+        }
+        assert_eq!(cell.listed().count(), listed.into());
+        let ordinary = time(|| {
+            cell.submit(black_box(submission(0, 0, 1))).expect("accepted");
+            black_box(cell.start(1)).expect("accepted");
+            black_box(cell.complete(1, Completion::Full)).expect("accepted");
+        });
+        let proved = proved::LINKED.then(|| {
+            let run =
+                |thousand| proved::turns(black_box(CELL.as_bytes()), black_box(deck.as_bytes()), listed, thousand);
+            assert!(run(true) && run(false));
+            time_of_one(1000, 0, |thousand| assert!(run(thousand)))
+        });
+        show(&format!("submit, start and complete, {listed} others listed"), ordinary, proved);
+    }
+}
+
+/// One further request entered.
+pub fn entries() {
+    const ENTRIES: &str = "IB/2,DB/1,MD/1500,MA/1,MT1/2,MT2/3,PR/1";
+    for count in [0, 1, 16, 63] {
+        let before = deck(0..count, ENTRIES);
+        let further = deck(count..count + 1, ENTRIES);
+        let cell = fresh("0\n0\n", &before);
+        let ordinary = time_from(&cell, |cell| enter(cell, black_box(&further)));
+        let proved = proved::LINKED.then(|| {
+            let run = |hundred| proved::entries(black_box(before.as_bytes()), black_box(further.as_bytes()), hundred);
+            assert!(run(true) && run(false));
+            time_of_one(100, 1, |hundred| assert!(run(hundred)))
+        });
+        show(&format!("one request entered, {count} in the schedule"), ordinary, proved);
+    }
+}
+
+/// A cell with every kind of channel.
+fn every_kind() -> String {
+    let channels: String = (0..16)
+        .map(|channel| match channel {
+            0..=4 => format!("{channel:02} MA 16\n"),
+            5..=10 => format!("{channel:02} MT 16\n"),
+            11 => format!("{channel:02} MD 400000\n"),
+            _ => format!("{channel:02} PR 4\n"),
+        })
+        .collect();
+    format!("16\n{channels}0\n")
+}
+
+const FITS: &str = "IB/1,DB/1,MD/100,MA1/4,MA2/3,MT1/4,MT2/3,PR1/4";
+/// What is lacking shows last.
+const LACKS: &str = "IB/1,DB/1,MD/100,MA1/4,MA2/3,MT1/4,MT2/3,PR1/5";
+
+/// Selection in a cell in which no job runs: the first request fits, or none does.
+pub fn selections() {
+    for count in [1, 16, 64] {
+        for (what, entries) in [("the first fits", FITS), ("none fits", LACKS)] {
+            select(&format!("selection, {count} in the schedule, {what}"), &deck(0..count, entries), false);
+        }
+    }
+}
+
+/// Selection over 64 requests with fifteen places held: none fits, or only the last fits.
+pub fn late_selections() {
+    for (what, last) in [("none of 49 fits", LACKS), ("only the last of 49 fits", FITS)] {
+        let held: String = (0..15).map(|number| request(number, "IB/1,MD/100,MT/2")).collect();
+        let waiting: String = (15..63).map(|number| request(number, LACKS)).collect();
+        let deck = held + &waiting + &deck(63..64, last);
+        select(&format!("selection, 15 places held, {what}"), &deck, true);
+    }
+}
+
+/// Selection after a deck was entered and, `late`, after fifteen selections.
+fn select(what: &str, deck: &str, late: bool) {
+    let configuration = every_kind();
+    let mut cell = fresh(&configuration, deck);
+    if late {
+        for _ in 0..15 {
+            cell.select().expect("a job");
+        }
+    }
+    let fits = cell.clone().select().is_ok();
+    let ordinary = if fits {
+        time_from(&cell, |cell| assert!(cell.select().is_ok()))
+    } else {
+        time(|| assert!(black_box(&mut cell).select().is_err()))
+    };
+    let proved = proved::LINKED.then(|| {
+        let run = |hundred| {
+            proved::selections(black_box(configuration.as_bytes()), black_box(deck.as_bytes()), late, hundred)
+        };
+        assert!(run(true) == fits && run(false) == fits);
+        time_of_one(100, 1, |hundred| assert!(run(hundred) == fits))
+    });
+    show(what, ordinary, proved);
+}
