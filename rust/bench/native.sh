@@ -179,12 +179,31 @@ fn thousand_turns(lists: Lists) -> Lists {
     hundred_turns(hundred_turns(hundred_turns(hundred_turns(hundred_turns(half)))))
 }
 
+// The same turn by the calls on the whole cell.
+fn cell_turn(cell: Cell) -> Cell {
+    let submitted = cell::submit(cell, 0, 0, 2, ChannelNumber(1), on_unit(0));
+    let started = cell::start(submitted.cell, ChannelNumber(1));
+    let completed = cell::complete(started.cell, ChannelNumber(1), How::Full);
+    completed.cell
+}
+
+fn ten_cell_turns(cell: Cell) -> Cell {
+    let five = cell_turn(cell_turn(cell_turn(cell_turn(cell_turn(cell)))));
+    cell_turn(cell_turn(cell_turn(cell_turn(cell_turn(five)))))
+}
+
+fn hundred_cell_turns(cell: Cell) -> Cell {
+    let fifty = ten_cell_turns(ten_cell_turns(ten_cell_turns(ten_cell_turns(ten_cell_turns(cell)))));
+    ten_cell_turns(ten_cell_turns(ten_cell_turns(ten_cell_turns(ten_cell_turns(fifty)))))
+}
+
 // One more packet is listed on channel 0, on the unit that has its place's number.
 fn with_packet(lists: Lists, place: u8, packet: u8) -> Lists {
     let submitted = lists::submit(lists, place, packet, 2, ChannelNumber(0), on_unit(place));
     submitted.lists
 }
 
+// Four packets of a place are listed.
 fn with_four(lists: Lists, place: u8, a: u8, b: u8, c: u8, d: u8) -> Lists {
     let two = with_packet(with_packet(lists, place, a), place, b);
     with_packet(with_packet(two, place, c), place, d)
@@ -227,7 +246,8 @@ fn takes(lists: Lists, place: u8, packet: u8, channel: u8) -> bool {
     is_done(answer)
 }
 
-// Whether packet 0 of place 0 can be submitted once more, which is so only when its turns were accepted, and the last of as many packets is listed.
+// Whether packet 0 of place 0 can be submitted once more, which is so only when its turns were accepted, and the last of as many packets is
+// listed.
 fn is_so(lists: Lists, count: u8) -> bool {
     if takes(lists, 0, 0, 1) {
         if count == 0 {
@@ -250,17 +270,37 @@ RT
     ten ten_enters enters 'schedule: Schedule, deck: &[u8], room: &mut [u8; 53248]' 'schedule, deck, room'
     ten hundred_enters ten_enters 'schedule: Schedule, deck: &[u8], room: &mut [u8; 53248]' 'schedule, deck, room'
     cat <<'RT'
+// A cell with sixteen jobs and as many packets listed.
+fn loaded(config: &[u8], deck: &[u8], count: u8) -> Cell {
+    let mut room: [u8; 53248] = [0; 53248];
+    let held = next(held_by_fifteen(with_requests(config, deck, &mut room)));
+    let schedule = held.schedule;
+    Cell {
+        schedule,
+        lists: filled(held.lists, count),
+    }
+}
+
 // A thousand turns, or none, with as many packets listed; whether all was accepted.
 #[no_mangle]
 pub extern "C" fn luffgravel_turns(config: &[u8], deck: &[u8], count: u8, thousand: bool) -> bool {
-    let mut room: [u8; 53248] = [0; 53248];
-    let cell = with_requests(config, deck, &mut room);
-    let held = next(held_by_fifteen(cell));
-    let lists = filled(held.lists, count);
+    let cell = loaded(config, deck, count);
+    let lists = cell.lists;
     if thousand {
         return is_so(thousand_turns(lists), count);
     }
     is_so(lists, count)
+}
+
+// A hundred turns, or none, by the calls on the whole cell.
+#[no_mangle]
+pub extern "C" fn luffgravel_cell_turns(config: &[u8], deck: &[u8], count: u8, hundred: bool) -> bool {
+    let cell = loaded(config, deck, count);
+    if hundred {
+        let after = hundred_cell_turns(cell);
+        return is_so(after.lists, count);
+    }
+    is_so(cell.lists, count)
 }
 
 // A hundred selections, or one, from one state, and whether all found something.

@@ -41,34 +41,48 @@ fn time_of_one(count: u32, least: u32, mut run: impl FnMut(bool)) -> f64 {
     (all - few) / f64::from(count - least)
 }
 
-/// A packet submitted, started and completed on channel 1, while others stand before it in the list, all on channel 0: there the job in place p
-/// holds unit p.
+fn submission(place: u32, packet: u32, channel: u32) -> Submission {
+    Submission { place, packet, function: 0o02, channel, x: place, h: 0 }
+}
+
+/// A cell with sixteen jobs in which so many packets are listed, all on channel 0: there the job in place p holds unit p. None of them is packet 0
+/// of place 0.
+fn loaded(configuration: &str, deck: &str, listed: u8) -> Cell {
+    let mut cell = fresh(configuration, deck);
+    for _ in 0..16 {
+        cell.select().expect("a job");
+    }
+    let packets = (1..16).flat_map(|place| (0..16).map(move |packet| (place, packet)));
+    for (place, packet) in packets.chain((1..16).map(|packet| (0, packet))).take(listed.into()) {
+        cell.submit(submission(place, packet, 0)).expect("accepted");
+    }
+    assert_eq!(cell.listed().count(), listed.into());
+    cell
+}
+
+/// A packet submitted, started and completed on channel 1, while others stand before it in the list.
 pub fn turns() {
-    const CELL: &str = "2\n00 MT 16\n01 MT 16\n0\n";
+    let configuration = "2\n00 MT 16\n01 MT 16\n0\n";
     let deck = request(0, "IB/1,MT1/1,MT2/1") + &deck(1..16, "IB/1,MT1/1");
-    let submission = |place, packet, channel| Submission { place, packet, function: 0o02, channel, x: place, h: 0 };
+    let (config, deck_bytes) = (configuration.as_bytes(), deck.as_bytes());
     for listed in [0, 1, 64, 255] {
-        let mut cell = fresh(CELL, &deck);
-        for _ in 0..16 {
-            cell.select().expect("a job");
-        }
-        let others = (1..16).flat_map(|place| (0..16).map(move |packet| (place, packet)));
-        for (place, packet) in others.chain((1..16).map(|packet| (0, packet))).take(listed.into()) {
-            cell.submit(submission(place, packet, 0)).expect("accepted");
-        }
-        assert_eq!(cell.listed().count(), listed.into());
+        let mut cell = loaded(configuration, &deck, listed);
         let ordinary = time(|| {
             cell.submit(black_box(submission(0, 0, 1))).expect("accepted");
             black_box(cell.start(1)).expect("accepted");
             black_box(cell.complete(1, Completion::Full)).expect("accepted");
         });
+        let others = if listed == 1 { "other" } else { "others" };
         let proved = proved::LINKED.then(|| {
-            let run =
-                |thousand| proved::turns(black_box(CELL.as_bytes()), black_box(deck.as_bytes()), listed, thousand);
-            assert!(run(true) && run(false));
-            time_of_one(1000, 0, |thousand| assert!(run(thousand)))
+            let run = |thousand| assert!(proved::turns(black_box(config), black_box(deck_bytes), listed, thousand));
+            time_of_one(1000, 0, run)
         });
-        show(&format!("submit, start and complete, {listed} others listed"), ordinary, proved);
+        show(&format!("submit, start and complete, {listed} {others} listed"), ordinary, proved);
+        let proved = proved::LINKED.then(|| {
+            let run = |hundred| assert!(proved::cell_turns(black_box(config), black_box(deck_bytes), listed, hundred));
+            time_of_one(100, 0, run)
+        });
+        show(&format!("the same on the whole cell, {listed} {others} listed"), ordinary, proved);
     }
 }
 
@@ -81,9 +95,9 @@ pub fn entries() {
         let cell = fresh("0\n0\n", &before);
         let ordinary = time_from(&cell, |cell| enter(cell, black_box(&further)));
         let proved = proved::LINKED.then(|| {
-            let run = |hundred| proved::entries(black_box(before.as_bytes()), black_box(further.as_bytes()), hundred);
-            assert!(run(true) && run(false));
-            time_of_one(100, 1, |hundred| assert!(run(hundred)))
+            let (before, further) = (before.as_bytes(), further.as_bytes());
+            let run = |hundred| assert!(proved::entries(black_box(before), black_box(further), hundred));
+            time_of_one(100, 1, run)
         });
         show(&format!("one request entered, {count} in the schedule"), ordinary, proved);
     }
@@ -141,11 +155,9 @@ fn select(what: &str, deck: &str, late: bool) {
         time(|| assert!(black_box(&mut cell).select().is_err()))
     };
     let proved = proved::LINKED.then(|| {
-        let run = |hundred| {
-            proved::selections(black_box(configuration.as_bytes()), black_box(deck.as_bytes()), late, hundred)
-        };
-        assert!(run(true) == fits && run(false) == fits);
-        time_of_one(100, 1, |hundred| assert!(run(hundred) == fits))
+        let (config, deck) = (configuration.as_bytes(), deck.as_bytes());
+        let run = |hundred| assert_eq!(proved::selections(black_box(config), black_box(deck), late, hundred), fits);
+        time_of_one(100, 1, run)
     });
     show(what, ordinary, proved);
 }

@@ -62,15 +62,29 @@ fn show(what: &str, ordinary: f64, proved: Option<f64>) {
     println!("| {what} | {} | {time} | {ratio} |", micro(ordinary));
 }
 
+/// What is timed, by the name that asks for it alone.
+const PARTS: [(&str, fn()); 6] = [
+    ("decks", decks),
+    ("configurations", configurations),
+    ("turns", calls::turns),
+    ("entries", calls::entries),
+    ("selections", calls::selections),
+    ("late-selections", calls::late_selections),
+];
+
 fn main() {
+    let wanted: Vec<String> = std::env::args().skip(1).collect();
+    if let Some(unknown) = wanted.iter().find(|name| PARTS.iter().all(|(part, _)| part != name)) {
+        eprintln!("bench: no part {unknown}; there are {}", PARTS.map(|(part, _)| part).join(", "));
+        std::process::exit(2);
+    }
     println!("| What | ordinary, µs | proved, µs | proved / ordinary |");
     println!("|---|---|---|---|");
-    decks();
-    configurations();
-    calls::turns();
-    calls::entries();
-    calls::selections();
-    calls::late_selections();
+    for (part, run) in PARTS {
+        if wanted.is_empty() || wanted.iter().any(|name| name == part) {
+            run();
+        }
+    }
     if !proved::LINKED {
         eprintln!("The proved functions are not linked: run bench/native.sh first.");
     }

@@ -20,6 +20,14 @@ mod native {
             listed: u8,
             thousand: bool,
         ) -> bool;
+        fn luffgravel_cell_turns(
+            config: *const u8,
+            length: usize,
+            deck: *const u8,
+            deck_length: usize,
+            listed: u8,
+            hundred: bool,
+        ) -> bool;
         fn luffgravel_selections(
             config: *const u8,
             length: usize,
@@ -58,6 +66,10 @@ mod native {
 
     pub fn turns(config: &[u8], deck: &[u8], listed: u8, thousand: bool) -> bool {
         unsafe { luffgravel_turns(config.as_ptr(), config.len(), deck.as_ptr(), deck.len(), listed, thousand) }
+    }
+
+    pub fn cell_turns(config: &[u8], deck: &[u8], listed: u8, hundred: bool) -> bool {
+        unsafe { luffgravel_cell_turns(config.as_ptr(), config.len(), deck.as_ptr(), deck.len(), listed, hundred) }
     }
 
     pub fn selections(config: &[u8], deck: &[u8], late: bool, hundred: bool) -> bool {
@@ -99,6 +111,10 @@ mod absent {
     }
 
     pub fn turns(_: &[u8], _: &[u8], _: u8, _: bool) -> bool {
+        unreachable!("{ABSENT}")
+    }
+
+    pub fn cell_turns(_: &[u8], _: &[u8], _: u8, _: bool) -> bool {
         unreachable!("{ABSENT}")
     }
 
