@@ -18,7 +18,7 @@ pub fn fresh(configuration: Configuration) -> Units
 fn fresh_from(down: [bool; 256]) -> Units
     ensures { λ r. ⌜ r ≡ unitsFrom (freshUnits down) ⌝ }
 {
-    let mut grid = [[units::fresh_unit(false); 16]; 16];
+    let mut grid = units::grid_of(units::none_held());
     let mut i: usize = 0;
     while i < 256 {
         if down[i] {

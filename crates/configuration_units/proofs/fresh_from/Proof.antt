@@ -4,8 +4,8 @@ use Prim.Native.Nat.{_+_, _-_}
 use mathlib.Core.Path.{sym, ap, subst, _∙_}
 use mathlib.Core.Logic.{⊎-elim}
 use mathlib.Core.List.{List}
-use lib.ListN.{replicate}
 use Rattle.units.specs.declared.Unit.{Unit}
+use Rattle.units.specs.declared.Units.{Units}
 use Rattle.units.specs.State.{unitsFrom, unitSet}
 use Rattle.configuration_units.proofs.Filling.{Filled, fill-start, fill-down, fill-up, fill-end}
 use borrow.Author.Needs.{needs}
@@ -18,17 +18,20 @@ Inv-loop down grid₀ i₀ grid i = Filled down grid i
 abbrev μ-loop : tie.MeasureT-loop
 μ-loop down grid₀ i₀ grid i = 256 - i
 
-fresh-unit-requires : tie.Need-fresh-unit-requires Inv-loop μ-loop
-fresh-unit-requires c κs = search needs
+none-held-requires : tie.Need-none-held-requires Inv-loop μ-loop
+none-held-requires c κs = search needs
+
+grid-of-requires : tie.Need-grid-of-requires Inv-loop μ-loop
+grid-of-requires c κs = search needs
 
 loop-holds : tie.Need-loop-holds Inv-loop μ-loop
-loop-holds c = fill-start (c .before .args .t1) (ap (λ (unit : Unit). replicate 16 (replicate 16 unit)) (c .fresh-unit .ensures))
+loop-holds c = fill-start (c .before .before .args .t1) (c .grid-of .ensures .is ∙ ap (λ (units : Units). units .of) (c .before .none-held .ensures))
 
 array-read-if1 : tie.Need-array-read-if1 Inv-loop μ-loop
 array-read-if1 c = search needs
 
-fresh-unit-requires-2 : tie.Need-fresh-unit-requires-2 Inv-loop μ-loop
-fresh-unit-requires-2 c κs = search needs
+fresh-unit-requires : tie.Need-fresh-unit-requires Inv-loop μ-loop
+fresh-unit-requires c κs = search needs
 
 mul-t14 : tie.Need-mul-t14 Inv-loop μ-loop
 mul-t14 c = search needs
@@ -50,11 +53,7 @@ loop-less c = search needs
 
 loop-again : tie.Need-loop-again Inv-loop μ-loop
 unfolding unitSet
-loop-again c =
-    ⊎-elim
-    (λ w. subst (λ (g : List (List Unit)). Filled (c .before .before .before .before .args .t1) g (c .before .before .loop .i + 1)) (sym (w .2)) (fill-down (c .before .before .loop .inv) (c .before .loop-test .taken) (w .0 .taken) (w .1 .ensures)))
-    (λ w. subst (λ (g : List (List Unit)). Filled (c .before .before .before .before .args .t1) g (c .before .before .loop .i + 1)) (sym (w .1)) (fill-up (c .before .before .loop .inv) (c .before .loop-test .taken) (w .0 .left)))
-    (c .if1 .came)
+loop-again c = ⊎-elim (λ w. subst (λ (g : List (List Unit)). Filled (c .before .before .before .before .before .args .t1) g (c .before .before .loop .i + 1)) (sym (w .2)) (fill-down (c .before .before .loop .inv) (c .before .loop-test .taken) (w .0 .taken) (w .1 .ensures))) (λ w. subst (λ (g : List (List Unit)). Filled (c .before .before .before .before .before .args .t1) g (c .before .before .loop .i + 1)) (sym (w .1)) (fill-up (c .before .before .loop .inv) (c .before .loop-test .taken) (w .0 .left))) (c .if1 .came)
 
 units-from-requires : tie.Need-units-from-requires Inv-loop μ-loop
 units-from-requires c κs = search needs
@@ -68,10 +67,11 @@ fresh-from-spec =
     (tie.spec
     Inv-loop
     μ-loop
-    fresh-unit-requires
+    none-held-requires
+    grid-of-requires
     loop-holds
     array-read-if1
-    fresh-unit-requires-2
+    fresh-unit-requires
     mul-t14
     mul-t17
     index-1-grid
