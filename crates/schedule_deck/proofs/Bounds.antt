@@ -2,13 +2,13 @@
 -- has at most 16 bytes, a request's 13, the last 15, and there are at most 3,261 groups and 64 requests. Assumes
 -- nothing.
 use Prim.Native.Nat.{ℕ, _+_, _*_, _≤_, _<_}
-use mathlib.Core.Path.{_≡_, refl, ap, subst, _∙_}
+use mathlib.Core.Path.{_≡_, refl, sym, ap, subst, _∙_}
 use mathlib.Core.Bool.{Bool, true, false, cond, _&&_}
 use mathlib.Core.List.{List, [], _∷_, _++_}
 use native.Mathlib.Omega.{arith}
 use lib.Dec.{eqb, leb}
-use lib.ListN.{length, getD, take, drop, length-append}
-use lib.Seq.{take-at, drop-at}
+use lib.ListN.{length, getD, drop, length-append, length-drop}
+use lib.Seq.{sets-eq}
 use Rattle.numbers.proofs.Tests.{by-bool}
 use Rattle.numbers.specs.Quoted.{bytes}
 use Rattle.numbers.specs.declared.Refusal.{Refusal}
@@ -58,13 +58,17 @@ use Rattle.schedule_list.specs.InSchedule.{inSchedule, scheduleOf}
 use Rattle.schedule_list.specs.declared.Schedule.{Schedule}
 use Rattle.schedule_orderly.specs.Orderly.{Each, requests}
 use Rattle.schedule_orderly.proofs.Reachable.{sound-empty}
-use Rattle.schedule_deck.specs.Report.{shownBy, formed, errorLine, requestLine, scheduleText, lastLine, begin, lineBy, lastBy, shownAt, triedAt, groupText, after, errorsFrom, endFrom, closingText, reportText, refusedText, deckGroups, textBy, deckText, notesText, notesBy, deckNotes, deckRoom}
+use Rattle.schedule_deck.specs.Report.{shownBy, formed, errorLine, requestLine, scheduleText, lastLine, begin, lineBy, lastBy, shownAt, triedAt, groupText, after, errorsFrom, endFrom, closingText, reportText, refusedText, deckGroups, textBy, deckText, notesText, notesBy, deckNotes}
 use Rattle.schedule_deck.specs.Reading.{Whole, Reported}
 use Rattle.schedule_deck.proofs.DeckLaws.{sound-groups, each-groups}
 use Rattle.schedule_deck.specs.declared.Progress.{Progress}
 use Rattle.cards_fields.proofs.FieldLaws.{spaceless-short}
 use Rattle.cards_writing.proofs.PutLaws.{priority-short}
 use Rattle.schedule_deck.proofs.Few.{deck-few}
+
+-- the length of the lent room: 52 times 1,024 bytes
+abbrev pub deckRoom : ℕ
+deckRoom = 53248
 
 -- the lines
 below-100 : (e : CardError) → errorNumber e < 100
@@ -191,20 +195,40 @@ text-short s = by (deckEnd s) refl
     by (At n) e = report-short (deckGroups s) (deck-few s n e)
     by (Refused refusal) e = refused-short s refusal e
 
-pub deck-notes-short : (schedule : Schedule) (s : List ℕ) → length (deckNotes schedule s) ≤ deckRoom
+deck-notes-short : (schedule : Schedule) (s : List ℕ) → length (deckNotes schedule s) ≤ deckRoom
 deck-notes-short schedule s = by (deckEnd s) refl
   where
     by : (end : DeckEnd) → deckEnd s ≡ end → length (notesBy end schedule s) ≤ deckRoom
     by (At n) e = notes-short schedule (deckGroups s) (deck-few s n e)
     by (Refused refusal) e = omega arith
 
--- what fits stands in the room whole, and what is past it is kept
+-- what fits stands in the room whole, and every byte behind it is kept
 pub entire : {room p after· : List ℕ} {r : ℕ} → Written room 0 p after· r → length p ≤ length room → Whole p room after· r
 entire {room} {p} {after·} {r} w h =
     let f = fitted w (omega arith) in
-    let e : length p ≡ r = omega (arith, f .0) in
-    let k : 0 + length p ≡ r = omega arith in
-    (ap (take r) (f .1) ∙ take-at p (drop (0 + length p) room) r e, ap (drop r) (f .1) ∙ drop-at p (drop (0 + length p) room) r e ∙ ap (λ (n : ℕ). drop n room) k)
+    let k : 0 + length p ≡ r = omega (arith, f .0) in
+    record { ends = omega arith; bytes = f .1 ∙ ap (λ (n : ℕ). p ++ drop n room) k }
 
-pub reported : (s : List ℕ) {room after· : List ℕ} {r : ℕ} → Written room 0 (deckText s) after· r → Reported s room after· r
-reported s w = record { text = w; whole = λ h. entire w (omega (arith, text-short s)) }
+-- what stands in the room whole was put there, where the room is as long as before: a piece more can be put behind it
+pub put-whole : {room p after· : List ℕ} {r : ℕ} → length after· ≡ length room → Whole p room after· r → Written room 0 p after· r
+put-whole {room} {p} {after·} {r} l w =
+    let e = w .ends in
+    let h : 0 + length p ≤ length room = omega (arith, l, e, ap length (w .bytes), length-append p (drop r room), length-drop r room) in
+    let k : r ≡ 0 + length p = omega arith in
+    record {
+      bytes = w .bytes ∙ ap (λ (n : ℕ). p ++ drop n room) k ∙ sym (sets-eq p room 0 h);
+      reached = omega arith;
+    }
+
+-- a text whole leaves one room and one length
+pub whole-one : {room p after₁ after₂ : List ℕ} {r₁ r₂ : ℕ} → Whole p room after₁ r₁ → Whole p room after₂ r₂ → (after₁ ≡ after₂) × (r₁ ≡ r₂)
+whole-one {room} {p} v w =
+    let e = v .ends ∙ sym (w .ends) in
+    (v .bytes ∙ ap (λ (n : ℕ). p ++ drop n room) e ∙ sym (w .bytes), e)
+
+module _ {room after· : List ℕ} {r : ℕ} (l : length room ≡ deckRoom) where
+  pub reported : (s : List ℕ) → Written room 0 (deckText s) after· r → Reported s room after· r
+  reported s w = entire w (omega (arith, text-short s))
+
+  pub noted-whole : (schedule : Schedule) (s : List ℕ) → Written room 0 (deckNotes schedule s) after· r → Whole (deckNotes schedule s) room after· r
+  noted-whole schedule s w = entire w (omega (arith, deck-notes-short schedule s))

@@ -20,10 +20,10 @@ use Rattle.schedule_list.specs.InSchedule.{inSchedule, scheduleOf}
 use Rattle.schedule_list.specs.declared.Schedule.{Schedule}
 use Rattle.numbers.specs.declared.Refusal.{Refusal}
 use Rattle.numbers.specs.declared.Outcome.the-variants as Outcomes
-use Rattle.schedule_deck.specs.Report.{scheduleText, begin, errorsFrom, endFrom, lastLine, closingText, reportText, refusedText, deckGroups, deckText, textBy, notesText, notesBy, scheduleBy, outcomeBy, deckNotes, deckSchedule, deckOutcome}
+use Rattle.schedule_deck.specs.Report.{scheduleText, begin, errorsFrom, endFrom, lastLine, closingText, reportText, refusedText, deckGroups, deckText, textBy, notesText, notesBy, scheduleBy, outcomeBy}
 use Rattle.schedule_deck.proofs.Few.{ends}
-use Rattle.schedule_deck.proofs.Bounds.{deck-notes-short, entire}
-use Rattle.schedule_deck.specs.Reading.{Read, ReadAll, Noted, DeckEntered}
+use Rattle.schedule_deck.proofs.Bounds.{deckRoom, entire, noted-whole}
+use Rattle.schedule_deck.specs.Reading.{Read, ReadAll, Noted, Whole, DeckEntered}
 use Rattle.schedule_deck.specs.declared.Progress.{Progress}
 use Rattle.schedule_deck.specs.declared.Step.{Step}
 use Rattle.schedule_deck.specs.declared.Entered.{Entered}
@@ -137,21 +137,22 @@ module _ (s : List ℕ) {end : DeckEnd} (is : end ≡ deckEnd s) where
   pub refused-text : (refusal : Refusal) → end ≡ Refused refusal → refusedText refusal ≡ deckText s
   refused-text refusal e = ap (λ (x : DeckEnd). textBy x s) (sym (sym is ∙ e))
 
-  entered : {schedule : Schedule} {room after· : List ℕ} {r : Entered} → r .outcome ≡ deckOutcome s → r .schedule ≡ deckSchedule schedule s → Written room 0 (deckNotes schedule s) after· (r .at) → DeckEntered schedule s room after· r
-  entered {schedule} o t w = record { outcome = o; then = t; text = w; whole = λ h. entire w (omega (arith, deck-notes-short schedule s)) }
-
-  pub good-entered : (n : ℕ) → end ≡ At n → {schedule : Schedule} {room after· : List ℕ} {r : Entered} → Noted room schedule (groupsOf (cardsOf (take n s))) after· r → DeckEntered schedule s room after· r
-  good-entered n e {schedule} {room} {after·} {r} d =
+  pub good-entered : (n : ℕ) → end ≡ At n → {schedule : Schedule} {room after· : List ℕ} {r : Entered} → length room ≡ deckRoom
+      → Noted room schedule (groupsOf (cardsOf (take n s))) after· r → DeckEntered schedule s room after· r
+  good-entered n e {schedule} {room} {after·} {r} l d =
       let q : deckEnd s ≡ At n = sym is ∙ e in
-      entered
-      (d .done ∙ ap outcomeBy (sym q))
-      (d .then ∙ ap (λ (gs : List (List (List ℕ))). endFrom (begin schedule) gs .schedule) (groups-are n e) ∙ ap (λ (x : DeckEnd). scheduleBy x schedule s) (sym q))
-      (subst (λ (p : List ℕ). Written room 0 p after· (r .at)) (ap (notesText schedule) (groups-are n e) ∙ ap (λ (x : DeckEnd). notesBy x schedule s) (sym q)) (d .text))
+      record {
+        outcome = d .done ∙ ap outcomeBy (sym q);
+        then = d .then ∙ ap (λ (gs : List (List (List ℕ))). endFrom (begin schedule) gs .schedule) (groups-are n e) ∙ ap (λ (x : DeckEnd). scheduleBy x schedule s) (sym q);
+        text = noted-whole l schedule s
+            (subst (λ (p : List ℕ). Written room 0 p after· (r .at)) (ap (notesText schedule) (groups-are n e) ∙ ap (λ (x : DeckEnd). notesBy x schedule s) (sym q)) (d .text));
+      }
 
   pub refused-entered : (refusal : Refusal) → end ≡ Refused refusal → (schedule : Schedule) (room : List ℕ) → DeckEntered schedule s room room (record { outcome = Outcomes.Refused refusal; schedule = schedule; at = 0 })
   refused-entered refusal e schedule room =
       let q : deckEnd s ≡ Refused refusal = sym is ∙ e in
-      entered
-      (ap outcomeBy (sym q))
-      (ap (λ (x : DeckEnd). scheduleBy x schedule s) (sym q))
-      (subst (λ (p : List ℕ). Written room 0 p room 0) (ap (λ (x : DeckEnd). notesBy x schedule s) (sym q)) (none room 0))
+      record {
+        outcome = ap outcomeBy (sym q);
+        then = ap (λ (x : DeckEnd). scheduleBy x schedule s) (sym q);
+        text = subst (λ (p : List ℕ). Whole p room room 0) (ap (λ (x : DeckEnd). notesBy x schedule s) (sym q)) (entire (none room 0) (omega arith));
+      }

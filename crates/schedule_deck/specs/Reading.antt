@@ -1,13 +1,13 @@
 -- What reading groups, and entering a deck, leave in lent room and answer.
 use mathlib.Core.Path.{_≡_}
-use mathlib.Core.List.{List}
-use Prim.Native.Nat.{ℕ, _≤_}
-use lib.ListN.{length, take, drop}
+use mathlib.Core.List.{List, _++_}
+use Prim.Native.Nat.{ℕ}
+use lib.ListN.{length, drop}
 use Rattle.numbers.specs.declared.Outcome.the-variants.{Done}
 use Rattle.text.specs.Room as Room
 use Rattle.schedule_list.specs.declared.Schedule.{Schedule}
 use Rattle.schedule_deck.specs.Report.{begin, groupText, after, errorsFrom, endFrom, notesText, deckText}
-use Rattle.schedule_deck.specs.Report.{deckRoom, deckNotes, deckSchedule, deckOutcome}
+use Rattle.schedule_deck.specs.Report.{deckNotes, deckSchedule, deckOutcome}
 use Rattle.schedule_deck.specs.declared.Progress.{Progress}
 use Rattle.schedule_deck.specs.declared.Step.{Step}
 use Rattle.schedule_deck.specs.declared.Entered.{Entered}
@@ -28,18 +28,17 @@ pub record Noted (room : List ℕ) (schedule : Schedule) (gs : List (List (List 
   pub then : r .schedule ≡ endFrom (begin schedule) gs .schedule
   pub text : Room.Written room 0 (notesText schedule gs) after· (r .at)
 
--- a text that stands in the room whole, from its start on, and what is past it is kept
-abbrev pub Whole : List ℕ → List ℕ → List ℕ → ℕ → Type 0
-Whole text room after· r = (take r after· ≡ text) × (drop r after· ≡ drop r room)
+-- a text that stands in the room whole: it has r bytes, they are the room's first, and every byte behind them is kept
+pub record Whole (text room after· : List ℕ) (r : ℕ) : Type 0 where
+  pub ends : r ≡ length text
+  pub bytes : after· ≡ text ++ drop r room
 
--- A DECK REPORTED: its text from the room's start on, cut at the room's end; 53,248 bytes hold every report whole
-pub record Reported (s room after· : List ℕ) (r : ℕ) : Type 0 where
-  pub text : Room.Written room 0 (deckText s) after· r
-  pub whole : deckRoom ≤ length room → Whole (deckText s) room after· r
+-- A DECK REPORTED: what the deck program prints
+abbrev pub Reported : List ℕ → List ℕ → List ℕ → ℕ → Type 0
+Reported s room after· r = Whole (deckText s) room after· r
 
 -- A DECK ENTERED: each part of the answer, and the room
 pub record DeckEntered (schedule : Schedule) (s room after· : List ℕ) (r : Entered) : Type 0 where
   pub outcome : r .outcome ≡ deckOutcome s
   pub then : r .schedule ≡ deckSchedule schedule s
-  pub text : Room.Written room 0 (deckNotes schedule s) after· (r .at)
-  pub whole : deckRoom ≤ length room → Whole (deckNotes schedule s) room after· (r .at)
+  pub text : Whole (deckNotes schedule s) room after· (r .at)

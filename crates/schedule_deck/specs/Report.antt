@@ -155,7 +155,3 @@ deckSchedule schedule s = scheduleBy (deckEnd s) schedule s
 
 abbrev pub deckOutcome : List ℕ → Outcome
 deckOutcome s = outcomeBy (deckEnd s)
-
--- room enough for every one of these texts: 52 times 1,024 bytes
-abbrev pub deckRoom : ℕ
-deckRoom = 53248

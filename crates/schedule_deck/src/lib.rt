@@ -235,9 +235,9 @@ fn put_refused(out: &mut [u8], refusal: Refusal) -> usize
     text::put_byte(out, number, b'\n')
 }
 
-// Puts what the deck program prints into lent room and answers its length. 53,248 bytes are enough; a smaller room
-// gets what fits.
-pub fn report(deck: &[u8], out: &mut [u8]) -> usize
+// Puts what the deck program prints into lent room and answers its length. The room holds every report, so nothing is
+// cut.
+pub fn report(deck: &[u8], out: &mut [u8; 53248]) -> usize
     ensures { λ r. ⌜ Reported (now (deck .entry)) (now (out .entry)) (now (out .exit)) r ⌝ }
 {
     let end = deck::deck_end(deck);
@@ -247,9 +247,9 @@ pub fn report(deck: &[u8], out: &mut [u8]) -> usize
     }
 }
 
-// Reads a deck into a schedule and puts its error lines and the last line into lent room. 53,248 bytes are enough; a
-// smaller room gets what fits. A refused deck leaves the schedule and the room as they were.
-pub fn enter_deck(schedule: Schedule, deck: &[u8], out: &mut [u8]) -> Entered
+// Reads a deck into a schedule and puts its error lines and the last line into lent room, which holds all of them. A
+// refused deck leaves the schedule and the room as they were.
+pub fn enter_deck(schedule: Schedule, deck: &[u8], out: &mut [u8; 53248]) -> Entered
     ensures { λ r. ⌜ DeckEntered schedule (now (deck .entry)) (now (out .entry)) (now (out .exit)) r ⌝ }
 {
     let end = deck::deck_end(deck);

@@ -15,7 +15,7 @@ enum-known-end : tie.Need-enum-known-end
 enum-known-end c = search needs
 
 slice-aggregate-put-entered : tie.Need-slice-aggregate-put-entered
-slice-aggregate-put-entered c = part-long (c .before .before .before .before .before .before .before .before .args .deck .now) (c .before .before .before .before .before .deck-end .ensures) (c .before .before .before .end .given .0 .0) (c .before .before .before .end .given .1)
+slice-aggregate-put-entered c = part-long (c .before .before .before .before .before .before .before .args .deck .now) (c .before .before .before .before .before .deck-end .ensures) (c .before .before .before .end .given .0 .0) (c .before .before .before .end .given .1)
 
 put-entered-requires : tie.Need-put-entered-requires
 put-entered-requires c κs = search needs
@@ -23,14 +23,11 @@ put-entered-requires c κs = search needs
 enum-known-end-2 : tie.Need-enum-known-end-2
 enum-known-end-2 c = search needs
 
-same-length : tie.Need-same-length
-same-length c = search needs
-
 returns : tie.Need-returns
-returns c = good-entered (c .before .before .before .before .before .before .before .before .before .before .before .args .deck .now) (c .before .before .before .before .before .before .before .before .deck-end .ensures) (c .before .before .before .before .before .before .end .given .0 .0) (c .before .before .before .before .before .before .end .given .1) (c .before .before .put-entered .ensures)
+returns c = good-entered (c .before .before .before .before .before .before .before .before .args .deck .now) (c .before .before .before .before .before .before .deck-end .ensures) (c .before .before .before .before .end .given .0 .0) (c .before .before .before .before .end .given .1) (search needs) (c .put-entered .ensures)
 
 returns-2 : tie.Need-returns-2
-returns-2 c = refused-entered (c .before .before .before .before .before .before .args .deck .now) (c .before .before .before .deck-end .ensures) (c .before .end2 .given .0 .0) (c .before .end2 .given .1) (c .before .before .before .before .before .before .args .schedule) (c .before .before .before .before .before .before .args .out .now)
+returns-2 c = refused-entered (c .before .before .before .before .before .args .deck .now) (c .before .before .before .deck-end .ensures) (c .before .end2 .given .0 .0) (c .before .end2 .given .1) (c .before .before .before .before .before .args .schedule) (c .before .before .before .before .before .args .out .now)
 
 pub enter-deck-spec : {M : Type 1} → statement M
 enter-deck-spec =
@@ -41,6 +38,5 @@ enter-deck-spec =
     slice-aggregate-put-entered
     put-entered-requires
     enum-known-end-2
-    same-length
     returns
     returns-2)

@@ -12,7 +12,7 @@ enum-known-end : tie.Need-enum-known-end
 enum-known-end c = search needs
 
 slice-aggregate-put-report : tie.Need-slice-aggregate-put-report
-slice-aggregate-put-report c = part-long (c .before .before .before .before .before .before .before .before .args .deck .now) (c .before .before .before .before .before .deck-end .ensures) (c .before .before .before .end .given .0 .0) (c .before .before .before .end .given .1)
+slice-aggregate-put-report c = part-long (c .before .before .before .before .before .before .before .args .deck .now) (c .before .before .before .before .before .deck-end .ensures) (c .before .before .before .end .given .0 .0) (c .before .before .before .end .given .1)
 
 put-report-requires : tie.Need-put-report-requires
 put-report-requires c κs = search needs
@@ -23,17 +23,11 @@ enum-known-end-2 c = search needs
 put-refused-requires : tie.Need-put-refused-requires
 put-refused-requires c κs = search needs
 
-same-length : tie.Need-same-length
-same-length c = search needs
-
 returns : tie.Need-returns
-returns c = reported (c .before .before .before .before .before .before .before .before .before .before .before .args .deck .now) (rw (good-text (c .before .before .before .before .before .before .before .before .before .before .before .args .deck .now) (c .before .before .before .before .before .before .before .before .deck-end .ensures) (c .before .before .before .before .before .before .end .given .0 .0) (c .before .before .before .before .before .before .end .given .1)) at (c .before .before .put-report .ensures))
-
-same-length-2 : tie.Need-same-length-2
-same-length-2 c = search needs
+returns c = reported (search needs) (c .before .before .before .before .before .before .before .before .args .deck .now) (rw (good-text (c .before .before .before .before .before .before .before .before .args .deck .now) (c .before .before .before .before .before .before .deck-end .ensures) (c .before .before .before .before .end .given .0 .0) (c .before .before .before .before .end .given .1)) at (c .put-report .ensures))
 
 returns-2 : tie.Need-returns-2
-returns-2 c = reported (c .before .before .before .before .before .before .before .before .before .before .args .deck .now) (rw (refused-text (c .before .before .before .before .before .before .before .before .before .before .args .deck .now) (c .before .before .before .before .before .before .before .deck-end .ensures) (c .before .before .before .before .before .end2 .given .0 .0) (c .before .before .before .before .before .end2 .given .1)) at (c .before .before .put-refused .ensures))
+returns-2 c = reported (search needs) (c .before .before .before .before .before .before .before .args .deck .now) (rw (refused-text (c .before .before .before .before .before .before .before .args .deck .now) (c .before .before .before .before .before .deck-end .ensures) (c .before .before .before .end2 .given .0 .0) (c .before .before .before .end2 .given .1)) at (c .put-refused .ensures))
 
 pub report-spec : {M : Type 1} → statement M
 report-spec =
@@ -45,7 +39,5 @@ report-spec =
     put-report-requires
     enum-known-end-2
     put-refused-requires
-    same-length
     returns
-    same-length-2
     returns-2)
