@@ -7,8 +7,8 @@ use mathlib.Core.Bool.{Bool, true, false, cond, _&&_}
 use mathlib.Core.List.{List, [], _∷_, _++_}
 use native.Mathlib.Omega.{arith}
 use lib.Dec.{eqb, leb}
-use lib.ListN.{length, getD, drop, length-append, length-drop}
-use lib.Seq.{sets-eq}
+use lib.ListN.{length, getD, take, drop, length-append, length-drop}
+use lib.Seq.{sets-eq, take-at}
 use Rattle.numbers.proofs.Tests.{by-bool}
 use Rattle.numbers.specs.Quoted.{bytes}
 use Rattle.numbers.specs.declared.Refusal.{Refusal}
@@ -220,6 +220,15 @@ put-whole {room} {p} {after·} {r} l w =
       reached = omega arith;
     }
 
+-- a text whole is within the room, and is the room's first bytes
+pub whole-within : {room p after· : List ℕ} {r : ℕ} → Whole p room after· r → r ≤ length after·
+whole-within {room} {p} {r = r} w = omega (arith, w .ends, ap length (w .bytes), length-append p (drop r room))
+
+pub whole-length : {room p after· : List ℕ} {r : ℕ} → Whole p room after· r → r ≡ length (take r after·)
+whole-length {room} {p} {after·} {r} w =
+    let e : length p ≡ r = sym (w .ends) in
+    w .ends ∙ sym (ap length (ap (take r) (w .bytes) ∙ take-at p (drop r room) r e))
+
 -- a text whole leaves one room and one length
 pub whole-one : {room p after₁ after₂ : List ℕ} {r₁ r₂ : ℕ} → Whole p room after₁ r₁ → Whole p room after₂ r₂ → (after₁ ≡ after₂) × (r₁ ≡ r₂)
 whole-one {room} {p} v w =
@@ -228,7 +237,7 @@ whole-one {room} {p} v w =
 
 module _ {room after· : List ℕ} {r : ℕ} (l : length room ≡ deckRoom) where
   pub reported : (s : List ℕ) → Written room 0 (deckText s) after· r → Reported s room after· r
-  reported s w = entire w (omega (arith, text-short s))
+  reported s w = record { text = entire w (omega (arith, text-short s)) }
 
   pub noted-whole : (schedule : Schedule) (s : List ℕ) → Written room 0 (deckNotes schedule s) after· r → Whole (deckNotes schedule s) room after· r
   noted-whole schedule s w = entire w (omega (arith, deck-notes-short schedule s))

@@ -34,8 +34,8 @@ pub record Whole (text room after· : List ℕ) (r : ℕ) : Type 0 where
   pub bytes : after· ≡ text ++ drop r room
 
 -- A DECK REPORTED: what the deck program prints
-abbrev pub Reported : List ℕ → List ℕ → List ℕ → ℕ → Type 0
-Reported s room after· r = Whole (deckText s) room after· r
+pub record Reported (s room after· : List ℕ) (r : ℕ) : Type 0 where
+  pub text : Whole (deckText s) room after· r
 
 -- A DECK ENTERED: each part of the answer, and the room
 pub record DeckEntered (schedule : Schedule) (s room after· : List ℕ) (r : Entered) : Type 0 where
