@@ -2,12 +2,11 @@
 use libc::STDIN_FILENO;
 use libc::STDOUT_FILENO;
 
-// A deck has at most 16,384 bytes: of a longer one as much is read as shows that, since the buffer holds more. The
-// room holds every report whole.
+// A deck has at most 16,384 bytes: of a longer one as much is read as shows that, since the buffer holds more.
 fn main() {
     let mut deck = io::large_buffer();
     let n = io::read_full(STDIN_FILENO, &mut deck);
-    let mut room = io::large_buffer();
+    let mut room = [0; 53248];
     let length = schedule_deck::report(&deck[..n], &mut room);
     io::write_all(STDOUT_FILENO, &room[..length]);
 }

@@ -1,8 +1,14 @@
 -- `cases_deck::agrees` is safe: what is compared is what the report put. Assumes nothing.
-use Rattle.text.proofs.RoomLaws.{written-length}
+use Rattle.schedule_deck.proofs.Bounds.{whole-within, whole-length}
 use borrow.Author.Needs.{needs}
 use Rattle.cases_deck.proofs.agrees.Statement.{statement}
 use Rattle.cases_deck.proofs.agrees.Tie as tie
+use Rattle.cases_deck.proofs.agrees.Reads as reads
+use Rattle.cases_deck.proofs.agrees.Lts as lts
+use Rattle.cases.proofs.load.Reads as load-reads
+use Rattle.check.proofs.same.Reads as same-reads
+use Rattle.io.proofs.large_buffer.Reads as large-buffer-reads
+use Rattle.schedule_deck.proofs.report.Reads as report-reads
 
 large-buffer-requires : tie.Need-large-buffer-requires
 large-buffer-requires c κs = search needs
@@ -22,26 +28,20 @@ slice-aggregate-load-2 c = search needs
 load-requires-2 : tie.Need-load-requires-2
 load-requires-2 c κs = search needs
 
-large-buffer-requires-3 : tie.Need-large-buffer-requires-3
-large-buffer-requires-3 c κs = search needs
-
 array-share-prefix-text : tie.Need-array-share-prefix-text
 array-share-prefix-text c = search needs
 
 slice-aggregate-report : tie.Need-slice-aggregate-report
 slice-aggregate-report c = search needs
 
-slice-aggregate-report-2 : tie.Need-slice-aggregate-report-2
-slice-aggregate-report-2 c = search needs
-
 report-requires : tie.Need-report-requires
 report-requires c κs = search needs
 
 array-share-prefix-room : tie.Need-array-share-prefix-room
-array-share-prefix-room c = search needs
+array-share-prefix-room c = whole-within (c .before .before .report .ensures .text)
 
 slice-aggregate-same : tie.Need-slice-aggregate-same
-slice-aggregate-same c = written-length (c .before .before .before .before .report .ensures .text)
+slice-aggregate-same c = whole-length (c .before .before .before .report .ensures .text)
 
 array-share-prefix-wanted : tie.Need-array-share-prefix-wanted
 array-share-prefix-wanted c = search needs
@@ -68,10 +68,8 @@ agrees-spec =
     large-buffer-requires-2
     slice-aggregate-load-2
     load-requires-2
-    large-buffer-requires-3
     array-share-prefix-text
     slice-aggregate-report
-    slice-aggregate-report-2
     report-requires
     array-share-prefix-room
     slice-aggregate-same

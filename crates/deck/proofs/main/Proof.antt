@@ -1,8 +1,14 @@
 -- `deck::main` meets its contract: what it writes is what the report put. Assumes nothing.
-use Rattle.text.proofs.RoomLaws.{written-length}
+use Rattle.schedule_deck.proofs.Bounds.{whole-within, whole-length}
 use borrow.Author.Needs.{needs}
 use Rattle.deck.proofs.main.Statement.{statement}
 use Rattle.deck.proofs.main.Tie as tie
+use Rattle.deck.proofs.main.Reads as reads
+use Rattle.deck.proofs.main.Lts as lts
+use Rattle.io.proofs.large_buffer.Reads as large-buffer-reads
+use Rattle.io.proofs.read_full.Reads as read-full-reads
+use Rattle.io.proofs.write_all.Reads as write-all-reads
+use Rattle.schedule_deck.proofs.report.Reads as report-reads
 
 large-buffer-requires : tie.Need-large-buffer-requires
 large-buffer-requires c κs = search needs
@@ -13,26 +19,20 @@ slice-aggregate-read-full c = search needs
 read-full-requires : tie.Need-read-full-requires
 read-full-requires c κs = search needs
 
-large-buffer-requires-2 : tie.Need-large-buffer-requires-2
-large-buffer-requires-2 c κs = search needs
-
 array-share-prefix-deck : tie.Need-array-share-prefix-deck
 array-share-prefix-deck c = search needs
 
 slice-aggregate-report : tie.Need-slice-aggregate-report
 slice-aggregate-report c = search needs
 
-slice-aggregate-report-2 : tie.Need-slice-aggregate-report-2
-slice-aggregate-report-2 c = search needs
-
 report-requires : tie.Need-report-requires
 report-requires c κs = search needs
 
 array-share-prefix-room : tie.Need-array-share-prefix-room
-array-share-prefix-room c = search needs
+array-share-prefix-room c = whole-within (c .report .ensures .text)
 
 slice-aggregate-write-all : tie.Need-slice-aggregate-write-all
-slice-aggregate-write-all c = written-length (c .before .before .report .ensures .text)
+slice-aggregate-write-all c = whole-length (c .before .report .ensures .text)
 
 write-all-requires : tie.Need-write-all-requires
 write-all-requires c κs = search needs
@@ -47,10 +47,8 @@ main-spec =
     large-buffer-requires
     slice-aggregate-read-full
     read-full-requires
-    large-buffer-requires-2
     array-share-prefix-deck
     slice-aggregate-report
-    slice-aggregate-report-2
     report-requires
     array-share-prefix-room
     slice-aggregate-write-all
