@@ -15,20 +15,18 @@
 static uint8_t input[LUFFGRAVEL_DECK_INPUT];
 static uint8_t room[LUFFGRAVEL_DECK_ROOM];
 
-static int text(size_t (*answer)(const uint8_t *, size_t, uint8_t *, size_t)) {
-    size_t length = fread(input, 1, sizeof input, stdin);
-    size_t written = answer(input, length, room, sizeof room);
-    return fwrite(room, 1, written, stdout) == written ? EXIT_SUCCESS : EXIT_FAILURE;
+static int print(size_t length) {
+    return fwrite(room, 1, length, stdout) == length ? EXIT_SUCCESS : EXIT_FAILURE;
 }
 
 int main(int argc, char **argv) {
     const char *word = argc < 2 ? "" : argv[1];
-    if (argc == 2 && strcmp(word, "listing") == 0)
-        return text(luffgravel_listing);
-    if (argc == 2 && strcmp(word, "deck") == 0)
-        return text(luffgravel_deck);
-    if (argc == 2 && strcmp(word, "line") == 0) {
+    if (argc == 2 && (strcmp(word, "listing") == 0 || strcmp(word, "deck") == 0 || strcmp(word, "line") == 0)) {
         size_t length = fread(input, 1, sizeof input, stdin);
+        if (strcmp(word, "listing") == 0)
+            return print(luffgravel_listing(input, length, room, sizeof room));
+        if (strcmp(word, "deck") == 0)
+            return print(luffgravel_deck(input, length, &room));
         printf("%zu\n", luffgravel_bad_line(input, length));
         return EXIT_SUCCESS;
     }

@@ -4,7 +4,7 @@
  * Each function keeps its promise for every value that it is handed, provided that the caller keeps to this, which no proof can ask of C:
  *
  *  - A pointer with a length points to that many bytes, which the caller may read, or write where the pointer is not const. It is never NULL,
- *    not even beside length 0. No length is over PTRDIFF_MAX.
+ *    not even beside length 0. No length is over PTRDIFF_MAX. A pointer to an array points to one of that length.
  *  - What is lent for writing overlaps nothing else that is lent to the same call, and nobody touches it before the call returns.
  *  - The stack has room: docs/LINKING.md has the figures.
  *
@@ -22,7 +22,7 @@
 extern "C" {
 #endif
 
-/* Room that holds every listing whole, and every report of a deck. */
+/* Room that holds every listing whole, and the room that is lent for the report of a deck, which holds every one. */
 #define LUFFGRAVEL_LISTING_ROOM 96
 #define LUFFGRAVEL_DECK_ROOM 53248
 
@@ -39,9 +39,10 @@ size_t luffgravel_listing(const uint8_t *config, size_t config_length, uint8_t *
 
 /*
  * Puts the report of a deck, read into an empty schedule, into `out` and answers its length: the errors in deck order, the schedule in selection order, the last
- * good ID; or `SCH ER 11` for a deck that is too long or has no termination card. The room as above.
+ * good ID; or `SCH ER 11` for a deck that is too long or has no termination card. `out` points to an array of that length and no other (`&room`), so nothing
+ * is cut. Every byte of the room behind the report is kept.
  */
-size_t luffgravel_deck(const uint8_t *deck, size_t deck_length, uint8_t *out, size_t out_length);
+size_t luffgravel_deck(const uint8_t *deck, size_t deck_length, uint8_t (*out)[LUFFGRAVEL_DECK_ROOM]);
 
 /* 0 if a text is a configuration, else the number of its first bad or missing line, counted from 1. */
 size_t luffgravel_bad_line(const uint8_t *config, size_t config_length);

@@ -20,10 +20,10 @@ pub extern "C" fn luffgravel_listing(config: &[u8], out: &mut [u8]) -> usize
     configuration_listing::listing(config, out)
 }
 
-// Puts what the deck program prints into lent room and answers its length. 53,248 bytes are enough; a smaller room
-// gets what fits.
+// Puts what the deck program prints into lent room and answers its length. The room holds every report, so nothing is
+// cut.
 #[no_mangle]
-pub extern "C" fn luffgravel_deck(deck: &[u8], out: &mut [u8]) -> usize
+pub extern "C" fn luffgravel_deck(deck: &[u8], out: &mut [u8; 53248]) -> usize
     ensures { λ r. ⌜ Reported (now (deck .entry)) (now (out .entry)) (now (out .exit)) r ⌝ }
 {
     schedule_deck::report(deck, out)

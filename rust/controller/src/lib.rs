@@ -9,13 +9,13 @@ use core::num::NonZeroUsize;
 
 /// Room that holds every listing whole.
 pub const LISTING_ROOM: usize = 96;
-/// Room that holds every report of a deck whole.
+/// The room that is lent for the report of a deck: it holds every one.
 pub const DECK_ROOM: usize = 53_248;
 
 mod exported {
     extern "C" {
         pub fn luffgravel_listing(config: *const u8, length: usize, out: *mut u8, room: usize) -> usize;
-        pub fn luffgravel_deck(deck: *const u8, length: usize, out: *mut u8, room: usize) -> usize;
+        pub fn luffgravel_deck(deck: *const u8, length: usize, out: *mut [u8; super::DECK_ROOM]) -> usize;
         pub fn luffgravel_bad_line(config: *const u8, length: usize) -> usize;
         pub fn luffgravel_is_legal(first: u8, second: u8, function: u8) -> bool;
         pub fn luffgravel_core(taken: u32, ib: u32, db: u32, i: *mut u32, j: *mut u32) -> bool;
@@ -36,14 +36,9 @@ pub fn listing<'a>(config: &[u8], room: &'a mut [u8; LISTING_ROOM]) -> &'a [u8] 
     &room[..length]
 }
 
-/// Puts what the deck program prints into lent room and answers its length. A room that is too short gets what fits; every byte behind it is kept.
-pub fn deck_into(deck: &[u8], room: &mut [u8]) -> usize {
-    unsafe { exported::luffgravel_deck(deck.as_ptr(), deck.len(), room.as_mut_ptr(), room.len()) }
-}
-
-/// What the deck program prints, whole.
+/// What the deck program prints, whole, at the start of the lent room; every byte behind it is kept.
 pub fn deck<'a>(deck: &[u8], room: &'a mut [u8; DECK_ROOM]) -> &'a [u8] {
-    let length = deck_into(deck, room);
+    let length = unsafe { exported::luffgravel_deck(deck.as_ptr(), deck.len(), room) };
     &room[..length]
 }
 
