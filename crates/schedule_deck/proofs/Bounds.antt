@@ -161,7 +161,7 @@ errors-short p [] i = omega arith
 errors-short p (g ∷ gs) i = omega (arith, length-append (groupText p g) (errorsFrom (after p g) gs), group-short p g i, errors-short (after p g) gs (ids-after p g i))
 
 -- the texts
-notes-short : (s : Schedule) (gs : List (List (List ℕ))) → length gs ≤ 3261 → length (notesText s gs) ≤ deckRoom
+notes-short : (s : Schedule) (gs : List (List (List ℕ))) → length gs ≤ 3261 → length (notesText s gs) < deckRoom
 unfolding notesText
 notes-short s gs h =
     omega (arith, length-append (errorsFrom (begin s) gs) (lastLine (endFrom (begin s) gs .last)), errors-short (begin s) gs (ids-begin s), last-short (endFrom (begin s) gs .last) (ids-end (begin s) gs (ids-begin s) .last))
@@ -195,10 +195,10 @@ text-short s = by (deckEnd s) refl
     by (At n) e = report-short (deckGroups s) (deck-few s n e)
     by (Refused refusal) e = refused-short s refusal e
 
-deck-notes-short : (schedule : Schedule) (s : List ℕ) → length (deckNotes schedule s) ≤ deckRoom
+deck-notes-short : (schedule : Schedule) (s : List ℕ) → length (deckNotes schedule s) < deckRoom
 deck-notes-short schedule s = by (deckEnd s) refl
   where
-    by : (end : DeckEnd) → deckEnd s ≡ end → length (notesBy end schedule s) ≤ deckRoom
+    by : (end : DeckEnd) → deckEnd s ≡ end → length (notesBy end schedule s) < deckRoom
     by (At n) e = notes-short schedule (deckGroups s) (deck-few s n e)
     by (Refused refusal) e = omega arith
 
@@ -208,17 +208,6 @@ entire {room} {p} {after·} {r} w h =
     let f = fitted w (omega arith) in
     let k : 0 + length p ≡ r = omega (arith, f .0) in
     record { ends = omega arith; bytes = f .1 ∙ ap (λ (n : ℕ). p ++ drop n room) k }
-
--- what stands in the room whole was put there, where the room is as long as before: a piece more can be put behind it
-pub put-whole : {room p after· : List ℕ} {r : ℕ} → length after· ≡ length room → Whole p room after· r → Written room 0 p after· r
-put-whole {room} {p} {after·} {r} l w =
-    let e = w .ends in
-    let h : 0 + length p ≤ length room = omega (arith, l, e, ap length (w .bytes), length-append p (drop r room), length-drop r room) in
-    let k : r ≡ 0 + length p = omega arith in
-    record {
-      bytes = w .bytes ∙ ap (λ (n : ℕ). p ++ drop n room) k ∙ sym (sets-eq p room 0 h);
-      reached = omega arith;
-    }
 
 -- a text whole is within the room, and is the room's first bytes
 pub whole-within : {room p after· : List ℕ} {r : ℕ} → Whole p room after· r → r ≤ length after·
@@ -241,3 +230,16 @@ module _ {room after· : List ℕ} {r : ℕ} (l : length room ≡ deckRoom) wher
 
   pub noted-whole : (schedule : Schedule) (s : List ℕ) → Written room 0 (deckNotes schedule s) after· r → Whole (deckNotes schedule s) room after· r
   noted-whole schedule s w = entire w (omega (arith, deck-notes-short schedule s))
+
+-- what entering a deck put, from what stands in the room whole: another piece can be put behind it
+pub noted-put : (schedule : Schedule) (s : List ℕ) {room after· : List ℕ} {r : ℕ} → length after· ≡ deckRoom → Whole (deckNotes schedule s) room after· r
+    → Written room 0 (deckNotes schedule s) after· r
+noted-put schedule s {room} {after·} {r} l w =
+    let p : List ℕ = deckNotes schedule s in
+    let long : length room ≡ deckRoom = omega (arith, l, w .ends, deck-notes-short schedule s, ap length (w .bytes), length-append p (drop r room), length-drop r room) in
+    let h : 0 + length p ≤ length room = omega (arith, deck-notes-short schedule s) in
+    let k : r ≡ 0 + length p = omega (arith, w .ends) in
+    record {
+      bytes = w .bytes ∙ ap (λ (n : ℕ). p ++ drop n room) k ∙ sym (sets-eq p room 0 h);
+      reached = omega arith;
+    }
