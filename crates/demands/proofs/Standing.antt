@@ -5,19 +5,20 @@ use mathlib.Core.Path.{_≡_, refl, sym, ap, subst, _∙_}
 use mathlib.Core.Bool.{Bool, true, false}
 use mathlib.Core.List.{List, []}
 use mathlib.Core.Option.{Option, none, some}
+use lib.ListN.{drop}
 use Rattle.numbers.proofs.Tests.{by-bool}
 use Rattle.numbers.specs.declared.Outcome.the-variants as Outcomes
 use Rattle.numbers.specs.declared.Refusal.{Refusal}
 use Rattle.cards_fields.specs.Deck.{deckEnd}
 use Rattle.cards_fields.specs.declared.DeckEnd.{DeckEnd}
 use Rattle.cards_fields.specs.declared.DeckEnd.the-variants as Ends
-use Rattle.text.specs.Room as Room
 use Rattle.schedule_entries.specs.Entries.{active, isNamed, suspended}
 use Rattle.schedule_entries.specs.declared.Entry.{Entry}
 use Rattle.schedule_list.specs.InSchedule.{find as findRequest, inSchedule}
 use Rattle.schedule_list.specs.declared.Schedule.{Schedule}
 use Rattle.schedule.specs.Calls.{deletedBy, releasedBy}
 use Rattle.schedule.specs.declared.Changed.{Changed}
+use Rattle.schedule_deck.specs.Reading.{Whole}
 use Rattle.schedule_deck.specs.Report.{notesBy, outcomeBy, scheduleBy}
 use Rattle.packets.specs.Picks.{find}
 use Rattle.packets.specs.Rules as Rules
@@ -117,8 +118,8 @@ deck-stands c bytes room after r n h e =
 pub deck-lent : (c : Cell) (bytes room after : List ℕ) (r : DeckAnswer) (n : Refusal) → Enters c bytes room after r → r .outcome ≡ Outcomes.Refused n → after ≡ room
 deck-lent c bytes room after r n h e =
     let none : notesBy (deckEnd bytes) (c .schedule) bytes ≡ [] = deck-notes (deckEnd bytes) (c .schedule) bytes n (sym (h .deck .outcome) ∙ e) in
-    let w : Room.Written room 0 [] after (r .at) = rw none at (h .deck .text) in
-    w .bytes
+    let w : Whole [] room after (r .at) = rw none at (h .deck .text) in
+    w .bytes ∙ ap (λ (k : ℕ). drop k room) (w .ends)
 
 -- ---- selection
 
