@@ -213,10 +213,11 @@ entire {room} {p} {after·} {r} w h =
 pub whole-within : {room p after· : List ℕ} {r : ℕ} → Whole p room after· r → r ≤ length after·
 whole-within {room} {p} {r = r} w = omega (arith, w .ends, ap length (w .bytes), length-append p (drop r room))
 
+pub whole-front : {room p after· : List ℕ} {r : ℕ} → Whole p room after· r → take r after· ≡ p
+whole-front {room} {p} {after·} {r} w = ap (take r) (w .bytes) ∙ take-at p (drop r room) r (sym (w .ends))
+
 pub whole-length : {room p after· : List ℕ} {r : ℕ} → Whole p room after· r → r ≡ length (take r after·)
-whole-length {room} {p} {after·} {r} w =
-    let e : length p ≡ r = sym (w .ends) in
-    w .ends ∙ sym (ap length (ap (take r) (w .bytes) ∙ take-at p (drop r room) r e))
+whole-length w = w .ends ∙ sym (ap length (whole-front w))
 
 -- a text whole leaves one room and one length
 pub whole-one : {room p after₁ after₂ : List ℕ} {r₁ r₂ : ℕ} → Whole p room after₁ r₁ → Whole p room after₂ r₂ → (after₁ ≡ after₂) × (r₁ ≡ r₂)
