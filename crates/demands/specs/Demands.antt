@@ -38,6 +38,7 @@ use Rattle.schedule_entries.specs.Entries.{keyOf, precedes}
 use Rattle.schedule_list.specs.InSchedule.{entryAt, inSchedule}
 use Rattle.schedule.specs.Calls as Schedule
 use Rattle.schedule_deck.specs.Report.{deckNotes, deckSchedule}
+use Rattle.schedule_deck.specs.Reading.{Whole}
 use Rattle.assign_drum.specs.Drum.{noArea}
 use Rattle.assign_heads.specs.Sums.{howMany}
 use Rattle.packets.specs.Codes.{statusAfter}
@@ -162,9 +163,10 @@ pub record Demand2 : Type 0 where
       → d .schedule ≡ Schedule.released (c .schedule) id .schedule
   pub deleted : (c d : Cell) (id : List ℕ) (reply : Reply) → Does c (Delete id) reply d
       → d .schedule ≡ Schedule.deleted (c .schedule) id .schedule
-  -- the answer to a deck stands whole in room of 53,248 bytes: the error lines, then the last good ID
-  pub noted : (c : Cell) (deck room after : List ℕ) (r : DeckAnswer) → Enters c deck room after r → 53248 ≤ length room
-      → take (r .at) after ≡ deckNotes (c .schedule) deck
+  -- the answer to a deck stands in the lent room whole, its first bytes, and every byte behind it is kept: the error
+  -- lines, then the last good ID
+  pub noted : (c : Cell) (deck room after : List ℕ) (r : DeckAnswer) → Enters c deck room after r
+      → Whole (deckNotes (c .schedule) deck) room after (r .at)
   -- "the job selected" is a candidate with an assignment, the one chosen, and the place the lowest that is free,
   pub selected : (c d : Cell) (s : Selection) → Does c Select (Chosen Done s) d → Selected (inSchedule (c .schedule)) (c .lists) s
   -- it runs then, so that it is not selected again,
