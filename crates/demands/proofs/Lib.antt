@@ -4,6 +4,7 @@ pub mod InOrder
 pub mod Texts
 pub mod Accepted
 pub mod Places
+pub mod Marks
 pub mod Requests
 pub mod Oldest
 pub mod Owning

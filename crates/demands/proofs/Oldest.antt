@@ -2,7 +2,7 @@
 -- order, and a packet that is submitted and listed joins at its end. Assumes nothing.
 use Prim.Native.Nat.{ℕ, _<_}
 use mathlib.Core.Path.{_≡_, refl, sym, ap, subst, _∙_}
-use mathlib.Core.Bool.{Bool, true, false, not, cond, _&&_, _||_}
+use mathlib.Core.Bool.{Bool, true, false, cond, _&&_, _||_}
 use mathlib.Core.List.{List, [], _∷_, _++_, append-nil}
 use mathlib.Core.Option.{Option, none, some}
 use lib.Dec.{eqb}
@@ -11,14 +11,16 @@ use borrow.Author.Tests.{eqb-true}
 use Rattle.numbers.proofs.Tests.{by-bool, never}
 use Rattle.packets.specs.Picks.{All, find, keep}
 use Rattle.packets.specs.Rules as Rules
-use Rattle.packets.specs.Rules.{aimed, always, atOf, atUnit, closed, closing, codeFor, cut, failed, finished, freshJob, isDone, isFailure, locked, over, packet, returnIfDone, startable, started, submitted, toOf}
-use Rattle.packets.specs.State.{State, drumOn, entryOf, isEmpty, isListed, isStill, motionOn, packetIn, packetOf, packetsIn, placeOf, put, lock, relist, restatus, restatusAll, stateIn, store, sweep, withStatus}
+use Rattle.packets.specs.Rules.{aimed, always, closed, closing, codeFor, cut, failed, finished, freshJob, isAt, isDone, isFailure, locked, over, packet, returnIfDone, siteOf, startable, started, submitted}
+use Rattle.packets.specs.State.{State, entryOf, isEmpty, isListed, isStill, isUnit, motionOn, packetIn, packetOf, packetsIn, placeOf, put, lock, relist, restatus, restatusAll, stateIn, store, sweep, withStatus}
 use Rattle.packets.specs.declared.Assignment.{Assignment}
 use Rattle.packets.specs.declared.How.{How}
 use Rattle.packets.specs.declared.Job.{Job}
 use Rattle.packets.specs.declared.JobState.the-variants.{Empty}
 use Rattle.packets.specs.declared.Motion.the-variants.{Busy}
 use Rattle.packets.specs.declared.Packet.{Packet}
+use Rattle.packets.specs.declared.Site.{Site}
+use Rattle.packets.specs.declared.Spot.{Spot}
 use Rattle.packets.specs.declared.Status.{Status}
 use Rattle.packets.specs.declared.Status.the-variants.{Blank, Ended, InProgress, Listed, Stopping}
 use Rattle.packets.specs.declared.Verdict.the-variants.{Granted}
@@ -133,7 +135,10 @@ Ordered s x s′ = s′ .queue ≡ keep (isStill (s′ .jobs)) (s .queue) ++ joi
 thinned : (s s′ : State) → Thins s s′ → s′ .queue ≡ keep (isStill (s′ .jobs)) (s .queue) ++ []
 thinned s s′ t = t .queue ∙ sym (append-nil (keep (isStill (s′ .jobs)) (s .queue)))
 
-module _ (s : State) (I : Inv s) (j p f c a b : ℕ) (k : Submits s j p f c a) where
+module _ (s : State) (I : Inv s) (j p f c : ℕ) (w : Spot) (k : Submits s j p f c w) where
+  abbrev a : Site
+  a = siteOf w
+
   now-ready : Ready s j p
   now-ready = record { small = k .small; running = k .running; idle = k .idle }
 
@@ -144,26 +149,26 @@ module _ (s : State) (I : Inv s) (j p f c a b : ℕ) (k : Submits s j p f c a) w
   sized-swept : (t : Packet → Bool) (g : Status → Status) → p < sizeIn (restatusAll (s .jobs) j t g) j
   sized-swept t g = rw (size-restatus (s .jobs) j t g j) (ready-fits s I j p now-ready)
 
-  order-submit : submitted s j p f c a b .queue ≡ keep (isStill (submitted s j p f c a b .jobs)) (s .queue) ++ cond (eqb f 0o07 || eqb f 0o23) [] (entryOf j p ∷ [])
+  order-submit : submitted s j p f c w .queue ≡ keep (isStill (submitted s j p f c w .jobs)) (s .queue) ++ cond (eqb f 0o07 || eqb f 0o23) [] (entryOf j p ∷ [])
   order-submit =
       let inside = ready-inside s j p now-ready in
       let h = still-all s I in
       by-bool (eqb f 0o07)
       (λ e. by-bool (locked s c a)
       (λ d. rw (e, d)
-      (let s₁ = sweep s j (atUnit c a) failed in
-      let t₁ : Thins s s₁ = thins-sweep s j (atUnit c a) failed inside refl failed-less h in
+      (let s₁ = sweep s j (isAt c a) failed in
+      let t₁ : Thins s s₁ = thins-sweep s j (isAt c a) failed inside refl failed-less h in
       let s₂ = lock s₁ c a false in
       let t₂ : Thins s s₂ = record { queue = t₁ .queue; fewer = t₁ .fewer } in
-      thinned s (store s₂ j p (packet (Ended 0o00) f c a)) (passed s₂ t₂ (sized-swept (atUnit c a) failed))))
+      thinned s (store s₂ j p (packet (Ended 0o00) f c a)) (passed s₂ t₂ (sized-swept (isAt c a) failed))))
       (λ d. rw (e, d) (thinned s (store s j p (packet (Ended 0o00) f c a)) (thins-store s j p (packet (Ended 0o00) f c a) (ready-fits s I j p now-ready) refl h))))
       (λ e. by-bool (eqb f 0o23)
       (λ d. rw (e, d)
-      (let t = aimed (drumOn (s .channels) c) c a b in
+      (let t = aimed c w in
       thinned s (store (sweep s j t cut) j p (packet (Ended 0o00) f c a)) (passed (sweep s j t cut) (thins-sweep s j t cut inside refl cut-less h) (sized-swept t cut))))
       (λ d. rw (e, d)
       (let q = packet Listed f c a in
-      enlisted-is (store s j p q) (ready-store s I j p q now-ready) j p (listed-new s I j p f c a k)
+      enlisted-is (store s j p q) (ready-store s I j p q now-ready) j p (listed-new s I j p f c w k)
       ∙ ap (λ (l : List ℕ). l ++ (entryOf j p ∷ [])) (relisted (s .jobs) (put (s .jobs) j p q) j (s .queue) (put-elsewhere (s .jobs) j p q (ready-fits s I j p now-ready)) h))))
 
 module _ (s : State) (I : Inv s) (c : ℕ) (small : c < 16) (how : How) (j p : ℕ) (is : motionOn s c ≡ Busy j p) where
@@ -174,9 +179,9 @@ module _ (s : State) (I : Inv s) (c : ℕ) (small : c < 16) (how : How) (j p : �
   thins-finished =
       let s₁ = over s c j p (codeFor how) in
       let a = packetIn (s .jobs) j p .at in
-      by-bool (isFailure how && not (drumOn (s .channels) c))
+      by-bool (isFailure how && isUnit a)
       (λ e. rw e
-      (let t = thins-on s s₁ (sweep s₁ j (atUnit c a) failed) thins-over (thins-sweep s₁ j (atUnit c a) failed (over-inside s I c small j p is (codeFor how)) refl failed-less (thins-still s s₁ thins-over)) in
+      (let t = thins-on s s₁ (sweep s₁ j (isAt c a) failed) thins-over (thins-sweep s₁ j (isAt c a) failed (over-inside s I c small j p is (codeFor how)) refl failed-less (thins-still s s₁ thins-over)) in
       record { queue = t .queue; fewer = t .fewer }))
       (λ e. rw e thins-over)
 
@@ -196,7 +201,7 @@ order-taken s I j asg small none-there =
 pub ordered : (s : State) → Inv s → (x : Rules.Call) → Rules.refusal s x ≡ Granted → Ordered s x (Rules.accept s x)
 unfolding Rules.accept
 ordered s I (Rules.Take j asg) r = order-taken s I j asg (assigns-to s j asg r .0) (assigns-to s j asg r .1)
-ordered s I (Rules.Submit j p f c w) r = order-submit s I j p f c (atOf w) (toOf w) (submits s j p f c w r)
+ordered s I (Rules.Submit j p f c w) r = order-submit s I j p f c w (submits s j p f c w r)
 ordered s I (Rules.Start c) r =
     let k = starts-on s c r in
     let o = find-some (find (startable s c) (s .queue)) (k .2) in

@@ -120,7 +120,7 @@ module _ (c d : Cell) (i : ℕ) (alive : isEmpty (stateIn (inside c .jobs) i) �
       ∙ rw (h .1 .1 .0) (select-keeps c (h .0 .selection) i (h .1 .0 .takes .selects) alive)
   others-keep (Submit j p f k w) reply h o =
       let y = Rules.Submit j p f k w in
-      acted-same (Submit j p f k w) reply h y (λ n. accepted-is c d (Submit j p f k w) reply h n y refl .1) (states-submit (inside c) j p f k (Rules.atOf w) (Rules.toOf w) i)
+      acted-same (Submit j p f k w) reply h y (λ n. accepted-is c d (Submit j p f k w) reply h n y refl .1) (states-submit (inside c) j p f k w i)
   others-keep (Start k) reply h o = acted-same (Start k) reply h (Rules.Start k) (λ n. accepted-is c d (Start k) reply h n (Rules.Start k) refl .1) (states-started (inside c) k i)
   others-keep (Complete k how) reply h o = absurd o
   others-keep (End j e) reply h o = absurd o

@@ -35,7 +35,7 @@ use Rattle.packets.specs.State.{State, isStill, packetIn}
 use Rattle.packets.specs.declared.Status.{Status}
 use Rattle.packets.specs.declared.Verdict.{Verdict}
 use Rattle.packets.specs.declared.Verdict.the-variants.{Denied, Granted}
-use Rattle.cell_selection.specs.Selecting.{Selects, SelectsBy, takingOf, leftBy}
+use Rattle.cell_selection.specs.Selecting.{Selects, SelectsBy, noSelection, takingOf, leftBy}
 use Rattle.cell_selection.proofs.SelectingLaws.{refused-only, refused-when, taking-granted}
 use Rattle.cell_selection.specs.declared.Selection.{Selection}
 use Rattle.cell.specs.Calls.{acted, freshCell, outcomeOf, Enters}
@@ -49,9 +49,10 @@ use Rattle.demands.proofs.Accepted.{accepted-is, heard-granted}
 use Rattle.demands.proofs.InOrder.{first-in-order}
 use Rattle.demands.proofs.Oldest.{ordered}
 use Rattle.demands.proofs.Owning.{free-place, holds-then, on-its-own, reached-inv, still-own, still-there}
+use Rattle.demands.proofs.Marks.{answers-so, changes-so, channels-stay, marks-stay}
 use Rattle.demands.proofs.Places.{ended-so, marked-so, runs-on}
 use Rattle.demands.proofs.Requests.{closes-so, completes-so, starts-so, submits-so}
-use Rattle.demands.proofs.Texts.{counted-fresh, kept-room, listed, listed-bad, writes-12, writes-13, writes-so}
+use Rattle.demands.proofs.Texts.{counted-fresh, kept-room, listed, listed-bad, writes-12, writes-13, writes-so, written-so}
 use Rattle.demands.specs.Refusing.{refusalIn}
 use Rattle.demands.proofs.Numbers.{answers-by, numbers, ofVerdict}
 use Rattle.demands.proofs.Standing.{deck-lent, stands}
@@ -147,9 +148,21 @@ runs-then c d s h =
     ∙ ap (λ (x : Schedule × Lists). x .0) (h .1 .0 .takes .leaves ∙ ap (λ (b : Bool). leftBy b (c .schedule) (c .lists) (h .0 .selection)) f)
     ∙ ap (λ (x : Selection). taken′ (c .schedule) (x .at) (x .place)) (sym (e .1))
 
+-- a refused selection names nothing
+none-found : (b : Bool) (n : Refusal) → outcomeOf b ≡ Refused n → b ≡ false
+none-found true n e = absurd (let z : _≡_ {A = ℕ} 0 1 = cc in omega arith)
+none-found false n e = refl
+
+selects-nothing : (c d : Cell) (s : Selection) (n : Refusal) → Does c Select (Chosen (Refused n) s) d → s ≡ noSelection
+selects-nothing c d s n h =
+    let e = chosen-is (h .1 .1 .0) in
+    let f : h .0 .selection .found ≡ false = none-found (h .0 .selection .found) n (sym (h .1 .0 .outcome) ∙ sym (e .0)) in
+    e .1 ∙ subst (λ (b : Bool). SelectsBy b (inSchedule (c .schedule)) (c .lists) (h .0 .selection)) f (h .1 .0 .takes .selects) .blank
+
 pub demand-2 : Demand2
 demand-2 =
     record {
+      bytes = λ r room a f. written-so r room (allowed-taken r a) f;
       cards = λ r room a f. room-read r room (allowed-taken r a) f .1;
       again = always-written;
       wrote = λ r room a. writes-so r room (allowed-taken r a);
@@ -159,6 +172,8 @@ demand-2 =
       selected = selected-of;
       holds = holds-then;
       marked = marked-so;
+      marks = marks-stay;
+      channels = channels-stay;
       ended = λ c d x reply h ok place inError. ended-so c d reply ok place inError x h;
       closes = closes-so;
       submits = submits-so;
@@ -176,14 +191,18 @@ demand-2 =
             λ q. refused-when (c .schedule) (c .lists) (h .0 .selection) w (refused-found (h .0 .selection .found) (sym (h .1 .0 .outcome) ∙ sym (e .0) ∙ q)),
             λ n. e .0 ∙ h .1 .0 .outcome ∙ ap outcomeOf (refused-only (c .schedule) (c .lists) (h .0 .selection) w n),
           );
+      alone = λ c d s n h. selects-nothing c d s n h;
+      busy = λ configuration es c h channel place packet. (every-cell configuration es c h .always .moving channel place packet, every-cell configuration es c h .always .movers place packet);
       codes = codes-in;
+      answers = answers-so;
+      changes = changes-so;
       order = λ configuration es c h d x reply k e y q.
           let a = accepted-is c d x reply k e y q in
           ap (λ (s : State). s .queue) (a .1)
           ∙ ordered (inside c) (reached-inv configuration es c h) y (a .0)
           ∙ ap (λ (s : State). keep (isStill (s .jobs)) (inside c .queue) ++ joins y) (sym (a .1));
       others = others-stay;
-      shown = shown-is;
+      shown = λ c d place packet status h. (shown-is c d place packet status h, h .1);
       listing = listed;
       counted = counted-fresh;
     }

@@ -3,9 +3,9 @@
 use Prim.Native.Nat.{ℕ, zero, suc, _≤_}
 use mathlib.Core.Path.{_≡_, refl, sym, ap, _∙_}
 use mathlib.Core.Bool.{false, Bool, true, _&&_}
-use mathlib.Core.List.{List}
+use mathlib.Core.List.{List, _++_}
 use native.Mathlib.Omega.{arith}
-use lib.ListN.{length, take}
+use lib.ListN.{length, take, drop}
 use Rattle.numbers.proofs.Tests.{by-bool}
 use Rattle.numbers.specs.declared.ChannelNumber.{ChannelNumber}
 use Rattle.numbers.specs.declared.Outcome.the-variants.{Refused}
@@ -59,6 +59,10 @@ writes-13 r n t = rw t refl
 pub writes-12 : (r : Request) (n : ℕ) → takes r ≡ true → fits r n ≡ false → writeAnswer r n ≡ Wrote′.Refused NoRoom
 unfolding writeAnswer
 writes-12 r n t f = rw (t, f) refl
+
+pub written-so : (r : Request) (room : List ℕ) → takes r ≡ true → fits r (length room) ≡ true → written r room ≡ textOf r ++ drop (length (textOf r)) room
+unfolding written
+written-so r room t f = rw (t, f) refl
 
 -- what the listing program puts for the written form of a configuration
 pub listed : (s room after : List ℕ) (r : ℕ) (of : List Channel) (marks : List Bool) → InForm s of marks → Listed s room after r

@@ -8,7 +8,7 @@ use mathlib.Core.List.{List, [], _∷_, _++_}
 use mathlib.Core.Logic.{_⊎_}
 use mathlib.Core.Option.{none, some}
 use lib.Dec.{eqb}
-use lib.ListN.{length, take}
+use lib.ListN.{length, take, drop}
 use Rattle.numbers.specs.declared.ChannelNumber.{ChannelNumber}
 use Rattle.numbers.specs.declared.Outcome.{Outcome}
 use Rattle.numbers.specs.declared.Outcome.the-variants.{Done, Refused}
@@ -44,14 +44,17 @@ use Rattle.assign_heads.specs.Sums.{howMany}
 use Rattle.packets.specs.Codes.{statusAfter}
 use Rattle.packets.specs.Demand.{Holding, Holds, Isolated}
 use Rattle.packets.specs.Picks.{keep}
-use Rattle.packets.specs.State.{entryOf, heldBy, inMotion, isClosing, isEmpty, isStill, jobIn, noCore, packetIn, stateIn}
+use Rattle.packets.specs.State.{entryOf, heldBy, inMotion, isClosing, isEmpty, isStill, jobIn, motionOn, noCore, packetIn, stateIn}
 use Rattle.packets.specs.Rules.{closing}
+use Rattle.packets.specs.declared.Answer.{Answer}
+use Rattle.packets.specs.declared.Answer.the-variants as Answers
 use Rattle.packets.specs.declared.How.{How}
 use Rattle.packets.specs.declared.JobState.the-variants.{Empty, Running}
+use Rattle.packets.specs.declared.Motion.the-variants.{Busy}
 use Rattle.packets.specs.declared.Spot.{Spot}
 use Rattle.packets.specs.declared.Status.{Status}
 use Rattle.cell_taken.specs.Taken.{areaOf, coreOf}
-use Rattle.cell_selection.specs.Selecting.{Candidate, HasNone, Selected, NoneToSelect, assignmentOf, seenIn}
+use Rattle.cell_selection.specs.Selecting.{Candidate, HasNone, Selected, NoneToSelect, assignmentOf, noSelection, seenIn}
 use Rattle.cell_selection.specs.declared.Selection.{Selection}
 use Rattle.cell.specs.Calls.{Enters, cellOf, freshCell}
 use Rattle.cell.specs.declared.Cell.{Cell}
@@ -70,6 +73,7 @@ use Rattle.cell_history.specs.History.{
   Mark,
   Release,
   Reply,
+  Said,
   Select,
   Shown,
   Start,
@@ -122,6 +126,10 @@ withUnits c units =
       units = unitsFrom units;
     })
 
+-- two units have the same marks
+abbrev pub SameMarks : UnitState → UnitState → Type 0
+SameMarks u v = (u .down ≡ v .down) × (u .reserved ≡ v .reserved)
+
 -- a job ends by this call, or is closing since its end: in error or not
 abbrev pub Ends : Cell → Call → ℕ → Bool → Type 0
 Ends c x place inError = (x ≡ End place inError) ⊎ (stateIn (inside c .jobs) place ≡ closing inError)
@@ -142,6 +150,8 @@ pub record Demand2 : Type 0 where
   -- "cards written are read back as the same request": every request that breaks no rule is written where its cards
   -- fit, and they are read as it,
   pub wrote : (r : Request) (room : ℕ) → Allowed r → fits r room ≡ true → writeAnswer r room ≡ Wrote′.Cards (length (textOf r))
+  pub bytes : (r : Request) (room : List ℕ) → Allowed r → fits r (length room) ≡ true
+      → written r room ≡ textOf r ++ drop (length (textOf r)) room
   pub cards : (r : Request) (room : List ℕ) → Allowed r → fits r (length room) ≡ true
       → readGroup (cardsOf (take (length (textOf r)) (written r room))) ≡ record { verdict = Good; request = r }
   -- and every request that was read from cards is written where the room has 162 bytes: neither 13 nor 12 arises
@@ -187,10 +197,17 @@ pub record Demand2 : Type 0 where
   pub refused : (c d : Cell) (o : Outcome) (s : Selection) → Does c Select (Chosen o s) d
       → (o ≡ Refused NothingSelected → NoneToSelect (c .schedule) (c .lists))
       × (NoneToSelect (c .schedule) (c .lists) → o ≡ Refused NothingSelected)
+  -- "a refused call returns the number alone"
+  pub alone : (c d : Cell) (s : Selection) (n : Refusal) → Does c Select (Chosen (Refused n) s) d → s ≡ noSelection
   -- "Marks may change at any time": the unit is marked or the mark cleared, and nothing else changes
   pub marked : (c d : Cell) (channel unit : ℕ) (mark : UnitMark) (on : Bool) (reply : Reply)
       → Does c (Mark channel unit mark on) reply d → refusalIn reply ≡ none
       → d ≡ withUnits c (unitSet (c .lists .units .of) channel unit (markedUnit mark on (unitIn (c .lists .units .of) channel unit)))
+  -- by no other call does a mark change, nor by any call what a channel has
+  pub marks : (c d : Cell) (x : Call) (reply : Reply) → Does c x reply d
+      → ((channel unit : ℕ) (mark : UnitMark) (on : Bool) → x ≡ Mark channel unit mark on → ⊥) → (channel unit : ℕ)
+      → SameMarks (unitIn (inside d .units) channel unit) (unitIn (inside c .units) channel unit)
+  pub channels : (c d : Cell) (x : Call) (reply : Reply) → Does c x reply d → inside d .channels ≡ inside c .channels
   -- "only then a normal end removes its request; an error end suspends it if its sequence is 1 or more, else removes
   -- it": a job that ends is closing so, until a call empties its place; that call does this to its request
   pub ended : (c d : Cell) (x : Call) (reply : Reply) → Does c x reply d → refusalIn reply ≡ none
@@ -214,23 +231,38 @@ pub record Demand2 : Type 0 where
   pub stays : (configuration : Configuration) (es : List Event) (c : Cell) → Leads (freshCell configuration) es c
       → (place : ℕ) → place < 16
       → statesIn place (inSchedule (c .schedule)) ≡ standing (stateIn (inside c .jobs) place) place
+  -- "one in progress per channel", and a stopping one counts as such: what a channel is taken to carry is a packet
+  -- that is in progress or stopping there, and each such packet is what its channel carries
+  pub busy : (configuration : Configuration) (es : List Event) (c : Cell) → Leads (freshCell configuration) es c
+      → (channel place packet : ℕ)
+      → (motionOn (inside c) channel ≡ Busy place packet
+      → (inMotion (packetIn (inside c .jobs) place packet .status) ≡ true) × (packetIn (inside c .jobs) place packet .channel .0 ≡ channel))
+      × (inMotion (packetIn (inside c .jobs) place packet .status) ≡ true
+      → motionOn (inside c) (packetIn (inside c .jobs) place packet .channel .0) ≡ Busy place packet)
   -- "packets end with the stated codes": over any history, after an accepted call each packet's status is the
   -- stated one,
   pub codes : (configuration : Configuration) (es : List Event) (c : Cell) → Leads (freshCell configuration) es c
       → (d : Cell) (x : Call) (reply : Reply) → Does c x reply d → refusalIn reply ≡ none
       → (y : Rules.Call) → heardOf x reply ≡ y ∷ []
       → (place packet : ℕ) → packetIn (inside d .jobs) place packet .status ≡ statusAfter (inside c) y place packet
+  -- what an accepted call answers: "a completion answers the place and number of the packet it ends", and like an end
+  -- whether the job's facilities returned; a start what begins; a submission and a mark are done,
+  pub answers : (c d : Cell) (x : Call) (a : Answer) → Does c x (Said a) d → refusalIn (Said a) ≡ none
+      → (y : Rules.Call) → heardOf x (Said a) ≡ y ∷ [] → a ≡ Rules.answer (inside c) y
+  -- and so are a release and a deletion
+  pub changes : (c d : Cell) (id : List ℕ) (a : Answer) → Does c (Release id) (Said a) d ⊎ Does c (Delete id) (Said a) d
+      → refusalIn (Said a) ≡ none → a ≡ Answers.Done
   -- the list from which a start takes the oldest is in the order of submission: those still listed keep their order,
   -- and what is submitted and listed joins at its end,
   pub order : (configuration : Configuration) (es : List Event) (c : Cell) → Leads (freshCell configuration) es c
       → (d : Cell) (x : Call) (reply : Reply) → Does c x reply d → refusalIn reply ≡ none
       → (y : Rules.Call) → heardOf x reply ≡ y ∷ []
       → inside d .queue ≡ keep (isStill (inside d .jobs)) (inside c .queue) ++ joins y
-  -- and a call that is none of the request lists leaves all packets as they are,
+  -- and a call that is no call of the request lists leaves all packets as they are,
   pub others : (c d : Cell) (x : Call) (reply : Reply) → Does c x reply d → heardOf x reply ≡ [] → inside d ≡ inside c
-  -- and that is the status that is shown
+  -- and that is the status that is shown, and nothing changes by it
   pub shown : (c d : Cell) (place packet : ℕ) (status : Status) → Does c (Call.Status place packet) (Shown (Is status)) d
-      → status ≡ packetIn (inside c .jobs) place packet .status
+      → (status ≡ packetIn (inside c .jobs) place packet .status) × (d ≡ c)
   -- "the second program": for each channel but the drum's its number and how many of its units are assignable in
   -- the fresh cell
   pub listing : (s room after : List ℕ) (r : ℕ) (of : List Channel) (marks : List Bool) → InForm s of marks → Listed s room after r
