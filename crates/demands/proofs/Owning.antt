@@ -5,13 +5,8 @@ use mathlib.Core.Path.{_≡_, refl, sym, ap, subst, _∙_}
 use mathlib.Core.Bool.{true, false, cond}
 use mathlib.Core.List.{List, [], _∷_, _++_}
 use mathlib.Core.Option.{Option, none, some}
-use borrow.Author.Tests.{eqb-true}
-use Rattle.numbers.proofs.Tests.{never}
 use Rattle.numbers.specs.declared.Outcome.the-variants.{Done}
-use Rattle.numbers.specs.declared.UnitNumber.{UnitNumber}
 use Rattle.units.specs.State.{unitIn}
-use Rattle.units.specs.declared.Holder.{Holder}
-use Rattle.units.specs.declared.Holder.the-variants.{Free, Held}
 use Rattle.channels.specs.declared.Configuration.{Configuration}
 use Rattle.assign_drum.specs.Drum.{noArea}
 use Rattle.packets.specs.Demand as Told
@@ -19,14 +14,13 @@ use Rattle.packets.specs.Rules as Rules
 use Rattle.packets.specs.State.{State, heldBy, inMotion, isEmpty, jobIn, noCore, packetIn, stateIn}
 use Rattle.packets.specs.declared.Assignment.{Assignment}
 use Rattle.packets.specs.declared.JobState.the-variants.{Running}
-use Rattle.packets.specs.declared.Site.{Site}
-use Rattle.packets.specs.declared.Site.the-variants.{AtAddress, AtUnit}
 use Rattle.packets.specs.declared.Verdict.{Verdict}
 use Rattle.packets.proofs.Inv.{Inv, motion-busy}
 use Rattle.packets.proofs.Laws.{eqb-self}
 use Rattle.packets.proofs.Store.{state-fresh}
 use Rattle.packets.proofs.Steps.{run-inv}
-use Rattle.packets_given.specs.Given.{IsOwn, OnItsOwn, StillOwn, takenBy, takenIn, taking}
+use Rattle.packets_given.specs.Given.{OnItsOwn, StillOwn, takenBy, takenIn, taking}
+use Rattle.packets_given.proofs.OwnLaws.{is-own}
 use Rattle.cell_taken.specs.Taken.{areaOf, coreOf}
 use Rattle.cell_selection.specs.Selecting.{assignmentOf, takingOf}
 use Rattle.cell_selection.specs.declared.Selection.{Selection}
@@ -63,22 +57,12 @@ module _ (configuration : Configuration) (es : List Event) (c : Cell) (l : Leads
   unfolding stateIn
   free-place place e = (every-cell configuration es c l .given place .empty e, (rw e refl, rw e refl))
 
-  -- who holds a unit
-  its-holder : (v : Holder) (j : ℕ) → heldBy v j ≡ true → v ≡ Held j
-  its-holder Free j e = never e refl
-  its-holder (Held k) j e = ap Held (eqb-true k j e)
-
-  is-own : (j g : ℕ) (a : Site) → ((u : UnitNumber) → a ≡ AtUnit u → heldBy (unitIn (inside c .units) g (u .0) .holder) j ≡ true)
-      → ((x : ℕ) → a ≡ AtAddress x → Rules.inArea (jobIn (inside c .jobs) j) x ≡ true) → IsOwn (inside c) j g a
-  is-own j g (AtUnit u) held area = its-holder (unitIn (inside c .units) g (u .0) .holder) j (held u refl)
-  is-own j g (AtAddress x) held area = area x refl
-
   pub on-its-own : (place packet : ℕ) → inMotion (packetIn (inside c .jobs) place packet .status) ≡ true → OnItsOwn (inside c) place (packetIn (inside c .jobs) place packet)
   on-its-own place packet m =
       let r = every-cell configuration es c l in
       let b = motion-busy (packetIn (inside c .jobs) place packet .status) m in
       let q = packetIn (inside c .jobs) place packet in
-      is-own place (q .channel .0) (q .at) (r .always .held place packet b) (r .addresses place packet b)
+      is-own (inside c) place (q .channel .0) (q .at) (r .always .held place packet b) (r .addresses place packet b)
 
 -- ---- one call more
 

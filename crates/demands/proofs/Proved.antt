@@ -7,8 +7,7 @@ use mathlib.Core.List.{List, [], _∷_, _++_}
 use mathlib.Core.Option.{none, some}
 use native.Mathlib.Omega.{arith}
 use lib.Dec.{ltb}
-use borrow.Author.Tests.{eqb-true}
-use Rattle.numbers.proofs.Tests.{by-bool, never}
+use Rattle.numbers.proofs.Tests.{by-bool}
 use Rattle.numbers.specs.declared.Outcome.the-variants.{Done, Refused}
 use Rattle.numbers.specs.declared.Refusal.{Refusal}
 use Rattle.numbers.specs.declared.Refusal.the-variants.{OutOfRange}
@@ -56,9 +55,6 @@ use Rattle.demands.proofs.Texts.{counted-fresh, kept-room, listed, list
 use Rattle.demands.specs.Refusing.{refusalIn}
 use Rattle.demands.proofs.Numbers.{answers-by, numbers, ofVerdict}
 use Rattle.demands.proofs.Standing.{deck-lent, stands}
-use Rattle.units.specs.State.{unitIn}
-use Rattle.units.specs.declared.Holder.{Holder}
-use Rattle.units.specs.declared.Holder.the-variants.{Free, Held}
 use Rattle.packets.proofs.Inv.{motion-busy}
 use Rattle.packets.specs.declared.Assignment.{Assignment}
 use Rattle.packets_given.specs.Given.{OnItsOwn, StillOwn, taking}

@@ -1,3 +1,4 @@
 pub mod SameLaws
 pub mod GivenProof
 pub mod DrumProof
+pub mod OwnLaws
