@@ -33,7 +33,6 @@ use Rattle.schedule_entries.specs.Entries.{active, isNamed, suspended}
 use Rattle.schedule_entries.specs.declared.Entry.{Entry}
 use Rattle.schedule_list.specs.InSchedule.{find, inSchedule}
 use Rattle.packets.specs.Picks.{any}
-use Rattle.packets.specs.Rules.{movingStatus}
 use Rattle.packets.specs.State.{
   State,
   blank,
@@ -47,6 +46,7 @@ use Rattle.packets.specs.State.{
   jobIn,
   legalFor,
   motionOn,
+  movingStatus,
   packetIn,
   packetOf,
   placeOf,

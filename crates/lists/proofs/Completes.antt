@@ -12,8 +12,8 @@ use Rattle.numbers.specs.declared.Refusal.the-variants.{NothingInProgress, OutO
 use Rattle.units.specs.State.{unitsFrom}
 use Rattle.units.specs.declared.Units.{Units}
 use Rattle.packets.proofs.Laws.{and-left, and-right, passes}
-use Rattle.packets.specs.Rules.{Complete, accept, answer, isAt, broken, codeFor, completed, completes, failed, finished, first, isFailure, isWrong, leaving, movingStatus, over, refusal, returnIfDone}
-use Rattle.packets.specs.State.{State, blank, carrying, configured, isIdle, isListed, isUnit, jobIn, lock, motionOn, move, noJob, packetIn, relist, restatus, setLock, store, sweep, withPackets, withStatus}
+use Rattle.packets.specs.Rules.{Complete, accept, answer, isAt, broken, codeFor, completed, completes, failed, finished, first, isFailure, isWrong, leaving, over, refusal, returnIfDone}
+use Rattle.packets.specs.State.{State, blank, carrying, configured, isIdle, isListed, isUnit, jobIn, lock, motionOn, movingStatus, move, noJob, packetIn, relist, restatus, setLock, store, sweep, withPackets, withStatus}
 use Rattle.packets.proofs.Told.{configured-in}
 use Rattle.packets.specs.declared.Acted.{Acted}
 use Rattle.packets.specs.declared.Answer.the-variants.{Completed}

@@ -1,15 +1,11 @@
 -- The code's outcomes are the steps of the rules: a history of calls of the code is a history of the rules, so that
 -- demand 3, the codes and the invariants, which are of any history of the rules, are of the code. Assumes nothing.
 use mathlib.Core.Path.{_≡_, refl, ap, _∙_}
-use mathlib.Core.List.{List, [], _∷_, _++_}
-use Rattle.units.specs.declared.Holder.the-variants.{Free, Held}
+use mathlib.Core.List.{List, [], _∷_}
 use Rattle.packets.specs.Demand.{Event, events}
-use Rattle.packets.specs.EndsMoving.{cell, holder, moving}
-use Rattle.packets.proofs.EndsMovingProof.{k9-after, k9-before}
 use Rattle.packets.specs.Rules.{Call, Complete, End, Mark, Start, Submit, Take, accept, decided, refusal, run, step}
 use Rattle.packets.specs.State.{State}
 use Rattle.packets.specs.declared.Answer.{Answer}
-use Rattle.packets.specs.declared.How.the-variants.{Full}
 use Rattle.packets.specs.declared.Lists.{Lists}
 use Rattle.packets.specs.declared.Verdict.{Verdict}
 use Rattle.packets.specs.declared.Verdict.the-variants.{Denied, Granted}
@@ -59,11 +55,3 @@ happened-is r (x ∷ l) =
     ap (λ (a : Answer). record { call = x; answer = a } ∷ happened (outcome r x .lists) l) (outcome-is r x .0)
     ∙ ap (λ (m : List Event). record { call = x; answer = step (stateOf r) x .answer } ∷ m)
     (happened-is (outcome r x .lists) l ∙ ap (λ (s : State). events s l) (outcome-is r x .1))
-
--- the marked case K9, of the code: the unit is the job's after the end, and free after the completion
-pub k9-runs : (holder (stateOf (runs (listsOf cell) moving)) ≡ Held 0) × (holder (stateOf (runs (listsOf cell) (moving ++ (Complete 3 Full ∷ [])))) ≡ Free)
-k9-runs =
-    let calls : List Call = moving ++ (Complete 3 Full ∷ []) in (
-      ap holder (runs-is (listsOf cell) moving) ∙ ap (λ (s : State). holder (run s moving)) (state-of cell) ∙ k9-before,
-      ap holder (runs-is (listsOf cell) calls) ∙ ap (λ (s : State). holder (run s calls)) (state-of cell) ∙ k9-after,
-    )

@@ -1,7 +1,6 @@
 -- The state as the code holds it, and the one outcome of each call: what the rules say, with every byte determined.
 use mathlib.Core.Path.{_≡_}
 use Rattle.units.specs.State.{unitsFrom}
-use Rattle.packets.specs.Lone.{lists}
 use Rattle.packets.specs.Rules.{Call, Complete, End, Mark, Start, Submit, Take, accept, answer, refusal}
 use Rattle.packets.specs.State.{State}
 use Rattle.packets.specs.declared.Answer.the-variants.{Refused}

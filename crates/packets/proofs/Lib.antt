@@ -26,5 +26,4 @@ pub mod States
 pub mod Closing
 pub mod AlwaysProof
 pub mod MarkLaws
-pub mod EndsMovingProof
 pub mod PickLaws

@@ -8,10 +8,10 @@ use borrow.Author.Tests.{ltb-true, not-false}
 use Rattle.numbers.proofs.Tests.{never}
 use Rattle.numbers.specs.Kinds.{isDrum}
 use Rattle.numbers.specs.declared.Refusal.the-variants.{ChannelBusy, NoJob, NotLegal, NotTheJobs, NothingInProgress, NothingSelected, NothingStartable, OutOfRange, PacketInUse, WrongCompletion}
-use Rattle.packets.specs.State.{inMotion, State, configured, drumOn, fittedOn, heldBy, isBusy, isDrumOf, isEmpty, isIdle, isListed, isRunning, jobIn, legalFor, motionOn, packetIn, stateIn, isUnit, unitAt}
+use Rattle.packets.specs.State.{inMotion, State, configured, drumOn, fittedOn, heldBy, isBusy, isDrumOf, isEmpty, isIdle, isListed, isRunning, jobIn, legalFor, motionOn, movingStatus, packetIn, stateIn, isUnit, unitAt}
 use Rattle.packets.proofs.Laws.{and-left, and-right, passes}
 use Rattle.packets.specs.Picks.{find}
-use Rattle.packets.specs.Rules.{Complete, End, Start, Submit, Take, cut, failed, inRange, isNone, isOwn, isWrong, movingStatus, reaches, refusal, siteOf, startable}
+use Rattle.packets.specs.Rules.{Complete, End, Start, Submit, Take, cut, failed, inRange, isNone, isOwn, isWrong, reaches, refusal, siteOf, startable}
 use Rattle.packets.specs.declared.Assignment.{Assignment}
 use Rattle.channels.specs.declared.Channel.{Channel}
 use Rattle.channels.specs.declared.Fitted.{Fitted}

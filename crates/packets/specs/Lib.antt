@@ -6,4 +6,3 @@ pub mod Demand
 pub mod Always
 pub mod Apart
 pub mod Codes
-pub mod EndsMoving

@@ -74,6 +74,7 @@ use Rattle.packets.specs.State.{
   takeAll,
   wanted,
   motionOn,
+  movingStatus,
   isIdle,
   anyMoves,
   store,
@@ -329,11 +330,6 @@ marked s c u m on =
 abbrev pub first : Bool → Refusal → Verdict → Verdict
 first true n r = Denied n
 first false n r = r
-
--- the status of what moves
-abbrev pub movingStatus : State → Motion → Status
-movingStatus s Idle = Blank
-movingStatus s (Busy j p) = packetIn (s .jobs) j p .status
 
 -- cut for a packet not stopping; failure code 00, 01, 16o, 17o or over 77o
 abbrev pub isWrong : Status → How → Bool

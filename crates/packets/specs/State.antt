@@ -252,6 +252,11 @@ abbrev pub isIdle : Motion → Bool
 isIdle Idle = true
 isIdle (Busy j p) = not (ltb j 16 && ltb p 16)
 
+-- the status of what moves
+abbrev pub movingStatus : State → Motion → Status
+movingStatus s Idle = Blank
+movingStatus s (Busy j p) = packetIn (s .jobs) j p .status
+
 -- a packet of the job in place j moves
 abbrev pub moves : ℕ → Motion → Bool
 moves j Idle = false
