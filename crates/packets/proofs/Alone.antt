@@ -2,8 +2,7 @@
 -- submitted there by the job that holds it, since its taking. Assumes nothing.
 use Prim.Native.Nat.{ℕ}
 use mathlib.Core.Path.{_≡_, refl, sym, ap, _∙_}
-use mathlib.Core.Bool.{Bool, true, false, not, cond, _&&_}
-use mathlib.Core.List.{List}
+use mathlib.Core.Bool.{true, false, not, cond, _&&_}
 use mathlib.Core.Option.{Option, none, some}
 use native.Mathlib.Omega.{arith}
 use lib.Dec.{eqb}
@@ -20,7 +19,7 @@ use Rattle.packets.proofs.Laws.{find-holds}
 use Rattle.packets.specs.Picks.{find}
 use Rattle.packets.specs.Rules.{Call, Complete, End, Mark, Start, Submit, Take, accept, always, answer, siteOf, begins, begun, closing, completed, cut, decided, finished, isFailure, locked, marked, packet, refusal, returnIfDone, startable, started, step, submitted}
 use Rattle.packets.proofs.SeenLaws.{SeenOk}
-use Rattle.packets.proofs.SimSubmit.{is-there, unit-held}
+use Rattle.packets.proofs.There.{is-there, unit-held}
 use Rattle.packets.specs.State.{State, anyMoves, close, heldBy, isBusy, isClosing, isUnit, motionOn, packetIn, packetOf, placeOf, stateIn, sweep}
 use Rattle.packets.proofs.Sites.{lock-holder}
 use Rattle.packets.proofs.Steps.{startable-on, step-inv}

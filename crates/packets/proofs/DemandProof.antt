@@ -20,7 +20,7 @@ use Rattle.packets.specs.Lone.{Lone, Request, loneRun, loneStart, loneSt
 use Rattle.packets.specs.Rules.{Call, Take, accept, answer, assigned, decided, refusal, run, step}
 use Rattle.packets.proofs.SeenLaws.{SeenOk, accept-seen, acts-refused, acts-same, noted-refused}
 use Rattle.packets.proofs.Sim.{Sim, lockThere, movingThere, num, on}
-use Rattle.packets.proofs.SimSubmit.{unit-held}
+use Rattle.packets.proofs.There.{unit-held}
 use Rattle.packets.specs.State.{State, blank, heldBy, isEmpty, isRunning, lock, motionOn, packetIn, placeOf, stateIn, takeAll, wanted}
 use Rattle.packets.proofs.Steps.{fresh-inv, run-inv, step-inv}
 use Rattle.packets.proofs.Store.{packet-fresh, state-fresh, unit-take}

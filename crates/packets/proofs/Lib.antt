@@ -13,6 +13,7 @@ pub mod SoundSteps
 pub mod LoneLaws
 pub mod Sim
 pub mod SimRest
+pub mod There
 pub mod SimSubmit
 pub mod SimStart
 pub mod SimEnd

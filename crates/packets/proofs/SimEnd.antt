@@ -5,7 +5,7 @@ use mathlib.Core.Bool.{Bool, true, false, not, cond, _&&_, _||_}
 use mathlib.Core.Option.{Option, none, some}
 use lib.ListN.{length}
 use lib.Dec.{eqb, ltb}
-use borrow.Author.Tests.{eqb-true, eqb-false, eq-eqb, not-true, le-leb, ltb-false, not-false}
+use borrow.Author.Tests.{eqb-true, eqb-false, eq-eqb, le-leb, ltb-false, not-false}
 use Rattle.units.specs.declared.Unit.{Unit as UnitState}
 use Rattle.units.specs.declared.Mark.{Mark as UnitMark}
 use Rattle.units.specs.declared.Mark.the-variants.{Down, Reserved}
@@ -21,7 +21,8 @@ use Rattle.packets.specs.Rules.{Complete, End, always, assigned, isAt, b
 use Rattle.packets.proofs.Sim.{Sim, lockThere, movingThere, sim-store, sim-store-away, sim-sweep, sim-sweep-away}
 use Rattle.packets.proofs.SimRest.{sim-move, sim-move-away, sim-same, sim-units, sim-units-away, sim-same-but}
 use Rattle.packets.proofs.SimStart.{sim-return}
-use Rattle.packets.proofs.SimSubmit.{cut-stops, ends-use, fail-table, holder-alive, is-there, lock-away, lock-here, stops-use, there-channel, there-kind, there-unit, unit-held}
+use Rattle.packets.proofs.SimSubmit.{cut-stops, ends-use, fail-table, holder-alive, stops-use}
+use Rattle.packets.proofs.There.{is-there, lock-away, lock-here, there-channel, there-kind, there-unit, unit-held}
 use Rattle.packets.specs.State.{State, close, heldBy, isEmpty, isRunning, isStopping, isUnit, motionOn, move, packetIn, same, setLock, setState, stateIn, sweep, takeAll, unitAt, wanted, withStatus}
 use Rattle.packets.proofs.Sites.{same-is}
 use Rattle.packets.proofs.Steps.{ending-inv, finished-inv, over-fits, over-inside, over-inv}

@@ -16,7 +16,7 @@ use Rattle.packets.specs.Picks.{find, keep}
 use Rattle.packets.specs.Rules.{Start, answer, begun, returnIfDone, startable}
 use Rattle.packets.proofs.Sim.{Sim, lockThere, movingThere, num, on, sim-store, sim-store-away}
 use Rattle.packets.proofs.SimRest.{sim-move, sim-move-away, sim-same}
-use Rattle.packets.proofs.SimSubmit.{lock-is, there-channel}
+use Rattle.packets.proofs.There.{lock-is, there-channel}
 use Rattle.packets.specs.State.{State, anyMoves, isClosing, isIdle, isRunning, motionOn, packetIn, packetOf, placeOf, put, releaseAll, setState, stateIn, store, unitAt, withStatus}
 use Rattle.packets.proofs.Steps.{closing-not-running, start-at, start-fits, start-store, startable-on}
 use Rattle.packets.proofs.Store.{alive-in, packet-state, state-state, unit-release}

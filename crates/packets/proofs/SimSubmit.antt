@@ -2,30 +2,26 @@
 use Prim.Native.Nat.{ℕ}
 use mathlib.Core.Path.{_≡_, refl, sym, ap, _∙_, subst}
 use mathlib.Core.Bool.{Bool, true, false, not, cond, _&&_}
-use mathlib.Core.List.{List}
 use lib.Dec.{ltb, eqb}
 use borrow.Author.Tests.{eqb-true, eq-eqb, not-true}
-use Rattle.units.specs.declared.Unit.{Unit as UnitState}
 use Rattle.numbers.proofs.Tests.{by-bool, never}
-use Rattle.units.specs.State.{isFree, unitIn}
+use Rattle.units.specs.State.{unitIn}
 use Rattle.packets.specs.Demand.{Holding, Holds, isThere, itsUnit, there}
 use Rattle.packets.proofs.Inv.{Inv}
 use Rattle.packets.proofs.InvJobs.{held-once, held-taken}
 use Rattle.packets.proofs.InvStores.{entry-packet, entry-place, lock-inv, sweep-inv}
 use Rattle.packets.proofs.Laws.{and-both, and-left, and-right, bool-iff, eqb-self}
-use Rattle.packets.specs.Lone.{Lone, become, endsWith, fails, goesTo, halts, hears, lists, locks, meant, request, stops, stores, unlocks, inUse}
-use Rattle.packets.specs.Rules.{aimed, covers, cut, enlist, failed, isAt, locked, packet, pass, siteOf, submitted, terminate, unlock}
+use Rattle.packets.specs.Lone.{Lone, become, endsWith, fails, halts, hears, lists, locks, meant, request, stops, stores, unlocks, inUse}
+use Rattle.packets.specs.Rules.{aimed, cut, enlist, failed, isAt, locked, packet, pass, siteOf, submitted, terminate, unlock}
 use Rattle.packets.proofs.Sim.{Sim, here-busy, lockThere, look, on, sim-store, sim-store-away, sim-sweep, sim-sweep-away}
 use Rattle.packets.proofs.SimRest.{sim-enqueue, sim-enqueue-away, sim-units, sim-units-away}
-use Rattle.packets.specs.State.{State, entryOf, heldBy, isBusy, isEmpty, isRunning, isUnit, jobIn, lock, packetIn, put, restatus, same, setLock, stateIn, store, sweep, unitAt, withLock}
+use Rattle.packets.specs.State.{State, entryOf, heldBy, isBusy, isEmpty, isRunning, jobIn, lock, packetIn, put, restatus, same, setLock, stateIn, store, sweep, unitAt}
+use Rattle.packets.proofs.There.{covers-meant, covers-there, goes-to, is-there, lock-away, lock-here, lock-is, there-channel, there-kind, there-unit, unit-held}
 use Rattle.packets.proofs.Steps.{Ready, listed-new, ready-fits, ready-inside, ready-store, ready-sweep, stored-at}
 use Rattle.packets.proofs.Sites.{locked-unit, same-eq, same-is}
-use Rattle.packets.proofs.Store.{unit-set}
 use Rattle.packets.proofs.Told.{Submits, cut-going, cut-idle, failed-going, failed-idle, owns-unit}
 use Rattle.packets.specs.declared.Site.{Site}
-use Rattle.packets.specs.declared.Site.the-variants.{AtAddress, AtUnit}
 use Rattle.packets.specs.declared.Spot.{Spot}
-use Rattle.packets.specs.declared.Spot.the-variants.{OnDrum, OnUnit}
 use Rattle.packets.specs.declared.Status.{Status}
 use Rattle.packets.specs.declared.Status.the-variants.{Blank, Ended, InProgress, Listed, Stopping}
 
@@ -72,81 +68,6 @@ holder-alive h s I H = go (h .drum) (H .held)
         → isEmpty (stateIn (s .jobs) (h .place)) ≡ false
     go true e = not-true _ (and-left (not (isEmpty (stateIn (s .jobs) (h .place)))) _ e)
     go false e = I .holders (h .channel) (h .unit) (h .place) e
-
--- a unit that is held, off the drum
-pub unit-held : (h : Holding) (s : State) → Holds s h → h .drum ≡ false → heldBy (unitIn (s .units) (h .channel) (h .unit) .holder) (h .place) ≡ true
-unit-held h s H d = rw d at (H .held)
-
--- the channel and the unit of what is there, off the drum
-pub there-channel : (h : Holding) (c : ℕ) (a : Site) → isThere h c a ≡ true → c ≡ h .channel
-there-channel h c a t = eqb-true c (h .channel) (and-left (eqb c (h .channel)) _ t)
-
--- a holding is a unit exactly if what is there is at one
-pub there-kind : (h : Holding) (c : ℕ) (a : Site) → isThere h c a ≡ true → isUnit a ≡ not (h .drum)
-there-kind h c (AtUnit u) t = sym (and-left (not (h .drum)) _ (and-right (eqb c (h .channel)) _ t))
-there-kind h c (AtAddress x) t = sym (ap not (and-right (eqb c (h .channel)) _ t))
-
-pub there-unit : (h : Holding) (c : ℕ) (a : Site) → h .drum ≡ false → isThere h c a ≡ true → a ≡ itsUnit h
-there-unit h c (AtUnit u) d t =
-    ap (λ (n : ℕ). AtUnit (record { 0 = n })) (eqb-true (u .0) (h .unit) (and-right (not (h .drum)) _ (and-right (eqb c (h .channel)) _ t)))
-there-unit h c (AtAddress x) d t = never {b = h .drum} (and-right (eqb c (h .channel)) _ t) d
-
-pub is-there : (h : Holding) (c : ℕ) (a : Site) → h .drum ≡ false → c ≡ h .channel → a ≡ itsUnit h → isThere h c a ≡ true
-is-there h c a d p q = rw (q, p, d, eqb-self (h .channel), eqb-self (h .unit))
-
--- the interlock after a change at a unit that the holding isn't on
-pub lock-away : (h : Holding) (units : List (List UnitState)) (c : ℕ) (a : Site) (b : Bool) → isFree (unitAt units c a .holder) ≡ false
-    → (h .drum ≡ false → h .channel ≡ c → a ≡ itsUnit h → ⊥) → lockThere h (setLock units c a b) ≡ lockThere h units
-lock-away h units c (AtUnit u) b f away =
-    by-bool (h .drum)
-    (λ d. rw d)
-    (λ d. rw (d, unit-set units c (u .0) (withLock (unitIn units c (u .0)) b) (h .channel) (h .unit) f)
-    (by-bool (eqb (h .channel) c && eqb (h .unit) (u .0))
-    (λ t. absurd (away d (eqb-true (h .channel) c (and-left (eqb (h .channel) c) _ t))
-    (ap (λ (n : ℕ). AtUnit (record { 0 = n })) (sym (eqb-true (h .unit) (u .0) (and-right (eqb (h .channel) c) _ t))))))
-    (λ t. rw t)))
-lock-away h units c (AtAddress x) b f away = refl
-
-pub lock-here : (h : Holding) (s : State) → Holds s h → (c : ℕ) (b : Bool) → h .drum ≡ false → h .channel ≡ c → lockThere h (setLock (s .units) c (itsUnit h) b) ≡ b
-lock-here h s H c b d p =
-    rw (
-      d,
-      unit-set (s .units) c (h .unit) (withLock (unitIn (s .units) c (h .unit)) b) (h .channel) (h .unit)
-          (held-taken (unitIn (s .units) c (h .unit) .holder) (h .place) (rw (← p) (unit-held h s H d))),
-      p,
-      eqb-self c,
-      eqb-self (h .unit),
-    )
-
--- the interlock of what is there
-pub lock-is : (h : Holding) (units : List (List UnitState)) (c : ℕ) (a : Site) → isThere h c a ≡ true → unitAt units c a .interlock ≡ lockThere h units
-lock-is h units c a t =
-    by-bool (h .drum)
-    (λ d. rw d (on-drum a (there-kind h c a t ∙ ap not d)))
-    (λ d. rw (d, there-channel h c a t) (ap (λ (x : Site). unitAt units (h .channel) x .interlock) (there-unit h c a d t)))
-  where
-    on-drum : (a : Site) → isUnit a ≡ false → unitAt units c a .interlock ≡ false
-    on-drum (AtUnit u) e = never {b = true} refl e
-    on-drum (AtAddress x) e = refl
-
--- a lone unit reads where a submission goes as the rules do
-goes-to : (w : Spot) → goesTo w ≡ siteOf w
-goes-to (OnUnit u) = refl
-goes-to (OnDrum x h) = refl
-
--- what 23 is for, of what is there
-covers-meant : (h : Holding) (c : ℕ) (w : Spot) (d : ℕ) (a : Site) → isThere h c (siteOf w) ≡ true → isThere h d a ≡ true → covers w a ≡ meant w a
-covers-meant h c (OnUnit u) d a t y =
-    let k = not-true (h .drum) (sym (there-kind h c (AtUnit u) t)) in
-    same-eq a (AtUnit u) (there-unit h d a k y ∙ sym (there-unit h c (AtUnit u) k t))
-covers-meant h c (OnDrum l m) d (AtUnit v) t y = refl
-covers-meant h c (OnDrum l m) d (AtAddress x) t y = refl
-
--- it is there, if it is for something there
-covers-there : (h : Holding) (c : ℕ) (w : Spot) (a : Site) → covers w a ≡ true → isThere h c a ≡ true → isThere h c (siteOf w) ≡ true
-covers-there h c (OnUnit u) a e y = subst (λ (x : Site). isThere h c x ≡ true) (same-is a (AtUnit u) e) y
-covers-there h c (OnDrum l m) (AtUnit v) e y = never {b = false} e refl
-covers-there h c (OnDrum l m) (AtAddress x) e y = y
 
 -- what a failure does to what is listed on a unit
 pub fail-table : (h : Holding) (s : State) (l : Lone) → Sim h s l → (c : ℕ) (a : Site) → h .drum ≡ false → c ≡ h .channel → a ≡ itsUnit h

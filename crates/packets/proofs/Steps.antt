@@ -95,16 +95,15 @@ all-relist P j ps q h =
 -- an ordinary function's packet is new in the list
 pub listed-new : (s : State) → Inv s → (j p f c : ℕ) (w : Spot) → Submits s j p f c w → New (store s j p (packet Listed f c (siteOf w))) j p
 listed-new s I j p f c w k =
-    let a = siteOf w in
     let r : Ready s j p = record { small = k .small; running = k .running; idle = k .idle } in
     record {
       small = k .small;
       ok = record {
-        listed = rw (stored-at s I j p (packet Listed f c a) r);
-        running = rw (state-put (s .jobs) j p (packet Listed f c a) j) (k .running);
-        owned = rw (stored-at s I j p (packet Listed f c a) r) (k .kind, owns-unit s j p f c w k);
+        listed = rw (stored-at s I j p (packet Listed f c (siteOf w)) r);
+        running = rw (state-put (s .jobs) j p (packet Listed f c (siteOf w)) j) (k .running);
+        owned = rw (stored-at s I j p (packet Listed f c (siteOf w)) r) (k .kind, owns-unit s j p f c w k);
       };
-      once = all-relist (λ (e : ℕ). eqb (entryOf j p) e ≡ false) j (packetsIn (put (s .jobs) j p (packet Listed f c a)) j) (s .queue)
+      once = all-relist (λ (e : ℕ). eqb (entryOf j p) e ≡ false) j (packetsIn (put (s .jobs) j p (packet Listed f c (siteOf w))) j) (s .queue)
           (all-imp (EntryOk s) (λ (e : ℕ). eqb (entryOf j p) e ≡ false) (not-listed s j p (k .small) (k .idle)) (s .queue) (I .queued));
     }
 
