@@ -102,7 +102,8 @@ pub record Demand1 : Type 0 where
       → r .outcome ≡ Refused n → after ≡ room
   -- and the room that was lent for cards to be written, after 13 and after 12
   pub kept : (r : Request) (room : List ℕ) (n : Refusal) → writeAnswer r (length room) ≡ Wrote′.Refused n → written r room ≡ room
-  -- 13 is given exactly for a request that breaks a rule, before 12; 12 where a card or the room is too short
+  -- "13 comes before 12": 13 for a request against a rule, and else (`wrote`) for none; 12 for a "card to write over 80
+  -- characters, or lent room too short"
   pub wrong : (r : Request) (room : ℕ) → (Allowed r → ⊥) → writeAnswer r room ≡ Wrote′.Refused WrongRequest
   pub short : (r : Request) (room : ℕ) → Allowed r → fits r room ≡ false → writeAnswer r room ≡ Wrote′.Refused NoRoom
   -- a configuration is read exactly if it is the written form of one; else refusal 14 names the first bad or
@@ -165,16 +166,16 @@ pub record Demand2 : Type 0 where
       → Permuted (entriesOf fac) (entriesOf other) → (r : Request)
       → readGroup (pty ∷ fac ∷ []) ≡ record { verdict = Good; request = r }
       → readGroup (pty ∷ other ∷ []) ≡ record { verdict = Good; request = r }
-  -- what a deck asks for is entered, group by group, or gets its card error; a released request waits, a deleted
-  -- one is gone
+  -- "A card error bars only its own request": what a deck asks for is entered, group by group, or gets its card error;
+  -- a released request waits, a deleted one is gone
   pub entered : (c : Cell) (deck room after : List ℕ) (r : DeckAnswer) → Enters c deck room after r
       → r .cell .schedule ≡ deckSchedule (c .schedule) deck
   pub released : (c d : Cell) (id : List ℕ) (reply : Reply) → Does c (Release id) reply d
       → d .schedule ≡ Schedule.released (c .schedule) id .schedule
   pub deleted : (c d : Cell) (id : List ℕ) (reply : Reply) → Does c (Delete id) reply d
       → d .schedule ≡ Schedule.deleted (c .schedule) id .schedule
-  -- the answer to a deck stands in the lent room whole, its first bytes, and every byte behind it is kept: the error
-  -- lines, then the last good ID
+  -- the answer to a deck, "errors .. in deck order" and "the last good ID", is the first bytes of the lent room, cut
+  -- nowhere, and every byte behind it is kept
   pub noted : (c : Cell) (deck room after : List ℕ) (r : DeckAnswer) → Enters c deck room after r
       → Whole (deckNotes (c .schedule) deck) room after (r .at)
   -- "the job selected" is a candidate with an assignment, the one chosen, and the place the lowest that is free,
@@ -189,7 +190,8 @@ pub record Demand2 : Type 0 where
       → (i : ℕ) → Candidate (inSchedule (c .schedule)) i
       → precedes (keyOf (entryAt (inSchedule (c .schedule)) i .request)) (keyOf (s .request)) ≡ true
       → HasNone (seenIn (c .lists)) (entryAt (inSchedule (c .schedule)) i .request)
-  -- what was assigned it then holds: exactly those units, that drum area and that core, and no other job has any of it
+  -- "taken into the lowest free place": what was assigned it then holds, exactly those units, that drum area and that
+  -- core, and no other job has any of it
   pub holds : (configuration : Configuration) (es : List Event) (c : Cell) → Leads (freshCell configuration) es c
       → (d : Cell) (s : Selection) → Does c Select (Chosen Done s) d
       → StillOwn (inside d) (s .place) (assignmentOf (s .request .facilities) (s .assigned))
@@ -203,7 +205,7 @@ pub record Demand2 : Type 0 where
   pub marked : (c d : Cell) (channel unit : ℕ) (mark : UnitMark) (on : Bool) (reply : Reply)
       → Does c (Mark channel unit mark on) reply d → refusalIn reply ≡ none
       → d ≡ withUnits c (unitSet (c .lists .units .of) channel unit (markedUnit mark on (unitIn (c .lists .units .of) channel unit)))
-  -- by no other call does a mark change, nor by any call what a channel has
+  -- by no other call does a mark change, nor by any call what "a channel has"
   pub marks : (c d : Cell) (x : Call) (reply : Reply) → Does c x reply d
       → ((channel unit : ℕ) (mark : UnitMark) (on : Bool) → x ≡ Mark channel unit mark on → ⊥) → (channel unit : ℕ)
       → SameMarks (unitIn (inside d .units) channel unit) (unitIn (inside c .units) channel unit)
@@ -252,8 +254,8 @@ pub record Demand2 : Type 0 where
   -- and so are a release and a deletion
   pub changes : (c d : Cell) (id : List ℕ) (a : Answer) → Does c (Release id) (Said a) d ⊎ Does c (Delete id) (Said a) d
       → refusalIn (Said a) ≡ none → a ≡ Answers.Done
-  -- the list from which a start takes the oldest is in the order of submission: those still listed keep their order,
-  -- and what is submitted and listed joins at its end,
+  -- "the oldest listed packet" is meant of an order of submission: those still listed keep their order, and what is
+  -- submitted and listed joins at the list's end,
   pub order : (configuration : Configuration) (es : List Event) (c : Cell) → Leads (freshCell configuration) es c
       → (d : Cell) (x : Call) (reply : Reply) → Does c x reply d → refusalIn reply ≡ none
       → (y : Rules.Call) → heardOf x reply ≡ y ∷ []
@@ -299,7 +301,8 @@ pub record Demand3 : Type 0 where
   pub moving : (configuration : Configuration) (es : List Event) (c : Cell) → Leads (freshCell configuration) es c
       → (place packet : ℕ) → inMotion (packetIn (inside c .jobs) place packet .status) ≡ true
       → isEmpty (stateIn (inside c .jobs) place) ≡ false
-  -- and as long as it is, everything that its selection gave it (units, drum area, core) is its own, and nothing else
+  -- and as long as it is, everything that its selection gave it (units, drum area, core) is its own, and nothing else:
+  -- "all facilities return together"
   pub own : (configuration : Configuration) (es : List Event) (c : Cell) → Leads (freshCell configuration) es c
       → (place : ℕ) → isEmpty (stateIn (inside c .jobs) place) ≡ false
       → (given : Assignment) × (taking (told es) place ≡ some given) × StillOwn (inside c) place given

@@ -101,7 +101,8 @@ abbrev pub numberIn : Verdict → ℕ
 numberIn Good = 0
 numberIn (Wrong e) = errorNumber e
 
--- calls one after the other: whatever reply and cell the contracts allow, this is seen
+-- calls one after the other: whatever reply and cell the contracts allow, this is seen; that there is a reply is what
+-- the check of `cell` says
 abbrev pub Follows : Cell → List Step → Type 0
 Follows c [] = Unit {0}
 Follows c (s ∷ ss) =

@@ -67,5 +67,4 @@ NoEarlyHandOver =
     (channels : List Channel) (units : List (List UnitState)) → NoneHeld units → (calls : List Call) (j p : ℕ)
     → inMotion (packetAt (run (fresh channels units) calls) j p .status) ≡ true
     → (u : UnitNumber) → packetAt (run (fresh channels units) calls) j p .at ≡ AtUnit u
-    → heldBy (unitIn (run (fresh channels units) calls .units) (packetAt (run (fresh channels units) calls) j p .channel .0) (u .0) .holder) j
-    ≡ true
+    → let s = run (fresh channels units) calls in heldBy (unitIn (s .units) (packetAt s j p .channel .0) (u .0) .holder) j ≡ true
