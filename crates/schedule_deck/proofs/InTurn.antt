@@ -22,8 +22,9 @@ use Rattle.numbers.specs.declared.Refusal.{Refusal}
 use Rattle.numbers.specs.declared.Outcome.the-variants as Outcomes
 use Rattle.schedule_deck.specs.Report.{scheduleText, begin, errorsFrom, endFrom, lastLine, closingText, reportText, refusedText, deckGroups, deckText, textBy, notesText, notesBy, scheduleBy, outcomeBy}
 use Rattle.schedule_deck.proofs.Few.{ends}
+use Rattle.schedule_deck.proofs.Pieces.{Read}
 use Rattle.schedule_deck.proofs.Bounds.{deckRoom, entire, noted-whole}
-use Rattle.schedule_deck.specs.Reading.{Read, ReadAll, Noted, Whole, DeckEntered}
+use Rattle.schedule_deck.specs.Reading.{ReadAll, Noted, Whole, DeckEntered}
 use Rattle.schedule_deck.specs.declared.Progress.{Progress}
 use Rattle.schedule_deck.specs.declared.Step.{Step}
 use Rattle.schedule_deck.specs.declared.Entered.{Entered}
@@ -73,20 +74,20 @@ groups-start part room p = record { within = omega arith; going = start room 0 _
 
 -- the group that the code has found
 module _ {part room out : List ℕ} {first p : Progress} {at from : ℕ} (w : AtGroups part room first out p at from) where
-  all-read : groupsOf (cardsOf (drop from part)) ≡ [] → ReadAll room first (groupsOf (cardsOf part)) out (record { at = at; progress = p })
-  all-read e = record {
+  all-read : groupsOf (cardsOf (drop from part)) ≡ [] → {r : Step} → r ≡ record { at = at; progress = p } → ReadAll room first (groupsOf (cardsOf part)) out r
+  all-read e is = subst (λ (x : Step). ReadAll room first (groupsOf (cardsOf part)) out x) (sym is) (record {
     text = end (rw e at (w .going));
     then = rw e at (w .then);
-  }
+  })
 
-  pub groups-end : length part ≤ from → ReadAll room first (groupsOf (cardsOf part)) out (record { at = at; progress = p })
+  pub groups-end : length part ≤ from → {r : Step} → r ≡ record { at = at; progress = p } → ReadAll room first (groupsOf (cardsOf part)) out r
   groups-end h = all-read (rw (drop-of-length-le part h))
 
   module _ {g : List ℕ} (is : g ≡ take (groupSize (take (length part - from) (drop from part))) (take (length part - from) (drop from part))) where
     group-is : g ≡ take (groupSize (drop from part)) (drop from part)
     group-is = is ∙ ap (λ (l : List ℕ). take (groupSize l) l) (rest-is part from)
 
-    pub groups-over : length g ≡ 0 → ReadAll room first (groupsOf (cardsOf part)) out (record { at = at; progress = p })
+    pub groups-over : length g ≡ 0 → {r : Step} → r ≡ record { at = at; progress = p } → ReadAll room first (groupsOf (cardsOf part)) out r
     groups-over h = all-read (rw (no-cards (drop from part) (ap length (sym group-is) ∙ h)))
 
     pub group-within : from < length part → from + length g ≤ length part
@@ -101,6 +102,15 @@ module _ {part room out : List ℕ} {first p : Progress} {at from : ℕ} (w : At
           going = rw (d .then) (turn (rw e at (w .going)) (d .text));
           then = rw (d .then) (rw e at (w .then));
         }
+
+-- where the code's two ways meet, what each local then holds
+pub groups-meet : {part room out out₁ shown last last₁ : List ℕ} {first : Progress} {s s₁ : Schedule} {at at₁ from : ℕ} → out ≡ out₁ → s ≡ s₁ → last ≡ last₁ → at ≡ at₁
+    → AtGroups part room first out₁ (record { schedule = s₁; shown = shown; last = last₁ }) at₁ from → AtGroups part room first out (record { schedule = s; shown = shown; last = last }) at from
+groups-meet {part} {room} {out} {out₁} {shown} {last} {last₁} {first} {s} {s₁} {at} {at₁} {from} o k l a w =
+    subst (λ (x : List ℕ). AtGroups part room first x (record { schedule = s; shown = shown; last = last }) at from) (sym o)
+    (subst (λ (x : Schedule). AtGroups part room first out₁ (record { schedule = x; shown = shown; last = last }) at from) (sym k)
+    (subst (λ (x : List ℕ). AtGroups part room first out₁ (record { schedule = s₁; shown = shown; last = x }) at from) (sym l)
+    (subst (λ (x : ℕ). AtGroups part room first out₁ (record { schedule = s₁; shown = shown; last = last₁ }) x from) (sym a) w)))
 
 -- the errors, then the schedule, then the last line, from an empty schedule on
 pub report-put : {room out then after· : List ℕ} {schedule : Schedule} {first : Progress} {step : Step} {next r : ℕ} (gs : List (List (List ℕ))) → schedule ≡ scheduleOf [] → first ≡ begin schedule → ReadAll room first gs out step

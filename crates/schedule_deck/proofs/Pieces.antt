@@ -28,7 +28,7 @@ use Rattle.schedule_list.specs.declared.Schedule.{Schedule}
 use Rattle.schedule.specs.Calls.{entering}
 use Rattle.schedule.specs.declared.Entering.{Entering}
 use Rattle.schedule_deck.specs.Report.{shownBy, requestLine, scheduleText, triedBy, tried, lineBy, lastBy, shownAt, triedAt, groupText, after}
-use Rattle.schedule_deck.specs.Reading.{Read}
+use Rattle.schedule_deck.specs.declared.Step.{Step}
 use Rattle.schedule_deck.specs.declared.Progress.{Progress}
 
 -- one request of the schedule further
@@ -46,10 +46,18 @@ tried-by : (s : Schedule) (r : Request) (v : Verdict) → good v ≡ false → r
 tried-by s r Good e = never refl e
 tried-by s r (Wrong x) e = refl
 
+pub last-kept : (v : Verdict) (last id : List ℕ) {b : Bool} → b ≡ good v → b ≡ false → last ≡ lastBy v last id
+last-kept Good last id e t = never refl (sym e ∙ t)
+last-kept (Wrong x) last id e t = refl
+
 pub tried-bad : (s : Schedule) (r : Reading) {b : Bool} → b ≡ good (r .verdict) → b ≡ false → record { verdict = r .verdict; schedule = s } ≡ tried s r
 tried-bad s r e t = tried-by s (r .request) (r .verdict) (sym e ∙ t)
 
--- one group
+-- one group: its text, and what has been read then
+pub record Read (room : List ℕ) (at : ℕ) (p : Progress) (cards : List (List ℕ)) (after· : List ℕ) (r : Step) : Type 0 where
+  pub text : Written room at (groupText p cards) after· (r .at)
+  pub then : r .progress ≡ after p cards
+
 pub group-read : {room out : List ℕ} {at next : ℕ} (p : Progress) (cards : List (List ℕ)) {card shown last : List ℕ} {reading : Reading} {a : Entering}
     → card ≡ getD cards 0 [] → shown ≡ shownBy card (p .shown) → reading ≡ readGroup cards → a ≡ tried (p .schedule) reading
     → last ≡ lastBy (a .verdict) (p .last) (reading .request .id) → Written room at (lineBy (a .verdict) shown) out next

@@ -6,16 +6,11 @@ use lib.ListN.{length, drop}
 use Rattle.numbers.specs.declared.Outcome.the-variants.{Done}
 use Rattle.text.specs.Room as Room
 use Rattle.schedule_list.specs.declared.Schedule.{Schedule}
-use Rattle.schedule_deck.specs.Report.{begin, groupText, after, errorsFrom, endFrom, notesText, deckText}
+use Rattle.schedule_deck.specs.Report.{begin, errorsFrom, endFrom, notesText, deckText}
 use Rattle.schedule_deck.specs.Report.{deckNotes, deckSchedule, deckOutcome}
 use Rattle.schedule_deck.specs.declared.Progress.{Progress}
 use Rattle.schedule_deck.specs.declared.Step.{Step}
 use Rattle.schedule_deck.specs.declared.Entered.{Entered}
-
--- one group: its text, and what has been read then
-pub record Read (room : List ℕ) (at : ℕ) (p : Progress) (cards : List (List ℕ)) (after· : List ℕ) (r : Step) : Type 0 where
-  pub text : Room.Written room at (groupText p cards) after· (r .at)
-  pub then : r .progress ≡ after p cards
 
 -- all groups, after what was read before them, and from the room's start on
 pub record ReadAll (room : List ℕ) (start : Progress) (gs : List (List (List ℕ))) (after· : List ℕ) (r : Step) : Type 0 where

@@ -5,11 +5,9 @@ use cards::Verdict;
 use cards_fields::DeckEnd;
 use cards_fields::card;
 use cards_fields::deck;
-use cards_group::Reading;
 use cards_writing::put;
 use numbers::Outcome;
 use numbers::Refusal;
-use schedule::Entering;
 use schedule_list::Schedule;
 use words::Class;
 ghost use mathlib.Core.Path.{_≡_};
@@ -17,8 +15,8 @@ ghost use Rattle.text.specs.Room.{Written};
 ghost use Rattle.cards_fields.specs.Deck.{cardsOf, groupsOf};
 ghost use Rattle.schedule_list.specs.InSchedule.{inSchedule};
 ghost use Rattle.schedule_deck.specs.Report.{shownBy, errorLine, requestLine, scheduleText, lastLine, lineBy, lastBy};
-ghost use Rattle.schedule_deck.specs.Report.{tried, begin, reportText, refusedText};
-ghost use Rattle.schedule_deck.specs.Reading.{Read, ReadAll, Noted, Reported, DeckEntered};
+ghost use Rattle.schedule_deck.specs.Report.{begin, reportText, refusedText};
+ghost use Rattle.schedule_deck.specs.Reading.{ReadAll, Noted, Reported, DeckEntered};
 
 // What has been read so far: the schedule, the ID that an error line shows, and the last good one.
 pub struct Progress {
@@ -129,42 +127,6 @@ fn last_by(verdict: Verdict, last: [u8; 6], id: [u8; 6]) -> [u8; 6]
     }
 }
 
-// A group's own error, or what entering its request answers.
-fn tried(schedule: Schedule, reading: Reading) -> Entering
-    ensures { λ r. ⌜ r ≡ tried schedule reading ⌝ }
-{
-    let verdict = reading.verdict;
-    let request = reading.request;
-    if cards::is_good(verdict) {
-        return schedule::enter(schedule, request);
-    }
-    Entering { verdict, schedule }
-}
-
-// Reads one group: puts its line if it has an error, and answers what has been read then.
-fn put_group(out: &mut [u8], at: usize, progress: Progress, group: &[u8]) -> Step
-    ensures { λ r. ⌜ Read (now (out .entry)) at progress (cardsOf (now (group .entry))) (now (out .exit)) r ⌝ }
-{
-    let schedule = progress.schedule;
-    let before = progress.shown;
-    let good = progress.last;
-    let shown = shown_by(deck::card_at(group, 0), before);
-    let reading = cards_group::read_group(group);
-    let answer = tried(schedule, reading);
-    let verdict = answer.verdict;
-    let next = put_verdict(out, at, shown, verdict);
-    let request = reading.request;
-    let id = request.id;
-    let last = last_by(verdict, good, id);
-    let then = answer.schedule;
-    let progress = Progress {
-        schedule: then,
-        shown,
-        last,
-    };
-    Step { at: next, progress }
-}
-
 // What has been read before the first group.
 fn begin(schedule: Schedule) -> Progress
     ensures { λ r. ⌜ r ≡ begin schedule ⌝ }
@@ -176,26 +138,54 @@ fn begin(schedule: Schedule) -> Progress
     }
 }
 
-// Reads the groups in turn, each as the part of the deck that starts where the last one ended.
+// Where the text ends, and what has been read by then.
+fn step_to(at: usize, schedule: Schedule, shown: [u8; 6], last: [u8; 6]) -> Step
+    ensures { λ r. ⌜ r ≡ record { at = at; progress = record { schedule = schedule; shown = shown; last = last } } ⌝ }
+{
+    let progress = Progress {
+        schedule,
+        shown,
+        last,
+    };
+    Step { at, progress }
+}
+
+// Reads the groups in turn, each as the part of the deck that starts where the last one ended. The schedule stands in a
+// local of its own, so that a group in error does not copy it.
 fn put_groups(out: &mut [u8], part: &[u8], start: Progress) -> Step
     ensures { λ r. ⌜ ReadAll (now (out .entry)) start (groupsOf (cardsOf (now (part .entry)))) (now (out .exit)) r ⌝ }
 {
-    let mut progress = start;
+    let mut schedule = start.schedule;
+    let mut shown = start.shown;
+    let mut last = start.last;
     let mut at: usize = 0;
     let mut from: usize = 0;
     while from < part.len() {
         let group = deck::first_group(&part[from..]);
         let n = group.len();
         if n == 0 {
-            return Step { at, progress };
+            return step_to(at, schedule, shown, last);
         }
-        let step = put_group(out, at, progress, group);
-        let then = step.progress;
-        progress = then;
-        at = step.at;
+        let own = shown_by(deck::card_at(group, 0), shown);
+        let reading = cards_group::read_group(group);
+        let verdict = reading.verdict;
+        if cards::is_good(verdict) {
+            let request = reading.request;
+            let answer = schedule::enter(schedule, request);
+            let entered = answer.verdict;
+            at = put_verdict(out, at, own, entered);
+            let then = answer.schedule;
+            schedule = then;
+            let id = request.id;
+            let good = last_by(entered, last, id);
+            last = good;
+        } else {
+            at = put_verdict(out, at, own, verdict);
+        }
+        shown = own;
         from += n;
     }
-    Step { at, progress }
+    step_to(at, schedule, shown, last)
 }
 
 // The report of a deck's part before its termination card, read into an empty schedule.

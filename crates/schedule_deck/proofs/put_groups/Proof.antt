@@ -1,21 +1,35 @@
--- `schedule_deck::put_groups` meets its contract. Assumes nothing.
+use mathlib.Core.Path.{refl, _∙_}
+use mathlib.Core.Logic.{⊎-elim}
 use Prim.Native.Nat.{_-_}
 use native.Mathlib.Omega.{arith}
 use lib.ListN.{length}
 use Rattle.text.proofs.RoomLaws.{same-room}
-use Rattle.schedule_deck.proofs.InTurn.{AtGroups, groups-start, groups-turn, groups-over, groups-end, group-within}
+use Rattle.schedule_deck.specs.declared.Progress.{Progress}
+use Rattle.schedule_deck.proofs.Pieces.{group-read, tried-good, tried-bad, last-kept}
+use Rattle.schedule_deck.proofs.InTurn.{AtGroups, groups-start, groups-turn, groups-meet, groups-over, groups-end, group-within}
 use borrow.Author.Needs.{needs}
 use Rattle.schedule_deck.proofs.put_groups.Statement.{statement}
 use Rattle.schedule_deck.proofs.put_groups.Tie as tie
+use Rattle.schedule_deck.proofs.put_groups.Reads as reads
+use Rattle.schedule_deck.proofs.put_groups.Lts as lts
+use Rattle.cards.proofs.is_good.Reads as is-good-reads
+use Rattle.cards_fields.proofs.deck.card_at.Reads as card-at-reads
+use Rattle.cards_fields.proofs.deck.first_group.Reads as first-group-reads
+use Rattle.cards_group.proofs.read_group.Reads as read-group-reads
+use Rattle.schedule.proofs.enter.Reads as enter-reads
+use Rattle.schedule_deck.proofs.last_by.Reads as last-by-reads
+use Rattle.schedule_deck.proofs.put_verdict.Reads as put-verdict-reads
+use Rattle.schedule_deck.proofs.shown_by.Reads as shown-by-reads
+use Rattle.schedule_deck.proofs.step_to.Reads as step-to-reads
 
 abbrev Inv-loop : tie.InvT-loop
-Inv-loop out₀ part progress₀ at₀ from₀ out progress at from = AtGroups part out₀ progress₀ out progress at from
+Inv-loop out₀ part schedule₀ shown₀ last₀ at₀ from₀ out schedule shown last at from = AtGroups part out₀ (record { schedule = schedule₀; shown = shown₀; last = last₀ }) out (record { schedule = schedule; shown = shown; last = last }) at from
 
 abbrev μ-loop : tie.MeasureT-loop
-μ-loop out₀ part progress₀ at₀ from₀ out progress at from = length part - from
+μ-loop out₀ part schedule₀ shown₀ last₀ at₀ from₀ out schedule shown last at from = length part - from
 
 loop-holds : tie.Need-loop-holds Inv-loop μ-loop
-loop-holds c = groups-start (c .before .before .args .part .now) (c .before .before .args .out .now) (c .before .before .args .start)
+loop-holds c = groups-start (c .before .before .before .before .before .args .part .now) (c .before .before .before .before .before .args .out .now) (c .before .before .before .before .before .args .start)
 
 sub-first-group : tie.Need-sub-first-group Inv-loop μ-loop
 sub-first-group c = search needs
@@ -29,14 +43,38 @@ part-first-group-end c = search needs
 first-group-requires : tie.Need-first-group-requires Inv-loop μ-loop
 first-group-requires c κs = search needs
 
+step-to-requires : tie.Need-step-to-requires Inv-loop μ-loop
+step-to-requires c κs = search needs
+
 same-length : tie.Need-same-length Inv-loop μ-loop
-same-length c = same-room (groups-over (c .before .before .before .before .loop .inv) (c .before .first-group .ensures) (c .if1 .taken) .text)
+same-length c = same-room (groups-over (c .before .before .before .before .before .loop .inv) (c .before .before .first-group .ensures) (c .before .if1 .taken) refl .text)
 
 returns : tie.Need-returns Inv-loop μ-loop
-returns c = groups-over (c .before .before .before .before .loop .inv) (c .before .first-group .ensures) (c .if1 .taken)
+returns c = groups-over (c .before .before .before .before .before .loop .inv) (c .before .before .first-group .ensures) (c .before .if1 .taken) (c .step-to .ensures)
 
-put-group-requires : tie.Need-put-group-requires Inv-loop μ-loop
-put-group-requires c κs = search needs
+card-at-requires : tie.Need-card-at-requires Inv-loop μ-loop
+card-at-requires c κs = search needs
+
+shown-by-requires : tie.Need-shown-by-requires Inv-loop μ-loop
+shown-by-requires c κs = search needs
+
+read-group-requires : tie.Need-read-group-requires Inv-loop μ-loop
+read-group-requires c κs = search needs
+
+is-good-requires : tie.Need-is-good-requires Inv-loop μ-loop
+is-good-requires c κs = search needs
+
+enter-requires : tie.Need-enter-requires Inv-loop μ-loop
+enter-requires c κs = search needs
+
+put-verdict-requires : tie.Need-put-verdict-requires Inv-loop μ-loop
+put-verdict-requires c κs = search needs
+
+last-by-requires : tie.Need-last-by-requires Inv-loop μ-loop
+last-by-requires c κs = search needs
+
+put-verdict-requires-2 : tie.Need-put-verdict-requires-2 Inv-loop μ-loop
+put-verdict-requires-2 c κs = search needs
 
 add-from : tie.Need-add-from Inv-loop μ-loop
 add-from c = omega (arith, group-within (c .before .before .before .before .before .before .before .before .before .loop .inv) (c .before .before .before .before .before .before .first-group .ensures) (c .before .before .before .before .before .before .before .before .loop-test .taken))
@@ -45,13 +83,20 @@ loop-less : tie.Need-loop-less Inv-loop μ-loop
 loop-less c = omega (arith, group-within (c .before .before .before .before .before .before .before .before .before .loop .inv) (c .before .before .before .before .before .before .first-group .ensures) (c .before .before .before .before .before .before .before .before .loop-test .taken))
 
 loop-again : tie.Need-loop-again Inv-loop μ-loop
-loop-again c = groups-turn (c .before .before .before .before .before .before .before .before .before .loop .inv) (c .before .before .before .before .before .before .first-group .ensures) (c .before .before .before .before .before .before .before .before .loop-test .taken) (c .before .before .before .before .before .if1 .left) (c .before .before .before .put-group .ensures)
+loop-again c = let p : Progress = record { schedule = c .before .before .before .before .before .before .before .before .before .loop .schedule; shown = c .before .before .before .before .before .before .before .before .before .loop .shown; last = c .before .before .before .before .before .before .before .before .before .loop .last } in
+    ⊎-elim
+    (λ w. groups-meet (w .10) (w .11) (w .12) (w .13) (groups-turn (c .before .before .before .before .before .before .before .before .before .loop .inv) (c .before .before .before .before .before .before .first-group .ensures) (c .before .before .before .before .before .before .before .before .loop-test .taken) (c .before .before .before .before .before .if1 .left) (group-read p _ (c .before .before .before .before .card-at .ensures) (c .before .before .before .shown-by .ensures) (c .before .before .read-group .ensures) (w .2 .ensures ∙ tried-good (c .before .before .before .before .before .before .before .before .before .loop .schedule) (c .before .before .read-group .result) (c .before .is-good .ensures) (w .0 .taken)) (w .9 .ensures) (w .4 .ensures))))
+    (λ w. groups-meet (w .5) (w .6) (w .7) (w .8) (groups-turn (c .before .before .before .before .before .before .before .before .before .loop .inv) (c .before .before .before .before .before .before .first-group .ensures) (c .before .before .before .before .before .before .before .before .loop-test .taken) (c .before .before .before .before .before .if1 .left) (group-read p _ (c .before .before .before .before .card-at .ensures) (c .before .before .before .shown-by .ensures) (c .before .before .read-group .ensures) (tried-bad (c .before .before .before .before .before .before .before .before .before .loop .schedule) (c .before .before .read-group .result) (c .before .is-good .ensures) (w .0 .left)) (last-kept (c .before .before .read-group .result .verdict) (c .before .before .before .before .before .before .before .before .before .loop .last) _ (c .before .is-good .ensures) (w .0 .left)) (w .2 .ensures))))
+    (c .if2 .came)
+
+step-to-requires-2 : tie.Need-step-to-requires-2 Inv-loop μ-loop
+step-to-requires-2 c κs = search needs
 
 same-length-2 : tie.Need-same-length-2 Inv-loop μ-loop
-same-length-2 c = same-room (groups-end (c .before .loop .inv) (c .loop-test .left) .text)
+same-length-2 c = same-room (groups-end (c .before .before .loop .inv) (c .before .loop-test .left) refl .text)
 
 returns-2 : tie.Need-returns-2 Inv-loop μ-loop
-returns-2 c = groups-end (c .before .loop .inv) (c .loop-test .left)
+returns-2 c = groups-end (c .before .before .loop .inv) (c .before .loop-test .left) (c .step-to2 .ensures)
 
 pub put-groups-spec : {M : Type 1} → statement M
 put-groups-spec =
@@ -64,11 +109,20 @@ put-groups-spec =
     part-first-group-start
     part-first-group-end
     first-group-requires
+    step-to-requires
     same-length
     returns
-    put-group-requires
+    card-at-requires
+    shown-by-requires
+    read-group-requires
+    is-good-requires
+    enter-requires
+    put-verdict-requires
+    last-by-requires
+    put-verdict-requires-2
     add-from
     loop-less
     loop-again
+    step-to-requires-2
     same-length-2
     returns-2)
