@@ -1,67 +1,60 @@
 // Runs each case of data/ and compares: the arguments are the names of the inputs, each before what must come out.
 use shift_turns::Shift;
 
-// The shift after a line, and how long what was said is.
-struct Said {
-    shift: Shift,
-    len: usize,
-}
-
-// Answers one line, puts the answer behind what was said before, and says where it ends.
-fn answer(
-    shift: Shift,
-    line: &[u8],
-    room: &mut [u8; 16384],
-    said: &mut [u8; 65536],
-    len: usize,
-) -> Said {
-    let mut out = io::large_buffer();
-    let turn = shift_turns::take_line(shift, line, room, &mut out);
-    let after = turn.shift;
-    let end = text::put_bytes(said, len, shift_lines::front(&out, turn.at));
-    Said {
-        shift: after,
-        len: end,
-    }
-}
-
-// The end of the script, after `kept` bytes of a last line.
+// The end of a script, after `kept` bytes of a last line: its answer is put behind what was said before.
 fn finish(
     shift: Shift,
-    line: &[u8],
+    kept: usize,
+    line: &[u8; 20480],
     room: &mut [u8; 16384],
+    answer: &mut [u8; 53248],
     said: &mut [u8; 65536],
     len: usize,
 ) -> usize {
-    let mut out = io::large_buffer();
-    let n = shift_turns::end_of_input(shift, line, room, &mut out);
-    text::put_bytes(said, len, shift_lines::front(&out, n))
+    let n = shift_hearing::finish(shift, kept, line, room, answer);
+    text::put_bytes(said, len, shift_lines::front(answer, n))
 }
 
 // Plays a script, its lines taken up in the room for one: all that is answered, and how long that is.
-fn play(script: &[u8], line: &mut [u8; 20480], said: &mut [u8; 65536]) -> usize {
+fn play(
+    script: &[u8],
+    line: &mut [u8; 20480],
+    out: &mut [u8; 65536],
+    said: &mut [u8; 65536],
+) -> usize {
     let mut room = [0u8; 16384];
+    let mut answer = [0u8; 53248];
     let mut shift = shift_turns::fresh();
-    let mut len: usize = 0;
     let mut kept: usize = 0;
     let mut at: usize = 0;
+    let mut len: usize = 0;
     while at < script.len() {
-        let cut = shift_lines::take_up(line, kept, &script[at..]);
-        at += cut.taken;
-        kept = cut.kept;
-        if cut.whole {
-            let after = answer(shift, shift_lines::front(line, kept), &mut room, said, len);
-            shift = after.shift;
-            len = after.len;
-            kept = 0;
-        }
+        let heard = shift_hearing::hear(
+            shift,
+            kept,
+            &script[at..],
+            line,
+            &mut room,
+            &mut answer,
+            out,
+        );
+        shift = heard.shift;
+        kept = heard.len;
+        at += heard.taken;
+        len = text::put_bytes(said, len, shift_lines::front(out, heard.at));
     }
-    finish(shift, shift_lines::front(line, kept), &mut room, said, len)
+    finish(shift, kept, line, &mut room, &mut answer, said, len)
 }
 
 // Whether all that is answered to a script is this text.
-fn says(script: &[u8], line: &mut [u8; 20480], said: &mut [u8; 65536], wanted: &[u8]) -> bool {
-    let length = play(script, line, said);
+fn says(
+    script: &[u8],
+    line: &mut [u8; 20480],
+    out: &mut [u8; 65536],
+    said: &mut [u8; 65536],
+    wanted: &[u8],
+) -> bool {
+    let length = play(script, line, out, said);
     check::same(shift_lines::front(said, length), wanted)
 }
 
@@ -71,6 +64,7 @@ fn agrees(i: usize, j: usize) -> bool {
     let input = cases::load(i, &mut script);
     let mut wanted = io::large_buffer();
     let output = cases::load(j, &mut wanted);
+    let mut out = io::large_buffer();
     let mut said = io::large_buffer();
     let mut line = [0u8; 20480];
     input.there
@@ -78,6 +72,7 @@ fn agrees(i: usize, j: usize) -> bool {
         && says(
             &script[..input.len],
             &mut line,
+            &mut out,
             &mut said,
             &wanted[..output.len],
         )

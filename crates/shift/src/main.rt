@@ -1,46 +1,66 @@
 // The whole cell as a program to talk to: reads a script on standard input and answers each line as soon as it has
 // come.
+use libc::STDERR_FILENO;
 use libc::STDIN_FILENO;
 use libc::STDOUT_FILENO;
 use shift_turns::Phase;
 use shift_turns::Shift;
 
-// The shift after what has come, and how many bytes of the next line stand in the room for it.
-struct Heard {
+// The shift after a piece, how many bytes of the next line stand in the room for it, and whether its answers could be
+// written.
+struct Talked {
     shift: Shift,
     len: usize,
+    well: bool,
 }
 
-// Answers one line.
-fn answer(shift: Shift, line: &[u8], room: &mut [u8; 16384]) -> Shift {
-    let mut out = io::large_buffer();
-    let turn = shift_turns::take_line(shift, line, room, &mut out);
-    io::write_all(STDOUT_FILENO, shift_lines::front(&out, turn.at));
-    turn.shift
+// Writes the first n bytes, and answers whether that went well; where it did not, says so on standard error.
+fn written(out: &[u8], n: usize) -> bool {
+    let well = io::write_all(STDOUT_FILENO, shift_lines::front(out, n));
+    if !well {
+        io::write_all(STDERR_FILENO, b"shift: an answer could not be written\n");
+    }
+    well
 }
 
-// Answers the lines of a piece of the input, `len` bytes of whose first came before. A line that is longer than its
-// room is cut off there: from 16,384 bytes on it is answered as what it begins with.
-fn hear(
+// Has a piece of the input heard, and writes the answers.
+fn talk(
     first: Shift,
     len: usize,
     piece: &[u8],
     line: &mut [u8; 20480],
     room: &mut [u8; 16384],
-) -> Heard {
+    answer: &mut [u8; 53248],
+    out: &mut [u8; 65536],
+) -> Talked {
     let mut shift = first;
     let mut kept = len;
-    let mut at: usize = 0;
-    while at < piece.len() {
-        let cut = shift_lines::take_up(line, kept, &piece[at..]);
-        at += cut.taken;
-        kept = cut.kept;
-        if cut.whole {
-            shift = answer(shift, shift_lines::front(line, kept), room);
-            kept = 0;
-        }
+    let mut from: usize = 0;
+    let mut well = true;
+    while from < piece.len() && well {
+        let heard = shift_hearing::hear(shift, kept, &piece[from..], line, room, answer, out);
+        shift = heard.shift;
+        kept = heard.len;
+        from += heard.taken;
+        well = written(out, heard.at);
     }
-    Heard { shift, len: kept }
+    Talked {
+        shift,
+        len: kept,
+        well,
+    }
+}
+
+// The end of the input, after `len` bytes of a last line.
+fn finish(
+    shift: Shift,
+    len: usize,
+    line: &[u8; 20480],
+    room: &mut [u8; 16384],
+    answer: &mut [u8; 53248],
+) {
+    let n = shift_hearing::finish(shift, len, line, room, answer);
+    written(answer, n);
 }
 
 // Whether nothing more is answered: the configuration was bad.
@@ -54,18 +74,13 @@ fn is_over(phase: Phase) -> bool {
     }
 }
 
-// The end of the input, after `len` bytes of a last line.
-fn finish(shift: Shift, len: usize, line: &[u8; 20480], room: &mut [u8; 16384]) {
-    let mut out = io::large_buffer();
-    let n = shift_turns::end_of_input(shift, shift_lines::front(line, len), room, &mut out);
-    io::write_all(STDOUT_FILENO, shift_lines::front(&out, n));
-}
-
 // A proved loop has to end, and nothing says that the input does: the loop counts its turns down, from a number that
 // no run uses up.
 fn main() {
     let mut line = [0u8; 20480];
     let mut room = [0u8; 16384];
+    let mut answer = [0u8; 53248];
+    let mut out = [0u8; 65536];
     let mut shift = shift_turns::fresh();
     let mut len: usize = 0;
     let mut left = u64::MAX;
@@ -74,14 +89,25 @@ fn main() {
         let got = libc::read(STDIN_FILENO, &mut piece);
         let n = io::count(got, &piece);
         if n == 0 {
-            finish(shift, len, &line, &mut room);
+            finish(shift, len, &line, &mut room, &mut answer);
             return;
         }
-        let heard = hear(shift, len, &piece[..n], &mut line, &mut room);
-        shift = heard.shift;
-        len = heard.len;
+        let talked = talk(
+            shift,
+            len,
+            &piece[..n],
+            &mut line,
+            &mut room,
+            &mut answer,
+            &mut out,
+        );
+        shift = talked.shift;
+        len = talked.len;
         let phase = shift.phase;
         if is_over(phase) {
+            return;
+        }
+        if !talked.well {
             return;
         }
         left -= 1;

@@ -76,7 +76,13 @@ fn opened(opening: Opening, cell: Cell) -> Turn
 }
 
 // A line of the configuration.
-fn begins(cell: Cell, kept: usize, line: &[u8], room: &mut [u8; 16384], out: &mut [u8]) -> Turn
+fn begins(
+    cell: Cell,
+    kept: usize,
+    line: &[u8],
+    room: &mut [u8; 16384],
+    out: &mut [u8; 53248],
+) -> Turn
     ensures { λ r. ⌜ Begins cell kept (now (line .entry)) (now (room .entry)) (now (room .exit)) (now (out .entry)) (now (out .exit)) r ⌝ }
 {
     opened(shift_opening::take_line(kept, line, room, out), cell)
@@ -104,7 +110,7 @@ fn after_line(call: Line) -> Phase
 }
 
 // A line that is answered.
-fn talks(cell: Cell, line: &[u8], out: &mut [u8]) -> Turn
+fn talks(cell: Cell, line: &[u8], out: &mut [u8; 53248]) -> Turn
     ensures { λ r. ⌜ Talks cell (now (line .entry)) (now (out .entry)) (now (out .exit)) r ⌝ }
 {
     let said = shift_script::read_line(line);
@@ -115,7 +121,7 @@ fn talks(cell: Cell, line: &[u8], out: &mut [u8]) -> Turn
 }
 
 // A card of a deck that is too long.
-fn passes(cell: Cell, line: &[u8], out: &mut [u8]) -> Turn
+fn passes(cell: Cell, line: &[u8], out: &mut [u8; 53248]) -> Turn
     ensures { λ r. ⌜ PassSays (isTermination (now (line .entry))) cell (now (out .entry)) (now (out .exit)) r ⌝ }
 {
     if shift_deck::is_last_card(line) {
@@ -129,7 +135,7 @@ fn passes(cell: Cell, line: &[u8], out: &mut [u8]) -> Turn
 }
 
 // A deck that is complete: the first n bytes of the room.
-fn entered(cell: Cell, room: &[u8], n: usize, out: &mut [u8]) -> Turn
+fn entered(cell: Cell, room: &[u8], n: usize, out: &mut [u8; 53248]) -> Turn
     requires { ⌜ n ≤ length (now room) ⌝ }
     ensures { λ r. ⌜ Entered cell (take n (now (room .entry))) (now (out .entry)) (now (out .exit)) r ⌝ }
 {
@@ -139,7 +145,13 @@ fn entered(cell: Cell, room: &[u8], n: usize, out: &mut [u8]) -> Turn
 }
 
 // A card of a deck.
-fn gathers(cell: Cell, kept: usize, line: &[u8], room: &mut [u8; 16384], out: &mut [u8]) -> Turn
+fn gathers(
+    cell: Cell,
+    kept: usize,
+    line: &[u8],
+    room: &mut [u8; 16384],
+    out: &mut [u8; 53248],
+) -> Turn
     ensures { λ r. ⌜ Gathers cell kept (now (line .entry)) (now (room .entry))
         (now (room .exit)) (now (out .entry)) (now (out .exit)) r ⌝ }
 {
@@ -153,7 +165,7 @@ fn gathers(cell: Cell, kept: usize, line: &[u8], room: &mut [u8; 16384], out: &m
 }
 
 // The next line, without its LF, and what is answered to it.
-pub fn take_line(shift: Shift, line: &[u8], room: &mut [u8; 16384], out: &mut [u8]) -> Turn
+pub fn take_line(shift: Shift, line: &[u8], room: &mut [u8; 16384], out: &mut [u8; 53248]) -> Turn
     ensures { λ r. ⌜ Turns (shift .phase) (shift .cell) (now (line .entry))
         (now (room .entry)) (now (room .exit)) (now (out .entry)) (now (out .exit)) r ⌝ }
 {
@@ -169,7 +181,7 @@ pub fn take_line(shift: Shift, line: &[u8], room: &mut [u8; 16384], out: &mut [u
 }
 
 // The answer to a deck whose termination card did not come.
-fn close(phase: Phase, at: usize, out: &mut [u8]) -> usize
+fn close(phase: Phase, at: usize, out: &mut [u8; 53248]) -> usize
     ensures { λ r. ⌜ Written (now (out .entry)) at (endText phase) (now (out .exit)) r ⌝ }
 {
     match phase {
@@ -182,7 +194,7 @@ fn close(phase: Phase, at: usize, out: &mut [u8]) -> usize
 }
 
 // A last line without LF, or none, and what its shift leaves unanswered.
-fn closes(shift: Shift, rest: &[u8], room: &mut [u8; 16384], out: &mut [u8]) -> usize
+fn closes(shift: Shift, rest: &[u8], room: &mut [u8; 16384], out: &mut [u8; 53248]) -> usize
     ensures { λ r. ⌜ Closes (shift .phase) (shift .cell) (now (rest .entry))
         (now (room .entry)) (now (room .exit)) (now (out .entry)) (now (out .exit)) r ⌝ }
 {
@@ -197,7 +209,12 @@ fn closes(shift: Shift, rest: &[u8], room: &mut [u8; 16384], out: &mut [u8]) -> 
 }
 
 // The end of the input, and what is left of it behind the last LF.
-pub fn end_of_input(shift: Shift, rest: &[u8], room: &mut [u8; 16384], out: &mut [u8]) -> usize
+pub fn end_of_input(
+    shift: Shift,
+    rest: &[u8],
+    room: &mut [u8; 16384],
+    out: &mut [u8; 53248],
+) -> usize
     ensures { λ r. ⌜ Ends (shift .phase) (shift .cell) (now (rest .entry))
         (now (room .entry)) (now (room .exit)) (now (out .entry)) (now (out .exit)) r ⌝ }
 {

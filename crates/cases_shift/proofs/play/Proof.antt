@@ -2,16 +2,17 @@
 use Prim.Native.Nat.{_≤_, _<_, _-_}
 use native.Mathlib.Omega.{arith}
 use lib.ListN.{length}
-use Rattle.shift_lines.proofs.LineLaws.{taken-within}
+use Rattle.shift_hearing.proofs.PieceLaws.{taken-within}
 use borrow.Author.Needs.{needs}
 use Rattle.cases_shift.proofs.play.Statement.{statement}
 use Rattle.cases_shift.proofs.play.Tie as tie
 
 abbrev Inv-loop : tie.InvT-loop
-Inv-loop script line₀ said₀ room₀ shift₀ len₀ kept₀ at₀ line said room shift len kept at = (at ≤ length script) × (length script < 18446744073709551616)
+Inv-loop script line₀ out₀ said₀ room₀ answer₀ shift₀ kept₀ at₀ len₀ line out said room answer shift kept at len =
+    (at ≤ length script) × (length script < 18446744073709551616)
 
 abbrev μ-loop : tie.MeasureT-loop
-μ-loop script line₀ said₀ room₀ shift₀ len₀ kept₀ at₀ line said room shift len kept at = length script - at
+μ-loop script line₀ out₀ said₀ room₀ answer₀ shift₀ kept₀ at₀ len₀ line out said room answer shift kept at len = length script - at
 
 fresh-requires : tie.Need-fresh-requires Inv-loop μ-loop
 fresh-requires c κs = search needs
@@ -19,41 +20,32 @@ fresh-requires c κs = search needs
 loop-holds : tie.Need-loop-holds Inv-loop μ-loop
 loop-holds c = search needs
 
-sub-take-up : tie.Need-sub-take-up Inv-loop μ-loop
-sub-take-up c = search needs
+sub-hear : tie.Need-sub-hear Inv-loop μ-loop
+sub-hear c = search needs
 
-part-take-up-start : tie.Need-part-take-up-start Inv-loop μ-loop
-part-take-up-start c = search needs
+part-hear-start : tie.Need-part-hear-start Inv-loop μ-loop
+part-hear-start c = search needs
 
-part-take-up-end : tie.Need-part-take-up-end Inv-loop μ-loop
-part-take-up-end c = search needs
+part-hear-end : tie.Need-part-hear-end Inv-loop μ-loop
+part-hear-end c = search needs
 
-take-up-requires : tie.Need-take-up-requires Inv-loop μ-loop
-take-up-requires c κs = search needs
+hear-requires : tie.Need-hear-requires Inv-loop μ-loop
+hear-requires c κs = search needs
 
 add-at : tie.Need-add-at Inv-loop μ-loop
-add-at c = let t = taken-within (c .before .before .before .before .before .before .before .before .args .script .now) (c .before .before .before .before .before .loop .at) (c .before .before .before .before .loop-test .taken) (c .before .take-up .ensures) in omega (arith, t .0, c .before .before .before .before .before .loop .inv .1)
+add-at c = let t = taken-within (c .before .before .before .before .before .before .before .before .before .before .before .before .args .script .now) (c .before .before .before .before .before .before .before .before .before .loop .at) (c .before .before .before .before .before .before .before .before .loop-test .taken) (c .before .before .hear .ensures) in omega (arith, t .0, c .before .before .before .before .before .before .before .before .before .loop .inv .1)
 
 front-requires : tie.Need-front-requires Inv-loop μ-loop
 front-requires c κs = search needs
 
-answer-requires : tie.Need-answer-requires Inv-loop μ-loop
-answer-requires c κs = search needs
+put-bytes-requires : tie.Need-put-bytes-requires Inv-loop μ-loop
+put-bytes-requires c κs = search needs
 
 loop-less : tie.Need-loop-less Inv-loop μ-loop
-loop-less c = let t = taken-within (c .before .before .before .before .before .before .before .before .before .before .before .before .before .before .before .before .args .script .now) (c .before .before .before .before .before .before .before .before .before .before .before .before .before .loop .at) (c .before .before .before .before .before .before .before .before .before .before .before .before .loop-test .taken) (c .before .before .before .before .before .before .before .before .before .take-up .ensures) in omega (arith, t .0, t .1)
+loop-less c = let t = taken-within (c .before .before .before .before .before .before .before .before .before .before .before .before .before .before .before .before .before .args .script .now) (c .before .before .before .before .before .before .before .before .before .before .before .before .before .before .loop .at) (c .before .before .before .before .before .before .before .before .before .before .before .before .before .loop-test .taken) (c .before .before .before .before .before .before .before .hear .ensures) in omega (arith, t .0, t .1)
 
 loop-again : tie.Need-loop-again Inv-loop μ-loop
-loop-again c = let t = taken-within (c .before .before .before .before .before .before .before .before .before .before .before .before .before .before .before .before .args .script .now) (c .before .before .before .before .before .before .before .before .before .before .before .before .before .loop .at) (c .before .before .before .before .before .before .before .before .before .before .before .before .loop-test .taken) (c .before .before .before .before .before .before .before .before .before .take-up .ensures) in (t .0, c .before .before .before .before .before .before .before .before .before .before .before .before .before .loop .inv .1)
-
-loop-less-2 : tie.Need-loop-less-2 Inv-loop μ-loop
-loop-less-2 c = let t = taken-within (c .before .before .before .before .before .before .before .before .before .args .script .now) (c .before .before .before .before .before .before .loop .at) (c .before .before .before .before .before .loop-test .taken) (c .before .before .take-up .ensures) in omega (arith, t .0, t .1)
-
-loop-again-2 : tie.Need-loop-again-2 Inv-loop μ-loop
-loop-again-2 c = let t = taken-within (c .before .before .before .before .before .before .before .before .before .args .script .now) (c .before .before .before .before .before .before .loop .at) (c .before .before .before .before .before .loop-test .taken) (c .before .before .take-up .ensures) in (t .0, c .before .before .before .before .before .before .loop .inv .1)
-
-front-requires-2 : tie.Need-front-requires-2 Inv-loop μ-loop
-front-requires-2 c κs = search needs
+loop-again c = let t = taken-within (c .before .before .before .before .before .before .before .before .before .before .before .before .before .before .before .before .before .args .script .now) (c .before .before .before .before .before .before .before .before .before .before .before .before .before .before .loop .at) (c .before .before .before .before .before .before .before .before .before .before .before .before .before .loop-test .taken) (c .before .before .before .before .before .before .before .hear .ensures) in (t .0, c .before .before .before .before .before .before .before .before .before .before .before .before .before .before .loop .inv .1)
 
 finish-requires : tie.Need-finish-requires Inv-loop μ-loop
 finish-requires c κs = search needs
@@ -69,17 +61,14 @@ play-spec =
     μ-loop
     fresh-requires
     loop-holds
-    sub-take-up
-    part-take-up-start
-    part-take-up-end
-    take-up-requires
+    sub-hear
+    part-hear-start
+    part-hear-end
+    hear-requires
     add-at
     front-requires
-    answer-requires
+    put-bytes-requires
     loop-less
     loop-again
-    loop-less-2
-    loop-again-2
-    front-requires-2
     finish-requires
     returns)

@@ -1,13 +1,14 @@
 -- `shift::main` is safe and ends: the turns that are left grow fewer. Assumes nothing.
+use native.Mathlib.Omega.{arith}
 use borrow.Author.Needs.{needs}
 use Rattle.shift.proofs.main.Statement.{statement}
 use Rattle.shift.proofs.main.Tie as tie
 
 abbrev Inv-loop : tie.InvT-loop
-Inv-loop line₀ room₀ shift₀ len₀ left₀ line room shift len left = Unit {0}
+Inv-loop line₀ room₀ answer₀ out₀ shift₀ len₀ left₀ line room answer out shift len left = Unit {0}
 
 abbrev μ-loop : tie.MeasureT-loop
-μ-loop line₀ room₀ shift₀ len₀ left₀ line room shift len left = left
+μ-loop line₀ room₀ answer₀ out₀ shift₀ len₀ left₀ line room answer out shift len left = left
 
 fresh-requires : tie.Need-fresh-requires Inv-loop μ-loop
 fresh-requires c κs = search needs
@@ -39,11 +40,11 @@ returns c = search needs
 array-share-prefix-piece : tie.Need-array-share-prefix-piece Inv-loop μ-loop
 array-share-prefix-piece c = search needs
 
-slice-aggregate-hear : tie.Need-slice-aggregate-hear Inv-loop μ-loop
-slice-aggregate-hear c = search needs
+slice-aggregate-talk : tie.Need-slice-aggregate-talk Inv-loop μ-loop
+slice-aggregate-talk c = search needs
 
-hear-requires : tie.Need-hear-requires Inv-loop μ-loop
-hear-requires c κs = search needs
+talk-requires : tie.Need-talk-requires Inv-loop μ-loop
+talk-requires c κs = search needs
 
 is-over-requires : tie.Need-is-over-requires Inv-loop μ-loop
 is-over-requires c κs = search needs
@@ -51,17 +52,20 @@ is-over-requires c κs = search needs
 returns-2 : tie.Need-returns-2 Inv-loop μ-loop
 returns-2 c = search needs
 
+returns-3 : tie.Need-returns-3 Inv-loop μ-loop
+returns-3 c = search needs
+
 sub-left : tie.Need-sub-left Inv-loop μ-loop
-sub-left c = search needs
+sub-left c = omega (arith, c .before .before .before .before .before .before .before .before .before .before .before .before .before .before .before .before .before .before .loop-test .taken)
 
 loop-less : tie.Need-loop-less Inv-loop μ-loop
-loop-less c = search needs
+loop-less c = omega (arith, c .before .before .before .before .before .before .before .before .before .before .before .before .before .before .before .before .before .before .loop-test .taken)
 
 loop-again : tie.Need-loop-again Inv-loop μ-loop
 loop-again c = search needs
 
-returns-3 : tie.Need-returns-3 Inv-loop μ-loop
-returns-3 c = search needs
+returns-4 : tie.Need-returns-4 Inv-loop μ-loop
+returns-4 c = search needs
 
 pub main-spec : {M : Type 1} → statement M
 main-spec =
@@ -79,11 +83,12 @@ main-spec =
     finish-requires
     returns
     array-share-prefix-piece
-    slice-aggregate-hear
-    hear-requires
+    slice-aggregate-talk
+    talk-requires
     is-over-requires
     returns-2
+    returns-3
     sub-left
     loop-less
     loop-again
-    returns-3)
+    returns-4)

@@ -10,11 +10,8 @@ enter-requires c κs = search needs
 put-refusal-requires : tie.Need-put-refusal-requires
 put-refusal-requires c κs = search needs
 
-same-length : tie.Need-same-length
-same-length c = search needs
-
 returns : tie.Need-returns
-returns c = entered (c .before .before .before .before .before .before .before .before .before .before .before .args .cell) (c .before .before .before .before .before .before .before .before .before .before .before .args .deck .now) (c .before .before .before .before .before .before .before .before .before .before .before .args .out .now) _ _ (c .before .before .before .before .before .before .before .enter .result) (c .before .before .put-refusal .result) (c .before .before .before .before .before .before .before .enter .ensures) (c .before .before .put-refusal .ensures)
+returns c = entered (c .before .before .before .before .before .before .args .cell) (c .before .before .before .before .before .before .args .deck .now) (c .before .before .before .before .before .before .args .out .now) _ _ (c .before .before .before .enter .result) (c .put-refusal .result) (c .before .before .before .enter .ensures) (c .put-refusal .ensures)
 
 pub reply-deck-spec : {M : Type 1} → statement M
-reply-deck-spec = tie.close (tie.spec enter-requires put-refusal-requires same-length returns)
+reply-deck-spec = tie.close (tie.spec enter-requires put-refusal-requires returns)

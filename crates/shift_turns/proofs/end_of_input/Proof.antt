@@ -33,35 +33,20 @@ enum-told-4 c = search needs
 closes-requires-4 : tie.Need-closes-requires-4
 closes-requires-4 c κs = search needs
 
-same-length : tie.Need-same-length
-same-length c = search needs
-
 returns : tie.Need-returns
-returns c = rw (c .before .before .before .before .before .before .phase .given .1) (c .before .before .end-of-input .ensures)
-
-same-length-2 : tie.Need-same-length-2
-same-length-2 c = search needs
+returns c = rw (c .before .before .before .before .phase .given .1) (c .end-of-input .ensures)
 
 returns-2 : tie.Need-returns-2
-returns-2 c = rw (c .before .before .before .before .before .enum-told .given .1) (rw (c .before .before .before .before .before .enum-told .given .1) at (c .before .before .closes .ensures))
-
-same-length-3 : tie.Need-same-length-3
-same-length-3 c = search needs
+returns-2 c = rw (c .before .before .before .enum-told .given .1) (rw (c .before .before .before .enum-told .given .1) at (c .closes .ensures))
 
 returns-3 : tie.Need-returns-3
-returns-3 c = rw (c .before .before .before .before .before .enum-told2 .given .1) (rw (c .before .before .before .before .before .enum-told2 .given .1) at (c .before .before .closes2 .ensures))
-
-same-length-4 : tie.Need-same-length-4
-same-length-4 c = search needs
+returns-3 c = rw (c .before .before .before .enum-told2 .given .1) (rw (c .before .before .before .enum-told2 .given .1) at (c .closes2 .ensures))
 
 returns-4 : tie.Need-returns-4
-returns-4 c = rw (c .before .before .before .before .before .enum-told3 .given .1) (rw (c .before .before .before .before .before .enum-told3 .given .1) at (c .before .before .closes3 .ensures))
-
-same-length-5 : tie.Need-same-length-5
-same-length-5 c = search needs
+returns-4 c = rw (c .before .before .before .enum-told3 .given .1) (rw (c .before .before .before .enum-told3 .given .1) at (c .closes3 .ensures))
 
 returns-5 : tie.Need-returns-5
-returns-5 c = rw (c .before .before .before .before .before .enum-told4 .given .1) (rw (c .before .before .before .before .before .enum-told4 .given .1) at (c .before .before .closes4 .ensures))
+returns-5 c = rw (c .before .before .before .enum-told4 .given .1) (rw (c .before .before .before .enum-told4 .given .1) at (c .closes4 .ensures))
 
 pub end-of-input-spec : {M : Type 1} → statement M
 end-of-input-spec =
@@ -77,13 +62,8 @@ end-of-input-spec =
     closes-requires-3
     enum-told-4
     closes-requires-4
-    same-length
     returns
-    same-length-2
     returns-2
-    same-length-3
     returns-3
-    same-length-4
     returns-4
-    same-length-5
     returns-5)

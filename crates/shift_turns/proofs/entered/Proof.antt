@@ -7,7 +7,7 @@ use Rattle.shift_turns.proofs.entered.Statement.{statement}
 use Rattle.shift_turns.proofs.entered.Tie as tie
 
 slice-aggregate-reply-deck : tie.Need-slice-aggregate-reply-deck
-slice-aggregate-reply-deck c = sym (length-take-le (c .before .before .before .args .n) (c .before .before .before .args .room .now) (c .before .before .before .pre))
+slice-aggregate-reply-deck c = sym (length-take-le (c .before .before .args .n) (c .before .before .args .room .now) (c .before .before .pre))
 
 reply-deck-requires : tie.Need-reply-deck-requires
 reply-deck-requires c κs = search needs
@@ -15,12 +15,9 @@ reply-deck-requires c κs = search needs
 turned-requires : tie.Need-turned-requires
 turned-requires c κs = search needs
 
-same-length : tie.Need-same-length
-same-length c = search needs
-
 returns : tie.Need-returns
-returns c = entered (c .before .before .before .before .reply-deck .ensures) (c .turned .ensures)
+returns c = entered (c .before .before .reply-deck .ensures) (c .turned .ensures)
 
 pub entered-spec : {M : Type 1} → statement M
 entered-spec =
-    tie.close (tie.spec slice-aggregate-reply-deck reply-deck-requires turned-requires same-length returns)
+    tie.close (tie.spec slice-aggregate-reply-deck reply-deck-requires turned-requires returns)

@@ -18,11 +18,8 @@ enum-told c = search needs
 passes-requires : tie.Need-passes-requires
 passes-requires c κs = search needs
 
-same-length : tie.Need-same-length
-same-length c = search needs
-
 returns : tie.Need-returns
-returns c = gathered (c .before .before .before .before .before .before .add-card .ensures) (c .before .before .before .before .enum-told .given .1) refl (c .before .before .passes .ensures)
+returns c = gathered (c .before .before .before .before .add-card .ensures) (c .before .before .enum-told .given .1) refl (c .passes .ensures)
 
 is-last-card-requires : tie.Need-is-last-card-requires
 is-last-card-requires c κs = search needs
@@ -30,11 +27,8 @@ is-last-card-requires c κs = search needs
 entered-requires : tie.Need-entered-requires
 entered-requires c κs = let d = deck-within (c .before .before .before .before .before .before .before .before .add-card .ensures) (c .before .before .before .before .before .before .n .given .1) in search needs
 
-same-length-2 : tie.Need-same-length-2
-same-length-2 c = search needs
-
 returns-2 : tie.Need-returns-2
-returns-2 c = gathered (c .before .before .before .before .before .before .before .before .before .before .before .add-card .ensures) (c .before .before .before .before .before .before .before .before .before .n .given .1) (sym (c .before .before .before .before .before .before .if1 .taken) ∙ c .before .before .before .before .before .before .before .is-last-card .ensures) (c .before .before .entered .ensures)
+returns-2 c = gathered (c .before .before .before .before .before .before .before .before .before .add-card .ensures) (c .before .before .before .before .before .before .before .n .given .1) (sym (c .before .before .before .before .if1 .taken) ∙ c .before .before .before .before .before .is-last-card .ensures) (c .entered .ensures)
 
 turned-requires : tie.Need-turned-requires
 turned-requires c κs = search needs
@@ -50,11 +44,9 @@ gathers-spec =
     enum-known-n
     enum-told
     passes-requires
-    same-length
     returns
     is-last-card-requires
     entered-requires
-    same-length-2
     returns-2
     turned-requires
     returns-3)

@@ -14,11 +14,8 @@ put-refused-requires c κs = search needs
 turned-requires : tie.Need-turned-requires
 turned-requires c κs = search needs
 
-same-length : tie.Need-same-length
-same-length c = search needs
-
 returns : tie.Need-returns
-returns c = rw (sym (c .before .before .before .before .before .before .is-last-card .ensures) ∙ c .before .before .before .before .before .if1 .taken) (says (c .turned .ensures) (c .before .before .before .put-refused .ensures))
+returns c = rw (sym (c .before .before .before .before .is-last-card .ensures) ∙ c .before .before .before .if1 .taken) (says (c .turned .ensures) (c .before .put-refused .ensures))
 
 turned-requires-2 : tie.Need-turned-requires-2
 turned-requires-2 c κs = search needs
@@ -33,7 +30,6 @@ passes-spec =
     is-last-card-requires
     put-refused-requires
     turned-requires
-    same-length
     returns
     turned-requires-2
     returns-2)

@@ -35,29 +35,17 @@ enum-told-3 c = search needs
 turned-requires : tie.Need-turned-requires
 turned-requires c κs = search needs
 
-same-length : tie.Need-same-length
-same-length c = search needs
-
 returns : tie.Need-returns
-returns c = rw (c .before .before .before .before .before .before .phase .given .1) (c .before .before .begins .ensures)
-
-same-length-2 : tie.Need-same-length-2
-same-length-2 c = search needs
+returns c = rw (c .before .before .before .before .phase .given .1) (c .begins .ensures)
 
 returns-2 : tie.Need-returns-2
-returns-2 c = rw (c .before .before .before .before .enum-told .given .1) (refl, c .before .before .talks .ensures)
-
-same-length-3 : tie.Need-same-length-3
-same-length-3 c = search needs
+returns-2 c = rw (c .before .before .enum-told .given .1) (refl, c .talks .ensures)
 
 returns-3 : tie.Need-returns-3
-returns-3 c = rw (c .before .before .before .before .before .before .phase2 .given .1) (c .before .before .gathers .ensures)
-
-same-length-4 : tie.Need-same-length-4
-same-length-4 c = search needs
+returns-3 c = rw (c .before .before .before .before .phase2 .given .1) (c .gathers .ensures)
 
 returns-4 : tie.Need-returns-4
-returns-4 c = rw (c .before .before .before .before .enum-told2 .given .1) (refl, c .before .before .passes .ensures)
+returns-4 c = rw (c .before .before .enum-told2 .given .1) (refl, c .passes .ensures)
 
 returns-5 : tie.Need-returns-5
 returns-5 c = rw (c .before .enum-told3 .given .1) (refl, silent (c .turned .ensures))
@@ -76,12 +64,8 @@ take-line-spec =
     passes-requires
     enum-told-3
     turned-requires
-    same-length
     returns
-    same-length-2
     returns-2
-    same-length-3
     returns-3
-    same-length-4
     returns-4
     returns-5)

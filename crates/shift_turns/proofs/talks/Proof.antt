@@ -16,11 +16,8 @@ after-line-requires c κs = search needs
 turned-requires : tie.Need-turned-requires
 turned-requires c κs = search needs
 
-same-length : tie.Need-same-length
-same-length c = search needs
-
 returns : tie.Need-returns
-returns c = talked (c .before .before .before .before .before .before .before .before .before .before .args .line .now) (c .before .before .before .before .before .before .before .read-line .ensures) (c .before .before .before .before .before .reply-line .ensures) (c .before .after-line .ensures) (c .turned .ensures)
+returns c = talked (c .before .before .before .before .before .before .before .args .line .now) (c .before .before .before .before .before .read-line .ensures) (c .before .before .before .reply-line .ensures) (c .before .after-line .ensures) (c .turned .ensures)
 
 pub talks-spec : {M : Type 1} → statement M
 talks-spec =
@@ -30,5 +27,4 @@ talks-spec =
     reply-line-requires
     after-line-requires
     turned-requires
-    same-length
     returns)
