@@ -175,9 +175,9 @@ marks-stay c d x reply h n k u =
     let l = heard-unmarking x reply n in
     let is = does-heard c d x reply h in (
       ap (λ (s : State). unitIn (s .units) k u .down) is
-      ∙ run-keeps (λ v. v .down) (λ v b. refl) (λ j v. refl) (λ j w v. by-bool (w && assignable v) (λ t. rw t refl) (λ t. rw t refl)) k u (inside c) (heardOf x reply) l,
+          ∙ run-keeps (λ v. v .down) (λ v b. refl) (λ j v. refl) (λ j w v. by-bool (w && assignable v) (λ t. rw t refl) (λ t. rw t refl)) k u (inside c) (heardOf x reply) l,
       ap (λ (s : State). unitIn (s .units) k u .reserved) is
-      ∙ run-keeps (λ v. v .reserved) (λ v b. refl) (λ j v. refl) (λ j w v. by-bool (w && assignable v) (λ t. rw t refl) (λ t. rw t refl)) k u (inside c) (heardOf x reply) l,
+          ∙ run-keeps (λ v. v .reserved) (λ v b. refl) (λ j v. refl) (λ j w v. by-bool (w && assignable v) (λ t. rw t refl) (λ t. rw t refl)) k u (inside c) (heardOf x reply) l,
     )
 
 -- ---- the answers
@@ -219,5 +219,5 @@ done-only (Outcomes.Refused r) a e n = absurd (refused (sym (ap refusalIn e) ∙
     refused z = let y : _≡_ {A = ℕ} 0 1 = cc in omega arith
 
 pub changes-so : (c d : Cell) (id : List ℕ) (a : Answer) → Does c (Release id) (Said a) d ⊎ Does c (Delete id) (Said a) d → refusalIn (Said a) ≡ none → a ≡ Answers.Done
-changes-so c d id a h n = 
+changes-so c d id a h n =
     ⊎-elim (λ k. done-only (released (c .schedule) id .outcome) a (k .0) n) (λ k. done-only (deleted (c .schedule) id .outcome) a (k .0) n) h

@@ -6,7 +6,8 @@ use packets::Site;
 use packets::Status;
 ghost use mathlib.Core.Path.{_≡_};
 ghost use Rattle.text.specs.Room.{Written};
-ghost use Rattle.shift_answers.specs.Answers.{refusedText, doneText, numberAt, startedText, completedText, statusWord, statusText, noCallText};
+ghost use Rattle.shift_answers.specs.Answers.{refusedText, doneText, numberAt, startedText, completedText};
+ghost use Rattle.shift_answers.specs.Answers.{statusWord, statusText, noCallText};
 
 // A refused call.
 pub fn put_refused(out: &mut [u8], at: usize, refusal: Refusal) -> usize

@@ -56,14 +56,15 @@ abbrev pub HearsByte : Bool → ℕ → Standing → List ℕ → Standing → T
 HearsByte true b s text t = Answers s text t
 HearsByte false b s text t = (text ≡ []) × (t ≡ kept s (b ∷ []))
 
--- THE INPUT IS HEARD: `Hears s input text t`, from s on the bytes of the input answer this text, and it stands as t then
+-- THE INPUT IS HEARD: `Hears s input text t`, from s on the bytes of the input answer this text, and it stands as t
+-- then
 abbrev pub Hears : Standing → List ℕ → List ℕ → Standing → Type 0
 Hears s [] text t = (text ≡ []) × (t ≡ s)
 Hears s (b ∷ input) text t =
     (m : Standing) × (x : List ℕ) × (y : List ℕ) × HearsByte (eqb b lf) b s x m × Hears m input y t × (text ≡ x ++ y)
 
--- the first `taken` bytes of a piece are heard: what they answer stands at the start of `out`, `at` bytes, uncut; no
--- fewer of them answer more than `enough`
+-- the first `taken` bytes of a piece are heard: what they answer stands at the start of `out`, `at` bytes, uncut; the
+-- answers to any fewer of them have at most `enough` bytes
 pub record HearsSome (s : Standing) (piece out : List ℕ) (t : Standing) (taken at : ℕ) (after : List ℕ) : Type 0 where
   pub text : List ℕ
   pub hears : Hears s (take taken piece) text t

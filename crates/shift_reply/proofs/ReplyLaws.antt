@@ -36,7 +36,7 @@ entered cell deck room mid after a n l e w =
     record {
       cell = ap₂ cellOf (e .deck .then) (e .lists);
       put = subst (λ (o : Outcome). Written room 0 (deckNotes (cell .schedule) deck ++ refusalText o) after n) (e .deck .outcome)
-      (andThen (noted-put (cell .schedule) deck l (e .deck .text)) w);
+          (andThen (noted-put (cell .schedule) deck l (e .deck .text)) w);
     }
 
 -- a line that changes nothing
