@@ -38,7 +38,7 @@ fn answer_line(
 
 // Answers the lines of a piece of the input, `len` bytes of whose first came before; what is left of the piece when the
 // answers leave no room for another is for the next call. No room is cleared. A line that is longer than its room is
-// cut off there: from 16,384 bytes on it is answered as what it begins with.
+// cut off there, which changes no answer: one of over 16,384 bytes is no call and no echo, and makes a deck too long.
 pub fn hear(
     first: Shift,
     len: usize,
