@@ -21,7 +21,8 @@ use Rattle.shift_lines.proofs.LineLaws.{taken-within}
 use Rattle.shift_turns.specs.Turns.{Turns}
 use Rattle.shift_turns.specs.declared.Shift.{Shift}
 use Rattle.shift_turns.specs.declared.Turn.{Turn}
-use Rattle.shift_hearing.specs.Hearing.{Standing, standing, kept, Answers, AnswersBehind, Hears, HearsSome}
+use Rattle.shift_hearing.specs.Hearing.{Standing, standing, kept, Answers, Hears, HearsSome}
+use Rattle.shift_hearing.specs.Behind.{AnswersBehind}
 use Rattle.shift_hearing.proofs.HearingLaws.{joined, parted, hears-one, hears-clean, hears-lf, same}
 
 -- what is left of a piece, as a part of it is

@@ -1,6 +1,6 @@
 -- The input of a shift, heard byte by byte: an LF has the line before it answered. So the answers to an input are
 -- those of its lines, one after the other, whatever pieces it comes in.
-use Prim.Native.Nat.{ℕ, _+_, _≤_, _<_}
+use Prim.Native.Nat.{ℕ, _≤_, _<_}
 use mathlib.Core.Path.{_≡_}
 use mathlib.Core.Bool.{Bool, true, false}
 use mathlib.Core.List.{List, [], _∷_, _++_}
@@ -39,18 +39,6 @@ pub record Answers (s : Standing) (text : List ℕ) (t : Standing) : Type 0 wher
   pub len : t .len ≡ 0
   pub line : t .line ≡ s .line
 
--- this many bytes of answers leave room for another: one has at most 53,248 bytes, and 65,536 are lent
-abbrev pub enough : ℕ
-enough = 12288
-
--- a line's turn, its answer put behind those before it, at `at`
-pub record AnswersBehind (from : Shift) (line room room′ answer answer′ out : List ℕ) (at : ℕ) (after : List ℕ) (r : Turn) : Type 0 where
-  pub turn : Turn
-  pub turns : Turns (from .phase) (from .cell) line room room′ answer answer′ turn
-  pub shift : r .shift ≡ turn .shift
-  pub put : Written out at (take (turn .at) answer′) after (r .at)
-  pub uncut : at ≤ enough → r .at ≡ at + length (take (turn .at) answer′)
-
 -- a byte, where it is LF or not
 abbrev pub HearsByte : Bool → ℕ → Standing → List ℕ → Standing → Type 0
 HearsByte true b s text t = Answers s text t
@@ -62,6 +50,10 @@ abbrev pub Hears : Standing → List ℕ → List ℕ → Standing → Type 0
 Hears s [] text t = (text ≡ []) × (t ≡ s)
 Hears s (b ∷ input) text t =
     (m : Standing) × (x : List ℕ) × (y : List ℕ) × HearsByte (eqb b lf) b s x m × Hears m input y t × (text ≡ x ++ y)
+
+-- this many bytes of answers leave room for another: one has at most 53,248 bytes, and 65,536 are lent
+abbrev pub enough : ℕ
+enough = 12288
 
 -- the first `taken` bytes of a piece are heard: what they answer stands at the start of `out`, `at` bytes, uncut; the
 -- answers to any fewer of them have at most `enough` bytes

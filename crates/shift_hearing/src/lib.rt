@@ -4,7 +4,8 @@ use shift_turns::Shift;
 use shift_turns::Turn;
 ghost use lib.ListN.{take};
 ghost use Rattle.shift_turns.specs.Turns.{Ends};
-ghost use Rattle.shift_hearing.specs.Hearing.{standing, AnswersBehind, HearsPiece};
+ghost use Rattle.shift_hearing.specs.Behind.{AnswersBehind};
+ghost use Rattle.shift_hearing.specs.Hearing.{standing, HearsPiece};
 
 // The shift after what was heard, how many bytes of the next line stand in the room for it, how many bytes of the
 // piece were taken, and how many the answers have.
