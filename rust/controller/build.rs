@@ -1,5 +1,5 @@
-//! Links libcontroller.a, which `rt staticlib controller` writes, from the folder that LUFFGRAVEL_LIB names, else from the repository's
-//! target/staticlib.
+//! Links libcontroller.a, which `rt staticlib controller` writes, from the folder that LUFFGRAVEL_LIB names, else from
+//! the repository's target/staticlib.
 
 use std::path::{Path, PathBuf};
 use std::{env, process};

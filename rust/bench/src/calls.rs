@@ -1,5 +1,6 @@
-//! Calls on a cell, as its list of packets and its schedule fill. The proved functions are called a hundred or a thousand times from within and
-//! once or not at all, and the difference is divided: a cell cannot be handed to them from here.
+//! Calls on a cell, as its list of packets and its schedule fill. The proved functions are called a hundred or a
+//! thousand times from within and once or not at all, and the difference is divided: a cell cannot be handed to them
+//! from here.
 
 use std::hint::black_box;
 
@@ -45,8 +46,8 @@ fn submission(place: u32, packet: u32, channel: u32) -> Submission {
     Submission { place, packet, function: 0o02, channel, x: place, h: 0 }
 }
 
-/// A cell with sixteen jobs in which so many packets are listed, all on channel 0: there the job in place p holds unit p. None of them is packet 0
-/// of place 0.
+/// A cell with sixteen jobs in which so many packets are listed, all on channel 0: there the job in place p holds unit
+/// p. None of them is packet 0 of place 0.
 fn loaded(configuration: &str, deck: &str, listed: u8) -> Cell {
     let mut cell = fresh(configuration, deck);
     for _ in 0..16 {

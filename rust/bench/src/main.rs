@@ -1,6 +1,6 @@
-//! Times of the ordinary implementation and of the proved functions on the same input, in processor time of this thread, so that other work on
-//! the machine does not count. Each figure is the lowest of several samples, each of as many runs as take some milliseconds. That both answer
-//! the same is checked before anything is timed.
+//! Times of the ordinary implementation and of the proved functions on the same input, in processor time of this
+//! thread, so that other work on the machine does not count. Each figure is the lowest of several samples, each of as
+//! many runs as take some milliseconds. That both answer the same is checked before anything is timed.
 
 mod calls;
 mod proved;

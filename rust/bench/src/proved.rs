@@ -1,4 +1,5 @@
-//! The proved functions that `native.sh` exports. A slice is its pointer and its length, an array its pointer, a `bool` is a `bool`.
+//! The proved functions that `native.sh` exports. A slice is its pointer and its length, an array its pointer, a
+//! `bool` is a `bool`.
 
 /// The room for a deck's text.
 pub type Room = [u8; 53_248];
@@ -45,7 +46,8 @@ mod native {
         ) -> bool;
     }
 
-    // SAFETY, for all of these: the proved functions read and write within the slices that they are lent, and keep none.
+    // SAFETY, for all of these: the proved functions read and write within the slices that they are lent, and keep
+    // none.
 
     pub fn deck(deck: &[u8], out: &mut Room) -> usize {
         unsafe { luffgravel_deck(deck.as_ptr(), deck.len(), out.as_mut_ptr()) }

@@ -1,7 +1,8 @@
 //! The proved functions of the crate `controller` (crates/controller at the repository's top), behind safe Rust.
 //!
-//! They are linked from libcontroller.a, which `rt staticlib controller` writes. What each promises is proved of the function itself; that it is declared
-//! here as it is exported there is not, and stands on this file, docs/LINKING.md and the tests.
+//! They are linked from libcontroller.a, which `rt staticlib controller` writes. What each promises is proved of the
+//! function itself; that it is declared here as it is exported there is not, and stands on this file, docs/LINKING.md
+//! and the tests.
 
 #![no_std]
 
@@ -22,10 +23,12 @@ mod exported {
     }
 }
 
-// SAFETY, for all of these: a Rust slice or reference is what the exported function's parameter is, never null, valid for its length, and a `&mut` overlaps
-// nothing else that is lent. The proved functions read and write within what they are lent, keep none of it and end.
+// SAFETY, for all of these: a Rust slice or reference is what the exported function's parameter is, never null, valid
+// for its length, and a `&mut` overlaps nothing else that is lent. The proved functions read and write within what
+// they are lent, keep none of it and end.
 
-/// Puts the listing of a configuration into lent room and answers its length. A room that is too short gets what fits; every byte behind it is kept.
+/// Puts the listing of a configuration into lent room and answers its length. A room that is too short gets what fits;
+/// every byte behind it is kept.
 pub fn listing_into(config: &[u8], room: &mut [u8]) -> usize {
     unsafe { exported::luffgravel_listing(config.as_ptr(), config.len(), room.as_mut_ptr(), room.len()) }
 }
@@ -47,7 +50,8 @@ pub fn bad_line(config: &[u8]) -> Option<NonZeroUsize> {
     NonZeroUsize::new(unsafe { exported::luffgravel_bad_line(config.as_ptr(), config.len()) })
 }
 
-/// Whether a function code is legal on channels of a kind, which goes by its code, as `*b"MT"`. None is on letters that are no kind's.
+/// Whether a function code is legal on channels of a kind, which goes by its code, as `*b"MT"`. None is on letters
+/// that are no kind's.
 pub fn is_legal(kind: [u8; 2], function: u8) -> bool {
     unsafe { exported::luffgravel_is_legal(kind[0], kind[1], function) }
 }
@@ -59,7 +63,8 @@ pub struct Starts {
     pub db: u32,
 }
 
-/// The lowest IB start, and for it the lowest DB start, at which the blocks are free and apart. A set bit of the word is a taken block.
+/// The lowest IB start, and for it the lowest DB start, at which the blocks are free and apart. A set bit of the word
+/// is a taken block.
 pub fn core_starts(taken: u32, ib: u32, db: u32) -> Option<Starts> {
     let mut starts = Starts { ib: 0, db: 0 };
     let found = unsafe { exported::luffgravel_core(taken, ib, db, &mut starts.ib, &mut starts.db) };

@@ -1,4 +1,5 @@
-//! The linked functions answer what `ordinary` answers: the public cases, every function code on every pair of letters, and core of every size asked of many words.
+//! The linked functions answer what `ordinary` answers: the public cases, every function code on every pair of
+//! letters, and core of every size asked of many words.
 
 use std::fs;
 use std::num::NonZeroUsize;

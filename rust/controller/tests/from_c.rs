@@ -1,5 +1,5 @@
-//! The header and the archive as a C program has them: `answer.c` is compiled with this machine's C compiler, without a warning, and its answers are those of
-//! the Rust side.
+//! The header and the archive as a C program has them: `answer.c` is compiled with this machine's C compiler, without
+//! a warning, and its answers are those of the Rust side.
 
 use std::fs;
 use std::io::Write;
