@@ -11,12 +11,20 @@ use schedule_list::Schedule;
 ghost use mathlib.Core.Path.{_≡_};
 ghost use Rattle.schedule_list.specs.InSchedule.{inSchedule};
 ghost use Rattle.schedule.specs.Calls.{sameThere, clashError, entering, released, deleted, taken, closing, returned, refused, done};
-ghost use Rattle.schedule.specs.ByIndex.{barredAt};
+ghost use Rattle.schedule.specs.ByIndex.{barredAt, clashBy, judged, placed};
 
 // What entering a request answers: an error and the schedule as it was, or the schedule with the request.
 pub struct Entering {
     pub verdict: Verdict,
     pub schedule: Schedule,
+}
+
+// What entering a request answers, without the schedule: the verdict; whether none has its ID, and the index of the
+// first that does not precede it.
+pub struct Judged {
+    pub verdict: Verdict,
+    pub fresh: bool,
+    pub at: usize,
 }
 
 // What release and delete answer: a refusal and the schedule as it was, or the schedule that follows.
@@ -89,6 +97,58 @@ pub fn enter(schedule: Schedule, request: Request) -> Entering
         verdict: Verdict::Good,
         schedule: next,
     }
+}
+
+// What bars a request from joining those that it meets.
+fn clash_by(ranked: bool, keyed: bool, sequence: u8, count: usize) -> Verdict
+    ensures { λ r. ⌜ r ≡ clashBy ranked keyed sequence count ⌝ }
+{
+    if ranked {
+        if sequence == 0 {
+            return Verdict::Wrong(CardError::SamePriority);
+        }
+    }
+    if keyed {
+        return Verdict::Wrong(CardError::SameSequence);
+    }
+    if 64 <= count {
+        return Verdict::Wrong(CardError::ScheduleFull);
+    }
+    Verdict::Good
+}
+
+// What `enter` answers of a request, and what `placed` asks: one pass over the schedule, and no schedule handed back.
+pub fn judge(schedule: Schedule, request: Request) -> Judged
+    ensures { λ r. ⌜ r ≡ judged schedule request ⌝ }
+{
+    let seen = schedule_list::meets(schedule, request);
+    if seen.named {
+        let answer = enter(schedule, request);
+        let verdict = answer.verdict;
+        return Judged {
+            verdict,
+            fresh: false,
+            at: seen.at,
+        };
+    }
+    let n = schedule_list::size(schedule);
+    Judged {
+        verdict: clash_by(seen.ranked, seen.keyed, request.sequence, n),
+        fresh: true,
+        at: seen.at,
+    }
+}
+
+// The schedule with a request that was judged good: in front of the one at the index where none has its ID, else as
+// `enter` has it.
+pub fn placed(schedule: Schedule, request: Request, fresh: bool, at: usize) -> Schedule
+    ensures { λ r. ⌜ r ≡ placed schedule request fresh at ⌝ }
+{
+    if fresh {
+        return schedule_list::inserted_at(schedule, at, schedule_entries::new_entry(request));
+    }
+    let answer = enter(schedule, request);
+    answer.schedule
 }
 
 // A refusal, and the schedule as it was.

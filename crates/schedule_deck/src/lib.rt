@@ -171,14 +171,16 @@ fn put_groups(out: &mut [u8], part: &[u8], start: Progress) -> Step
         let verdict = reading.verdict;
         if cards::is_good(verdict) {
             let request = reading.request;
-            let answer = schedule::enter(schedule, request);
-            let entered = answer.verdict;
+            let judged = schedule::judge(schedule, request);
+            let entered = judged.verdict;
             at = put_verdict(out, at, own, entered);
-            let then = answer.schedule;
-            schedule = then;
             let id = request.id;
             let good = last_by(entered, last, id);
             last = good;
+            if cards::is_good(entered) {
+                let next = schedule::placed(schedule, request, judged.fresh, judged.at);
+                schedule = next;
+            }
         } else {
             at = put_verdict(out, at, own, verdict);
         }

@@ -1,9 +1,11 @@
+-- `schedule_deck::put_groups` meets its contract. Assumes nothing.
 use mathlib.Core.Path.{refl, _∙_}
 use mathlib.Core.Logic.{⊎-elim}
 use Prim.Native.Nat.{_-_}
 use native.Mathlib.Omega.{arith}
 use lib.ListN.{length}
 use Rattle.text.proofs.RoomLaws.{same-room}
+use Rattle.schedule.proofs.Placing.{judged-good, judged-wrong}
 use Rattle.schedule_deck.specs.declared.Progress.{Progress}
 use Rattle.schedule_deck.proofs.Pieces.{group-read, tried-good, tried-bad, last-kept}
 use Rattle.schedule_deck.proofs.InTurn.{AtGroups, groups-start, groups-turn, groups-meet, groups-over, groups-end, group-within}
@@ -16,7 +18,8 @@ use Rattle.cards.proofs.is_good.Reads as is-good-reads
 use Rattle.cards_fields.proofs.deck.card_at.Reads as card-at-reads
 use Rattle.cards_fields.proofs.deck.first_group.Reads as first-group-reads
 use Rattle.cards_group.proofs.read_group.Reads as read-group-reads
-use Rattle.schedule.proofs.enter.Reads as enter-reads
+use Rattle.schedule.proofs.judge.Reads as judge-reads
+use Rattle.schedule.proofs.placed.Reads as placed-reads
 use Rattle.schedule_deck.proofs.last_by.Reads as last-by-reads
 use Rattle.schedule_deck.proofs.put_verdict.Reads as put-verdict-reads
 use Rattle.schedule_deck.proofs.shown_by.Reads as shown-by-reads
@@ -64,14 +67,20 @@ read-group-requires c κs = search needs
 is-good-requires : tie.Need-is-good-requires Inv-loop μ-loop
 is-good-requires c κs = search needs
 
-enter-requires : tie.Need-enter-requires Inv-loop μ-loop
-enter-requires c κs = search needs
+judge-requires : tie.Need-judge-requires Inv-loop μ-loop
+judge-requires c κs = search needs
 
 put-verdict-requires : tie.Need-put-verdict-requires Inv-loop μ-loop
 put-verdict-requires c κs = search needs
 
 last-by-requires : tie.Need-last-by-requires Inv-loop μ-loop
 last-by-requires c κs = search needs
+
+is-good-requires-2 : tie.Need-is-good-requires-2 Inv-loop μ-loop
+is-good-requires-2 c κs = search needs
+
+placed-requires : tie.Need-placed-requires Inv-loop μ-loop
+placed-requires c κs = search needs
 
 put-verdict-requires-2 : tie.Need-put-verdict-requires-2 Inv-loop μ-loop
 put-verdict-requires-2 c κs = search needs
@@ -85,8 +94,10 @@ loop-less c = omega (arith, group-within (c .before .before .before .before .bef
 loop-again : tie.Need-loop-again Inv-loop μ-loop
 loop-again c = let p : Progress = record { schedule = c .before .before .before .before .before .before .before .before .before .loop .schedule; shown = c .before .before .before .before .before .before .before .before .before .loop .shown; last = c .before .before .before .before .before .before .before .before .before .loop .last } in
     ⊎-elim
-    (λ w. groups-meet (w .10) (w .11) (w .12) (w .13) (groups-turn (c .before .before .before .before .before .before .before .before .before .loop .inv) (c .before .before .before .before .before .before .first-group .ensures) (c .before .before .before .before .before .before .before .before .loop-test .taken) (c .before .before .before .before .before .if1 .left) (group-read p _ (c .before .before .before .before .card-at .ensures) (c .before .before .before .shown-by .ensures) (c .before .before .read-group .ensures) (w .2 .ensures ∙ tried-good (c .before .before .before .before .before .before .before .before .before .loop .schedule) (c .before .before .read-group .result) (c .before .is-good .ensures) (w .0 .taken)) (w .9 .ensures) (w .4 .ensures))))
-    (λ w. groups-meet (w .5) (w .6) (w .7) (w .8) (groups-turn (c .before .before .before .before .before .before .before .before .before .loop .inv) (c .before .before .before .before .before .before .first-group .ensures) (c .before .before .before .before .before .before .before .before .loop-test .taken) (c .before .before .before .before .before .if1 .left) (group-read p _ (c .before .before .before .before .card-at .ensures) (c .before .before .before .shown-by .ensures) (c .before .before .read-group .ensures) (tried-bad (c .before .before .before .before .before .before .before .before .before .loop .schedule) (c .before .before .read-group .result) (c .before .is-good .ensures) (w .0 .left)) (last-kept (c .before .before .read-group .result .verdict) (c .before .before .before .before .before .before .before .before .before .loop .last) _ (c .before .is-good .ensures) (w .0 .left)) (w .2 .ensures))))
+    (λ w. groups-meet (w .12) (w .13) (w .14) (w .15) (groups-turn (c .before .before .before .before .before .before .before .before .before .loop .inv) (c .before .before .before .before .before .before .first-group .ensures) (c .before .before .before .before .before .before .before .before .loop-test .taken) (c .before .before .before .before .before .if1 .left) (group-read p _ (c .before .before .before .before .card-at .ensures) (c .before .before .before .shown-by .ensures) (c .before .before .read-group .ensures) (judged-good (c .before .before .before .before .before .before .before .before .before .loop .schedule) (c .before .before .read-group .result .request) (w .2 .ensures) (w .9 .ensures) (w .10 .taken) (w .11 .ensures) ∙ tried-good (c .before .before .before .before .before .before .before .before .before .loop .schedule) (c .before .before .read-group .result) (c .before .is-good .ensures) (w .0 .taken)) (w .8 .ensures) (w .4 .ensures))))
+    (⊎-elim
+    (λ w. groups-meet (w .11) (w .12) (w .13) (w .14) (groups-turn (c .before .before .before .before .before .before .before .before .before .loop .inv) (c .before .before .before .before .before .before .first-group .ensures) (c .before .before .before .before .before .before .before .before .loop-test .taken) (c .before .before .before .before .before .if1 .left) (group-read p _ (c .before .before .before .before .card-at .ensures) (c .before .before .before .shown-by .ensures) (c .before .before .read-group .ensures) (judged-wrong (c .before .before .before .before .before .before .before .before .before .loop .schedule) (c .before .before .read-group .result .request) (w .2 .ensures) (w .9 .ensures) (w .10 .left) ∙ tried-good (c .before .before .before .before .before .before .before .before .before .loop .schedule) (c .before .before .read-group .result) (c .before .is-good .ensures) (w .0 .taken)) (w .8 .ensures) (w .4 .ensures))))
+    (λ w. groups-meet (w .5) (w .6) (w .7) (w .8) (groups-turn (c .before .before .before .before .before .before .before .before .before .loop .inv) (c .before .before .before .before .before .before .first-group .ensures) (c .before .before .before .before .before .before .before .before .loop-test .taken) (c .before .before .before .before .before .if1 .left) (group-read p _ (c .before .before .before .before .card-at .ensures) (c .before .before .before .shown-by .ensures) (c .before .before .read-group .ensures) (tried-bad (c .before .before .before .before .before .before .before .before .before .loop .schedule) (c .before .before .read-group .result) (c .before .is-good .ensures) (w .0 .left)) (last-kept (c .before .before .read-group .result .verdict) (c .before .before .before .before .before .before .before .before .before .loop .last) _ (c .before .is-good .ensures) (w .0 .left)) (w .2 .ensures)))))
     (c .if2 .came)
 
 step-to-requires-2 : tie.Need-step-to-requires-2 Inv-loop μ-loop
@@ -116,9 +127,11 @@ put-groups-spec =
     shown-by-requires
     read-group-requires
     is-good-requires
-    enter-requires
+    judge-requires
     put-verdict-requires
     last-by-requires
+    is-good-requires-2
+    placed-requires
     put-verdict-requires-2
     add-from
     loop-less

@@ -1,0 +1,35 @@
+-- `schedule::placed` meets its contract: by whether there is one of the ID. Assumes nothing.
+use mathlib.Core.Path.{ap, _∙_}
+use Rattle.schedule_entries.specs.declared.Entry.{Entry}
+use Rattle.schedule_list.specs.Queries.{insertedAt}
+use Rattle.schedule.specs.ByIndex.{placed}
+use Rattle.schedule.specs.declared.Entering.{Entering}
+use borrow.Author.Needs.{needs}
+use Rattle.schedule.proofs.placed.Statement.{statement}
+use Rattle.schedule.proofs.placed.Tie as tie
+use Rattle.schedule.proofs.placed.Reads as reads
+use Rattle.schedule.proofs.placed.Lts as lts
+use Rattle.schedule.proofs.enter.Reads as enter-reads
+use Rattle.schedule_entries.proofs.new_entry.Reads as new-entry-reads
+use Rattle.schedule_list.proofs.inserted_at.Reads as inserted-at-reads
+
+new-entry-requires : tie.Need-new-entry-requires
+new-entry-requires c κs = search needs
+
+inserted-at-requires : tie.Need-inserted-at-requires
+inserted-at-requires c κs = search needs
+
+returns : tie.Need-returns
+unfolding placed
+returns c = rw (c .before .before .if1 .taken) (c .inserted-at .ensures ∙ ap (λ (e : Entry). insertedAt (c .before .before .before .args .schedule) (c .before .before .before .args .at) e) (c .before .new-entry .ensures))
+
+enter-requires : tie.Need-enter-requires
+enter-requires c κs = search needs
+
+returns-2 : tie.Need-returns-2
+unfolding placed
+returns-2 c = rw (c .before .before .if1 .left) (ap (λ (a : Entering). a .schedule) (c .before .enter .ensures))
+
+pub placed-spec : {M : Type 1} → statement M
+placed-spec =
+    tie.close (tie.spec new-entry-requires inserted-at-requires returns enter-requires returns-2)
