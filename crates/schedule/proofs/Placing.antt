@@ -90,10 +90,9 @@ module _ (s : Schedule) (r : Request) {m : Met} (is : m ≡ met (inSchedule s) r
   named-is : {b : Bool} → m .named ≡ b → met (inSchedule s) r .named ≡ b
   named-is e = ap (λ (x : Met). x .named) (sym is) ∙ e
 
-  pub judged-named : m .named ≡ true → {a : Entering} → a ≡ entering s r → record { verdict = a .verdict; fresh = false; at = m .at } ≡ judged s r
+  pub judged-named : m .named ≡ true → {v : Verdict} → v ≡ entering s r .verdict → record { verdict = v; fresh = false; at = m .at } ≡ judged s r
   unfolding judged
-  judged-named e {a} f =
-      let v : a .verdict ≡ entering s r .verdict = ap (λ (x : Entering). x .verdict) f in
+  judged-named e v =
       let g : false ≡ not (met (inSchedule s) r .named) = ap not (sym (named-is e)) in
       let k : m .at ≡ met (inSchedule s) r .at = ap (λ (x : Met). x .at) is in
       λ j. record { verdict = v j; fresh = g j; at = k j }

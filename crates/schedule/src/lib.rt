@@ -117,16 +117,31 @@ fn clash_by(ranked: bool, keyed: bool, sequence: u8, count: usize) -> Verdict
     Verdict::Good
 }
 
+// What `enter` answers, without the schedule. The two stand by themselves so that a schedule is copied for `enter` only
+// where a request has the ID of one there.
+fn verdict_on(schedule: Schedule, request: Request) -> Verdict
+    ensures { λ r. ⌜ r ≡ entering schedule request .verdict ⌝ }
+{
+    let answer = enter(schedule, request);
+    answer.verdict
+}
+
+// The schedule that `enter` answers.
+fn schedule_with(schedule: Schedule, request: Request) -> Schedule
+    ensures { λ r. ⌜ r ≡ entering schedule request .schedule ⌝ }
+{
+    let answer = enter(schedule, request);
+    answer.schedule
+}
+
 // What `enter` answers of a request, and what `placed` asks: one pass over the schedule, and no schedule handed back.
 pub fn judge(schedule: Schedule, request: Request) -> Judged
     ensures { λ r. ⌜ r ≡ judged schedule request ⌝ }
 {
     let seen = schedule_list::meets(schedule, request);
     if seen.named {
-        let answer = enter(schedule, request);
-        let verdict = answer.verdict;
         return Judged {
-            verdict,
+            verdict: verdict_on(schedule, request),
             fresh: false,
             at: seen.at,
         };
@@ -147,8 +162,7 @@ pub fn placed(schedule: Schedule, request: Request, fresh: bool, at: usize) -> S
     if fresh {
         return schedule_list::inserted_at(schedule, at, schedule_entries::new_entry(request));
     }
-    let answer = enter(schedule, request);
-    answer.schedule
+    schedule_with(schedule, request)
 }
 
 // A refusal, and the schedule as it was.

@@ -13,11 +13,11 @@ use Rattle.schedule_list.proofs.size.Reads as size-reads
 meets-requires : tie.Need-meets-requires
 meets-requires c κs = search needs
 
-enter-requires : tie.Need-enter-requires
-enter-requires c κs = search needs
+verdict-on-requires : tie.Need-verdict-on-requires
+verdict-on-requires c κs = search needs
 
 returns : tie.Need-returns
-returns c = judged-named (c .before .before .before .args .schedule) (c .before .before .before .args .request) (c .before .before .meets .ensures) (c .before .if1 .taken) (c .enter .ensures)
+returns c = judged-named (c .before .before .before .args .schedule) (c .before .before .before .args .request) (c .before .before .meets .ensures) (c .before .if1 .taken) (c .verdict-on .ensures)
 
 size-requires : tie.Need-size-requires
 size-requires c κs = search needs
@@ -31,4 +31,4 @@ returns-2 c = judged-fresh (c .before .before .before .before .args .schedule) (
 pub judge-spec : {M : Type 1} → statement M
 judge-spec =
     tie.close
-    (tie.spec meets-requires enter-requires returns size-requires clash-by-requires returns-2)
+    (tie.spec meets-requires verdict-on-requires returns size-requires clash-by-requires returns-2)

@@ -23,13 +23,14 @@ returns : tie.Need-returns
 unfolding placed
 returns c = rw (c .before .before .if1 .taken) (c .inserted-at .ensures ∙ ap (λ (e : Entry). insertedAt (c .before .before .before .args .schedule) (c .before .before .before .args .at) e) (c .before .new-entry .ensures))
 
-enter-requires : tie.Need-enter-requires
-enter-requires c κs = search needs
+schedule-with-requires : tie.Need-schedule-with-requires
+schedule-with-requires c κs = search needs
 
 returns-2 : tie.Need-returns-2
 unfolding placed
-returns-2 c = rw (c .before .before .if1 .left) (ap (λ (a : Entering). a .schedule) (c .before .enter .ensures))
+returns-2 c = rw (c .before .if1 .left) (c .schedule-with .ensures)
 
 pub placed-spec : {M : Type 1} → statement M
 placed-spec =
-    tie.close (tie.spec new-entry-requires inserted-at-requires returns enter-requires returns-2)
+    tie.close
+    (tie.spec new-entry-requires inserted-at-requires returns schedule-with-requires returns-2)
