@@ -10,6 +10,7 @@ use lib.Seq.{drop-cons}
 use borrow.Author.Tests.{le-leb, lt-leb}
 use Rattle.numbers.proofs.Tests.{never}
 use Rattle.text.specs.Room.{Written}
+use Rattle.text.proofs.RoomLaws.{Going, turn}
 use Rattle.text.specs.Class.{isAlnum}
 use Rattle.words.specs.Words.{every}
 use Rattle.cards_fields.specs.Fields.{field, isPty, padded, fieldOf}
@@ -32,8 +33,12 @@ use Rattle.schedule_deck.specs.declared.Step.{Step}
 use Rattle.schedule_deck.specs.declared.Progress.{Progress}
 
 -- one request of the schedule further
-pub lines-turn : (es : List Entry) (i : ℕ) {e : Entry} → i < length es → e ≡ getD es i blank → scheduleText (drop i es) ≡ requestLine (e .request) ++ scheduleText (drop (i + 1) es)
+lines-turn : (es : List Entry) (i : ℕ) {e : Entry} → i < length es → e ≡ getD es i blank → scheduleText (drop i es) ≡ requestLine (e .request) ++ scheduleText (drop (i + 1) es)
 lines-turn es i h a = rw (a, add-one i, drop-cons es i blank h)
+
+pub lines-on : {room₀ whole room out : List ℕ} {at₀ at next : ℕ} (es : List Entry) (i : ℕ) {e : Entry} → i < length es → e ≡ getD es i blank
+    → Going room₀ at₀ whole room at (scheduleText (drop i es)) → Written room at (requestLine (e .request)) out next → Going room₀ at₀ whole out next (scheduleText (drop (i + 1) es))
+lines-on es i h a g w = turn (rw (lines-turn es i h a) at g) w
 
 pub lines-end : (es : List Entry) (i : ℕ) → length es ≤ i → scheduleText (drop i es) ≡ []
 lines-end es i h = rw (drop-of-length-le es h)

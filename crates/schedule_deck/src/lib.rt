@@ -83,15 +83,16 @@ fn put_request(out: &mut [u8], at: usize, request: Request) -> usize
     text::put_byte(out, c, b'\n')
 }
 
-// Puts the lines of the schedule.
+// Puts the lines of the schedule. The array is taken out once: `entry_at` would copy it for each line.
 fn put_schedule(out: &mut [u8], at: usize, schedule: Schedule) -> usize
     ensures { λ r. ⌜ Written (now (out .entry)) at (scheduleText (inSchedule schedule)) (now (out .exit)) r ⌝ }
 {
     let n = schedule_list::size(schedule);
+    let list = schedule.entries;
     let mut next = at;
     let mut i: usize = 0;
     while i < n {
-        let entry = schedule_list::entry_at(schedule, i);
+        let entry = list[i];
         let request = entry.request;
         next = put_request(out, next, request);
         i += 1;
