@@ -3,12 +3,6 @@ use Rattle.schedule_deck.proofs.Bounds.{whole-within, whole-length}
 use borrow.Author.Needs.{needs}
 use Rattle.cases_deck.proofs.agrees.Statement.{statement}
 use Rattle.cases_deck.proofs.agrees.Tie as tie
-use Rattle.cases_deck.proofs.agrees.Reads as reads
-use Rattle.cases_deck.proofs.agrees.Lts as lts
-use Rattle.cases.proofs.load.Reads as load-reads
-use Rattle.check.proofs.same.Reads as same-reads
-use Rattle.io.proofs.large_buffer.Reads as large-buffer-reads
-use Rattle.schedule_deck.proofs.report.Reads as report-reads
 
 large-buffer-requires : tie.Need-large-buffer-requires
 large-buffer-requires c κs = search needs

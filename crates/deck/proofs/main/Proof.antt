@@ -3,12 +3,6 @@ use Rattle.schedule_deck.proofs.Bounds.{whole-within, whole-length}
 use borrow.Author.Needs.{needs}
 use Rattle.deck.proofs.main.Statement.{statement}
 use Rattle.deck.proofs.main.Tie as tie
-use Rattle.deck.proofs.main.Reads as reads
-use Rattle.deck.proofs.main.Lts as lts
-use Rattle.io.proofs.large_buffer.Reads as large-buffer-reads
-use Rattle.io.proofs.read_full.Reads as read-full-reads
-use Rattle.io.proofs.write_all.Reads as write-all-reads
-use Rattle.schedule_deck.proofs.report.Reads as report-reads
 
 large-buffer-requires : tie.Need-large-buffer-requires
 large-buffer-requires c κs = search needs

@@ -3,12 +3,6 @@ use Rattle.schedule.proofs.Placing.{judged-named, judged-fresh}
 use borrow.Author.Needs.{needs}
 use Rattle.schedule.proofs.judge.Statement.{statement}
 use Rattle.schedule.proofs.judge.Tie as tie
-use Rattle.schedule.proofs.judge.Reads as reads
-use Rattle.schedule.proofs.judge.Lts as lts
-use Rattle.schedule.proofs.clash_by.Reads as clash-by-reads
-use Rattle.schedule.proofs.enter.Reads as enter-reads
-use Rattle.schedule_list.proofs.meets.Reads as meets-reads
-use Rattle.schedule_list.proofs.size.Reads as size-reads
 
 meets-requires : tie.Need-meets-requires
 meets-requires c κs = search needs

@@ -7,11 +7,6 @@ use Rattle.schedule.specs.declared.Entering.{Entering}
 use borrow.Author.Needs.{needs}
 use Rattle.schedule.proofs.placed.Statement.{statement}
 use Rattle.schedule.proofs.placed.Tie as tie
-use Rattle.schedule.proofs.placed.Reads as reads
-use Rattle.schedule.proofs.placed.Lts as lts
-use Rattle.schedule.proofs.enter.Reads as enter-reads
-use Rattle.schedule_entries.proofs.new_entry.Reads as new-entry-reads
-use Rattle.schedule_list.proofs.inserted_at.Reads as inserted-at-reads
 
 new-entry-requires : tie.Need-new-entry-requires
 new-entry-requires c κs = search needs

@@ -3,10 +3,6 @@ use Rattle.schedule_deck.proofs.InTurn.{part-long, good-entered, refuse
 use borrow.Author.Needs.{needs}
 use Rattle.schedule_deck.proofs.enter_deck.Statement.{statement}
 use Rattle.schedule_deck.proofs.enter_deck.Tie as tie
-use Rattle.schedule_deck.proofs.enter_deck.Reads as reads
-use Rattle.schedule_deck.proofs.enter_deck.Lts as lts
-use Rattle.schedule_deck.proofs.put_entered.Reads as put-entered-reads
-use Rattle.cards_fields.proofs.deck.deck_end.Reads as deck-end-reads
 
 deck-end-requires : tie.Need-deck-end-requires
 deck-end-requires c κs = search needs

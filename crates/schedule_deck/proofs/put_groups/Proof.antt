@@ -12,18 +12,6 @@ use Rattle.schedule_deck.proofs.InTurn.{AtGroups, groups-start, groups-
 use borrow.Author.Needs.{needs}
 use Rattle.schedule_deck.proofs.put_groups.Statement.{statement}
 use Rattle.schedule_deck.proofs.put_groups.Tie as tie
-use Rattle.schedule_deck.proofs.put_groups.Reads as reads
-use Rattle.schedule_deck.proofs.put_groups.Lts as lts
-use Rattle.cards.proofs.is_good.Reads as is-good-reads
-use Rattle.cards_fields.proofs.deck.card_at.Reads as card-at-reads
-use Rattle.cards_fields.proofs.deck.first_group.Reads as first-group-reads
-use Rattle.cards_group.proofs.read_group.Reads as read-group-reads
-use Rattle.schedule.proofs.judge.Reads as judge-reads
-use Rattle.schedule.proofs.placed.Reads as placed-reads
-use Rattle.schedule_deck.proofs.last_by.Reads as last-by-reads
-use Rattle.schedule_deck.proofs.put_verdict.Reads as put-verdict-reads
-use Rattle.schedule_deck.proofs.shown_by.Reads as shown-by-reads
-use Rattle.schedule_deck.proofs.step_to.Reads as step-to-reads
 
 abbrev Inv-loop : tie.InvT-loop
 Inv-loop out₀ part schedule₀ shown₀ last₀ at₀ from₀ out schedule shown last at from = AtGroups part out₀ (record { schedule = schedule₀; shown = shown₀; last = last₀ }) out (record { schedule = schedule; shown = shown; last = last }) at from

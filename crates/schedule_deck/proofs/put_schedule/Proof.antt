@@ -12,10 +12,6 @@ use Rattle.schedule_deck.proofs.Pieces.{lines-on, lines-end}
 use borrow.Author.Needs.{needs}
 use Rattle.schedule_deck.proofs.put_schedule.Statement.{statement}
 use Rattle.schedule_deck.proofs.put_schedule.Tie as tie
-use Rattle.schedule_deck.proofs.put_schedule.Reads as reads
-use Rattle.schedule_deck.proofs.put_schedule.Lts as lts
-use Rattle.schedule_deck.proofs.put_request.Reads as put-request-reads
-use Rattle.schedule_list.proofs.size.Reads as size-reads
 
 abbrev Inv-loop : tie.InvT-loop
 Inv-loop out₀ at n list next₀ i₀ out next i = (n ≡ length (take n list)) × ((i ≤ n) × Going out₀ at (scheduleText (take n list)) out next (scheduleText (drop i (take n list))))
