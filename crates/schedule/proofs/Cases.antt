@@ -54,9 +54,6 @@ module _ (s : Schedule) (place : ℕ) {q : Query} {k : ℕ} (e : q ≡ ofPlace p
   pub returned-by : (x : Bool) → returnedAt k s x ≡ returned s place x
   returned-by x = ap (λ (n : ℕ). returnedAt n s x) (job-index (inSchedule s) place e f) ∙ returned-at s place x
 
-pub asked : (hs : List Entry) {q w : Query} {b : Bool} → q ≡ w → b ≡ any (answers (q .question) q) hs → b ≡ any (answers (w .question) w) hs
-asked hs e f = f ∙ ap (λ (q : Query). any (answers (q .question) q) hs) e
-
 -- whether there is a request at an index
 module _ (hs : List Entry) (k : ℕ) {n : ℕ} (size : n ≡ length hs) where
   pub here : k < n → there k hs ≡ true
@@ -124,26 +121,6 @@ module _ (s : Schedule) (k : ℕ) {n : ℕ} (size : n ≡ length (inSchedule s))
     pub return-removes : (x : Bool) → x ≡ true → e .request .sequence < 1 → scheduleOf (without k (inSchedule s)) ≡ returnedAt k s x
     unfolding returnedAt
     return-removes x p q = rw (here (inSchedule s) k size h, p, lt-leb 1 (getD (inSchedule s) k blank .request .sequence) (omega (arith, sequence-is)))
-
--- the errors against the other requests
-module _ (es : List Entry) (r : Request) where
-  pub clash-rank : {b : Bool} → b ≡ sameThere es r → b ≡ true → Wrong SamePriority ≡ clashError es r
-  unfolding clashError
-  clash-rank p q = rw (sym p ∙ q)
-
-  module _ {b : Bool} (p : b ≡ sameThere es r) (q : b ≡ false) where
-    pub clash-key : {c : Bool} → c ≡ any (λ e. sameKey (keyOf (e .request)) (keyOf r)) es → c ≡ true → Wrong SameSequence ≡ clashError es r
-    unfolding clashError
-    clash-key u v = rw (sym p ∙ q, sym u ∙ v)
-
-    module _ {c : Bool} (u : c ≡ any (λ e. sameKey (keyOf (e .request)) (keyOf r)) es) (v : c ≡ false) {n : ℕ} (size : n ≡ length es) where
-      pub clash-full : 64 ≤ n → Wrong ScheduleFull ≡ clashError es r
-      unfolding clashError
-      clash-full h = rw (sym p ∙ q, sym u ∙ v, le-leb 64 (length es) (omega arith))
-
-      pub clash-none : n < 64 → Good ≡ clashError es r
-      unfolding clashError
-      clash-none h = rw (sym p ∙ q, sym u ∙ v, lt-leb 64 (length es) (omega arith))
 
 -- where no error answers, each of the others has another key, and they leave room
 pub clash-clear : (es : List Entry) (r : Request) → clashError es r ≡ Good → (any (λ e. sameKey (keyOf (e .request)) (keyOf r)) es ≡ false) × (leb most (length es) ≡ false)

@@ -61,6 +61,14 @@ module _ (p : Entry → Bool) where
       by true e ih = never refl e
       by false e ih = ap (λ (l : List Entry). x ∷ l) (ih e)
 
+-- what bars a request, by what it meets
+clash-met : (es : List Entry) (r : Request) → clashBy (met es r .ranked) (met es r .keyed) (r .sequence) (length es) ≡ clashError es r
+unfolding clashBy clashError sameThere met
+clash-met es r = refl
+
+pub clash-seen : (es : List Entry) (r : Request) {m : Met} {n : ℕ} {v : Verdict} → m ≡ met es r → n ≡ length es → v ≡ clashBy (m .ranked) (m .keyed) (r .sequence) n → v ≡ clashError es r
+clash-seen es r {m} {n} e l c = c ∙ ap (λ (x : Met). clashBy (x .ranked) (x .keyed) (r .sequence) n) e ∙ ap (λ (k : ℕ). clashBy (met es r .ranked) (met es r .keyed) (r .sequence) k) l ∙ clash-met es r
+
 -- a request whose ID none has
 module _ (s : Schedule) (r : Request) (h : any (isNamed (r .id)) (inSchedule s) ≡ false) where
   fresh-error : enterError (inSchedule s) r ≡ clashError (inSchedule s) r
@@ -68,8 +76,7 @@ module _ (s : Schedule) (r : Request) (h : any (isNamed (r .id)) (inSchedule s) 
   fresh-error = rw (find-not (isNamed (r .id)) (inSchedule s) h, removed-not (isNamed (r .id)) (inSchedule s) h)
 
   pub fresh-clash : clashBy (met (inSchedule s) r .ranked) (met (inSchedule s) r .keyed) (r .sequence) (length (inSchedule s)) ≡ enterError (inSchedule s) r
-  unfolding clashBy clashError sameThere met
-  fresh-clash = sym fresh-error
+  fresh-clash = clash-met (inSchedule s) r ∙ sym fresh-error
 
   abbrev new : Entry
   new = record { request = r; state = firstState r }

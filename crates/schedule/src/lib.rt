@@ -10,7 +10,7 @@ use schedule_entries::State;
 use schedule_list::Schedule;
 ghost use mathlib.Core.Path.{_≡_};
 ghost use Rattle.schedule_list.specs.InSchedule.{inSchedule};
-ghost use Rattle.schedule.specs.Calls.{sameThere, clashError, entering, released, deleted, taken, closing, returned, refused, done};
+ghost use Rattle.schedule.specs.Calls.{clashError, entering, released, deleted, taken, closing, returned, refused, done};
 ghost use Rattle.schedule.specs.ByIndex.{barredAt, clashBy, judged, placed};
 
 // What entering a request answers: an error and the schedule as it was, or the schedule with the request.
@@ -33,30 +33,31 @@ pub struct Changed {
     pub schedule: Schedule,
 }
 
-// Whether a request without sequence has the letter and precedence of one of these.
-fn is_same_there(others: Schedule, request: Request) -> bool
-    ensures { λ r. ⌜ r ≡ sameThere (inSchedule others) request ⌝ }
+// What bars a request, by what it meets: the same priority, the same sequence as well, or that there are 64.
+fn clash_by(ranked: bool, keyed: bool, sequence: u8, count: usize) -> Verdict
+    ensures { λ r. ⌜ r ≡ clashBy ranked keyed sequence count ⌝ }
 {
-    if request.sequence == 0 {
-        return schedule_list::has(others, schedule_list::of_key(Question::Ranked, request));
+    if ranked {
+        if sequence == 0 {
+            return Verdict::Wrong(CardError::SamePriority);
+        }
     }
-    false
-}
-
-// What bars a request from joining these: the same priority, the same sequence as well, or that there are 64.
-fn clash(others: Schedule, request: Request) -> Verdict
-    ensures { λ r. ⌜ r ≡ clashError (inSchedule others) request ⌝ }
-{
-    if is_same_there(others, request) {
-        return Verdict::Wrong(CardError::SamePriority);
-    }
-    if schedule_list::has(others, schedule_list::of_key(Question::Keyed, request)) {
+    if keyed {
         return Verdict::Wrong(CardError::SameSequence);
     }
-    if 64 <= schedule_list::size(others) {
+    if 64 <= count {
         return Verdict::Wrong(CardError::ScheduleFull);
     }
     Verdict::Good
+}
+
+// What bars a request from joining these.
+fn clash(others: Schedule, request: Request) -> Verdict
+    ensures { λ r. ⌜ r ≡ clashError (inSchedule others) request ⌝ }
+{
+    let seen = schedule_list::meets(others, request);
+    let n = schedule_list::size(others);
+    clash_by(seen.ranked, seen.keyed, request.sequence, n)
 }
 
 // Whether the request at an index, where there is one, is not suspended.
@@ -97,24 +98,6 @@ pub fn enter(schedule: Schedule, request: Request) -> Entering
         verdict: Verdict::Good,
         schedule: next,
     }
-}
-
-// What bars a request from joining those that it meets.
-fn clash_by(ranked: bool, keyed: bool, sequence: u8, count: usize) -> Verdict
-    ensures { λ r. ⌜ r ≡ clashBy ranked keyed sequence count ⌝ }
-{
-    if ranked {
-        if sequence == 0 {
-            return Verdict::Wrong(CardError::SamePriority);
-        }
-    }
-    if keyed {
-        return Verdict::Wrong(CardError::SameSequence);
-    }
-    if 64 <= count {
-        return Verdict::Wrong(CardError::ScheduleFull);
-    }
-    Verdict::Good
 }
 
 // What `enter` answers, without the schedule. The two stand by themselves so that a schedule is copied for `enter` only
