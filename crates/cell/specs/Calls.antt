@@ -114,7 +114,10 @@ pub record SelectsIn (cell : Cell) (r : SelectAnswer) : Type 0 where
       Takes (cell .schedule) (cell .lists) (record { selection = r .selection; schedule = r .cell .schedule; lists = r .cell .lists })
 
 -- READ A PACKET'S STATUS: "1 if p or k is out of range"; nothing changes
-abbrev pub statusOf : Cell → ℕ → ℕ → StatusAnswer
-statusOf cell place packet =
-    cond (ltb place 16 && ltb packet 16) (StatusAnswers.Is (packetIn (cell .lists .jobs) place packet .status))
+abbrev pub statusIn : Lists → ℕ → ℕ → StatusAnswer
+statusIn lists place packet =
+    cond (ltb place 16 && ltb packet 16) (StatusAnswers.Is (packetIn (lists .jobs) place packet .status))
     (StatusAnswers.Refused OutOfRange)
+
+abbrev pub statusOf : Cell → ℕ → ℕ → StatusAnswer
+statusOf cell place packet = statusIn (cell .lists) place packet

@@ -17,7 +17,7 @@ use schedule_list::Schedule;
 ghost use mathlib.Core.Path.{_≡_};
 ghost use Rattle.packets.specs.Rules.{Submit, Start, Complete, End, Mark};
 ghost use Rattle.cell.specs.Calls.{freshCell, acted, leftBy, afterCompletion, afterEnd, releasing};
-ghost use Rattle.cell.specs.Calls.{deleting, answerOf, outcomeOf, statusOf, Enters, SelectsIn};
+ghost use Rattle.cell.specs.Calls.{deleting, answerOf, outcomeOf, statusIn, statusOf, Enters, SelectsIn};
 
 pub struct Cell {
     pub schedule: Schedule,
@@ -162,7 +162,7 @@ fn left_by(leaving: Leaving, schedule: Schedule, place: u8, otherwise: Schedule)
 }
 
 // The schedule after a completion: the request of a job whose facilities returned goes or is suspended.
-fn after_completion(schedule: Schedule, answer: Answer) -> Schedule
+pub fn after_completion(schedule: Schedule, answer: Answer) -> Schedule
     ensures { λ r. ⌜ r ≡ afterCompletion schedule answer ⌝ }
 {
     match answer {
@@ -272,9 +272,9 @@ pub fn delete(cell: Cell, id: [u8; 6]) -> Answered
     }
 }
 
-// The status of a packet of a place.
-pub fn status(cell: Cell, place: u8, packet: u8) -> StatusAnswer
-    ensures { λ r. ⌜ r ≡ statusOf cell place packet ⌝ }
+// The status of a packet of a place, by the request lists alone.
+pub fn status_in(lists: Lists, place: u8, packet: u8) -> StatusAnswer
+    ensures { λ r. ⌜ r ≡ statusIn lists place packet ⌝ }
 {
     if 15 < place {
         return StatusAnswer::Refused(Refusal::OutOfRange);
@@ -282,11 +282,18 @@ pub fn status(cell: Cell, place: u8, packet: u8) -> StatusAnswer
     if 15 < packet {
         return StatusAnswer::Refused(Refusal::OutOfRange);
     }
-    let lists = cell.lists;
     let i = place as usize;
     let job = lists.jobs[i];
     let ps = job.packets;
     let found = packets_job::packet_in(ps, packet);
     let status = found.status;
     StatusAnswer::Is(status)
+}
+
+// The status of a packet of a place.
+pub fn status(cell: Cell, place: u8, packet: u8) -> StatusAnswer
+    ensures { λ r. ⌜ r ≡ statusOf cell place packet ⌝ }
+{
+    let lists = cell.lists;
+    status_in(lists, place, packet)
 }

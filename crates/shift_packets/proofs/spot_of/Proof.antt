@@ -1,11 +1,11 @@
--- `shift_reply::spot_of` meets its contract: by the channel, and by whether the number is too large for a unit.
+-- `shift_packets::spot_of` meets its contract: by the channel, and by whether the number is too large for a unit.
 -- Assumes nothing.
 use mathlib.Core.Path.{sym, _∙_}
 use native.Mathlib.Omega.{arith}
-use Rattle.shift_reply.proofs.ReplyLaws.{drum-of, to-drum, to-unit}
+use Rattle.shift_packets.proofs.OnListsLaws.{drum-of, to-drum, to-unit}
 use borrow.Author.Needs.{needs}
-use Rattle.shift_reply.proofs.spot_of.Statement.{statement}
-use Rattle.shift_reply.proofs.spot_of.Tie as tie
+use Rattle.shift_packets.proofs.spot_of.Statement.{statement}
+use Rattle.shift_packets.proofs.spot_of.Tie as tie
 
 fitted-on-requires : tie.Need-fitted-on-requires
 fitted-on-requires c κs = search needs

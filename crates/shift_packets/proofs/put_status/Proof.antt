@@ -1,7 +1,7 @@
--- `shift_reply::put_status` meets its contract. Assumes nothing.
+-- `shift_packets::put_status` meets its contract. Assumes nothing.
 use borrow.Author.Needs.{needs}
-use Rattle.shift_reply.proofs.put_status.Statement.{statement}
-use Rattle.shift_reply.proofs.put_status.Tie as tie
+use Rattle.shift_packets.proofs.put_status.Statement.{statement}
+use Rattle.shift_packets.proofs.put_status.Tie as tie
 
 enum-known-answer : tie.Need-enum-known-answer
 enum-known-answer c = search needs

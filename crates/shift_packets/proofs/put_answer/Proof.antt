@@ -1,7 +1,7 @@
--- `shift_reply::put_answer` meets its contract: each answer has its line. Assumes nothing.
+-- `shift_packets::put_answer` meets its contract: each answer has its line. Assumes nothing.
 use borrow.Author.Needs.{needs}
-use Rattle.shift_reply.proofs.put_answer.Statement.{statement}
-use Rattle.shift_reply.proofs.put_answer.Tie as tie
+use Rattle.shift_packets.proofs.put_answer.Statement.{statement}
+use Rattle.shift_packets.proofs.put_answer.Tie as tie
 
 enum-told : tie.Need-enum-told
 enum-told c = search needs

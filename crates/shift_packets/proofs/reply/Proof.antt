@@ -1,0 +1,220 @@
+use Rattle.text.proofs.RoomLaws.{none}
+use Rattle.shift_packets.proofs.OnListsLaws.{told, gives-as}
+use borrow.Author.Needs.{needs}
+use Rattle.shift_packets.proofs.reply.Statement.{statement}
+use Rattle.shift_packets.proofs.reply.Tie as tie
+use Rattle.shift_packets.proofs.reply.Reads as reads
+use Rattle.shift_packets.proofs.reply.Lts as lts
+use Rattle.cell.proofs.status_in.Reads as status-in-reads
+use Rattle.lists.proofs.complete.Reads as complete-reads
+use Rattle.lists.proofs.mark.Reads as mark-reads
+use Rattle.lists.proofs.start.Reads as start-reads
+use Rattle.shift_packets.proofs.put_status.Reads as put-status-reads
+use Rattle.shift_packets.proofs.submit.Reads as submit-reads
+use Rattle.shift_packets.proofs.unchanged.Reads as unchanged-reads
+use Rattle.shift_packets.proofs.with_answer.Reads as with-answer-reads
+
+enum-told : tie.Need-enum-told
+enum-told c = search needs
+
+unchanged-requires : tie.Need-unchanged-requires
+unchanged-requires c κs = search needs
+
+enum-told-2 : tie.Need-enum-told-2
+enum-told-2 c = search needs
+
+unchanged-requires-2 : tie.Need-unchanged-requires-2
+unchanged-requires-2 c κs = search needs
+
+enum-told-3 : tie.Need-enum-told-3
+enum-told-3 c = search needs
+
+unchanged-requires-3 : tie.Need-unchanged-requires-3
+unchanged-requires-3 c κs = search needs
+
+enum-told-4 : tie.Need-enum-told-4
+enum-told-4 c = search needs
+
+unchanged-requires-4 : tie.Need-unchanged-requires-4
+unchanged-requires-4 c κs = search needs
+
+enum-told-5 : tie.Need-enum-told-5
+enum-told-5 c = search needs
+
+unchanged-requires-5 : tie.Need-unchanged-requires-5
+unchanged-requires-5 c κs = search needs
+
+enum-known-call : tie.Need-enum-known-call
+enum-known-call c = search needs
+
+submit-requires : tie.Need-submit-requires
+submit-requires c κs = search needs
+
+with-answer-requires : tie.Need-with-answer-requires
+with-answer-requires c κs = search needs
+
+enum-known-call-2 : tie.Need-enum-known-call-2
+enum-known-call-2 c = search needs
+
+start-requires : tie.Need-start-requires
+start-requires c κs = search needs
+
+with-answer-requires-2 : tie.Need-with-answer-requires-2
+with-answer-requires-2 c κs = search needs
+
+enum-known-call-3 : tie.Need-enum-known-call-3
+enum-known-call-3 c = search needs
+
+complete-requires : tie.Need-complete-requires
+complete-requires c κs = search needs
+
+with-answer-requires-3 : tie.Need-with-answer-requires-3
+with-answer-requires-3 c κs = search needs
+
+enum-told-6 : tie.Need-enum-told-6
+enum-told-6 c = search needs
+
+unchanged-requires-6 : tie.Need-unchanged-requires-6
+unchanged-requires-6 c κs = search needs
+
+enum-known-call-4 : tie.Need-enum-known-call-4
+enum-known-call-4 c = search needs
+
+mark-requires : tie.Need-mark-requires
+mark-requires c κs = search needs
+
+with-answer-requires-4 : tie.Need-with-answer-requires-4
+with-answer-requires-4 c κs = search needs
+
+enum-told-7 : tie.Need-enum-told-7
+enum-told-7 c = search needs
+
+unchanged-requires-7 : tie.Need-unchanged-requires-7
+unchanged-requires-7 c κs = search needs
+
+enum-told-8 : tie.Need-enum-told-8
+enum-told-8 c = search needs
+
+unchanged-requires-8 : tie.Need-unchanged-requires-8
+unchanged-requires-8 c κs = search needs
+
+enum-known-call-5 : tie.Need-enum-known-call-5
+enum-known-call-5 c = search needs
+
+status-in-requires : tie.Need-status-in-requires
+status-in-requires c κs = search needs
+
+put-status-requires : tie.Need-put-status-requires
+put-status-requires c κs = search needs
+
+unchanged-requires-9 : tie.Need-unchanged-requires-9
+unchanged-requires-9 c κs = search needs
+
+returns : tie.Need-returns
+returns c = rw (c .before .enum-told .given .1) (told (c .unchanged .ensures) (none (c .before .before .before .before .args .out .now) 0))
+
+returns-2 : tie.Need-returns-2
+returns-2 c = rw (c .before .enum-told2 .given .1) (told (c .unchanged2 .ensures) (none (c .before .before .before .before .args .out .now) 0))
+
+returns-3 : tie.Need-returns-3
+returns-3 c = rw (c .before .enum-told3 .given .1) (told (c .unchanged3 .ensures) (none (c .before .before .before .before .args .out .now) 0))
+
+returns-4 : tie.Need-returns-4
+returns-4 c = rw (c .before .enum-told4 .given .1) (told (c .unchanged4 .ensures) (none (c .before .before .before .before .args .out .now) 0))
+
+returns-5 : tie.Need-returns-5
+returns-5 c = rw (c .before .enum-told5 .given .1) (told (c .unchanged5 .ensures) (none (c .before .before .before .before .args .out .now) 0))
+
+same-length : tie.Need-same-length
+same-length c = search needs
+
+returns-6 : tie.Need-returns-6
+returns-6 c = rw (c .before .before .before .before .before .before .call .given .1) (gives-as (c .before .before .before .submit .ensures) (c .before .before .with-answer .ensures))
+
+same-length-2 : tie.Need-same-length-2
+same-length-2 c = search needs
+
+returns-7 : tie.Need-returns-7
+returns-7 c = rw (c .before .before .before .before .before .before .call2 .given .1) (gives-as (c .before .before .before .start .ensures) (c .before .before .with-answer2 .ensures))
+
+same-length-3 : tie.Need-same-length-3
+same-length-3 c = search needs
+
+returns-8 : tie.Need-returns-8
+returns-8 c = rw (c .before .before .before .before .before .before .call3 .given .1) (gives-as (c .before .before .before .complete .ensures) (c .before .before .with-answer3 .ensures))
+
+returns-9 : tie.Need-returns-9
+returns-9 c = rw (c .before .enum-told6 .given .1) (told (c .unchanged6 .ensures) (none (c .before .before .before .before .args .out .now) 0))
+
+same-length-4 : tie.Need-same-length-4
+same-length-4 c = search needs
+
+returns-10 : tie.Need-returns-10
+returns-10 c = rw (c .before .before .before .before .before .before .call4 .given .1) (gives-as (c .before .before .before .mark .ensures) (c .before .before .with-answer4 .ensures))
+
+returns-11 : tie.Need-returns-11
+returns-11 c = rw (c .before .enum-told7 .given .1) (told (c .unchanged7 .ensures) (none (c .before .before .before .before .args .out .now) 0))
+
+returns-12 : tie.Need-returns-12
+returns-12 c = rw (c .before .enum-told8 .given .1) (told (c .unchanged8 .ensures) (none (c .before .before .before .before .args .out .now) 0))
+
+same-length-5 : tie.Need-same-length-5
+same-length-5 c = search needs
+
+returns-13 : tie.Need-returns-13
+returns-13 c = rw (c .before .before .before .before .before .before .before .call5 .given .1) (told (c .unchanged9 .ensures) (rw (← c .before .before .before .before .status-in .ensures) (c .before .before .before .put-status .ensures)))
+
+pub reply-spec : {M : Type 1} → statement M
+reply-spec =
+    tie.close
+    (tie.spec
+    enum-told
+    unchanged-requires
+    enum-told-2
+    unchanged-requires-2
+    enum-told-3
+    unchanged-requires-3
+    enum-told-4
+    unchanged-requires-4
+    enum-told-5
+    unchanged-requires-5
+    enum-known-call
+    submit-requires
+    with-answer-requires
+    enum-known-call-2
+    start-requires
+    with-answer-requires-2
+    enum-known-call-3
+    complete-requires
+    with-answer-requires-3
+    enum-told-6
+    unchanged-requires-6
+    enum-known-call-4
+    mark-requires
+    with-answer-requires-4
+    enum-told-7
+    unchanged-requires-7
+    enum-told-8
+    unchanged-requires-8
+    enum-known-call-5
+    status-in-requires
+    put-status-requires
+    unchanged-requires-9
+    returns
+    returns-2
+    returns-3
+    returns-4
+    returns-5
+    same-length
+    returns-6
+    same-length-2
+    returns-7
+    same-length-3
+    returns-8
+    returns-9
+    same-length-4
+    returns-10
+    returns-11
+    returns-12
+    same-length-5
+    returns-13)

@@ -1,0 +1,108 @@
+-- What is answered to a line of the script that is a call on the request lists alone, and the lists then: rows of the
+-- script's table, last column.
+use Prim.Native.Nat.{ℕ, min}
+use mathlib.Core.Path.{_≡_}
+use mathlib.Core.Bool.{Bool, true, false, cond}
+use mathlib.Core.List.{List, []}
+use Rattle.channels.specs.declared.Channel.{Channel}
+use Rattle.text.specs.Room.{Written}
+use Rattle.packets.specs.Rules as Rules
+use Rattle.packets.specs.State.{drumOn}
+use Rattle.packets.specs.declared.Acted.{Acted}
+use Rattle.packets.specs.declared.Answer.{Answer}
+use Rattle.packets.specs.declared.Answer.the-variants as Answer′
+use Rattle.packets.specs.declared.Lists.{Lists}
+use Rattle.packets.specs.declared.Spot.{Spot}
+use Rattle.packets.specs.declared.Spot.the-variants.{OnUnit, OnDrum}
+use Rattle.lists.specs.Outcomes.{outcome}
+use Rattle.cell.specs.Calls.{statusIn}
+use Rattle.cell.specs.declared.StatusAnswer.{StatusAnswer}
+use Rattle.cell.specs.declared.StatusAnswer.the-variants as Status′
+use Rattle.shift_answers.specs.Answers.{refusedText, doneText, startedText, completedText, statusText}
+use Rattle.shift_script.specs.declared.Submission.{Submission}
+use Rattle.shift_script.specs.declared.Line.{Line}
+use Rattle.shift_script.specs.declared.Line.the-variants as Line′
+use Rattle.shift_packets.specs.declared.Handled.{Handled}
+
+-- ---- the texts
+
+-- the line of an answer
+abbrev pub answerText : Answer → List ℕ
+answerText Answer′.Done = doneText
+answerText (Answer′.Started begun) = startedText begun
+answerText (Answer′.Completed place packet leaving) = completedText place packet
+answerText (Answer′.Closed leaving) = doneText
+answerText (Answer′.Refused refusal) = refusedText refusal
+
+-- "`STATUS p k`: a packet's status"
+abbrev pub statusAnswerText : StatusAnswer → List ℕ
+statusAnswerText (Status′.Is status) = statusText status
+statusAnswerText (Status′.Refused refusal) = refusedText refusal
+
+-- ---- the calls
+
+-- "x the unit, or on the drum channel the address, or for 23 there L, with h as H"; a unit number over 255 is out of
+-- range as 255 is
+unfoldable pub spotOf : List Channel → Submission → Spot
+spotOf channels s = cond (drumOn channels (s .channel .0)) (OnDrum (s .at) (s .to)) (OnUnit (record { 0 = min (s .at) 255 }))
+
+-- "submission of packet k by place p"
+abbrev pub submission : Lists → Submission → Rules.Call
+submission lists s = Rules.Submit (s .place) (s .packet) (s .function) (s .channel .0) (spotOf (lists .channels) s)
+
+abbrev pub submittingIn : Lists → Submission → Acted
+submittingIn lists s = outcome lists (submission lists s)
+
+-- whether a line is a call on the request lists alone: they say all that is answered to it
+abbrev pub isForLists : Line → Bool
+isForLists Line′.NoCall = false
+isForLists Line′.Echo = false
+isForLists Line′.Deck = false
+isForLists Line′.Select = false
+isForLists Line′.Board = false
+isForLists (Line′.Submit s) = true
+isForLists (Line′.Start channel) = true
+isForLists (Line′.Complete channel how) = true
+isForLists (Line′.End place inError) = false
+isForLists (Line′.Mark channel unit mark on) = true
+isForLists Line′.Release = false
+isForLists Line′.Delete = false
+isForLists (Line′.Status place packet) = true
+
+-- ---- what a line leaves: the text from the room's start on, cut at its end, the call's answer, and the lists
+
+-- this text, and this outcome
+pub record Tells (text : List ℕ) (next : Acted) (room after : List ℕ) (r : Handled) : Type 0 where
+  pub lists : r .lists ≡ next .lists
+  pub answer : r .answer ≡ next .answer
+  pub put : Written room 0 text after (r .at)
+
+-- the outcome of a call, and the line of its answer
+abbrev pub Gives : Acted → List ℕ → List ℕ → Handled → Type 0
+Gives a room after r = Tells (answerText (a .answer)) a room after r
+
+-- nothing was done
+abbrev pub nothingDone : Lists → Acted
+nothingDone lists = record { lists = lists; answer = Answer′.Done }
+
+-- a line that is no call on the lists: nothing is put and nothing changes
+abbrev pub NotHere : Lists → List ℕ → List ℕ → Handled → Type 0
+NotHere lists room after r = Tells [] (nothingDone lists) room after r
+
+-- THE ANSWER TO A LINE THAT IS A CALL ON THE REQUEST LISTS
+abbrev pub Handles : Lists → Line → List ℕ → List ℕ → Handled → Type 0
+Handles lists Line′.NoCall room after r = NotHere lists room after r
+Handles lists Line′.Echo room after r = NotHere lists room after r
+Handles lists Line′.Deck room after r = NotHere lists room after r
+Handles lists Line′.Select room after r = NotHere lists room after r
+Handles lists Line′.Board room after r = NotHere lists room after r
+Handles lists (Line′.Submit s) room after r = Gives (submittingIn lists s) room after r
+Handles lists (Line′.Start channel) room after r = Gives (outcome lists (Rules.Start (channel .0))) room after r
+Handles lists (Line′.Complete channel how) room after r = Gives (outcome lists (Rules.Complete (channel .0) how)) room after r
+Handles lists (Line′.End place inError) room after r = NotHere lists room after r
+Handles lists (Line′.Mark channel unit mark on) room after r =
+    Gives (outcome lists (Rules.Mark (channel .0) (unit .0) mark on)) room after r
+Handles lists Line′.Release room after r = NotHere lists room after r
+Handles lists Line′.Delete room after r = NotHere lists room after r
+Handles lists (Line′.Status place packet) room after r =
+    Tells (statusAnswerText (statusIn lists place packet)) (nothingDone lists) room after r
