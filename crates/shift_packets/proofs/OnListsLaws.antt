@@ -16,7 +16,8 @@ use Rattle.packets.specs.declared.Spot.the-variants.{OnUnit, OnDrum}
 use Rattle.shift_script.specs.declared.Submission.{Submission}
 use Rattle.shift_script.specs.declared.Line.{Line}
 use Rattle.shift_script.specs.declared.Line.the-variants as Line′
-use Rattle.shift_packets.specs.OnLists.{spotOf, nothingDone, Tells, Gives, Handles}
+use Rattle.shift_packets.specs.Texts.{spotOf}
+use Rattle.shift_packets.specs.OnLists.{nothingDone, Tells, Gives, Handles}
 use Rattle.shift_packets.specs.declared.Handled.{Handled}
 
 module _ (channels : List Channel) (s : Submission) where

@@ -1,55 +1,24 @@
--- What is answered to a line of the script that is a call on the request lists alone, and the lists then: rows of the
--- script's table, last column.
-use Prim.Native.Nat.{ℕ, min}
+-- What is answered to a line that is a call on the request lists alone, and the lists then, without the cell around
+-- them. Nothing on this page has to be believed: contracts cite it, and crates/shift_reply/proofs/FollowedLaws shows
+-- that with the schedule that follows it comes to the same as page Replies there.
+use Prim.Native.Nat.{ℕ}
 use mathlib.Core.Path.{_≡_}
-use mathlib.Core.Bool.{Bool, true, false, cond}
+use mathlib.Core.Bool.{Bool, true, false}
 use mathlib.Core.List.{List, []}
-use Rattle.channels.specs.declared.Channel.{Channel}
 use Rattle.text.specs.Room.{Written}
 use Rattle.packets.specs.Rules as Rules
-use Rattle.packets.specs.State.{drumOn}
 use Rattle.packets.specs.declared.Acted.{Acted}
-use Rattle.packets.specs.declared.Answer.{Answer}
 use Rattle.packets.specs.declared.Answer.the-variants as Answer′
 use Rattle.packets.specs.declared.Lists.{Lists}
-use Rattle.packets.specs.declared.Spot.{Spot}
-use Rattle.packets.specs.declared.Spot.the-variants.{OnUnit, OnDrum}
 use Rattle.lists.specs.Outcomes.{outcome}
 use Rattle.cell.specs.Calls.{statusIn}
-use Rattle.cell.specs.declared.StatusAnswer.{StatusAnswer}
-use Rattle.cell.specs.declared.StatusAnswer.the-variants as Status′
-use Rattle.shift_answers.specs.Answers.{refusedText, doneText, startedText, completedText, statusText}
 use Rattle.shift_script.specs.declared.Submission.{Submission}
 use Rattle.shift_script.specs.declared.Line.{Line}
 use Rattle.shift_script.specs.declared.Line.the-variants as Line′
+use Rattle.shift_packets.specs.Texts.{answerText, statusAnswerText, submission}
 use Rattle.shift_packets.specs.declared.Handled.{Handled}
 
--- ---- the texts
-
--- the line of an answer
-abbrev pub answerText : Answer → List ℕ
-answerText Answer′.Done = doneText
-answerText (Answer′.Started begun) = startedText begun
-answerText (Answer′.Completed place packet leaving) = completedText place packet
-answerText (Answer′.Closed leaving) = doneText
-answerText (Answer′.Refused refusal) = refusedText refusal
-
--- "`STATUS p k`: a packet's status"
-abbrev pub statusAnswerText : StatusAnswer → List ℕ
-statusAnswerText (Status′.Is status) = statusText status
-statusAnswerText (Status′.Refused refusal) = refusedText refusal
-
--- ---- the calls
-
--- "x the unit, or on the drum channel the address, or for 23 there L, with h as H"; a unit number over 255 is out of
--- range as 255 is
-unfoldable pub spotOf : List Channel → Submission → Spot
-spotOf channels s = cond (drumOn channels (s .channel .0)) (OnDrum (s .at) (s .to)) (OnUnit (record { 0 = min (s .at) 255 }))
-
--- "submission of packet k by place p"
-abbrev pub submission : Lists → Submission → Rules.Call
-submission lists s = Rules.Submit (s .place) (s .packet) (s .function) (s .channel .0) (spotOf (lists .channels) s)
-
+-- the outcome of a line SUBMIT
 abbrev pub submittingIn : Lists → Submission → Acted
 submittingIn lists s = outcome lists (submission lists s)
 

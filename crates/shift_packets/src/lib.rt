@@ -12,8 +12,8 @@ use shift_script::Submission;
 ghost use mathlib.Core.Path.{_≡_};
 ghost use Rattle.text.specs.Room.{Written};
 ghost use Rattle.packets.specs.declared.Answer.the-variants.{Done};
-ghost use Rattle.shift_packets.specs.OnLists.{answerText, statusAnswerText, spotOf, submittingIn};
-ghost use Rattle.shift_packets.specs.OnLists.{isForLists, Gives, Handles};
+ghost use Rattle.shift_packets.specs.Texts.{answerText, statusAnswerText, spotOf};
+ghost use Rattle.shift_packets.specs.OnLists.{submittingIn, isForLists, Gives, Handles};
 
 // The request lists after a line, what the call answered, and where its text ends in the lent room.
 pub struct Handled {
@@ -143,7 +143,10 @@ pub fn reply(lists: Lists, call: Line, out: &mut [u8]) -> Handled
         Line::Release => unchanged(lists, 0),
         Line::Delete => unchanged(lists, 0),
         Line::Status(place, packet) => {
-            unchanged(lists, put_status(out, cell::status_in(lists, place, packet)))
+            unchanged(
+                lists,
+                put_status(out, cell::status_in(lists, place, packet)),
+            )
         }
     }
 }

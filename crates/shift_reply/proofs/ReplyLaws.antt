@@ -1,34 +1,19 @@
 -- What the parts of a reply come to. Assumes nothing.
-use Prim.Native.Nat.{ℕ, min}
-use mathlib.Core.Path.{_≡_, refl, ap, ap₂, subst, _∙_}
-use mathlib.Core.Bool.{Bool, true, false}
+use Prim.Native.Nat.{ℕ}
+use mathlib.Core.Path.{_≡_, refl, ap₂, subst}
 use mathlib.Core.List.{List, _++_}
 use lib.ListN.{length}
 use Rattle.numbers.specs.declared.Outcome.{Outcome}
-use Rattle.channels.specs.declared.Channel.{Channel}
-use Rattle.channels.specs.declared.Fitted.{Fitted}
 use Rattle.text.specs.Room.{Written}
 use Rattle.text.proofs.RoomLaws.{andThen}
 use Rattle.schedule_deck.specs.Report.{deckNotes}
 use Rattle.schedule_deck.proofs.Bounds.{noted-put}
-use Rattle.packets.specs.State.{drumOn, fittedOn, isDrumOf}
-use Rattle.packets.specs.declared.Spot.the-variants.{OnUnit, OnDrum}
 use Rattle.cell.specs.Calls.{cellOf, Enters}
 use Rattle.cell.specs.declared.Answered.{Answered}
 use Rattle.cell.specs.declared.Cell.{Cell}
 use Rattle.cell.specs.declared.DeckAnswer.{DeckAnswer}
-use Rattle.shift_script.specs.declared.Submission.{Submission}
-use Rattle.shift_reply.specs.Replies.{refusalText, spotOf, Shows, Gives, EntersDeck}
+use Rattle.shift_reply.specs.Replies.{refusalText, Shows, Gives, EntersDeck}
 use Rattle.shift_reply.specs.declared.Replied.{Replied}
-
-module _ (channels : List Channel) (s : Submission) where
-  pub to-drum : drumOn channels (s .channel .0) ≡ true → OnDrum (s .at) (s .to) ≡ spotOf channels s
-  unfolding spotOf
-  to-drum d = rw d
-
-  pub to-unit : drumOn channels (s .channel .0) ≡ false → (n : ℕ) → n ≡ min (s .at) 255 → OnUnit (record { 0 = n }) ≡ spotOf channels s
-  unfolding spotOf
-  to-unit d n e = rw (d, e)
 
 pub entered : (cell : Cell) (deck room mid after : List ℕ) (a : DeckAnswer) (n : ℕ) → length mid ≡ 53248 → Enters cell deck room mid a
     → Written mid (a .at) (refusalText (a .outcome)) after n → EntersDeck cell deck room after (record { cell = a .cell; at = n })
@@ -46,7 +31,3 @@ shown e w = rw e (record { cell = refl; put = w })
 -- the answer of a call is the answer that its contract gives
 pub gives-as : {a b : Answered} {room after : List ℕ} {r : Replied} → a ≡ b → Gives a room after r → Gives b room after r
 gives-as {room = room} {after = after} {r = r} e g = subst (λ (x : Answered). Gives x room after r) e g
-
--- whether a channel has the drum, by what it has
-pub drum-of : (channels : List Channel) (c : ℕ) {has : Fitted} {b : Bool} → has ≡ fittedOn channels c → b ≡ isDrumOf has → b ≡ drumOn channels c
-drum-of channels c e f = unfold drumOn in f ∙ ap isDrumOf e

@@ -1,7 +1,6 @@
 -- What is answered to a line of the script, and the cell then: the script's table, last column.
-use Prim.Native.Nat.{ℕ, min}
+use Prim.Native.Nat.{ℕ}
 use mathlib.Core.Path.{_≡_}
-use mathlib.Core.Bool.{cond}
 use mathlib.Core.List.{List, [], _++_}
 use Rattle.numbers.specs.Quoted.{bytes}
 use Rattle.numbers.specs.declared.Outcome.{Outcome}
@@ -10,19 +9,13 @@ use Rattle.channels.specs.declared.Channel.{Channel}
 use Rattle.text.specs.Room.{Written}
 use Rattle.schedule_deck.specs.Report.{deckNotes, deckSchedule, deckOutcome}
 use Rattle.packets.specs.Rules as Rules
-use Rattle.packets.specs.State.{drumOn}
-use Rattle.packets.specs.declared.Answer.{Answer}
-use Rattle.packets.specs.declared.Answer.the-variants as Answer′
-use Rattle.packets.specs.declared.Spot.{Spot}
-use Rattle.packets.specs.declared.Spot.the-variants.{OnUnit, OnDrum}
 use Rattle.cell_selection.specs.declared.Selection.{Selection}
 use Rattle.cell.specs.Calls.{cellOf, acted, releasing, deleting, statusOf, SelectsIn}
 use Rattle.cell.specs.declared.Answered.{Answered}
 use Rattle.cell.specs.declared.Cell.{Cell}
 use Rattle.cell.specs.declared.SelectAnswer.{SelectAnswer}
-use Rattle.cell.specs.declared.StatusAnswer.{StatusAnswer}
-use Rattle.cell.specs.declared.StatusAnswer.the-variants as Status′
-use Rattle.shift_answers.specs.Answers.{refusedText, doneText, startedText, completedText, statusText, noCallText}
+use Rattle.shift_answers.specs.Answers.{refusedText, noCallText}
+use Rattle.shift_packets.specs.Texts.{answerText, statusAnswerText, submission}
 use Rattle.shift_selected.specs.Selected.{selectedText}
 use Rattle.board.specs.Board.{boardText}
 use Rattle.shift_script.specs.declared.Submission.{Submission}
@@ -33,23 +26,10 @@ use Rattle.shift_reply.specs.declared.Replied.{Replied}
 
 -- ---- the texts
 
--- the line of an answer
-abbrev pub answerText : Answer → List ℕ
-answerText Answer′.Done = doneText
-answerText (Answer′.Started begun) = startedText begun
-answerText (Answer′.Completed place packet leaving) = completedText place packet
-answerText (Answer′.Closed leaving) = doneText
-answerText (Answer′.Refused refusal) = refusedText refusal
-
 -- `NO n` for a refused call, nothing else
 abbrev pub refusalText : Outcome → List ℕ
 refusalText Outcome′.Done = []
 refusalText (Outcome′.Refused refusal) = refusedText refusal
-
--- "`STATUS p k`: a packet's status"
-abbrev pub statusAnswerText : StatusAnswer → List ℕ
-statusAnswerText (Status′.Is status) = statusText status
-statusAnswerText (Status′.Refused refusal) = refusedText refusal
 
 -- "`SELECT`: `ACK p id ` and the assignment"
 abbrev pub selectText : Outcome → Selection → List Channel → List ℕ
@@ -60,14 +40,9 @@ selectText (Outcome′.Refused refusal) selection channels = refusedText refusal
 abbrev pub echoText : List ℕ → List ℕ
 echoText line = line ++ bytes "\n"
 
--- "x the unit, or on the drum channel the address, or for 23 there L, with h as H"; a unit number over 255 is out of
--- range as 255 is
-unfoldable pub spotOf : List Channel → Submission → Spot
-spotOf channels s = cond (drumOn channels (s .channel .0)) (OnDrum (s .at) (s .to)) (OnUnit (record { 0 = min (s .at) 255 }))
-
 -- "submission of packet k by place p"
 abbrev pub submitting : Cell → Submission → Answered
-submitting cell s = acted cell (Rules.Submit (s .place) (s .packet) (s .function) (s .channel .0) (spotOf (cell .lists .channels) s))
+submitting cell s = acted cell (submission (cell .lists) s)
 
 -- ---- what a line leaves: the text from the room's start on, cut at its end, and the cell
 

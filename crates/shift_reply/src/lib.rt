@@ -1,40 +1,21 @@
 // What is answered to a line of the script, put into lent room, and the cell then.
 use cell::Answered;
 use cell::Cell;
-use cell::StatusAnswer;
 use cell_selection::Selection;
 use channels::Channel;
 use numbers::Outcome;
-use numbers::UnitNumber;
-use packets::Answer;
-use packets::Spot;
 use shift_script::Line;
 use shift_script::Said;
-use shift_script::Submission;
 ghost use mathlib.Core.Path.{_≡_};
 ghost use Rattle.text.specs.Room.{Written};
 ghost use Rattle.board.specs.Board.{boardText};
-ghost use Rattle.cell.specs.Calls.{statusOf};
-ghost use Rattle.shift_reply.specs.Replies.{answerText, statusAnswerText, selectText, refusalText, echoText, spotOf};
-ghost use Rattle.shift_reply.specs.Replies.{submitting, Shows, Gives, Selects, EntersDeck, Replies};
+ghost use Rattle.shift_reply.specs.Followed.{Followed};
+ghost use Rattle.shift_reply.specs.Replies.{selectText, refusalText, echoText, Shows, Gives, Selects, EntersDeck, Replies};
 
 // The cell after a line, and where the answer ends in the lent room.
 pub struct Replied {
     pub cell: Cell,
     pub at: usize,
-}
-
-// Puts the line of an answer from the room's start on.
-fn put_answer(out: &mut [u8], answer: Answer) -> usize
-    ensures { λ r. ⌜ Written (now (out .entry)) 0 (answerText answer) (now (out .exit)) r ⌝ }
-{
-    match answer {
-        Answer::Done => shift_answers::put_done(out, 0),
-        Answer::Started(begun) => shift_answers::put_started(out, 0, begun),
-        Answer::Completed(place, packet, _) => shift_answers::put_completed(out, 0, place, packet),
-        Answer::Closed(_) => shift_answers::put_done(out, 0),
-        Answer::Refused(refusal) => shift_answers::put_refused(out, 0, refusal),
-    }
 }
 
 // The answer of a call, and its cell.
@@ -45,24 +26,8 @@ fn with_answer(out: &mut [u8], answered: Answered) -> Replied
     let cell = answered.cell;
     Replied {
         cell,
-        at: put_answer(out, answer),
+        at: shift_packets::put_answer(out, answer),
     }
-}
-
-// Where a submission goes: on the drum channel to an address or two, elsewhere to a unit. A unit number over 255 is
-// out of range as 255 is.
-fn spot_of(channels: [Channel; 16], submission: Submission) -> Spot
-    ensures { λ r. ⌜ r ≡ spotOf channels submission ⌝ }
-{
-    let at = submission.at;
-    let to = submission.to;
-    if packets_channels::is_drum(packets_channels::fitted_on(channels, submission.channel)) {
-        return Spot::OnDrum(at, to);
-    }
-    if at < 255 {
-        return Spot::OnUnit(UnitNumber(at as u8));
-    }
-    Spot::OnUnit(UnitNumber(255))
 }
 
 // A line that changes nothing, and where its answer ends.
@@ -78,34 +43,6 @@ fn put_echo(out: &mut [u8], line: &[u8]) -> usize
 {
     let end = text::put_bytes(out, 0, line);
     text::put_byte(out, end, b'\n')
-}
-
-// A submission.
-fn submit(cell: Cell, submission: Submission) -> Answered
-    ensures { λ r. ⌜ r ≡ submitting cell submission ⌝ }
-{
-    let lists = cell.lists;
-    let channels = lists.channels;
-    let spot = spot_of(channels, submission);
-    let channel = submission.channel;
-    cell::submit(
-        cell,
-        submission.place,
-        submission.packet,
-        submission.function,
-        channel,
-        spot,
-    )
-}
-
-// Puts the line of a packet's status.
-fn put_status(out: &mut [u8], answer: StatusAnswer) -> usize
-    ensures { λ r. ⌜ Written (now (out .entry)) 0 (statusAnswerText answer) (now (out .exit)) r ⌝ }
-{
-    match answer {
-        StatusAnswer::Is(status) => shift_answers::put_status(out, 0, status),
-        StatusAnswer::Refused(refusal) => shift_answers::put_refused(out, 0, refusal),
-    }
 }
 
 // Puts the line of a selection.
@@ -166,11 +103,24 @@ pub fn reply_deck(cell: Cell, deck: &[u8], out: &mut [u8; 53248]) -> Replied
     }
 }
 
-// A packet's status.
-fn status(cell: Cell, place: u8, packet: u8, out: &mut [u8]) -> Replied
-    ensures { λ r. ⌜ Shows (statusAnswerText (statusOf cell place packet)) cell (now (out .entry)) (now (out .exit)) r ⌝ }
+// A call on the request lists: they answer it, and the schedule follows a completion that has returned a job's
+// facilities.
+fn on_lists(cell: Cell, call: Line, out: &mut [u8]) -> Replied
+    ensures { λ r. ⌜ Followed cell call (now (out .entry)) (now (out .exit)) r ⌝ }
 {
-    unchanged(cell, put_status(out, cell::status(cell, place, packet)))
+    let lists = cell.lists;
+    let schedule = cell.schedule;
+    let handled = shift_packets::reply(lists, call, out);
+    let after = handled.lists;
+    let answer = handled.answer;
+    let next = cell::after_completion(schedule, answer);
+    Replied {
+        cell: Cell {
+            schedule: next,
+            lists: after,
+        },
+        at: handled.at,
+    }
 }
 
 // The board.
@@ -194,15 +144,13 @@ pub fn reply_line(cell: Cell, said: Said, line: &[u8], out: &mut [u8]) -> Replie
         Line::Deck => unchanged(cell, 0),
         Line::Select => select(cell, out),
         Line::Board => board(cell, out),
-        Line::Submit(submission) => with_answer(out, submit(cell, submission)),
-        Line::Start(channel) => with_answer(out, cell::start(cell, channel)),
-        Line::Complete(channel, how) => with_answer(out, cell::complete(cell, channel, how)),
+        Line::Submit(_) => on_lists(cell, call, out),
+        Line::Start(_) => on_lists(cell, call, out),
+        Line::Complete(_, _) => on_lists(cell, call, out),
         Line::End(place, in_error) => with_answer(out, cell::end(cell, place, in_error)),
-        Line::Mark(channel, unit, mark, on) => {
-            with_answer(out, cell::mark(cell, channel, unit, mark, on))
-        }
+        Line::Mark(_, _, _, _) => on_lists(cell, call, out),
         Line::Release => with_answer(out, cell::release(cell, id)),
         Line::Delete => with_answer(out, cell::delete(cell, id)),
-        Line::Status(place, packet) => status(cell, place, packet, out),
+        Line::Status(_, _) => on_lists(cell, call, out),
     }
 }

@@ -1,3 +1,4 @@
+-- `shift_packets::reply` meets its contract: what the line says is what the request lists answered. Assumes nothing.
 use Rattle.text.proofs.RoomLaws.{none}
 use Rattle.shift_packets.proofs.OnListsLaws.{told, gives-as}
 use borrow.Author.Needs.{needs}

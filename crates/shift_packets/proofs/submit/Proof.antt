@@ -1,3 +1,4 @@
+-- `shift_packets::submit` meets its contract: the spot is that of the channel. Assumes nothing.
 use mathlib.Core.Path.{ap, _∙_}
 use Rattle.packets.specs.Rules.{Submit}
 use Rattle.packets.specs.declared.Spot.{Spot}

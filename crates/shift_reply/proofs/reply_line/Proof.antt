@@ -1,9 +1,23 @@
 -- `shift_reply::reply_line` meets its contract: what the line says is what was answered. Assumes nothing.
+use mathlib.Core.Path.{refl}
 use Rattle.text.proofs.RoomLaws.{none}
 use Rattle.shift_reply.proofs.ReplyLaws.{shown, gives-as}
+use Rattle.shift_reply.proofs.FollowedLaws.{replies-followed}
 use borrow.Author.Needs.{needs}
 use Rattle.shift_reply.proofs.reply_line.Statement.{statement}
 use Rattle.shift_reply.proofs.reply_line.Tie as tie
+use Rattle.shift_reply.proofs.reply_line.Reads as reads
+use Rattle.shift_reply.proofs.reply_line.Lts as lts
+use Rattle.cell.proofs.delete.Reads as delete-reads
+use Rattle.cell.proofs.end.Reads as end-reads
+use Rattle.cell.proofs.release.Reads as release-reads
+use Rattle.shift_answers.proofs.put_no_call.Reads as put-no-call-reads
+use Rattle.shift_reply.proofs.board.Reads as board-reads
+use Rattle.shift_reply.proofs.on_lists.Reads as on-lists-reads
+use Rattle.shift_reply.proofs.put_echo.Reads as put-echo-reads
+use Rattle.shift_reply.proofs.select.Reads as select-reads
+use Rattle.shift_reply.proofs.unchanged.Reads as unchanged-reads
+use Rattle.shift_reply.proofs.with_answer.Reads as with-answer-reads
 
 enum-told : tie.Need-enum-told
 enum-told c = search needs
@@ -41,74 +55,62 @@ enum-told-5 c = search needs
 board-requires : tie.Need-board-requires
 board-requires c κs = search needs
 
-enum-known-call : tie.Need-enum-known-call
-enum-known-call c = search needs
-
-submit-requires : tie.Need-submit-requires
-submit-requires c κs = search needs
-
-with-answer-requires : tie.Need-with-answer-requires
-with-answer-requires c κs = search needs
-
-enum-known-call-2 : tie.Need-enum-known-call-2
-enum-known-call-2 c = search needs
-
-start-requires : tie.Need-start-requires
-start-requires c κs = search needs
-
-with-answer-requires-2 : tie.Need-with-answer-requires-2
-with-answer-requires-2 c κs = search needs
-
-enum-known-call-3 : tie.Need-enum-known-call-3
-enum-known-call-3 c = search needs
-
-complete-requires : tie.Need-complete-requires
-complete-requires c κs = search needs
-
-with-answer-requires-3 : tie.Need-with-answer-requires-3
-with-answer-requires-3 c κs = search needs
-
-enum-known-call-4 : tie.Need-enum-known-call-4
-enum-known-call-4 c = search needs
-
-end-requires : tie.Need-end-requires
-end-requires c κs = search needs
-
-with-answer-requires-4 : tie.Need-with-answer-requires-4
-with-answer-requires-4 c κs = search needs
-
-enum-known-call-5 : tie.Need-enum-known-call-5
-enum-known-call-5 c = search needs
-
-mark-requires : tie.Need-mark-requires
-mark-requires c κs = search needs
-
-with-answer-requires-5 : tie.Need-with-answer-requires-5
-with-answer-requires-5 c κs = search needs
-
 enum-told-6 : tie.Need-enum-told-6
 enum-told-6 c = search needs
 
-release-requires : tie.Need-release-requires
-release-requires c κs = search needs
-
-with-answer-requires-6 : tie.Need-with-answer-requires-6
-with-answer-requires-6 c κs = search needs
+on-lists-requires : tie.Need-on-lists-requires
+on-lists-requires c κs = search needs
 
 enum-told-7 : tie.Need-enum-told-7
 enum-told-7 c = search needs
 
+on-lists-requires-2 : tie.Need-on-lists-requires-2
+on-lists-requires-2 c κs = search needs
+
+enum-told-8 : tie.Need-enum-told-8
+enum-told-8 c = search needs
+
+on-lists-requires-3 : tie.Need-on-lists-requires-3
+on-lists-requires-3 c κs = search needs
+
+enum-known-call : tie.Need-enum-known-call
+enum-known-call c = search needs
+
+end-requires : tie.Need-end-requires
+end-requires c κs = search needs
+
+with-answer-requires : tie.Need-with-answer-requires
+with-answer-requires c κs = search needs
+
+enum-told-9 : tie.Need-enum-told-9
+enum-told-9 c = search needs
+
+on-lists-requires-4 : tie.Need-on-lists-requires-4
+on-lists-requires-4 c κs = search needs
+
+enum-told-10 : tie.Need-enum-told-10
+enum-told-10 c = search needs
+
+release-requires : tie.Need-release-requires
+release-requires c κs = search needs
+
+with-answer-requires-2 : tie.Need-with-answer-requires-2
+with-answer-requires-2 c κs = search needs
+
+enum-told-11 : tie.Need-enum-told-11
+enum-told-11 c = search needs
+
 delete-requires : tie.Need-delete-requires
 delete-requires c κs = search needs
 
-with-answer-requires-7 : tie.Need-with-answer-requires-7
-with-answer-requires-7 c κs = search needs
+with-answer-requires-3 : tie.Need-with-answer-requires-3
+with-answer-requires-3 c κs = search needs
 
-enum-known-call-6 : tie.Need-enum-known-call-6
-enum-known-call-6 c = search needs
+enum-told-12 : tie.Need-enum-told-12
+enum-told-12 c = search needs
 
-status-requires : tie.Need-status-requires
-status-requires c κs = search needs
+on-lists-requires-5 : tie.Need-on-lists-requires-5
+on-lists-requires-5 c κs = search needs
 
 same-length : tie.Need-same-length
 same-length c = search needs
@@ -141,49 +143,49 @@ same-length-5 : tie.Need-same-length-5
 same-length-5 c = search needs
 
 returns-6 : tie.Need-returns-6
-returns-6 c = rw (c .before .before .before .before .before .before .call .given .1) (gives-as (c .before .before .before .submit .ensures) (c .before .before .with-answer .ensures))
+returns-6 c = replies-followed (c .before .before .before .before .before .before .before .before .before .args .cell) (c .before .before .before .before .before .before .before .before .before .args .said .line) (c .before .before .before .before .before .before .before .before .before .args .said .id) (c .before .before .before .before .before .before .before .before .before .args .line .now) (c .before .before .before .before .before .before .before .before .before .args .out .now) _ _ (rw (c .before .before .before .before .enum-told6 .given .1) refl) (c .before .before .on-lists .ensures)
 
 same-length-6 : tie.Need-same-length-6
 same-length-6 c = search needs
 
 returns-7 : tie.Need-returns-7
-returns-7 c = rw (c .before .before .before .before .before .before .call2 .given .1) (gives-as (c .before .before .before .start .ensures) (c .before .before .with-answer2 .ensures))
+returns-7 c = replies-followed (c .before .before .before .before .before .before .before .before .before .args .cell) (c .before .before .before .before .before .before .before .before .before .args .said .line) (c .before .before .before .before .before .before .before .before .before .args .said .id) (c .before .before .before .before .before .before .before .before .before .args .line .now) (c .before .before .before .before .before .before .before .before .before .args .out .now) _ _ (rw (c .before .before .before .before .enum-told7 .given .1) refl) (c .before .before .on-lists2 .ensures)
 
 same-length-7 : tie.Need-same-length-7
 same-length-7 c = search needs
 
 returns-8 : tie.Need-returns-8
-returns-8 c = rw (c .before .before .before .before .before .before .call3 .given .1) (gives-as (c .before .before .before .complete .ensures) (c .before .before .with-answer3 .ensures))
+returns-8 c = replies-followed (c .before .before .before .before .before .before .before .before .before .args .cell) (c .before .before .before .before .before .before .before .before .before .args .said .line) (c .before .before .before .before .before .before .before .before .before .args .said .id) (c .before .before .before .before .before .before .before .before .before .args .line .now) (c .before .before .before .before .before .before .before .before .before .args .out .now) _ _ (rw (c .before .before .before .before .enum-told8 .given .1) refl) (c .before .before .on-lists3 .ensures)
 
 same-length-8 : tie.Need-same-length-8
 same-length-8 c = search needs
 
 returns-9 : tie.Need-returns-9
-returns-9 c = rw (c .before .before .before .before .before .before .call4 .given .1) (gives-as (c .before .before .before .end .ensures) (c .before .before .with-answer4 .ensures))
+returns-9 c = rw (c .before .before .before .before .before .before .call .given .1) (gives-as (c .before .before .before .end .ensures) (c .before .before .with-answer .ensures))
 
 same-length-9 : tie.Need-same-length-9
 same-length-9 c = search needs
 
 returns-10 : tie.Need-returns-10
-returns-10 c = rw (c .before .before .before .before .before .before .call5 .given .1) (gives-as (c .before .before .before .mark .ensures) (c .before .before .with-answer5 .ensures))
+returns-10 c = replies-followed (c .before .before .before .before .before .before .before .before .before .args .cell) (c .before .before .before .before .before .before .before .before .before .args .said .line) (c .before .before .before .before .before .before .before .before .before .args .said .id) (c .before .before .before .before .before .before .before .before .before .args .line .now) (c .before .before .before .before .before .before .before .before .before .args .out .now) _ _ (rw (c .before .before .before .before .enum-told9 .given .1) refl) (c .before .before .on-lists4 .ensures)
 
 same-length-10 : tie.Need-same-length-10
 same-length-10 c = search needs
 
 returns-11 : tie.Need-returns-11
-returns-11 c = rw (c .before .before .before .before .before .enum-told6 .given .1) (gives-as (c .before .before .before .release .ensures) (c .before .before .with-answer6 .ensures))
+returns-11 c = rw (c .before .before .before .before .before .enum-told10 .given .1) (gives-as (c .before .before .before .release .ensures) (c .before .before .with-answer2 .ensures))
 
 same-length-11 : tie.Need-same-length-11
 same-length-11 c = search needs
 
 returns-12 : tie.Need-returns-12
-returns-12 c = rw (c .before .before .before .before .before .enum-told7 .given .1) (gives-as (c .before .before .before .delete .ensures) (c .before .before .with-answer7 .ensures))
+returns-12 c = rw (c .before .before .before .before .before .enum-told11 .given .1) (gives-as (c .before .before .before .delete .ensures) (c .before .before .with-answer3 .ensures))
 
 same-length-12 : tie.Need-same-length-12
 same-length-12 c = search needs
 
 returns-13 : tie.Need-returns-13
-returns-13 c = rw (c .before .before .before .before .before .call6 .given .1) (c .before .before .status .ensures)
+returns-13 c = replies-followed (c .before .before .before .before .before .before .before .before .before .args .cell) (c .before .before .before .before .before .before .before .before .before .args .said .line) (c .before .before .before .before .before .before .before .before .before .args .said .id) (c .before .before .before .before .before .before .before .before .before .args .line .now) (c .before .before .before .before .before .before .before .before .before .args .out .now) _ _ (rw (c .before .before .before .before .enum-told12 .given .1) refl) (c .before .before .on-lists5 .ensures)
 
 pub reply-line-spec : {M : Type 1} → statement M
 reply-line-spec =
@@ -201,29 +203,25 @@ reply-line-spec =
     select-requires
     enum-told-5
     board-requires
-    enum-known-call
-    submit-requires
-    with-answer-requires
-    enum-known-call-2
-    start-requires
-    with-answer-requires-2
-    enum-known-call-3
-    complete-requires
-    with-answer-requires-3
-    enum-known-call-4
-    end-requires
-    with-answer-requires-4
-    enum-known-call-5
-    mark-requires
-    with-answer-requires-5
     enum-told-6
-    release-requires
-    with-answer-requires-6
+    on-lists-requires
     enum-told-7
+    on-lists-requires-2
+    enum-told-8
+    on-lists-requires-3
+    enum-known-call
+    end-requires
+    with-answer-requires
+    enum-told-9
+    on-lists-requires-4
+    enum-told-10
+    release-requires
+    with-answer-requires-2
+    enum-told-11
     delete-requires
-    with-answer-requires-7
-    enum-known-call-6
-    status-requires
+    with-answer-requires-3
+    enum-told-12
+    on-lists-requires-5
     same-length
     returns
     same-length-2

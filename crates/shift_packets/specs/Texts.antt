@@ -1,0 +1,39 @@
+-- The texts of answers that the request lists give, and the call that a line SUBMIT is: rows of the script's table, last
+-- column.
+use Prim.Native.Nat.{ℕ, min}
+use mathlib.Core.Bool.{cond}
+use mathlib.Core.List.{List}
+use Rattle.channels.specs.declared.Channel.{Channel}
+use Rattle.packets.specs.Rules as Rules
+use Rattle.packets.specs.State.{drumOn}
+use Rattle.packets.specs.declared.Answer.{Answer}
+use Rattle.packets.specs.declared.Answer.the-variants as Answer′
+use Rattle.packets.specs.declared.Lists.{Lists}
+use Rattle.packets.specs.declared.Spot.{Spot}
+use Rattle.packets.specs.declared.Spot.the-variants.{OnUnit, OnDrum}
+use Rattle.cell.specs.declared.StatusAnswer.{StatusAnswer}
+use Rattle.cell.specs.declared.StatusAnswer.the-variants as Status′
+use Rattle.shift_answers.specs.Answers.{refusedText, doneText, startedText, completedText, statusText}
+use Rattle.shift_script.specs.declared.Submission.{Submission}
+
+-- the line of an answer
+abbrev pub answerText : Answer → List ℕ
+answerText Answer′.Done = doneText
+answerText (Answer′.Started begun) = startedText begun
+answerText (Answer′.Completed place packet leaving) = completedText place packet
+answerText (Answer′.Closed leaving) = doneText
+answerText (Answer′.Refused refusal) = refusedText refusal
+
+-- "`STATUS p k`: a packet's status"
+abbrev pub statusAnswerText : StatusAnswer → List ℕ
+statusAnswerText (Status′.Is status) = statusText status
+statusAnswerText (Status′.Refused refusal) = refusedText refusal
+
+-- "x the unit, or on the drum channel the address, or for 23 there L, with h as H"; a unit number over 255 is out of
+-- range as 255 is
+unfoldable pub spotOf : List Channel → Submission → Spot
+spotOf channels s = cond (drumOn channels (s .channel .0)) (OnDrum (s .at) (s .to)) (OnUnit (record { 0 = min (s .at) 255 }))
+
+-- "submission of packet k by place p"
+abbrev pub submission : Lists → Submission → Rules.Call
+submission lists s = Rules.Submit (s .place) (s .packet) (s .function) (s .channel .0) (spotOf (lists .channels) s)

@@ -1,0 +1,27 @@
+-- `shift_reply::on_lists` meets its contract: the lists answer, and the schedule follows. Assumes nothing.
+use mathlib.Core.Path.{refl, ap}
+use Rattle.schedule_list.specs.declared.Schedule.{Schedule}
+use Rattle.cell.specs.Calls.{cellOf}
+use Rattle.shift_reply.specs.declared.Replied.{Replied}
+use borrow.Author.Needs.{needs}
+use Rattle.shift_reply.proofs.on_lists.Statement.{statement}
+use Rattle.shift_reply.proofs.on_lists.Tie as tie
+use Rattle.shift_reply.proofs.on_lists.Reads as reads
+use Rattle.shift_reply.proofs.on_lists.Lts as lts
+use Rattle.cell.proofs.after_completion.Reads as after-completion-reads
+use Rattle.shift_packets.proofs.reply.Reads as reply-reads
+
+reply-requires : tie.Need-reply-requires
+reply-requires c κs = search needs
+
+after-completion-requires : tie.Need-after-completion-requires
+after-completion-requires c κs = search needs
+
+same-length : tie.Need-same-length
+same-length c = search needs
+
+returns : tie.Need-returns
+returns c = record { handled = c .before .before .before .before .reply .result; handles = c .before .before .before .before .reply .ensures; is = ap (λ (s : Schedule). let r : Replied = record { cell = cellOf s (c .before .before .before .before .reply .result .lists); at = c .before .before .before .before .reply .result .at } in r) (c .after-completion .ensures) }
+
+pub on-lists-spec : {M : Type 1} → statement M
+on-lists-spec = tie.close (tie.spec reply-requires after-completion-requires same-length returns)
