@@ -1,7 +1,7 @@
 -- What the loop over a piece keeps: its lines so far are heard, and no fewer answer enough. Assumes nothing.
 use Prim.Native.Nat.{ℕ, zero, suc, _+_, _-_, _≤_, _<_}
-use mathlib.Core.Path.{_≡_, refl, sym, ap, subst, _∙_}
-use mathlib.Core.Bool.{Bool, true, false, cond}
+use mathlib.Core.Path.{_≡_, refl, sym, ap, ap₂, subst, _∙_}
+use mathlib.Core.Bool.{Bool, true, false, cond, false≢true}
 use mathlib.Core.List.{List, [], _∷_, _++_, append-nil, append-assoc}
 use native.Mathlib.Omega.{arith}
 use lib.Dec.{ltb}
@@ -18,11 +18,23 @@ use Rattle.words.proofs.LineLaws.{NoLf, line-split, line-clean}
 use Rattle.shift_lines.specs.Lines.{isWhole, TakesUp}
 use Rattle.shift_lines.specs.declared.Cut.{Cut}
 use Rattle.shift_lines.proofs.LineLaws.{taken-within}
-use Rattle.shift_turns.specs.Turns.{Turns}
+use Rattle.packets.specs.declared.Lists.{Lists}
+use Rattle.schedule_list.specs.declared.Schedule.{Schedule}
+use Rattle.cell.specs.Calls.{cellOf, afterCompletion}
+use Rattle.shift_script.specs.Script.{lineSays}
+use Rattle.shift_script.specs.declared.Line.{Line}
+use Rattle.shift_script.specs.declared.Line.the-variants as Line′
+use Rattle.shift_packets.specs.OnLists.{isForLists, Handles}
+use Rattle.shift_packets.specs.declared.Handled.{Handled}
+use Rattle.shift_reply.specs.Followed.{followedBy}
+use Rattle.shift_reply.proofs.FollowedLaws.{followed-replies}
+use Rattle.shift_turns.specs.Turns.{Turns, shiftOf, turnOf, afterLine}
+use Rattle.shift_turns.specs.declared.Phase.{Phase}
+use Rattle.shift_turns.specs.declared.Phase.the-variants as Phase′
 use Rattle.shift_turns.specs.declared.Shift.{Shift}
 use Rattle.shift_turns.specs.declared.Turn.{Turn}
-use Rattle.shift_hearing.specs.Hearing.{Standing, standing, kept, Answers, Hears, HearsSome}
-use Rattle.shift_hearing.specs.Behind.{AnswersBehind}
+use Rattle.shift_hearing.specs.Hearing.{Standing, standing, kept, Answers, Hears, HearsSome, HearsPiece}
+use Rattle.shift_hearing.specs.Behind.{askedIn, Behind, AnswersBehind, HandlesBehind}
 use Rattle.shift_hearing.proofs.HearingLaws.{joined, parted, hears-one, hears-clean, hears-lf, same}
 
 -- what is left of a piece, as a part of it is
@@ -60,18 +72,56 @@ hears-kept shift len line room answer p after end w n =
     kept-as : kept (standing shift len line room answer) p ≡ standing shift end after room answer
     kept-as = same refl (sym (w .reached)) (sym (w .bytes)) refl refl
 
--- a line's turn, and its answer behind those before it
-pub behind : (from : Shift) (turn : Turn) (line room room′ answer answer′ said out after : List ℕ) (at end : ℕ)
-    → Turns (from .phase) (from .cell) line room room′ answer answer′ turn → said ≡ take (turn .at) answer′ → length answer′ ≡ 53248 → length out ≡ 65536 → Written out at said after end
-    → AnswersBehind from line room room′ answer answer′ out at after (record { shift = turn .shift; at = end })
-behind from turn line room room′ answer answer′ said out after at end t e b c v =
-    let w : Written out at (take (turn .at) answer′) after end = subst (λ (p : List ℕ). Written out at p after end) e v in
+-- ---- one line
+
+-- an answer put behind those before it
+pub put-behind : {answer said out after : List ℕ} {n at end : ℕ} → said ≡ take n answer → length answer ≡ 53248 → length out ≡ 65536 → Written out at said after end → Behind answer out n at after end
+put-behind {answer} {said} {out} {after} {n} {at} {end} e b c v =
+    let w : Written out at (take n answer) after end = subst (λ (p : List ℕ). Written out at p after end) e v in
+    record { put = w; uncut = λ s. omega (arith, w .reached, length-take n answer) }
+
+-- after a call on the request lists calls are answered on
+talks-on : (call : Line) → isForLists call ≡ true → afterLine call ≡ Phase′.Talks
+talks-on Line′.NoCall e = refl
+talks-on Line′.Echo e = refl
+talks-on Line′.Deck e = absurd (false≢true e)
+talks-on Line′.Select e = refl
+talks-on Line′.Board e = refl
+talks-on (Line′.Submit s) e = refl
+talks-on (Line′.Start c) e = refl
+talks-on (Line′.Complete c h) e = refl
+talks-on (Line′.End p n) e = refl
+talks-on (Line′.Mark c u m o) e = refl
+talks-on Line′.Release e = refl
+talks-on Line′.Delete e = refl
+talks-on (Line′.Status p k) e = refl
+
+-- a call on the request lists is answered only while calls are, and the phase stays
+call-turns : (phase : Phase) (schedule : Schedule) (lists : Lists) (line room answer answer′ : List ℕ) (h : Handled) → isForLists (askedIn phase line) ≡ true → Handles lists (askedIn phase line) answer answer′ h
+    → Turns phase (cellOf schedule lists) line room room answer answer′ (turnOf phase (followedBy schedule h) (h .at))
+call-turns (Phase′.Begins kept) schedule lists line room answer answer′ h e g = absurd (false≢true e)
+call-turns Phase′.Talks schedule lists line room answer answer′ h e g = (
+  refl,
+  record {
+    replied = record { cell = followedBy schedule h; at = h .at };
+    replies = followed-replies (cellOf schedule lists) (lineSays line .line) (lineSays line .id) line answer answer′ h e g;
+    is = ap (λ (p : Phase). turnOf p (followedBy schedule h) (h .at)) (sym (talks-on (lineSays line .line) e));
+  },
+)
+call-turns (Phase′.Gathers kept) schedule lists line room answer answer′ h e g = absurd (false≢true e)
+call-turns Phase′.Passes schedule lists line room answer answer′ h e g = absurd (false≢true e)
+call-turns Phase′.Over schedule lists line room answer answer′ h e g = absurd (false≢true e)
+
+-- a call on the request lists, answered from them, is a line's turn
+pub call-behind : (phase : Phase) (schedule s : Schedule) (lists : Lists) (call : Line) (said room answer answer′ out after : List ℕ) (at : ℕ) (r : Handled)
+    → call ≡ askedIn phase said → isForLists call ≡ true → HandlesBehind lists call answer answer′ out at after r → s ≡ afterCompletion schedule (r .answer)
+    → AnswersBehind (shiftOf phase (cellOf schedule lists)) said room room answer answer′ out at after (turnOf phase (cellOf s (r .lists)) (r .at))
+call-behind phase schedule s lists call said room answer answer′ out after at r c f g e =
     record {
-      turn = turn;
-      turns = t;
-      shift = refl;
-      put = w;
-      uncut = λ s. omega (arith, w .reached, length-take (turn .at) answer′);
+      turn = turnOf phase (followedBy schedule (g .handled)) (g .handled .at);
+      turns = call-turns phase schedule lists said room answer answer′ (g .handled) (subst (λ (x : Line). isForLists x ≡ true) c f) (subst (λ (x : Line). Handles lists x answer answer′ (g .handled)) c (g .handles));
+      shift = ap₂ (λ (t : Schedule) (l : Lists). shiftOf phase (cellOf t l)) (e ∙ ap (afterCompletion schedule) (g .says)) (g .leaves);
+      behind = g .behind;
     }
 
 -- ---- the loop
@@ -142,12 +192,23 @@ module _ {s₀ : Standing} {piece out₀ out : List ℕ} {shift : Shift} {len ta
       let k₀ = hears-kept shift len line room answer (lineOf (rest piece taken)) after (cut .kept) (u .put) (line-clean (rest piece taken)) in
       let k = joined now ended next (lineOf (rest piece taken)) (lf ∷ []) [] (take (a .turn .at) answer′) k₀ (hears-lf w) in
       let g = joined s₀ now next (take taken piece) (lineOf (rest piece taken) ++ (lf ∷ [])) (h .text) (take (a .turn .at) answer′) (h .hears) k in
-      let q = andThen (h .put) (a .put) in
+      let q = andThen (h .put) (a .behind .put) in
       record {
         text = h .text ++ take (a .turn .at) answer′;
         hears = subst (λ (p : List ℕ). Hears s₀ p (h .text ++ take (a .turn .at) answer′) (standing (r .shift) 0 after room′ answer′)) (sym e) g;
         put = q;
-        uncut = omega (arith, a .uncut small, length-append (h .text) (take (a .turn .at) answer′), h .uncut);
+        uncut = omega (arith, a .behind .uncut small, length-append (h .text) (take (a .turn .at) answer′), h .uncut);
         most = taken-within piece taken l u .0;
         fewer = fewer-on;
       }
+
+-- a shift under another name
+pub named : {a b : Shift} {line room room′ answer answer′ out after : List ℕ} {at : ℕ} {r : Turn} → a ≡ b → AnswersBehind a line room room′ answer answer′ out at after r → AnswersBehind b line room room′ answer answer′ out at after r
+named {line = line} {room = room} {room′ = room′} {answer = answer} {answer′ = answer′} {out = out} {after = after} {at = at} {r = r} e b =
+    subst (λ (s : Shift). AnswersBehind s line room room′ answer answer′ out at after r) e b
+
+-- the end of the loop
+pub ended : {s₀ : Standing} {piece out₀ out : List ℕ} {shift r : Shift} {len taken at : ℕ} {line room answer : List ℕ} → HearsSome s₀ piece out₀ (standing shift len line room answer) taken at out
+    → r ≡ shift → (taken < length piece → 12288 < at) → HearsPiece s₀ piece out₀ (standing r len line room answer) taken at out
+ended {s₀ = s₀} {piece = piece} {out₀ = out₀} {out = out} {len = len} {taken = taken} {at = at} {line = line} {room = room} {answer = answer} h e f =
+    record { some = subst (λ (s : Shift). HearsSome s₀ piece out₀ (standing s len line room answer) taken at out) (sym e) h; all = f }

@@ -39,9 +39,9 @@ pub record AnswersBehind (from : Shift) (line room room′ answer answer′ out 
   pub behind : Behind answer′ out (turn .at) at after (r .at)
 
 -- a call on the request lists, its answer put behind those before it
-pub record HandlesBehind (lists : Lists) (call : Line) (answer answer′ out : List ℕ) (at : ℕ) (after : List ℕ) (r : Handled) : Type 0 where
+pub record HandlesBehind (from : Lists) (call : Line) (answer answer′ out : List ℕ) (at : ℕ) (after : List ℕ) (r : Handled) : Type 0 where
   pub handled : Handled
-  pub handles : Handles lists call answer answer′ handled
-  pub lists : r .lists ≡ handled .lists
-  pub answer : r .answer ≡ handled .answer
+  pub handles : Handles from call answer answer′ handled
+  pub leaves : r .lists ≡ handled .lists
+  pub says : r .answer ≡ handled .answer
   pub behind : Behind answer′ out (handled .at) at after (r .at)

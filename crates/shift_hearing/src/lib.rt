@@ -1,10 +1,23 @@
 // The input of a shift, piece by piece: lines are taken out of the pieces and answered one after the other, and their
-// answers stand in lent room one behind the other.
+// answers stand in lent room one behind the other. The schedule stands by itself meanwhile: most lines are calls on the
+// request lists alone, and it is not copied for these.
+use cell::Cell;
+use packets::Answer;
+use packets::Leaving;
+use packets::Lists;
+use schedule_list::Schedule;
+use shift_packets::Handled;
+use shift_script::Line;
+use shift_turns::Phase;
 use shift_turns::Shift;
 use shift_turns::Turn;
+ghost use mathlib.Core.Path.{_≡_};
+ghost use mathlib.Core.Bool.{false};
 ghost use lib.ListN.{take};
-ghost use Rattle.shift_turns.specs.Turns.{Ends};
-ghost use Rattle.shift_hearing.specs.Behind.{AnswersBehind};
+ghost use Rattle.cell.specs.Calls.{cellOf, afterCompletion};
+ghost use Rattle.schedule_list.specs.declared.Schedule.{Schedule};
+ghost use Rattle.shift_turns.specs.Turns.{shiftOf, Ends};
+ghost use Rattle.shift_hearing.specs.Behind.{askedIn, AnswersBehind, HandlesBehind};
 ghost use Rattle.shift_hearing.specs.Hearing.{standing, HearsPiece};
 
 // The shift after what was heard, how many bytes of the next line stand in the room for it, how many bytes of the
@@ -14,6 +27,71 @@ pub struct Heard {
     pub len: usize,
     pub taken: usize,
     pub at: usize,
+}
+
+// A shift of these parts.
+fn shift_of(phase: Phase, schedule: Schedule, lists: Lists) -> Shift
+    ensures { λ r. ⌜ r ≡ shiftOf phase (cellOf schedule lists) ⌝ }
+{
+    Shift {
+        phase,
+        cell: Cell { schedule, lists },
+    }
+}
+
+// What a line says while calls are answered.
+fn asked(phase: Phase, line: &[u8]) -> Line
+    ensures { λ r. ⌜ r ≡ askedIn phase (now (line .entry)) ⌝ }
+{
+    match phase {
+        Phase::Begins(_) => Line::NoCall,
+        Phase::Talks => {
+            let said = shift_script::read_line(line);
+            said.line
+        }
+        Phase::Gathers(_) => Line::NoCall,
+        Phase::Passes => Line::NoCall,
+        Phase::Over => Line::NoCall,
+    }
+}
+
+// Whether an answer returned a job's facilities; if not, no schedule follows it.
+fn is_returning(answer: Answer) -> bool
+    ensures { λ r. ⌜ ((r ≡ false) → (s : Schedule) → afterCompletion s answer ≡ s) ⌝ }
+{
+    match answer {
+        Answer::Done => false,
+        Answer::Started(_) => false,
+        Answer::Completed(_, _, leaving) => match leaving {
+            Leaving::Stays => false,
+            Leaving::AfterNormal => true,
+            Leaving::AfterError => true,
+        },
+        Answer::Closed(_) => false,
+        Answer::Refused(_) => false,
+    }
+}
+
+// Answers one line that is a call on the request lists, and puts the answer behind those before it.
+fn answer_call(
+    lists: Lists,
+    call: Line,
+    answer: &mut [u8; 53248],
+    out: &mut [u8; 65536],
+    at: usize,
+) -> Handled
+    ensures { λ r. ⌜ HandlesBehind lists call (now (answer .entry)) (now (answer .exit))
+        (now (out .entry)) at (now (out .exit)) r ⌝ }
+{
+    let handled = shift_packets::reply(lists, call, answer);
+    let after = handled.lists;
+    let said = handled.answer;
+    let end = text::put_bytes(out, at, shift_lines::front(answer, handled.at));
+    Handled {
+        lists: after,
+        answer: said,
+        at: end,
+    }
 }
 
 // Answers one line, and puts the answer behind those before it.
@@ -54,7 +132,10 @@ pub fn hear(
         (standing (r .shift) (r .len) (now (line .exit)) (now (room .exit)) (now (answer .exit)))
         (r .taken) (r .at) (now (out .exit)) ⌝ }
 {
-    let mut shift = first;
+    let mut phase = first.phase;
+    let cell = first.cell;
+    let mut schedule = cell.schedule;
+    let mut lists = cell.lists;
     let mut kept = len;
     let mut taken: usize = 0;
     let mut at: usize = 0;
@@ -63,14 +144,30 @@ pub fn hear(
         taken += cut.taken;
         kept = cut.kept;
         if cut.whole {
-            let turn = answer_line(shift, shift_lines::front(line, kept), room, answer, out, at);
-            shift = turn.shift;
-            at = turn.at;
+            let call = asked(phase, shift_lines::front(line, kept));
+            if shift_packets::is_for_lists(call) {
+                let handled = answer_call(lists, call, answer, out, at);
+                let said = handled.answer;
+                lists = handled.lists;
+                at = handled.at;
+                if is_returning(said) {
+                    schedule = cell::after_completion(schedule, said);
+                }
+            } else {
+                let now = shift_of(phase, schedule, lists);
+                let turn = answer_line(now, shift_lines::front(line, kept), room, answer, out, at);
+                let next = turn.shift;
+                let after = next.cell;
+                phase = next.phase;
+                schedule = after.schedule;
+                lists = after.lists;
+                at = turn.at;
+            }
             kept = 0;
         }
     }
     Heard {
-        shift,
+        shift: shift_of(phase, schedule, lists),
         len: kept,
         taken,
         at,

@@ -1,8 +1,13 @@
--- `shift_hearing::answer_line` meets its contract: the answer is put behind those before it. Assumes nothing.
-use Rattle.shift_hearing.proofs.Loop.{behind}
+use mathlib.Core.Path.{refl}
+use Rattle.shift_hearing.proofs.Loop.{put-behind}
 use borrow.Author.Needs.{needs}
 use Rattle.shift_hearing.proofs.answer_line.Statement.{statement}
 use Rattle.shift_hearing.proofs.answer_line.Tie as tie
+use Rattle.shift_hearing.proofs.answer_line.Reads as reads
+use Rattle.shift_hearing.proofs.answer_line.Lts as lts
+use Rattle.shift_lines.proofs.front.Reads as front-reads
+use Rattle.shift_turns.proofs.take_line.Reads as take-line-reads
+use Rattle.text.proofs.put_bytes.Reads as put-bytes-reads
 
 take-line-requires : tie.Need-take-line-requires
 take-line-requires c κs = search needs
@@ -14,7 +19,7 @@ put-bytes-requires : tie.Need-put-bytes-requires
 put-bytes-requires c κs = search needs
 
 returns : tie.Need-returns
-returns c = behind (c .before .before .before .before .before .before .before .before .before .before .args .shift) (c .before .before .before .before .before .before .take-line .result) (c .before .before .before .before .before .before .before .before .before .before .args .line .now) (c .before .before .before .before .before .before .before .before .before .before .args .room .now) _ (c .before .before .before .before .before .before .before .before .before .before .args .answer .now) _ (c .before .front .result .now) (c .before .before .before .before .before .before .before .before .before .before .args .out .now) _ (c .before .before .before .before .before .before .before .before .before .before .args .at) (c .put-bytes .result) (c .before .before .before .before .before .before .take-line .ensures) (c .before .front .ensures) (search needs) (search needs) (c .put-bytes .ensures)
+returns c = record { turn = c .before .before .before .before .before .before .take-line .result; turns = c .before .before .before .before .before .before .take-line .ensures; shift = refl; behind = put-behind (c .before .front .ensures) (search needs) (search needs) (c .put-bytes .ensures) }
 
 pub answer-line-spec : {M : Type 1} → statement M
 answer-line-spec =

@@ -1,23 +1,29 @@
-use borrow.Author.Tests.{leb-true, leb-false}
 -- `shift_hearing::hear` meets its contract: its lines so far are heard, and what is left of the piece grows shorter.
 -- Assumes nothing.
 use Prim.Native.Nat.{_<_, _-_}
-use mathlib.Core.Path.{_≡_}
+use mathlib.Core.Path.{_≡_, sym, _∙_}
+use mathlib.Core.Logic.{⊎-elim}
 use native.Mathlib.Omega.{arith}
 use lib.ListN.{length}
+use borrow.Author.Tests.{leb-true, leb-false}
+use Rattle.cell.specs.Calls.{cellOf}
 use Rattle.shift_lines.proofs.LineLaws.{taken-within}
+use Rattle.shift_turns.specs.Turns.{shiftOf}
 use Rattle.shift_hearing.specs.Hearing.{standing, HearsSome}
-use Rattle.shift_hearing.proofs.Loop.{start, part, whole}
+use Rattle.shift_hearing.proofs.Loop.{start, part, whole, call-behind, named, ended}
 use borrow.Author.Needs.{needs}
 use Rattle.shift_hearing.proofs.hear.Statement.{statement}
 use Rattle.shift_hearing.proofs.hear.Tie as tie
 
 abbrev Inv-loop : tie.InvT-loop
-Inv-loop len piece line₀ room₀ answer₀ out₀ shift₀ kept₀ taken₀ at₀ line room answer out shift kept taken at =
-    HearsSome (standing shift₀ len line₀ room₀ answer₀) piece out₀ (standing shift kept line room answer) taken at out × (length piece < 18446744073709551616)
+Inv-loop len piece line₀ room₀ answer₀ out₀ phase₀ schedule₀ lists₀ kept₀ taken₀ at₀ line room answer out phase schedule lists kept taken at =
+    HearsSome (standing (shiftOf phase₀ (cellOf schedule₀ lists₀)) len line₀ room₀ answer₀) piece out₀
+    (standing (shiftOf phase (cellOf schedule lists)) kept line room answer) taken at out
+    × (length piece < 18446744073709551616)
 
 abbrev μ-loop : tie.MeasureT-loop
-μ-loop len piece line₀ room₀ answer₀ out₀ shift₀ kept₀ taken₀ at₀ line room answer out shift kept taken at = length piece - taken
+μ-loop len piece line₀ room₀ answer₀ out₀ phase₀ schedule₀ lists₀ kept₀ taken₀ at₀ line room answer out phase schedule lists kept taken at =
+    length piece - taken
 
 loop-holds : tie.Need-loop-holds Inv-loop μ-loop
 loop-holds c = (start _ _ _, search needs)
@@ -35,31 +41,64 @@ take-up-requires : tie.Need-take-up-requires Inv-loop μ-loop
 take-up-requires c κs = search needs
 
 add-taken : tie.Need-add-taken Inv-loop μ-loop
-add-taken c = let t = taken-within (c .before .before .before .before .before .before .before .before .args .piece .now) (c .before .before .before .before .before .before .loop .taken) (c .before .before .before .before .before .loop-test .taken) (c .before .take-up .ensures) in omega (arith, t .0, c .before .before .before .before .before .before .loop .inv .1)
+add-taken c = let t = taken-within (c .before .before .before .before .before .before .before .before .before .before .before .args .piece .now) (c .before .before .before .before .before .before .loop .taken) (c .before .before .before .before .before .loop-test .taken) (c .before .take-up .ensures) in omega (arith, t .0, c .before .before .before .before .before .before .loop .inv .1)
 
 front-requires : tie.Need-front-requires Inv-loop μ-loop
 front-requires c κs = search needs
+
+asked-requires : tie.Need-asked-requires Inv-loop μ-loop
+asked-requires c κs = search needs
+
+is-for-lists-requires : tie.Need-is-for-lists-requires Inv-loop μ-loop
+is-for-lists-requires c κs = search needs
+
+answer-call-requires : tie.Need-answer-call-requires Inv-loop μ-loop
+answer-call-requires c κs = search needs
+
+is-returning-requires : tie.Need-is-returning-requires Inv-loop μ-loop
+is-returning-requires c κs = search needs
+
+after-completion-requires : tie.Need-after-completion-requires Inv-loop μ-loop
+after-completion-requires c κs = search needs
+
+shift-of-requires : tie.Need-shift-of-requires Inv-loop μ-loop
+shift-of-requires c κs = search needs
+
+front-requires-2 : tie.Need-front-requires-2 Inv-loop μ-loop
+front-requires-2 c κs = search needs
 
 answer-line-requires : tie.Need-answer-line-requires Inv-loop μ-loop
 answer-line-requires c κs = search needs
 
 loop-less : tie.Need-loop-less Inv-loop μ-loop
-loop-less c = let t = taken-within (c .before .before .before .before .before .before .before .before .before .before .before .before .before .before .before .before .before .args .piece .now) (c .before .before .before .before .before .before .before .before .before .before .before .before .before .before .before .loop .taken) (c .before .before .before .before .before .before .before .before .before .before .before .before .before .before .loop-test .taken) (c .before .before .before .before .before .before .before .before .before .before .take-up .ensures) in omega (arith, t .0, t .1)
+loop-less c = let t = taken-within (c .before .before .before .before .before .before .before .before .before .before .before .before .before .before .before .before .before .before .before .before .before .before .before .before .before .args .piece .now) (c .before .before .before .before .before .before .before .before .before .before .before .before .before .before .before .before .before .before .before .before .loop .taken) (c .before .before .before .before .before .before .before .before .before .before .before .before .before .before .before .before .before .before .before .loop-test .taken) (c .before .before .before .before .before .before .before .before .before .before .before .before .before .before .before .take-up .ensures) in omega (arith, t .0, t .1)
 
 loop-again : tie.Need-loop-again Inv-loop μ-loop
-loop-again c = (whole (c .before .before .before .before .before .before .before .before .before .before .before .before .before .before .before .loop .inv .0) (c .before .before .before .before .before .before .before .before .before .before .before .before .before .before .loop-test .taken) (leb-true (c .before .before .before .before .before .before .before .before .before .before .before .before .before .before .before .loop .at) 12288 (c .before .before .before .before .before .before .before .before .before .before .before .before .before .if1 .taken)) (c .before .before .before .before .before .before .before .before .before .before .take-up .ensures) (c .before .before .before .before .before .before .before .before .if2 .taken) (c .before .before .before .before .before .front .ensures) (c .before .answer-line .ensures), c .before .before .before .before .before .before .before .before .before .before .before .before .before .before .before .loop .inv .1)
+loop-again c = (whole (c .before .before .before .before .before .before .before .before .before .before .before .before .before .before .before .before .before .before .before .before .loop .inv .0) (c .before .before .before .before .before .before .before .before .before .before .before .before .before .before .before .before .before .before .before .loop-test .taken) (leb-true (c .before .before .before .before .before .before .before .before .before .before .before .before .before .before .before .before .before .before .before .before .loop .at) 12288 (c .before .before .before .before .before .before .before .before .before .before .before .before .before .before .before .before .before .before .if1 .taken)) (c .before .before .before .before .before .before .before .before .before .before .before .before .before .before .before .take-up .ensures) (c .before .before .before .before .before .before .before .before .before .before .before .before .before .if2 .taken) (c .before .before .before .before .before .before .before .before .before .before .front .ensures) (call-behind (c .before .before .before .before .before .before .before .before .before .before .before .before .before .before .before .before .before .before .before .before .loop .phase) (c .before .before .before .before .before .before .before .before .before .before .before .before .before .before .before .before .before .before .before .before .loop .schedule) (c .after-completion .result) (c .before .before .before .before .before .before .before .before .before .before .before .before .before .before .before .before .before .before .before .before .loop .lists) (c .before .before .before .before .before .before .before .before .before .asked .result) (c .before .before .before .before .before .before .before .before .before .before .front .result .now) (c .before .before .before .before .before .before .before .before .before .before .before .before .before .before .before .before .before .before .before .before .loop .room) (c .before .before .before .before .before .before .before .before .before .before .before .before .before .before .before .before .before .before .before .before .loop .answer) _ (c .before .before .before .before .before .before .before .before .before .before .before .before .before .before .before .before .before .before .before .before .loop .out) _ (c .before .before .before .before .before .before .before .before .before .before .before .before .before .before .before .before .before .before .before .before .loop .at) (c .before .before .before .before .answer-call .result) (c .before .before .before .before .before .before .before .before .before .asked .ensures) (sym (c .before .before .before .before .before .before .before .before .is-for-lists .ensures) ∙ c .before .before .before .before .before .before .before .if3 .taken) (c .before .before .before .before .answer-call .ensures) (c .after-completion .ensures)), c .before .before .before .before .before .before .before .before .before .before .before .before .before .before .before .before .before .before .before .before .loop .inv .1)
 
 loop-less-2 : tie.Need-loop-less-2 Inv-loop μ-loop
-loop-less-2 c = let t = taken-within (c .before .before .before .before .before .before .before .before .before .args .piece .now) (c .before .before .before .before .before .before .before .loop .taken) (c .before .before .before .before .before .before .loop-test .taken) (c .before .before .take-up .ensures) in omega (arith, t .0, t .1)
+loop-less-2 c = let t = taken-within (c .before .before .before .before .before .before .before .before .before .before .before .before .before .before .before .before .before .before .before .before .before .before .before .before .args .piece .now) (c .before .before .before .before .before .before .before .before .before .before .before .before .before .before .before .before .before .before .before .loop .taken) (c .before .before .before .before .before .before .before .before .before .before .before .before .before .before .before .before .before .before .loop-test .taken) (c .before .before .before .before .before .before .before .before .before .before .before .before .before .before .take-up .ensures) in omega (arith, t .0, t .1)
 
 loop-again-2 : tie.Need-loop-again-2 Inv-loop μ-loop
-loop-again-2 c = (part (c .before .before .before .before .before .before .before .loop .inv .0) (c .before .before .before .before .before .before .loop-test .taken) (leb-true (c .before .before .before .before .before .before .before .loop .at) 12288 (c .before .before .before .before .before .if1 .taken)) (c .before .before .take-up .ensures) (c .if2 .left), c .before .before .before .before .before .before .before .loop .inv .1)
+loop-again-2 c = (whole (c .before .before .before .before .before .before .before .before .before .before .before .before .before .before .before .before .before .before .before .loop .inv .0) (c .before .before .before .before .before .before .before .before .before .before .before .before .before .before .before .before .before .before .loop-test .taken) (leb-true (c .before .before .before .before .before .before .before .before .before .before .before .before .before .before .before .before .before .before .before .loop .at) 12288 (c .before .before .before .before .before .before .before .before .before .before .before .before .before .before .before .before .before .if1 .taken)) (c .before .before .before .before .before .before .before .before .before .before .before .before .before .before .take-up .ensures) (c .before .before .before .before .before .before .before .before .before .before .before .before .if2 .taken) (c .before .before .before .before .before .before .before .before .before .front .ensures) (call-behind (c .before .before .before .before .before .before .before .before .before .before .before .before .before .before .before .before .before .before .before .loop .phase) (c .before .before .before .before .before .before .before .before .before .before .before .before .before .before .before .before .before .before .before .loop .schedule) (c .before .before .before .before .before .before .before .before .before .before .before .before .before .before .before .before .before .before .before .loop .schedule) (c .before .before .before .before .before .before .before .before .before .before .before .before .before .before .before .before .before .before .before .loop .lists) (c .before .before .before .before .before .before .before .before .asked .result) (c .before .before .before .before .before .before .before .before .before .front .result .now) (c .before .before .before .before .before .before .before .before .before .before .before .before .before .before .before .before .before .before .before .loop .room) (c .before .before .before .before .before .before .before .before .before .before .before .before .before .before .before .before .before .before .before .loop .answer) _ (c .before .before .before .before .before .before .before .before .before .before .before .before .before .before .before .before .before .before .before .loop .out) _ (c .before .before .before .before .before .before .before .before .before .before .before .before .before .before .before .before .before .before .before .loop .at) (c .before .before .before .answer-call .result) (c .before .before .before .before .before .before .before .before .asked .ensures) (sym (c .before .before .before .before .before .before .before .is-for-lists .ensures) ∙ c .before .before .before .before .before .before .if3 .taken) (c .before .before .before .answer-call .ensures) (sym (c .before .is-returning .ensures (c .if4 .left) (c .before .before .before .before .before .before .before .before .before .before .before .before .before .before .before .before .before .before .before .loop .schedule)))), c .before .before .before .before .before .before .before .before .before .before .before .before .before .before .before .before .before .before .before .loop .inv .1)
+
+loop-less-3 : tie.Need-loop-less-3 Inv-loop μ-loop
+loop-less-3 c = let t = taken-within (c .before .before .before .before .before .before .before .before .before .before .before .before .before .before .before .before .before .before .before .before .before .before .before .before .before .before .before .before .before .before .args .piece .now) (c .before .before .before .before .before .before .before .before .before .before .before .before .before .before .before .before .before .before .before .before .before .before .before .before .before .loop .taken) (c .before .before .before .before .before .before .before .before .before .before .before .before .before .before .before .before .before .before .before .before .before .before .before .before .loop-test .taken) (c .before .before .before .before .before .before .before .before .before .before .before .before .before .before .before .before .before .before .before .before .take-up .ensures) in omega (arith, t .0, t .1)
+
+loop-again-3 : tie.Need-loop-again-3 Inv-loop μ-loop
+loop-again-3 c = (whole (c .before .before .before .before .before .before .before .before .before .before .before .before .before .before .before .before .before .before .before .before .before .before .before .before .before .loop .inv .0) (c .before .before .before .before .before .before .before .before .before .before .before .before .before .before .before .before .before .before .before .before .before .before .before .before .loop-test .taken) (leb-true (c .before .before .before .before .before .before .before .before .before .before .before .before .before .before .before .before .before .before .before .before .before .before .before .before .before .loop .at) 12288 (c .before .before .before .before .before .before .before .before .before .before .before .before .before .before .before .before .before .before .before .before .before .before .before .if1 .taken)) (c .before .before .before .before .before .before .before .before .before .before .before .before .before .before .before .before .before .before .before .before .take-up .ensures) (c .before .before .before .before .before .before .before .before .before .before .before .before .before .before .before .before .before .before .if2 .taken) (c .before .before .before .before .before .before .before .before .front2 .ensures) (named (c .before .before .before .before .before .before .before .before .before .before .before .shift-of .ensures) (c .before .before .before .before .answer-line .ensures)), c .before .before .before .before .before .before .before .before .before .before .before .before .before .before .before .before .before .before .before .before .before .before .before .before .before .loop .inv .1)
+
+loop-less-4 : tie.Need-loop-less-4 Inv-loop μ-loop
+loop-less-4 c = let t = taken-within (c .before .before .before .before .before .before .before .before .before .before .before .before .args .piece .now) (c .before .before .before .before .before .before .before .loop .taken) (c .before .before .before .before .before .before .loop-test .taken) (c .before .before .take-up .ensures) in omega (arith, t .0, t .1)
+
+loop-again-4 : tie.Need-loop-again-4 Inv-loop μ-loop
+loop-again-4 c = (part (c .before .before .before .before .before .before .before .loop .inv .0) (c .before .before .before .before .before .before .loop-test .taken) (leb-true (c .before .before .before .before .before .before .before .loop .at) 12288 (c .before .before .before .before .before .if1 .taken)) (c .before .before .take-up .ensures) (c .if2 .left), c .before .before .before .before .before .before .before .loop .inv .1)
+
+shift-of-requires-2 : tie.Need-shift-of-requires-2 Inv-loop μ-loop
+shift-of-requires-2 c κs = search needs
 
 returns : tie.Need-returns Inv-loop μ-loop
-returns c = record { some = c .before .before .loop .inv .0; all = λ l. leb-false (c .before .before .loop .at) 12288 (c .if1 .left) }
-
-returns-2 : tie.Need-returns-2 Inv-loop μ-loop
-returns-2 c = record { some = c .before .loop .inv .0; all = λ l. absurd (omega (arith, c .loop-test .left)) }
+returns c = ended (c .before .before .loop .inv .0) (c .shift-of2 .ensures) (λ l. ⊎-elim (λ w. leb-false (c .before .before .loop .at) 12288 (w .1 .left)) (λ w. absurd (omega (arith, w .left))) (c .before .loop-test .came))
 
 pub hear-spec : {M : Type 1} → statement M
 hear-spec =
@@ -74,10 +113,21 @@ hear-spec =
     take-up-requires
     add-taken
     front-requires
+    asked-requires
+    is-for-lists-requires
+    answer-call-requires
+    is-returning-requires
+    after-completion-requires
+    shift-of-requires
+    front-requires-2
     answer-line-requires
     loop-less
     loop-again
     loop-less-2
     loop-again-2
-    returns
-    returns-2)
+    loop-less-3
+    loop-again-3
+    loop-less-4
+    loop-again-4
+    shift-of-requires-2
+    returns)

@@ -1,0 +1,26 @@
+use mathlib.Core.Path.{refl}
+use Rattle.shift_hearing.proofs.Loop.{put-behind}
+-- `shift_hearing::answer_call` meets its contract: the answer is put behind those before it. Assumes nothing.
+use borrow.Author.Needs.{needs}
+use Rattle.shift_hearing.proofs.answer_call.Statement.{statement}
+use Rattle.shift_hearing.proofs.answer_call.Tie as tie
+use Rattle.shift_hearing.proofs.answer_call.Reads as reads
+use Rattle.shift_hearing.proofs.answer_call.Lts as lts
+use Rattle.shift_lines.proofs.front.Reads as front-reads
+use Rattle.shift_packets.proofs.reply.Reads as reply-reads
+use Rattle.text.proofs.put_bytes.Reads as put-bytes-reads
+
+reply-requires : tie.Need-reply-requires
+reply-requires c κs = search needs
+
+front-requires : tie.Need-front-requires
+front-requires c κs = search needs
+
+put-bytes-requires : tie.Need-put-bytes-requires
+put-bytes-requires c κs = search needs
+
+returns : tie.Need-returns
+returns c = record { handled = c .before .before .before .before .before .before .reply .result; handles = c .before .before .before .before .before .before .reply .ensures; leaves = refl; says = refl; behind = put-behind (c .before .front .ensures) (search needs) (search needs) (c .put-bytes .ensures) }
+
+pub answer-call-spec : {M : Type 1} → statement M
+answer-call-spec = tie.close (tie.spec reply-requires front-requires put-bytes-requires returns)
