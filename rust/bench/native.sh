@@ -29,8 +29,8 @@ ten() {
     cat <<'RT'
 // Functions of the proved crates under plain names, for a harness.
 use cell::Cell;
-use cell::StatusAnswer;
 use cell_selection::Taking;
+use lists::StatusAnswer;
 use numbers::ChannelNumber;
 use numbers::Outcome;
 use numbers::UnitNumber;

@@ -2,12 +2,11 @@
 -- it puts together the pages of the schedule's calls, of selection and of the request lists.
 use Prim.Native.Nat.{ℕ}
 use mathlib.Core.Path.{_≡_}
-use mathlib.Core.Bool.{Bool, true, false, cond, _&&_}
+use mathlib.Core.Bool.{Bool, true, false}
 use mathlib.Core.List.{List, []}
-use lib.Dec.{ltb}
 use Rattle.numbers.specs.declared.Outcome.{Outcome}
 use Rattle.numbers.specs.declared.Outcome.the-variants as Outcomes
-use Rattle.numbers.specs.declared.Refusal.the-variants.{NothingSelected, OutOfRange}
+use Rattle.numbers.specs.declared.Refusal.the-variants.{NothingSelected}
 use Rattle.channels.specs.declared.Configuration.{Configuration}
 use Rattle.configuration_units.specs.Fresh.{freshUnits}
 use Rattle.schedule_list.specs.InSchedule.{scheduleOf}
@@ -17,20 +16,18 @@ use Rattle.schedule.specs.declared.Changed.{Changed}
 use Rattle.schedule_deck.specs.Reading.{DeckEntered}
 use Rattle.packets.specs.Demand.{fresh}
 use Rattle.packets.specs.Rules.{Call, Complete, End, Mark, Start, Submit, Take}
-use Rattle.packets.specs.State.{packetIn}
 use Rattle.packets.specs.declared.Answer.{Answer}
 use Rattle.packets.specs.declared.Answer.the-variants.{Closed, Completed, Done, Refused, Started}
 use Rattle.packets.specs.declared.Leaving.{Leaving}
 use Rattle.packets.specs.declared.Leaving.the-variants.{AfterError, AfterNormal, Stays}
 use Rattle.packets.specs.declared.Lists.{Lists}
-use Rattle.lists.specs.Outcomes.{listsOf, outcome}
+use Rattle.lists.specs.Outcomes.{listsOf, outcome, statusIn}
+use Rattle.lists.specs.declared.StatusAnswer.{StatusAnswer}
 use Rattle.cell_selection.specs.Selecting.{Takes}
 use Rattle.cell.specs.declared.Answered.{Answered}
 use Rattle.cell.specs.declared.Cell.{Cell}
 use Rattle.cell.specs.declared.DeckAnswer.{DeckAnswer}
 use Rattle.cell.specs.declared.SelectAnswer.{SelectAnswer}
-use Rattle.cell.specs.declared.StatusAnswer.{StatusAnswer}
-use Rattle.cell.specs.declared.StatusAnswer.the-variants as StatusAnswers
 
 abbrev pub cellOf : Schedule → Lists → Cell
 cellOf schedule lists = record { schedule = schedule; lists = lists }
@@ -113,11 +110,6 @@ pub record SelectsIn (cell : Cell) (r : SelectAnswer) : Type 0 where
   pub takes :
       Takes (cell .schedule) (cell .lists) (record { selection = r .selection; schedule = r .cell .schedule; lists = r .cell .lists })
 
--- READ A PACKET'S STATUS: "1 if p or k is out of range"; nothing changes
-abbrev pub statusIn : Lists → ℕ → ℕ → StatusAnswer
-statusIn lists place packet =
-    cond (ltb place 16 && ltb packet 16) (StatusAnswers.Is (packetIn (lists .jobs) place packet .status))
-    (StatusAnswers.Refused OutOfRange)
-
+-- READ A PACKET'S STATUS: what the request lists say; nothing changes
 abbrev pub statusOf : Cell → ℕ → ℕ → StatusAnswer
 statusOf cell place packet = statusIn (cell .lists) place packet

@@ -2,6 +2,7 @@
 // as their channels.
 use cell_selection::Selection;
 use channels::Configuration;
+use lists::StatusAnswer;
 use numbers::ChannelNumber;
 use numbers::Outcome;
 use numbers::Refusal;
@@ -12,12 +13,11 @@ use packets::How;
 use packets::Leaving;
 use packets::Lists;
 use packets::Spot;
-use packets::Status;
 use schedule_list::Schedule;
 ghost use mathlib.Core.Path.{_≡_};
 ghost use Rattle.packets.specs.Rules.{Submit, Start, Complete, End, Mark};
 ghost use Rattle.cell.specs.Calls.{freshCell, acted, leftBy, afterCompletion, afterEnd, releasing};
-ghost use Rattle.cell.specs.Calls.{deleting, answerOf, outcomeOf, statusIn, statusOf, Enters, SelectsIn};
+ghost use Rattle.cell.specs.Calls.{deleting, answerOf, outcomeOf, statusOf, Enters, SelectsIn};
 
 pub struct Cell {
     pub schedule: Schedule,
@@ -42,12 +42,6 @@ pub struct SelectAnswer {
     pub outcome: Outcome,
     pub selection: Selection,
     pub cell: Cell,
-}
-
-// A packet's status, or why it is not answered.
-pub enum StatusAnswer {
-    Is(Status),
-    Refused(Refusal),
 }
 
 // The fresh cell of a configuration: an empty schedule, no job, every unit free, down where the configuration says so.
@@ -272,28 +266,10 @@ pub fn delete(cell: Cell, id: [u8; 6]) -> Answered
     }
 }
 
-// The status of a packet of a place, by the request lists alone.
-pub fn status_in(lists: Lists, place: u8, packet: u8) -> StatusAnswer
-    ensures { λ r. ⌜ r ≡ statusIn lists place packet ⌝ }
-{
-    if 15 < place {
-        return StatusAnswer::Refused(Refusal::OutOfRange);
-    }
-    if 15 < packet {
-        return StatusAnswer::Refused(Refusal::OutOfRange);
-    }
-    let i = place as usize;
-    let job = lists.jobs[i];
-    let ps = job.packets;
-    let found = packets_job::packet_in(ps, packet);
-    let status = found.status;
-    StatusAnswer::Is(status)
-}
-
 // The status of a packet of a place.
 pub fn status(cell: Cell, place: u8, packet: u8) -> StatusAnswer
     ensures { λ r. ⌜ r ≡ statusOf cell place packet ⌝ }
 {
     let lists = cell.lists;
-    status_in(lists, place, packet)
+    lists::status(lists, place, packet)
 }

@@ -16,7 +16,7 @@ use Rattle.cell.specs.Calls.{acted, deleting, releasing, statusOf, Enters, Sele
 use Rattle.cell.specs.declared.Cell.{Cell}
 use Rattle.cell.specs.declared.DeckAnswer.{DeckAnswer}
 use Rattle.cell.specs.declared.SelectAnswer.{SelectAnswer}
-use Rattle.cell.specs.declared.StatusAnswer.{StatusAnswer}
+use Rattle.lists.specs.declared.StatusAnswer.{StatusAnswer}
 
 -- the calls, with what the caller hands over: for a deck its bytes
 pub data Call : Type 0 where

@@ -39,7 +39,7 @@ use Rattle.cell_selection.proofs.SelectingLaws.{refused-only, refused-when, tak
 use Rattle.cell_selection.specs.declared.Selection.{Selection}
 use Rattle.cell.specs.Calls.{acted, freshCell, outcomeOf, Enters}
 use Rattle.cell.specs.declared.Cell.{Cell}
-use Rattle.cell.specs.declared.StatusAnswer.the-variants.{Is}
+use Rattle.lists.specs.declared.StatusAnswer.the-variants.{Is}
 use Rattle.cell_history.proofs.HeardLaws.{does-heard, leads-heard}
 use Rattle.cell_history.specs.Heard.{heard, heardOf, inside, taken, told}
 use Rattle.cell_history.specs.History.{Call, Chosen, Does, Event, Leads, Reply, Said, Select, Shown, Complete, Deck, Delete, End, Mark, Release, Start, Submit}
@@ -63,7 +63,7 @@ use Rattle.cell_history.proofs.ToldLaws.{leads-told}
 use Rattle.cell_agreement.proofs.AgreementProof.{agrees-always}
 use Rattle.cell_reached.proofs.ReachedProof.{every-cell}
 use Rattle.packets.specs.Rules as Rules
-use Rattle.cell.specs.declared.StatusAnswer.the-variants as Statuses
+use Rattle.lists.specs.declared.StatusAnswer.the-variants as Statuses
 use Rattle.schedule.specs.Calls.{taken as taken′}
 use Rattle.schedule_list.specs.declared.Schedule.{Schedule}
 use Rattle.schedule_deck.specs.Report.{deckSchedule}

@@ -59,7 +59,7 @@ use Rattle.cell_selection.specs.declared.Selection.{Selection}
 use Rattle.cell.specs.Calls.{Enters, cellOf, freshCell}
 use Rattle.cell.specs.declared.Cell.{Cell}
 use Rattle.cell.specs.declared.DeckAnswer.{DeckAnswer}
-use Rattle.cell.specs.declared.StatusAnswer.the-variants.{Is}
+use Rattle.lists.specs.declared.StatusAnswer.the-variants.{Is}
 use Rattle.cell_history.specs.Heard.{heardOf, inside, told}
 use Rattle.cell_history.specs.History.{
   Call,

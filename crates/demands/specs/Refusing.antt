@@ -5,8 +5,8 @@ use Rattle.numbers.specs.declared.Outcome.the-variants as Outcomes
 use Rattle.numbers.specs.declared.Refusal.{Refusal}
 use Rattle.packets.specs.declared.Answer.{Answer}
 use Rattle.packets.specs.declared.Answer.the-variants as Answers
-use Rattle.cell.specs.declared.StatusAnswer.{StatusAnswer}
-use Rattle.cell.specs.declared.StatusAnswer.the-variants as Statuses
+use Rattle.lists.specs.declared.StatusAnswer.{StatusAnswer}
+use Rattle.lists.specs.declared.StatusAnswer.the-variants as Statuses
 use Rattle.cell_history.specs.History.{Chosen, Entered, Reply, Said, Shown}
 
 abbrev pub ofOutcome : Outcome → Option Refusal

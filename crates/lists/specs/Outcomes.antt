@@ -1,14 +1,20 @@
 -- The state as the code holds it, and the one outcome of each call: what the rules say, with every byte determined.
+use Prim.Native.Nat.{ℕ}
 use mathlib.Core.Path.{_≡_}
+use mathlib.Core.Bool.{cond, _&&_}
+use lib.Dec.{ltb}
+use Rattle.numbers.specs.declared.Refusal.the-variants.{OutOfRange}
 use Rattle.units.specs.State.{unitsFrom}
 use Rattle.packets.specs.Rules.{Call, Complete, End, Mark, Start, Submit, Take, accept, answer, refusal}
-use Rattle.packets.specs.State.{State}
+use Rattle.packets.specs.State.{State, packetIn}
 use Rattle.packets.specs.declared.Answer.the-variants.{Refused}
 use Rattle.packets.specs.declared.Lists.{Lists}
 use Rattle.packets.specs.declared.Acted.{Acted}
 use Rattle.packets.specs.declared.Verdict.{Verdict}
 use Rattle.packets.specs.declared.Verdict.the-variants.{Denied, Granted}
 use Rattle.packets_queue.specs.Padded.{Tidy, listOf, padded}
+use Rattle.lists.specs.declared.StatusAnswer.{StatusAnswer}
+use Rattle.lists.specs.declared.StatusAnswer.the-variants as StatusAnswers
 
 -- the state that the rules speak of
 abbrev pub stateOf : Lists → State
@@ -45,3 +51,9 @@ settled r x (Denied n) = record { answer = Refused n; lists = r }
 -- the one outcome of a call
 unfoldable pub outcome : Lists → Call → Acted
 outcome r x = settled r x (refusal (stateOf r) x)
+
+-- READ A PACKET'S STATUS: "1 if p or k is out of range"; nothing changes
+abbrev pub statusIn : Lists → ℕ → ℕ → StatusAnswer
+statusIn lists place packet =
+    cond (ltb place 16 && ltb packet 16) (StatusAnswers.Is (packetIn (lists .jobs) place packet .status))
+    (StatusAnswers.Refused OutOfRange)

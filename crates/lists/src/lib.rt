@@ -5,6 +5,7 @@ mod verdicts;
 
 use channels::Channel;
 use numbers::ChannelNumber;
+use numbers::Refusal;
 use numbers::UnitNumber;
 use packets::Acted;
 use packets::Answer;
@@ -20,7 +21,13 @@ use units::Units;
 ghost use mathlib.Core.Path.{_≡_};
 ghost use Rattle.packets.specs.Rules.{Take, Submit, Start, Complete, End, Mark};
 ghost use Rattle.packets.specs.Demand.{fresh};
-ghost use Rattle.lists.specs.Outcomes.{listsOf, outcome};
+ghost use Rattle.lists.specs.Outcomes.{listsOf, outcome, statusIn};
+
+// A packet's status, or why it is not answered.
+pub enum StatusAnswer {
+    Is(Status),
+    Refused(Refusal),
+}
 
 // The state of a fresh cell with these channels and units.
 pub fn fresh(channels: [Channel; 16], units: Units) -> Lists
@@ -261,4 +268,22 @@ pub fn mark(
         lists: next,
         answer,
     }
+}
+
+// The status of a packet of a place; nothing changes.
+pub fn status(lists: Lists, place: u8, packet: u8) -> StatusAnswer
+    ensures { λ r. ⌜ r ≡ statusIn lists place packet ⌝ }
+{
+    if 15 < place {
+        return StatusAnswer::Refused(Refusal::OutOfRange);
+    }
+    if 15 < packet {
+        return StatusAnswer::Refused(Refusal::OutOfRange);
+    }
+    let i = place as usize;
+    let job = lists.jobs[i];
+    let ps = job.packets;
+    let found = packets_job::packet_in(ps, packet);
+    let status = found.status;
+    StatusAnswer::Is(status)
 }

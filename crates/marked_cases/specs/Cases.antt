@@ -35,7 +35,7 @@ use Rattle.packets.specs.declared.Spot.the-variants.{OnUnit}
 use Rattle.cell_selection.specs.declared.Selection.{Selection}
 use Rattle.cell.specs.Calls.{freshCell}
 use Rattle.cell.specs.declared.Cell.{Cell}
-use Rattle.cell.specs.declared.StatusAnswer.the-variants as StatusAnswers
+use Rattle.lists.specs.declared.StatusAnswer.the-variants as StatusAnswers
 use Rattle.cell_history.specs.Heard.{inside}
 use Rattle.cell_history.specs.History.{Call, Chosen, Complete, Deck, Does, End, Entered, Reply, Said, Select, Start, Submit}
 

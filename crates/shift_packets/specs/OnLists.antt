@@ -10,8 +10,7 @@ use Rattle.packets.specs.Rules as Rules
 use Rattle.packets.specs.declared.Acted.{Acted}
 use Rattle.packets.specs.declared.Answer.the-variants as Answer′
 use Rattle.packets.specs.declared.Lists.{Lists}
-use Rattle.lists.specs.Outcomes.{outcome}
-use Rattle.cell.specs.Calls.{statusIn}
+use Rattle.lists.specs.Outcomes.{outcome, statusIn}
 use Rattle.shift_script.specs.declared.Submission.{Submission}
 use Rattle.shift_script.specs.declared.Line.{Line}
 use Rattle.shift_script.specs.declared.Line.the-variants as Line′

@@ -11,8 +11,8 @@ use Rattle.packets.specs.declared.Answer.the-variants as Answer′
 use Rattle.packets.specs.declared.Lists.{Lists}
 use Rattle.packets.specs.declared.Spot.{Spot}
 use Rattle.packets.specs.declared.Spot.the-variants.{OnUnit, OnDrum}
-use Rattle.cell.specs.declared.StatusAnswer.{StatusAnswer}
-use Rattle.cell.specs.declared.StatusAnswer.the-variants as Status′
+use Rattle.lists.specs.declared.StatusAnswer.{StatusAnswer}
+use Rattle.lists.specs.declared.StatusAnswer.the-variants as Status′
 use Rattle.shift_answers.specs.Answers.{refusedText, doneText, startedText, completedText, statusText}
 use Rattle.shift_script.specs.declared.Submission.{Submission}
 

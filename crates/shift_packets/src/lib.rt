@@ -1,7 +1,7 @@
 // A line of the script that is a call on the request lists alone: a submission, a start, a completion, a mark, or a
 // packet's status. It is handed the request lists and not the cell, so that the schedule is not copied for it.
-use cell::StatusAnswer;
 use channels::Channel;
+use lists::StatusAnswer;
 use numbers::UnitNumber;
 use packets::Acted;
 use packets::Answer;
@@ -143,10 +143,7 @@ pub fn reply(lists: Lists, call: Line, out: &mut [u8]) -> Handled
         Line::Release => unchanged(lists, 0),
         Line::Delete => unchanged(lists, 0),
         Line::Status(place, packet) => {
-            unchanged(
-                lists,
-                put_status(out, cell::status_in(lists, place, packet)),
-            )
+            unchanged(lists, put_status(out, lists::status(lists, place, packet)))
         }
     }
 }

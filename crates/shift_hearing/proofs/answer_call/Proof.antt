@@ -4,11 +4,6 @@ use Rattle.shift_hearing.proofs.Loop.{put-behind}
 use borrow.Author.Needs.{needs}
 use Rattle.shift_hearing.proofs.answer_call.Statement.{statement}
 use Rattle.shift_hearing.proofs.answer_call.Tie as tie
-use Rattle.shift_hearing.proofs.answer_call.Reads as reads
-use Rattle.shift_hearing.proofs.answer_call.Lts as lts
-use Rattle.shift_lines.proofs.front.Reads as front-reads
-use Rattle.shift_packets.proofs.reply.Reads as reply-reads
-use Rattle.text.proofs.put_bytes.Reads as put-bytes-reads
 
 reply-requires : tie.Need-reply-requires
 reply-requires c κs = search needs

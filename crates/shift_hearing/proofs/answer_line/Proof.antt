@@ -3,11 +3,6 @@ use Rattle.shift_hearing.proofs.Loop.{put-behind}
 use borrow.Author.Needs.{needs}
 use Rattle.shift_hearing.proofs.answer_line.Statement.{statement}
 use Rattle.shift_hearing.proofs.answer_line.Tie as tie
-use Rattle.shift_hearing.proofs.answer_line.Reads as reads
-use Rattle.shift_hearing.proofs.answer_line.Lts as lts
-use Rattle.shift_lines.proofs.front.Reads as front-reads
-use Rattle.shift_turns.proofs.take_line.Reads as take-line-reads
-use Rattle.text.proofs.put_bytes.Reads as put-bytes-reads
 
 take-line-requires : tie.Need-take-line-requires
 take-line-requires c κs = search needs

@@ -4,9 +4,6 @@ use Rattle.shift_script.specs.declared.Said.{Said}
 use borrow.Author.Needs.{needs}
 use Rattle.shift_hearing.proofs.asked.Statement.{statement}
 use Rattle.shift_hearing.proofs.asked.Tie as tie
-use Rattle.shift_hearing.proofs.asked.Reads as reads
-use Rattle.shift_hearing.proofs.asked.Lts as lts
-use Rattle.shift_script.proofs.read_line.Reads as read-line-reads
 
 enum-told : tie.Need-enum-told
 enum-told c = search needs

@@ -4,8 +4,6 @@ use mathlib.Core.Bool.{true≢false}
 use borrow.Author.Needs.{needs}
 use Rattle.shift_hearing.proofs.is_returning.Statement.{statement}
 use Rattle.shift_hearing.proofs.is_returning.Tie as tie
-use Rattle.shift_hearing.proofs.is_returning.Reads as reads
-use Rattle.shift_hearing.proofs.is_returning.Lts as lts
 
 enum-told : tie.Need-enum-told
 enum-told c = search needs

@@ -4,16 +4,6 @@ use Rattle.shift_packets.proofs.OnListsLaws.{told, gives-as}
 use borrow.Author.Needs.{needs}
 use Rattle.shift_packets.proofs.reply.Statement.{statement}
 use Rattle.shift_packets.proofs.reply.Tie as tie
-use Rattle.shift_packets.proofs.reply.Reads as reads
-use Rattle.shift_packets.proofs.reply.Lts as lts
-use Rattle.cell.proofs.status_in.Reads as status-in-reads
-use Rattle.lists.proofs.complete.Reads as complete-reads
-use Rattle.lists.proofs.mark.Reads as mark-reads
-use Rattle.lists.proofs.start.Reads as start-reads
-use Rattle.shift_packets.proofs.put_status.Reads as put-status-reads
-use Rattle.shift_packets.proofs.submit.Reads as submit-reads
-use Rattle.shift_packets.proofs.unchanged.Reads as unchanged-reads
-use Rattle.shift_packets.proofs.with_answer.Reads as with-answer-reads
 
 enum-told : tie.Need-enum-told
 enum-told c = search needs
@@ -102,8 +92,8 @@ unchanged-requires-8 c κs = search needs
 enum-known-call-5 : tie.Need-enum-known-call-5
 enum-known-call-5 c = search needs
 
-status-in-requires : tie.Need-status-in-requires
-status-in-requires c κs = search needs
+status-requires : tie.Need-status-requires
+status-requires c κs = search needs
 
 put-status-requires : tie.Need-put-status-requires
 put-status-requires c κs = search needs
@@ -163,7 +153,7 @@ same-length-5 : tie.Need-same-length-5
 same-length-5 c = search needs
 
 returns-13 : tie.Need-returns-13
-returns-13 c = rw (c .before .before .before .before .before .before .before .call5 .given .1) (told (c .unchanged9 .ensures) (rw (← c .before .before .before .before .status-in .ensures) (c .before .before .before .put-status .ensures)))
+returns-13 c = rw (c .before .before .before .before .before .before .before .call5 .given .1) (told (c .unchanged9 .ensures) (rw (← c .before .before .before .before .status .ensures) (c .before .before .before .put-status .ensures)))
 
 pub reply-spec : {M : Type 1} → statement M
 reply-spec =
@@ -198,7 +188,7 @@ reply-spec =
     enum-told-8
     unchanged-requires-8
     enum-known-call-5
-    status-in-requires
+    status-requires
     put-status-requires
     unchanged-requires-9
     returns

@@ -6,10 +6,6 @@ use Rattle.lists.specs.Outcomes.{outcome}
 use borrow.Author.Needs.{needs}
 use Rattle.shift_packets.proofs.submit.Statement.{statement}
 use Rattle.shift_packets.proofs.submit.Tie as tie
-use Rattle.shift_packets.proofs.submit.Reads as reads
-use Rattle.shift_packets.proofs.submit.Lts as lts
-use Rattle.lists.proofs.submit.Reads as submit-reads
-use Rattle.shift_packets.proofs.spot_of.Reads as spot-of-reads
 
 spot-of-requires : tie.Need-spot-of-requires
 spot-of-requires c κs = search needs

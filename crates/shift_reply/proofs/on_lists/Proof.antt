@@ -6,10 +6,6 @@ use Rattle.shift_reply.specs.declared.Replied.{Replied}
 use borrow.Author.Needs.{needs}
 use Rattle.shift_reply.proofs.on_lists.Statement.{statement}
 use Rattle.shift_reply.proofs.on_lists.Tie as tie
-use Rattle.shift_reply.proofs.on_lists.Reads as reads
-use Rattle.shift_reply.proofs.on_lists.Lts as lts
-use Rattle.cell.proofs.after_completion.Reads as after-completion-reads
-use Rattle.shift_packets.proofs.reply.Reads as reply-reads
 
 reply-requires : tie.Need-reply-requires
 reply-requires c κs = search needs

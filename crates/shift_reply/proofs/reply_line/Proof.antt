@@ -6,18 +6,6 @@ use Rattle.shift_reply.proofs.FollowedLaws.{replies-followed}
 use borrow.Author.Needs.{needs}
 use Rattle.shift_reply.proofs.reply_line.Statement.{statement}
 use Rattle.shift_reply.proofs.reply_line.Tie as tie
-use Rattle.shift_reply.proofs.reply_line.Reads as reads
-use Rattle.shift_reply.proofs.reply_line.Lts as lts
-use Rattle.cell.proofs.delete.Reads as delete-reads
-use Rattle.cell.proofs.end.Reads as end-reads
-use Rattle.cell.proofs.release.Reads as release-reads
-use Rattle.shift_answers.proofs.put_no_call.Reads as put-no-call-reads
-use Rattle.shift_reply.proofs.board.Reads as board-reads
-use Rattle.shift_reply.proofs.on_lists.Reads as on-lists-reads
-use Rattle.shift_reply.proofs.put_echo.Reads as put-echo-reads
-use Rattle.shift_reply.proofs.select.Reads as select-reads
-use Rattle.shift_reply.proofs.unchanged.Reads as unchanged-reads
-use Rattle.shift_reply.proofs.with_answer.Reads as with-answer-reads
 
 enum-told : tie.Need-enum-told
 enum-told c = search needs

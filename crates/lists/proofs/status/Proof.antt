@@ -1,10 +1,10 @@
--- `cell::status_in` meets its contract. Assumes nothing.
+-- `lists::status` meets its contract. Assumes nothing.
 use native.Mathlib.Omega.{arith}
 use borrow.Author.Tests.{lt-ltb, le-ltb}
 use Rattle.packets.specs.State.{packetIn}
 use borrow.Author.Needs.{needs}
-use Rattle.cell.proofs.status_in.Statement.{statement}
-use Rattle.cell.proofs.status_in.Tie as tie
+use Rattle.lists.proofs.status.Statement.{statement}
+use Rattle.lists.proofs.status.Tie as tie
 
 returns : tie.Need-returns
 returns c = rw (le-ltb (c .before .args .place) 16 (omega arith))
@@ -25,7 +25,7 @@ returns-3 : tie.Need-returns-3
 unfolding packetIn
 returns-3 c = rw (lt-ltb (c .before .before .before .before .before .args .place) 16 (omega (arith, c .before .before .before .before .if1 .left)), lt-ltb (c .before .before .before .before .before .args .packet) 16 (omega (arith, c .before .before .before .if2 .left)), c .packet-in .ensures)
 
-pub status-in-spec : {M : Type 1} → statement M
-status-in-spec =
+pub status-spec : {M : Type 1} → statement M
+status-spec =
     tie.close
     (tie.spec returns returns-2 mul-job element-copy-out-job packet-in-requires returns-3)
