@@ -137,9 +137,8 @@ impl Night {
     fn submit(&mut self) -> Option<String> {
         let place = self.running()?;
         let cell = self.shift.cell();
-        let is_idle = |&packet: &usize| {
-            matches!(cell.status(place as u32, packet as u32), Ok(Status::Blank | Status::Ended(_)))
-        };
+        let is_idle =
+            |&packet: &usize| matches!(cell.status(place as u32, packet as u32), Ok(Status::Blank | Status::Ended(_)));
         let packets: Vec<usize> = (0..16).filter(is_idle).collect();
         let (_, job) = cell.jobs().find(|&(at, _)| at == place)?;
         let units: Vec<_> = job.assignment.units.iter().flat_map(|(_, units)| units).copied().collect();
@@ -176,7 +175,9 @@ impl Night {
             let (sequence, precedence) = (1 + n % 63, self.random.below(64));
             let entries = self.random.pick(&["MA/1", "MT1/2", "MT/2,PR/1", "MA1/1,MD/900", "MT1/1,MT2/1"]);
             let entries = entries.unwrap_or_default();
-            deck += &format!("J{n},PTY,2,,ECU,,T,PROG,P,{sequence:02}{letter}{precedence},P,3.\nJ{n},FAC,IB/1,{entries}.\n");
+            deck += &format!(
+                "J{n},PTY,2,,ECU,,T,PROG,P,{sequence:02}{letter}{precedence},P,3.\nJ{n},FAC,IB/1,{entries}.\n"
+            );
         }
         deck + TERMINATION
     }
