@@ -35,6 +35,7 @@ use Rattle.shift_turns.specs.declared.Shift.{Shift}
 use Rattle.shift_turns.specs.declared.Turn.{Turn}
 use Rattle.shift_hearing.specs.Hearing.{Standing, standing, kept, Answers, Hears, HearsSome, HearsPiece}
 use Rattle.shift_hearing.specs.Behind.{askedIn, Behind, AnswersBehind, HandlesBehind}
+use Rattle.shift_hearing.specs.declared.Heard.{Heard}
 use Rattle.shift_hearing.proofs.HearingLaws.{joined, parted, hears-one, hears-clean, hears-lf, same}
 
 -- what is left of a piece, as a part of it is
@@ -208,7 +209,9 @@ named {line = line} {room = room} {room′ = room′} {answer = answer} {answer�
     subst (λ (s : Shift). AnswersBehind s line room room′ answer answer′ out at after r) e b
 
 -- the end of the loop
-pub ended : {s₀ : Standing} {piece out₀ out : List ℕ} {shift r : Shift} {len taken at : ℕ} {line room answer : List ℕ} → HearsSome s₀ piece out₀ (standing shift len line room answer) taken at out
-    → r ≡ shift → (taken < length piece → 12288 < at) → HearsPiece s₀ piece out₀ (standing r len line room answer) taken at out
-ended {s₀ = s₀} {piece = piece} {out₀ = out₀} {out = out} {len = len} {taken = taken} {at = at} {line = line} {room = room} {answer = answer} h e f =
-    record { some = subst (λ (s : Shift). HearsSome s₀ piece out₀ (standing s len line room answer) taken at out) (sym e) h; all = f }
+pub ended : {s₀ : Standing} {piece out₀ out : List ℕ} {shift s : Shift} {len taken at : ℕ} {line room answer : List ℕ} {r : Heard} → HearsSome s₀ piece out₀ (standing shift len line room answer) taken at out
+    → s ≡ shift → r ≡ record { shift = s; len = len; taken = taken; at = at } → (taken < length piece → 12288 < at)
+    → HearsPiece s₀ piece out₀ (standing (r .shift) (r .len) line room answer) (r .taken) (r .at) out
+ended {s₀ = s₀} {piece = piece} {out₀ = out₀} {out = out} {s = s} {len = len} {taken = taken} {at = at} {line = line} {room = room} {answer = answer} h e f g =
+    let k : HearsSome s₀ piece out₀ (standing s len line room answer) taken at out = subst (λ (t : Shift). HearsSome s₀ piece out₀ (standing t len line room answer) taken at out) (sym e) h in
+    subst (λ (q : Heard). HearsPiece s₀ piece out₀ (standing (q .shift) (q .len) line room answer) (q .taken) (q .at) out) (sym f) (record { some = k; all = g })

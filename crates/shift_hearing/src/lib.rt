@@ -39,6 +39,18 @@ fn shift_of(phase: Phase, schedule: Schedule, lists: Lists) -> Shift
     }
 }
 
+// What was heard.
+fn what_was_heard(shift: Shift, len: usize, taken: usize, at: usize) -> Heard
+    ensures { λ r. ⌜ r ≡ record { shift = shift; len = len; taken = taken; at = at } ⌝ }
+{
+    Heard {
+        shift,
+        len,
+        taken,
+        at,
+    }
+}
+
 // What a line says while calls are answered.
 fn asked(phase: Phase, line: &[u8]) -> Line
     ensures { λ r. ⌜ r ≡ askedIn phase (now (line .entry)) ⌝ }
@@ -166,12 +178,7 @@ pub fn hear(
             kept = 0;
         }
     }
-    Heard {
-        shift: shift_of(phase, schedule, lists),
-        len: kept,
-        taken,
-        at,
-    }
+    what_was_heard(shift_of(phase, schedule, lists), kept, taken, at)
 }
 
 // The end of the input, after `len` bytes of a last line, and how many bytes the answer to it has.

@@ -97,8 +97,11 @@ loop-again-4 c = (part (c .before .before .before .before .before .before .befor
 shift-of-requires-2 : tie.Need-shift-of-requires-2 Inv-loop μ-loop
 shift-of-requires-2 c κs = search needs
 
+what-was-heard-requires : tie.Need-what-was-heard-requires Inv-loop μ-loop
+what-was-heard-requires c κs = search needs
+
 returns : tie.Need-returns Inv-loop μ-loop
-returns c = ended (c .before .before .loop .inv .0) (c .shift-of2 .ensures) (λ l. ⊎-elim (λ w. leb-false (c .before .before .loop .at) 12288 (w .1 .left)) (λ w. absurd (omega (arith, w .left))) (c .before .loop-test .came))
+returns c = ended (c .before .before .before .loop .inv .0) (c .before .shift-of2 .ensures) (c .what-was-heard .ensures) (λ l. ⊎-elim (λ w. leb-false (c .before .before .before .loop .at) 12288 (w .1 .left)) (λ w. absurd (omega (arith, w .left))) (c .before .before .loop-test .came))
 
 pub hear-spec : {M : Type 1} → statement M
 hear-spec =
@@ -130,4 +133,5 @@ hear-spec =
     loop-less-4
     loop-again-4
     shift-of-requires-2
+    what-was-heard-requires
     returns)
