@@ -1,5 +1,5 @@
-// The calls on packets and request lists. Each takes the state by value, changes it where it stands, and returns it
-// with its answer.
+// The calls on packets and request lists. Each but `status` takes the state by value, changes it where it stands, and
+// returns it with its answer.
 mod after;
 mod verdicts;
 

@@ -67,7 +67,8 @@ fn asked(phase: Phase, line: &[u8]) -> Line
     }
 }
 
-// Whether an answer returned a job's facilities; if not, no schedule follows it.
+// Whether a completion returned its job's facilities. Where it did not, no schedule follows, and none is copied: that
+// is all that this is asked for.
 fn is_returning(answer: Answer) -> bool
     ensures { λ r. ⌜ ((r ≡ false) → (s : Schedule) → afterCompletion s answer ≡ s) ⌝ }
 {

@@ -1,5 +1,4 @@
--- The texts of answers that the request lists give, and the call that a line SUBMIT is: rows of the script's table, last
--- column.
+-- The line of a call's answer and of a packet's status, and the call that SUBMIT is: the script's table, last column.
 use Prim.Native.Nat.{ℕ, min}
 use mathlib.Core.Bool.{cond}
 use mathlib.Core.List.{List}

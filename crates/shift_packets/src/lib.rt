@@ -1,5 +1,6 @@
 // A line of the script that is a call on the request lists alone: a submission, a start, a completion, a mark, or a
-// packet's status. It is handed the request lists and not the cell, so that the schedule is not copied for it.
+// packet's status. It is handed the request lists and not the cell, so that the schedule is not copied for it. The line
+// of an answer is put here for all calls.
 use channels::Channel;
 use lists::StatusAnswer;
 use numbers::UnitNumber;
@@ -15,7 +16,8 @@ ghost use Rattle.packets.specs.declared.Answer.the-variants.{Done};
 ghost use Rattle.shift_packets.specs.Texts.{answerText, statusAnswerText, spotOf};
 ghost use Rattle.shift_packets.specs.OnLists.{submittingIn, isForLists, Gives, Handles};
 
-// The request lists after a line, what the call answered, and where its text ends in the lent room.
+// The request lists after a line, what the call answered (done, for a status, refused or not, and for a line that is no
+// such call), and where its text ends in the lent room.
 pub struct Handled {
     pub lists: Lists,
     pub answer: Answer,

@@ -2,7 +2,7 @@
 -- schedule follows, and only a completion can move it. Assumes nothing.
 use Prim.Native.Nat.{ℕ}
 use mathlib.Core.Path.{_≡_, refl, sym, ap, ap₂, subst, _∙_}
-use mathlib.Core.Bool.{Bool, true, false, false≢true}
+use mathlib.Core.Bool.{true, false≢true}
 use mathlib.Core.List.{List}
 use mathlib.Core.Option.{Option, none, some}
 use Rattle.packets.specs.Picks.{find}
@@ -19,12 +19,12 @@ use Rattle.cell.specs.Calls.{cellOf, afterCompletion, follows, acted}
 use Rattle.cell.specs.declared.Cell.{Cell}
 use Rattle.shift_script.specs.declared.Line.{Line}
 use Rattle.shift_script.specs.declared.Line.the-variants as Line′
-use Rattle.shift_packets.specs.OnLists as Lists′
+use Rattle.shift_packets.specs.OnLists as OnLists
 use Rattle.shift_packets.specs.OnLists.{isForLists, Handles}
 use Rattle.shift_packets.specs.Texts.{submission}
 use Rattle.shift_packets.specs.declared.Handled.{Handled}
 use Rattle.shift_reply.specs.Followed.{followedBy, Followed}
-use Rattle.shift_reply.specs.Replies.{Shows, Gives, Replies}
+use Rattle.shift_reply.specs.Replies.{Gives, Replies}
 use Rattle.shift_reply.specs.declared.Replied.{Replied}
 
 abbrev replyOf : Cell → Handled → Replied
@@ -50,12 +50,12 @@ start-keeps : (lists : Lists) (c : ℕ) → Keeps (outcome lists (Rules.Start c)
 start-keeps lists c = outcome-keeps lists (Rules.Start c) (unfold answer in begins-keeps (stateOf lists) (find (startable (stateOf lists) c) (stateOf lists .queue)))
 
 -- the outcome of a call, with the schedule that follows
-module _ (cell : Cell) (x : Call) (room after : List ℕ) (h : Handled) (g : Lists′.Gives (outcome (cell .lists) x) room after h) where
+module _ (cell : Cell) (x : Call) (room after : List ℕ) (h : Handled) (g : OnLists.Gives (outcome (cell .lists) x) room after h) where
   given : afterCompletion (cell .schedule) (outcome (cell .lists) x .answer) ≡ follows (cell .schedule) x (outcome (cell .lists) x .answer) → Gives (acted cell x) room after (replyOf cell h)
   unfolding acted
   given e = record { cell = ap₂ cellOf (ap (afterCompletion (cell .schedule)) (g .answer) ∙ e) (g .lists); put = g .put }
 
--- a call on the request lists
+-- what a line that is a call on the request lists leaves, with the schedule that follows, is its reply
 pub followed-replies : (cell : Cell) (call : Line) (id line room after : List ℕ) (h : Handled) → isForLists call ≡ true → Handles (cell .lists) call room after h → Replies cell call id line room after (replyOf cell h)
 followed-replies cell Line′.NoCall id line room after h e g = absurd (false≢true e)
 followed-replies cell Line′.Echo id line room after h e g = absurd (false≢true e)

@@ -21,7 +21,6 @@ use Rattle.board.specs.Board.{boardText}
 use Rattle.shift_script.specs.declared.Submission.{Submission}
 use Rattle.shift_script.specs.declared.Line.{Line}
 use Rattle.shift_script.specs.declared.Line.the-variants as Line′
-use Rattle.shift_script.specs.declared.Said.{Said}
 use Rattle.shift_reply.specs.declared.Replied.{Replied}
 
 -- ---- the texts

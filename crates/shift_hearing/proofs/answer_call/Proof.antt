@@ -1,6 +1,6 @@
+-- `shift_hearing::answer_call` meets its contract: the answer is put behind those before it. Assumes nothing.
 use mathlib.Core.Path.{refl}
 use Rattle.shift_hearing.proofs.Loop.{put-behind}
--- `shift_hearing::answer_call` meets its contract: the answer is put behind those before it. Assumes nothing.
 use borrow.Author.Needs.{needs}
 use Rattle.shift_hearing.proofs.answer_call.Statement.{statement}
 use Rattle.shift_hearing.proofs.answer_call.Tie as tie

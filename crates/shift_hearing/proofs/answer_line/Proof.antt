@@ -1,3 +1,4 @@
+-- `shift_hearing::answer_line` meets its contract: the answer is put behind those before it. Assumes nothing.
 use mathlib.Core.Path.{refl}
 use Rattle.shift_hearing.proofs.Loop.{put-behind}
 use borrow.Author.Needs.{needs}

@@ -1,6 +1,6 @@
+-- `shift_hearing::asked` meets its contract: what the line says while calls are answered. Assumes nothing.
 use mathlib.Core.Path.{ap}
 use Rattle.shift_script.specs.declared.Said.{Said}
--- `shift_hearing::asked` meets its contract: what the line says while calls are answered. Assumes nothing.
 use borrow.Author.Needs.{needs}
 use Rattle.shift_hearing.proofs.asked.Statement.{statement}
 use Rattle.shift_hearing.proofs.asked.Tie as tie

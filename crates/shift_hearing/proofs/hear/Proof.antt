@@ -1,7 +1,7 @@
 -- `shift_hearing::hear` meets its contract: its lines so far are heard, and what is left of the piece grows shorter.
 -- Assumes nothing.
 use Prim.Native.Nat.{_<_, _-_}
-use mathlib.Core.Path.{_≡_, sym, _∙_}
+use mathlib.Core.Path.{sym, _∙_}
 use mathlib.Core.Logic.{⊎-elim}
 use native.Mathlib.Omega.{arith}
 use lib.ListN.{length}

@@ -1,6 +1,6 @@
+-- `shift_hearing::is_returning` meets its contract: an answer that returned nothing moves no schedule. Assumes nothing.
 use mathlib.Core.Path.{refl}
 use mathlib.Core.Bool.{true≢false}
--- `shift_hearing::is_returning` meets its contract: an answer that returned nothing moves no schedule. Assumes nothing.
 use borrow.Author.Needs.{needs}
 use Rattle.shift_hearing.proofs.is_returning.Statement.{statement}
 use Rattle.shift_hearing.proofs.is_returning.Tie as tie

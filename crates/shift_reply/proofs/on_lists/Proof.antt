@@ -1,5 +1,5 @@
 -- `shift_reply::on_lists` meets its contract: the lists answer, and the schedule follows. Assumes nothing.
-use mathlib.Core.Path.{refl, ap}
+use mathlib.Core.Path.{ap}
 use Rattle.schedule_list.specs.declared.Schedule.{Schedule}
 use Rattle.cell.specs.Calls.{cellOf}
 use Rattle.shift_reply.specs.declared.Replied.{Replied}

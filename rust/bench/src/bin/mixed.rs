@@ -1,5 +1,5 @@
-//! A night to time the shift program with: `mixed [CALLS]` writes a script of that many calls (100,000), the same each
-//! time. The ordinary cell runs beside, so that nearly every call is accepted. `mixed CALLS start` writes START alone,
+//! A night to time the shift program with: `mixed [CALLS [start]]` writes a script of that many calls (100,000), the same
+//! each time. The ordinary cell runs beside, so that nearly every call is accepted. With `start` it writes START alone,
 //! each refused.
 
 use std::io::{self, BufWriter, Write};
@@ -13,7 +13,7 @@ use ordinary::shift::Shift;
 const CELL: &str = "5\n00 MA 8\n01 MT 8\n02 MT 10\n05 MD 100000\n12 PR 8\n0\n";
 const TERMINATION: &str = ")))))))) +++++++++++++                                                  ))))))))\n";
 
-/// The sorts of calls, and how many of 200 calls are of each.
+/// The sorts of calls. A deck may be the deletion of a request that an end in error has suspended.
 #[derive(Clone, Copy)]
 enum Sort {
     Submit,
@@ -27,6 +27,7 @@ enum Sort {
     Board,
 }
 
+/// How often each sort is drawn in 200 draws. A call that could not be accepted is drawn again.
 const OF_200: [(Sort, u64); 9] = [
     (Sort::Submit, 68),
     (Sort::Start, 38),
@@ -115,7 +116,7 @@ impl Night {
         if let Some((channel, unit)) = self.down.take() {
             return format!("UP {channel} {unit}\n");
         }
-        let (channel, units) = self.random.pick(&[(0, 8), (1, 8), (2, 10), (12, 8)]).unwrap_or((0, 1));
+        let (channel, units) = self.random.pick(&[(0, 8), (1, 8), (2, 10), (12, 8)]).expect("a channel");
         let unit = self.random.below(units);
         self.down = Some((channel, unit));
         format!("DOWN {channel} {unit}\n")
@@ -174,7 +175,7 @@ impl Night {
             let letter = char::from(b'A' + self.random.below(20) as u8);
             let (sequence, precedence) = (1 + n % 63, self.random.below(64));
             let entries = self.random.pick(&["MA/1", "MT1/2", "MT/2,PR/1", "MA1/1,MD/900", "MT1/1,MT2/1"]);
-            let entries = entries.unwrap_or_default();
+            let entries = entries.expect("entries");
             deck += &format!(
                 "J{n},PTY,2,,ECU,,T,PROG,P,{sequence:02}{letter}{precedence},P,3.\nJ{n},FAC,IB/1,{entries}.\n"
             );
@@ -196,16 +197,26 @@ impl Night {
     }
 }
 
+fn refuse() -> io::Result<()> {
+    eprintln!("usage: mixed [CALLS [start]]");
+    std::process::exit(2);
+}
+
 fn main() -> io::Result<()> {
     let mut words = std::env::args().skip(1);
-    let calls: usize = words.next().map_or(100_000, |word| word.parse().expect("a number of calls"));
-    let starts = words.next().is_some_and(|word| word == "start");
+    let calls = words.next().map_or(Ok(100_000), |word| word.parse::<usize>());
+    let (Ok(calls), starts, None) = (calls, words.next(), words.next()) else {
+        return refuse();
+    };
+    if starts.as_ref().is_some_and(|word| word != "start") {
+        return refuse();
+    }
     let configuration = Configuration::from_text(CELL.as_bytes()).expect("a good configuration");
     let mut night = Night { random: Random(1), shift: Shift::new(configuration), requests: 0, down: None };
     let mut out = BufWriter::new(io::stdout().lock());
     out.write_all(CELL.as_bytes())?;
     for _ in 0..calls {
-        let call = if starts { "START 0\n".to_string() } else { night.next() };
+        let call = if starts.is_some() { "START 0\n".to_string() } else { night.next() };
         out.write_all(call.as_bytes())?;
     }
     Ok(())
