@@ -4,12 +4,17 @@ use std::path::Path;
 
 fn main() {
     let folder = Path::new(env!("CARGO_MANIFEST_DIR")).join("../target/native");
-    let archive = folder.join("libluffgravel_native.a");
-    println!("cargo:rerun-if-changed={}", archive.display());
+    let names = ["luffgravel_native", "luffgravel_cells"];
+    let archives = names.map(|name| folder.join(format!("lib{name}.a")));
+    for archive in &archives {
+        println!("cargo:rerun-if-changed={}", archive.display());
+    }
     println!("cargo:rustc-check-cfg=cfg(proved)");
-    if archive.is_file() {
+    if archives.iter().all(|archive| archive.is_file()) {
         println!("cargo:rustc-link-search=native={}", folder.display());
-        println!("cargo:rustc-link-lib=static=luffgravel_native");
+        for name in names {
+            println!("cargo:rustc-link-lib=static={name}");
+        }
         println!("cargo:rustc-cfg=proved");
     }
 }

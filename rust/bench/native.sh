@@ -1,7 +1,9 @@
 #!/bin/sh
-# native.sh: compiles functions of the proved crates for this machine, for the bench to link: rust/target/native/libluffgravel_native.a.
-# The crates must be proved (target/rlib has them after `rt check`). The crate below only gives them plain names that Rust can call; the
-# compiler proves it too, and builds nothing that is not proved. On x86-64 the archive is the compiler's own. Elsewhere its LLVM module is
+# native.sh: compiles functions of the proved crates for this machine, for the bench to link: rust/target/native/libluffgravel_native.a,
+# and libluffgravel_cells.a, which has the calls on packets of the whole cell. They are two, so that in each a call is made at one place only, as
+# in the shift program: the compiler then sets it in where it is made. A call that is made at several places is a function of its own, and copies.
+# The crates must be proved (target/rlib has them after `rt check`). The crates below only give them plain names that Rust can call; the
+# compiler proves them too, and builds nothing that is not proved. On x86-64 the archive is the compiler's own. Elsewhere its LLVM module is
 # compiled for the machine at hand by the kit's own clang: that is a retargeting of ours and not what the kit ships.
 set -eu
 here=$(cd "$(dirname "$0")" && pwd -P)
@@ -12,7 +14,7 @@ out=$here/../target/native
 mkdir -p "$out"
 work=$(mktemp -d)
 trap 'rm -rf "$work"' EXIT
-mkdir "$work/src"
+mkdir "$work/luffgravel_native" "$work/luffgravel_cells"
 
 # An exported function takes numbers, bools and slices, and no enum, nor a struct that holds one. So a cell is made and used inside. A loop
 # would need a proof of its own, and ten calls in a row need none.
@@ -24,6 +26,163 @@ ten() {
         printf '    let %s = %s(%s);\n' $name "$2" "$4"
     done
     printf '    a & b & c & d & e & f & g & h & i & j\n}\n\n'
+}
+# What both have: a cell of a configuration that has entered a deck, with a job in each place.
+common() {
+    cat <<'RT'
+// A unit as what a submission names.
+fn on_unit(unit: u8) -> Spot {
+    Spot::OnUnit(UnitNumber(unit))
+}
+
+// The status of a packet: 0 for blank, 1 listed, 2 in progress, 3 stopping, 4 ended, 5 where there is no such packet.
+fn status_of(cell: Cell, place: u8, packet: u8) -> u8 {
+    let StatusAnswer::Is(status) = cell::status(cell, place, packet) else {
+        return 5;
+    };
+    match status {
+        Status::Blank => 0,
+        Status::Listed => 1,
+        Status::InProgress => 2,
+        Status::Stopping => 3,
+        Status::Ended(_) => 4,
+    }
+}
+
+// The fresh cell of a configuration.
+fn fresh(config: &[u8]) -> Cell {
+    let answer = configuration::read(config);
+    let configuration = answer.configuration;
+    cell::fresh(configuration)
+}
+
+// A fresh cell that has entered a deck; its text goes into the room.
+fn with_requests(config: &[u8], deck: &[u8], room: &mut [u8; 53248]) -> Cell {
+    let cell = fresh(config);
+    let answered = cell::enter(cell, deck, room);
+    answered.cell
+}
+
+// One more job is taken.
+fn next(before: Taking) -> Taking {
+    cell_selection::select(before.schedule, before.lists)
+}
+
+// The cell after fifteen selections.
+fn held_by_fifteen(cell: Cell) -> Taking {
+    let first = cell_selection::select(cell.schedule, cell.lists);
+    let five = next(next(next(next(first))));
+    let ten = next(next(next(next(next(five)))));
+    next(next(next(next(next(ten)))))
+}
+
+// A cell with sixteen jobs.
+fn loaded(config: &[u8], deck: &[u8]) -> Cell {
+    let mut room: [u8; 53248] = [0; 53248];
+    let held = next(held_by_fifteen(with_requests(config, deck, &mut room)));
+    let schedule = held.schedule;
+    let lists = held.lists;
+    Cell { schedule, lists }
+}
+
+// Whether packet 0 of place 0 has ended, which is so only when its turns were accepted, or is blank where there were none; and
+// whether the last of as many packets is listed.
+fn is_so(cell: Cell, count: u8, turned: bool) -> bool {
+    let first = status_of(cell, 0, 0);
+    if turned {
+        if first != 4 {
+            return false;
+        }
+    }
+    if !turned {
+        if first != 0 {
+            return false;
+        }
+    }
+    if count == 0 {
+        return status_of(cell, 1, 0) == 0;
+    }
+    if count == 1 {
+        return status_of(cell, 1, 0) == 1;
+    }
+    if count == 64 {
+        return status_of(cell, 4, 0) == 1;
+    }
+    status_of(cell, 0, 15) == 1
+}
+
+RT
+}
+
+# Turns by the calls of crate lists; with `lists` read as `cell`, by those on the whole cell. A turn makes each call at one place, also to fill
+# the list: then a channel that the cell does not have is asked to start and to complete, and refuses.
+turns() {
+    cat <<'RT'
+// A packet of a place is submitted on a channel, to the unit that has the place's number; another channel, or the same, starts and completes.
+fn turn(lists: Lists, place: u8, packet: u8, channel: u8, other: u8) -> Lists {
+    let submitted = lists::submit(lists, place, packet, 2, ChannelNumber(channel), on_unit(place));
+    let started = lists::start(submitted.lists, ChannelNumber(other));
+    let completed = lists::complete(started.lists, ChannelNumber(other), How::Full);
+    completed.lists
+}
+
+// Packet 0 of place 0 is submitted, started and completed on channel 1.
+fn one(lists: Lists) -> Lists {
+    turn(lists, 0, 0, 1, 1)
+}
+
+fn ten(lists: Lists) -> Lists {
+    let five = one(one(one(one(one(lists)))));
+    one(one(one(one(one(five)))))
+}
+
+fn hundred(lists: Lists) -> Lists {
+    let fifty = ten(ten(ten(ten(ten(lists)))));
+    ten(ten(ten(ten(ten(fifty)))))
+}
+
+// One more packet is listed on channel 0; channel 15 is not there.
+fn with_packet(lists: Lists, place: u8, packet: u8) -> Lists {
+    turn(lists, place, packet, 0, 15)
+}
+
+// Four packets of a place are listed.
+fn with_four(lists: Lists, place: u8, a: u8, b: u8, c: u8, d: u8) -> Lists {
+    let two = with_packet(with_packet(lists, place, a), place, b);
+    with_packet(with_packet(two, place, c), place, d)
+}
+
+// Packets 1 to 15 of a place are listed.
+fn with_fifteen(lists: Lists, place: u8) -> Lists {
+    let three = with_packet(with_packet(with_packet(lists, place, 1), place, 2), place, 3);
+    let seven = with_four(three, place, 4, 5, 6, 7);
+    let eleven = with_four(seven, place, 8, 9, 10, 11);
+    with_four(eleven, place, 12, 13, 14, 15)
+}
+
+// All packets of a place are listed.
+fn with_place(lists: Lists, place: u8) -> Lists {
+    with_packet(with_fifteen(lists, place), place, 0)
+}
+
+// As many packets are listed: none, 1, 64 or 255, all but the one that is submitted on channel 1.
+fn filled(lists: Lists, count: u8) -> Lists {
+    if count == 0 {
+        return lists;
+    }
+    if count == 1 {
+        return with_packet(lists, 1, 0);
+    }
+    let four = with_place(with_place(with_place(with_place(lists, 1), 2), 3), 4);
+    if count == 64 {
+        return four;
+    }
+    let eight = with_place(with_place(with_place(with_place(four, 5), 6), 7), 8);
+    let twelve = with_place(with_place(with_place(with_place(eight, 9), 10), 11), 12);
+    with_fifteen(with_place(with_place(with_place(twelve, 13), 14), 15), 0)
+}
+
+RT
 }
 {
     cat <<'RT'
@@ -70,11 +229,6 @@ pub extern "C" fn luffgravel_is_down(config: &[u8], channel: u8, unit: u8, at: u
     false
 }
 
-// A unit as what a submission names.
-fn on_unit(unit: u8) -> Spot {
-    Spot::OnUnit(UnitNumber(unit))
-}
-
 // Whether a call was done and answers nothing else.
 fn is_done(answer: Answer) -> bool {
     match answer {
@@ -86,27 +240,10 @@ fn is_done(answer: Answer) -> bool {
     }
 }
 
-// Whether this packet of a cell was never submitted.
-fn has_blank(cell: Cell, place: u8, packet: u8) -> bool {
-    let StatusAnswer::Is(status) = cell::status(cell, place, packet) else {
-        return false;
-    };
-    match status {
-        Status::Blank => true,
-        Status::Listed => false,
-        Status::InProgress => false,
-        Status::Stopping => false,
-        Status::Ended(_) => false,
-    }
-}
-
-// The fresh cell of a configuration.
-fn fresh(config: &[u8]) -> Cell {
-    let answer = configuration::read(config);
-    let configuration = answer.configuration;
-    cell::fresh(configuration)
-}
-
+RT
+    common
+    turns
+    cat <<'RT'
 // Whether a packet of the fresh cell is blank. The call that might mark a unit has the whole cell made: it could be asked for.
 #[no_mangle]
 pub extern "C" fn luffgravel_fresh(config: &[u8], place: u8, packet: u8, marks: bool) -> bool {
@@ -116,14 +253,7 @@ pub extern "C" fn luffgravel_fresh(config: &[u8], place: u8, packet: u8, marks: 
         let answer = marked.answer;
         return is_done(answer);
     }
-    has_blank(cell, place, packet)
-}
-
-// A fresh cell that has entered a deck; its text goes into the room.
-fn with_requests(config: &[u8], deck: &[u8], room: &mut [u8; 53248]) -> Cell {
-    let cell = fresh(config);
-    let answered = cell::enter(cell, deck, room);
-    answered.cell
+    status_of(cell, place, packet) == 0
 }
 
 // A deck can be entered into this schedule, which then is not empty.
@@ -143,164 +273,27 @@ fn finds(schedule: Schedule, lists: Lists) -> bool {
     selection.found
 }
 
-// One more job is taken.
-fn next(before: Taking) -> Taking {
-    cell_selection::select(before.schedule, before.lists)
-}
-
-// The cell after fifteen selections.
-fn held_by_fifteen(cell: Cell) -> Taking {
-    let first = cell_selection::select(cell.schedule, cell.lists);
-    let five = next(next(next(next(first))));
-    let ten = next(next(next(next(next(five)))));
-    next(next(next(next(next(ten)))))
-}
-
-// A packet is submitted, started and completed: packet 0 of place 0, on channel 1.
-fn turn(lists: Lists) -> Lists {
-    let submitted = lists::submit(lists, 0, 0, 2, ChannelNumber(1), on_unit(0));
-    let started = lists::start(submitted.lists, ChannelNumber(1));
-    let completed = lists::complete(started.lists, ChannelNumber(1), How::Full);
-    completed.lists
-}
-
-fn ten_turns(lists: Lists) -> Lists {
-    let five = turn(turn(turn(turn(turn(lists)))));
-    turn(turn(turn(turn(turn(five)))))
-}
-
-fn hundred_turns(lists: Lists) -> Lists {
-    let fifty = ten_turns(ten_turns(ten_turns(ten_turns(ten_turns(lists)))));
-    ten_turns(ten_turns(ten_turns(ten_turns(ten_turns(fifty)))))
-}
-
-fn thousand_turns(lists: Lists) -> Lists {
-    let half = hundred_turns(hundred_turns(hundred_turns(hundred_turns(hundred_turns(lists)))));
-    hundred_turns(hundred_turns(hundred_turns(hundred_turns(hundred_turns(half)))))
-}
-
-// The same turn by the calls on the whole cell.
-fn cell_turn(cell: Cell) -> Cell {
-    let submitted = cell::submit(cell, 0, 0, 2, ChannelNumber(1), on_unit(0));
-    let started = cell::start(submitted.cell, ChannelNumber(1));
-    let completed = cell::complete(started.cell, ChannelNumber(1), How::Full);
-    completed.cell
-}
-
-fn ten_cell_turns(cell: Cell) -> Cell {
-    let five = cell_turn(cell_turn(cell_turn(cell_turn(cell_turn(cell)))));
-    cell_turn(cell_turn(cell_turn(cell_turn(cell_turn(five)))))
-}
-
-fn hundred_cell_turns(cell: Cell) -> Cell {
-    let fifty = ten_cell_turns(ten_cell_turns(ten_cell_turns(ten_cell_turns(ten_cell_turns(cell)))));
-    ten_cell_turns(ten_cell_turns(ten_cell_turns(ten_cell_turns(ten_cell_turns(fifty)))))
-}
-
-// One more packet is listed on channel 0, on the unit that has its place's number.
-fn with_packet(lists: Lists, place: u8, packet: u8) -> Lists {
-    let submitted = lists::submit(lists, place, packet, 2, ChannelNumber(0), on_unit(place));
-    submitted.lists
-}
-
-// Four packets of a place are listed.
-fn with_four(lists: Lists, place: u8, a: u8, b: u8, c: u8, d: u8) -> Lists {
-    let two = with_packet(with_packet(lists, place, a), place, b);
-    with_packet(with_packet(two, place, c), place, d)
-}
-
-// Packets 1 to 15 of a place are listed.
-fn with_fifteen(lists: Lists, place: u8) -> Lists {
-    let three = with_packet(with_packet(with_packet(lists, place, 1), place, 2), place, 3);
-    let seven = with_four(three, place, 4, 5, 6, 7);
-    let eleven = with_four(seven, place, 8, 9, 10, 11);
-    with_four(eleven, place, 12, 13, 14, 15)
-}
-
-// All packets of a place are listed.
-fn with_place(lists: Lists, place: u8) -> Lists {
-    with_packet(with_fifteen(lists, place), place, 0)
-}
-
-// As many packets are listed: none, 1, 64 or 255, all but the one that is submitted on channel 1.
-fn filled(lists: Lists, count: u8) -> Lists {
-    if count == 0 {
-        return lists;
-    }
-    if count == 1 {
-        return with_packet(lists, 1, 0);
-    }
-    let four = with_place(with_place(with_place(with_place(lists, 1), 2), 3), 4);
-    if count == 64 {
-        return four;
-    }
-    let eight = with_place(with_place(with_place(with_place(four, 5), 6), 7), 8);
-    let twelve = with_place(with_place(with_place(with_place(eight, 9), 10), 11), 12);
-    with_fifteen(with_place(with_place(with_place(twelve, 13), 14), 15), 0)
-}
-
-// Whether a packet can be submitted on a channel, to the unit that has its place's number: it is not listed.
-fn takes(lists: Lists, place: u8, packet: u8, channel: u8) -> bool {
-    let submitted = lists::submit(lists, place, packet, 2, ChannelNumber(channel), on_unit(place));
-    let answer = submitted.answer;
-    is_done(answer)
-}
-
-// Whether packet 0 of place 0 can be submitted once more, which is so only when its turns were accepted, and the last of as many packets is
-// listed.
-fn is_so(lists: Lists, count: u8) -> bool {
-    if takes(lists, 0, 0, 1) {
-        if count == 0 {
-            return takes(lists, 1, 0, 0);
-        }
-        if count == 1 {
-            return !takes(lists, 1, 0, 0);
-        }
-        if count == 64 {
-            return !takes(lists, 4, 0, 0);
-        }
-        return !takes(lists, 0, 15, 0);
-    }
-    false
-}
-
 RT
     ten ten_finds finds 'schedule: Schedule, lists: Lists' 'schedule, lists'
     ten hundred_finds ten_finds 'schedule: Schedule, lists: Lists' 'schedule, lists'
     ten ten_enters enters 'schedule: Schedule, deck: &[u8], room: &mut [u8; 53248]' 'schedule, deck, room'
     ten hundred_enters ten_enters 'schedule: Schedule, deck: &[u8], room: &mut [u8; 53248]' 'schedule, deck, room'
     cat <<'RT'
-// A cell with sixteen jobs and as many packets listed.
-fn loaded(config: &[u8], deck: &[u8], count: u8) -> Cell {
-    let mut room: [u8; 53248] = [0; 53248];
-    let held = next(held_by_fifteen(with_requests(config, deck, &mut room)));
-    let schedule = held.schedule;
-    Cell {
-        schedule,
-        lists: filled(held.lists, count),
-    }
+fn thousand(lists: Lists) -> Lists {
+    let half = hundred(hundred(hundred(hundred(hundred(lists)))));
+    hundred(hundred(hundred(hundred(hundred(half)))))
 }
 
 // A thousand turns, or none, with as many packets listed; whether all was accepted.
 #[no_mangle]
-pub extern "C" fn luffgravel_turns(config: &[u8], deck: &[u8], count: u8, thousand: bool) -> bool {
-    let cell = loaded(config, deck, count);
-    let lists = cell.lists;
-    if thousand {
-        return is_so(thousand_turns(lists), count);
+pub extern "C" fn luffgravel_turns(config: &[u8], deck: &[u8], count: u8, turned: bool) -> bool {
+    let cell = loaded(config, deck);
+    let schedule = cell.schedule;
+    let mut lists = filled(cell.lists, count);
+    if turned {
+        lists = thousand(lists);
     }
-    is_so(lists, count)
-}
-
-// A hundred turns, or none, by the calls on the whole cell.
-#[no_mangle]
-pub extern "C" fn luffgravel_cell_turns(config: &[u8], deck: &[u8], count: u8, hundred: bool) -> bool {
-    let cell = loaded(config, deck, count);
-    if hundred {
-        let after = hundred_cell_turns(cell);
-        return is_so(after.lists, count);
-    }
-    is_so(cell.lists, count)
+    is_so(Cell { schedule, lists }, count, turned)
 }
 
 // A hundred selections, or one, from one state, and whether all found something.
@@ -334,7 +327,34 @@ pub extern "C" fn luffgravel_entries(deck: &[u8], further: &[u8], hundred: bool)
     enters(entered.schedule, further, &mut room)
 }
 RT
-} > "$work/src/lib.rt"
+} > "$work/luffgravel_native/lib.rt"
+{
+    cat <<'RT'
+// The calls on packets of the whole cell under plain names, for a harness.
+use cell::Cell;
+use cell::StatusAnswer;
+use cell_selection::Taking;
+use numbers::ChannelNumber;
+use numbers::UnitNumber;
+use packets::How;
+use packets::Spot;
+use packets::Status;
+
+RT
+    common
+    turns | sed 's/lists/cell/g; s/Lists/Cell/g'
+    cat <<'RT'
+// A hundred turns, or none, by the calls on the whole cell.
+#[no_mangle]
+pub extern "C" fn luffgravel_cell_turns(config: &[u8], deck: &[u8], count: u8, turned: bool) -> bool {
+    let mut cell = filled(loaded(config, deck), count);
+    if turned {
+        cell = hundred(cell);
+    }
+    is_so(cell, count, turned)
+}
+RT
+} > "$work/luffgravel_cells/lib.rt"
 
 tools=$own/toolchain
 if [ "$(uname -m)" != x86_64 ]; then
@@ -352,22 +372,28 @@ if [ "$(uname -m)" != x86_64 ]; then
         [ -e "$tools/bin/$(basename "$tool")" ] || ln -s "$tool" "$tools/bin/"
     done
 fi
-set -- --crate-name luffgravel_native "$work/src/lib.rt" --extern "std=$own/rlib/std.rlib"
-for crate in $(sed -n 's/^\([a-z_]*\):.*/\1/p' "$repo/crates.txt"); do
-    [ ! -e "$repo/target/rlib/$crate.rlib" ] || set -- "$@" --extern "$crate=$repo/target/rlib/$crate.rlib"
-done
-"$own/bin/rattle" build "$@" -L "dependency=$repo/target/rlib" -L "dependency=$own/rlib" \
-    --antt-project "$kit/logic/antt-project.json" --logic-built "$own/logic-built" --crate-type staticlib \
-    --toolchain "$tools" -o "$out/libluffgravel_native.a" > "$work/log" 2>&1 || { grep -v "^library" "$work/log" >&2; exit 1; }
-grep '^logic=' "$work/log"
-if [ "$(uname -m)" != x86_64 ]; then
+# Builds one of the two: its archive, and what the prover says.
+built() {
+    set -- "$1" --crate-name "$1" "$work/$1/lib.rt" --extern "std=$own/rlib/std.rlib"
+    for crate in $(sed -n 's/^\([a-z_]*\):.*/\1/p' "$repo/crates.txt"); do
+        [ ! -e "$repo/target/rlib/$crate.rlib" ] || set -- "$@" --extern "$crate=$repo/target/rlib/$crate.rlib"
+    done
+    name=$1
+    shift
+    "$own/bin/rattle" build "$@" -L "dependency=$repo/target/rlib" -L "dependency=$own/rlib" \
+        --antt-project "$kit/logic/antt-project.json" --logic-built "$own/logic-built" --crate-type staticlib \
+        --toolchain "$tools" -o "$out/lib$name.a" > "$work/log" 2>&1 || { grep -v "^library" "$work/log" >&2; exit 1; }
+    grep '^logic=' "$work/log"
+    [ "$(uname -m)" != x86_64 ] || return 0
     clang=$own/toolchain/bin/clang
     host=$(rustc -vV | sed -n 's/^host: //p')
     layout=$(RUSTC_BOOTSTRAP=1 rustc --print target-spec-json -Z unstable-options --target "$host" | sed -n 's/.*"data-layout": "\(.*\)",/\1/p')
     "$clang" --target=x86_64-unknown-linux-gnu -x ir "$work/kept" -S -emit-llvm -O0 -Xclang -disable-llvm-passes -o "$work/module.ll"
     sed -e "s|^target datalayout = .*|target datalayout = \"$layout\"|" -e "s|^target triple = .*|target triple = \"$host\"|" \
         -e 's/ "target-cpu"="x86-64"//' "$work/module.ll" > "$work/host.ll"
-    "$clang" --target="$host" -x ir "$work/host.ll" -c -O3 -fPIC -o "$work/luffgravel_native.o"
-    rm -f "$out/libluffgravel_native.a"
-    ar crs "$out/libluffgravel_native.a" "$work/luffgravel_native.o"
-fi
+    "$clang" --target="$host" -x ir "$work/host.ll" -c -O3 -fPIC -o "$work/$name.o"
+    rm -f "$out/lib$name.a"
+    ar crs "$out/lib$name.a" "$work/$name.o"
+}
+built luffgravel_native
+built luffgravel_cells

@@ -13,10 +13,12 @@ use Rattle.numbers.specs.declared.Refusal.the-variants.{NoJob, NothingSelected,
 use Rattle.units.specs.State.{markedUnit, unitIn, unitSet, unitsFrom}
 use Rattle.units.specs.declared.Mark.{Mark as UnitMark}
 use Rattle.units.specs.declared.Units.{Units}
+use Rattle.channels.specs.declared.Channel.{Channel}
 use Rattle.channels.specs.declared.Fitted.{Fitted}
+use Rattle.channels.specs.declared.Fitted.the-variants.{Nothing}
 use Rattle.packets.proofs.Laws.{and-left, passes}
 use Rattle.packets.specs.Rules.{Call, End, Mark, Take, accept, always, answer, closed, closing, cut, first, freshJob, leaving, reaches, refusal, returnIfDone}
-use Rattle.packets.specs.State.{State, close, fittedOn, isEmpty, isRunning, jobIn, noJob, relist, releaseAll, stateIn, sweep, takeAll, wanted}
+use Rattle.packets.specs.State.{State, close, configured, fittedOn, isEmpty, isThereOf, isRunning, jobIn, noJob, relist, releaseAll, stateIn, sweep, takeAll, wanted}
 use Rattle.packets.specs.declared.Acted.{Acted}
 use Rattle.packets.specs.declared.Answer.{Answer}
 use Rattle.packets.specs.declared.Answer.the-variants.{Closed, Done, Refused}
@@ -28,8 +30,7 @@ use Rattle.packets.specs.declared.RequestList.{RequestList}
 use Rattle.packets.specs.declared.Spot.the-variants.{OnUnit}
 use Rattle.packets.specs.declared.Verdict.{Verdict}
 use Rattle.packets.specs.declared.Verdict.the-variants.{Denied, Granted}
-use Rattle.packets_queue.specs.Padded.{listOf}
-use Rattle.packets_queue.specs.Keeping.{Relisted}
+use Rattle.packets_queue.specs.Padded.{listOf, padded}
 use Rattle.packets_end.specs.Over.{closedJob, endingOf}
 use Rattle.lists.proofs.Focus.{ending-packets, focus, focus-close, focus-leaving, focus-return, focus-self, focus-sweep}
 use Rattle.lists.specs.Outcomes.{leaves, listsOf, outcome, settled, stateOf}
@@ -50,6 +51,13 @@ module _ (r : Lists) (x : Call) where
 
 pub small-is : (j : ℕ) → ltb j 16 ≡ true → j % 16 ≡ j
 small-is j t = let h : j < 16 = ltb-true j 16 t in omega arith
+
+-- ---- a channel's number, taken below 16
+
+pub on-is : (channels : List Channel) (c : ℕ) (on : Channel) → on ≡ getD channels (c % 16) (record { has = Nothing })
+    → (ltb c 16 && isThereOf (on .has)) ≡ configured channels c
+unfolding configured fittedOn
+on-is channels c on e = by-bool (ltb c 16) (λ t. rw (t, e, small-is c t)) (λ t. rw t)
 
 -- ---- a job's end
 
@@ -77,7 +85,7 @@ module _ (r : Lists) (j : ℕ) (err : Bool) where
         ∙ focus-close (stateOf r) j (omega (arith, size, small)) _ _ (closing err)
 
     pub end-is : (shut : Ending) → shut ≡ endingOf (closedJob (getD (r .jobs) (j % 16) noJob) err) (r .moving) j
-        → (left : RequestList) → Relisted j (shut .job .packets) (r .list) left
+        → (left : RequestList) → left ≡ padded (relist j (shut .job .packets) (listOf (r .list)))
         → (units : Units) → units ≡ unitsFrom (cond (shut .done) (releaseAll (r .units .of) j) (r .units .of))
         → _≡_ {A = Acted} (record {
           lists = record { channels = r .channels; jobs = set (r .jobs) (j % 16) (shut .job); list = left; moving = r .moving; units = units };
@@ -87,7 +95,7 @@ module _ (r : Lists) (j : ℕ) (err : Bool) where
     end-is shut e left l units u =
         let k : j % 16 ≡ j = omega (arith, small) in
         granted-is r (End j err) granted _ _
-        (rw (l .is, u, e, k, ending-packets _ shutJob)
+        (rw (l, u, e, k, ending-packets _ shutJob)
         (sym (ap listsOf (ap (returnIfDone j) shut-is ∙ focus-return (stateOf r) j (omega (arith, size, small)) shutJob shutList))))
         (rw (e, k) (sym (ap Closed (ap (leaving j) shut-is ∙ focus-leaving (stateOf r) j (omega (arith, size, small)) shutJob shutList))))
 

@@ -11,9 +11,11 @@ use Rattle.numbers.proofs.Tests.{by-bool, never}
 use Rattle.numbers.specs.declared.Refusal.the-variants.{NothingInProgress, OutOfRange, WrongCompletion}
 use Rattle.units.specs.State.{unitsFrom}
 use Rattle.units.specs.declared.Units.{Units}
+use Rattle.channels.specs.declared.Channel.{Channel}
+use Rattle.channels.specs.declared.Fitted.the-variants.{Nothing}
 use Rattle.packets.proofs.Laws.{and-left, and-right, passes}
 use Rattle.packets.specs.Rules.{Complete, accept, answer, isAt, broken, codeFor, completed, completes, failed, finished, first, isFailure, isWrong, leaving, over, refusal, returnIfDone}
-use Rattle.packets.specs.State.{State, blank, carrying, configured, isIdle, isListed, isUnit, jobIn, lock, motionOn, movingStatus, move, noJob, packetIn, relist, restatus, setLock, store, sweep, withPackets, withStatus}
+use Rattle.packets.specs.State.{State, blank, carrying, configured, isIdle, isListed, isThereOf, isUnit, jobIn, lock, motionOn, movingStatus, move, noJob, packetIn, relist, restatus, setLock, store, sweep, withPackets, withStatus}
 use Rattle.packets.proofs.Told.{configured-in}
 use Rattle.packets.specs.declared.Acted.{Acted}
 use Rattle.packets.specs.declared.Answer.the-variants.{Completed}
@@ -32,11 +34,10 @@ use Rattle.packets.specs.declared.Status.{Status}
 use Rattle.packets.specs.declared.Status.the-variants.{Blank, Ended, InProgress, Listed, Stopping}
 use Rattle.packets.specs.declared.Verdict.{Verdict}
 use Rattle.packets.specs.declared.Verdict.the-variants.{Granted}
-use Rattle.packets_queue.specs.Padded.{listOf}
-use Rattle.packets_queue.specs.Keeping.{Relisted}
+use Rattle.packets_queue.specs.Padded.{listOf, padded}
 use Rattle.packets_job.specs.Aims.{statusSet}
 use Rattle.packets_end.specs.Over.{brokenFor, endingOf, overJob}
-use Rattle.lists.proofs.Calls.{granted-is, small-is}
+use Rattle.lists.proofs.Calls.{granted-is, on-is, small-is}
 use Rattle.lists.proofs.Focus.{ending-packets, fewer-map, focus, focus-leaving, focus-return, focus-self, focus-store, focus-sweep, relist-twice, reunit}
 use Rattle.lists.specs.Outcomes.{listsOf, outcome, stateOf}
 use Rattle.lists.specs.Parts.{packetNo, placeIn, unitsAfter}
@@ -102,19 +103,19 @@ same s (Busy j p) i = let k : j % 16 ≡ j = small-is j (and-left (ltb j 16) _ (
 
 module _ (r : Lists) (c : ℕ) (how : How) (m : Motion) (is : m ≡ getD (r .moving) (c % 16) (carrying Idle) .motion)
     (j p : ℕ) (ji : j ≡ placeIn m) (pi : p ≡ packetNo m) (q : Packet) (qi : q ≡ getD (getD (r .jobs) (j % 16) noJob .packets) p blank) where
-  pub complete-verdict : (v : Verdict)
-      → v ≡ first (not (configured (r .channels) c)) OutOfRange (first (isIdle m) NothingInProgress (first (isWrong (q .status) how) WrongCompletion Granted))
+  pub complete-verdict : (on : Channel) → on ≡ getD (r .channels) (c % 16) (record { has = Nothing }) → (v : Verdict)
+      → v ≡ first (not (ltb c 16 && isThereOf (on .has))) OutOfRange (first (isIdle m) NothingInProgress (first (isWrong (q .status) how) WrongCompletion Granted))
       → refusal (stateOf r) (Complete c how) ≡ v
   unfolding refusal
-  complete-verdict v e =
+  complete-verdict on oi v e =
       by-bool (configured (r .channels) c)
       (λ t. let h = configured-in (r .channels) c t in
       let k : c % 16 ≡ c = omega arith in
       let n : m ≡ motionOn (stateOf r) c = is ∙ ap (λ (i : ℕ). getD (r .moving) i (carrying Idle) .motion) k in
       by-bool (isIdle m)
-      (λ d. rw (e, t, d, ← n, d))
-      (λ d. rw (e, t, d, ← n, d, qi, ji, pi, same (stateOf r) m d)))
-      (λ t. rw (e, t))
+      (λ d. rw (e, on-is (r .channels) c on oi, t, d, ← n, d))
+      (λ d. rw (e, on-is (r .channels) c on oi, t, d, ← n, d, qi, ji, pi, same (stateOf r) m d)))
+      (λ t. rw (e, on-is (r .channels) c on oi, t))
 
   module _ (size : length (r .jobs) ≡ 16) (granted : refusal (stateOf r) (Complete c how) ≡ Granted) where
     told : (c < 16) × (isIdle (motionOn (stateOf r) c) ≡ false)
@@ -149,7 +150,7 @@ module _ (r : Lists) (c : ℕ) (how : How) (m : Motion) (is : m ≡ getD (r .mov
     pub complete-is : (idle : Carrier) → idle ≡ carrying Idle
         → (b : Bool) → b ≡ isFailure how && isUnit (q .at)
         → (over : Ending) → over ≡ endingOf (overJob (getD (r .jobs) (j % 16) noJob) p how c b) (set (r .moving) (c % 16) idle) j
-        → (left : RequestList) → Relisted j (over .job .packets) (r .list) left
+        → (left : RequestList) → left ≡ padded (relist j (over .job .packets) (listOf (r .list)))
         → (units : Units) → units ≡ unitsFrom (unitsAfter (r .units .of) c (q .at) b j (over .done))
         → _≡_ {A = Acted} (record {
           lists = record { channels = r .channels; jobs = set (r .jobs) (j % 16) (over .job); list = left; moving = set (r .moving) (c % 16) idle; units = units };
@@ -161,7 +162,7 @@ module _ (r : Lists) (c : ℕ) (how : How) (m : Motion) (is : m ≡ getD (r .mov
         let n : j % 16 ≡ j = (let h = moves .1 in omega arith) in
         let h : j < length (r .jobs) = omega (arith, size, moves .1) in
         granted-is r (Complete c how) granted _ _
-        (rw (l .is, u, o, bi, qi, i, k, n, ending-packets _ overs)
+        (rw (l, u, o, bi, qi, i, k, n, ending-packets _ overs)
         (sym (ap (λ (x : Motion). listsOf (completed (stateOf r) c how x)) (moves .0) ∙ ap listsOf (ap (returnIfDone j) whole ∙ focus-return shut j h overs kept))))
         (rw (o, bi, qi, i, k, n)
         (sym (ap (completes (stateOf r) c how) (moves .0) ∙ ap (Completed j p) (ap (leaving j) whole ∙ focus-leaving shut j h overs kept))))

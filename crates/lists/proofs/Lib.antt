@@ -4,5 +4,6 @@ pub mod Full
 pub mod Focus
 pub mod Calls
 pub mod Submits
+pub mod Search
 pub mod Starts
 pub mod Completes

@@ -2,7 +2,7 @@
 -- one pass over the list. Assumes nothing.
 use Prim.Native.Nat.{ℕ, _%_, _<_}
 use mathlib.Core.Path.{_≡_, refl, sym, ap, _∙_}
-use mathlib.Core.Bool.{Bool, true, false, not, cond}
+use mathlib.Core.Bool.{Bool, true, false, not, cond, _&&_}
 use mathlib.Core.List.{List, map}
 use native.Mathlib.Omega.{arith}
 use lib.ListN.{length, getD, set}
@@ -13,7 +13,8 @@ use Rattle.numbers.specs.declared.Refusal.the-variants.{OutOfRange}
 use Rattle.units.specs.State.{unitsFrom}
 use Rattle.units.specs.declared.Unit.{Unit as UnitState}
 use Rattle.units.specs.declared.Units.{Units}
-use Rattle.channels.specs.declared.Fitted.{Fitted}
+use Rattle.channels.specs.declared.Channel.{Channel}
+use Rattle.channels.specs.declared.Fitted.the-variants.{Nothing}
 use Rattle.packets.proofs.Laws.{and-left, and-right, passes}
 use Rattle.packets.specs.Rules.{Submit, accept, aimed, answer, cut, enlist, failed, inRange, isAt, locked, packet, pass, refusal, siteOf, submitRefusal, submitted}
 use Rattle.packets.specs.State.{State, enqueue, entryOf, fittedOn, jobIn, noJob, relist, restatus, setLock, store, sweep, unitAt, withPackets}
@@ -87,10 +88,25 @@ module _ (s : State) (j : ℕ) (h : j < length (s .jobs)) (p f c : ℕ) (w : Spo
       other : eqb f 0o07 ≡ true → eqb f 0o23 ≡ false
       other t = let q : f ≡ 0o07 = eqb-true f 0o07 t in rw q refl
 
-module _ (r : Lists) (j p f c : ℕ) (w : Spot) (has : Fitted) (on : has ≡ fittedOn (r .channels) c) (unit : UnitState) (is : unit ≡ unitAt (r .units .of) c (siteOf w)) where
-  pub submit-verdict : (v : Verdict) → v ≡ submitRefusal has (getD (r .jobs) (j % 16) noJob) unit j p f c w → refusal (stateOf r) (Submit j p f c w) ≡ v
+-- a function is not in range where one of its numbers is not
+past : (a b d : Bool) → (a && (b && (d && false))) ≡ false
+past true true true = refl
+past true true false = refl
+past true false d = refl
+past false b d = refl
+
+module _ (r : Lists) (j p f c : ℕ) (w : Spot) (on : Channel) (oi : on ≡ getD (r .channels) (c % 16) (record { has = Nothing })) (unit : UnitState) (is : unit ≡ unitAt (r .units .of) c (siteOf w)) where
+  -- what the channel has, if its number is below 16
+  here : ltb c 16 ≡ true → on .has ≡ fittedOn (r .channels) c
+  unfolding fittedOn
+  here t = rw (oi, small-is c t)
+
+  pub submit-verdict : (v : Verdict) → v ≡ submitRefusal (on .has) (getD (r .jobs) (j % 16) noJob) unit j p f c w → refusal (stateOf r) (Submit j p f c w) ≡ v
   unfolding refusal
-  submit-verdict v e = by-bool (ltb j 16) (λ t. rw (e, on, is, small-is j t)) (λ t. rw (e, t))
+  submit-verdict v e =
+      by-bool (ltb c 16)
+      (λ s. by-bool (ltb j 16) (λ t. rw (e, here s, is, small-is j t)) (λ t. rw (e, t)))
+      (λ s. rw (e, s, past (ltb j 16) (ltb p 16) (ltb f 64)))
 
   module _ (size : length (r .jobs) ≡ 16) (granted : refusal (stateOf r) (Submit j p f c w) ≡ Granted) where
     inside : inRange (fittedOn (r .channels) c) j p f c w ≡ true

@@ -3,6 +3,7 @@
 use Prim.Native.Nat.{ℕ, _+_, _*_, _%_}
 use mathlib.Core.Bool.{Bool, true, false, cond}
 use mathlib.Core.List.{List}
+use mathlib.Core.Option.{Option, none, some}
 use lib.ListN.{getD}
 use Rattle.units.specs.declared.Unit.{Unit as UnitState}
 use Rattle.packets.specs.State.{blank, enlisted, packetOf, placeOf, releaseAll, setLock}
@@ -23,6 +24,11 @@ listAfter f e q = cond (isListing f) (enlisted q e) q
 -- packet p of place j as an entry, each taken below 16
 abbrev pub listedAs : ℕ → ℕ → ℕ
 listedAs j p = j % 16 * 16 + p % 16
+
+-- the oldest packet that can start, if there is one
+abbrev pub foundOf : Option ℕ → Found
+foundOf none = Nowhere
+foundOf (some e) = At e
 
 -- no packet can start
 abbrev pub isNowhere : Found → Bool

@@ -7,26 +7,31 @@ use packets::Carrier;
 use packets::Found;
 use packets::Job;
 use packets::Motion;
-use packets::Packet;
 use packets::RequestList;
 use packets::Site;
+use packets::Status;
 use units::Units;
+ghost use Prim.Native.Nat.{_≤_};
 ghost use mathlib.Core.Path.{_≡_};
+ghost use lib.ListN.{length, take};
 ghost use Rattle.units.specs.State.{unitIn, unitSet, unitsFrom, markedUnit};
 ghost use Rattle.packets.specs.declared.Motion.the-variants.{Idle, Busy};
-ghost use Rattle.packets.specs.State.{carrying, placeOf, packetOf, relist};
-ghost use Rattle.packets_queue.specs.Padded.{listOf, padded};
+ghost use Rattle.packets.specs.State.{carrying, placeOf, packetOf, relist, withPackets};
+ghost use Rattle.packets.specs.declared.Status.the-variants.{InProgress};
+ghost use Rattle.packets_job.specs.Aims.{statusSet};
+ghost use Rattle.packets_queue.specs.Padded.{padded};
 ghost use Rattle.lists.specs.Parts.{listAfter, listedAs, entryIn, placeIn, packetNo, startedAt, unitsAfter};
 
-// The list after a submission of packet p of the job in place j; any function but 07 and 23 is listed, as the
-// youngest.
-pub fn list_of(job: Job, j: u8, p: u8, f: u8, list: RequestList) -> RequestList
-    ensures { λ r. ⌜ r ≡ padded (listAfter f (listedAs j p) (relist j (job .packets) (listOf list))) ⌝ }
+// The list of these entries and this count after a submission of packet p of the job in place j; any function but 07
+// and 23 is listed, as the youngest.
+pub fn list_of(job: Job, j: u8, p: u8, f: u8, old: &[u8], count: usize) -> RequestList
+    ensures { λ r. ⌜ (length (now (old .entry)) ≤ 256
+        → r ≡ padded (listAfter f (listedAs j p) (relist j (job .packets) (take count (now (old .entry)))))) ⌝ }
 {
     if packets_submit::is_listing(f) {
-        return packets_queue::relisted_with(job, j, list, (j % 16) * 16 + p % 16);
+        return packets_queue::relisted_with(job, j, old, count, (j % 16) * 16 + p % 16);
     }
-    packets_queue::relisted(job, j, list)
+    packets_queue::relisted(job, j, old, count)
 }
 
 // The entry that was found; 0 where none was.
@@ -39,10 +44,22 @@ pub fn entry_of(found: Found) -> u8
     }
 }
 
-// The answer of a start: the packet of a place with these packets that an entry names.
-pub fn started(ps: [Packet; 16], e: u8) -> Answer
-    ensures { λ r. ⌜ r ≡ startedAt ps e ⌝ }
+// The job in the place that an entry names, whose packet is then in progress.
+pub fn begun(job: Job, e: u8) -> Job
+    ensures { λ r. ⌜ r ≡ withPackets job (statusSet (job .packets) (packetOf e) InProgress) ⌝ }
 {
+    let ps = job.packets;
+    let qs = packets_job::with_status_at(ps, e % 16, Status::InProgress);
+    let mut next = job;
+    next.packets = qs;
+    next
+}
+
+// The answer of a start: the packet of that job that the entry names.
+pub fn started(job: Job, e: u8) -> Answer
+    ensures { λ r. ⌜ r ≡ startedAt (job .packets) e ⌝ }
+{
+    let ps = job.packets;
     let q = packets_job::packet_in(ps, e % 16);
     let at = q.at;
     Answer::Started(Begun {

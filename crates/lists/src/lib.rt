@@ -1,5 +1,6 @@
 // The calls on packets and request lists. Each but `status` takes the state by value, changes it where it stands, and
-// returns it with its answer.
+// returns it with its answer. A part that is read whole is read before the state is copied into `next`, and the list's entries are
+// lent: so that calls one after another need one copy of the state between them.
 mod after;
 mod verdicts;
 
@@ -11,6 +12,7 @@ use packets::Acted;
 use packets::Answer;
 use packets::Assignment;
 use packets::Carrier;
+use packets::Found;
 use packets::How;
 use packets::Lists;
 use packets::Motion;
@@ -58,12 +60,13 @@ pub fn submit(
 ) -> Acted
     ensures { λ r. ⌜ r ≡ outcome lists (Submit place packet function (channel .0) spot) ⌝ }
 {
-    let mut next = lists;
-    let mut answer = Answer::Done;
-    let channels = next.channels;
-    let units = next.units;
-    let has = packets_channels::fitted_on(channels, channel);
+    let units = lists.units;
     let unit = packets_units::unit_of(units, channel, spot);
+    let mut next = lists;
+    let c = (channel.0 % 16) as usize;
+    let on = next.channels[c];
+    let has = on.has;
+    let mut answer = Answer::Done;
     let i = (place % 16) as usize;
     let job = next.jobs[i];
     match packets_submit::verdict(has, job, unit, place, packet, function, channel, spot) {
@@ -74,12 +77,13 @@ pub fn submit(
             let unlocking = packets_submit::is_unlocking(function, unit);
             let gone = packets_submit::job_after(job, packet, function, channel, spot, unlocking);
             next.jobs[i] = gone;
-            let list = next.list;
-            let left = after::list_of(gone, place, packet, function, list);
+            let count = next.list.count;
+            let left = after::list_of(gone, place, packet, function, &next.list.entries, count);
             next.list = left;
             if unlocking {
                 let at = packets_submit::site_of(spot);
-                let open = packets_units::with_lock_at(units, channel, at, false);
+                let shut = next.units;
+                let open = packets_units::with_lock_at(shut, channel, at, false);
                 next.units = open;
             }
         }
@@ -90,34 +94,43 @@ pub fn submit(
     }
 }
 
-// Start on a channel.
+// Start on a channel: of the oldest packet of the list that can start there.
 pub fn start(lists: Lists, channel: ChannelNumber) -> Acted
     ensures { λ r. ⌜ r ≡ outcome lists (Start (channel .0)) ⌝ }
 {
+    let units = lists.units;
+    let row = packets_queue::row_of(units, channel);
+    let count = lists.list.count;
     let mut next = lists;
     let mut answer = Answer::Done;
-    let channels = next.channels;
-    let jobs = next.jobs;
-    let list = next.list;
-    let units = next.units;
-    let found = packets_queue::oldest(units, jobs, list, channel);
+    let end = packets_queue::size_of(&next.list.entries, count);
+    let mut found = Found::Nowhere;
+    let mut k: usize = 0;
+    while k < end {
+        let e = packets_queue::entry_at(&next.list.entries, k);
+        let place = (e / 16) as usize;
+        let job = next.jobs[place];
+        if packets_queue::can_start(job, e, row, channel) {
+            found = Found::At(e);
+            break;
+        }
+        k += 1;
+    }
     let c = (channel.0 % 16) as usize;
+    let on = next.channels[c];
     let carrier = next.moving[c];
-    let motion = carrier.motion;
-    match verdicts::of_start(channels, motion, found, channel) {
+    match verdicts::of_start(on, carrier, found, channel) {
         Verdict::Denied(refusal) => {
             answer = Answer::Refused(refusal);
         }
         Verdict::Granted => {
             let e = after::entry_of(found);
             let i = (e / 16) as usize;
-            let mut job = next.jobs[i];
-            let ps = job.packets;
-            answer = after::started(ps, e);
-            let qs = packets_job::with_status_at(ps, e % 16, Status::InProgress);
-            job.packets = qs;
-            next.jobs[i] = job;
-            let left = packets_queue::relisted(job, e / 16, list);
+            let job = next.jobs[i];
+            answer = after::started(job, e);
+            let gone = after::begun(job, e);
+            next.jobs[i] = gone;
+            let left = packets_queue::relisted(gone, e / 16, &next.list.entries, count);
             next.list = left;
             let busy = after::busy_with(e);
             next.moving[c] = busy;
@@ -135,8 +148,8 @@ pub fn complete(lists: Lists, channel: ChannelNumber, how: How) -> Acted
 {
     let mut next = lists;
     let mut answer = Answer::Done;
-    let channels = next.channels;
     let c = (channel.0 % 16) as usize;
+    let on = next.channels[c];
     let carrier = next.moving[c];
     let j = after::place_of(carrier);
     let p = after::packet_of(carrier);
@@ -144,7 +157,7 @@ pub fn complete(lists: Lists, channel: ChannelNumber, how: How) -> Acted
     let job = next.jobs[i];
     let ps = job.packets;
     let q = packets_job::packet_in(ps, p);
-    match verdicts::of_complete(channels, carrier, q, how, channel) {
+    match verdicts::of_complete(on, carrier, q, how, channel) {
         Verdict::Denied(refusal) => {
             answer = Answer::Refused(refusal);
         }
@@ -157,8 +170,8 @@ pub fn complete(lists: Lists, channel: ChannelNumber, how: How) -> Acted
             let over = packets_end::over(job, p, how, channel, breaking, moving, j);
             let gone = over.job;
             next.jobs[i] = gone;
-            let list = next.list;
-            let left = packets_queue::relisted(gone, j, list);
+            let count = next.list.count;
+            let left = packets_queue::relisted(gone, j, &next.list.entries, count);
             next.list = left;
             let leaving = over.leaving;
             answer = Answer::Completed(j, p, leaving);
@@ -193,8 +206,8 @@ pub fn end(lists: Lists, place: u8, in_error: bool) -> Acted
             let shut = packets_end::closed(job, in_error, moving, place);
             let gone = shut.job;
             next.jobs[i] = gone;
-            let list = next.list;
-            let left = packets_queue::relisted(gone, place, list);
+            let count = next.list.count;
+            let left = packets_queue::relisted(gone, place, &next.list.entries, count);
             next.list = left;
             let leaving = shut.leaving;
             answer = Answer::Closed(leaving);

@@ -19,7 +19,7 @@ ghost use Rattle.numbers.specs.declared.Refusal.the-variants.{OutOfRange, NoJob
 ghost use Rattle.numbers.specs.declared.Refusal.the-variants.{NothingStartable, NothingInProgress, WrongCompletion, NothingSelected};
 ghost use Rattle.packets.specs.declared.Verdict.the-variants.{Granted};
 ghost use Rattle.packets.specs.declared.Spot.the-variants.{OnUnit};
-ghost use Rattle.packets.specs.State.{configured, isIdle, isRunning, isEmpty};
+ghost use Rattle.packets.specs.State.{isThereOf, isIdle, isRunning, isEmpty};
 ghost use Rattle.packets.specs.Rules.{first, isWrong, reaches};
 ghost use Rattle.lists.specs.Parts.{isNowhere};
 
@@ -47,11 +47,24 @@ fn is_nowhere(found: Found) -> bool
     }
 }
 
-pub fn of_start(channels: [Channel; 16], motion: Motion, found: Found, c: ChannelNumber) -> Verdict
-    ensures { λ r. ⌜ r ≡ first (not (configured channels (c .0))) OutOfRange
-        (first (not (isIdle motion)) ChannelBusy (first (isNowhere found) NothingStartable Granted)) ⌝ }
+// Whether the cell has channel c, which is this one if its number is below 16.
+fn is_configured(on: Channel, c: ChannelNumber) -> bool
+    ensures { λ r. ⌜ r ≡ (ltb (c .0) 16 && isThereOf (on .has)) ⌝ }
 {
-    if !packets_channels::is_configured(channels, c) {
+    if 15 < c.0 {
+        return false;
+    }
+    let has = on.has;
+    packets_channels::is_there(has)
+}
+
+// Of a start, by what the channel has and what moves on it, and by the packet that was found.
+pub fn of_start(on: Channel, carrier: Carrier, found: Found, c: ChannelNumber) -> Verdict
+    ensures { λ r. ⌜ r ≡ first (not (ltb (c .0) 16 && isThereOf (on .has))) OutOfRange
+        (first (not (isIdle (carrier .motion))) ChannelBusy (first (isNowhere found) NothingStartable Granted)) ⌝ }
+{
+    let motion = carrier.motion;
+    if !is_configured(on, c) {
         return Verdict::Denied(Refusal::OutOfRange);
     }
     if !is_idle(motion) {
@@ -63,20 +76,20 @@ pub fn of_start(channels: [Channel; 16], motion: Motion, found: Found, c: Channe
     Verdict::Granted
 }
 
-// Of a completion, by what moves on the channel and its packet.
+// Of a completion, by what the channel has, what moves on it and its packet.
 pub fn of_complete(
-    channels: [Channel; 16],
+    on: Channel,
     carrier: Carrier,
     packet: Packet,
     how: How,
     c: ChannelNumber,
 ) -> Verdict
-    ensures { λ r. ⌜ r ≡ first (not (configured channels (c .0))) OutOfRange
+    ensures { λ r. ⌜ r ≡ first (not (ltb (c .0) 16 && isThereOf (on .has))) OutOfRange
         (first (isIdle (carrier .motion)) NothingInProgress (first (isWrong (packet .status) how) WrongCompletion Granted)) ⌝ }
 {
     let motion = carrier.motion;
     let status = packet.status;
-    if !packets_channels::is_configured(channels, c) {
+    if !is_configured(on, c) {
         return Verdict::Denied(Refusal::OutOfRange);
     }
     if is_idle(motion) {

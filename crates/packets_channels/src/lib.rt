@@ -6,7 +6,7 @@ use packets::Carrier;
 use packets::Motion;
 use packets::Spot;
 ghost use mathlib.Core.Path.{_≡_};
-ghost use Rattle.packets.specs.State.{fittedOn, isDrumOf, isThereOf, configured, moves, anyMoves};
+ghost use Rattle.packets.specs.State.{fittedOn, isDrumOf, isThereOf, moves, anyMoves};
 ghost use Rattle.packets.specs.Rules.{reaches};
 
 // What channel c has; nothing where the cell has no such channel.
@@ -32,23 +32,13 @@ pub fn is_drum(has: Fitted) -> bool
 }
 
 // Whether it is there.
-fn is_there(has: Fitted) -> bool
+pub fn is_there(has: Fitted) -> bool
     ensures { λ r. ⌜ r ≡ isThereOf has ⌝ }
 {
     match has {
         Fitted::Nothing => false,
         Fitted::With(_, _) => true,
     }
-}
-
-// Whether the cell has channel c.
-pub fn is_configured(channels: [Channel; 16], c: ChannelNumber) -> bool
-    ensures { λ r. ⌜ r ≡ configured channels (c .0) ⌝ }
-{
-    if 15 < c.0 {
-        return false;
-    }
-    is_there(fitted_on(channels, c))
 }
 
 // Whether it has the unit, or is the drum for an address.

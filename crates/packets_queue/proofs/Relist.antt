@@ -22,10 +22,14 @@ use Rattle.packets_queue.proofs.PaddedLaws.{list-padded}
 pub tidy-padded : (l : List ℕ) → length l ≤ 256 → Tidy (padded l)
 tidy-padded l h = record { is = ap padded (sym (list-padded l)); few = rw (list-padded l) h }
 
--- a count that passes the array's end reads all of it
-pub sized-full : (list : RequestList) → length (list .entries) ≡ 256 → 256 < list .count → Sized list 256
-sized-full list n h =
-    record { few = omega arith; is = take-all 256 (list .entries) (omega arith) ∙ sym (take-all (list .count) (list .entries) (omega arith)) }
+-- a count that passes the entries' end reads all of them
+pub sized-full : (entries : List ℕ) (count : ℕ) → length entries ≤ 256 → length entries < count → Sized entries count (length entries)
+sized-full entries count n h =
+    record {
+      few = n;
+      within = omega arith;
+      is = λ m. take-all (length entries) entries (omega arith) ∙ sym (take-all count entries (omega arith));
+    }
 
 -- a padded list takes one more
 pad-step : (v : ℕ) (l out : List ℕ) (n : ℕ) → n ≡ length l → n < 256 → out ≡ l ++ replicate (256 - n) 0
@@ -67,17 +71,17 @@ module _ (f : ℕ → Bool) (old out : List ℕ) (n i : ℕ) (R : Relisting f ol
       step : keep f (take (i + 1) old) ≡ keep f (take i old)
       step = keep-step f old i h ∙ rw t (append-nil (keep f (take i old)))
 
-pub relisted-done : (j : ℕ) (ps : List Packet) (list : RequestList) (out : List ℕ) (n i : ℕ) → Relisting (isKept j ps) (list .entries) out n i → i ≤ 256
-    → take i (list .entries) ≡ listOf list → Relisted j ps list (record { entries = out; count = n })
+pub relisted-done : (j : ℕ) (ps : List Packet) (old out : List ℕ) (count n i : ℕ) → Relisting (isKept j ps) old out n i → i ≤ 256
+    → (length old ≤ 256 → take i old ≡ take count old) → Relisted j ps old count (record { entries = out; count = n })
 unfolding relist
-relisted-done j ps list out n i R few e =
+relisted-done j ps old out count n i R few e =
     record {
-      is = same;
-      tidy = subst Tidy (sym same) (tidy-padded (relist j ps (listOf list)) (omega (arith, R .few, R .size, ap (λ (l : List ℕ). length (keep (isKept j ps) l)) e)));
+      is = λ h. same ∙ ap (λ (q : List ℕ). padded (relist j ps q)) (e h);
+      tidy = subst Tidy (sym same) (tidy-padded (relist j ps (take i old)) (omega (arith, R .few, R .size)));
     }
   where
-    same : _≡_ {A = RequestList} (record { entries = out; count = n }) (padded (relist j ps (listOf list)))
-    same = rw (R .is, R .size, e)
+    same : _≡_ {A = RequestList} (record { entries = out; count = n }) (padded (relist j ps (take i old)))
+    same = rw (R .is, R .size)
 
 module _ (list : RequestList) (tidy : Tidy list) (e : ℕ) where
   count-is : list .count ≡ length (listOf list)
@@ -106,6 +110,6 @@ module _ (list : RequestList) (tidy : Tidy list) (e : ℕ) where
       two p q = rw (p, q)
 
 -- the packet that an entry names, read by its place and number
-pub entry-is : (jobs : List Job) (e a b : ℕ) → a ≡ placeOf e → b ≡ packetOf e → packetIn jobs (placeOf e) (packetOf e) ≡ getD (jobIn jobs a .packets) b blank
+pub entry-is : (jobs : List Job) (e a : ℕ) → a ≡ placeOf e → packetIn jobs (placeOf e) (packetOf e) ≡ getD (jobIn jobs a .packets) (packetOf e) blank
 unfolding packetIn
-entry-is jobs e a b p q = rw (p, q)
+entry-is jobs e a p = rw p

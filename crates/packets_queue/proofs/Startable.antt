@@ -18,16 +18,16 @@ use Rattle.packets.specs.declared.Job.{Job}
 use Rattle.packets.specs.declared.Packet.{Packet}
 use Rattle.packets.specs.declared.Site.{Site}
 use Rattle.packets.specs.declared.Site.the-variants.{AtAddress, AtUnit}
-use Rattle.packets_queue.specs.Keeping.{RowOf, canStart, foundOf, lockAt}
+use Rattle.packets_queue.specs.Keeping.{RowOf, canStart, lockAt}
 
 -- the packet of an entry can start
 abbrev pub canStartAt : List UnitState → List Job → ℕ → ℕ → Bool
 canStartAt row jobs c e = canStart row c (packetIn jobs (placeOf e) (packetOf e))
 
 -- as the code tests it
-pub starts-is : (row : List UnitState) (jobs : List Job) (c e a b : ℕ) → a ≡ placeOf e → b ≡ packetOf e
-    → (r : Bool) → r ≡ canStart row c (getD (jobIn jobs a .packets) b blank) → canStartAt row jobs c e ≡ r
-starts-is row jobs c e a b p q r t = ap (λ (k : Packet). canStart row c k) (entry-is jobs e a b p q) ∙ sym t
+pub starts-is : (row : List UnitState) (jobs : List Job) (c e a : ℕ) → a ≡ placeOf e
+    → (r : Bool) → r ≡ canStart row c (getD (jobIn jobs a .packets) (packetOf e) blank) → canStartAt row jobs c e ≡ r
+starts-is row jobs c e a p r t = ap (λ (k : Packet). canStart row c k) (entry-is jobs e a p) ∙ sym t
 
 find-same : (f g : ℕ → Bool) → ((e : ℕ) → f e ≡ g e) → (l : List ℕ) → find f l ≡ find g l
 find-same f g k [] = refl
@@ -39,10 +39,10 @@ locks-at units c row R (AtAddress x) = refl
 
 -- as the rules test it
 pub found-is : (units : List (List UnitState)) (jobs : List Job) (c : ℕ) (row : List UnitState) → RowOf units c row → (l : List ℕ)
-    → foundOf (find (canStartAt row jobs c) l) ≡ foundOf (find (startableOn units jobs c) l)
+    → find (canStartAt row jobs c) l ≡ find (startableOn units jobs c) l
 found-is units jobs c row R l =
-    ap foundOf (find-same (canStartAt row jobs c) (startableOn units jobs c)
-    (λ e. ap (λ (b : Bool). eqb (packetIn jobs (placeOf e) (packetOf e) .channel .0) c && not b) (locks-at units c row R (packetIn jobs (placeOf e) (packetOf e) .at))) l)
+    find-same (canStartAt row jobs c) (startableOn units jobs c)
+    (λ e. ap (λ (b : Bool). eqb (packetIn jobs (placeOf e) (packetOf e) .channel .0) c && not b) (locks-at units c row R (packetIn jobs (placeOf e) (packetOf e) .at))) l
 
 -- where the cell has no such channel, no unit has an interlock
 pub row-out : (units : List (List UnitState)) → Square units → (c : ℕ) → 15 < c → (row : List UnitState) → row ≡ replicate 16 (freshUnit false) → RowOf units c row

@@ -1,36 +1,34 @@
--- What the functions that keep the list say to each other, and the oldest packet of it that can start. Nothing here
--- has to be believed: Padded, and Rules of packets, say what comes out.
+-- What the functions that keep the list say to each other, and whether a packet of it can start. Nothing here has to
+-- be believed: Padded, and Rules of packets, say what comes out.
 use Prim.Native.Nat.{ℕ, _≤_, _<_}
 use mathlib.Core.Path.{_≡_}
 use mathlib.Core.Bool.{Bool, false, not, _&&_}
 use mathlib.Core.List.{List}
-use mathlib.Core.Option.{Option, none, some}
-use lib.ListN.{take, getD}
+use lib.ListN.{length, take, getD}
 use lib.Dec.{eqb}
 use Rattle.units.specs.declared.Unit.{Unit as UnitState}
 use Rattle.units.specs.State.{freshUnit, unitIn}
 use Rattle.packets.specs.State.{relist}
-use Rattle.packets.specs.declared.Found.{Found}
-use Rattle.packets.specs.declared.Found.the-variants.{At, Nowhere}
 use Rattle.packets.specs.declared.Packet.{Packet}
 use Rattle.packets.specs.declared.RequestList.{RequestList}
 use Rattle.packets.specs.declared.Site.{Site}
 use Rattle.packets.specs.declared.Site.the-variants.{AtAddress, AtUnit}
-use Rattle.packets_queue.specs.Padded.{Tidy, listOf, padded}
+use Rattle.packets_queue.specs.Padded.{Tidy, padded}
 
 -- a number below 16
 pub record Within (n r : ℕ) : Type 0 where
   pub is : r ≡ n
   pub small : r < 16
 
--- how many packets a list has
-pub record Sized (list : RequestList) (n : ℕ) : Type 0 where
+-- how many of its entries, of which there are 256, a list with this count has
+pub record Sized (entries : List ℕ) (count n : ℕ) : Type 0 where
   pub few : n ≤ 256
-  pub is : take n (list .entries) ≡ listOf list
+  pub within : n ≤ length entries
+  pub is : length entries ≤ 256 → take n entries ≡ take count entries
 
--- a list without those packets of place j that are no longer listed
-pub record Relisted (j : ℕ) (ps : List Packet) (list r : RequestList) : Type 0 where
-  pub is : r ≡ padded (relist j ps (listOf list))
+-- the list of these entries and this count without those packets of place j that are no longer listed
+pub record Relisted (j : ℕ) (ps : List Packet) (old : List ℕ) (count : ℕ) (r : RequestList) : Type 0 where
+  pub is : length old ≤ 256 → r ≡ padded (relist j ps (take count old))
   pub tidy : Tidy r
 
 -- the interlock of unit u of a channel with these units
@@ -49,8 +47,3 @@ pub record RowOf (grid : List (List UnitState)) (c : ℕ) (row : List UnitState)
 -- a listed packet can start on channel c with these units
 abbrev pub canStart : List UnitState → ℕ → Packet → Bool
 canStart row c p = eqb (p .channel .0) c && not (lockAt row (p .at))
-
--- the oldest packet that can start, if there is one
-abbrev pub foundOf : Option ℕ → Found
-foundOf none = Nowhere
-foundOf (some e) = At e

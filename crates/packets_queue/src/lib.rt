@@ -1,7 +1,6 @@
 // The list of the listed packets of all channels, the oldest first.
 use numbers::ChannelNumber;
 use numbers::UnitNumber;
-use packets::Found;
 use packets::Job;
 use packets::Packet;
 use packets::RequestList;
@@ -13,19 +12,11 @@ ghost use mathlib.Core.Path.{_≡_};
 ghost use mathlib.Core.Bool.{not, _||_};
 ghost use mathlib.Core.List.{[]};
 ghost use lib.Dec.{eqb};
-ghost use lib.ListN.{replicate};
-ghost use Rattle.packets.specs.Picks.{find};
-ghost use Rattle.packets.specs.State.{isListed, placeOf, packetOf, relist, enlisted};
-ghost use Rattle.packets.specs.Rules.{startableOn};
+ghost use Prim.Native.Nat.{_≤_};
+ghost use lib.ListN.{getD, length, replicate, take};
+ghost use Rattle.packets.specs.State.{blank, isListed, placeOf, packetOf, relist, enlisted};
 ghost use Rattle.packets_queue.specs.Padded.{listOf, padded, Tidy};
-ghost use Rattle.packets_queue.specs.Keeping.{Within, Sized, Relisted, canStart, lockIn, lockAt, foundOf, RowOf};
-
-// The place of a listed packet.
-fn place_of(e: u8) -> usize
-    ensures { λ r. ⌜ Within (placeOf e) r ⌝ }
-{
-    (e / 16) as usize
-}
+ghost use Rattle.packets_queue.specs.Keeping.{Within, Sized, Relisted, canStart, lockIn, lockAt, RowOf};
 
 // The number of a listed packet.
 fn number_of(e: u8) -> usize
@@ -51,15 +42,28 @@ pub fn empty() -> RequestList
     }
 }
 
-// How many packets the list has.
-fn size_of(list: RequestList) -> usize
-    ensures { λ r. ⌜ Sized list r ⌝ }
+// How many of its entries a list with this count has.
+pub fn size_of(entries: &[u8], count: usize) -> usize
+    ensures { λ r. ⌜ Sized (now (entries .entry)) count r ⌝ }
 {
-    let count = list.count;
-    if 256 < count {
-        return 256;
+    let most = entries.len();
+    if 256 < most {
+        return 0;
+    }
+    if most < count {
+        return most;
     }
     count
+}
+
+// An entry of a list; 0 past its end. The entries are lent: none but this one is copied.
+pub fn entry_at(entries: &[u8], k: usize) -> u8
+    ensures { λ r. ⌜ r ≡ getD (now (entries .entry)) k 0 ⌝ }
+{
+    if entries.len() <= k {
+        return 0;
+    }
+    entries[k]
 }
 
 fn is_listed(status: Status) -> bool
@@ -84,15 +88,15 @@ fn stays(e: u8, j: u8, status: Status) -> bool
     is_listed(status)
 }
 
-// The list without those packets of the job, which is in place j, that are no longer listed.
-pub fn relisted(job: Job, j: u8, list: RequestList) -> RequestList
-    ensures { λ r. ⌜ Relisted j (job .packets) list r ⌝ }
+// The list of these entries and this count without those packets of the job, which is in place j, that are no longer
+// listed. The entries are lent, so that they are not copied before they are gone through.
+pub fn relisted(job: Job, j: u8, old: &[u8], count: usize) -> RequestList
+    ensures { λ r. ⌜ Relisted j (job .packets) (now (old .entry)) count r ⌝ }
 {
     let ps = job.packets;
-    let old = list.entries;
-    let end = size_of(list);
+    let end = size_of(old, count);
     let mut entries = no_entries();
-    let mut count: usize = 0;
+    let mut kept: usize = 0;
     let mut i: usize = 0;
     while i < end {
         let e = old[i];
@@ -100,12 +104,15 @@ pub fn relisted(job: Job, j: u8, list: RequestList) -> RequestList
         let p = ps[number];
         let status = p.status;
         if stays(e, j, status) {
-            entries[count] = e;
-            count += 1;
+            entries[kept] = e;
+            kept += 1;
         }
         i += 1;
     }
-    RequestList { entries, count }
+    RequestList {
+        entries,
+        count: kept,
+    }
 }
 
 // The list with one packet more, the youngest, where there is room.
@@ -124,10 +131,10 @@ fn with_entry(list: RequestList, e: u8) -> RequestList
 }
 
 // The same, and with one packet more, the youngest, where there is room.
-pub fn relisted_with(job: Job, j: u8, list: RequestList, e: u8) -> RequestList
-    ensures { λ r. ⌜ r ≡ padded (enlisted (relist j (job .packets) (listOf list)) e) ⌝ }
+pub fn relisted_with(job: Job, j: u8, old: &[u8], count: usize, e: u8) -> RequestList
+    ensures { λ r. ⌜ (length (now (old .entry)) ≤ 256 → r ≡ padded (enlisted (relist j (job .packets) (take count (now (old .entry)))) e)) ⌝ }
 {
-    let left = relisted(job, j, list);
+    let left = relisted(job, j, old, count);
     with_entry(left, e)
 }
 
@@ -154,7 +161,7 @@ fn lock_at(row: [Unit; 16], at: Site) -> bool
 }
 
 // Whether a listed packet can start on channel c: its unit has no interlock.
-fn can_start(p: Packet, row: [Unit; 16], c: ChannelNumber) -> bool
+fn is_startable(p: Packet, row: [Unit; 16], c: ChannelNumber) -> bool
     ensures { λ r. ⌜ r ≡ canStart row (c .0) p ⌝ }
 {
     if p.channel.0 != c.0 {
@@ -164,8 +171,17 @@ fn can_start(p: Packet, row: [Unit; 16], c: ChannelNumber) -> bool
     !lock_at(row, at)
 }
 
+// Whether the packet that an entry names, of the job in its place, can start on channel c, which has these units.
+pub fn can_start(job: Job, e: u8, row: [Unit; 16], c: ChannelNumber) -> bool
+    ensures { λ r. ⌜ r ≡ canStart row (c .0) (getD (job .packets) (packetOf e) blank) ⌝ }
+{
+    let number = number_of(e);
+    let p = job.packets[number];
+    is_startable(p, row, c)
+}
+
 // The units of channel c; units without interlock where the cell has no such channel.
-fn row_of(units: Units, c: ChannelNumber) -> [Unit; 16]
+pub fn row_of(units: Units, c: ChannelNumber) -> [Unit; 16]
     ensures { λ r. ⌜ RowOf (units .of) (c .0) r ⌝ }
 {
     let grid = units::grid_of(units);
@@ -174,26 +190,4 @@ fn row_of(units: Units, c: ChannelNumber) -> [Unit; 16]
         return [units::fresh_unit(false); 16];
     }
     grid[i]
-}
-
-// The oldest packet of the list that can start on channel c.
-pub fn oldest(units: Units, jobs: [Job; 16], list: RequestList, c: ChannelNumber) -> Found
-    ensures { λ r. ⌜ r ≡ foundOf (find (startableOn (units .of) jobs (c .0)) (listOf list)) ⌝ }
-{
-    let row = row_of(units, c);
-    let entries = list.entries;
-    let end = size_of(list);
-    let mut i: usize = 0;
-    while i < end {
-        let e = entries[i];
-        let place = place_of(e);
-        let number = number_of(e);
-        let job = jobs[place];
-        let p = job.packets[number];
-        if can_start(p, row, c) {
-            return Found::At(e);
-        }
-        i += 1;
-    }
-    Found::Nowhere
 }

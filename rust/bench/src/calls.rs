@@ -75,12 +75,12 @@ pub fn turns() {
         });
         let others = if listed == 1 { "other" } else { "others" };
         let proved = proved::LINKED.then(|| {
-            let run = |thousand| assert!(proved::turns(black_box(config), black_box(deck_bytes), listed, thousand));
+            let run = |turned| assert!(proved::turns(black_box(config), black_box(deck_bytes), listed, turned));
             time_of_one(1000, 0, run)
         });
         show(&format!("submit, start and complete, {listed} {others} listed"), ordinary, proved);
         let proved = proved::LINKED.then(|| {
-            let run = |hundred| assert!(proved::cell_turns(black_box(config), black_box(deck_bytes), listed, hundred));
+            let run = |turned| assert!(proved::cell_turns(black_box(config), black_box(deck_bytes), listed, turned));
             time_of_one(100, 0, run)
         });
         show(&format!("the same on the whole cell, {listed} {others} listed"), ordinary, proved);

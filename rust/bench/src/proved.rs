@@ -19,7 +19,7 @@ mod native {
             deck: *const u8,
             deck_length: usize,
             listed: u8,
-            thousand: bool,
+            turned: bool,
         ) -> bool;
         fn luffgravel_cell_turns(
             config: *const u8,
@@ -27,7 +27,7 @@ mod native {
             deck: *const u8,
             deck_length: usize,
             listed: u8,
-            hundred: bool,
+            turned: bool,
         ) -> bool;
         fn luffgravel_selections(
             config: *const u8,
@@ -66,12 +66,12 @@ mod native {
         unsafe { luffgravel_fresh(config.as_ptr(), config.len(), place, packet, marks) }
     }
 
-    pub fn turns(config: &[u8], deck: &[u8], listed: u8, thousand: bool) -> bool {
-        unsafe { luffgravel_turns(config.as_ptr(), config.len(), deck.as_ptr(), deck.len(), listed, thousand) }
+    pub fn turns(config: &[u8], deck: &[u8], listed: u8, turned: bool) -> bool {
+        unsafe { luffgravel_turns(config.as_ptr(), config.len(), deck.as_ptr(), deck.len(), listed, turned) }
     }
 
-    pub fn cell_turns(config: &[u8], deck: &[u8], listed: u8, hundred: bool) -> bool {
-        unsafe { luffgravel_cell_turns(config.as_ptr(), config.len(), deck.as_ptr(), deck.len(), listed, hundred) }
+    pub fn cell_turns(config: &[u8], deck: &[u8], listed: u8, turned: bool) -> bool {
+        unsafe { luffgravel_cell_turns(config.as_ptr(), config.len(), deck.as_ptr(), deck.len(), listed, turned) }
     }
 
     pub fn selections(config: &[u8], deck: &[u8], late: bool, hundred: bool) -> bool {

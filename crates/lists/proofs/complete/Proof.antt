@@ -1,8 +1,9 @@
 -- `lists::complete` meets its contract: the rules' outcome of a completion. Assumes nothing.
 use mathlib.Core.Path.{refl, _∙_}
+use native.Mathlib.Omega.{arith}
 use Rattle.packets.specs.Rules.{Complete}
 use Rattle.lists.proofs.Calls.{refused-is}
-use Rattle.lists.proofs.Full.{places}
+use Rattle.lists.proofs.Full.{entries, places}
 use Rattle.lists.proofs.Completes.{complete-verdict, complete-is}
 use borrow.Author.Needs.{needs}
 use Rattle.lists.proofs.complete.Statement.{statement}
@@ -10,6 +11,12 @@ use Rattle.lists.proofs.complete.Tie as tie
 
 cast-c : tie.Need-cast-c
 cast-c c = search needs
+
+mul-on : tie.Need-mul-on
+mul-on c = search needs
+
+element-copy-out-on : tie.Need-element-copy-out-on
+element-copy-out-on c = search needs
 
 mul-carrier : tie.Need-mul-carrier
 mul-carrier c = search needs
@@ -74,25 +81,29 @@ units-of-requires c κs = search needs
 returns : tie.Need-returns
 returns c = let a = c .before .before .before .before .before .before .before .before .before .before .before .before .args in
     refused-is (a .lists) (Complete (a .channel .0) (a .how)) _
-    (complete-verdict (a .lists) (a .channel .0) (a .how) _ refl (c .before .before .before .before .before .before .before .before .place-of .result) (c .before .before .before .before .before .before .before .packet-of .result) (c .before .before .before .before .before .before .before .before .place-of .ensures) (c .before .before .before .before .before .before .before .packet-of .ensures) (c .before .before .before .before .packet-in .result) (c .before .before .before .before .packet-in .ensures) (c .before .before .before .of-complete .result) (c .before .before .before .of-complete .ensures) ∙ c .before .refusal .given .1)
+    (complete-verdict (a .lists) (a .channel .0) (a .how) _ refl (c .before .before .before .before .before .before .before .before .place-of .result) (c .before .before .before .before .before .before .before .packet-of .result) (c .before .before .before .before .before .before .before .before .place-of .ensures) (c .before .before .before .before .before .before .before .packet-of .ensures) (c .before .before .before .before .packet-in .result) (c .before .before .before .before .packet-in .ensures) _ refl (c .before .before .before .of-complete .result) (c .before .before .before .of-complete .ensures) ∙ c .before .refusal .given .1)
 
 returns-2 : tie.Need-returns-2
-returns-2 c = let a = c .before .before .before .before .before .before .before .before .before .before .before .before .before .before .before .before .before .before .before .before .before .args in
-    complete-is (a .lists) (a .channel .0) (a .how) _ refl (c .before .before .before .before .before .before .before .before .before .before .before .before .before .before .before .before .before .place-of .result) (c .before .before .before .before .before .before .before .before .before .before .before .before .before .before .before .before .packet-of .result) (c .before .before .before .before .before .before .before .before .before .before .before .before .before .before .before .before .before .place-of .ensures) (c .before .before .before .before .before .before .before .before .before .before .before .before .before .before .before .before .packet-of .ensures) (c .before .before .before .before .before .before .before .before .before .before .before .before .before .packet-in .result) (c .before .before .before .before .before .before .before .before .before .before .before .before .before .packet-in .ensures) (places (a .lists) _ (c .before .before .before .before .before .before .before .before .before .before .before .before .before .before .before .before .before .before .before .before .before .good .0))
-    (complete-verdict (a .lists) (a .channel .0) (a .how) _ refl (c .before .before .before .before .before .before .before .before .before .before .before .before .before .before .before .before .before .place-of .result) (c .before .before .before .before .before .before .before .before .before .before .before .before .before .before .before .before .packet-of .result) (c .before .before .before .before .before .before .before .before .before .before .before .before .before .before .before .before .before .place-of .ensures) (c .before .before .before .before .before .before .before .before .before .before .before .before .before .before .before .before .packet-of .ensures) (c .before .before .before .before .before .before .before .before .before .before .before .before .before .packet-in .result) (c .before .before .before .before .before .before .before .before .before .before .before .before .before .packet-in .ensures) (c .before .before .before .before .before .before .before .before .before .before .before .before .of-complete .result) (c .before .before .before .before .before .before .before .before .before .before .before .before .of-complete .ensures) ∙ c .before .before .before .before .before .before .before .before .before .before .enum-told .given .1)
-    (c .before .before .before .before .before .before .before .before .before .idle .result) (c .before .before .before .before .before .before .before .before .before .idle .ensures) (c .before .before .before .before .before .before .before .is-breaking .result) (c .before .before .before .before .before .before .before .is-breaking .ensures) (c .before .before .before .before .before .before .over .result) (c .before .before .before .before .before .before .over .ensures) (c .before .before .before .relisted .result) (c .before .before .before .relisted .ensures) (c .units-of .result) (c .units-of .ensures)
+returns-2 c = let a = c .before .before .before .before .before .before .before .before .before .before .before .before .before .before .before .before .before .before .before .before .before .before .before .args in
+    let full = entries (a .lists) _ (c .before .before .before .before .before .before .before .before .before .before .before .before .before .before .before .before .before .before .before .before .before .before .before .good .0) in
+    complete-is (a .lists) (a .channel .0) (a .how) _ refl (c .before .before .before .before .before .before .before .before .before .before .before .before .before .before .before .before .before .before .before .place-of .result) (c .before .before .before .before .before .before .before .before .before .before .before .before .before .before .before .before .before .before .packet-of .result) (c .before .before .before .before .before .before .before .before .before .before .before .before .before .before .before .before .before .before .before .place-of .ensures) (c .before .before .before .before .before .before .before .before .before .before .before .before .before .before .before .before .before .before .packet-of .ensures) (c .before .before .before .before .before .before .before .before .before .before .before .before .before .before .before .packet-in .result) (c .before .before .before .before .before .before .before .before .before .before .before .before .before .before .before .packet-in .ensures) (places (a .lists) _ (c .before .before .before .before .before .before .before .before .before .before .before .before .before .before .before .before .before .before .before .before .before .before .before .good .0))
+    (complete-verdict (a .lists) (a .channel .0) (a .how) _ refl (c .before .before .before .before .before .before .before .before .before .before .before .before .before .before .before .before .before .before .before .place-of .result) (c .before .before .before .before .before .before .before .before .before .before .before .before .before .before .before .before .before .before .packet-of .result) (c .before .before .before .before .before .before .before .before .before .before .before .before .before .before .before .before .before .before .before .place-of .ensures) (c .before .before .before .before .before .before .before .before .before .before .before .before .before .before .before .before .before .before .packet-of .ensures) (c .before .before .before .before .before .before .before .before .before .before .before .before .before .before .before .packet-in .result) (c .before .before .before .before .before .before .before .before .before .before .before .before .before .before .before .packet-in .ensures) _ refl (c .before .before .before .before .before .before .before .before .before .before .before .before .before .before .of-complete .result) (c .before .before .before .before .before .before .before .before .before .before .before .before .before .before .of-complete .ensures) ∙ c .before .before .before .before .before .before .before .before .before .before .before .before .enum-told .given .1)
+    (c .before .before .before .before .before .before .before .before .before .before .before .idle .result) (c .before .before .before .before .before .before .before .before .before .before .before .idle .ensures) (c .before .before .before .before .before .before .before .before .before .is-breaking .result) (c .before .before .before .before .before .before .before .before .before .is-breaking .ensures) (c .before .before .before .before .before .before .before .before .over .result) (c .before .before .before .before .before .before .before .before .over .ensures) (c .before .before .before .relisted .result) (c .before .before .before .relisted .ensures .is (omega (arith, full))) (c .units-of .result) (c .units-of .ensures)
 
 returns-3 : tie.Need-returns-3
-returns-3 c = let a = c .before .before .before .before .before .before .before .before .before .before .before .before .before .before .before .before .before .before .before .before .args in
-    complete-is (a .lists) (a .channel .0) (a .how) _ refl (c .before .before .before .before .before .before .before .before .before .before .before .before .before .before .before .before .place-of .result) (c .before .before .before .before .before .before .before .before .before .before .before .before .before .before .before .packet-of .result) (c .before .before .before .before .before .before .before .before .before .before .before .before .before .before .before .before .place-of .ensures) (c .before .before .before .before .before .before .before .before .before .before .before .before .before .before .before .packet-of .ensures) (c .before .before .before .before .before .before .before .before .before .before .before .before .packet-in .result) (c .before .before .before .before .before .before .before .before .before .before .before .before .packet-in .ensures) (places (a .lists) _ (c .before .before .before .before .before .before .before .before .before .before .before .before .before .before .before .before .before .before .before .before .good .0))
-    (complete-verdict (a .lists) (a .channel .0) (a .how) _ refl (c .before .before .before .before .before .before .before .before .before .before .before .before .before .before .before .before .place-of .result) (c .before .before .before .before .before .before .before .before .before .before .before .before .before .before .before .packet-of .result) (c .before .before .before .before .before .before .before .before .before .before .before .before .before .before .before .before .place-of .ensures) (c .before .before .before .before .before .before .before .before .before .before .before .before .before .before .before .packet-of .ensures) (c .before .before .before .before .before .before .before .before .before .before .before .before .packet-in .result) (c .before .before .before .before .before .before .before .before .before .before .before .before .packet-in .ensures) (c .before .before .before .before .before .before .before .before .before .before .before .of-complete .result) (c .before .before .before .before .before .before .before .before .before .before .before .of-complete .ensures) ∙ c .before .before .before .before .before .before .before .before .before .enum-told .given .1)
-    (c .before .before .before .before .before .before .before .before .idle .result) (c .before .before .before .before .before .before .before .before .idle .ensures) (c .before .before .before .before .before .before .is-breaking .result) (c .before .before .before .before .before .before .is-breaking .ensures) (c .before .before .before .before .before .over .result) (c .before .before .before .before .before .over .ensures) (c .before .before .relisted .result) (c .before .before .relisted .ensures) (a .lists .units) (rw (c .before .if1 .left, c .if2 .left) refl)
+returns-3 c = let a = c .before .before .before .before .before .before .before .before .before .before .before .before .before .before .before .before .before .before .before .before .before .before .args in
+    let full = entries (a .lists) _ (c .before .before .before .before .before .before .before .before .before .before .before .before .before .before .before .before .before .before .before .before .before .before .good .0) in
+    complete-is (a .lists) (a .channel .0) (a .how) _ refl (c .before .before .before .before .before .before .before .before .before .before .before .before .before .before .before .before .before .before .place-of .result) (c .before .before .before .before .before .before .before .before .before .before .before .before .before .before .before .before .before .packet-of .result) (c .before .before .before .before .before .before .before .before .before .before .before .before .before .before .before .before .before .before .place-of .ensures) (c .before .before .before .before .before .before .before .before .before .before .before .before .before .before .before .before .before .packet-of .ensures) (c .before .before .before .before .before .before .before .before .before .before .before .before .before .before .packet-in .result) (c .before .before .before .before .before .before .before .before .before .before .before .before .before .before .packet-in .ensures) (places (a .lists) _ (c .before .before .before .before .before .before .before .before .before .before .before .before .before .before .before .before .before .before .before .before .before .before .good .0))
+    (complete-verdict (a .lists) (a .channel .0) (a .how) _ refl (c .before .before .before .before .before .before .before .before .before .before .before .before .before .before .before .before .before .before .place-of .result) (c .before .before .before .before .before .before .before .before .before .before .before .before .before .before .before .before .before .packet-of .result) (c .before .before .before .before .before .before .before .before .before .before .before .before .before .before .before .before .before .before .place-of .ensures) (c .before .before .before .before .before .before .before .before .before .before .before .before .before .before .before .before .before .packet-of .ensures) (c .before .before .before .before .before .before .before .before .before .before .before .before .before .before .packet-in .result) (c .before .before .before .before .before .before .before .before .before .before .before .before .before .before .packet-in .ensures) _ refl (c .before .before .before .before .before .before .before .before .before .before .before .before .before .of-complete .result) (c .before .before .before .before .before .before .before .before .before .before .before .before .before .of-complete .ensures) ∙ c .before .before .before .before .before .before .before .before .before .before .before .enum-told .given .1)
+    (c .before .before .before .before .before .before .before .before .before .before .idle .result) (c .before .before .before .before .before .before .before .before .before .before .idle .ensures) (c .before .before .before .before .before .before .before .before .is-breaking .result) (c .before .before .before .before .before .before .before .before .is-breaking .ensures) (c .before .before .before .before .before .before .before .over .result) (c .before .before .before .before .before .before .before .over .ensures) (c .before .before .relisted .result) (c .before .before .relisted .ensures .is (omega (arith, full))) (a .lists .units) (rw (c .before .if1 .left, c .if2 .left) refl)
 
 pub complete-spec : {M : Type 1} → statement M
 complete-spec =
     tie.close
     (tie.spec
     cast-c
+    mul-on
+    element-copy-out-on
     mul-carrier
     element-copy-out-carrier
     place-of-requires

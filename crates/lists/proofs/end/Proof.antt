@@ -1,8 +1,9 @@
 -- `lists::end` meets its contract: the rules' outcome of a job's end. Assumes nothing.
 use mathlib.Core.Path.{refl, _∙_}
+use native.Mathlib.Omega.{arith}
 use Rattle.packets.specs.Rules.{End}
 use Rattle.lists.proofs.Calls.{refused-is, end-verdict, end-is}
-use Rattle.lists.proofs.Full.{places}
+use Rattle.lists.proofs.Full.{entries, places}
 use borrow.Author.Needs.{needs}
 use Rattle.lists.proofs.end.Statement.{statement}
 use Rattle.lists.proofs.end.Tie as tie
@@ -41,15 +42,20 @@ released-requires : tie.Need-released-requires
 released-requires c κs = search needs
 
 returns : tie.Need-returns
-returns c = refused-is (c .before .before .before .before .before .args .lists) (End (c .before .before .before .before .before .args .place) (c .before .before .before .before .before .args .in-error)) _ (end-verdict (c .before .before .before .before .before .args .lists) (c .before .before .before .before .before .args .place) (c .before .before .before .before .before .args .in-error) (c .before .before .before .of-end .result) (c .before .before .before .of-end .ensures) ∙ c .before .refusal .given .1)
+returns c = let a = c .before .before .before .before .before .args in
+    refused-is (a .lists) (End (a .place) (a .in-error)) _ (end-verdict (a .lists) (a .place) (a .in-error) (c .before .before .before .of-end .result) (c .before .before .before .of-end .ensures) ∙ c .before .refusal .given .1)
 
 returns-2 : tie.Need-returns-2
-returns-2 c = end-is (c .before .before .before .before .before .before .before .before .before .before .before .before .args .lists) (c .before .before .before .before .before .before .before .before .before .before .before .before .args .place) (c .before .before .before .before .before .before .before .before .before .before .before .before .args .in-error) (places (c .before .before .before .before .before .before .before .before .before .before .before .before .args .lists) _ (c .before .before .before .before .before .before .before .before .before .before .before .before .good .0)) (end-verdict (c .before .before .before .before .before .before .before .before .before .before .before .before .args .lists) (c .before .before .before .before .before .before .before .before .before .before .before .before .args .place) (c .before .before .before .before .before .before .before .before .before .before .before .before .args .in-error) (c .before .before .before .before .before .before .before .before .before .before .of-end .result) (c .before .before .before .before .before .before .before .before .before .before .of-end .ensures) ∙ c .before .before .before .before .before .before .before .before .enum-told .given .1)
-    (c .before .before .before .before .before .before .closed .result) (c .before .before .before .before .before .before .closed .ensures) (c .before .before .before .relisted .result) (c .before .before .before .relisted .ensures) (c .released .result) (rw (c .before .before .if1 .taken) (c .released .ensures))
+returns-2 c = let a = c .before .before .before .before .before .before .before .before .before .before .before .before .before .before .args in
+    let full = entries (a .lists) _ (c .before .before .before .before .before .before .before .before .before .before .before .before .before .before .good .0) in
+    end-is (a .lists) (a .place) (a .in-error) (places (a .lists) _ (c .before .before .before .before .before .before .before .before .before .before .before .before .before .before .good .0)) (end-verdict (a .lists) (a .place) (a .in-error) (c .before .before .before .before .before .before .before .before .before .before .before .before .of-end .result) (c .before .before .before .before .before .before .before .before .before .before .before .before .of-end .ensures) ∙ c .before .before .before .before .before .before .before .before .before .before .enum-told .given .1)
+    (c .before .before .before .before .before .before .before .before .closed .result) (c .before .before .before .before .before .before .before .before .closed .ensures) (c .before .before .before .relisted .result) (c .before .before .before .relisted .ensures .is (omega (arith, full))) (c .released .result) (rw (c .before .before .if1 .taken) (c .released .ensures))
 
 returns-3 : tie.Need-returns-3
-returns-3 c = end-is (c .before .before .before .before .before .before .before .before .before .before .args .lists) (c .before .before .before .before .before .before .before .before .before .before .args .place) (c .before .before .before .before .before .before .before .before .before .before .args .in-error) (places (c .before .before .before .before .before .before .before .before .before .before .args .lists) _ (c .before .before .before .before .before .before .before .before .before .before .good .0)) (end-verdict (c .before .before .before .before .before .before .before .before .before .before .args .lists) (c .before .before .before .before .before .before .before .before .before .before .args .place) (c .before .before .before .before .before .before .before .before .before .before .args .in-error) (c .before .before .before .before .before .before .before .before .of-end .result) (c .before .before .before .before .before .before .before .before .of-end .ensures) ∙ c .before .before .before .before .before .before .enum-told .given .1)
-    (c .before .before .before .before .closed .result) (c .before .before .before .before .closed .ensures) (c .before .relisted .result) (c .before .relisted .ensures) (c .before .before .before .before .before .before .before .before .before .before .args .lists .units) (rw (c .if1 .left) refl)
+returns-3 c = let a = c .before .before .before .before .before .before .before .before .before .before .before .before .args in
+    let full = entries (a .lists) _ (c .before .before .before .before .before .before .before .before .before .before .before .before .good .0) in
+    end-is (a .lists) (a .place) (a .in-error) (places (a .lists) _ (c .before .before .before .before .before .before .before .before .before .before .before .before .good .0)) (end-verdict (a .lists) (a .place) (a .in-error) (c .before .before .before .before .before .before .before .before .before .before .of-end .result) (c .before .before .before .before .before .before .before .before .before .before .of-end .ensures) ∙ c .before .before .before .before .before .before .before .before .enum-told .given .1)
+    (c .before .before .before .before .before .before .closed .result) (c .before .before .before .before .before .before .closed .ensures) (c .before .relisted .result) (c .before .relisted .ensures .is (omega (arith, full))) (a .lists .units) (rw (c .if1 .left) refl)
 
 pub end-spec : {M : Type 1} → statement M
 end-spec =

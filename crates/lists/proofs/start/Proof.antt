@@ -1,89 +1,182 @@
--- `lists::start` meets its contract: the rules' outcome of a start. Assumes nothing.
-use mathlib.Core.Path.{_∙_}
-use Rattle.packets.specs.Rules.{Start}
+-- `lists::start` meets its contract: the rules' outcome of a start. The invariant: none of the entries passed can start.
+-- Assumes nothing.
+use Prim.Native.Nat.{_≤_, _<_, _-_}
+use mathlib.Core.Path.{_≡_, refl, ap, _∙_}
+use mathlib.Core.Logic.{⊎-elim}
+use native.Mathlib.Omega.{arith}
+use lib.ListN.{length, getD}
+use Rattle.packets.specs.Picks.{find}
+use Rattle.packets.specs.Rules.{Start, startableOn}
 use Rattle.packets.specs.State.{placeOf, packetOf}
+use Rattle.packets.specs.declared.Found.the-variants.{At}
+use Rattle.packets_queue.specs.Padded.{listOf}
+use Rattle.packets_queue.proofs.Startable.{canStartAt, starts-is}
 use Rattle.lists.proofs.Calls.{refused-is}
-use Rattle.lists.proofs.Full.{places}
+use Rattle.lists.proofs.Full.{entries, places}
+use Rattle.lists.proofs.Search.{Searching, search-found, search-on, search-over, search-starts}
 use Rattle.lists.proofs.Starts.{start-verdict, start-is}
+use Rattle.lists.specs.Parts.{foundOf}
 use borrow.Author.Needs.{needs}
 use Rattle.lists.proofs.start.Statement.{statement}
 use Rattle.lists.proofs.start.Tie as tie
 
-oldest-requires : tie.Need-oldest-requires
-oldest-requires c κs = search needs
+abbrev Inv-loop : tie.InvT-loop
+Inv-loop channel row count next end found₀ k₀ found k = Searching row (next .jobs) (channel .0) (next .list .entries) end k found
 
-cast-c : tie.Need-cast-c
-cast-c c = search needs
+abbrev μ-loop : tie.MeasureT-loop
+μ-loop channel row count next end found₀ k₀ found k = end - k
 
-mul-carrier : tie.Need-mul-carrier
-mul-carrier c = search needs
+row-of-requires : tie.Need-row-of-requires Inv-loop μ-loop
+row-of-requires c κs = search needs
 
-element-copy-out-carrier : tie.Need-element-copy-out-carrier
-element-copy-out-carrier c = search needs
+size-of-requires : tie.Need-size-of-requires Inv-loop μ-loop
+size-of-requires c κs = search needs
 
-of-start-requires : tie.Need-of-start-requires
-of-start-requires c κs = search needs
+loop-holds : tie.Need-loop-holds Inv-loop μ-loop
+loop-holds c = search needs
 
-enum-known-refusal : tie.Need-enum-known-refusal
-enum-known-refusal c = search needs
+entry-at-requires : tie.Need-entry-at-requires Inv-loop μ-loop
+entry-at-requires c κs = search needs
 
-enum-told : tie.Need-enum-told
-enum-told c = search needs
+cast-place : tie.Need-cast-place Inv-loop μ-loop
+cast-place c = search needs
 
-entry-of-requires : tie.Need-entry-of-requires
-entry-of-requires c κs = search needs
-
-cast-i : tie.Need-cast-i
-cast-i c = search needs
-
-mul-job : tie.Need-mul-job
+mul-job : tie.Need-mul-job Inv-loop μ-loop
 mul-job c = search needs
 
-element-copy-out-job : tie.Need-element-copy-out-job
+element-copy-out-job : tie.Need-element-copy-out-job Inv-loop μ-loop
 element-copy-out-job c = search needs
 
-started-requires : tie.Need-started-requires
-started-requires c κs = search needs
+can-start-requires : tie.Need-can-start-requires Inv-loop μ-loop
+can-start-requires c κs = search needs
 
-with-status-at-requires : tie.Need-with-status-at-requires
-with-status-at-requires c κs = search needs
+add-k : tie.Need-add-k Inv-loop μ-loop
+add-k c = search needs
 
-mul-job-2 : tie.Need-mul-job-2
+loop-less : tie.Need-loop-less Inv-loop μ-loop
+loop-less c = search needs
+
+loop-again : tie.Need-loop-again Inv-loop μ-loop
+unfolding placeOf
+loop-again c = let a = c .before .before .before .before .before .before .before .before .before .before .before .before .before .before .before .args in
+    let l = c .before .before .before .before .before .before .before .before .loop in
+    let e = getD (a .lists .list .entries) (l .k) 0 in
+    let t : canStartAt (c .before .before .before .before .before .before .before .before .before .before .before .before .before .row-of .result) (a .lists .jobs) (a .channel .0) e ≡ c .before .can-start .result =
+    rw (← c .before .before .before .entry-at .ensures) (starts-is (c .before .before .before .before .before .before .before .before .before .before .before .before .before .row-of .result) (a .lists .jobs) (a .channel .0) (c .before .before .before .entry-at .result) _ refl (c .before .can-start .result) (c .before .can-start .ensures)) in
+    search-on (a .lists) (a .channel .0) (c .before .before .before .before .before .before .before .before .before .before .before .before .before .row-of .result) (c .before .before .before .before .before .before .before .before .before .before .before .before .before .row-of .ensures) (entries (a .lists) _ (c .before .before .before .before .before .before .before .before .before .before .before .before .before .before .before .good .0)) (c .before .before .before .before .before .before .before .before .before .size-of .result) (c .before .before .before .before .before .before .before .before .before .size-of .ensures)
+    (l .k) (l .found) (l .inv) (c .before .before .before .before .before .before .before .loop-test .taken) (c .before .can-start .result) t (c .if1 .left)
+
+cast-c : tie.Need-cast-c Inv-loop μ-loop
+cast-c c = search needs
+
+mul-on : tie.Need-mul-on Inv-loop μ-loop
+mul-on c = search needs
+
+element-copy-out-on : tie.Need-element-copy-out-on Inv-loop μ-loop
+element-copy-out-on c = search needs
+
+mul-carrier : tie.Need-mul-carrier Inv-loop μ-loop
+mul-carrier c = search needs
+
+element-copy-out-carrier : tie.Need-element-copy-out-carrier Inv-loop μ-loop
+element-copy-out-carrier c = search needs
+
+of-start-requires : tie.Need-of-start-requires Inv-loop μ-loop
+of-start-requires c κs = search needs
+
+enum-known-refusal : tie.Need-enum-known-refusal Inv-loop μ-loop
+enum-known-refusal c = search needs
+
+enum-told : tie.Need-enum-told Inv-loop μ-loop
+enum-told c = search needs
+
+entry-of-requires : tie.Need-entry-of-requires Inv-loop μ-loop
+entry-of-requires c κs = search needs
+
+cast-i : tie.Need-cast-i Inv-loop μ-loop
+cast-i c = search needs
+
+mul-job-2 : tie.Need-mul-job-2 Inv-loop μ-loop
 mul-job-2 c = search needs
 
-element-set-from-job : tie.Need-element-set-from-job
-element-set-from-job c = search needs
+element-copy-out-job-2 : tie.Need-element-copy-out-job-2 Inv-loop μ-loop
+element-copy-out-job-2 c = search needs
 
-relisted-requires : tie.Need-relisted-requires
+started-requires : tie.Need-started-requires Inv-loop μ-loop
+started-requires c κs = search needs
+
+begun-requires : tie.Need-begun-requires Inv-loop μ-loop
+begun-requires c κs = search needs
+
+mul-gone : tie.Need-mul-gone Inv-loop μ-loop
+mul-gone c = search needs
+
+element-set-from-gone : tie.Need-element-set-from-gone Inv-loop μ-loop
+element-set-from-gone c = search needs
+
+relisted-requires : tie.Need-relisted-requires Inv-loop μ-loop
 relisted-requires c κs = search needs
 
-busy-with-requires : tie.Need-busy-with-requires
+busy-with-requires : tie.Need-busy-with-requires Inv-loop μ-loop
 busy-with-requires c κs = search needs
 
-mul-busy : tie.Need-mul-busy
+mul-busy : tie.Need-mul-busy Inv-loop μ-loop
 mul-busy c = search needs
 
-element-set-from-busy : tie.Need-element-set-from-busy
+element-set-from-busy : tie.Need-element-set-from-busy Inv-loop μ-loop
 element-set-from-busy c = search needs
 
-returns : tie.Need-returns
-returns c = let a = c .before .before .before .before .before .before .before .before .before .before .before .args in
+returns : tie.Need-returns Inv-loop μ-loop
+unfolding placeOf
+returns c = let a = c .before .before .before .before .before .before .before .before .before .before .before .before .before .before .before .args in
+    let full = entries (a .lists) _ (c .before .before .before .before .before .before .before .before .before .before .before .before .before .before .before .good .0) in
+    let l = c .before .before .before .before .before .before .before .before .loop in
+    let f : c .before .before .before .before .before .before .before .loop-test .found ≡ foundOf (find (startableOn (a .lists .units .of) (a .lists .jobs) (a .channel .0)) (listOf (a .lists .list))) =
+    ⊎-elim
+    (λ w. w .1 ∙ search-over (a .lists) (a .channel .0) (c .before .before .before .before .before .before .before .before .before .before .before .before .before .row-of .result) (c .before .before .before .before .before .before .before .before .before .before .before .before .before .row-of .ensures) full (c .before .before .before .before .before .before .before .before .before .size-of .result) (c .before .before .before .before .before .before .before .before .before .size-of .ensures) (l .k) (l .found) (l .inv) (w .0 .left))
+    (λ w. let e : w .4 .result ≡ getD (a .lists .list .entries) (l .k) 0 = w .4 .ensures in
+    w .8 ∙ ap At e ∙ search-found (a .lists) (a .channel .0) (c .before .before .before .before .before .before .before .before .before .before .before .before .before .row-of .result) (c .before .before .before .before .before .before .before .before .before .before .before .before .before .row-of .ensures) full (c .before .before .before .before .before .before .before .before .before .size-of .result) (c .before .before .before .before .before .before .before .before .before .size-of .ensures) (l .k) (l .found) (l .inv) (w .0 .taken) (w .6 .result)
+    (rw (← e) (starts-is (c .before .before .before .before .before .before .before .before .before .before .before .before .before .row-of .result) (a .lists .jobs) (a .channel .0) (w .4 .result) _ refl (w .6 .result) (w .6 .ensures))) (w .7 .taken))
+    (c .before .before .before .before .before .before .before .loop-test .came) in
     refused-is (a .lists) (Start (a .channel .0)) _
-    (start-verdict (a .lists) (a .channel .0) (c .before .before .before .before .before .before .oldest .result) (c .before .before .before .before .before .before .oldest .ensures) (c .before .before .before .of-start .result) (c .before .before .before .of-start .ensures) ∙ c .before .refusal .given .1)
+    (start-verdict (a .lists) (a .channel .0) (c .before .before .before .before .before .before .before .loop-test .found) f _ refl (c .before .before .before .of-start .result) (c .before .before .before .of-start .ensures) ∙ c .before .refusal .given .1)
 
-returns-2 : tie.Need-returns-2
+returns-2 : tie.Need-returns-2 Inv-loop μ-loop
 unfolding placeOf packetOf
-returns-2 c = let a = c .before .before .before .before .before .before .before .before .before .before .before .before .before .before .before .before .before .args in
-    start-is (a .lists) (a .channel .0) (c .before .before .before .before .before .before .before .before .before .before .before .before .oldest .result) (c .before .before .before .before .before .before .before .before .before .before .before .before .oldest .ensures) (places (a .lists) _ (c .before .before .before .before .before .before .before .before .before .before .before .before .before .before .before .before .before .good .0))
-    (start-verdict (a .lists) (a .channel .0) (c .before .before .before .before .before .before .before .before .before .before .before .before .oldest .result) (c .before .before .before .before .before .before .before .before .before .before .before .before .oldest .ensures) (c .before .before .before .before .before .before .before .before .before .of-start .result) (c .before .before .before .before .before .before .before .before .before .of-start .ensures) ∙ c .before .before .before .before .before .before .before .enum-told .given .1)
-    (c .before .before .before .before .before .before .entry-of .result) (c .before .before .before .before .before .before .entry-of .ensures) (search needs) (c .before .before .with-status-at .result) (c .before .before .with-status-at .ensures) (c .before .before .before .started .result) (c .before .before .before .started .ensures) (c .before .relisted .result) (c .before .relisted .ensures) (c .busy-with .result) (c .busy-with .ensures)
+returns-2 c = let a = c .before .before .before .before .before .before .before .before .before .before .before .before .before .before .before .before .before .before .before .before .before .before .before .args in
+    let full = entries (a .lists) _ (c .before .before .before .before .before .before .before .before .before .before .before .before .before .before .before .before .before .before .before .before .before .before .before .good .0) in
+    let l = c .before .before .before .before .before .before .before .before .before .before .before .before .before .before .before .before .loop in
+    let f : c .before .before .before .before .before .before .before .before .before .before .before .before .before .before .before .loop-test .found ≡ foundOf (find (startableOn (a .lists .units .of) (a .lists .jobs) (a .channel .0)) (listOf (a .lists .list))) =
+    ⊎-elim
+    (λ w. w .1 ∙ search-over (a .lists) (a .channel .0) (c .before .before .before .before .before .before .before .before .before .before .before .before .before .before .before .before .before .before .before .before .before .row-of .result) (c .before .before .before .before .before .before .before .before .before .before .before .before .before .before .before .before .before .before .before .before .before .row-of .ensures) full (c .before .before .before .before .before .before .before .before .before .before .before .before .before .before .before .before .before .size-of .result) (c .before .before .before .before .before .before .before .before .before .before .before .before .before .before .before .before .before .size-of .ensures) (l .k) (l .found) (l .inv) (w .0 .left))
+    (λ w. let e : w .4 .result ≡ getD (a .lists .list .entries) (l .k) 0 = w .4 .ensures in
+    w .8 ∙ ap At e ∙ search-found (a .lists) (a .channel .0) (c .before .before .before .before .before .before .before .before .before .before .before .before .before .before .before .before .before .before .before .before .before .row-of .result) (c .before .before .before .before .before .before .before .before .before .before .before .before .before .before .before .before .before .before .before .before .before .row-of .ensures) full (c .before .before .before .before .before .before .before .before .before .before .before .before .before .before .before .before .before .size-of .result) (c .before .before .before .before .before .before .before .before .before .before .before .before .before .before .before .before .before .size-of .ensures) (l .k) (l .found) (l .inv) (w .0 .taken) (w .6 .result)
+    (rw (← e) (starts-is (c .before .before .before .before .before .before .before .before .before .before .before .before .before .before .before .before .before .before .before .before .before .row-of .result) (a .lists .jobs) (a .channel .0) (w .4 .result) _ refl (w .6 .result) (w .6 .ensures))) (w .7 .taken))
+    (c .before .before .before .before .before .before .before .before .before .before .before .before .before .before .before .loop-test .came) in
+    start-is (a .lists) (a .channel .0) (c .before .before .before .before .before .before .before .before .before .before .before .before .before .before .before .loop-test .found) f (places (a .lists) _ (c .before .before .before .before .before .before .before .before .before .before .before .before .before .before .before .before .before .before .before .before .before .before .before .good .0))
+    (start-verdict (a .lists) (a .channel .0) (c .before .before .before .before .before .before .before .before .before .before .before .before .before .before .before .loop-test .found) f _ refl (c .before .before .before .before .before .before .before .before .before .before .before .of-start .result) (c .before .before .before .before .before .before .before .before .before .before .before .of-start .ensures) ∙ c .before .before .before .before .before .before .before .before .before .enum-told .given .1)
+    (c .before .before .before .before .before .before .before .before .entry-of .result) (c .before .before .before .before .before .before .before .before .entry-of .ensures) (search needs) (c .before .before .before .before .before .begun .result) (c .before .before .before .before .before .begun .ensures) (c .before .before .before .before .before .before .started .result) (c .before .before .before .before .before .before .started .ensures) (c .before .relisted .result) (c .before .relisted .ensures .is (omega (arith, full))) (c .busy-with .result) (c .busy-with .ensures)
 
 pub start-spec : {M : Type 1} → statement M
 start-spec =
     tie.close
     (tie.spec
-    oldest-requires
+    Inv-loop
+    μ-loop
+    row-of-requires
+    size-of-requires
+    loop-holds
+    entry-at-requires
+    cast-place
+    mul-job
+    element-copy-out-job
+    can-start-requires
+    add-k
+    loop-less
+    loop-again
     cast-c
+    mul-on
+    element-copy-out-on
     mul-carrier
     element-copy-out-carrier
     of-start-requires
@@ -91,12 +184,12 @@ start-spec =
     enum-told
     entry-of-requires
     cast-i
-    mul-job
-    element-copy-out-job
-    started-requires
-    with-status-at-requires
     mul-job-2
-    element-set-from-job
+    element-copy-out-job-2
+    started-requires
+    begun-requires
+    mul-gone
+    element-set-from-gone
     relisted-requires
     busy-with-requires
     mul-busy

@@ -1,18 +1,25 @@
 -- `lists::submit` meets its contract: the rules' outcome of a submission. Assumes nothing.
 use mathlib.Core.Path.{refl, _∙_}
+use native.Mathlib.Omega.{arith}
 use Rattle.packets.specs.Rules.{Submit}
 use Rattle.lists.proofs.Calls.{refused-is}
-use Rattle.lists.proofs.Full.{places}
+use Rattle.lists.proofs.Full.{entries, places}
 use Rattle.lists.proofs.Submits.{submit-verdict, submit-is}
 use borrow.Author.Needs.{needs}
 use Rattle.lists.proofs.submit.Statement.{statement}
 use Rattle.lists.proofs.submit.Tie as tie
 
-fitted-on-requires : tie.Need-fitted-on-requires
-fitted-on-requires c κs = search needs
-
 unit-of-requires : tie.Need-unit-of-requires
 unit-of-requires c κs = search needs
+
+cast-c : tie.Need-cast-c
+cast-c c = search needs
+
+mul-on : tie.Need-mul-on
+mul-on c = search needs
+
+element-copy-out-on : tie.Need-element-copy-out-on
+element-copy-out-on c = search needs
 
 cast-i : tie.Need-cast-i
 cast-i c = search needs
@@ -56,26 +63,30 @@ with-lock-at-requires c κs = search needs
 returns : tie.Need-returns
 returns c = let a = c .before .before .before .before .before .before .before .before .before .args in
     refused-is (a .lists) (Submit (a .place) (a .packet) (a .function) (a .channel .0) (a .spot)) _
-    (submit-verdict (a .lists) (a .place) (a .packet) (a .function) (a .channel .0) (a .spot) (c .before .before .before .before .before .before .fitted-on .result) (c .before .before .before .before .before .before .fitted-on .ensures) (c .before .before .before .before .before .unit-of .result) (c .before .before .before .before .before .unit-of .ensures) (c .before .before .before .verdict .result) (c .before .before .before .verdict .ensures) ∙ c .before .refusal .given .1)
+    (submit-verdict (a .lists) (a .place) (a .packet) (a .function) (a .channel .0) (a .spot) _ refl (c .before .before .before .before .before .before .before .unit-of .result) (c .before .before .before .before .before .before .before .unit-of .ensures) (c .before .before .before .verdict .result) (c .before .before .before .verdict .ensures) ∙ c .before .refusal .given .1)
 
 returns-2 : tie.Need-returns-2
-returns-2 c = let a = c .before .before .before .before .before .before .before .before .before .before .before .before .before .before .before .args in
-    submit-is (a .lists) (a .place) (a .packet) (a .function) (a .channel .0) (a .spot) (c .before .before .before .before .before .before .before .before .before .before .before .before .fitted-on .result) (c .before .before .before .before .before .before .before .before .before .before .before .before .fitted-on .ensures) (c .before .before .before .before .before .before .before .before .before .before .before .unit-of .result) (c .before .before .before .before .before .before .before .before .before .before .before .unit-of .ensures) (places (a .lists) _ (c .before .before .before .before .before .before .before .before .before .before .before .before .before .before .before .good .0))
-    (submit-verdict (a .lists) (a .place) (a .packet) (a .function) (a .channel .0) (a .spot) (c .before .before .before .before .before .before .before .before .before .before .before .before .fitted-on .result) (c .before .before .before .before .before .before .before .before .before .before .before .before .fitted-on .ensures) (c .before .before .before .before .before .before .before .before .before .before .before .unit-of .result) (c .before .before .before .before .before .before .before .before .before .before .before .unit-of .ensures) (c .before .before .before .before .before .before .before .before .before .verdict .result) (c .before .before .before .before .before .before .before .before .before .verdict .ensures) ∙ c .before .before .before .before .before .before .before .enum-told .given .1)
-    (c .before .before .before .before .before .before .is-unlocking .result) (c .before .before .before .before .before .before .is-unlocking .ensures) (c .before .before .before .before .before .job-after .result) (c .before .before .before .before .before .job-after .ensures) (c .before .before .before .list-of .result) (c .before .before .before .list-of .ensures) (c .with-lock-at .result) (rw (c .before .before .if1 .taken, ← c .before .site-of .ensures) (c .with-lock-at .ensures))
+returns-2 c = let a = c .before .before .before .before .before .before .before .before .before .before .before .before .before .before .before .before .before .before .args in
+    let full = entries (a .lists) _ (c .before .before .before .before .before .before .before .before .before .before .before .before .before .before .before .before .before .before .good .0) in
+    submit-is (a .lists) (a .place) (a .packet) (a .function) (a .channel .0) (a .spot) _ refl (c .before .before .before .before .before .before .before .before .before .before .before .before .before .before .before .before .unit-of .result) (c .before .before .before .before .before .before .before .before .before .before .before .before .before .before .before .before .unit-of .ensures) (places (a .lists) _ (c .before .before .before .before .before .before .before .before .before .before .before .before .before .before .before .before .before .before .good .0))
+    (submit-verdict (a .lists) (a .place) (a .packet) (a .function) (a .channel .0) (a .spot) _ refl (c .before .before .before .before .before .before .before .before .before .before .before .before .before .before .before .before .unit-of .result) (c .before .before .before .before .before .before .before .before .before .before .before .before .before .before .before .before .unit-of .ensures) (c .before .before .before .before .before .before .before .before .before .before .before .before .verdict .result) (c .before .before .before .before .before .before .before .before .before .before .before .before .verdict .ensures) ∙ c .before .before .before .before .before .before .before .before .before .before .enum-told .given .1)
+    (c .before .before .before .before .before .before .before .before .before .is-unlocking .result) (c .before .before .before .before .before .before .before .before .before .is-unlocking .ensures) (c .before .before .before .before .before .before .before .before .job-after .result) (c .before .before .before .before .before .before .before .before .job-after .ensures) (c .before .before .before .before .list-of .result) (c .before .before .before .before .list-of .ensures (omega (arith, full))) (c .with-lock-at .result) (rw (c .before .before .before .if1 .taken, ← c .before .before .site-of .ensures) (c .with-lock-at .ensures))
 
 returns-3 : tie.Need-returns-3
-returns-3 c = let a = c .before .before .before .before .before .before .before .before .before .before .before .before .before .args in
-    submit-is (a .lists) (a .place) (a .packet) (a .function) (a .channel .0) (a .spot) (c .before .before .before .before .before .before .before .before .before .before .fitted-on .result) (c .before .before .before .before .before .before .before .before .before .before .fitted-on .ensures) (c .before .before .before .before .before .before .before .before .before .unit-of .result) (c .before .before .before .before .before .before .before .before .before .unit-of .ensures) (places (a .lists) _ (c .before .before .before .before .before .before .before .before .before .before .before .before .before .good .0))
-    (submit-verdict (a .lists) (a .place) (a .packet) (a .function) (a .channel .0) (a .spot) (c .before .before .before .before .before .before .before .before .before .before .fitted-on .result) (c .before .before .before .before .before .before .before .before .before .before .fitted-on .ensures) (c .before .before .before .before .before .before .before .before .before .unit-of .result) (c .before .before .before .before .before .before .before .before .before .unit-of .ensures) (c .before .before .before .before .before .before .before .verdict .result) (c .before .before .before .before .before .before .before .verdict .ensures) ∙ c .before .before .before .before .before .enum-told .given .1)
-    (c .before .before .before .before .is-unlocking .result) (c .before .before .before .before .is-unlocking .ensures) (c .before .before .before .job-after .result) (c .before .before .before .job-after .ensures) (c .before .list-of .result) (c .before .list-of .ensures) (a .lists .units) (rw (c .if1 .left) refl)
+returns-3 c = let a = c .before .before .before .before .before .before .before .before .before .before .before .before .before .before .before .args in
+    let full = entries (a .lists) _ (c .before .before .before .before .before .before .before .before .before .before .before .before .before .before .before .good .0) in
+    submit-is (a .lists) (a .place) (a .packet) (a .function) (a .channel .0) (a .spot) _ refl (c .before .before .before .before .before .before .before .before .before .before .before .before .before .unit-of .result) (c .before .before .before .before .before .before .before .before .before .before .before .before .before .unit-of .ensures) (places (a .lists) _ (c .before .before .before .before .before .before .before .before .before .before .before .before .before .before .before .good .0))
+    (submit-verdict (a .lists) (a .place) (a .packet) (a .function) (a .channel .0) (a .spot) _ refl (c .before .before .before .before .before .before .before .before .before .before .before .before .before .unit-of .result) (c .before .before .before .before .before .before .before .before .before .before .before .before .before .unit-of .ensures) (c .before .before .before .before .before .before .before .before .before .verdict .result) (c .before .before .before .before .before .before .before .before .before .verdict .ensures) ∙ c .before .before .before .before .before .before .before .enum-told .given .1)
+    (c .before .before .before .before .before .before .is-unlocking .result) (c .before .before .before .before .before .before .is-unlocking .ensures) (c .before .before .before .before .before .job-after .result) (c .before .before .before .before .before .job-after .ensures) (c .before .list-of .result) (c .before .list-of .ensures (omega (arith, full))) (a .lists .units) (rw (c .if1 .left) refl)
 
 pub submit-spec : {M : Type 1} → statement M
 submit-spec =
     tie.close
     (tie.spec
-    fitted-on-requires
     unit-of-requires
+    cast-c
+    mul-on
+    element-copy-out-on
     cast-i
     mul-job
     element-copy-out-job

@@ -1,17 +1,28 @@
--- `packets_queue::can_start` meets its contract, by the test that led there. Assumes nothing.
-use borrow.Author.Tests.{eq-eqb, ne-eqb}
+-- `packets_queue::can_start` meets its contract. Assumes nothing.
+use mathlib.Core.Path.{ap, _∙_}
+use Prim.Native.Nat.{ℕ}
+use lib.ListN.{getD}
+use Rattle.packets.specs.State.{blank}
+use Rattle.packets_queue.specs.Keeping.{canStart}
 use borrow.Author.Needs.{needs}
 use Rattle.packets_queue.proofs.can_start.Statement.{statement}
 use Rattle.packets_queue.proofs.can_start.Tie as tie
 
+number-of-requires : tie.Need-number-of-requires
+number-of-requires c κs = search needs
+
+mul-p : tie.Need-mul-p
+mul-p c = search needs
+
+element-copy-out-p : tie.Need-element-copy-out-p
+element-copy-out-p c = search needs
+
+is-startable-requires : tie.Need-is-startable-requires
+is-startable-requires c κs = search needs
+
 returns : tie.Need-returns
-returns c = rw (ne-eqb _ _ (c .if1 .taken))
-
-lock-at-requires : tie.Need-lock-at-requires
-lock-at-requires c κs = search needs
-
-returns-2 : tie.Need-returns-2
-returns-2 c = rw (eq-eqb _ _ (c .before .if1 .left), c .lock-at .ensures)
+returns c = c .is-startable .ensures ∙ ap (λ (n : ℕ). canStart (c .before .before .before .args .row) (c .before .before .before .args .c .0) (getD (c .before .before .before .args .t1 .packets) n blank)) (c .before .before .number-of .ensures .is)
 
 pub can-start-spec : {M : Type 1} → statement M
-can-start-spec = tie.close (tie.spec returns lock-at-requires returns-2)
+can-start-spec =
+    tie.close (tie.spec number-of-requires mul-p element-copy-out-p is-startable-requires returns)

@@ -12,10 +12,10 @@ use Rattle.packets_queue.proofs.relisted.Statement.{statement}
 use Rattle.packets_queue.proofs.relisted.Tie as tie
 
 abbrev Inv-loop : tie.InvT-loop
-Inv-loop j ps old end entries₀ count₀ i₀ entries count i = (i ≤ end) × (length old ≡ 256) × Relisting (isKept j ps) old entries count i
+Inv-loop j old count ps end entries₀ kept₀ i₀ entries kept i = (i ≤ end) × Relisting (isKept j ps) old entries kept i
 
 abbrev μ-loop : tie.MeasureT-loop
-μ-loop j ps old end entries₀ count₀ i₀ entries count i = end - i
+μ-loop j old count ps end entries₀ kept₀ i₀ entries kept i = end - i
 
 size-of-requires : tie.Need-size-of-requires Inv-loop μ-loop
 size-of-requires c κs = search needs
@@ -24,10 +24,10 @@ no-entries-requires : tie.Need-no-entries-requires Inv-loop μ-loop
 no-entries-requires c κs = search needs
 
 loop-holds : tie.Need-loop-holds Inv-loop μ-loop
-loop-holds c = (omega arith, search needs, record { size = refl; few = omega arith; is = c .no-entries .ensures })
+loop-holds c = search needs
 
-array-read-e : tie.Need-array-read-e Inv-loop μ-loop
-array-read-e c = search needs
+shared-slice-read-e : tie.Need-shared-slice-read-e Inv-loop μ-loop
+shared-slice-read-e c = search needs
 
 number-of-requires : tie.Need-number-of-requires Inv-loop μ-loop
 number-of-requires c κs = search needs
@@ -42,40 +42,39 @@ stays-requires : tie.Need-stays-requires Inv-loop μ-loop
 stays-requires c κs = search needs
 
 array-write-entries : tie.Need-array-write-entries Inv-loop μ-loop
-array-write-entries c = omega (arith, c .before .before .before .before .before .loop .inv .2 .few, c .before .before .before .before .loop-test .taken, c .before .before .before .before .before .before .before .size-of .ensures .few)
+array-write-entries c = search needs
 
-add-count : tie.Need-add-count Inv-loop μ-loop
-add-count c = omega (arith, c .before .before .before .before .before .loop .inv .2 .few, c .before .before .before .before .loop-test .taken, c .before .before .before .before .before .before .before .size-of .ensures .few)
+add-kept : tie.Need-add-kept Inv-loop μ-loop
+add-kept c = search needs
 
 add-i : tie.Need-add-i Inv-loop μ-loop
 add-i c = search needs
 
 loop-less : tie.Need-loop-less Inv-loop μ-loop
-loop-less c = omega (arith, c .before .before .before .before .loop-test .taken)
+loop-less c = search needs
 
 loop-again : tie.Need-loop-again Inv-loop μ-loop
-loop-again c = let ps = c .before .before .before .before .before .before .before .before .before .before .args .job .packets in
-    let j = c .before .before .before .before .before .before .before .before .before .before .args .j in
-    let old = c .before .before .before .before .before .before .before .before .before .before .args .list .entries in
-    let l = c .before .before .before .before .before .loop in
+loop-again c = let ps = c .before .before .before .before .before .before .before .before .before .before .before .args .job .packets in
+    let j = c .before .before .before .before .before .before .before .before .before .before .before .args .j in
+    let old = c .before .before .before .before .before .before .before .before .before .before .before .args .old .now in
+    let l = c .before .before .before .before .before .before .loop in
     let e = getD old (l .i) 0 in
-    let less = c .before .before .before .before .loop-test .taken in
-    let few = c .before .before .before .before .before .before .before .size-of .ensures .few in
-    let h : l .i < length old = omega (arith, l .inv .1) in
+    let less = c .before .before .before .before .before .loop-test .taken in
+    let size = c .before .before .before .before .before .before .before .before .size-of .ensures in
+    let h : l .i < length old = omega (arith, size .within) in
     let t : isKept j ps e ≡ c .before .stays .result = rw (← c .before .before .before .number-of .ensures .is) (sym (c .before .stays .ensures)) in (
       omega arith,
-      l .inv .1,
       ⊎-elim
-          (λ w. rw (w .1, w .2) (relisting-kept (isKept j ps) old (l .entries) (l .count) (l .i) (l .inv .2) h (omega (arith, l .inv .2 .few)) (t ∙ w .0 .taken)))
-          (λ w. rw (w .1, w .2) (relisting-gone (isKept j ps) old (l .entries) (l .count) (l .i) (l .inv .2) h (t ∙ w .0 .left)))
+          (λ w. rw (w .1, w .2) (relisting-kept (isKept j ps) old (l .entries) (l .kept) (l .i) (l .inv .1) h (omega (arith, l .inv .1 .few, size .few)) (t ∙ w .0 .taken)))
+          (λ w. rw (w .1, w .2) (relisting-gone (isKept j ps) old (l .entries) (l .kept) (l .i) (l .inv .1) h (t ∙ w .0 .left)))
           (c .if1 .came),
     )
 
 returns : tie.Need-returns Inv-loop μ-loop
 returns c = let l = c .before .loop in
-    let few = c .before .before .before .size-of .ensures .few in
+    let size = c .before .before .before .size-of .ensures in
     let e : l .i ≡ c .before .before .before .size-of .result = omega (arith, l .inv .0, c .loop-test .left) in
-    relisted-done (c .before .before .before .before .before .before .args .j) (c .before .before .before .before .before .before .args .job .packets) (c .before .before .before .before .before .before .args .list) (l .entries) (l .count) (l .i) (l .inv .2) (omega arith) (rw e (c .before .before .before .size-of .ensures .is))
+    relisted-done (c .before .before .before .before .before .before .args .j) (c .before .before .before .before .before .before .args .job .packets) (c .before .before .before .before .before .before .args .old .now) (l .entries) (c .before .before .before .before .before .before .args .count) (l .kept) (l .i) (l .inv .1) (omega (arith, size .few)) (rw e (size .is))
 
 pub relisted-spec : {M : Type 1} → statement M
 relisted-spec =
@@ -86,13 +85,13 @@ relisted-spec =
     size-of-requires
     no-entries-requires
     loop-holds
-    array-read-e
+    shared-slice-read-e
     number-of-requires
     mul-p
     array-copy-out-p
     stays-requires
     array-write-entries
-    add-count
+    add-kept
     add-i
     loop-less
     loop-again

@@ -2,6 +2,7 @@
 use Prim.Native.Nat.{ℕ}
 use mathlib.Core.Path.{ap, _∙_}
 use mathlib.Core.List.{List}
+use lib.ListN.{take}
 use Rattle.packets.specs.State.{relist, enlisted}
 use Rattle.packets_queue.specs.Padded.{listOf, padded}
 use Rattle.packets_queue.proofs.PaddedLaws.{list-padded}
@@ -16,7 +17,7 @@ with-entry-requires : tie.Need-with-entry-requires
 with-entry-requires c κs = c .relisted .ensures .tidy
 
 returns : tie.Need-returns
-returns c = c .with-entry .ensures ∙ ap (λ (l : List ℕ). padded (enlisted l (c .before .before .args .e))) (ap listOf (c .before .relisted .ensures .is) ∙ list-padded (relist (c .before .before .args .j) (c .before .before .args .job .packets) (listOf (c .before .before .args .list))))
+returns c = λ h. c .with-entry .ensures ∙ ap (λ (l : List ℕ). padded (enlisted l (c .before .before .before .args .e))) (ap listOf (c .before .relisted .ensures .is h) ∙ list-padded (relist (c .before .before .before .args .j) (c .before .before .before .args .job .packets) (take (c .before .before .before .args .count) (c .before .before .before .args .old .now))))
 
 pub relisted-with-spec : {M : Type 1} → statement M
 relisted-with-spec = tie.close (tie.spec relisted-requires with-entry-requires returns)

@@ -17,13 +17,13 @@ relisted-with-requires : tie.Need-relisted-with-requires
 relisted-with-requires c κs = search needs
 
 returns : tie.Need-returns
-returns c = rw (sym (c .before .before .is-listing .ensures) ∙ c .before .if1 .taken) (c .relisted-with .ensures)
+returns c = λ h. rw (sym (c .before .before .is-listing .ensures) ∙ c .before .if1 .taken) (c .relisted-with .ensures h)
 
 relisted-requires : tie.Need-relisted-requires
 relisted-requires c κs = search needs
 
 returns-2 : tie.Need-returns-2
-returns-2 c = rw (sym (c .before .before .is-listing .ensures) ∙ c .before .if1 .left) (c .relisted .ensures .is)
+returns-2 c = λ h. rw (sym (c .before .before .is-listing .ensures) ∙ c .before .if1 .left) (c .relisted .ensures .is h)
 
 pub list-of-spec : {M : Type 1} → statement M
 list-of-spec =
