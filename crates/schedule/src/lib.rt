@@ -34,7 +34,7 @@ pub struct Changed {
 }
 
 // What bars a request, by what it meets: the same priority, the same sequence as well, or that there are 64.
-fn clash_by(ranked: bool, keyed: bool, sequence: u8, count: usize) -> Verdict
+pub fn clash_by(ranked: bool, keyed: bool, sequence: u8, count: usize) -> Verdict
     ensures { λ r. ⌜ r ≡ clashBy ranked keyed sequence count ⌝ }
 {
     if ranked {
