@@ -181,10 +181,8 @@ fn put_groups(out: &mut [u8], part: &[u8], start: Progress) -> Step
             last = good;
             if cards::is_good(entered) {
                 let next = schedule_outline::placed(schedule, request, judged.from, judged.at);
-                let followed = next.schedule;
-                schedule = followed;
-                let outlined = next.outline;
-                outline = outlined;
+                schedule = next.schedule;
+                outline = next.outline;
             }
         } else {
             at = put_verdict(out, at, own, verdict);

@@ -4,3 +4,4 @@ pub mod OutlineLaws
 pub mod Judging
 pub mod Growing
 pub mod Placing
+pub mod OneOutcome
