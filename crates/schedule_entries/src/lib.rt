@@ -3,7 +3,7 @@ use cards::Request;
 ghost use mathlib.Core.Path.{_≡_};
 ghost use Rattle.schedule_entries.specs.Entries.{keyOf, sameRank, sameKey, lowerSequence, precedes};
 ghost use Rattle.schedule_entries.specs.Entries.{waiting, suspended, active, inPlace, serial, blank, firstState};
-ghost use Rattle.schedule_entries.specs.Questions.{markOf, told, answers};
+ghost use Rattle.schedule_entries.specs.Questions.{headingOf, told, answers};
 
 // Where a request stands: it waits, is suspended, or its job runs or closes in a place.
 pub enum State {
@@ -27,7 +27,7 @@ pub struct Key {
 }
 
 // What an entry can be asked about: its ID, its key and its state.
-pub struct Mark {
+pub struct Heading {
     pub id: [u8; 6],
     pub key: Key,
     pub state: State,
@@ -151,25 +151,25 @@ pub fn is_serial(request: Request) -> bool
     request.mode == b'S'
 }
 
-// What an entry can be asked about.
-pub fn mark_of(entry: Entry) -> Mark
-    ensures { λ r. ⌜ r ≡ markOf entry ⌝ }
+// An entry's heading.
+pub fn heading_of(entry: Entry) -> Heading
+    ensures { λ r. ⌜ r ≡ headingOf entry ⌝ }
 {
     let request = entry.request;
     let state = entry.state;
     let id = request.id;
     let key = key_of(request);
-    Mark { id, key, state }
+    Heading { id, key, state }
 }
 
-// What an entry answers to a question, by its mark.
-pub fn told_by(mark: Mark, query: Query) -> bool
-    ensures { λ r. ⌜ r ≡ told (query .question) query mark ⌝ }
+// What an entry of a heading answers to a question.
+pub fn told_by(heading: Heading, query: Query) -> bool
+    ensures { λ r. ⌜ r ≡ told (query .question) query heading ⌝ }
 {
     let question = query.question;
-    let state = mark.state;
-    let key = mark.key;
-    let own = mark.id;
+    let state = heading.state;
+    let key = heading.key;
+    let own = heading.id;
     let wanted = query.key;
     let id = query.id;
     match question {
@@ -185,7 +185,7 @@ pub fn told_by(mark: Mark, query: Query) -> bool
 pub fn answer_to(query: Query, entry: Entry) -> bool
     ensures { λ r. ⌜ r ≡ answers (query .question) query entry ⌝ }
 {
-    told_by(mark_of(entry), query)
+    told_by(heading_of(entry), query)
 }
 
 // What fills the schedule behind its last request.
