@@ -24,7 +24,7 @@ use Rattle.schedule_entries.specs.declared.Query.{Query}
 use Rattle.schedule_list.specs.InSchedule.{most, inSchedule, scheduleOf, any, find, removed, there, withState, inserted, changedAt}
 use Rattle.schedule_list.specs.Queries.{first, without, insertedInto, ofId, ofPlace}
 use Rattle.schedule_list.proofs.InScheduleLaws.{in-of}
-use Rattle.schedule_list.proofs.IndexLaws.{removed-at}
+use Rattle.schedule_list.proofs.IndexLaws.{first-by, removed-at}
 use Rattle.schedule_list.specs.declared.Schedule.{Schedule}
 use Rattle.schedule.specs.Calls.{barred, sameThere, clashError, enterError, entered, enteringBy, entering, refused, done}
 use Rattle.schedule.specs.Calls.{released, deleted, closing, returned}
@@ -34,10 +34,10 @@ use Rattle.schedule.specs.declared.Entering.{Entering}
 
 -- the index that was looked for
 pub named-index : (hs : List Entry) (id : List ℕ) {q : Query} {k : ℕ} → q ≡ ofId id → k ≡ first (answers (q .question) q) hs → k ≡ ofName id hs
-named-index hs id e f = f ∙ ap (λ (q : Query). first (answers (q .question) q) hs) e
+named-index hs id = first-by hs (ofId id)
 
 job-index : (hs : List Entry) (place : ℕ) {q : Query} {k : ℕ} → q ≡ ofPlace place → k ≡ first (answers (q .question) q) hs → k ≡ ofJob place hs
-job-index hs place e f = f ∙ ap (λ (q : Query). first (answers (q .question) q) hs) e
+job-index hs place = first-by hs (ofPlace place)
 
 -- the calls at that index
 module _ (s : Schedule) (id : List ℕ) {q : Query} {k : ℕ} (e : q ≡ ofId id) (f : k ≡ first (answers (q .question) q) (inSchedule s)) where

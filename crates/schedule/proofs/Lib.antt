@@ -1,3 +1,3 @@
 pub mod ByIndexLaws
 pub mod Cases
-pub mod Placing
+pub mod Clashes

@@ -8,16 +8,14 @@ use Rattle.numbers.specs.declared.Refusal.the-variants.{NoSuchRequest, JobRuns}
 use Rattle.cards.specs.Errors.{errorIf, firstOf}
 use Rattle.cards.specs.declared.CardError.the-variants.{SamePriority, SameSequence, ScheduleFull}
 use Rattle.cards.specs.declared.Verdict.{Verdict}
-use Rattle.cards.specs.declared.Request.{Request}
-use Rattle.schedule_entries.specs.Entries.{isNamed, suspended, active, firstState}
+use Rattle.schedule_entries.specs.Entries.{isNamed, suspended, active}
 use Rattle.schedule_entries.specs.declared.State.the-variants.{Waiting, Suspended}
 use Rattle.schedule_entries.specs.declared.Entry.{Entry}
 use Rattle.schedule_list.specs.InSchedule.{most, inSchedule, scheduleOf, entryAt, there, withState}
-use Rattle.schedule_list.specs.Queries.{first, without, insertedAt, met}
+use Rattle.schedule_list.specs.Queries.{first, without}
 use Rattle.schedule_list.specs.declared.Schedule.{Schedule}
-use Rattle.schedule.specs.Calls.{entering, isIn, refused, done}
+use Rattle.schedule.specs.Calls.{isIn, refused, done}
 use Rattle.schedule.specs.declared.Changed.{Changed}
-use Rattle.schedule.specs.declared.Judged.{Judged}
 
 -- the index of the request of an ID, and of that whose job is in a place; the number of requests if there is none
 abbrev pub ofName : List ℕ → List Entry → ℕ
@@ -58,14 +56,3 @@ clashBy ranked keyed sequence count =
     ∷ errorIf keyed SameSequence
     ∷ errorIf (leb most count) ScheduleFull
     ∷ [])
-
--- entering in two steps: what is answered, and the schedule of a request that was judged good
-unfoldable pub judged : Schedule → Request → Judged
-judged s r = record {
-  verdict = entering s r .verdict;
-  fresh = not (met (inSchedule s) r .named);
-  at = met (inSchedule s) r .at;
-}
-
-unfoldable pub placed : Schedule → Request → Bool → ℕ → Schedule
-placed s r fresh at = cond fresh (insertedAt s at (record { request = r; state = firstState r })) (entering s r .schedule)

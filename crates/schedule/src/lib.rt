@@ -11,20 +11,12 @@ use schedule_list::Schedule;
 ghost use mathlib.Core.Path.{_≡_};
 ghost use Rattle.schedule_list.specs.InSchedule.{inSchedule};
 ghost use Rattle.schedule.specs.Calls.{clashError, entering, released, deleted, taken, closing, returned, refused, done};
-ghost use Rattle.schedule.specs.ByIndex.{barredAt, clashBy, judged, placed};
+ghost use Rattle.schedule.specs.ByIndex.{barredAt, clashBy};
 
 // What entering a request answers: an error and the schedule as it was, or the schedule with the request.
 pub struct Entering {
     pub verdict: Verdict,
     pub schedule: Schedule,
-}
-
-// What entering a request answers, without the schedule: the verdict; whether none has its ID, and the index of the
-// first that does not precede it.
-pub struct Judged {
-    pub verdict: Verdict,
-    pub fresh: bool,
-    pub at: usize,
 }
 
 // What release and delete answer: a refusal and the schedule as it was, or the schedule that follows.
@@ -34,7 +26,7 @@ pub struct Changed {
 }
 
 // What bars a request, by what it meets: the same priority, the same sequence as well, or that there are 64.
-fn clash_by(ranked: bool, keyed: bool, sequence: u8, count: usize) -> Verdict
+pub fn clash_by(ranked: bool, keyed: bool, sequence: u8, count: usize) -> Verdict
     ensures { λ r. ⌜ r ≡ clashBy ranked keyed sequence count ⌝ }
 {
     if ranked {
@@ -55,9 +47,12 @@ fn clash_by(ranked: bool, keyed: bool, sequence: u8, count: usize) -> Verdict
 fn clash(others: Schedule, request: Request) -> Verdict
     ensures { λ r. ⌜ r ≡ clashError (inSchedule others) request ⌝ }
 {
-    let seen = schedule_list::meets(others, request);
     let n = schedule_list::size(others);
-    clash_by(seen.ranked, seen.keyed, request.sequence, n)
+    let of_rank = schedule_list::of_key(Question::Ranked, request);
+    let of_whole = schedule_list::of_key(Question::Keyed, request);
+    let ranked = schedule_list::first_of(others, of_rank) < n;
+    let keyed = schedule_list::first_of(others, of_whole) < n;
+    clash_by(ranked, keyed, request.sequence, n)
 }
 
 // Whether the request at an index, where there is one, is not suspended.
@@ -98,54 +93,6 @@ pub fn enter(schedule: Schedule, request: Request) -> Entering
         verdict: Verdict::Good,
         schedule: next,
     }
-}
-
-// What `enter` answers, without the schedule. The two stand by themselves so that a schedule is copied for `enter` only
-// where a request has the ID of one there.
-fn verdict_on(schedule: Schedule, request: Request) -> Verdict
-    ensures { λ r. ⌜ r ≡ entering schedule request .verdict ⌝ }
-{
-    let answer = enter(schedule, request);
-    answer.verdict
-}
-
-// The schedule that `enter` answers.
-fn schedule_with(schedule: Schedule, request: Request) -> Schedule
-    ensures { λ r. ⌜ r ≡ entering schedule request .schedule ⌝ }
-{
-    let answer = enter(schedule, request);
-    answer.schedule
-}
-
-// What `enter` answers of a request, and what `placed` asks: one pass over the schedule, and no schedule handed back.
-pub fn judge(schedule: Schedule, request: Request) -> Judged
-    ensures { λ r. ⌜ r ≡ judged schedule request ⌝ }
-{
-    let seen = schedule_list::meets(schedule, request);
-    if seen.named {
-        return Judged {
-            verdict: verdict_on(schedule, request),
-            fresh: false,
-            at: seen.at,
-        };
-    }
-    let n = schedule_list::size(schedule);
-    Judged {
-        verdict: clash_by(seen.ranked, seen.keyed, request.sequence, n),
-        fresh: true,
-        at: seen.at,
-    }
-}
-
-// The schedule with a request that was judged good: in front of the one at the index where none has its ID, else as
-// `enter` has it.
-pub fn placed(schedule: Schedule, request: Request, fresh: bool, at: usize) -> Schedule
-    ensures { λ r. ⌜ r ≡ placed schedule request fresh at ⌝ }
-{
-    if fresh {
-        return schedule_list::inserted_at(schedule, at, schedule_entries::new_entry(request));
-    }
-    schedule_with(schedule, request)
 }
 
 // A refusal, and the schedule as it was.

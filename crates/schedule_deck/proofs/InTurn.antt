@@ -18,6 +18,8 @@ use Rattle.cards_fields.specs.declared.DeckEnd.{DeckEnd}
 use Rattle.cards_fields.specs.declared.DeckEnd.the-variants.{At, Refused}
 use Rattle.schedule_list.specs.InSchedule.{inSchedule, scheduleOf}
 use Rattle.schedule_list.specs.declared.Schedule.{Schedule}
+use Rattle.schedule_outline.specs.Outlines.{Outlines}
+use Rattle.schedule_outline.specs.declared.Outline.{Outline}
 use Rattle.numbers.specs.declared.Refusal.{Refusal}
 use Rattle.numbers.specs.declared.Outcome.the-variants as Outcomes
 use Rattle.schedule_deck.specs.Report.{scheduleText, begin, errorsFrom, endFrom, lastLine, closingText, reportText, refusedText, deckGroups, deckText, textBy, notesText, notesBy, scheduleBy, outcomeBy}
@@ -111,6 +113,9 @@ groups-meet {part} {room} {out} {out₁} {shown} {last} {last₁} {first} {s} {s
     (subst (λ (x : Schedule). AtGroups part room first out₁ (record { schedule = x; shown = shown; last = last }) at from) (sym k)
     (subst (λ (x : List ℕ). AtGroups part room first out₁ (record { schedule = s₁; shown = shown; last = x }) at from) (sym l)
     (subst (λ (x : ℕ). AtGroups part room first out₁ (record { schedule = s₁; shown = shown; last = last₁ }) x from) (sym a) w)))
+
+pub outline-meet : {s s₁ : Schedule} {o o₁ : Outline} → s ≡ s₁ → o ≡ o₁ → Outlines (inSchedule s₁) o₁ → Outlines (inSchedule s) o
+outline-meet {s} {s₁} {o} {o₁} k l w = subst (λ (x : Schedule). Outlines (inSchedule x) o) (sym k) (subst (λ (x : Outline). Outlines (inSchedule s₁) x) (sym l) w)
 
 -- the errors, then the schedule, then the last line, from an empty schedule on
 pub report-put : {room out then after· : List ℕ} {schedule : Schedule} {first : Progress} {step : Step} {next r : ℕ} (gs : List (List (List ℕ))) → schedule ≡ scheduleOf [] → first ≡ begin schedule → ReadAll room first gs out step

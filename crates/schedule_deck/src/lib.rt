@@ -151,12 +151,13 @@ fn step_to(at: usize, schedule: Schedule, shown: [u8; 6], last: [u8; 6]) -> Step
     Step { at, progress }
 }
 
-// Reads the groups in turn, each as the part of the deck that starts where the last one ended. The schedule stands in a
-// local of its own, so that a group in error does not copy it.
+// Reads the groups in turn, each as the part of the deck that starts where the last one ended. A request is judged by
+// the outline that stands beside the schedule, so that one in error does not copy the schedule.
 fn put_groups(out: &mut [u8], part: &[u8], start: Progress) -> Step
     ensures { λ r. ⌜ ReadAll (now (out .entry)) start (groupsOf (cardsOf (now (part .entry)))) (now (out .exit)) r ⌝ }
 {
     let mut schedule = start.schedule;
+    let mut outline = schedule_outline::outline_of(schedule);
     let mut shown = start.shown;
     let mut last = start.last;
     let mut at: usize = 0;
@@ -172,15 +173,16 @@ fn put_groups(out: &mut [u8], part: &[u8], start: Progress) -> Step
         let verdict = reading.verdict;
         if cards::is_good(verdict) {
             let request = reading.request;
-            let judged = schedule::judge(schedule, request);
+            let judged = schedule_outline::judge(outline, request);
             let entered = judged.verdict;
             at = put_verdict(out, at, own, entered);
             let id = request.id;
             let good = last_by(entered, last, id);
             last = good;
             if cards::is_good(entered) {
-                let next = schedule::placed(schedule, request, judged.fresh, judged.at);
-                schedule = next;
+                let next = schedule_outline::placed(schedule, request, judged.from, judged.at);
+                schedule = next.schedule;
+                outline = next.outline;
             }
         } else {
             at = put_verdict(out, at, own, verdict);

@@ -3,7 +3,7 @@ use cards::Request;
 ghost use mathlib.Core.Path.{_≡_};
 ghost use Rattle.schedule_entries.specs.Entries.{keyOf, sameRank, sameKey, lowerSequence, precedes};
 ghost use Rattle.schedule_entries.specs.Entries.{waiting, suspended, active, inPlace, serial, blank, firstState};
-ghost use Rattle.schedule_entries.specs.Questions.{answers};
+ghost use Rattle.schedule_entries.specs.Questions.{headingOf, told, answers};
 
 // Where a request stands: it waits, is suspended, or its job runs or closes in a place.
 pub enum State {
@@ -24,6 +24,13 @@ pub struct Key {
     pub letter: u8,
     pub precedence: u8,
     pub sequence: u8,
+}
+
+// What an entry can be asked about: its ID, its key and its state.
+pub struct Heading {
+    pub id: [u8; 6],
+    pub key: Key,
+    pub state: State,
 }
 
 // What can be asked of an entry: whether it has an ID; a key's letter and precedence; the whole key; whether it does
@@ -144,17 +151,27 @@ pub fn is_serial(request: Request) -> bool
     request.mode == b'S'
 }
 
-// What an entry answers to a question.
-pub fn answer_to(query: Query, entry: Entry) -> bool
-    ensures { λ r. ⌜ r ≡ answers (query .question) query entry ⌝ }
+// An entry's heading.
+pub fn heading_of(entry: Entry) -> Heading
+    ensures { λ r. ⌜ r ≡ headingOf entry ⌝ }
 {
-    let question = query.question;
     let request = entry.request;
     let state = entry.state;
+    let id = request.id;
     let key = key_of(request);
+    Heading { id, key, state }
+}
+
+// What an entry of a heading answers to a question.
+pub fn told_by(heading: Heading, query: Query) -> bool
+    ensures { λ r. ⌜ r ≡ told (query .question) query heading ⌝ }
+{
+    let question = query.question;
+    let state = heading.state;
+    let key = heading.key;
+    let own = heading.id;
     let wanted = query.key;
     let id = query.id;
-    let own = request.id;
     match question {
         Question::Named => words::is_same(&own, &id),
         Question::Ranked => same_rank(key, wanted),
@@ -162,6 +179,13 @@ pub fn answer_to(query: Query, entry: Entry) -> bool
         Question::Behind => !precedes(key, wanted),
         Question::InPlace => is_in_place(state, query.place),
     }
+}
+
+// What an entry answers to a question.
+pub fn answer_to(query: Query, entry: Entry) -> bool
+    ensures { λ r. ⌜ r ≡ answers (query .question) query entry ⌝ }
+{
+    told_by(heading_of(entry), query)
 }
 
 // What fills the schedule behind its last request.

@@ -3,4 +3,3 @@ pub mod IndexLaws
 pub mod Full
 pub mod Appending
 pub mod Splicing
-pub mod Meeting

@@ -5,22 +5,27 @@ use Prim.Native.Nat.{_-_}
 use native.Mathlib.Omega.{arith}
 use lib.ListN.{length}
 use Rattle.text.proofs.RoomLaws.{same-room}
-use Rattle.schedule.proofs.Placing.{judged-good, judged-wrong}
+use Rattle.schedule_list.specs.InSchedule.{inSchedule}
+use Rattle.schedule_outline.specs.Outlines.{Outlines}
+use Rattle.schedule_outline.proofs.Placing.{judged-good, judged-wrong, outline-follows}
 use Rattle.schedule_deck.specs.declared.Progress.{Progress}
 use Rattle.schedule_deck.proofs.Pieces.{group-read, tried-good, tried-bad, last-kept}
-use Rattle.schedule_deck.proofs.InTurn.{AtGroups, groups-start, groups-turn, groups-meet, groups-over, groups-end, group-within}
+use Rattle.schedule_deck.proofs.InTurn.{AtGroups, groups-start, groups-turn, groups-meet, outline-meet, groups-over, groups-end, group-within}
 use borrow.Author.Needs.{needs}
 use Rattle.schedule_deck.proofs.put_groups.Statement.{statement}
 use Rattle.schedule_deck.proofs.put_groups.Tie as tie
 
 abbrev Inv-loop : tie.InvT-loop
-Inv-loop out₀ part schedule₀ shown₀ last₀ at₀ from₀ out schedule shown last at from = AtGroups part out₀ (record { schedule = schedule₀; shown = shown₀; last = last₀ }) out (record { schedule = schedule; shown = shown; last = last }) at from
+Inv-loop out₀ part schedule₀ outline₀ shown₀ last₀ at₀ from₀ out schedule outline shown last at from = AtGroups part out₀ (record { schedule = schedule₀; shown = shown₀; last = last₀ }) out (record { schedule = schedule; shown = shown; last = last }) at from × Outlines (inSchedule schedule) outline
 
 abbrev μ-loop : tie.MeasureT-loop
-μ-loop out₀ part schedule₀ shown₀ last₀ at₀ from₀ out schedule shown last at from = length part - from
+μ-loop out₀ part schedule₀ outline₀ shown₀ last₀ at₀ from₀ out schedule outline shown last at from = length part - from
 
 loop-holds : tie.Need-loop-holds Inv-loop μ-loop
-loop-holds c = groups-start (c .before .before .before .before .before .args .part .now) (c .before .before .before .before .before .args .out .now) (c .before .before .before .before .before .args .start)
+loop-holds c = (groups-start (c .before .before .before .before .before .before .args .part .now) (c .before .before .before .before .before .before .args .out .now) (c .before .before .before .before .before .before .args .start), c .before .before .outline-of .ensures)
+
+outline-of-requires : tie.Need-outline-of-requires Inv-loop μ-loop
+outline-of-requires c κs = search needs
 
 sub-first-group : tie.Need-sub-first-group Inv-loop μ-loop
 sub-first-group c = search needs
@@ -38,10 +43,10 @@ step-to-requires : tie.Need-step-to-requires Inv-loop μ-loop
 step-to-requires c κs = search needs
 
 same-length : tie.Need-same-length Inv-loop μ-loop
-same-length c = same-room (groups-over (c .before .before .before .before .before .loop .inv) (c .before .before .first-group .ensures) (c .before .if1 .taken) refl .text)
+same-length c = same-room (groups-over (c .before .before .before .before .before .loop .inv .0) (c .before .before .first-group .ensures) (c .before .if1 .taken) refl .text)
 
 returns : tie.Need-returns Inv-loop μ-loop
-returns c = groups-over (c .before .before .before .before .before .loop .inv) (c .before .before .first-group .ensures) (c .before .if1 .taken) (c .step-to .ensures)
+returns c = groups-over (c .before .before .before .before .before .loop .inv .0) (c .before .before .first-group .ensures) (c .before .if1 .taken) (c .step-to .ensures)
 
 card-at-requires : tie.Need-card-at-requires Inv-loop μ-loop
 card-at-requires c κs = search needs
@@ -74,28 +79,28 @@ put-verdict-requires-2 : tie.Need-put-verdict-requires-2 Inv-loop μ-loop
 put-verdict-requires-2 c κs = search needs
 
 add-from : tie.Need-add-from Inv-loop μ-loop
-add-from c = omega (arith, group-within (c .before .before .before .before .before .before .before .before .before .loop .inv) (c .before .before .before .before .before .before .first-group .ensures) (c .before .before .before .before .before .before .before .before .loop-test .taken))
+add-from c = omega (arith, c .before .before .before .before .before .before .before .before .before .before .before .before .before .before .before .before .good .1 .0, group-within (c .before .before .before .before .before .before .before .before .before .loop .inv .0) (c .before .before .before .before .before .before .first-group .ensures) (c .before .before .before .before .before .before .before .before .loop-test .taken))
 
 loop-less : tie.Need-loop-less Inv-loop μ-loop
-loop-less c = omega (arith, group-within (c .before .before .before .before .before .before .before .before .before .loop .inv) (c .before .before .before .before .before .before .first-group .ensures) (c .before .before .before .before .before .before .before .before .loop-test .taken))
+loop-less c = omega (arith, group-within (c .before .before .before .before .before .before .before .before .before .loop .inv .0) (c .before .before .before .before .before .before .first-group .ensures) (c .before .before .before .before .before .before .before .before .loop-test .taken))
 
 loop-again : tie.Need-loop-again Inv-loop μ-loop
 loop-again c = let p : Progress = record { schedule = c .before .before .before .before .before .before .before .before .before .loop .schedule; shown = c .before .before .before .before .before .before .before .before .before .loop .shown; last = c .before .before .before .before .before .before .before .before .before .loop .last } in
     ⊎-elim
-    (λ w. groups-meet (w .12) (w .13) (w .14) (w .15) (groups-turn (c .before .before .before .before .before .before .before .before .before .loop .inv) (c .before .before .before .before .before .before .first-group .ensures) (c .before .before .before .before .before .before .before .before .loop-test .taken) (c .before .before .before .before .before .if1 .left) (group-read p _ (c .before .before .before .before .card-at .ensures) (c .before .before .before .shown-by .ensures) (c .before .before .read-group .ensures) (judged-good (c .before .before .before .before .before .before .before .before .before .loop .schedule) (c .before .before .read-group .result .request) (w .2 .ensures) (w .9 .ensures) (w .10 .taken) (w .11 .ensures) ∙ tried-good (c .before .before .before .before .before .before .before .before .before .loop .schedule) (c .before .before .read-group .result) (c .before .is-good .ensures) (w .0 .taken)) (w .8 .ensures) (w .4 .ensures))))
+    (λ w. (groups-meet (w .14) (w .15) (w .17) (w .18) (groups-turn (c .before .before .before .before .before .before .before .before .before .loop .inv .0) (c .before .before .before .before .before .before .first-group .ensures) (c .before .before .before .before .before .before .before .before .loop-test .taken) (c .before .before .before .before .before .if1 .left) (group-read p _ (c .before .before .before .before .card-at .ensures) (c .before .before .before .shown-by .ensures) (c .before .before .read-group .ensures) (judged-good (c .before .before .before .before .before .before .before .before .before .loop .schedule) (c .before .before .read-group .result .request) (c .before .before .before .before .before .before .before .before .before .loop .inv .1) (w .2 .ensures) (w .11 .ensures) (w .9 .ensures) (w .10 .taken) ∙ tried-good (c .before .before .before .before .before .before .before .before .before .loop .schedule) (c .before .before .read-group .result) (c .before .is-good .ensures) (w .0 .taken)) (w .8 .ensures) (w .4 .ensures))), outline-meet (w .15) (w .16) (outline-follows (c .before .before .before .before .before .before .before .before .before .loop .schedule) (c .before .before .read-group .result .request) (c .before .before .before .before .before .before .before .before .before .loop .inv .1) (w .2 .ensures) (w .11 .ensures))))
     (⊎-elim
-    (λ w. groups-meet (w .11) (w .12) (w .13) (w .14) (groups-turn (c .before .before .before .before .before .before .before .before .before .loop .inv) (c .before .before .before .before .before .before .first-group .ensures) (c .before .before .before .before .before .before .before .before .loop-test .taken) (c .before .before .before .before .before .if1 .left) (group-read p _ (c .before .before .before .before .card-at .ensures) (c .before .before .before .shown-by .ensures) (c .before .before .read-group .ensures) (judged-wrong (c .before .before .before .before .before .before .before .before .before .loop .schedule) (c .before .before .read-group .result .request) (w .2 .ensures) (w .9 .ensures) (w .10 .left) ∙ tried-good (c .before .before .before .before .before .before .before .before .before .loop .schedule) (c .before .before .read-group .result) (c .before .is-good .ensures) (w .0 .taken)) (w .8 .ensures) (w .4 .ensures))))
-    (λ w. groups-meet (w .5) (w .6) (w .7) (w .8) (groups-turn (c .before .before .before .before .before .before .before .before .before .loop .inv) (c .before .before .before .before .before .before .first-group .ensures) (c .before .before .before .before .before .before .before .before .loop-test .taken) (c .before .before .before .before .before .if1 .left) (group-read p _ (c .before .before .before .before .card-at .ensures) (c .before .before .before .shown-by .ensures) (c .before .before .read-group .ensures) (tried-bad (c .before .before .before .before .before .before .before .before .before .loop .schedule) (c .before .before .read-group .result) (c .before .is-good .ensures) (w .0 .left)) (last-kept (c .before .before .read-group .result .verdict) (c .before .before .before .before .before .before .before .before .before .loop .last) _ (c .before .is-good .ensures) (w .0 .left)) (w .2 .ensures)))))
+    (λ w. (groups-meet (w .11) (w .12) (w .14) (w .15) (groups-turn (c .before .before .before .before .before .before .before .before .before .loop .inv .0) (c .before .before .before .before .before .before .first-group .ensures) (c .before .before .before .before .before .before .before .before .loop-test .taken) (c .before .before .before .before .before .if1 .left) (group-read p _ (c .before .before .before .before .card-at .ensures) (c .before .before .before .shown-by .ensures) (c .before .before .read-group .ensures) (judged-wrong (c .before .before .before .before .before .before .before .before .before .loop .schedule) (c .before .before .read-group .result .request) (c .before .before .before .before .before .before .before .before .before .loop .inv .1) (w .2 .ensures) (w .9 .ensures) (w .10 .left) ∙ tried-good (c .before .before .before .before .before .before .before .before .before .loop .schedule) (c .before .before .read-group .result) (c .before .is-good .ensures) (w .0 .taken)) (w .8 .ensures) (w .4 .ensures))), outline-meet (w .12) (w .13) (c .before .before .before .before .before .before .before .before .before .loop .inv .1)))
+    (λ w. (groups-meet (w .5) (w .6) (w .8) (w .9) (groups-turn (c .before .before .before .before .before .before .before .before .before .loop .inv .0) (c .before .before .before .before .before .before .first-group .ensures) (c .before .before .before .before .before .before .before .before .loop-test .taken) (c .before .before .before .before .before .if1 .left) (group-read p _ (c .before .before .before .before .card-at .ensures) (c .before .before .before .shown-by .ensures) (c .before .before .read-group .ensures) (tried-bad (c .before .before .before .before .before .before .before .before .before .loop .schedule) (c .before .before .read-group .result) (c .before .is-good .ensures) (w .0 .left)) (last-kept (c .before .before .read-group .result .verdict) (c .before .before .before .before .before .before .before .before .before .loop .last) _ (c .before .is-good .ensures) (w .0 .left)) (w .2 .ensures))), outline-meet (w .6) (w .7) (c .before .before .before .before .before .before .before .before .before .loop .inv .1))))
     (c .if2 .came)
 
 step-to-requires-2 : tie.Need-step-to-requires-2 Inv-loop μ-loop
 step-to-requires-2 c κs = search needs
 
 same-length-2 : tie.Need-same-length-2 Inv-loop μ-loop
-same-length-2 c = same-room (groups-end (c .before .before .loop .inv) (c .before .loop-test .left) refl .text)
+same-length-2 c = same-room (groups-end (c .before .before .loop .inv .0) (c .before .loop-test .left) refl .text)
 
 returns-2 : tie.Need-returns-2 Inv-loop μ-loop
-returns-2 c = groups-end (c .before .before .loop .inv) (c .before .loop-test .left) (c .step-to2 .ensures)
+returns-2 c = groups-end (c .before .before .loop .inv .0) (c .before .loop-test .left) (c .step-to2 .ensures)
 
 pub put-groups-spec : {M : Type 1} → statement M
 put-groups-spec =
@@ -103,6 +108,7 @@ put-groups-spec =
     (tie.spec
     Inv-loop
     μ-loop
+    outline-of-requires
     loop-holds
     sub-first-group
     part-first-group-start

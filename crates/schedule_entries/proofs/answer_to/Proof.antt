@@ -1,86 +1,19 @@
--- `schedule_entries::answer_to` meets its contract: question by question, from what the functions that it calls
--- promise. Assumes nothing.
+-- `schedule_entries::answer_to` meets its contract: what the entry's heading tells. Assumes nothing.
 use mathlib.Core.Path.{ap, _∙_}
-use mathlib.Core.Bool.{not}
-use Rattle.schedule_entries.specs.Entries.{sameRank, sameKey, precedes}
-use Rattle.schedule_entries.specs.declared.Key.{Key}
+use Rattle.schedule_entries.specs.Questions.{told}
+use Rattle.schedule_entries.specs.declared.Heading.{Heading}
 use borrow.Author.Needs.{needs}
 use Rattle.schedule_entries.proofs.answer_to.Statement.{statement}
 use Rattle.schedule_entries.proofs.answer_to.Tie as tie
 
-key-of-requires : tie.Need-key-of-requires
-key-of-requires c κs = search needs
+heading-of-requires : tie.Need-heading-of-requires
+heading-of-requires c κs = search needs
 
-enum-told : tie.Need-enum-told
-enum-told c = search needs
-
-slice-aggregate-is-same : tie.Need-slice-aggregate-is-same
-slice-aggregate-is-same c = search needs
-
-slice-aggregate-is-same-2 : tie.Need-slice-aggregate-is-same-2
-slice-aggregate-is-same-2 c = search needs
-
-is-same-requires : tie.Need-is-same-requires
-is-same-requires c κs = search needs
-
-enum-told-2 : tie.Need-enum-told-2
-enum-told-2 c = search needs
-
-same-rank-requires : tie.Need-same-rank-requires
-same-rank-requires c κs = search needs
-
-enum-told-3 : tie.Need-enum-told-3
-enum-told-3 c = search needs
-
-same-key-requires : tie.Need-same-key-requires
-same-key-requires c κs = search needs
-
-enum-told-4 : tie.Need-enum-told-4
-enum-told-4 c = search needs
-
-precedes-requires : tie.Need-precedes-requires
-precedes-requires c κs = search needs
-
-enum-told-5 : tie.Need-enum-told-5
-enum-told-5 c = search needs
-
-is-in-place-requires : tie.Need-is-in-place-requires
-is-in-place-requires c κs = search needs
+told-by-requires : tie.Need-told-by-requires
+told-by-requires c κs = search needs
 
 returns : tie.Need-returns
-returns c = rw (c .before .before .before .enum-told .given .1) (c .is-same .ensures)
-
-returns-2 : tie.Need-returns-2
-returns-2 c = rw (c .before .enum-told2 .given .1) (c .same-rank .ensures ∙ ap (λ (k : Key). sameRank k (c .before .before .before .before .before .before .before .before .args .query .key)) (c .before .before .before .before .before .before .key-of .ensures))
-
-returns-3 : tie.Need-returns-3
-returns-3 c = rw (c .before .enum-told3 .given .1) (c .same-key .ensures ∙ ap (λ (k : Key). sameKey k (c .before .before .before .before .before .before .before .before .args .query .key)) (c .before .before .before .before .before .before .key-of .ensures))
-
-returns-4 : tie.Need-returns-4
-returns-4 c = rw (c .before .enum-told4 .given .1) (ap not (c .precedes .ensures ∙ ap (λ (k : Key). precedes k (c .before .before .before .before .before .before .before .before .args .query .key)) (c .before .before .before .before .before .before .key-of .ensures)))
-
-returns-5 : tie.Need-returns-5
-returns-5 c = rw (c .before .enum-told5 .given .1) (c .is-in-place .ensures)
+returns c = c .told-by .ensures ∙ ap (λ (m : Heading). told (c .before .before .args .query .question) (c .before .before .args .query) m) (c .before .heading-of .ensures)
 
 pub answer-to-spec : {M : Type 1} → statement M
-answer-to-spec =
-    tie.close
-    (tie.spec
-    key-of-requires
-    enum-told
-    slice-aggregate-is-same
-    slice-aggregate-is-same-2
-    is-same-requires
-    enum-told-2
-    same-rank-requires
-    enum-told-3
-    same-key-requires
-    enum-told-4
-    precedes-requires
-    enum-told-5
-    is-in-place-requires
-    returns
-    returns-2
-    returns-3
-    returns-4
-    returns-5)
+answer-to-spec = tie.close (tie.spec heading-of-requires told-by-requires returns)
