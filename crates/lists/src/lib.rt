@@ -1,6 +1,6 @@
 // The calls on packets and request lists. Each but `status` takes the state by value, changes it where it stands, and
-// returns it with its answer. A part that is read whole is read before the state is copied into `next`, and the list's entries are
-// lent: so that calls one after another need one copy of the state between them.
+// returns it with its answer. A part that is read whole is read before the state is copied into `next`, and the list's
+// entries are lent: so that calls one after another need one copy of the state between them.
 mod after;
 mod verdicts;
 
