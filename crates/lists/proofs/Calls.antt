@@ -26,10 +26,13 @@ use Rattle.packets.specs.declared.Assignment.{Assignment}
 use Rattle.packets.specs.declared.Ending.{Ending}
 use Rattle.packets.specs.declared.Job.{Job}
 use Rattle.packets.specs.declared.Lists.{Lists}
+use Rattle.packets.specs.declared.Packet.{Packet}
 use Rattle.packets.specs.declared.RequestList.{RequestList}
 use Rattle.packets.specs.declared.Spot.the-variants.{OnUnit}
 use Rattle.packets.specs.declared.Verdict.{Verdict}
 use Rattle.packets.specs.declared.Verdict.the-variants.{Denied, Granted}
+use Rattle.packets_queue.proofs.Relist.{listed-is}
+use Rattle.packets_queue.specs.Keeping.{Relisted}
 use Rattle.packets_queue.specs.Padded.{listOf, padded}
 use Rattle.packets_end.specs.Over.{closedJob, endingOf}
 use Rattle.lists.proofs.Focus.{ending-packets, focus, focus-close, focus-leaving, focus-return, focus-self, focus-sweep}
@@ -58,6 +61,13 @@ pub on-is : (channels : List Channel) (c : ℕ) (on : Channel) → on ≡ getD c
     → (ltb c 16 && isThereOf (on .has)) ≡ configured channels c
 unfolding configured fittedOn
 on-is channels c on e = by-bool (ltb c 16) (λ t. rw (t, e, small-is c t)) (λ t. rw t)
+
+-- ---- the list that was gone through is the state's
+
+pub relisted-is : (r : Lists) → length (r .list .entries) ≡ 256 → (j : ℕ) (ps : List Packet) (left : RequestList)
+    → Relisted j ps (r .list .entries) (r .list .count) left → left ≡ padded (relist j ps (listOf (r .list)))
+relisted-is r full j ps left R =
+    R .is ∙ ap (λ (q : List ℕ). padded (relist j ps q)) (listed-is (r .list .entries) (r .list .count) (omega (arith, full)))
 
 -- ---- a job's end
 

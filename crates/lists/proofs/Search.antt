@@ -14,6 +14,7 @@ use Rattle.packets.specs.declared.Found.{Found}
 use Rattle.packets.specs.declared.Found.the-variants.{At, Nowhere}
 use Rattle.packets.specs.declared.Job.{Job}
 use Rattle.packets.specs.declared.Lists.{Lists}
+use Rattle.packets_queue.proofs.Relist.{listed-is}
 use Rattle.packets_queue.proofs.Startable.{canStartAt, found-is}
 use Rattle.packets_queue.specs.Keeping.{RowOf, Sized}
 use Rattle.packets_queue.specs.Padded.{listOf}
@@ -40,7 +41,7 @@ module _ (r : Lists) (c : ℕ) (row : List UnitState) (R : RowOf (r .units .of) 
   found-of : (o : Option ℕ) → find test (take end (r .list .entries)) ≡ o → foundOf o ≡ wanted
   found-of o e =
       sym (ap foundOf e)
-      ∙ ap (λ (l : List ℕ). foundOf (find test l)) (S .is (omega (arith, full)))
+      ∙ ap (λ (l : List ℕ). foundOf (find test l)) (ap (λ (n : ℕ). take n (r .list .entries)) (S .is) ∙ listed-is (r .list .entries) (r .list .count) (omega (arith, full)))
       ∙ ap foundOf (found-is (r .units .of) (r .jobs) c row R (listOf (r .list)))
 
   module _ (k : ℕ) (found : Found) (L : Searching row (r .jobs) c (r .list .entries) end k found) where

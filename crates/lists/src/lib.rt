@@ -1,6 +1,6 @@
 // The calls on packets and request lists. Each but `status` takes the state by value, changes it where it stands, and
-// returns it with its answer. A part that is read whole is read before the state is copied into `next`, and the list's
-// entries are lent: so that calls one after another need one copy of the state between them.
+// returns it with its answer. In submission, start and completion the list's entries are lent, and units that are only
+// looked at are taken out before the state is copied into `next`: so one copy of it lies between a call and the next.
 mod after;
 mod verdicts;
 
@@ -98,6 +98,7 @@ pub fn submit(
 pub fn start(lists: Lists, channel: ChannelNumber) -> Acted
     ensures { λ r. ⌜ r ≡ outcome lists (Start (channel .0)) ⌝ }
 {
+    // What is read here, before the copy, is not looked for in the older state after it.
     let units = lists.units;
     let row = packets_queue::row_of(units, channel);
     let count = lists.list.count;

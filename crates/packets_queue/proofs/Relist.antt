@@ -8,7 +8,9 @@ use native.Mathlib.Numerals.{add-one}
 use native.Mathlib.Omega.{arith}
 use lib.ListN.{length, getD, set, take, replicate, length-append}
 use lib.Seq.{take-suc, set-at, take-all, append-snoc}
-use borrow.Author.Tests.{lt-ltb, le-ltb}
+use lib.Dec.{ltb}
+use borrow.Author.Tests.{lt-ltb, le-ltb, ltb-true}
+use Rattle.numbers.proofs.Tests.{by-bool}
 use Rattle.packets.proofs.Laws.{keep-append}
 use Rattle.packets.specs.Picks.{keep}
 use Rattle.packets.specs.State.{blank, enlisted, isKept, jobIn, packetIn, packetOf, placeOf, relist}
@@ -16,20 +18,20 @@ use Rattle.packets.specs.declared.Job.{Job}
 use Rattle.packets.specs.declared.Packet.{Packet}
 use Rattle.packets.specs.declared.RequestList.{RequestList}
 use Rattle.packets_queue.specs.Padded.{Tidy, listOf, padded}
-use Rattle.packets_queue.specs.Keeping.{Relisted, Sized}
+use Rattle.packets_queue.specs.Keeping.{Relisted, listed, sizeOf}
 use Rattle.packets_queue.proofs.PaddedLaws.{list-padded}
 
 pub tidy-padded : (l : List ℕ) → length l ≤ 256 → Tidy (padded l)
 tidy-padded l h = record { is = ap padded (sym (list-padded l)); few = rw (list-padded l) h }
 
--- a count that passes the entries' end reads all of them
-pub sized-full : (entries : List ℕ) (count : ℕ) → length entries ≤ 256 → length entries < count → Sized entries count (length entries)
-sized-full entries count n h =
-    record {
-      few = n;
-      within = omega arith;
-      is = λ m. take-all (length entries) entries (omega arith) ∙ sym (take-all count entries (omega arith));
-    }
+-- of at most 256 entries the count says how many are listed; one that passes their end says all
+pub listed-is : (entries : List ℕ) (count : ℕ) → length entries ≤ 256 → listed entries count ≡ take count entries
+unfolding sizeOf
+listed-is entries count h =
+    by-bool (ltb (length entries) count)
+    (λ t. let l : length entries < count = ltb-true (length entries) count t in
+    rw (le-ltb 256 (length entries) h, t) (take-all (length entries) entries (omega arith) ∙ sym (take-all count entries (omega arith))))
+    (λ t. rw (le-ltb 256 (length entries) h, t))
 
 -- a padded list takes one more
 pad-step : (v : ℕ) (l out : List ℕ) (n : ℕ) → n ≡ length l → n < 256 → out ≡ l ++ replicate (256 - n) 0
@@ -72,11 +74,11 @@ module _ (f : ℕ → Bool) (old out : List ℕ) (n i : ℕ) (R : Relisting f ol
       step = keep-step f old i h ∙ rw t (append-nil (keep f (take i old)))
 
 pub relisted-done : (j : ℕ) (ps : List Packet) (old out : List ℕ) (count n i : ℕ) → Relisting (isKept j ps) old out n i → i ≤ 256
-    → (length old ≤ 256 → take i old ≡ take count old) → Relisted j ps old count (record { entries = out; count = n })
+    → i ≡ sizeOf old count → Relisted j ps old count (record { entries = out; count = n })
 unfolding relist
 relisted-done j ps old out count n i R few e =
     record {
-      is = λ h. same ∙ ap (λ (q : List ℕ). padded (relist j ps q)) (e h);
+      is = same ∙ ap (λ (k : ℕ). padded (relist j ps (take k old))) e;
       tidy = subst Tidy (sym same) (tidy-padded (relist j ps (take i old)) (omega (arith, R .few, R .size)));
     }
   where

@@ -5,6 +5,7 @@ use mathlib.Core.Bool.{Bool, false, not, _&&_}
 use mathlib.Core.List.{List, [], _∷_}
 use lib.ListN.{getD, replicate}
 use lib.Dec.{eqb}
+use borrow.Author.Tests.{le-ltb, lt-ltb}
 use Rattle.numbers.proofs.Stores.{getD-replicate-same}
 use Rattle.units.specs.declared.Unit.{Unit as UnitState}
 use Rattle.packets_queue.proofs.Relist.{entry-is}
@@ -18,7 +19,7 @@ use Rattle.packets.specs.declared.Job.{Job}
 use Rattle.packets.specs.declared.Packet.{Packet}
 use Rattle.packets.specs.declared.Site.{Site}
 use Rattle.packets.specs.declared.Site.the-variants.{AtAddress, AtUnit}
-use Rattle.packets_queue.specs.Keeping.{RowOf, canStart, lockAt}
+use Rattle.packets_queue.specs.Keeping.{RowOf, canStart, lockAt, rowIn}
 
 -- the packet of an entry can start
 abbrev pub canStartAt : List UnitState → List Job → ℕ → ℕ → Bool
@@ -46,11 +47,13 @@ found-is units jobs c row R l =
 
 -- where the cell has no such channel, no unit has an interlock
 pub row-out : (units : List (List UnitState)) → Square units → (c : ℕ) → 15 < c → (row : List UnitState) → row ≡ replicate 16 (freshUnit false) → RowOf units c row
+unfolding rowIn
 row-out units s c h row e =
     record {
+      is = e ∙ rw (le-ltb c 16 h);
       locks = λ a. rw (e, read-past units s c a h) (ap (λ (v : UnitState). v .interlock) (getD-replicate-same 16 a (freshUnit false)));
     }
 
-pub row-in : (units : List (List UnitState)) (c : ℕ) (row : List UnitState) → row ≡ getD units c [] → RowOf units c row
-unfolding unitIn
-row-in units c row e = record { locks = λ a. rw e }
+pub row-in : (units : List (List UnitState)) (c : ℕ) → c < 16 → (row : List UnitState) → row ≡ getD units c [] → RowOf units c row
+unfolding unitIn rowIn
+row-in units c h row e = record { is = e ∙ rw (lt-ltb c 16 h); locks = λ a. rw e }

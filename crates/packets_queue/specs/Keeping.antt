@@ -2,10 +2,10 @@
 -- be believed: Padded, and Rules of packets, say what comes out.
 use Prim.Native.Nat.{ℕ, _≤_, _<_}
 use mathlib.Core.Path.{_≡_}
-use mathlib.Core.Bool.{Bool, false, not, _&&_}
-use mathlib.Core.List.{List}
-use lib.ListN.{length, take, getD}
-use lib.Dec.{eqb}
+use mathlib.Core.Bool.{Bool, false, cond, not, _&&_}
+use mathlib.Core.List.{List, []}
+use lib.ListN.{length, take, getD, replicate}
+use lib.Dec.{eqb, ltb}
 use Rattle.units.specs.declared.Unit.{Unit as UnitState}
 use Rattle.units.specs.State.{freshUnit, unitIn}
 use Rattle.packets.specs.State.{relist}
@@ -20,15 +20,22 @@ pub record Within (n r : ℕ) : Type 0 where
   pub is : r ≡ n
   pub small : r < 16
 
--- how many of its entries, of which there are 256, a list with this count has
+-- how many of these entries a list with this count has; a list has no more than 256
+unfoldable pub sizeOf : List ℕ → ℕ → ℕ
+sizeOf entries count = cond (ltb 256 (length entries)) 0 (cond (ltb (length entries) count) (length entries) count)
+
 pub record Sized (entries : List ℕ) (count n : ℕ) : Type 0 where
+  pub is : n ≡ sizeOf entries count
   pub few : n ≤ 256
   pub within : n ≤ length entries
-  pub is : length entries ≤ 256 → take n entries ≡ take count entries
 
--- the list of these entries and this count without those packets of place j that are no longer listed
+-- the packets of the list of these entries and this count
+abbrev pub listed : List ℕ → ℕ → List ℕ
+listed entries count = take (sizeOf entries count) entries
+
+-- that list without those packets of place j that are no longer listed
 pub record Relisted (j : ℕ) (ps : List Packet) (old : List ℕ) (count : ℕ) (r : RequestList) : Type 0 where
-  pub is : length old ≤ 256 → r ≡ padded (relist j ps (take count old))
+  pub is : r ≡ padded (relist j ps (listed old count))
   pub tidy : Tidy r
 
 -- the interlock of unit u of a channel with these units
@@ -40,8 +47,12 @@ abbrev pub lockAt : List UnitState → Site → Bool
 lockAt row (AtUnit u) = lockIn row (u .0)
 lockAt row (AtAddress x) = false
 
--- units that have the interlocks of channel c
+-- the units of channel c, and their interlocks; units without interlock where the cell has no such channel
+unfoldable pub rowIn : List (List UnitState) → ℕ → List UnitState
+rowIn grid c = cond (ltb c 16) (getD grid c []) (replicate 16 (freshUnit false))
+
 pub record RowOf (grid : List (List UnitState)) (c : ℕ) (row : List UnitState) : Type 0 where
+  pub is : row ≡ rowIn grid c
   pub locks : (u : ℕ) → lockIn row u ≡ unitIn grid c u .interlock
 
 -- a listed packet can start on channel c with these units

@@ -12,11 +12,10 @@ ghost use mathlib.Core.Path.{_≡_};
 ghost use mathlib.Core.Bool.{not, _||_};
 ghost use mathlib.Core.List.{[]};
 ghost use lib.Dec.{eqb};
-ghost use Prim.Native.Nat.{_≤_};
-ghost use lib.ListN.{getD, length, replicate, take};
+ghost use lib.ListN.{getD, replicate};
 ghost use Rattle.packets.specs.State.{blank, isListed, placeOf, packetOf, relist, enlisted};
 ghost use Rattle.packets_queue.specs.Padded.{listOf, padded, Tidy};
-ghost use Rattle.packets_queue.specs.Keeping.{Within, Sized, Relisted, canStart, lockIn, lockAt, RowOf};
+ghost use Rattle.packets_queue.specs.Keeping.{Within, Sized, listed, Relisted, canStart, lockIn, lockAt, RowOf};
 
 // The number of a listed packet.
 fn number_of(e: u8) -> usize
@@ -132,7 +131,7 @@ fn with_entry(list: RequestList, e: u8) -> RequestList
 
 // The same, and with one packet more, the youngest, where there is room.
 pub fn relisted_with(job: Job, j: u8, old: &[u8], count: usize, e: u8) -> RequestList
-    ensures { λ r. ⌜ (length (now (old .entry)) ≤ 256 → r ≡ padded (enlisted (relist j (job .packets) (take count (now (old .entry)))) e)) ⌝ }
+    ensures { λ r. ⌜ r ≡ padded (enlisted (relist j (job .packets) (listed (now (old .entry)) count)) e) ⌝ }
 {
     let left = relisted(job, j, old, count);
     with_entry(left, e)

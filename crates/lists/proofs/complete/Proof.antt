@@ -1,8 +1,7 @@
 -- `lists::complete` meets its contract: the rules' outcome of a completion. Assumes nothing.
 use mathlib.Core.Path.{refl, _∙_}
-use native.Mathlib.Omega.{arith}
 use Rattle.packets.specs.Rules.{Complete}
-use Rattle.lists.proofs.Calls.{refused-is}
+use Rattle.lists.proofs.Calls.{relisted-is, refused-is}
 use Rattle.lists.proofs.Full.{entries, places}
 use Rattle.lists.proofs.Completes.{complete-verdict, complete-is}
 use borrow.Author.Needs.{needs}
@@ -88,14 +87,14 @@ returns-2 c = let a = c .before .before .before .before .before .before .before 
     let full = entries (a .lists) _ (c .before .before .before .before .before .before .before .before .before .before .before .before .before .before .before .before .before .before .before .before .before .before .before .good .0) in
     complete-is (a .lists) (a .channel .0) (a .how) _ refl (c .before .before .before .before .before .before .before .before .before .before .before .before .before .before .before .before .before .before .before .place-of .result) (c .before .before .before .before .before .before .before .before .before .before .before .before .before .before .before .before .before .before .packet-of .result) (c .before .before .before .before .before .before .before .before .before .before .before .before .before .before .before .before .before .before .before .place-of .ensures) (c .before .before .before .before .before .before .before .before .before .before .before .before .before .before .before .before .before .before .packet-of .ensures) (c .before .before .before .before .before .before .before .before .before .before .before .before .before .before .before .packet-in .result) (c .before .before .before .before .before .before .before .before .before .before .before .before .before .before .before .packet-in .ensures) (places (a .lists) _ (c .before .before .before .before .before .before .before .before .before .before .before .before .before .before .before .before .before .before .before .before .before .before .before .good .0))
     (complete-verdict (a .lists) (a .channel .0) (a .how) _ refl (c .before .before .before .before .before .before .before .before .before .before .before .before .before .before .before .before .before .before .before .place-of .result) (c .before .before .before .before .before .before .before .before .before .before .before .before .before .before .before .before .before .before .packet-of .result) (c .before .before .before .before .before .before .before .before .before .before .before .before .before .before .before .before .before .before .before .place-of .ensures) (c .before .before .before .before .before .before .before .before .before .before .before .before .before .before .before .before .before .before .packet-of .ensures) (c .before .before .before .before .before .before .before .before .before .before .before .before .before .before .before .packet-in .result) (c .before .before .before .before .before .before .before .before .before .before .before .before .before .before .before .packet-in .ensures) _ refl (c .before .before .before .before .before .before .before .before .before .before .before .before .before .before .of-complete .result) (c .before .before .before .before .before .before .before .before .before .before .before .before .before .before .of-complete .ensures) ∙ c .before .before .before .before .before .before .before .before .before .before .before .before .enum-told .given .1)
-    (c .before .before .before .before .before .before .before .before .before .before .before .idle .result) (c .before .before .before .before .before .before .before .before .before .before .before .idle .ensures) (c .before .before .before .before .before .before .before .before .before .is-breaking .result) (c .before .before .before .before .before .before .before .before .before .is-breaking .ensures) (c .before .before .before .before .before .before .before .before .over .result) (c .before .before .before .before .before .before .before .before .over .ensures) (c .before .before .before .relisted .result) (c .before .before .before .relisted .ensures .is (omega (arith, full))) (c .units-of .result) (c .units-of .ensures)
+    (c .before .before .before .before .before .before .before .before .before .before .before .idle .result) (c .before .before .before .before .before .before .before .before .before .before .before .idle .ensures) (c .before .before .before .before .before .before .before .before .before .is-breaking .result) (c .before .before .before .before .before .before .before .before .before .is-breaking .ensures) (c .before .before .before .before .before .before .before .before .over .result) (c .before .before .before .before .before .before .before .before .over .ensures) (c .before .before .before .relisted .result) (relisted-is (a .lists) full _ _ _ (c .before .before .before .relisted .ensures)) (c .units-of .result) (c .units-of .ensures)
 
 returns-3 : tie.Need-returns-3
 returns-3 c = let a = c .before .before .before .before .before .before .before .before .before .before .before .before .before .before .before .before .before .before .before .before .before .before .args in
     let full = entries (a .lists) _ (c .before .before .before .before .before .before .before .before .before .before .before .before .before .before .before .before .before .before .before .before .before .before .good .0) in
     complete-is (a .lists) (a .channel .0) (a .how) _ refl (c .before .before .before .before .before .before .before .before .before .before .before .before .before .before .before .before .before .before .place-of .result) (c .before .before .before .before .before .before .before .before .before .before .before .before .before .before .before .before .before .packet-of .result) (c .before .before .before .before .before .before .before .before .before .before .before .before .before .before .before .before .before .before .place-of .ensures) (c .before .before .before .before .before .before .before .before .before .before .before .before .before .before .before .before .before .packet-of .ensures) (c .before .before .before .before .before .before .before .before .before .before .before .before .before .before .packet-in .result) (c .before .before .before .before .before .before .before .before .before .before .before .before .before .before .packet-in .ensures) (places (a .lists) _ (c .before .before .before .before .before .before .before .before .before .before .before .before .before .before .before .before .before .before .before .before .before .before .good .0))
     (complete-verdict (a .lists) (a .channel .0) (a .how) _ refl (c .before .before .before .before .before .before .before .before .before .before .before .before .before .before .before .before .before .before .place-of .result) (c .before .before .before .before .before .before .before .before .before .before .before .before .before .before .before .before .before .packet-of .result) (c .before .before .before .before .before .before .before .before .before .before .before .before .before .before .before .before .before .before .place-of .ensures) (c .before .before .before .before .before .before .before .before .before .before .before .before .before .before .before .before .before .packet-of .ensures) (c .before .before .before .before .before .before .before .before .before .before .before .before .before .before .packet-in .result) (c .before .before .before .before .before .before .before .before .before .before .before .before .before .before .packet-in .ensures) _ refl (c .before .before .before .before .before .before .before .before .before .before .before .before .before .of-complete .result) (c .before .before .before .before .before .before .before .before .before .before .before .before .before .of-complete .ensures) ∙ c .before .before .before .before .before .before .before .before .before .before .before .enum-told .given .1)
-    (c .before .before .before .before .before .before .before .before .before .before .idle .result) (c .before .before .before .before .before .before .before .before .before .before .idle .ensures) (c .before .before .before .before .before .before .before .before .is-breaking .result) (c .before .before .before .before .before .before .before .before .is-breaking .ensures) (c .before .before .before .before .before .before .before .over .result) (c .before .before .before .before .before .before .before .over .ensures) (c .before .before .relisted .result) (c .before .before .relisted .ensures .is (omega (arith, full))) (a .lists .units) (rw (c .before .if1 .left, c .if2 .left) refl)
+    (c .before .before .before .before .before .before .before .before .before .before .idle .result) (c .before .before .before .before .before .before .before .before .before .before .idle .ensures) (c .before .before .before .before .before .before .before .before .is-breaking .result) (c .before .before .before .before .before .before .before .before .is-breaking .ensures) (c .before .before .before .before .before .before .before .over .result) (c .before .before .before .before .before .before .before .over .ensures) (c .before .before .relisted .result) (relisted-is (a .lists) full _ _ _ (c .before .before .relisted .ensures)) (a .lists .units) (rw (c .before .if1 .left, c .if2 .left) refl)
 
 pub complete-spec : {M : Type 1} → statement M
 complete-spec =

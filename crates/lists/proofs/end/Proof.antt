@@ -1,8 +1,7 @@
 -- `lists::end` meets its contract: the rules' outcome of a job's end. Assumes nothing.
 use mathlib.Core.Path.{refl, _∙_}
-use native.Mathlib.Omega.{arith}
 use Rattle.packets.specs.Rules.{End}
-use Rattle.lists.proofs.Calls.{refused-is, end-verdict, end-is}
+use Rattle.lists.proofs.Calls.{relisted-is, refused-is, end-verdict, end-is}
 use Rattle.lists.proofs.Full.{entries, places}
 use borrow.Author.Needs.{needs}
 use Rattle.lists.proofs.end.Statement.{statement}
@@ -49,13 +48,13 @@ returns-2 : tie.Need-returns-2
 returns-2 c = let a = c .before .before .before .before .before .before .before .before .before .before .before .before .before .before .args in
     let full = entries (a .lists) _ (c .before .before .before .before .before .before .before .before .before .before .before .before .before .before .good .0) in
     end-is (a .lists) (a .place) (a .in-error) (places (a .lists) _ (c .before .before .before .before .before .before .before .before .before .before .before .before .before .before .good .0)) (end-verdict (a .lists) (a .place) (a .in-error) (c .before .before .before .before .before .before .before .before .before .before .before .before .of-end .result) (c .before .before .before .before .before .before .before .before .before .before .before .before .of-end .ensures) ∙ c .before .before .before .before .before .before .before .before .before .before .enum-told .given .1)
-    (c .before .before .before .before .before .before .before .before .closed .result) (c .before .before .before .before .before .before .before .before .closed .ensures) (c .before .before .before .relisted .result) (c .before .before .before .relisted .ensures .is (omega (arith, full))) (c .released .result) (rw (c .before .before .if1 .taken) (c .released .ensures))
+    (c .before .before .before .before .before .before .before .before .closed .result) (c .before .before .before .before .before .before .before .before .closed .ensures) (c .before .before .before .relisted .result) (relisted-is (a .lists) full _ _ _ (c .before .before .before .relisted .ensures)) (c .released .result) (rw (c .before .before .if1 .taken) (c .released .ensures))
 
 returns-3 : tie.Need-returns-3
 returns-3 c = let a = c .before .before .before .before .before .before .before .before .before .before .before .before .args in
     let full = entries (a .lists) _ (c .before .before .before .before .before .before .before .before .before .before .before .before .good .0) in
     end-is (a .lists) (a .place) (a .in-error) (places (a .lists) _ (c .before .before .before .before .before .before .before .before .before .before .before .before .good .0)) (end-verdict (a .lists) (a .place) (a .in-error) (c .before .before .before .before .before .before .before .before .before .before .of-end .result) (c .before .before .before .before .before .before .before .before .before .before .of-end .ensures) ∙ c .before .before .before .before .before .before .before .before .enum-told .given .1)
-    (c .before .before .before .before .before .before .closed .result) (c .before .before .before .before .before .before .closed .ensures) (c .before .relisted .result) (c .before .relisted .ensures .is (omega (arith, full))) (a .lists .units) (rw (c .if1 .left) refl)
+    (c .before .before .before .before .before .before .closed .result) (c .before .before .before .before .before .before .closed .ensures) (c .before .relisted .result) (relisted-is (a .lists) full _ _ _ (c .before .relisted .ensures)) (a .lists .units) (rw (c .if1 .left) refl)
 
 pub end-spec : {M : Type 1} → statement M
 end-spec =

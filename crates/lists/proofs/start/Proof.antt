@@ -3,7 +3,6 @@
 use Prim.Native.Nat.{_≤_, _<_, _-_}
 use mathlib.Core.Path.{_≡_, refl, ap, _∙_}
 use mathlib.Core.Logic.{⊎-elim}
-use native.Mathlib.Omega.{arith}
 use lib.ListN.{length, getD}
 use Rattle.packets.specs.Picks.{find}
 use Rattle.packets.specs.Rules.{Start, startableOn}
@@ -11,7 +10,7 @@ use Rattle.packets.specs.State.{placeOf, packetOf}
 use Rattle.packets.specs.declared.Found.the-variants.{At}
 use Rattle.packets_queue.specs.Padded.{listOf}
 use Rattle.packets_queue.proofs.Startable.{canStartAt, starts-is}
-use Rattle.lists.proofs.Calls.{refused-is}
+use Rattle.lists.proofs.Calls.{relisted-is, refused-is}
 use Rattle.lists.proofs.Full.{entries, places}
 use Rattle.lists.proofs.Search.{Searching, search-found, search-on, search-over, search-starts}
 use Rattle.lists.proofs.Starts.{start-verdict, start-is}
@@ -155,7 +154,7 @@ returns-2 c = let a = c .before .before .before .before .before .before .before 
     (c .before .before .before .before .before .before .before .before .before .before .before .before .before .before .before .loop-test .came) in
     start-is (a .lists) (a .channel .0) (c .before .before .before .before .before .before .before .before .before .before .before .before .before .before .before .loop-test .found) f (places (a .lists) _ (c .before .before .before .before .before .before .before .before .before .before .before .before .before .before .before .before .before .before .before .before .before .before .before .good .0))
     (start-verdict (a .lists) (a .channel .0) (c .before .before .before .before .before .before .before .before .before .before .before .before .before .before .before .loop-test .found) f _ refl (c .before .before .before .before .before .before .before .before .before .before .before .of-start .result) (c .before .before .before .before .before .before .before .before .before .before .before .of-start .ensures) ∙ c .before .before .before .before .before .before .before .before .before .enum-told .given .1)
-    (c .before .before .before .before .before .before .before .before .entry-of .result) (c .before .before .before .before .before .before .before .before .entry-of .ensures) (search needs) (c .before .before .before .before .before .begun .result) (c .before .before .before .before .before .begun .ensures) (c .before .before .before .before .before .before .started .result) (c .before .before .before .before .before .before .started .ensures) (c .before .relisted .result) (c .before .relisted .ensures .is (omega (arith, full))) (c .busy-with .result) (c .busy-with .ensures)
+    (c .before .before .before .before .before .before .before .before .entry-of .result) (c .before .before .before .before .before .before .before .before .entry-of .ensures) (search needs) (c .before .before .before .before .before .begun .result) (c .before .before .before .before .before .begun .ensures) (c .before .before .before .before .before .before .started .result) (c .before .before .before .before .before .before .started .ensures) (c .before .relisted .result) (relisted-is (a .lists) full _ _ _ (c .before .relisted .ensures)) (c .busy-with .result) (c .busy-with .ensures)
 
 pub start-spec : {M : Type 1} → statement M
 start-spec =

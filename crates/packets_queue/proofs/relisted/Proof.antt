@@ -74,7 +74,7 @@ returns : tie.Need-returns Inv-loop μ-loop
 returns c = let l = c .before .loop in
     let size = c .before .before .before .size-of .ensures in
     let e : l .i ≡ c .before .before .before .size-of .result = omega (arith, l .inv .0, c .loop-test .left) in
-    relisted-done (c .before .before .before .before .before .before .args .j) (c .before .before .before .before .before .before .args .job .packets) (c .before .before .before .before .before .before .args .old .now) (l .entries) (c .before .before .before .before .before .before .args .count) (l .kept) (l .i) (l .inv .1) (omega (arith, size .few)) (rw e (size .is))
+    relisted-done (c .before .before .before .before .before .before .args .j) (c .before .before .before .before .before .before .args .job .packets) (c .before .before .before .before .before .before .args .old .now) (l .entries) (c .before .before .before .before .before .before .args .count) (l .kept) (l .i) (l .inv .1) (omega (arith, size .few)) (e ∙ size .is)
 
 pub relisted-spec : {M : Type 1} → statement M
 relisted-spec =

@@ -2,9 +2,9 @@
 use Prim.Native.Nat.{ℕ}
 use mathlib.Core.Path.{ap, _∙_}
 use mathlib.Core.List.{List}
-use lib.ListN.{take}
 use Rattle.packets.specs.State.{relist, enlisted}
 use Rattle.packets_queue.specs.Padded.{listOf, padded}
+use Rattle.packets_queue.specs.Keeping.{listed}
 use Rattle.packets_queue.proofs.PaddedLaws.{list-padded}
 use borrow.Author.Needs.{needs}
 use Rattle.packets_queue.proofs.relisted_with.Statement.{statement}
@@ -17,7 +17,7 @@ with-entry-requires : tie.Need-with-entry-requires
 with-entry-requires c κs = c .relisted .ensures .tidy
 
 returns : tie.Need-returns
-returns c = λ h. c .with-entry .ensures ∙ ap (λ (l : List ℕ). padded (enlisted l (c .before .before .before .args .e))) (ap listOf (c .before .relisted .ensures .is h) ∙ list-padded (relist (c .before .before .before .args .j) (c .before .before .before .args .job .packets) (take (c .before .before .before .args .count) (c .before .before .before .args .old .now))))
+returns c = c .with-entry .ensures ∙ ap (λ (l : List ℕ). padded (enlisted l (c .before .before .before .args .e))) (ap listOf (c .before .relisted .ensures .is) ∙ list-padded (relist (c .before .before .before .args .j) (c .before .before .before .args .job .packets) (listed (c .before .before .before .args .old .now) (c .before .before .before .args .count))))
 
 pub relisted-with-spec : {M : Type 1} → statement M
 relisted-with-spec = tie.close (tie.spec relisted-requires with-entry-requires returns)

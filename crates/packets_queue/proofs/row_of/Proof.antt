@@ -1,6 +1,7 @@
 -- `packets_queue::row_of` meets its contract. Assumes nothing.
 use mathlib.Core.Path.{ap}
 use mathlib.Core.List.{List, []}
+use native.Mathlib.Omega.{arith}
 use Rattle.units.specs.declared.Unit.{Unit}
 use Rattle.units.proofs.StateLaws.{of-square}
 use Rattle.packets_queue.proofs.Startable.{row-out, row-in}
@@ -28,7 +29,7 @@ array-copy-out-result : tie.Need-array-copy-out-result
 array-copy-out-result c = search needs
 
 returns-2 : tie.Need-returns-2
-returns-2 c = row-in (c .before .before .before .before .args .units .of) (c .before .before .before .before .args .c .0) _ (ap (λ (g : List (List Unit)). getD g (c .before .before .before .before .args .c .0) []) (c .before .before .before .grid-of .ensures .is))
+returns-2 c = row-in (c .before .before .before .before .args .units .of) (c .before .before .before .before .args .c .0) (omega (arith, c .before .if1 .left)) _ (ap (λ (g : List (List Unit)). getD g (c .before .before .before .before .args .c .0) []) (c .before .before .before .grid-of .ensures .is))
 
 pub row-of-spec : {M : Type 1} → statement M
 row-of-spec =

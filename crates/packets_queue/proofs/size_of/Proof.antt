@@ -1,19 +1,31 @@
--- `packets_queue::size_of` meets its contract. Assumes nothing.
-use mathlib.Core.Path.{refl}
+-- `packets_queue::size_of` meets its contract, by the tests that led there. Assumes nothing.
 use native.Mathlib.Omega.{arith}
-use Rattle.packets_queue.proofs.Relist.{sized-full}
+use lib.ListN.{length}
+use borrow.Author.Tests.{le-ltb, lt-ltb}
+use Rattle.packets_queue.specs.Keeping.{sizeOf}
 use borrow.Author.Needs.{needs}
 use Rattle.packets_queue.proofs.size_of.Statement.{statement}
 use Rattle.packets_queue.proofs.size_of.Tie as tie
 
 returns : tie.Need-returns
-returns c = record { few = omega arith; within = omega arith; is = λ h. absurd (omega (arith, h, c .if1 .taken)) }
+unfolding sizeOf
+returns c = record { is = rw (lt-ltb 256 (length (c .before .args .entries .now)) (c .if1 .taken)); few = omega arith; within = omega arith }
 
 returns-2 : tie.Need-returns-2
-returns-2 c = sized-full (c .before .before .args .entries .now) (c .before .before .args .count) (c .before .if1 .left) (c .if2 .taken)
+unfolding sizeOf
+returns-2 c = record {
+  is = rw (le-ltb 256 (length (c .before .before .args .entries .now)) (c .before .if1 .left), lt-ltb (length (c .before .before .args .entries .now)) (c .before .before .args .count) (c .if2 .taken));
+  few = c .before .if1 .left;
+  within = omega arith;
+}
 
 returns-3 : tie.Need-returns-3
-returns-3 c = record { few = omega (arith, c .before .if1 .left, c .if2 .left); within = c .if2 .left; is = λ h. refl }
+unfolding sizeOf
+returns-3 c = record {
+  is = rw (le-ltb 256 (length (c .before .before .args .entries .now)) (c .before .if1 .left), le-ltb (length (c .before .before .args .entries .now)) (c .before .before .args .count) (c .if2 .left));
+  few = omega (arith, c .before .if1 .left, c .if2 .left);
+  within = c .if2 .left;
+}
 
 pub size-of-spec : {M : Type 1} → statement M
 size-of-spec = tie.close (tie.spec returns returns-2 returns-3)

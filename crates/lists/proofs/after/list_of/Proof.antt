@@ -1,5 +1,6 @@
 -- `lists::after::list_of` meets its contract. Assumes nothing.
 use mathlib.Core.Path.{sym, _∙_}
+use Rattle.packets_queue.proofs.Relist.{listed-is}
 use borrow.Author.Needs.{needs}
 use Rattle.lists.proofs.after.list_of.Statement.{statement}
 use Rattle.lists.proofs.after.list_of.Tie as tie
@@ -17,13 +18,13 @@ relisted-with-requires : tie.Need-relisted-with-requires
 relisted-with-requires c κs = search needs
 
 returns : tie.Need-returns
-returns c = λ h. rw (sym (c .before .before .is-listing .ensures) ∙ c .before .if1 .taken) (c .relisted-with .ensures h)
+returns c = λ h. rw (sym (c .before .before .is-listing .ensures) ∙ c .before .if1 .taken, ← listed-is (c .before .before .before .before .args .old .now) (c .before .before .before .before .args .count) h) (c .relisted-with .ensures)
 
 relisted-requires : tie.Need-relisted-requires
 relisted-requires c κs = search needs
 
 returns-2 : tie.Need-returns-2
-returns-2 c = λ h. rw (sym (c .before .before .is-listing .ensures) ∙ c .before .if1 .left) (c .relisted .ensures .is h)
+returns-2 c = λ h. rw (sym (c .before .before .is-listing .ensures) ∙ c .before .if1 .left, ← listed-is (c .before .before .before .before .args .old .now) (c .before .before .before .before .args .count) h) (c .relisted .ensures .is)
 
 pub list-of-spec : {M : Type 1} → statement M
 list-of-spec =
