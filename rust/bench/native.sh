@@ -332,7 +332,7 @@ RT
     cat <<'RT'
 // The calls on packets of the whole cell under plain names, for a harness.
 use cell::Cell;
-use cell::StatusAnswer;
+use lists::StatusAnswer;
 use cell_selection::Taking;
 use numbers::ChannelNumber;
 use numbers::UnitNumber;
