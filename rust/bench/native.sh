@@ -1,10 +1,12 @@
 #!/bin/sh
-# native.sh: compiles functions of the proved crates for this machine, for the bench to link: rust/target/native/libluffgravel_native.a,
-# and libluffgravel_cells.a, which has the calls on packets of the whole cell. They are two, so that in each a call is made at one place only, as
-# in the shift program: the compiler then sets it in where it is made. A call that is made at several places is a function of its own, and copies.
-# The crates must be proved (target/rlib has them after `rt check`). The crates below only give them plain names that Rust can call; the
-# compiler proves them too, and builds nothing that is not proved. On x86-64 the archive is the compiler's own. Elsewhere its LLVM module is
-# compiled for the machine at hand by the kit's own clang: that is a retargeting of ours and not what the kit ships.
+# native.sh: compiles functions of the proved crates for this machine, for the bench to link:
+# rust/target/native/libluffgravel_native.a, and libluffgravel_cells.a, which has the calls on packets of the whole
+# cell. They are two, so that in each a call is made at one place only, as in the shift program: the compiler then sets
+# it in where it is made. A call that is made at several places is a function of its own, and copies. The crates must
+# be proved (target/rlib has them after `rt check`). The crates below only give them plain names that Rust can call;
+# the compiler proves them too, and builds nothing that is not proved. On x86-64 the archive is the compiler's own.
+# Elsewhere its LLVM module is compiled for the machine at hand by the kit's own clang: that is a retargeting of ours
+# and not what the kit ships.
 set -eu
 here=$(cd "$(dirname "$0")" && pwd -P)
 repo=$(cd "$here/../.." && pwd -P)
@@ -16,8 +18,8 @@ work=$(mktemp -d)
 trap 'rm -rf "$work"' EXIT
 mkdir "$work/luffgravel_native" "$work/luffgravel_cells"
 
-# An exported function takes numbers, bools and slices, and no enum, nor a struct that holds one. So a cell is made and used inside. A loop
-# would need a proof of its own, and ten calls in a row need none.
+# An exported function takes numbers, bools and slices, and no enum, nor a struct that holds one. So a cell is made and
+# used inside. A loop would need a proof of its own, and ten calls in a row need none.
 
 # Ten calls from one state: whether all answered true. NAME, the function called, its parameters and its arguments.
 ten() {
@@ -85,8 +87,8 @@ fn loaded(config: &[u8], deck: &[u8]) -> Cell {
     Cell { schedule, lists }
 }
 
-// Whether packet 0 of place 0 has ended, which is so only when its turns were accepted, or is blank where there were none; and
-// whether the last of as many packets is listed.
+// Whether packet 0 of place 0 has ended, which is so only when its turns were accepted, or is blank where there were
+// none; and whether the last of as many packets is listed.
 fn is_so(cell: Cell, count: u8, turned: bool) -> bool {
     let first = status_of(cell, 0, 0);
     if turned {
@@ -114,11 +116,13 @@ fn is_so(cell: Cell, count: u8, turned: bool) -> bool {
 RT
 }
 
-# Turns by the calls of crate lists; with `lists` read as `cell`, by those on the whole cell. A turn makes each call at one place, also to fill
-# the list: then a channel that the cell does not have is asked to start and to complete, and refuses.
+# Turns by the calls of crate lists; with `lists` read as `cell`, by those on the whole cell. A turn makes each call at
+# one place, also to fill the list: then a channel that the cell does not have is asked to start and to complete, and
+# refuses.
 turns() {
     cat <<'RT'
-// A packet of a place is submitted on a channel, to the unit that has the place's number; another channel, or the same, starts and completes.
+// A packet of a place is submitted on a channel, to the unit that has the place's number; another channel, or the
+// same, starts and completes.
 fn turn(lists: Lists, place: u8, packet: u8, channel: u8, other: u8) -> Lists {
     let submitted = lists::submit(lists, place, packet, 2, ChannelNumber(channel), on_unit(place));
     let started = lists::start(submitted.lists, ChannelNumber(other));
@@ -213,8 +217,8 @@ pub extern "C" fn luffgravel_listing(config: &[u8], out: &mut [u8]) -> usize {
     configuration_listing::listing(config, out)
 }
 
-// Whether a text is a configuration with this unit, and that unit, named by its place among 256, is down. Which unit is known only at the call,
-// so the whole configuration is made.
+// Whether a text is a configuration with this unit, and that unit, named by its place among 256, is down. Which unit
+// is known only at the call, so the whole configuration is made.
 #[no_mangle]
 pub extern "C" fn luffgravel_is_down(config: &[u8], channel: u8, unit: u8, at: usize) -> bool {
     let answer = configuration::read(config);
@@ -244,7 +248,8 @@ RT
     common
     turns
     cat <<'RT'
-// Whether a packet of the fresh cell is blank. The call that might mark a unit has the whole cell made: it could be asked for.
+// Whether a packet of the fresh cell is blank. The call that might mark a unit has the whole cell made: it could be
+// asked for.
 #[no_mangle]
 pub extern "C" fn luffgravel_fresh(config: &[u8], place: u8, packet: u8, marks: bool) -> bool {
     let cell = fresh(config);
@@ -284,7 +289,8 @@ fn thousand(lists: Lists) -> Lists {
     hundred(hundred(hundred(hundred(hundred(half)))))
 }
 
-// A thousand turns, or none, with as many packets listed; whether all was accepted.
+// A thousand turns, or none, with as many packets listed; whether the packet has ended, and the last of the others is
+// listed.
 #[no_mangle]
 pub extern "C" fn luffgravel_turns(config: &[u8], deck: &[u8], count: u8, turned: bool) -> bool {
     let cell = loaded(config, deck);
@@ -316,7 +322,8 @@ pub extern "C" fn luffgravel_selections(config: &[u8], deck: &[u8], late: bool, 
     selections(cell.schedule, cell.lists, hundred)
 }
 
-// A further deck entered a hundred times, or once, into the schedule that a first one gives; whether it was entered each time.
+// A further deck entered a hundred times, or once, into the schedule that a first one gives; whether it was entered
+// each time.
 #[no_mangle]
 pub extern "C" fn luffgravel_entries(deck: &[u8], further: &[u8], hundred: bool) -> bool {
     let mut room: [u8; 53248] = [0; 53248];

@@ -1,6 +1,6 @@
 // The calls on packets and request lists. Each but `status` takes the state by value, changes it where it stands, and
-// returns it with its answer. In submission, start and completion the list's entries are lent, and units that are only
-// looked at are taken out before the state is copied into `next`: so one copy of it lies between a call and the next.
+// returns it with its answer. The list's entries are lent, and units that are only looked at are taken out before the
+// state is copied into `next`: so one copy of it lies between a call and the next.
 mod after;
 mod verdicts;
 
@@ -70,9 +70,7 @@ pub fn submit(
     let i = (place % 16) as usize;
     let job = next.jobs[i];
     match packets_submit::verdict(has, job, unit, place, packet, function, channel, spot) {
-        Verdict::Denied(refusal) => {
-            answer = Answer::Refused(refusal);
-        }
+        Verdict::Denied(refusal) => answer = Answer::Refused(refusal),
         Verdict::Granted => {
             let unlocking = packets_submit::is_unlocking(function, unit);
             let gone = packets_submit::job_after(job, packet, function, channel, spot, unlocking);
@@ -94,13 +92,13 @@ pub fn submit(
     }
 }
 
-// Start on a channel: of the oldest packet of the list that can start there.
+// Start on a channel: of the oldest packet of the list that can start there. The list is gone through here and not in a
+// function of its own, which would copy the places; units and count are read before the copy into `next`, so that the
+// older state need not be kept.
 pub fn start(lists: Lists, channel: ChannelNumber) -> Acted
     ensures { λ r. ⌜ r ≡ outcome lists (Start (channel .0)) ⌝ }
 {
-    // What is read here, before the copy, is not looked for in the older state after it.
-    let units = lists.units;
-    let row = packets_queue::row_of(units, channel);
+    let row = packets_queue::row_of(lists.units, channel);
     let count = lists.list.count;
     let mut next = lists;
     let mut answer = Answer::Done;
@@ -121,9 +119,7 @@ pub fn start(lists: Lists, channel: ChannelNumber) -> Acted
     let on = next.channels[c];
     let carrier = next.moving[c];
     match verdicts::of_start(on, carrier, found, channel) {
-        Verdict::Denied(refusal) => {
-            answer = Answer::Refused(refusal);
-        }
+        Verdict::Denied(refusal) => answer = Answer::Refused(refusal),
         Verdict::Granted => {
             let e = after::entry_of(found);
             let i = (e / 16) as usize;
@@ -159,9 +155,7 @@ pub fn complete(lists: Lists, channel: ChannelNumber, how: How) -> Acted
     let ps = job.packets;
     let q = packets_job::packet_in(ps, p);
     match verdicts::of_complete(on, carrier, q, how, channel) {
-        Verdict::Denied(refusal) => {
-            answer = Answer::Refused(refusal);
-        }
+        Verdict::Denied(refusal) => answer = Answer::Refused(refusal),
         Verdict::Granted => {
             let idle = after::idle();
             next.moving[c] = idle;
@@ -199,9 +193,7 @@ pub fn end(lists: Lists, place: u8, in_error: bool) -> Acted
     let job = next.jobs[i];
     let state = job.state;
     match verdicts::of_end(state, place) {
-        Verdict::Denied(refusal) => {
-            answer = Answer::Refused(refusal);
-        }
+        Verdict::Denied(refusal) => answer = Answer::Refused(refusal),
         Verdict::Granted => {
             let moving = next.moving;
             let shut = packets_end::closed(job, in_error, moving, place);
@@ -235,9 +227,7 @@ pub fn take(lists: Lists, place: u8, assignment: Assignment) -> Acted
     let last = next.jobs[i];
     let state = last.state;
     match verdicts::of_take(state, place) {
-        Verdict::Denied(refusal) => {
-            answer = Answer::Refused(refusal);
-        }
+        Verdict::Denied(refusal) => answer = Answer::Refused(refusal),
         Verdict::Granted => {
             let core = assignment.core;
             let job = packets_job::running(assignment.from, assignment.words, core);
@@ -269,9 +259,7 @@ pub fn mark(
     let channels = next.channels;
     let has = packets_channels::fitted_on(channels, channel);
     match verdicts::of_mark(has, channel, unit) {
-        Verdict::Denied(refusal) => {
-            answer = Answer::Refused(refusal);
-        }
+        Verdict::Denied(refusal) => answer = Answer::Refused(refusal),
         Verdict::Granted => {
             let units = next.units;
             let marked = after::with_mark(units, channel, unit, mark, on);

@@ -41,7 +41,7 @@ pub fn empty() -> RequestList
     }
 }
 
-// How many of its entries a list with this count has.
+// How many of its entries a list with this count has; none where they are over 256, which no list of the cell has.
 pub fn size_of(entries: &[u8], count: usize) -> usize
     ensures { λ r. ⌜ Sized (now (entries .entry)) count r ⌝ }
 {

@@ -1,36 +1,32 @@
 -- What the calls answer, by the tests that led there. Assumes nothing.
 use Prim.Native.Nat.{ℕ, _≤_, _<_}
 use mathlib.Core.Path.{_≡_, refl, sym, ap, _∙_}
-use mathlib.Core.Bool.{Bool, true, false, cond, not}
+use mathlib.Core.Bool.{Bool, true, false}
 use mathlib.Core.List.{List}
 use native.Mathlib.Omega.{arith}
 use lib.Dec.{leb}
 use lib.ListN.{length, getD}
 use borrow.Author.Tests.{lt-ltb, le-ltb, le-leb, lt-leb}
-use Rattle.numbers.proofs.Tests.{never}
 use Rattle.numbers.specs.declared.Refusal.the-variants.{NoSuchRequest, JobRuns}
-use Rattle.cards.specs.Errors.{good, errorIf, orElse}
-use Rattle.cards.proofs.ErrorLaws.{not-good, good-is}
-use Rattle.cards.specs.declared.CardError.the-variants.{InSchedule, SamePriority, SameSequence, ScheduleFull}
-use Rattle.cards.specs.declared.Verdict.{Verdict}
-use Rattle.cards.specs.declared.Verdict.the-variants.{Good, Wrong}
+use Rattle.cards.specs.Errors.{errorIf, orElse}
+use Rattle.cards.proofs.ErrorLaws.{not-good}
+use Rattle.cards.specs.declared.CardError.the-variants.{SamePriority, SameSequence, ScheduleFull}
+use Rattle.cards.specs.declared.Verdict.the-variants.{Good}
 use Rattle.cards.specs.declared.Request.{Request}
-use Rattle.schedule_entries.specs.Entries.{keyOf, sameKey, isNamed, suspended, active, firstState, blank}
+use Rattle.schedule_entries.specs.Entries.{keyOf, sameKey, suspended, active, blank}
 use Rattle.schedule_entries.specs.Questions.{answers}
 use Rattle.schedule_entries.specs.declared.State.{State}
 use Rattle.schedule_entries.specs.declared.State.the-variants.{Waiting, Suspended, Closing}
 use Rattle.schedule_entries.specs.declared.Entry.{Entry}
 use Rattle.schedule_entries.specs.declared.Query.{Query}
-use Rattle.schedule_list.specs.InSchedule.{most, inSchedule, scheduleOf, any, find, removed, there, withState, inserted, changedAt}
-use Rattle.schedule_list.specs.Queries.{first, without, insertedInto, ofId, ofPlace}
-use Rattle.schedule_list.proofs.InScheduleLaws.{in-of}
-use Rattle.schedule_list.proofs.IndexLaws.{first-by, removed-at}
+use Rattle.schedule_list.specs.InSchedule.{most, inSchedule, scheduleOf, any, there, withState, changedAt}
+use Rattle.schedule_list.specs.Queries.{first, without, ofId, ofPlace}
+use Rattle.schedule_list.proofs.IndexLaws.{first-by}
 use Rattle.schedule_list.specs.declared.Schedule.{Schedule}
-use Rattle.schedule.specs.Calls.{barred, sameThere, clashError, enterError, entered, enteringBy, entering, refused, done}
+use Rattle.schedule.specs.Calls.{sameThere, clashError, refused, done}
 use Rattle.schedule.specs.Calls.{released, deleted, closing, returned}
-use Rattle.schedule.specs.ByIndex.{ofName, ofJob, barredAt, releasedAt, deletedAt, returnedAt}
-use Rattle.schedule.proofs.ByIndexLaws.{barred-at, released-at, deleted-at, closing-at, returned-at}
-use Rattle.schedule.specs.declared.Entering.{Entering}
+use Rattle.schedule.specs.ByIndex.{ofName, ofJob, releasedAt, deletedAt, returnedAt}
+use Rattle.schedule.proofs.ByIndexLaws.{released-at, deleted-at, closing-at, returned-at}
 
 -- the index that was looked for
 pub named-index : (hs : List Entry) (id : List ℕ) {q : Query} {k : ℕ} → q ≡ ofId id → k ≡ first (answers (q .question) q) hs → k ≡ ofName id hs
@@ -63,10 +59,6 @@ module _ (hs : List Entry) (k : ℕ) {n : ℕ} (size : n ≡ length hs) where
   gone h = le-ltb k (length hs) (omega arith)
 
 module _ (s : Schedule) (k : ℕ) {n : ℕ} (size : n ≡ length (inSchedule s)) where
-  pub barred-no : n ≤ k → false ≡ barredAt k (inSchedule s)
-  unfolding barredAt
-  barred-no h = rw (gone (inSchedule s) k size h)
-
   pub release-none : n ≤ k → refused NoSuchRequest s ≡ releasedAt k s
   unfolding releasedAt
   release-none h = rw (gone (inSchedule s) k size h)
@@ -82,10 +74,6 @@ module _ (s : Schedule) (k : ℕ) {n : ℕ} (size : n ≡ length (inSchedule s))
   module _ (h : k < n) {e : Entry} (at : e ≡ getD (inSchedule s) k blank) where
     state-is : (f : State → Bool) {b t : Bool} → b ≡ f (e .state) → b ≡ t → f (getD (inSchedule s) k blank .state) ≡ t
     state-is f p q = ap (λ (x : Entry). f (x .state)) (sym at) ∙ sym p ∙ q
-
-    pub barred-is : {b : Bool} → b ≡ suspended (e .state) → not b ≡ barredAt k (inSchedule s)
-    unfolding barredAt
-    barred-is p = rw (here (inSchedule s) k size h, state-is suspended p refl)
 
     changed-is : (state : State) → changedAt k state s ≡ scheduleOf (withState k state (inSchedule s))
     unfolding changedAt
@@ -132,44 +120,3 @@ clash-clear es r e = by (sameThere es r) (any (λ e. sameKey (keyOf (e .request)
     by false true c e = not-good e
     by false false true e = not-good e
     by false false false e = (refl, refl)
-
--- entering, the request of the ID at k
-module _ (s : Schedule) (k : ℕ) (r : Request) (at : k ≡ ofName (r .id) (inSchedule s)) {b : Bool} (p : b ≡ barredAt k (inSchedule s)) where
-  bar : barred (find (isNamed (r .id)) (inSchedule s)) ≡ b
-  bar = sym (barred-at (r .id) (inSchedule s)) ∙ ap (λ (n : ℕ). barredAt n (inSchedule s)) (sym at) ∙ sym p
-
-  pub enter-barred : b ≡ true → record { verdict = Wrong InSchedule; schedule = s } ≡ entering s r
-  unfolding enterError
-  enter-barred q = rw (bar ∙ q)
-
-  module _ (q : b ≡ false) {rest : Schedule} (w : rest ≡ scheduleOf (without k (inSchedule s))) {v : Verdict} (c : v ≡ clashError (inSchedule rest) r) where
-    abbrev others : List Entry
-    others = removed (isNamed (r .id)) (inSchedule s)
-
-    rest-in : inSchedule rest ≡ others
-    rest-in =
-        ap inSchedule w ∙ in-of (without k (inSchedule s)) ∙ ap (λ (n : ℕ). without n (inSchedule s)) at
-        ∙ sym (removed-at (isNamed (r .id)) (inSchedule s))
-
-    clash-is : clashError others r ≡ v
-    clash-is = ap (λ (l : List Entry). clashError l r) (sym rest-in) ∙ sym c
-
-    error-is : enterError (inSchedule s) r ≡ v
-    unfolding enterError
-    error-is = rw (bar ∙ q, clash-is)
-
-    pub enter-clash : {g : Bool} → g ≡ good v → g ≡ false → record { verdict = v; schedule = s } ≡ entering s r
-    enter-clash i j = rw error-is (by v (sym i ∙ j))
-      where
-        by : (v : Verdict) → good v ≡ false → _≡_ {A = Entering} (record { verdict = v; schedule = s }) (enteringBy v s r)
-        by Good e = never refl e
-        by (Wrong x) e = refl
-
-    pub enter-good : {g : Bool} → g ≡ good v → g ≡ true → {e : Entry} → e ≡ record { request = r; state = firstState r } → {next : Schedule} → next ≡ insertedInto rest e
-        → record { verdict = Good; schedule = next } ≡ entering s r
-    unfolding insertedInto
-    enter-good i j {e} m {next} n =
-        let z : v ≡ Good = good-is v (sym i ∙ j) in
-        let room : leb most (length others) ≡ false = clash-clear others r (clash-is ∙ z) .1 in
-        let is : next ≡ scheduleOf (entered (inSchedule s) r) = n ∙ ap (λ (l : List Entry). cond (leb most (length l)) rest (scheduleOf (inserted e l))) rest-in ∙ rw (room, m) in
-        rw (error-is, z, is)

@@ -1,19 +1,17 @@
-// What the calls make of the schedule: a request enters, is released or deleted; its job is taken, closes, has
-// returned.
+// What the calls make of the schedule: what bars a request from entering, a request released or deleted; its job is
+// taken, closes, has returned.
 use cards::CardError;
-use cards::Request;
 use cards::Verdict;
 use numbers::Outcome;
 use numbers::Refusal;
-use schedule_entries::Question;
 use schedule_entries::State;
 use schedule_list::Schedule;
 ghost use mathlib.Core.Path.{_≡_};
-ghost use Rattle.schedule_list.specs.InSchedule.{inSchedule};
-ghost use Rattle.schedule.specs.Calls.{clashError, entering, released, deleted, taken, closing, returned, refused, done};
-ghost use Rattle.schedule.specs.ByIndex.{barredAt, clashBy};
+ghost use Rattle.schedule.specs.Calls.{released, deleted, taken, closing, returned, refused, done};
+ghost use Rattle.schedule.specs.ByIndex.{clashBy};
 
-// What entering a request answers: an error and the schedule as it was, or the schedule with the request.
+// What entering a request comes to: an error and the schedule as it was, or the schedule with the request. Decks are
+// entered in two steps, by an outline.
 pub struct Entering {
     pub verdict: Verdict,
     pub schedule: Schedule,
@@ -41,58 +39,6 @@ pub fn clash_by(ranked: bool, keyed: bool, sequence: u8, count: usize) -> Verdic
         return Verdict::Wrong(CardError::ScheduleFull);
     }
     Verdict::Good
-}
-
-// What bars a request from joining these.
-fn clash(others: Schedule, request: Request) -> Verdict
-    ensures { λ r. ⌜ r ≡ clashError (inSchedule others) request ⌝ }
-{
-    let n = schedule_list::size(others);
-    let of_rank = schedule_list::of_key(Question::Ranked, request);
-    let of_whole = schedule_list::of_key(Question::Keyed, request);
-    let ranked = schedule_list::first_of(others, of_rank) < n;
-    let keyed = schedule_list::first_of(others, of_whole) < n;
-    clash_by(ranked, keyed, request.sequence, n)
-}
-
-// Whether the request at an index, where there is one, is not suspended.
-fn is_barred(schedule: Schedule, k: usize) -> bool
-    ensures { λ r. ⌜ r ≡ barredAt k (inSchedule schedule) ⌝ }
-{
-    if k < schedule_list::size(schedule) {
-        let entry = schedule_list::entry_at(schedule, k);
-        let state = entry.state;
-        return !schedule_entries::is_suspended(state);
-    }
-    false
-}
-
-// An error, and the schedule as it was.
-fn not_entered(schedule: Schedule, verdict: Verdict) -> Entering
-    ensures { λ r. ⌜ r ≡ record { verdict = verdict; schedule = schedule } ⌝ }
-{
-    Entering { verdict, schedule }
-}
-
-// Enters a request, in the place of a suspended one of its ID, or answers the first of 26, 31, 90 and 91.
-pub fn enter(schedule: Schedule, request: Request) -> Entering
-    ensures { λ r. ⌜ r ≡ entering schedule request ⌝ }
-{
-    let id = request.id;
-    let k = schedule_list::first_of(schedule, schedule_list::of_id(id));
-    if is_barred(schedule, k) {
-        return not_entered(schedule, Verdict::Wrong(CardError::InSchedule));
-    }
-    let others = schedule_list::without(schedule, k);
-    let verdict = clash(others, request);
-    if !cards::is_good(verdict) {
-        return not_entered(schedule, verdict);
-    }
-    let next = schedule_list::inserted(others, schedule_entries::new_entry(request));
-    Entering {
-        verdict: Verdict::Good,
-        schedule: next,
-    }
 }
 
 // A refusal, and the schedule as it was.

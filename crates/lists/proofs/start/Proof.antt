@@ -1,5 +1,5 @@
--- `lists::start` meets its contract: the rules' outcome of a start. The invariant: none of the entries passed can start.
--- Assumes nothing.
+-- `lists::start` meets its contract: the rules' outcome of a start. The invariant: none of the entries passed can
+-- start. Assumes nothing.
 use Prim.Native.Nat.{_≤_, _<_, _-_}
 use mathlib.Core.Path.{_≡_, refl, ap, _∙_}
 use mathlib.Core.Logic.{⊎-elim}
@@ -57,12 +57,12 @@ loop-less c = search needs
 
 loop-again : tie.Need-loop-again Inv-loop μ-loop
 unfolding placeOf
-loop-again c = let a = c .before .before .before .before .before .before .before .before .before .before .before .before .before .before .before .args in
+loop-again c = let a = c .before .before .before .before .before .before .before .before .before .before .before .before .before .before .args in
     let l = c .before .before .before .before .before .before .before .before .loop in
     let e = getD (a .lists .list .entries) (l .k) 0 in
     let t : canStartAt (c .before .before .before .before .before .before .before .before .before .before .before .before .before .row-of .result) (a .lists .jobs) (a .channel .0) e ≡ c .before .can-start .result =
     rw (← c .before .before .before .entry-at .ensures) (starts-is (c .before .before .before .before .before .before .before .before .before .before .before .before .before .row-of .result) (a .lists .jobs) (a .channel .0) (c .before .before .before .entry-at .result) _ refl (c .before .can-start .result) (c .before .can-start .ensures)) in
-    search-on (a .lists) (a .channel .0) (c .before .before .before .before .before .before .before .before .before .before .before .before .before .row-of .result) (c .before .before .before .before .before .before .before .before .before .before .before .before .before .row-of .ensures) (entries (a .lists) _ (c .before .before .before .before .before .before .before .before .before .before .before .before .before .before .before .good .0)) (c .before .before .before .before .before .before .before .before .before .size-of .result) (c .before .before .before .before .before .before .before .before .before .size-of .ensures)
+    search-on (a .lists) (a .channel .0) (c .before .before .before .before .before .before .before .before .before .before .before .before .before .row-of .result) (c .before .before .before .before .before .before .before .before .before .before .before .before .before .row-of .ensures) (entries (a .lists) _ (c .before .before .before .before .before .before .before .before .before .before .before .before .before .before .good .0)) (c .before .before .before .before .before .before .before .before .before .size-of .result) (c .before .before .before .before .before .before .before .before .before .size-of .ensures)
     (l .k) (l .found) (l .inv) (c .before .before .before .before .before .before .before .loop-test .taken) (c .before .can-start .result) t (c .if1 .left)
 
 cast-c : tie.Need-cast-c Inv-loop μ-loop
@@ -127,8 +127,8 @@ element-set-from-busy c = search needs
 
 returns : tie.Need-returns Inv-loop μ-loop
 unfolding placeOf
-returns c = let a = c .before .before .before .before .before .before .before .before .before .before .before .before .before .before .before .args in
-    let full = entries (a .lists) _ (c .before .before .before .before .before .before .before .before .before .before .before .before .before .before .before .good .0) in
+returns c = let a = c .before .before .before .before .before .before .before .before .before .before .before .before .before .before .args in
+    let full = entries (a .lists) _ (c .before .before .before .before .before .before .before .before .before .before .before .before .before .before .good .0) in
     let l = c .before .before .before .before .before .before .before .before .loop in
     let f : c .before .before .before .before .before .before .before .loop-test .found ≡ foundOf (find (startableOn (a .lists .units .of) (a .lists .jobs) (a .channel .0)) (listOf (a .lists .list))) =
     ⊎-elim
@@ -142,8 +142,8 @@ returns c = let a = c .before .before .before .before .before .before .before .b
 
 returns-2 : tie.Need-returns-2 Inv-loop μ-loop
 unfolding placeOf packetOf
-returns-2 c = let a = c .before .before .before .before .before .before .before .before .before .before .before .before .before .before .before .before .before .before .before .before .before .before .before .args in
-    let full = entries (a .lists) _ (c .before .before .before .before .before .before .before .before .before .before .before .before .before .before .before .before .before .before .before .before .before .before .before .good .0) in
+returns-2 c = let a = c .before .before .before .before .before .before .before .before .before .before .before .before .before .before .before .before .before .before .before .before .before .before .args in
+    let full = entries (a .lists) _ (c .before .before .before .before .before .before .before .before .before .before .before .before .before .before .before .before .before .before .before .before .before .before .good .0) in
     let l = c .before .before .before .before .before .before .before .before .before .before .before .before .before .before .before .before .loop in
     let f : c .before .before .before .before .before .before .before .before .before .before .before .before .before .before .before .loop-test .found ≡ foundOf (find (startableOn (a .lists .units .of) (a .lists .jobs) (a .channel .0)) (listOf (a .lists .list))) =
     ⊎-elim
@@ -152,7 +152,7 @@ returns-2 c = let a = c .before .before .before .before .before .before .before 
     w .8 ∙ ap At e ∙ search-found (a .lists) (a .channel .0) (c .before .before .before .before .before .before .before .before .before .before .before .before .before .before .before .before .before .before .before .before .before .row-of .result) (c .before .before .before .before .before .before .before .before .before .before .before .before .before .before .before .before .before .before .before .before .before .row-of .ensures) full (c .before .before .before .before .before .before .before .before .before .before .before .before .before .before .before .before .before .size-of .result) (c .before .before .before .before .before .before .before .before .before .before .before .before .before .before .before .before .before .size-of .ensures) (l .k) (l .found) (l .inv) (w .0 .taken) (w .6 .result)
     (rw (← e) (starts-is (c .before .before .before .before .before .before .before .before .before .before .before .before .before .before .before .before .before .before .before .before .before .row-of .result) (a .lists .jobs) (a .channel .0) (w .4 .result) _ refl (w .6 .result) (w .6 .ensures))) (w .7 .taken))
     (c .before .before .before .before .before .before .before .before .before .before .before .before .before .before .before .loop-test .came) in
-    start-is (a .lists) (a .channel .0) (c .before .before .before .before .before .before .before .before .before .before .before .before .before .before .before .loop-test .found) f (places (a .lists) _ (c .before .before .before .before .before .before .before .before .before .before .before .before .before .before .before .before .before .before .before .before .before .before .before .good .0))
+    start-is (a .lists) (a .channel .0) (c .before .before .before .before .before .before .before .before .before .before .before .before .before .before .before .loop-test .found) f (places (a .lists) _ (c .before .before .before .before .before .before .before .before .before .before .before .before .before .before .before .before .before .before .before .before .before .before .good .0))
     (start-verdict (a .lists) (a .channel .0) (c .before .before .before .before .before .before .before .before .before .before .before .before .before .before .before .loop-test .found) f _ refl (c .before .before .before .before .before .before .before .before .before .before .before .of-start .result) (c .before .before .before .before .before .before .before .before .before .before .before .of-start .ensures) ∙ c .before .before .before .before .before .before .before .before .before .enum-told .given .1)
     (c .before .before .before .before .before .before .before .before .entry-of .result) (c .before .before .before .before .before .before .before .before .entry-of .ensures) (search needs) (c .before .before .before .before .before .begun .result) (c .before .before .before .before .before .begun .ensures) (c .before .before .before .before .before .before .started .result) (c .before .before .before .before .before .before .started .ensures) (c .before .relisted .result) (relisted-is (a .lists) full _ _ _ (c .before .relisted .ensures)) (c .busy-with .result) (c .busy-with .ensures)
 

@@ -1,6 +1,6 @@
-//! A night to time the shift program with: `mixed [CALLS [start]]` writes a script of that many calls (100,000), the same
-//! each time. The ordinary cell runs beside, so that nearly every call is accepted. With `start` it writes START alone,
-//! each refused.
+//! A night to time the shift program with: `mixed [CALLS [start]]` writes a script of that many calls (100,000), the
+//! same each time. The ordinary cell runs beside, so that nearly every call is accepted. With `start` it writes START
+//! alone, each refused.
 
 use std::io::{self, BufWriter, Write};
 
