@@ -1,7 +1,7 @@
 -- `packets_queue::relisted` meets its contract. The invariant: what stays of the entries passed stands first, and
 -- zeros follow. Assumes nothing.
 use Prim.Native.Nat.{_≤_, _<_, _-_}
-use mathlib.Core.Path.{_≡_, refl, sym, _∙_}
+use mathlib.Core.Path.{_≡_, sym, _∙_}
 use mathlib.Core.Logic.{⊎-elim}
 use native.Mathlib.Omega.{arith}
 use lib.ListN.{length, getD}

@@ -3,7 +3,6 @@ use native.Mathlib.Omega.{arith}
 use lib.ListN.{length}
 use borrow.Author.Tests.{le-ltb, lt-ltb}
 use Rattle.packets_queue.specs.Keeping.{sizeOf}
-use borrow.Author.Needs.{needs}
 use Rattle.packets_queue.proofs.size_of.Statement.{statement}
 use Rattle.packets_queue.proofs.size_of.Tie as tie
 
