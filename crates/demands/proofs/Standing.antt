@@ -18,7 +18,7 @@ use Rattle.schedule_list.specs.InSchedule.{find as findRequest, inSchedule}
 use Rattle.schedule_list.specs.declared.Schedule.{Schedule}
 use Rattle.schedule.specs.Calls.{deletedBy, releasedBy}
 use Rattle.schedule.specs.declared.Changed.{Changed}
-use Rattle.schedule_deck.specs.Reading.{Whole}
+use Rattle.text.specs.Room.{Whole}
 use Rattle.schedule_deck.specs.Report.{notesBy, outcomeBy, scheduleBy}
 use Rattle.packets.specs.Picks.{find}
 use Rattle.packets.specs.Rules as Rules

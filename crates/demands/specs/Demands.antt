@@ -38,7 +38,7 @@ use Rattle.schedule_entries.specs.Entries.{keyOf, precedes}
 use Rattle.schedule_list.specs.InSchedule.{entryAt, inSchedule}
 use Rattle.schedule.specs.Calls as Schedule
 use Rattle.schedule_deck.specs.Report.{deckNotes, deckSchedule}
-use Rattle.schedule_deck.specs.Reading.{Whole}
+use Rattle.text.specs.Room.{Whole}
 use Rattle.assign_drum.specs.Drum.{noArea}
 use Rattle.assign_heads.specs.Sums.{howMany}
 use Rattle.packets.specs.Codes.{statusAfter}

@@ -7,14 +7,14 @@ use mathlib.Core.Bool.{Bool, true, false, cond, _&&_}
 use mathlib.Core.List.{List, [], _∷_, _++_}
 use native.Mathlib.Omega.{arith}
 use lib.Dec.{eqb, leb}
-use lib.ListN.{length, getD, take, drop, length-append, length-drop}
-use lib.Seq.{sets-eq, take-at}
+use lib.ListN.{length, getD, drop, length-append, length-drop}
+use lib.Seq.{sets-eq}
 use Rattle.numbers.proofs.Tests.{by-bool}
 use Rattle.numbers.specs.Quoted.{bytes}
 use Rattle.numbers.specs.declared.Refusal.{Refusal}
 use Rattle.numbers.specs.declared.Refusal.the-variants.{BadDeck}
-use Rattle.text.specs.Room.{Written}
-use Rattle.text.proofs.RoomLaws.{fitted}
+use Rattle.text.specs.Room.{Written, Whole}
+use Rattle.text.proofs.RoomLaws.{entire}
 use Rattle.text.specs.Writing.{twoText, decimalText}
 use Rattle.text.proofs.Undo.{few-digits}
 use Rattle.cards_fields.specs.Fields.{field, isPty, spaceless, padded}
@@ -59,7 +59,7 @@ use Rattle.schedule_list.specs.declared.Schedule.{Schedule}
 use Rattle.schedule_orderly.specs.Orderly.{Each, requests}
 use Rattle.schedule_orderly.proofs.Reachable.{sound-empty}
 use Rattle.schedule_deck.specs.Report.{shownBy, formed, errorLine, requestLine, scheduleText, lastLine, begin, lineBy, lastBy, shownAt, triedAt, groupText, after, errorsFrom, endFrom, closingText, reportText, refusedText, deckGroups, textBy, deckText, notesText, notesBy, deckNotes}
-use Rattle.schedule_deck.specs.Reading.{Whole, Reported}
+use Rattle.schedule_deck.specs.Reading.{Reported}
 use Rattle.schedule_deck.proofs.DeckLaws.{sound-groups, each-groups}
 use Rattle.schedule_deck.specs.declared.Progress.{Progress}
 use Rattle.cards_fields.proofs.FieldLaws.{spaceless-short}
@@ -201,29 +201,6 @@ deck-notes-short schedule s = by (deckEnd s) refl
     by : (end : DeckEnd) → deckEnd s ≡ end → length (notesBy end schedule s) < deckRoom
     by (At n) e = notes-short schedule (deckGroups s) (deck-few s n e)
     by (Refused refusal) e = omega arith
-
--- what fits stands in the room whole, and every byte behind it is kept
-pub entire : {room p after· : List ℕ} {r : ℕ} → Written room 0 p after· r → length p ≤ length room → Whole p room after· r
-entire {room} {p} {after·} {r} w h =
-    let f = fitted w (omega arith) in
-    let k : 0 + length p ≡ r = omega (arith, f .0) in
-    record { ends = omega arith; bytes = f .1 ∙ ap (λ (n : ℕ). p ++ drop n room) k }
-
--- a text whole is within the room, and is the room's first bytes
-pub whole-within : {room p after· : List ℕ} {r : ℕ} → Whole p room after· r → r ≤ length after·
-whole-within {room} {p} {r = r} w = omega (arith, w .ends, ap length (w .bytes), length-append p (drop r room))
-
-pub whole-front : {room p after· : List ℕ} {r : ℕ} → Whole p room after· r → take r after· ≡ p
-whole-front {room} {p} {after·} {r} w = ap (take r) (w .bytes) ∙ take-at p (drop r room) r (sym (w .ends))
-
-pub whole-length : {room p after· : List ℕ} {r : ℕ} → Whole p room after· r → r ≡ length (take r after·)
-whole-length w = w .ends ∙ sym (ap length (whole-front w))
-
--- a text whole leaves one room and one length
-pub whole-one : {room p after₁ after₂ : List ℕ} {r₁ r₂ : ℕ} → Whole p room after₁ r₁ → Whole p room after₂ r₂ → (after₁ ≡ after₂) × (r₁ ≡ r₂)
-whole-one {room} {p} v w =
-    let e = v .ends ∙ sym (w .ends) in
-    (v .bytes ∙ ap (λ (n : ℕ). p ++ drop n room) e ∙ sym (w .bytes), e)
 
 module _ {room after· : List ℕ} {r : ℕ} (l : length room ≡ deckRoom) where
   pub reported : (s : List ℕ) → Written room 0 (deckText s) after· r → Reported s room after· r

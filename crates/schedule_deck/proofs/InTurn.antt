@@ -9,8 +9,8 @@ use native.Mathlib.Nat.{eq-zero-or-pos}
 use native.Mathlib.Omega.{arith}
 use lib.ListN.{length, getD, take, drop, length-take, length-drop, drop-of-length-le}
 use lib.Seq.{drop-drop, length-take-le}
-use Rattle.text.specs.Room.{Written}
-use Rattle.text.proofs.RoomLaws.{Going, start, turn, end, none, andThen}
+use Rattle.text.specs.Room.{Written, Whole}
+use Rattle.text.proofs.RoomLaws.{Going, start, turn, end, none, andThen, entire}
 use Rattle.cards_fields.proofs.FieldLaws.{rest-is}
 use Rattle.cards_fields.specs.Deck.{cardsOf, size, opens, ontoGroup, groupsOf, groupSize, deckEnd}
 use Rattle.cards_fields.proofs.Groups.{in-turn, deck-cards}
@@ -25,8 +25,8 @@ use Rattle.numbers.specs.declared.Outcome.the-variants as Outcomes
 use Rattle.schedule_deck.specs.Report.{scheduleText, begin, errorsFrom, endFrom, lastLine, closingText, reportText, refusedText, deckGroups, deckText, textBy, notesText, notesBy, scheduleBy, outcomeBy}
 use Rattle.schedule_deck.proofs.Few.{ends}
 use Rattle.schedule_deck.proofs.Pieces.{Read}
-use Rattle.schedule_deck.proofs.Bounds.{deckRoom, entire, noted-whole}
-use Rattle.schedule_deck.specs.Reading.{ReadAll, Noted, Whole, DeckEntered}
+use Rattle.schedule_deck.proofs.Bounds.{deckRoom, noted-whole}
+use Rattle.schedule_deck.specs.Reading.{ReadAll, Noted, DeckEntered}
 use Rattle.schedule_deck.specs.declared.Progress.{Progress}
 use Rattle.schedule_deck.specs.declared.Step.{Step}
 use Rattle.schedule_deck.specs.declared.Entered.{Entered}

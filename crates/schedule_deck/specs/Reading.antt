@@ -1,10 +1,10 @@
 -- What reading groups, and entering a deck, leave in lent room and answer.
 use mathlib.Core.Path.{_≡_}
-use mathlib.Core.List.{List, _++_}
+use mathlib.Core.List.{List}
 use Prim.Native.Nat.{ℕ}
-use lib.ListN.{length, drop}
 use Rattle.numbers.specs.declared.Outcome.the-variants.{Done}
 use Rattle.text.specs.Room as Room
+use Rattle.text.specs.Room.{Whole}
 use Rattle.schedule_list.specs.declared.Schedule.{Schedule}
 use Rattle.schedule_deck.specs.Report.{begin, errorsFrom, endFrom, notesText, deckText}
 use Rattle.schedule_deck.specs.Report.{deckNotes, deckSchedule, deckOutcome}
@@ -22,11 +22,6 @@ pub record Noted (room : List ℕ) (schedule : Schedule) (gs : List (List (List 
   pub done : r .outcome ≡ Done
   pub then : r .schedule ≡ endFrom (begin schedule) gs .schedule
   pub text : Room.Written room 0 (notesText schedule gs) after· (r .at)
-
--- a text that stands in the room whole: it has r bytes, they are the room's first, and every byte behind them is kept
-pub record Whole (text room after· : List ℕ) (r : ℕ) : Type 0 where
-  pub ends : r ≡ length text
-  pub bytes : after· ≡ text ++ drop r room
 
 -- A DECK REPORTED: what the deck program prints
 pub record Reported (s room after· : List ℕ) (r : ℕ) : Type 0 where

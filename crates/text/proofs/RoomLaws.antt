@@ -7,8 +7,8 @@ use mathlib.Core.Logic.{⊎-elim}
 use native.Mathlib.Nat.{eq-zero-or-pos}
 use native.Mathlib.Omega.{arith}
 use lib.ListN.{length, take, drop, set, length-append}
-use lib.Seq.{sets, length-sets, sets-eq, set-out, length-take-le}
-use Rattle.text.specs.Room.{reach, Written}
+use lib.Seq.{sets, length-sets, sets-eq, set-out, length-take-le, take-at}
+use Rattle.text.specs.Room.{reach, Written, Whole}
 
 sets-sets : (s : List ℕ) (at : ℕ) (p q : List ℕ) → sets (sets s at p) (at + length p) q ≡ sets s at (p ++ q)
 sets-sets s at [] q = ap (λ (k : ℕ). sets s k q) (omega arith)
@@ -73,3 +73,26 @@ fitted {s} {t} {p} {a} {b} w h = (omega (arith, w .reached), w .bytes ∙ sets-e
 -- room
 pub written-length : {s t p : List ℕ} {b : ℕ} → Written s 0 p t b → b ≡ length (take b t)
 written-length {s} {t} {p} {b} w = let h : b ≤ length t = omega (arith, same-room w, w .reached) in sym (length-take-le b t h)
+
+-- what fits stands in the room whole, and every byte behind it is kept
+pub entire : {room p after· : List ℕ} {r : ℕ} → Written room 0 p after· r → length p ≤ length room → Whole p room after· r
+entire {room} {p} {after·} {r} w h =
+    let f = fitted w (omega arith) in
+    let k : 0 + length p ≡ r = omega (arith, f .0) in
+    record { ends = omega arith; bytes = f .1 ∙ ap (λ (n : ℕ). p ++ drop n room) k }
+
+-- a text whole is within the room, and is the room's first bytes
+pub whole-within : {room p after· : List ℕ} {r : ℕ} → Whole p room after· r → r ≤ length after·
+whole-within {room} {p} {r = r} w = omega (arith, w .ends, ap length (w .bytes), length-append p (drop r room))
+
+pub whole-front : {room p after· : List ℕ} {r : ℕ} → Whole p room after· r → take r after· ≡ p
+whole-front {room} {p} {after·} {r} w = ap (take r) (w .bytes) ∙ take-at p (drop r room) r (sym (w .ends))
+
+pub whole-length : {room p after· : List ℕ} {r : ℕ} → Whole p room after· r → r ≡ length (take r after·)
+whole-length w = w .ends ∙ sym (ap length (whole-front w))
+
+-- a text whole leaves one room and one length
+pub whole-one : {room p after₁ after₂ : List ℕ} {r₁ r₂ : ℕ} → Whole p room after₁ r₁ → Whole p room after₂ r₂ → (after₁ ≡ after₂) × (r₁ ≡ r₂)
+whole-one {room} {p} v w =
+    let e = v .ends ∙ sym (w .ends) in
+    (v .bytes ∙ ap (λ (n : ℕ). p ++ drop n room) e ∙ sym (w .bytes), e)

@@ -1,5 +1,5 @@
 -- `cases_deck::agrees` is safe: what is compared is what the report put. Assumes nothing.
-use Rattle.schedule_deck.proofs.Bounds.{whole-within, whole-length}
+use Rattle.text.proofs.RoomLaws.{whole-within, whole-length}
 use borrow.Author.Needs.{needs}
 use Rattle.cases_deck.proofs.agrees.Statement.{statement}
 use Rattle.cases_deck.proofs.agrees.Tie as tie

@@ -1,5 +1,5 @@
 -- `deck::main` meets its contract: what it writes is what the report put. Assumes nothing.
-use Rattle.schedule_deck.proofs.Bounds.{whole-within, whole-length}
+use Rattle.text.proofs.RoomLaws.{whole-within, whole-length}
 use borrow.Author.Needs.{needs}
 use Rattle.deck.proofs.main.Statement.{statement}
 use Rattle.deck.proofs.main.Tie as tie
