@@ -10,8 +10,8 @@ use Rattle.numbers.specs.declared.ChannelNumber.{ChannelNumber}
 use Rattle.numbers.specs.declared.UnitNumber.{UnitNumber}
 use Rattle.units.specs.declared.Mark.the-variants as Mark′
 use Rattle.packets.specs.declared.How.the-variants.{Full, Cut, Failed}
-use Rattle.shift_words.specs.declared.Base.the-variants.{Decimal, Octal}
-use Rattle.shift_words.specs.Forms.{wordsOf, numberIn, fitting, idOf}
+use Rattle.line_words.specs.declared.Base.the-variants.{Decimal, Octal}
+use Rattle.line_words.specs.Forms.{wordsOf, numberIn, fitting, idOf}
 use Rattle.shift_script.specs.declared.Submission.{Submission}
 use Rattle.shift_script.specs.declared.Line.{Line}
 use Rattle.shift_script.specs.declared.Line.the-variants.{NoCall, Echo, Deck, Select, Board, Submit, Start, Complete}

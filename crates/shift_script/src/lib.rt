@@ -2,12 +2,12 @@
 use numbers::ChannelNumber;
 use numbers::UnitNumber;
 use packets::How;
-use shift_words::Base;
+use line_words::Base;
 use units::Mark;
 ghost use mathlib.Core.Path.{_≡_};
 ghost use Prim.Native.Nat.{min};
 ghost use lib.ListN.{drop};
-ghost use Rattle.shift_words.specs.Forms.{wordsOf};
+ghost use Rattle.line_words.specs.Forms.{wordsOf};
 ghost use Rattle.shift_script.specs.Script.{said, named, smallAt, codeAt, channelAt, unitAt, submissionOf};
 ghost use Rattle.shift_script.specs.Script.{isEcho, sayBy, table, lineSays};
 
@@ -62,7 +62,7 @@ fn naming(line: &[u8], call: Line) -> Said
 {
     Said {
         line: call,
-        id: shift_words::id_at(line, 1),
+        id: line_words::id_at(line, 1),
     }
 }
 
@@ -81,14 +81,14 @@ fn small(n: u32) -> u8
 fn small_at(line: &[u8], k: usize) -> u8
     ensures { λ r. ⌜ r ≡ smallAt k (wordsOf (now (line .entry))) ⌝ }
 {
-    small(shift_words::number_at(Base::Decimal, line, k))
+    small(line_words::number_at(Base::Decimal, line, k))
 }
 
 // The function or failure code that word k writes.
 fn code_at(line: &[u8], k: usize) -> u8
     ensures { λ r. ⌜ r ≡ codeAt k (wordsOf (now (line .entry))) ⌝ }
 {
-    small(shift_words::number_at(Base::Octal, line, k))
+    small(line_words::number_at(Base::Octal, line, k))
 }
 
 // The channel of a line that names it first.
@@ -114,7 +114,7 @@ fn submitted(line: &[u8], to: u32) -> Submission
         packet: small_at(line, 2),
         function: code_at(line, 3),
         channel: ChannelNumber(small_at(line, 4)),
-        at: shift_words::number_at(Base::Decimal, line, 5),
+        at: line_words::number_at(Base::Decimal, line, 5),
         to,
     }
 }
@@ -123,16 +123,16 @@ fn submitted(line: &[u8], to: u32) -> Submission
 fn on_requests(line: &[u8]) -> Said
     ensures { λ r. ⌜ r ≡ sayBy (drop 14 table) (wordsOf (now (line .entry))) ⌝ }
 {
-    if shift_words::fits(line, b"RELEASE id") {
+    if line_words::fits(line, b"RELEASE id") {
         return naming(line, Line::Release);
     }
-    if shift_words::fits(line, b"DELETE id") {
+    if line_words::fits(line, b"DELETE id") {
         return naming(line, Line::Delete);
     }
-    if shift_words::fits(line, b"STATUS p k") {
+    if line_words::fits(line, b"STATUS p k") {
         return plain(Line::Status(small_at(line, 1), small_at(line, 2)));
     }
-    if shift_words::fits(line, b"BOARD") {
+    if line_words::fits(line, b"BOARD") {
         return plain(Line::Board);
     }
     plain(Line::NoCall)
@@ -142,22 +142,22 @@ fn on_requests(line: &[u8]) -> Said
 fn on_units(line: &[u8]) -> Said
     ensures { λ r. ⌜ r ≡ sayBy (drop 8 table) (wordsOf (now (line .entry))) ⌝ }
 {
-    if shift_words::fits(line, b"END p") {
+    if line_words::fits(line, b"END p") {
         return plain(Line::End(small_at(line, 1), false));
     }
-    if shift_words::fits(line, b"ABORT p") {
+    if line_words::fits(line, b"ABORT p") {
         return plain(Line::End(small_at(line, 1), true));
     }
-    if shift_words::fits(line, b"DOWN cc uu") {
+    if line_words::fits(line, b"DOWN cc uu") {
         return plain(Line::Mark(channel_at(line), unit_at(line), Mark::Down, true));
     }
-    if shift_words::fits(line, b"UP cc uu") {
+    if line_words::fits(line, b"UP cc uu") {
         return plain(Line::Mark(channel_at(line), unit_at(line), Mark::Down, false));
     }
-    if shift_words::fits(line, b"RESERVE cc uu") {
+    if line_words::fits(line, b"RESERVE cc uu") {
         return plain(Line::Mark(channel_at(line), unit_at(line), Mark::Reserved, true));
     }
-    if shift_words::fits(line, b"UNRESERVE cc uu") {
+    if line_words::fits(line, b"UNRESERVE cc uu") {
         return plain(Line::Mark(channel_at(line), unit_at(line), Mark::Reserved, false));
     }
     on_requests(line)
@@ -167,29 +167,29 @@ fn on_units(line: &[u8]) -> Said
 fn on_packets(line: &[u8]) -> Said
     ensures { λ r. ⌜ r ≡ sayBy table (wordsOf (now (line .entry))) ⌝ }
 {
-    if shift_words::fits(line, b"DECK") {
+    if line_words::fits(line, b"DECK") {
         return plain(Line::Deck);
     }
-    if shift_words::fits(line, b"SELECT") {
+    if line_words::fits(line, b"SELECT") {
         return plain(Line::Select);
     }
-    if shift_words::fits(line, b"SUBMIT p k ff cc x") {
+    if line_words::fits(line, b"SUBMIT p k ff cc x") {
         return plain(Line::Submit(submitted(line, 0)));
     }
-    if shift_words::fits(line, b"SUBMIT p k ff cc x h") {
-        let to = shift_words::number_at(Base::Decimal, line, 6);
+    if line_words::fits(line, b"SUBMIT p k ff cc x h") {
+        let to = line_words::number_at(Base::Decimal, line, 6);
         return plain(Line::Submit(submitted(line, to)));
     }
-    if shift_words::fits(line, b"START cc") {
+    if line_words::fits(line, b"START cc") {
         return plain(Line::Start(channel_at(line)));
     }
-    if shift_words::fits(line, b"DONE cc") {
+    if line_words::fits(line, b"DONE cc") {
         return plain(Line::Complete(channel_at(line), How::Full));
     }
-    if shift_words::fits(line, b"CUT cc") {
+    if line_words::fits(line, b"CUT cc") {
         return plain(Line::Complete(channel_at(line), How::Cut));
     }
-    if shift_words::fits(line, b"FAIL cc ff") {
+    if line_words::fits(line, b"FAIL cc ff") {
         return plain(Line::Complete(channel_at(line), How::Failed(code_at(line, 2))));
     }
     on_units(line)

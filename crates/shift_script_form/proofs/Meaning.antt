@@ -16,9 +16,9 @@ use Rattle.words.specs.Words.{every, isnt}
 use Rattle.cards_fields.specs.Fields.{padded}
 use Rattle.units.specs.declared.Mark.the-variants as Mark′
 use Rattle.packets.specs.declared.How.the-variants.{Full, Cut, Failed}
-use Rattle.shift_words.specs.declared.Base.the-variants.{Decimal, Octal}
-use Rattle.shift_words.specs.Forms.{wordsOf, idOf}
-use Rattle.shift_words.proofs.FormLaws.{id-long, id-short}
+use Rattle.line_words.specs.declared.Base.the-variants.{Decimal, Octal}
+use Rattle.line_words.specs.Forms.{wordsOf, idOf}
+use Rattle.line_words.proofs.FormLaws.{id-long, id-short}
 use Rattle.shift_script.specs.declared.Line.{Line}
 use Rattle.shift_script.specs.declared.Line.the-variants.{NoCall, Echo, Deck, Select, Board, Submit, Start, Complete, End, Mark, Release, Delete, Status}
 use Rattle.shift_script.specs.declared.Said.{Said}

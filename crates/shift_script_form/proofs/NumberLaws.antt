@@ -13,11 +13,11 @@ use Rattle.numbers.proofs.Tests.{by-bool, both}
 use Rattle.text.specs.Class.{isDigit}
 use Rattle.text.proofs.ClassLaws.{digit-bounds}
 use Rattle.words.specs.Words.{every, has, isnt}
-use Rattle.shift_words.specs.declared.Base.{Base}
-use Rattle.shift_words.specs.declared.Base.the-variants.{Decimal, Octal}
-use Rattle.shift_words.specs.Forms.{digits, isNumber, valueIn, baseOf, numberIn}
+use Rattle.line_words.specs.declared.Base.{Base}
+use Rattle.line_words.specs.declared.Base.the-variants.{Decimal, Octal}
+use Rattle.line_words.specs.Forms.{digits, isNumber, valueIn, baseOf, numberIn}
 use Rattle.words.proofs.WordLaws.{every-weaker}
-use Rattle.shift_words.proofs.FormLaws.{number-is, number-value}
+use Rattle.line_words.proofs.FormLaws.{number-is, number-value}
 use Rattle.shift_script_form.specs.Written.{digitsIn, numberText}
 use Rattle.shift_script_form.proofs.SpacedLaws.{Plain}
 

@@ -11,8 +11,8 @@ use Rattle.numbers.specs.Quoted.{bytes}
 use Rattle.text.specs.Class.{isLetter}
 use Rattle.units.specs.declared.Mark.the-variants as Mark′
 use Rattle.packets.specs.declared.How.the-variants.{Full, Cut, Failed}
-use Rattle.shift_words.specs.declared.Base.the-variants.{Decimal, Octal}
-use Rattle.shift_words.specs.Forms.{wordsOf, wordFits, fitting, idOf}
+use Rattle.line_words.specs.declared.Base.the-variants.{Decimal, Octal}
+use Rattle.line_words.specs.Forms.{wordsOf, wordFits, fitting, idOf}
 use Rattle.shift_script.specs.declared.Submission.{Submission}
 use Rattle.shift_script.specs.declared.Line.the-variants.{Deck, Select, Board, Submit, Start, Complete, End, Mark, Release, Delete, Status}
 use Rattle.shift_script.specs.declared.Said.{Said}

@@ -11,7 +11,7 @@ use borrow.Author.Tests.{eqb-true, not-true}
 use Rattle.numbers.proofs.Tests.{by-bool, both}
 use Rattle.words.specs.Words.{every, isnt}
 use Rattle.cards_fields.specs.Fields.{onto}
-use Rattle.shift_words.specs.Forms.{wordsOf}
+use Rattle.line_words.specs.Forms.{wordsOf}
 use Rattle.shift_script_form.specs.Written.{spaced}
 
 -- no space in a text

@@ -13,8 +13,8 @@ use Rattle.numbers.proofs.Tests.{by-bool, never, both}
 use Rattle.text.specs.Class.{isLetter}
 use Rattle.words.specs.Words.{same}
 use Rattle.words.proofs.WordLaws.{same-self, same-equal}
-use Rattle.shift_words.specs.Forms.{wordsOf, wordFits, fitting}
-use Rattle.shift_words.proofs.FormLaws.{fits-itself}
+use Rattle.line_words.specs.Forms.{wordsOf, wordFits, fitting}
+use Rattle.line_words.proofs.FormLaws.{fits-itself}
 use Rattle.shift_script.specs.declared.Line.the-variants.{NoCall}
 use Rattle.shift_script.specs.declared.Said.{Said}
 use Rattle.shift_script.specs.Script.{said, Row, table, sayBy}

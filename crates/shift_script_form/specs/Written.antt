@@ -9,9 +9,9 @@ use Rattle.numbers.specs.Quoted.{byte, bytes}
 use Rattle.words.specs.Words.{every, isnt}
 use Rattle.units.specs.declared.Mark.the-variants as Mark′
 use Rattle.packets.specs.declared.How.the-variants.{Full, Cut, Failed}
-use Rattle.shift_words.specs.declared.Base.{Base}
-use Rattle.shift_words.specs.declared.Base.the-variants.{Decimal, Octal}
-use Rattle.shift_words.specs.Forms.{baseOf, idOf}
+use Rattle.line_words.specs.declared.Base.{Base}
+use Rattle.line_words.specs.declared.Base.the-variants.{Decimal, Octal}
+use Rattle.line_words.specs.Forms.{baseOf, idOf}
 use Rattle.shift_script.specs.declared.Line.{Line}
 use Rattle.shift_script.specs.declared.Line.the-variants.{NoCall, Echo, Deck, Select, Board, Submit, Start, Complete}
 use Rattle.shift_script.specs.declared.Line.the-variants.{End, Mark, Release, Delete, Status}

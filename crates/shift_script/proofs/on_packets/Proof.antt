@@ -2,7 +2,7 @@
 -- Assumes nothing.
 use Prim.Native.Nat.{ℕ}
 use mathlib.Core.Path.{sym, ap, ap₂, _∙_}
-use Rattle.shift_words.specs.Forms.{wordsOf}
+use Rattle.line_words.specs.Forms.{wordsOf}
 use Rattle.numbers.specs.declared.ChannelNumber.{ChannelNumber}
 use Rattle.packets.specs.declared.How.the-variants.{Full, Cut, Failed}
 use Rattle.shift_script.specs.Script.{submissionOf, said, sayBy, table}

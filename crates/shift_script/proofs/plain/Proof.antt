@@ -1,6 +1,6 @@
 -- `shift_script::plain` meets its contract: six blanks are no ID. Assumes nothing.
 use mathlib.Core.Path.{refl}
-use Rattle.shift_words.specs.Forms.{idOf}
+use Rattle.line_words.specs.Forms.{idOf}
 use Rattle.shift_script.proofs.plain.Statement.{statement}
 use Rattle.shift_script.proofs.plain.Tie as tie
 

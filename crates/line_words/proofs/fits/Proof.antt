@@ -1,15 +1,15 @@
--- `shift_words::fits` meets its contract. The loop's invariant: the words passed fit, so those from `at` and `on` on
+-- `line_words::fits` meets its contract. The loop's invariant: the words passed fit, so those from `at` and `on` on
 -- tell. Assumes nothing.
 use Prim.Native.Nat.{_≤_, _-_}
 use mathlib.Core.Path.{_≡_, sym, _∙_}
 use native.Mathlib.Omega.{arith}
 use lib.ListN.{length, drop}
 use borrow.Author.Tests.{not-true, not-false}
-use Rattle.shift_words.proofs.SplitLaws.{fit-not, fit-last, fit-short, fit-more, word}
-use Rattle.shift_words.specs.Forms.{wordsOf, fitting}
+use Rattle.line_words.proofs.SplitLaws.{fit-not, fit-last, fit-short, fit-more, word}
+use Rattle.line_words.specs.Forms.{wordsOf, fitting}
 use borrow.Author.Needs.{needs}
-use Rattle.shift_words.proofs.fits.Statement.{statement}
-use Rattle.shift_words.proofs.fits.Tie as tie
+use Rattle.line_words.proofs.fits.Statement.{statement}
+use Rattle.line_words.proofs.fits.Tie as tie
 
 abbrev Inv-loop : tie.InvT-loop
 Inv-loop line form at₀ on₀ at on = ((at ≤ length line) × (on ≤ length form)) × (fitting (wordsOf (drop on form)) (wordsOf (drop at line)) ≡ fitting (wordsOf form) (wordsOf line))

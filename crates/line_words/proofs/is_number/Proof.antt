@@ -1,12 +1,12 @@
--- `shift_words::is_number` meets its contract: too short, too long, or its digits tell. Assumes nothing.
+-- `line_words::is_number` meets its contract: too short, too long, or its digits tell. Assumes nothing.
 use mathlib.Core.Path.{sym, ap, _∙_}
 use Rattle.words.specs.Words.{every, has}
-use Rattle.shift_words.specs.Forms.{digits}
-use Rattle.shift_words.specs.declared.Base.{Base}
-use Rattle.shift_words.proofs.FormLaws.{number-short, number-long, number-digits}
+use Rattle.line_words.specs.Forms.{digits}
+use Rattle.line_words.specs.declared.Base.{Base}
+use Rattle.line_words.proofs.FormLaws.{number-short, number-long, number-digits}
 use borrow.Author.Needs.{needs}
-use Rattle.shift_words.proofs.is_number.Statement.{statement}
-use Rattle.shift_words.proofs.is_number.Tie as tie
+use Rattle.line_words.proofs.is_number.Statement.{statement}
+use Rattle.line_words.proofs.is_number.Tie as tie
 
 returns : tie.Need-returns
 returns c = sym (number-short (c .before .before .args .base) (c .before .before .args .word .now) (c .if1 .taken))

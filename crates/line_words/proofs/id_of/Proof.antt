@@ -1,4 +1,4 @@
--- `shift_words::padded` meets its contract. The loop's invariant: the first i bytes of the word, and blanks. Assumes
+-- `line_words::id_of` meets its contract. The loop's invariant: the first i bytes of the word, and blanks. Assumes
 -- nothing.
 use Prim.Native.Nat.{_≤_, _-_}
 use mathlib.Core.Path.{_≡_, sym, ap, _∙_}
@@ -6,10 +6,10 @@ use native.Mathlib.Omega.{arith}
 use lib.Seq.{take-all}
 use lib.ListN.{length, take}
 use Rattle.cards_fields.specs.Fields.{padded}
-use Rattle.shift_words.proofs.FormLaws.{id-long, id-short, id-step}
+use Rattle.line_words.proofs.FormLaws.{id-long, id-short, id-step}
 use borrow.Author.Needs.{needs}
-use Rattle.shift_words.proofs.padded.Statement.{statement}
-use Rattle.shift_words.proofs.padded.Tie as tie
+use Rattle.line_words.proofs.id_of.Statement.{statement}
+use Rattle.line_words.proofs.id_of.Tie as tie
 
 abbrev Inv-loop : tie.InvT-loop
 Inv-loop word id₀ i₀ id i = ((i ≤ length word) × (length word ≤ 6)) × (id ≡ padded 6 (take i word))
@@ -41,8 +41,8 @@ loop-again c = ((omega arith, omega arith), rw (c .before .before .loop .inv .1)
 returns-2 : tie.Need-returns-2 Inv-loop μ-loop
 returns-2 c = c .before .loop .inv .1 ∙ ap (padded 6) (take-all (c .before .loop .i) (c .before .before .before .args .word .now) (c .loop-test .left)) ∙ sym (id-short (c .before .before .before .args .word .now) (c .before .before .if1 .left))
 
-pub padded-spec : {M : Type 1} → statement M
-padded-spec =
+pub id-of-spec : {M : Type 1} → statement M
+id-of-spec =
     tie.close
     (tie.spec
     Inv-loop

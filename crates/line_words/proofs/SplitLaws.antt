@@ -15,7 +15,7 @@ use Rattle.words.proofs.WordLaws.{leading-front, leading-most}
 use Rattle.cards_fields.specs.Fields.{onto}
 use Rattle.cards_fields.proofs.FieldLaws.{rest-is}
 use Rattle.cards_fields.proofs.DeckLaws.{part-is}
-use Rattle.shift_words.specs.Forms.{wordsOf, wordFits, fitting}
+use Rattle.line_words.specs.Forms.{wordsOf, wordFits, fitting}
 
 abbrev pub lead : List ℕ → List ℕ
 lead s = leading (isnt 32) s

@@ -1,15 +1,15 @@
--- `shift_words::value_of` meets its contract. The loop's invariant: n is the number of the first i digits, below ten
+-- `line_words::value_of` meets its contract. The loop's invariant: n is the number of the first i digits, below ten
 -- to their count. Assumes nothing.
 use Prim.Native.Nat.{_≤_, _<_, _-_}
 use mathlib.Core.Path.{_≡_, sym, _∙_}
 use native.Mathlib.Omega.{arith}
 use lib.ListN.{getD, length, drop}
 use Rattle.words.proofs.WordLaws.{tens}
-use Rattle.shift_words.proofs.FormLaws.{value-small, digit-at, tens-nine, value-step, value-end, times}
-use Rattle.shift_words.specs.Forms.{valueIn}
+use Rattle.line_words.proofs.FormLaws.{value-small, digit-at, tens-nine, value-step, value-end, times}
+use Rattle.line_words.specs.Forms.{valueIn}
 use borrow.Author.Needs.{needs}
-use Rattle.shift_words.proofs.value_of.Statement.{statement}
-use Rattle.shift_words.proofs.value_of.Tie as tie
+use Rattle.line_words.proofs.value_of.Statement.{statement}
+use Rattle.line_words.proofs.value_of.Tie as tie
 
 abbrev Inv-loop : tie.InvT-loop
 Inv-loop base word n₀ i₀ n i = ((i ≤ length word) × (n < tens i)) × (valueIn base n (drop i word) ≡ valueIn base 0 word)

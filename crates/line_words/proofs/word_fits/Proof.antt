@@ -1,10 +1,10 @@
--- `shift_words::word_fits` meets its contract: each answer by the tests that led there. Assumes nothing.
+-- `line_words::word_fits` meets its contract: each answer by the tests that led there. Assumes nothing.
 use mathlib.Core.Path.{sym, ap, _∙_}
 use Rattle.text.specs.Class.{isLetter}
-use Rattle.shift_words.proofs.FormLaws.{fits-itself, fits-octal, fits-id, fits-decimal}
+use Rattle.line_words.proofs.FormLaws.{fits-itself, fits-octal, fits-id, fits-decimal}
 use borrow.Author.Needs.{needs}
-use Rattle.shift_words.proofs.word_fits.Statement.{statement}
-use Rattle.shift_words.proofs.word_fits.Tie as tie
+use Rattle.line_words.proofs.word_fits.Statement.{statement}
+use Rattle.line_words.proofs.word_fits.Tie as tie
 
 byte-at-requires : tie.Need-byte-at-requires
 byte-at-requires c κs = search needs

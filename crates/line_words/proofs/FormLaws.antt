@@ -17,9 +17,9 @@ use Rattle.words.specs.Words.{every, has, same}
 use Rattle.words.proofs.WordLaws.{drop-step, every-weaker, tens}
 use Rattle.cards_fields.specs.Fields.{padded}
 use Rattle.cards_fields.proofs.FieldLaws.{set-padded}
-use Rattle.shift_words.specs.Forms.{digits, isNumber, valueIn, baseOf, numberIn, wordFits, idOf}
-use Rattle.shift_words.specs.declared.Base.{Base}
-use Rattle.shift_words.specs.declared.Base.the-variants.{Decimal, Octal}
+use Rattle.line_words.specs.Forms.{digits, isNumber, valueIn, baseOf, numberIn, wordFits, idOf}
+use Rattle.line_words.specs.declared.Base.{Base}
+use Rattle.line_words.specs.declared.Base.the-variants.{Decimal, Octal}
 
 -- a byte of a text whose bytes all pass a test passes it
 has-passes : (p : ℕ → Bool) (l : List ℕ) (b : ℕ) → every p l ≡ true → has l b ≡ true → p b ≡ true

@@ -1,15 +1,15 @@
--- `shift_words::word_at` meets its contract. The loop's invariant: the word that is asked for is the one at `left` of
+-- `line_words::word_at` meets its contract. The loop's invariant: the word that is asked for is the one at `left` of
 -- those from `at` on. Assumes nothing.
 use Prim.Native.Nat.{_≤_, _-_}
 use mathlib.Core.Path.{_≡_, _∙_}
 use mathlib.Core.List.{[]}
 use native.Mathlib.Omega.{arith}
 use lib.ListN.{length, drop, getD}
-use Rattle.shift_words.proofs.SplitLaws.{at-here, at-none, at-later, word}
-use Rattle.shift_words.specs.Forms.{wordsOf}
+use Rattle.line_words.proofs.SplitLaws.{at-here, at-none, at-later, word}
+use Rattle.line_words.specs.Forms.{wordsOf}
 use borrow.Author.Needs.{needs}
-use Rattle.shift_words.proofs.word_at.Statement.{statement}
-use Rattle.shift_words.proofs.word_at.Tie as tie
+use Rattle.line_words.proofs.word_at.Statement.{statement}
+use Rattle.line_words.proofs.word_at.Tie as tie
 
 abbrev Inv-loop : tie.InvT-loop
 Inv-loop line k left₀ at₀ left at = (at ≤ length line) × (getD (wordsOf (drop at line)) left [] ≡ getD (wordsOf line) k [])

@@ -1,13 +1,13 @@
--- `shift_words::number_at` meets its contract: what the digits of the word write, or 0. Assumes nothing.
+-- `line_words::number_at` meets its contract: what the digits of the word write, or 0. Assumes nothing.
 use mathlib.Core.Path.{sym, ap, _∙_}
 use native.Mathlib.Omega.{arith}
 use borrow.Author.Tests.{not-true, not-false}
-use Rattle.shift_words.specs.Forms.{numberIn, baseOf, valueIn}
-use Rattle.shift_words.proofs.FormLaws.{number-is, number-value, no-number}
-use Rattle.shift_words.specs.declared.Base.{Base}
+use Rattle.line_words.specs.Forms.{numberIn, baseOf, valueIn}
+use Rattle.line_words.proofs.FormLaws.{number-is, number-value, no-number}
+use Rattle.line_words.specs.declared.Base.{Base}
 use borrow.Author.Needs.{needs}
-use Rattle.shift_words.proofs.number_at.Statement.{statement}
-use Rattle.shift_words.proofs.number_at.Tie as tie
+use Rattle.line_words.proofs.number_at.Statement.{statement}
+use Rattle.line_words.proofs.number_at.Tie as tie
 
 word-at-requires : tie.Need-word-at-requires
 word-at-requires c κs = search needs

@@ -6,7 +6,7 @@ ghost use Prim.Native.Nat.{_≤_};
 ghost use lib.ListN.{length, getD};
 ghost use Rattle.words.specs.Words.{every};
 ghost use Rattle.text.specs.Class.{isDigit};
-ghost use Rattle.shift_words.specs.Forms.{wordsOf, isNumber, valueIn, numberIn, wordFits, fitting, idOf};
+ghost use Rattle.line_words.specs.Forms.{wordsOf, isNumber, valueIn, numberIn, wordFits, fitting, idOf};
 
 // How a word writes a number: in decimal, or, where the script says `ff`, in octal.
 pub enum Base {
@@ -120,7 +120,7 @@ pub fn fits(line: &[u8], form: &[u8]) -> bool
 }
 
 // A word in the six bytes of an ID, blanks behind it; a longer word is no ID and leaves blanks alone.
-fn padded(word: &[u8]) -> [u8; 6]
+pub fn id_of(word: &[u8]) -> [u8; 6]
     ensures { λ r. ⌜ r ≡ idOf (now (word .entry)) ⌝ }
 {
     let mut id = [b' '; 6];
@@ -139,5 +139,5 @@ fn padded(word: &[u8]) -> [u8; 6]
 pub fn id_at(line: &[u8], k: usize) -> [u8; 6]
     ensures { λ r. ⌜ r ≡ idOf (getD (wordsOf (now (line .entry))) k []) ⌝ }
 {
-    padded(word_at(line, k))
+    id_of(word_at(line, k))
 }
