@@ -1,4 +1,4 @@
--- Document 01's table of refused calls: the number of each.
+-- Document 01's table of refused calls, and what the requests of document 02 add to it: the number of each.
 use Prim.Native.Nat.{ℕ}
 use Rattle.numbers.specs.declared.Refusal.{Refusal}
 use Rattle.numbers.specs.declared.Refusal.the-variants.{
@@ -18,6 +18,7 @@ use Rattle.numbers.specs.declared.Refusal.the-variants.{
   BadConfiguration,
   NoSuchRequest,
   JobRuns,
+  UnknownMessage,
 }
 
 abbrev pub numberOf : Refusal → ℕ
@@ -53,3 +54,5 @@ numberOf BadConfiguration = 14
 numberOf NoSuchRequest = 15
 -- delete: the job runs or closes
 numberOf JobRuns = 16
+-- unknown message word, or text after the last field (02, request 1)
+numberOf UnknownMessage = 17

@@ -27,7 +27,7 @@ pub enum Coded {
     Unknown,
 }
 
-// Why a call is refused, in the order of document 01's table.
+// Why a call is refused, in the order of document 01's table and of the requests after it.
 pub enum Refusal {
     OutOfRange,
     NoJob,
@@ -45,6 +45,7 @@ pub enum Refusal {
     BadConfiguration,
     NoSuchRequest,
     JobRuns,
+    UnknownMessage,
 }
 
 // How a call that answers nothing else ends: it was done, or refused.
@@ -136,5 +137,6 @@ pub fn number_of(refusal: Refusal) -> u8
         Refusal::BadConfiguration => 14,
         Refusal::NoSuchRequest => 15,
         Refusal::JobRuns => 16,
+        Refusal::UnknownMessage => 17,
     }
 }
