@@ -1,0 +1,100 @@
+-- `keyboard::word_at` meets its contract. The loop's invariant: the word that is asked for is the one at `left` of those
+-- from `at` on. Assumes nothing.
+use Prim.Native.Nat.{_≤_, _-_}
+use mathlib.Core.Path.{_≡_, _∙_}
+use mathlib.Core.List.{[]}
+use mathlib.Core.Logic.{⊎-elim}
+use native.Mathlib.Omega.{arith}
+use lib.ListN.{length, getD}
+use Rattle.line_words.proofs.SplitLaws.{word}
+use Rattle.keyboard.proofs.MessageLaws.{from, at-here, passed, passed-none, at-none, at-later}
+use Rattle.keyboard.specs.Messages.{messageWords}
+use borrow.Author.Needs.{needs}
+use Rattle.keyboard.proofs.word_at.Statement.{statement}
+use Rattle.keyboard.proofs.word_at.Tie as tie
+
+abbrev Inv-loop : tie.InvT-loop
+Inv-loop message k left₀ at₀ left at = (at ≤ length message) × (getD (from message at) left [] ≡ getD (messageWords message) k [])
+
+abbrev μ-loop : tie.MeasureT-loop
+μ-loop message k left₀ at₀ left at = length message - at
+
+loop-holds : tie.Need-loop-holds Inv-loop μ-loop
+unfolding messageWords
+loop-holds c = search needs
+
+sub-until : tie.Need-sub-until Inv-loop μ-loop
+sub-until c = search needs
+
+part-until-start : tie.Need-part-until-start Inv-loop μ-loop
+part-until-start c = search needs
+
+part-until-end : tie.Need-part-until-end Inv-loop μ-loop
+part-until-end c = search needs
+
+until-requires : tie.Need-until-requires Inv-loop μ-loop
+until-requires c κs = search needs
+
+add-end : tie.Need-add-end Inv-loop μ-loop
+add-end c = let w = (word (c .before .before .before .before .args .message .now) (c .before .before .loop .at) (c .before .before .loop .inv .0) (c .until .result) (c .until .ensures)) in omega arith
+
+sub-result : tie.Need-sub-result Inv-loop μ-loop
+sub-result c = search needs
+
+part-result-start : tie.Need-part-result-start Inv-loop μ-loop
+part-result-start c = search needs
+
+part-result-end : tie.Need-part-result-end Inv-loop μ-loop
+part-result-end c = let w = (word (c .before .before .before .before .before .before .args .message .now) (c .before .before .before .before .loop .at) (c .before .before .before .before .loop .inv .0) (c .before .before .until .result) (c .before .before .until .ensures)) in omega arith
+
+returns : tie.Need-returns Inv-loop μ-loop
+returns c = at-here (c .before .before .before .before .before .before .before .args .message .now) (c .before .before .before .before .before .loop .at) (c .before .before .before .until .result) (c .before .before .before .before .before .loop .left) (word (c .before .before .before .before .before .before .before .args .message .now) (c .before .before .before .before .before .loop .at) (c .before .before .before .before .before .loop .inv .0) (c .before .before .before .until .result) (c .before .before .before .until .ensures)) (c .before .before .if1 .taken) (c .before .if2 .taken) ∙ c .before .before .before .before .before .loop .inv .1
+
+sub-left : tie.Need-sub-left Inv-loop μ-loop
+sub-left c = search needs
+
+sub-result-2 : tie.Need-sub-result-2 Inv-loop μ-loop
+sub-result-2 c = search needs
+
+part-result-start-2 : tie.Need-part-result-start-2 Inv-loop μ-loop
+part-result-start-2 c = search needs
+
+part-result-end-2 : tie.Need-part-result-end-2 Inv-loop μ-loop
+part-result-end-2 c = search needs
+
+returns-2 : tie.Need-returns-2 Inv-loop μ-loop
+returns-2 c = let w = (word (c .before .before .before .before .before .before .before .args .message .now) (c .before .before .before .before .before .loop .at) (c .before .before .before .before .before .loop .inv .0) (c .before .before .before .until .result) (c .before .before .before .until .ensures)) in at-none (c .before .before .before .before .before .before .before .args .message .now) (c .before .before .before .before .before .loop .at) (c .before .before .before .until .result) (c .before .before .before .before .before .loop .left) w (c .before .before .if1 .left) (⊎-elim (λ q. passed (c .before .before .before .before .before .before .before .args .message .now) (c .before .before .before .before .before .loop .at) (c .before .before .before .until .result) (c .before .before .before .before .before .loop .left) w (c .before .before .if1 .left) (q .0 .taken) (q .1 .left) (q .2)) (λ q. passed-none (c .before .before .before .before .before .before .before .args .message .now) (c .before .before .before .before .before .loop .at) (c .before .before .before .until .result) (c .before .before .before .before .before .loop .left) w (c .before .before .if1 .left) (q .0 .left) (q .1)) (c .before .before .if1 .came)) (c .before .if3 .taken) ∙ c .before .before .before .before .before .loop .inv .1
+
+add-at : tie.Need-add-at Inv-loop μ-loop
+add-at c = let w = (word (c .before .before .before .before .before .before .args .message .now) (c .before .before .before .before .loop .at) (c .before .before .before .before .loop .inv .0) (c .before .before .until .result) (c .before .before .until .ensures)) in omega arith
+
+loop-less : tie.Need-loop-less Inv-loop μ-loop
+loop-less c = let w = (word (c .before .before .before .before .before .before .args .message .now) (c .before .before .before .before .loop .at) (c .before .before .before .before .loop .inv .0) (c .before .before .until .result) (c .before .before .until .ensures)) in omega arith
+
+loop-again : tie.Need-loop-again Inv-loop μ-loop
+loop-again c = let w = (word (c .before .before .before .before .before .before .args .message .now) (c .before .before .before .before .loop .at) (c .before .before .before .before .loop .inv .0) (c .before .before .until .result) (c .before .before .until .ensures)) in (omega arith, at-later (c .before .before .before .before .before .before .args .message .now) (c .before .before .before .before .loop .at) (c .before .before .until .result) (c .before .before .before .before .loop .left) w (c .before .if1 .left) (⊎-elim (λ q. passed (c .before .before .before .before .before .before .args .message .now) (c .before .before .before .before .loop .at) (c .before .before .until .result) (c .before .before .before .before .loop .left) w (c .before .if1 .left) (q .0 .taken) (q .1 .left) (q .2)) (λ q. passed-none (c .before .before .before .before .before .before .args .message .now) (c .before .before .before .before .loop .at) (c .before .before .until .result) (c .before .before .before .before .loop .left) w (c .before .if1 .left) (q .0 .left) (q .1)) (c .before .if1 .came)) (c .if3 .left) ∙ c .before .before .before .before .loop .inv .1)
+
+pub word-at-spec : {M : Type 1} → statement M
+word-at-spec =
+    tie.close
+    (tie.spec
+    Inv-loop
+    μ-loop
+    loop-holds
+    sub-until
+    part-until-start
+    part-until-end
+    until-requires
+    add-end
+    sub-result
+    part-result-start
+    part-result-end
+    returns
+    sub-left
+    sub-result-2
+    part-result-start-2
+    part-result-end-2
+    returns-2
+    add-at
+    loop-less
+    loop-again)
