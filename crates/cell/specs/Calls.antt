@@ -1,13 +1,15 @@
 -- Every call on the cell: what it answers, and what schedule and lists then hold. A reader has to believe this page;
--- it puts together the pages of the schedule's calls, of selection and of the request lists.
+-- it puts together the pages of the schedule's calls, of selection, of the request lists and of keyboard messages.
 use Prim.Native.Nat.{ℕ}
 use mathlib.Core.Path.{_≡_}
 use mathlib.Core.Bool.{Bool, true, false}
 use mathlib.Core.List.{List, []}
 use Rattle.numbers.specs.declared.Outcome.{Outcome}
 use Rattle.numbers.specs.declared.Outcome.the-variants as Outcomes
-use Rattle.numbers.specs.declared.Refusal.the-variants.{NothingSelected}
+use Rattle.numbers.specs.declared.Refusal.the-variants.{NothingSelected, UnknownMessage}
+use Rattle.text.specs.Room.{Whole}
 use Rattle.channels.specs.declared.Configuration.{Configuration}
+use Rattle.units.specs.declared.Mark.the-variants.{Down}
 use Rattle.configuration_units.specs.Fresh.{freshUnits}
 use Rattle.schedule_list.specs.InSchedule.{scheduleOf}
 use Rattle.schedule_list.specs.declared.Schedule.{Schedule}
@@ -23,10 +25,17 @@ use Rattle.packets.specs.declared.Leaving.the-variants.{AfterError, AfterNormal
 use Rattle.packets.specs.declared.Lists.{Lists}
 use Rattle.lists.specs.Outcomes.{listsOf, outcome, statusIn}
 use Rattle.lists.specs.declared.StatusAnswer.{StatusAnswer}
+use Rattle.keyboard.specs.Messages.{readMessage}
+use Rattle.keyboard.specs.declared.Asked.{Asked}
+use Rattle.keyboard.specs.declared.Asked.the-variants as Asked′
+use Rattle.keyboard_answers.specs.Answers.{answerText}
+use Rattle.keyboard_answers.specs.declared.Told.the-variants.{Said, Mistyped}
 use Rattle.cell_selection.specs.Selecting.{Takes}
 use Rattle.cell.specs.declared.Answered.{Answered}
 use Rattle.cell.specs.declared.Cell.{Cell}
 use Rattle.cell.specs.declared.DeckAnswer.{DeckAnswer}
+use Rattle.cell.specs.declared.Heeded.{Heeded}
+use Rattle.cell.specs.declared.KeyAnswer.{KeyAnswer}
 use Rattle.cell.specs.declared.SelectAnswer.{SelectAnswer}
 
 abbrev pub cellOf : Schedule → Lists → Cell
@@ -113,3 +122,24 @@ pub record SelectsIn (cell : Cell) (r : SelectAnswer) : Type 0 where
 -- READ A PACKET'S STATUS: what the request lists say; nothing changes
 abbrev pub statusOf : Cell → ℕ → ℕ → StatusAnswer
 statusOf cell place packet = statusIn (cell .lists) place packet
+
+-- ---- A KEYBOARD MESSAGE (02, request 1)
+
+-- told what a call answered, and its cell
+abbrev pub called : Answered → Heeded
+called a = record { told = Said (a .answer); cell = a .cell }
+
+-- "Each message does what the existing call does": `DWN` and `AVL` are MARK with the down mark, `SEL` is RELEASE, `DEL` is
+-- DELETE, of the ID beside. An unknown message is refused with 17, one with a fault in a field is told that, and neither
+-- changes anything
+abbrev pub heeded : Cell → Asked → List ℕ → Heeded
+heeded cell Asked′.Unknown id = record { told = Said (Refused UnknownMessage); cell = cell }
+heeded cell (Asked′.Wrong word fault) id = record { told = Mistyped fault; cell = cell }
+heeded cell (Asked′.Mark channel unit on) id = called (acted cell (Mark (channel .0) (unit .0) Down on))
+heeded cell Asked′.Release id = called (releasing cell id)
+heeded cell Asked′.Delete id = called (deleting cell id)
+
+-- KEY A MESSAGE: what it does, and its answer whole at the start of the lent room, every byte behind it kept
+pub record Keys (cell : Cell) (message room after· : List ℕ) (r : KeyAnswer) : Type 0 where
+  pub does : record { told = r .told; cell = r .cell } ≡ heeded cell (readMessage message .asks) (readMessage message .id)
+  pub text : Whole (answerText (readMessage message .asks) (r .told)) room after· (r .at)

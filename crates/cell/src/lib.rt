@@ -2,6 +2,8 @@
 // as their channels.
 use cell_selection::Selection;
 use channels::Configuration;
+use keyboard::Asked;
+use keyboard_answers::Told;
 use lists::StatusAnswer;
 use numbers::ChannelNumber;
 use numbers::Outcome;
@@ -17,7 +19,7 @@ use schedule_list::Schedule;
 ghost use mathlib.Core.Path.{_≡_};
 ghost use Rattle.packets.specs.Rules.{Submit, Start, Complete, End, Mark};
 ghost use Rattle.cell.specs.Calls.{freshCell, acted, leftBy, afterCompletion, afterEnd, releasing};
-ghost use Rattle.cell.specs.Calls.{deleting, answerOf, outcomeOf, statusOf, Enters, SelectsIn};
+ghost use Rattle.cell.specs.Calls.{deleting, answerOf, outcomeOf, statusOf, Enters, SelectsIn, called, heeded, Keys};
 
 pub struct Cell {
     pub schedule: Schedule,
@@ -41,6 +43,19 @@ pub struct DeckAnswer {
 pub struct SelectAnswer {
     pub outcome: Outcome,
     pub selection: Selection,
+    pub cell: Cell,
+}
+
+// What a keyboard message comes to: what the operator is told, and the cell then.
+pub struct Heeded {
+    pub told: Told,
+    pub cell: Cell,
+}
+
+// What is told of a keyboard message, where its text ends in the lent room, and the cell then.
+pub struct KeyAnswer {
+    pub told: Told,
+    pub at: usize,
     pub cell: Cell,
 }
 
@@ -272,4 +287,53 @@ pub fn status(cell: Cell, place: u8, packet: u8) -> StatusAnswer
 {
     let lists = cell.lists;
     lists::status(lists, place, packet)
+}
+
+// What a call answered, told to the operator, and its cell.
+fn called(answered: Answered) -> Heeded
+    ensures { λ r. ⌜ r ≡ called answered ⌝ }
+{
+    let answer = answered.answer;
+    let cell = answered.cell;
+    Heeded {
+        told: Told::Said(answer),
+        cell,
+    }
+}
+
+// Does what a message asks for; an unknown one, and one with a fault in a field, changes nothing.
+fn heed(cell: Cell, asks: Asked, id: [u8; 6]) -> Heeded
+    ensures { λ r. ⌜ r ≡ heeded cell asks id ⌝ }
+{
+    match asks {
+        Asked::Unknown => Heeded {
+            told: Told::Said(Answer::Refused(Refusal::UnknownMessage)),
+            cell,
+        },
+        Asked::Wrong(_, fault) => Heeded {
+            told: Told::Mistyped(fault),
+            cell,
+        },
+        Asked::Mark(channel, unit, on) => called(mark(cell, channel, unit, units::Mark::Down, on)),
+        Asked::Release => called(release(cell, id)),
+        Asked::Delete => called(delete(cell, id)),
+    }
+}
+
+// A keyboard message: it does what the call does that it is, and its answer is put into the lent room, which holds
+// every answer.
+pub fn key(cell: Cell, message: &[u8], out: &mut [u8; 12]) -> KeyAnswer
+    ensures { λ r. ⌜ Keys cell (now (message .entry)) (now (out .entry)) (now (out .exit)) r ⌝ }
+{
+    let read = keyboard::read(message);
+    let asks = read.asks;
+    let id = read.id;
+    let heeded = heed(cell, asks, id);
+    let told = heeded.told;
+    let after = heeded.cell;
+    KeyAnswer {
+        told,
+        at: keyboard_answers::put(out, asks, told),
+        cell: after,
+    }
 }

@@ -1,0 +1,24 @@
+-- `cell::key` meets its contract: what the message asks for is done, and its answer put. Assumes nothing.
+use mathlib.Core.Path.{ap, _∙_}
+use mathlib.Core.List.{List}
+use Prim.Native.Nat.{ℕ}
+use Rattle.keyboard.specs.declared.Message.{Message}
+use Rattle.cell.specs.Calls.{heeded}
+use borrow.Author.Needs.{needs}
+use Rattle.cell.proofs.key.Statement.{statement}
+use Rattle.cell.proofs.key.Tie as tie
+
+read-requires : tie.Need-read-requires
+read-requires c κs = search needs
+
+heed-requires : tie.Need-heed-requires
+heed-requires c κs = search needs
+
+put-requires : tie.Need-put-requires
+put-requires c κs = search needs
+
+returns : tie.Need-returns
+returns c = record { does = c .before .before .before .heed .ensures ∙ rw (c .before .before .before .before .before .read .ensures); text = rw (← c .before .before .before .before .before .read .ensures) (c .put .ensures) }
+
+pub key-spec : {M : Type 1} → statement M
+key-spec = tie.close (tie.spec read-requires heed-requires put-requires returns)
