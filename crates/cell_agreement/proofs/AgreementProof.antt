@@ -41,9 +41,10 @@ use Rattle.cell_selection.proofs.SelectingLaws.{taking-granted}
 use Rattle.cell_selection.specs.declared.Selection.{Selection}
 use Rattle.cell.specs.Calls.{acted, follows, freshCell}
 use Rattle.cell.specs.declared.Cell.{Cell}
+use Rattle.cell_history.proofs.MeantLaws.{Plain, by-meant}
 use Rattle.cell_history.proofs.HeardLaws.{does-heard}
 use Rattle.cell_history.specs.Heard.{heardOf, inside}
-use Rattle.cell_history.specs.History.{Call, Complete, Deck, Delete, Does, End, Event, Leads, Mark, Release, Reply, Select, Start, Status, Submit}
+use Rattle.cell_history.specs.History.{Call, Complete, Deck, Delete, Does, End, Event, Key, Leads, Mark, Release, Reply, Select, Start, Status, Submit}
 use Rattle.cell_agreement.specs.Agreement.{AgreesAlways, HasItsJob, standing}
 use Rattle.cell_agreement.proofs.PlaceLaws.{fresh-cell-inv, states-beyond}
 use Rattle.cell_agreement.proofs.ScheduleLaws.{kept-deck, kept-deleted, kept-released, put-taken, seen}
@@ -88,34 +89,39 @@ agree-acts c d x e same f A =
     ∙ agree-step (c .schedule) (inside c) A x same f j
     ∙ ap (λ (st : State). standing (stateIn (st .jobs) j) j) (sym (outcome-is (c .lists) x .1)))
 
-agree-does : (c d : Cell) (x : Call) (reply : Reply) → Does c x reply d → Inv (inside c) → AgreeIn c → AgreeIn d
-agree-does c d (Deck bytes) reply h I A =
+plain-agree : (c d : Cell) (x : Call) (reply : Reply) → Plain x → Does c x reply d → Inv (inside c) → AgreeIn c → AgreeIn d
+plain-agree c d (Deck bytes) reply p h I A =
     subst AgreeIn (sym (h .2 .1 .1 .1))
     (agree-kept (c .schedule) (h .2 .0 .cell .schedule) (inside c) (inside (h .2 .0 .cell))
     (λ j. ap (seen j) (h .2 .1 .0 .deck .then) ∙ kept-deck j (c .schedule) bytes) (λ j. rw (h .2 .1 .0 .lists)) A)
-agree-does c d Select reply h I A =
+plain-agree c d Select reply p h I A =
     let r = h .0 in
     subst AgreeIn (sym (h .1 .1 .1))
     (subst (λ (t : Schedule × Lists). Agree (t .0) (stateOf (t .1))) (sym (h .1 .0 .takes .leaves))
     (agree-select (c .schedule) (c .lists) I A (r .selection .found) (r .selection) (h .1 .0 .takes .selects)))
-agree-does c d (Submit place packet function channel spot) reply h I A =
+plain-agree c d (Submit place packet function channel spot) reply p h I A =
     agree-acts c d (Rules.Submit place packet function channel spot) (h .1) (λ n. refl) (λ r. agree-submit (c .schedule) (inside c) A place packet function channel spot) A
-agree-does c d (Start channel) reply h I A =
+plain-agree c d (Start channel) reply p h I A =
     agree-acts c d (Rules.Start channel) (h .1) (λ n. refl) (λ r. agree-start (c .schedule) (inside c) A channel) A
-agree-does c d (Complete channel how) reply h I A =
+plain-agree c d (Complete channel how) reply p h I A =
     agree-acts c d (Rules.Complete channel how) (h .1) (λ n. refl) (agree-complete (c .schedule) (inside c) A channel how) A
-agree-does c d (End place inError) reply h I A =
+plain-agree c d (End place inError) reply p h I A =
     agree-acts c d (Rules.End place inError) (h .1) (λ n. refl) (agree-end (c .schedule) (inside c) A place inError) A
-agree-does c d (Mark channel unit mark on) reply h I A =
+plain-agree c d (Mark channel unit mark on) reply p h I A =
     agree-acts c d (Rules.Mark channel unit mark on) (h .1) (λ n. refl)
     (λ r. agree-mark (c .schedule) (inside c) A (Rules.Mark channel unit mark on) (unfold accept in refl)) A
-agree-does c d (Release id) reply h I A =
+plain-agree c d (Release id) reply p h I A =
     subst AgreeIn (sym (h .1))
     (agree-kept (c .schedule) (Schedules.released (c .schedule) id .schedule) (inside c) (inside c) (λ j. kept-released j (c .schedule) id) (λ j. refl) A)
-agree-does c d (Delete id) reply h I A =
+plain-agree c d (Delete id) reply p h I A =
     subst AgreeIn (sym (h .1))
     (agree-kept (c .schedule) (Schedules.deleted (c .schedule) id .schedule) (inside c) (inside c) (λ j. kept-deleted j (c .schedule) id) (λ j. refl) A)
-agree-does c d (Status place packet) reply h I A = subst AgreeIn (sym (h .1)) A
+plain-agree c d (Status place packet) reply p h I A = subst AgreeIn (sym (h .1)) A
+plain-agree c d (Key message) reply p h I A = absurd p
+
+-- a message does what the call does that it is
+agree-does : (c d : Cell) (x : Call) (reply : Reply) → Does c x reply d → Inv (inside c) → AgreeIn c → AgreeIn d
+agree-does c d x reply h I A = by-meant (λ o. AgreeIn d) c d reply (λ e. subst AgreeIn (sym e) A) (λ y p k. plain-agree c d y reply p k I A) x h
 
 -- ---- a history
 

@@ -21,7 +21,8 @@ use Rattle.cell_selection.specs.Selecting as Selecting
 use Rattle.cell_selection.specs.declared.Selection.{Selection}
 use Rattle.cell.specs.Calls.{acted, afterCompletion, afterEnd, follows, freshCell, leftBy}
 use Rattle.cell.specs.declared.Cell.{Cell}
-use Rattle.cell_history.specs.History.{Call, Complete, Deck, Delete, Does, End, Event, Leads, Mark, Release, Reply, Select, Start, Status, Submit}
+use Rattle.cell_history.proofs.MeantLaws.{Plain, by-meant}
+use Rattle.cell_history.specs.History.{Call, Complete, Deck, Delete, Does, End, Event, Key, Leads, Mark, Release, Reply, Select, Start, Status, Submit}
 use Rattle.cell_agreement.specs.Agreement.{SoundAlways}
 
 -- ---- the calls on a schedule
@@ -86,21 +87,26 @@ sound-acts : (c d : Cell) (x : Rules.Call) → d ≡ acted c x .cell → SoundIn
 unfolding acted
 sound-acts c d x e h = subst SoundIn (sym e) (sound-follows (c .schedule) h x (outcome (c .lists) x .answer))
 
-sound-does : (c d : Cell) (x : Call) (reply : Reply) → Does c x reply d → SoundIn c → SoundIn d
-sound-does c d (Deck bytes) reply h s =
+plain-sound : (c d : Cell) (x : Call) (reply : Reply) → Plain x → Does c x reply d → SoundIn c → SoundIn d
+plain-sound c d (Deck bytes) reply p h s =
     subst SoundIn (sym (h .2 .1 .1 .1)) (subst (λ (t : Schedule). Sound t) (sym (h .2 .1 .0 .deck .then)) (sound-deck (c .schedule) bytes s))
-sound-does c d Select reply h s =
+plain-sound c d Select reply p h s =
     let r = h .0 in
     subst SoundIn (sym (h .1 .1 .1))
     (subst (λ (t : Schedule × Lists). Sound (t .0)) (sym (h .1 .0 .takes .leaves)) (sound-select (c .schedule) s (r .selection .found) (c .lists) (r .selection)))
-sound-does c d (Submit place packet function channel spot) reply h s = sound-acts c d (Rules.Submit place packet function channel spot) (h .1) s
-sound-does c d (Start channel) reply h s = sound-acts c d (Rules.Start channel) (h .1) s
-sound-does c d (Complete channel how) reply h s = sound-acts c d (Rules.Complete channel how) (h .1) s
-sound-does c d (End place inError) reply h s = sound-acts c d (Rules.End place inError) (h .1) s
-sound-does c d (Mark channel unit mark on) reply h s = sound-acts c d (Rules.Mark channel unit mark on) (h .1) s
-sound-does c d (Release id) reply h s = subst SoundIn (sym (h .1)) (sound-released (c .schedule) s id)
-sound-does c d (Delete id) reply h s = subst SoundIn (sym (h .1)) (sound-deleted (c .schedule) s id)
-sound-does c d (Status place packet) reply h s = subst SoundIn (sym (h .1)) s
+plain-sound c d (Submit place packet function channel spot) reply p h s = sound-acts c d (Rules.Submit place packet function channel spot) (h .1) s
+plain-sound c d (Start channel) reply p h s = sound-acts c d (Rules.Start channel) (h .1) s
+plain-sound c d (Complete channel how) reply p h s = sound-acts c d (Rules.Complete channel how) (h .1) s
+plain-sound c d (End place inError) reply p h s = sound-acts c d (Rules.End place inError) (h .1) s
+plain-sound c d (Mark channel unit mark on) reply p h s = sound-acts c d (Rules.Mark channel unit mark on) (h .1) s
+plain-sound c d (Release id) reply p h s = subst SoundIn (sym (h .1)) (sound-released (c .schedule) s id)
+plain-sound c d (Delete id) reply p h s = subst SoundIn (sym (h .1)) (sound-deleted (c .schedule) s id)
+plain-sound c d (Status place packet) reply p h s = subst SoundIn (sym (h .1)) s
+plain-sound c d (Key message) reply p h s = absurd p
+
+-- a message does what the call does that it is
+sound-does : (c d : Cell) (x : Call) (reply : Reply) → Does c x reply d → SoundIn c → SoundIn d
+sound-does c d x reply h s = by-meant (λ o. SoundIn d) c d reply (λ e. subst SoundIn (sym e) s) (λ y p k. plain-sound c d y reply p k s) x h
 
 sound-leads : (c d : Cell) (es : List Event) → Leads c es d → SoundIn c → SoundIn d
 sound-leads c d [] h s = subst SoundIn (sym h) s

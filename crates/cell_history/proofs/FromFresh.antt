@@ -45,12 +45,14 @@ chosen-is {o} {p} {s} {t} e = (ap outcome e, ap selection e)
     outcome (Reply.Entered a) = o
     outcome (Reply.Said a) = o
     outcome (Reply.Shown a) = o
+    outcome (Reply.Mistyped a) = o
 
     selection : Reply → Selection
     selection (Chosen a b) = b
     selection (Reply.Entered a) = s
     selection (Reply.Said a) = s
     selection (Reply.Shown a) = s
+    selection (Reply.Mistyped a) = s
 
 not-done : {n : Refusal} → Refused n ≡ Done → ⊥
 not-done {n} e = subst (λ (o : Outcome). is o) e tt

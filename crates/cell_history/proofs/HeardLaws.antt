@@ -14,8 +14,9 @@ use Rattle.cell_selection.specs.Selecting.{leftBy, takingOf}
 use Rattle.cell_selection.specs.declared.Selection.{Selection}
 use Rattle.cell.specs.Calls.{acted}
 use Rattle.cell.specs.declared.Cell.{Cell}
-use Rattle.cell_history.specs.History.{Call, Chosen, Complete, Deck, Delete, Does, End, Entered, Event, Leads, Mark, Release, Reply, Said, Select, Shown, Start, Status, Submit}
-use Rattle.cell_history.specs.Heard.{heardOf, heard, inside}
+use Rattle.cell_history.proofs.MeantLaws.{Plain, by-meant}
+use Rattle.cell_history.specs.History.{Call, Chosen, Complete, Deck, Delete, Does, End, Entered, Event, Key, Leads, Mark, Release, Reply, Said, Select, Shown, Start, Status, Submit}
+use Rattle.cell_history.specs.Heard.{heard, heardAs, heardBy, heardOf, inside}
 
 -- ---- one call
 
@@ -32,20 +33,27 @@ select-heard c selection schedule lists e =
     (λ t. rw t (ap (λ (x : Schedule × Lists). stateOf (x .1)) e ∙ rw t (outcome-is (c .lists) (takingOf selection) .1)))
     (λ t. rw t (ap (λ (x : Schedule × Lists). stateOf (x .1)) e ∙ rw t refl))
 
--- EACH CALL IS AT MOST ONE CALL OF THE LISTS
+-- each call that is no message is at most one call of the lists
+plain-heard : (c d : Cell) (x : Call) (reply : Reply) → Plain x → Does c x reply d → inside d ≡ Rules.run (inside c) (heardAs x reply)
+unfolding Rules.run
+plain-heard c d (Deck bytes) reply p h = ap inside (h .2 .1 .1 .1) ∙ ap stateOf (h .2 .1 .0 .lists)
+plain-heard c d Select reply p h =
+    rw (h .1 .1 .0) (ap inside (h .1 .1 .1) ∙ select-heard c (h .0 .selection) (h .0 .cell .schedule) (h .0 .cell .lists) (h .1 .0 .takes .leaves))
+plain-heard c d (Submit place packet function channel spot) reply p h = acts-heard c d (Rules.Submit place packet function channel spot) (h .1)
+plain-heard c d (Start channel) reply p h = acts-heard c d (Rules.Start channel) (h .1)
+plain-heard c d (Complete channel how) reply p h = acts-heard c d (Rules.Complete channel how) (h .1)
+plain-heard c d (End place inError) reply p h = acts-heard c d (Rules.End place inError) (h .1)
+plain-heard c d (Mark channel unit mark on) reply p h = acts-heard c d (Rules.Mark channel unit mark on) (h .1)
+plain-heard c d (Release id) reply p h = ap inside (h .1)
+plain-heard c d (Delete id) reply p h = ap inside (h .1)
+plain-heard c d (Status place packet) reply p h = ap inside (h .1)
+plain-heard c d (Key message) reply p h = absurd p
+
+-- EACH CALL IS AT MOST ONE CALL OF THE LISTS, and so is a message
 pub does-heard : (c d : Cell) (x : Call) (reply : Reply) → Does c x reply d → inside d ≡ Rules.run (inside c) (heardOf x reply)
 unfolding Rules.run
-does-heard c d (Deck bytes) reply h = ap inside (h .2 .1 .1 .1) ∙ ap stateOf (h .2 .1 .0 .lists)
-does-heard c d Select reply h =
-    rw (h .1 .1 .0) (ap inside (h .1 .1 .1) ∙ select-heard c (h .0 .selection) (h .0 .cell .schedule) (h .0 .cell .lists) (h .1 .0 .takes .leaves))
-does-heard c d (Submit place packet function channel spot) reply h = acts-heard c d (Rules.Submit place packet function channel spot) (h .1)
-does-heard c d (Start channel) reply h = acts-heard c d (Rules.Start channel) (h .1)
-does-heard c d (Complete channel how) reply h = acts-heard c d (Rules.Complete channel how) (h .1)
-does-heard c d (End place inError) reply h = acts-heard c d (Rules.End place inError) (h .1)
-does-heard c d (Mark channel unit mark on) reply h = acts-heard c d (Rules.Mark channel unit mark on) (h .1)
-does-heard c d (Release id) reply h = ap inside (h .1)
-does-heard c d (Delete id) reply h = ap inside (h .1)
-does-heard c d (Status place packet) reply h = ap inside (h .1)
+does-heard c d x reply h =
+    by-meant (λ o. inside d ≡ Rules.run (inside c) (heardBy o reply)) c d reply (ap inside) (λ y p k. plain-heard c d y reply p k) x h
 
 -- ---- a history
 

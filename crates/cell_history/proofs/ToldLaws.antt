@@ -21,8 +21,9 @@ use Rattle.cell_selection.specs.declared.Selection.{Selection}
 use Rattle.cell.specs.Calls.{acted, outcomeOf}
 use Rattle.cell.specs.declared.Cell.{Cell}
 use Rattle.cell_history.proofs.HeardLaws.{does-heard}
-use Rattle.cell_history.specs.Heard.{doneAs, heard, heardOf, inside, said, told, toldOf}
-use Rattle.cell_history.specs.History.{Call, Complete, Deck, Delete, Does, End, Event, Leads, Mark, Release, Reply, Said, Select, Start, Status, Submit}
+use Rattle.cell_history.proofs.MeantLaws.{Plain, by-meant}
+use Rattle.cell_history.specs.Heard.{doneAs, heard, heardAs, heardBy, heardOf, inside, said, told, toldAs, toldBy, toldOf}
+use Rattle.cell_history.specs.History.{Call, Complete, Deck, Delete, Does, End, Event, Key, Leads, Mark, Release, Reply, Said, Select, Start, Status, Submit}
 
 -- ---- one call
 
@@ -45,19 +46,26 @@ select-told c r o e h =
     rw (e, t) (ap (λ (a : Answer). record { call = takingOf r; answer = a } ∷ []) (sym (taking-done (inside c) r g))))
     (λ t. rw (e, t) refl)
 
+-- each call that is no message is told as the rules answer it
+plain-told : (c d : Cell) (x : Call) (reply : Reply) → Plain x → Does c x reply d → toldAs x reply ≡ events (inside c) (heardAs x reply)
+unfolding events
+plain-told c d (Deck bytes) reply p h = refl
+plain-told c d Select reply p h = rw (h .1 .1 .0) (select-told c (h .0 .selection) (h .0 .outcome) (h .1 .0 .outcome) (h .1 .0 .takes .selects))
+plain-told c d (Submit place packet function channel spot) reply p h = acts-told c (Rules.Submit place packet function channel spot) reply (h .0)
+plain-told c d (Start channel) reply p h = acts-told c (Rules.Start channel) reply (h .0)
+plain-told c d (Complete channel how) reply p h = acts-told c (Rules.Complete channel how) reply (h .0)
+plain-told c d (End place inError) reply p h = acts-told c (Rules.End place inError) reply (h .0)
+plain-told c d (Mark channel unit mark on) reply p h = acts-told c (Rules.Mark channel unit mark on) reply (h .0)
+plain-told c d (Release id) reply p h = refl
+plain-told c d (Delete id) reply p h = refl
+plain-told c d (Status place packet) reply p h = refl
+plain-told c d (Key message) reply p h = absurd p
+
 -- EACH CALL IS TOLD AS THE RULES ANSWER IT
 pub does-told : (c d : Cell) (x : Call) (reply : Reply) → Does c x reply d → toldOf x reply ≡ events (inside c) (heardOf x reply)
 unfolding events
-does-told c d (Deck bytes) reply h = refl
-does-told c d Select reply h = rw (h .1 .1 .0) (select-told c (h .0 .selection) (h .0 .outcome) (h .1 .0 .outcome) (h .1 .0 .takes .selects))
-does-told c d (Submit place packet function channel spot) reply h = acts-told c (Rules.Submit place packet function channel spot) reply (h .0)
-does-told c d (Start channel) reply h = acts-told c (Rules.Start channel) reply (h .0)
-does-told c d (Complete channel how) reply h = acts-told c (Rules.Complete channel how) reply (h .0)
-does-told c d (End place inError) reply h = acts-told c (Rules.End place inError) reply (h .0)
-does-told c d (Mark channel unit mark on) reply h = acts-told c (Rules.Mark channel unit mark on) reply (h .0)
-does-told c d (Release id) reply h = refl
-does-told c d (Delete id) reply h = refl
-does-told c d (Status place packet) reply h = refl
+does-told c d x reply h =
+    by-meant (λ o. toldBy o reply ≡ events (inside c) (heardBy o reply)) c d reply (λ e. refl) (λ y p k. plain-told c d y reply p k) x h
 
 -- ---- a history
 

@@ -1,8 +1,9 @@
--- What the request lists hear of a history of the cell: each call is at most one call of theirs, and a selection is
--- a taking. And what the caller was told: each of these calls with the answer that the history records. A reader
--- has to believe this page.
+-- What the request lists hear of a history of the cell: each call is at most one call of theirs, a selection is a
+-- taking, and a keyboard message is the call that it asks for. And what the caller was told: each of these calls with
+-- the answer that the history records. A reader has to believe this page.
 use mathlib.Core.Bool.{cond}
 use mathlib.Core.List.{List, [], _∷_, _++_}
+use mathlib.Core.Option.{Option, none, some}
 use Rattle.numbers.specs.declared.Outcome.{Outcome}
 use Rattle.numbers.specs.declared.Outcome.the-variants as Outcomes
 use Rattle.packets.specs.Demand as Told
@@ -22,7 +23,9 @@ use Rattle.cell_history.specs.History.{
   End,
   Entered,
   Event,
+  Key,
   Mark,
+  Mistyped,
   Release,
   Reply,
   Said,
@@ -31,6 +34,7 @@ use Rattle.cell_history.specs.History.{
   Start,
   Status,
   Submit,
+  meant,
 }
 
 -- the taking that a selection makes, if it selects
@@ -39,19 +43,30 @@ taken (Entered o) = []
 taken (Chosen o selection) = cond (selection .found) (takingOf selection ∷ []) []
 taken (Said a) = []
 taken (Shown s) = []
+taken (Mistyped f) = []
 
 -- the call of the lists, if it is one
+abbrev pub heardAs : Call → Reply → List Rules.Call
+heardAs (Deck bytes) reply = []
+heardAs Select reply = taken reply
+heardAs (Submit place packet function channel spot) reply = Rules.Submit place packet function channel spot ∷ []
+heardAs (Start channel) reply = Rules.Start channel ∷ []
+heardAs (Complete channel how) reply = Rules.Complete channel how ∷ []
+heardAs (End place inError) reply = Rules.End place inError ∷ []
+heardAs (Mark channel unit mark on) reply = Rules.Mark channel unit mark on ∷ []
+heardAs (Release id) reply = []
+heardAs (Delete id) reply = []
+heardAs (Status place packet) reply = []
+heardAs (Key message) reply = []
+
+-- of the call that is meant, if there is one
+abbrev pub heardBy : Option Call → Reply → List Rules.Call
+heardBy none reply = []
+heardBy (some x) reply = heardAs x reply
+
+-- a keyboard message is heard as the call that it is, and any other call as itself
 abbrev pub heardOf : Call → Reply → List Rules.Call
-heardOf (Deck bytes) reply = []
-heardOf Select reply = taken reply
-heardOf (Submit place packet function channel spot) reply = Rules.Submit place packet function channel spot ∷ []
-heardOf (Start channel) reply = Rules.Start channel ∷ []
-heardOf (Complete channel how) reply = Rules.Complete channel how ∷ []
-heardOf (End place inError) reply = Rules.End place inError ∷ []
-heardOf (Mark channel unit mark on) reply = Rules.Mark channel unit mark on ∷ []
-heardOf (Release id) reply = []
-heardOf (Delete id) reply = []
-heardOf (Status place packet) reply = []
+heardOf x reply = heardBy (meant x) reply
 
 -- what the lists hear of a history
 abbrev pub heard : List Event → List Rules.Call
@@ -66,6 +81,7 @@ said x (Entered o) = []
 said x (Chosen o selection) = []
 said x (Said a) = record { call = x; answer = a } ∷ []
 said x (Shown s) = []
+said x (Mistyped f) = []
 
 -- a selection that was answered Done is a taking that was done
 abbrev pub doneAs : Outcome → Selection → List Told.Event
@@ -77,18 +93,30 @@ chosen (Entered o) = []
 chosen (Chosen o selection) = doneAs o selection
 chosen (Said a) = []
 chosen (Shown s) = []
+chosen (Mistyped f) = []
 
+-- a call of the lists, or a selection
+abbrev pub toldAs : Call → Reply → List Told.Event
+toldAs (Deck bytes) reply = []
+toldAs Select reply = chosen reply
+toldAs (Submit place packet function channel spot) reply = said (Rules.Submit place packet function channel spot) reply
+toldAs (Start channel) reply = said (Rules.Start channel) reply
+toldAs (Complete channel how) reply = said (Rules.Complete channel how) reply
+toldAs (End place inError) reply = said (Rules.End place inError) reply
+toldAs (Mark channel unit mark on) reply = said (Rules.Mark channel unit mark on) reply
+toldAs (Release id) reply = []
+toldAs (Delete id) reply = []
+toldAs (Status place packet) reply = []
+toldAs (Key message) reply = []
+
+-- of the call that is meant, if there is one
+abbrev pub toldBy : Option Call → Reply → List Told.Event
+toldBy none reply = []
+toldBy (some x) reply = toldAs x reply
+
+-- a keyboard message is told as the call that it is, and any other call as itself
 abbrev pub toldOf : Call → Reply → List Told.Event
-toldOf (Deck bytes) reply = []
-toldOf Select reply = chosen reply
-toldOf (Submit place packet function channel spot) reply = said (Rules.Submit place packet function channel spot) reply
-toldOf (Start channel) reply = said (Rules.Start channel) reply
-toldOf (Complete channel how) reply = said (Rules.Complete channel how) reply
-toldOf (End place inError) reply = said (Rules.End place inError) reply
-toldOf (Mark channel unit mark on) reply = said (Rules.Mark channel unit mark on) reply
-toldOf (Release id) reply = []
-toldOf (Delete id) reply = []
-toldOf (Status place packet) reply = []
+toldOf x reply = toldBy (meant x) reply
 
 -- the calls on packets, jobs and marks, and the selections, of a history, with the replies that it records
 abbrev pub told : List Event → List Told.Event

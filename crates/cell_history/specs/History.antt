@@ -1,24 +1,33 @@
--- ANY SEQUENCE OF CALLS. A call of document 01 on the cell, what it answers, and what it leaves, each exactly as the
+-- ANY SEQUENCE OF CALLS. A call of documents 01 and 02 on the cell, what it answers, and what it leaves, each exactly as the
 -- contract of the public function of its name in `cell` gives it; and calls one after the other. A reader has to
--- believe this page. Of a deck's lent room it keeps no length: its contract has 53,248 bytes by type.
+-- believe this page. Of the room lent for a deck or a message it keeps no length: their contracts have it by type.
 use Prim.Native.Nat.{ℕ}
 use mathlib.Core.Path.{_≡_}
 use mathlib.Core.Bool.{Bool}
 use mathlib.Core.List.{List, [], _∷_}
+use mathlib.Core.Option.{Option, none, some}
 use Rattle.numbers.specs.declared.Outcome.{Outcome}
 use Rattle.units.specs.declared.Mark.{Mark as UnitMark}
+use Rattle.units.specs.declared.Mark.the-variants.{Down}
+use Rattle.keyboard.specs.Messages.{readMessage}
+use Rattle.keyboard.specs.declared.Asked.{Asked}
+use Rattle.keyboard.specs.declared.Asked.the-variants as Asked′
+use Rattle.keyboard.specs.declared.Fault.{Fault}
+use Rattle.keyboard_answers.specs.declared.Told.{Told}
+use Rattle.keyboard_answers.specs.declared.Told.the-variants as Told′
 use Rattle.packets.specs.Rules as Lists
 use Rattle.packets.specs.declared.Answer.{Answer}
 use Rattle.packets.specs.declared.How.{How}
 use Rattle.packets.specs.declared.Spot.{Spot}
 use Rattle.cell_selection.specs.declared.Selection.{Selection}
-use Rattle.cell.specs.Calls.{acted, deleting, releasing, statusOf, Enters, SelectsIn}
+use Rattle.cell.specs.Calls.{acted, deleting, releasing, statusOf, Enters, Keys, SelectsIn}
 use Rattle.cell.specs.declared.Cell.{Cell}
 use Rattle.cell.specs.declared.DeckAnswer.{DeckAnswer}
+use Rattle.cell.specs.declared.KeyAnswer.{KeyAnswer}
 use Rattle.cell.specs.declared.SelectAnswer.{SelectAnswer}
 use Rattle.lists.specs.declared.StatusAnswer.{StatusAnswer}
 
--- the calls, with what the caller hands over: for a deck its bytes
+-- the calls, with what the caller hands over: for a deck and for a keyboard message its bytes
 pub data Call : Type 0 where
   Deck : List ℕ → Call
   Select : Call
@@ -30,14 +39,21 @@ pub data Call : Type 0 where
   Release : List ℕ → Call
   Delete : List ℕ → Call
   Status : ℕ → ℕ → Call
+  Key : List ℕ → Call
 
--- what they answer: how a deck ended; what was selected; the answer of a packet, job, mark or schedule call; a
--- packet's status
+-- what they answer: how a deck ended; what was selected; the answer of a packet, job, mark or schedule call, typed or
+-- not; a packet's status; the fault of a keyboard message
 pub data Reply : Type 0 where
   Entered : Outcome → Reply
   Chosen : Outcome → Selection → Reply
   Said : Answer → Reply
   Shown : StatusAnswer → Reply
+  Mistyped : Fault → Reply
+
+-- what is told of a keyboard message, as a reply
+abbrev pub replyOf : Told → Reply
+replyOf (Told′.Said answer) = Said answer
+replyOf (Told′.Mistyped fault) = Mistyped fault
 
 -- a call on packets, jobs or marks
 abbrev pub Acts : Cell → Lists.Call → Reply → Cell → Type 0
@@ -56,6 +72,8 @@ Does c (Mark channel unit mark on) reply d = Acts c (Lists.Mark channel unit mar
 Does c (Release id) reply d = (reply ≡ Said (releasing c id .answer)) × (d ≡ releasing c id .cell)
 Does c (Delete id) reply d = (reply ≡ Said (deleting c id .answer)) × (d ≡ deleting c id .cell)
 Does c (Status place packet) reply d = (reply ≡ Shown (statusOf c place packet)) × (d ≡ c)
+Does c (Key message) reply d =
+    (room after : List ℕ) × ((r : KeyAnswer) × (Keys c message room after r × ((reply ≡ replyOf (r .told)) × (d ≡ r .cell))))
 
 -- a call with what it answered
 pub record Event : Type 0 where
@@ -66,3 +84,27 @@ pub record Event : Type 0 where
 abbrev pub Leads : Cell → List Event → Cell → Type 0
 Leads c [] d = d ≡ c
 Leads c (e ∷ es) d = (m : Cell) × (Does c (e .call) (e .reply) m × Leads m es d)
+
+-- ---- KEYBOARD MESSAGES AS CALLS
+
+-- the call that a message asks for, if it asks for one
+abbrev pub callOf : Asked → List ℕ → Option Call
+callOf Asked′.Unknown id = none
+callOf (Asked′.Wrong word fault) id = none
+callOf (Asked′.Mark channel unit on) id = some (Mark (channel .0) (unit .0) Down on)
+callOf Asked′.Release id = some (Release id)
+callOf Asked′.Delete id = some (Delete id)
+
+-- the call that is meant: of a message the one that it asks for, else the call itself
+abbrev pub meant : Call → Option Call
+meant (Deck bytes) = some (Deck bytes)
+meant Select = some Select
+meant (Submit place packet function channel spot) = some (Submit place packet function channel spot)
+meant (Start channel) = some (Start channel)
+meant (Complete channel how) = some (Complete channel how)
+meant (End place inError) = some (End place inError)
+meant (Mark channel unit mark on) = some (Mark channel unit mark on)
+meant (Release id) = some (Release id)
+meant (Delete id) = some (Delete id)
+meant (Status place packet) = some (Status place packet)
+meant (Key message) = callOf (readMessage message .asks) (readMessage message .id)

@@ -27,10 +27,11 @@ use Rattle.cell_selection.specs.declared.Selection.{Selection}
 use Rattle.cell.specs.Calls.{freshCell}
 use Rattle.cell.specs.declared.Cell.{Cell}
 use Rattle.cell_history.proofs.FromFresh.{fresh-inside, reached}
+use Rattle.cell_history.proofs.MeantLaws.{Plain, by-meant}
 use Rattle.cell_history.proofs.HeardLaws.{does-heard}
 use Rattle.cell_history.proofs.ToldLaws.{leads-told}
-use Rattle.cell_history.specs.Heard.{heard, heardOf, inside, told}
-use Rattle.cell_history.specs.History.{Call, Complete, Deck, Delete, Does, End, Event, Leads, Mark, Release, Reply, Select, Start, Status, Submit}
+use Rattle.cell_history.specs.Heard.{heard, heardAs, heardBy, heardOf, inside, told}
+use Rattle.cell_history.specs.History.{Call, Complete, Deck, Delete, Does, End, Event, Key, Leads, Mark, Release, Reply, Select, Start, Status, Submit}
 use Rattle.cell_reached.proofs.Fitting.{area-fits, core-fits, units-fit}
 use Rattle.cell_reached.specs.Reached.{Invariants}
 
@@ -61,18 +62,24 @@ module _ (P : State → Rules.Call → Type 0) (T : OfTakings P) where
       (λ t. rw t (T .selection c s (subst (λ (b : Bool). SelectsBy b (inSchedule (c .schedule)) (c .lists) s) t h), tt))
       (λ t. rw t tt)
 
+  plain-each : (c d : Cell) (x : Call) (reply : Reply) → Plain x → Does c x reply d → Each P (inside c) (heardAs x reply)
+  unfolding Each
+  plain-each c d (Deck bytes) reply p h = tt
+  plain-each c d Select reply p h = rw (h .1 .1 .0) (select-each c (h .0 .selection) (h .1 .0 .takes .selects))
+  plain-each c d (Submit j q f k w) reply p h = (T .submit (inside c) j q f k w, tt)
+  plain-each c d (Start k) reply p h = (T .start (inside c) k, tt)
+  plain-each c d (Complete k how) reply p h = (T .complete (inside c) k how, tt)
+  plain-each c d (End j e) reply p h = (T .end (inside c) j e, tt)
+  plain-each c d (Mark k u m on) reply p h = (T .mark (inside c) k u m on, tt)
+  plain-each c d (Release id) reply p h = tt
+  plain-each c d (Delete id) reply p h = tt
+  plain-each c d (Status j k) reply p h = tt
+  plain-each c d (Key message) reply p h = absurd p
+
+  -- a message is heard as the call that it is
   does-each : (c d : Cell) (x : Call) (reply : Reply) → Does c x reply d → Each P (inside c) (heardOf x reply)
   unfolding Each
-  does-each c d (Deck bytes) reply h = tt
-  does-each c d Select reply h = rw (h .1 .1 .0) (select-each c (h .0 .selection) (h .1 .0 .takes .selects))
-  does-each c d (Submit j p f k w) reply h = (T .submit (inside c) j p f k w, tt)
-  does-each c d (Start k) reply h = (T .start (inside c) k, tt)
-  does-each c d (Complete k how) reply h = (T .complete (inside c) k how, tt)
-  does-each c d (End j e) reply h = (T .end (inside c) j e, tt)
-  does-each c d (Mark k u m on) reply h = (T .mark (inside c) k u m on, tt)
-  does-each c d (Release id) reply h = tt
-  does-each c d (Delete id) reply h = tt
-  does-each c d (Status j p) reply h = tt
+  does-each c d x reply h = by-meant (λ o. Each P (inside c) (heardBy o reply)) c d reply (λ e. tt) (λ y p k. plain-each c d y reply p k) x h
 
   leads-each : (c d : Cell) (es : List Event) → Leads c es d → Each P (inside c) (heard es)
   unfolding Each

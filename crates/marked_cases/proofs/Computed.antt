@@ -33,11 +33,13 @@ use Rattle.cell_taken.specs.declared.FreePlace.the-variants.{At, Full}
 use Rattle.cell_selection.specs.Selecting.{Candidate, HasNone, NoFit, Picks, Selects, leftBy, noSelection, seenIn}
 use Rattle.cell_selection.specs.declared.Pick.{Pick}
 use Rattle.cell_selection.specs.declared.Selection.{Selection}
-use Rattle.cell.specs.Calls.{SelectsIn, acted, cellOf, deleting, outcomeOf, releasing, statusOf}
+use Rattle.keyboard.specs.Messages.{readMessage}
+use Rattle.cell.specs.Calls.{SelectsIn, acted, cellOf, deleting, heeded, outcomeOf, releasing, statusOf}
 use Rattle.cell.specs.declared.Cell.{Cell}
+use Rattle.cell.specs.declared.Heeded.{Heeded}
 use Rattle.cell.specs.declared.SelectAnswer.{SelectAnswer}
 use Rattle.cell_history.proofs.One.{selects-in-one}
-use Rattle.cell_history.specs.History.{Call, Chosen, Complete, Deck, Delete, Does, End, Entered, Mark, Release, Reply, Said, Select, Shown, Start, Status, Submit}
+use Rattle.cell_history.specs.History.{Call, Chosen, Complete, Deck, Delete, Does, End, Entered, Key, Mark, Release, Reply, Said, Select, Shown, Start, Status, Submit, replyOf as toldReply}
 
 -- ---- the first candidate with an assignment, of n from index k on
 
@@ -162,6 +164,7 @@ replyOf c (Mark k u m on) = Said (acted c (Rules.Mark k u m on) .answer)
 replyOf c (Release id) = Said (releasing c id .answer)
 replyOf c (Delete id) = Said (deleting c id .answer)
 replyOf c (Status j p) = Shown (statusOf c j p)
+replyOf c (Key message) = toldReply (heeded c (readMessage message .asks) (readMessage message .id) .told)
 
 abbrev pub cellAfter : Cell → Call → Cell
 cellAfter c (Deck bytes) = cellOf (deckSchedule (c .schedule) bytes) (c .lists)
@@ -174,6 +177,7 @@ cellAfter c (Mark k u m on) = acted c (Rules.Mark k u m on) .cell
 cellAfter c (Release id) = releasing c id .cell
 cellAfter c (Delete id) = deleting c id .cell
 cellAfter c (Status j p) = c
+cellAfter c (Key message) = heeded c (readMessage message .asks) (readMessage message .id) .cell
 
 -- WHATEVER THE CONTRACTS ALLOW IS WHAT IS COMPUTED
 pub does-computed : (c d : Cell) (x : Call) (reply : Reply) → sized c ≡ true → Does c x reply d → (reply ≡ replyOf c x) × (d ≡ cellAfter c x)
@@ -193,3 +197,6 @@ does-computed c d (Mark k u m on) reply s h = h
 does-computed c d (Release id) reply s h = h
 does-computed c d (Delete id) reply s h = h
 does-computed c d (Status j p) reply s h = h
+does-computed c d (Key message) reply s h =
+    let e = h .2 .1 .0 .does in
+    (h .2 .1 .1 .0 ∙ ap (λ (x : Heeded). toldReply (x .told)) e, h .2 .1 .1 .1 ∙ ap (λ (x : Heeded). x .cell) e)

@@ -37,6 +37,7 @@ use Rattle.cell.specs.Calls.{freshCell}
 use Rattle.cell.specs.declared.Cell.{Cell}
 use Rattle.lists.specs.declared.StatusAnswer.the-variants as StatusAnswers
 use Rattle.cell_history.specs.Heard.{inside}
+use Rattle.keyboard.specs.declared.Fault.{Fault}
 use Rattle.cell_history.specs.History.{Call, Chosen, Complete, Deck, Does, End, Entered, Reply, Said, Select, Start, Submit}
 
 -- ---- what is seen of a reply
@@ -48,6 +49,7 @@ pub data Seen : Type 0 where
   Refused : Refusal → Seen
   Given : (place ib db first last mt1 mt2 : ℕ) → Seen
   Answered : Answer → Seen
+  Faulty : Fault → Seen
 
 -- the row of MT
 abbrev pub mt : ℕ
@@ -70,6 +72,7 @@ seen (Chosen (Outcomes.Refused n) s) = Refused n
 seen (Said a) = Answered a
 seen (Reply.Shown (StatusAnswers.Is status)) = Accepted
 seen (Reply.Shown (StatusAnswers.Refused n)) = Refused n
+seen (Reply.Mistyped fault) = Faulty fault
 
 -- ---- the cases
 
