@@ -17,8 +17,9 @@ use Rattle.cell_selection.proofs.SelectingLaws.{taking-granted}
 use Rattle.cell_selection.specs.declared.Selection.{Selection}
 use Rattle.cell.specs.Calls.{acted}
 use Rattle.cell.specs.declared.Cell.{Cell}
+use Rattle.cell_history.proofs.MeantLaws.{Plain, by-meant}
 use Rattle.cell_history.proofs.HeardLaws.{does-heard}
-use Rattle.cell_history.specs.Heard.{heardOf, inside, taken}
+use Rattle.cell_history.specs.Heard.{heardAs, heardBy, heardOf, inside, taken}
 use Rattle.cell_history.specs.History.{Call, Does, Reply, Said, Select}
 use Rattle.demands.specs.Refusing.{refusalIn}
 use Rattle.demands.proofs.Numbers.{answers-by, ofVerdict}
@@ -47,17 +48,22 @@ module _ (c : Cell) (y : Rules.Call) where
       (taking-granted (c .schedule) (c .lists) s (subst (λ (b : Bool). SelectsBy b (inSchedule (c .schedule)) (c .lists) s) t w)))
       (λ t. absurd (not-cons (rw t at q)))
 
+plain-granted : (c d : Cell) (x : Call) (reply : Reply) → Plain x → Does c x reply d → refusalIn reply ≡ none → (y : Rules.Call) → heardAs x reply ≡ y ∷ [] → Rules.refusal (inside c) y ≡ Granted
+plain-granted c d (Call.Deck bytes) reply n h e y q = absurd (not-cons c y q)
+plain-granted c d Select reply n h e y q = taken-one c y (h .0 .selection) (h .1 .0 .takes .selects) (sym (ap taken (h .1 .1 .0)) ∙ q)
+plain-granted c d (Call.Submit j p f k w) reply n h e y q = alone c y (Rules.Submit j p f k w) reply (h .0) e q
+plain-granted c d (Call.Start k) reply n h e y q = alone c y (Rules.Start k) reply (h .0) e q
+plain-granted c d (Call.Complete k how) reply n h e y q = alone c y (Rules.Complete k how) reply (h .0) e q
+plain-granted c d (Call.End j b) reply n h e y q = alone c y (Rules.End j b) reply (h .0) e q
+plain-granted c d (Call.Mark k u m on) reply n h e y q = alone c y (Rules.Mark k u m on) reply (h .0) e q
+plain-granted c d (Call.Release id) reply n h e y q = absurd (not-cons c y q)
+plain-granted c d (Call.Delete id) reply n h e y q = absurd (not-cons c y q)
+plain-granted c d (Call.Status j p) reply n h e y q = absurd (not-cons c y q)
+plain-granted c d (Call.Key message) reply n h e y q = absurd n
+
 pub heard-granted : (c d : Cell) (x : Call) (reply : Reply) → Does c x reply d → refusalIn reply ≡ none → (y : Rules.Call) → heardOf x reply ≡ y ∷ [] → Rules.refusal (inside c) y ≡ Granted
-heard-granted c d (Call.Deck bytes) reply h e y q = absurd (not-cons c y q)
-heard-granted c d Select reply h e y q = taken-one c y (h .0 .selection) (h .1 .0 .takes .selects) (sym (ap taken (h .1 .1 .0)) ∙ q)
-heard-granted c d (Call.Submit j p f k w) reply h e y q = alone c y (Rules.Submit j p f k w) reply (h .0) e q
-heard-granted c d (Call.Start k) reply h e y q = alone c y (Rules.Start k) reply (h .0) e q
-heard-granted c d (Call.Complete k how) reply h e y q = alone c y (Rules.Complete k how) reply (h .0) e q
-heard-granted c d (Call.End j b) reply h e y q = alone c y (Rules.End j b) reply (h .0) e q
-heard-granted c d (Call.Mark k u m on) reply h e y q = alone c y (Rules.Mark k u m on) reply (h .0) e q
-heard-granted c d (Call.Release id) reply h e y q = absurd (not-cons c y q)
-heard-granted c d (Call.Delete id) reply h e y q = absurd (not-cons c y q)
-heard-granted c d (Call.Status j p) reply h e y q = absurd (not-cons c y q)
+heard-granted c d x reply h e y q =
+    by-meant (λ o. heardBy o reply ≡ y ∷ [] → Rules.refusal (inside c) y ≡ Granted) c d reply (λ s q. absurd (not-cons c y q)) (λ z n k q. plain-granted c d z reply n k e y q) x h q
 
 -- and the lists are then what the rules say
 pub accepted-is : (c d : Cell) (x : Call) (reply : Reply) → Does c x reply d → refusalIn reply ≡ none → (y : Rules.Call) → heardOf x reply ≡ y ∷ []

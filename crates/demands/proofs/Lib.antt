@@ -6,6 +6,8 @@ pub mod Accepted
 pub mod Places
 pub mod Marks
 pub mod Requests
+pub mod Typed
 pub mod Oldest
 pub mod Owning
+pub mod Named
 pub mod Proved

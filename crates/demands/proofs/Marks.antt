@@ -34,9 +34,10 @@ use Rattle.lists.proofs.History.{outcome-is}
 use Rattle.cell_selection.specs.Selecting.{takingOf}
 use Rattle.cell.specs.Calls.{acted, answerOf}
 use Rattle.cell.specs.declared.Cell.{Cell}
+use Rattle.cell_history.proofs.MeantLaws.{Plain, by-meant}
 use Rattle.cell_history.proofs.HeardLaws.{does-heard}
-use Rattle.cell_history.specs.Heard.{heardOf, inside, taken}
-use Rattle.cell_history.specs.History.{Call, Chosen, Complete, Deck, Delete, Does, End, Entered, Mark, Release, Reply, Said, Select, Shown, Start, Status, Submit}
+use Rattle.cell_history.specs.Heard.{heardAs, heardBy, heardOf, inside, taken}
+use Rattle.cell_history.specs.History.{Call, Chosen, Complete, Deck, Delete, Does, End, Entered, Key, Mark, Mistyped, Release, Reply, Said, Select, Shown, Start, Status, Submit, meant}
 use Rattle.demands.specs.Demands.{SameMarks}
 use Rattle.demands.specs.Refusing.{refusalIn}
 use Rattle.demands.proofs.Accepted.{heard-granted}
@@ -156,23 +157,26 @@ taken-unmarking (Entered o) = tt
 taken-unmarking (Chosen o s) = by-bool (s .found) (λ t. rw t (tt, tt)) (λ t. rw t tt)
 taken-unmarking (Said a) = tt
 taken-unmarking (Shown s) = tt
+taken-unmarking (Mistyped f) = tt
 
-heard-unmarking : (x : Call) (reply : Reply) → ((k u : ℕ) (m : UnitMark) (on : Bool) → x ≡ Mark k u m on → ⊥) → All Unmarking (heardOf x reply)
-heard-unmarking (Deck bytes) reply n = tt
-heard-unmarking Select reply n = taken-unmarking reply
-heard-unmarking (Submit j p f c w) reply n = (tt, tt)
-heard-unmarking (Start c) reply n = (tt, tt)
-heard-unmarking (Complete c how) reply n = (tt, tt)
-heard-unmarking (End j e) reply n = (tt, tt)
-heard-unmarking (Mark k u m on) reply n = absurd (n k u m on refl)
-heard-unmarking (Release id) reply n = tt
-heard-unmarking (Delete id) reply n = tt
-heard-unmarking (Status j p) reply n = tt
+heard-unmarking : (o : Option Call) (reply : Reply) → ((k u : ℕ) (m : UnitMark) (on : Bool) → o ≡ some (Mark k u m on) → ⊥) → All Unmarking (heardBy o reply)
+heard-unmarking none reply n = tt
+heard-unmarking (some (Deck bytes)) reply n = tt
+heard-unmarking (some Select) reply n = taken-unmarking reply
+heard-unmarking (some (Submit j p f c w)) reply n = (tt, tt)
+heard-unmarking (some (Start c)) reply n = (tt, tt)
+heard-unmarking (some (Complete c how)) reply n = (tt, tt)
+heard-unmarking (some (End j e)) reply n = (tt, tt)
+heard-unmarking (some (Mark k u m on)) reply n = absurd (n k u m on refl)
+heard-unmarking (some (Release id)) reply n = tt
+heard-unmarking (some (Delete id)) reply n = tt
+heard-unmarking (some (Status j p)) reply n = tt
+heard-unmarking (some (Key message)) reply n = tt
 
-pub marks-stay : (c d : Cell) (x : Call) (reply : Reply) → Does c x reply d → ((k u : ℕ) (m : UnitMark) (on : Bool) → x ≡ Mark k u m on → ⊥) → (k u : ℕ)
+pub marks-stay : (c d : Cell) (x : Call) (reply : Reply) → Does c x reply d → ((k u : ℕ) (m : UnitMark) (on : Bool) → meant x ≡ some (Mark k u m on) → ⊥) → (k u : ℕ)
     → SameMarks (unitIn (inside d .units) k u) (unitIn (inside c .units) k u)
 marks-stay c d x reply h n k u =
-    let l = heard-unmarking x reply n in
+    let l = heard-unmarking (meant x) reply n in
     let is = does-heard c d x reply h in (
       ap (λ (s : State). unitIn (s .units) k u .down) is
           ∙ run-keeps (λ v. v .down) (λ v b. refl) (λ j v. refl) (λ j w v. by-bool (w && assignable v) (λ t. rw t refl) (λ t. rw t refl)) k u (inside c) (heardOf x reply) l,
@@ -197,19 +201,25 @@ not-one y q = let z : _≡_ {A = ℕ} 0 1 = cc in omega arith
 
 pub answers-so : (c d : Cell) (x : Call) (a : Answer) → Does c x (Said a) d → refusalIn (Said a) ≡ none → (y : Rules.Call) → heardOf x (Said a) ≡ y ∷ []
     → a ≡ Rules.answer (inside c) y
-answers-so c d x a h e y q = go x h q (heard-granted c d x (Said a) h e y q)
+answers-so c d x a h e y q =
+    by-meant (λ o. heardBy o (Said a) ≡ y ∷ [] → a ≡ Rules.answer (inside c) y) c d (Said a) (λ s q. absurd (not-one y q))
+    (λ z n k q. go z n k q (heard-granted c d x (Said a) h e y p)) x h q
   where
-    go : (x : Call) → Does c x (Said a) d → heardOf x (Said a) ≡ y ∷ [] → Rules.refusal (inside c) y ≡ Granted → a ≡ Rules.answer (inside c) y
-    go (Deck bytes) h q g = absurd (not-one y q)
-    go Select h q g = absurd (not-one y q)
-    go (Submit j p f k w) h q g = acts-answer c (Rules.Submit j p f k w) y a (h .0) q g
-    go (Start k) h q g = acts-answer c (Rules.Start k) y a (h .0) q g
-    go (Complete k how) h q g = acts-answer c (Rules.Complete k how) y a (h .0) q g
-    go (End j b) h q g = acts-answer c (Rules.End j b) y a (h .0) q g
-    go (Mark k u m on) h q g = acts-answer c (Rules.Mark k u m on) y a (h .0) q g
-    go (Release id) h q g = absurd (not-one y q)
-    go (Delete id) h q g = absurd (not-one y q)
-    go (Status j p) h q g = absurd (not-one y q)
+    p : heardOf x (Said a) ≡ y ∷ []
+    p = q
+
+    go : (x : Call) → Plain x → Does c x (Said a) d → heardAs x (Said a) ≡ y ∷ [] → Rules.refusal (inside c) y ≡ Granted → a ≡ Rules.answer (inside c) y
+    go (Deck bytes) n h q g = absurd (not-one y q)
+    go Select n h q g = absurd (not-one y q)
+    go (Submit j p f k w) n h q g = acts-answer c (Rules.Submit j p f k w) y a (h .0) q g
+    go (Start k) n h q g = acts-answer c (Rules.Start k) y a (h .0) q g
+    go (Complete k how) n h q g = acts-answer c (Rules.Complete k how) y a (h .0) q g
+    go (End j b) n h q g = acts-answer c (Rules.End j b) y a (h .0) q g
+    go (Mark k u m on) n h q g = acts-answer c (Rules.Mark k u m on) y a (h .0) q g
+    go (Release id) n h q g = absurd (not-one y q)
+    go (Delete id) n h q g = absurd (not-one y q)
+    go (Status j p) n h q g = absurd (not-one y q)
+    go (Key message) n h q g = absurd n
 
 done-only : (o : Outcome) (a : Answer) → Said a ≡ Said (answerOf o) → refusalIn (Said a) ≡ none → a ≡ Answers.Done
 done-only Outcomes.Done a e n = one-answer e

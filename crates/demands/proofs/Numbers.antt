@@ -10,8 +10,14 @@ use lib.Dec.{eqb, leb, ltb}
 use lib.ListN.{length}
 use Rattle.numbers.proofs.Tests.{by-bool, never}
 use Rattle.numbers.specs.declared.Refusal.{Refusal}
-use Rattle.numbers.specs.declared.Refusal.the-variants.{BadDeck, ChannelBusy, JobRuns, NoSuchRequest, NothingStartable, OutOfRange}
+use Rattle.numbers.specs.declared.Refusal.the-variants.{BadDeck, ChannelBusy, JobRuns, NoSuchRequest, NothingStartable, OutOfRange, UnknownMessage}
 use Rattle.units.specs.declared.Mark.{Mark as Mark′}
+use Rattle.units.specs.declared.Mark.the-variants as Mark″
+use Rattle.keyboard.proofs.ReadBack.{isKnown, known-by}
+use Rattle.keyboard.specs.Messages.{readMessage, messageWords}
+use Rattle.keyboard.specs.Typed.{known}
+use Rattle.keyboard.specs.declared.Asked.{Asked}
+use Rattle.keyboard.specs.declared.Asked.the-variants as Asked′
 use Rattle.channels.specs.declared.Fitted.{Fitted}
 use Rattle.channels.specs.declared.Fitted.the-variants.{Nothing, With}
 use Rattle.cards_fields.specs.Deck.{cardsOf, deckEnd, terminated}
@@ -36,13 +42,15 @@ use Rattle.packets.specs.declared.Verdict.{Verdict}
 use Rattle.packets.specs.declared.Verdict.the-variants.{Denied, Granted}
 use Rattle.lists.specs.Outcomes.{outcome, settled, stateOf}
 use Rattle.cell_selection.proofs.SelectingLaws.{refused-only, refused-when}
-use Rattle.cell.specs.Calls.{SelectsIn, acted, answerOf, statusOf}
+use Rattle.cell.specs.Calls.{SelectsIn, acted, answerOf, heeded, statusOf}
 use Rattle.cell.specs.declared.SelectAnswer.{SelectAnswer}
 use Rattle.cell.specs.declared.Cell.{Cell}
+use Rattle.cell.specs.declared.Heeded.{Heeded}
+use Rattle.cell_history.proofs.MeantLaws.{Plain}
 use Rattle.cell_history.specs.Heard.{inside}
-use Rattle.cell_history.specs.History.{Call, Complete, Deck, Delete, Does, End, Mark, Release, Reply, Select, Start, Status, Submit}
+use Rattle.cell_history.specs.History.{Call, Complete, Deck, Delete, Does, End, Key, Mark, Release, Reply, Select, Start, Status, Submit, callOf, replyOf}
 use Rattle.demands.specs.Refusing.{ofAnswer, ofOutcome, ofStatus, refusalIn}
-use Rattle.demands.specs.Table.{RefusedBy, Row, SelectRefused, canStart, has, isActive, isOpen, isSelect, isSuspended, isThere, lowest, row, rowsIn, submitRows}
+use Rattle.demands.specs.Table.{RefusedBy, Row, SelectRefused, canStart, has, isActive, isOpen, isSelect, isSuspended, isThere, lowest, meantRows, row, rows, rowsIn, submitRows}
 
 -- a verdict as a refusal, if it is one
 abbrev pub ofVerdict : Verdict → Option Refusal
@@ -167,15 +175,45 @@ select-by c r h =
     (λ t. inr (ap ofOutcome (h .outcome) ∙ rw t refl, λ n. never t (refused-only (c .schedule) (c .lists) (r .selection) (h .takes .selects) n)))
     (λ t. inl (ap ofOutcome (h .outcome) ∙ rw t refl, refused-when (c .schedule) (c .lists) (r .selection) (h .takes .selects) t))
 
+-- which number answers a call that is no message
+plain-numbers : (c d : Cell) (x : Call) (reply : Reply) → Plain x → Does c x reply d → RefusedBy (isSelect x) c x (refusalIn reply)
+plain-numbers c d (Deck bytes) reply z h = ap refusalIn (h .2 .1 .1 .0) ∙ ap ofOutcome (h .2 .1 .0 .deck .outcome) ∙ deck-rows bytes
+plain-numbers c d Select reply z h = subst (SelectRefused c) (sym (ap refusalIn (h .1 .1 .0))) (select-by c (h .0) (h .1 .0))
+plain-numbers c d (Submit j p f k w) reply z h = ap refusalIn (h .0) ∙ answers-by c (Rules.Submit j p f k w) ∙ rules-rows (inside c) (inSchedule (c .schedule)) j p f k w
+plain-numbers c d (Start k) reply z h = ap refusalIn (h .0) ∙ answers-by c (Rules.Start k) ∙ start-rows (inside c) (inSchedule (c .schedule)) k
+plain-numbers c d (Complete k how) reply z h = ap refusalIn (h .0) ∙ answers-by c (Rules.Complete k how) ∙ complete-rows (inside c) (inSchedule (c .schedule)) k how
+plain-numbers c d (End j e) reply z h = ap refusalIn (h .0) ∙ answers-by c (Rules.End j e) ∙ end-rows (inside c) (inSchedule (c .schedule)) j e
+plain-numbers c d (Mark k u m on) reply z h = ap refusalIn (h .0) ∙ answers-by c (Rules.Mark k u m on) ∙ mark-rows (inside c) (inSchedule (c .schedule)) k u m on
+plain-numbers c d (Release id) reply z h = ap refusalIn (h .0) ∙ release-rows (findNamed (isNamed id) (inSchedule (c .schedule))) (c .schedule) id
+plain-numbers c d (Delete id) reply z h = ap refusalIn (h .0) ∙ delete-rows (findNamed (isNamed id) (inSchedule (c .schedule))) (c .schedule) id
+plain-numbers c d (Status j p) reply z h = ap refusalIn (h .0) ∙ status-rows c j p
+plain-numbers c d (Key message) reply z h = absurd z
+
+-- a message: 17, or what the call that it asks for is refused with
+key-numbers : (c d : Cell) (message : List ℕ) (reply : Reply) → Does c (Key message) reply d → refusalIn reply ≡ lowest (rows c (Key message))
+key-numbers c d message reply h =
+    go (readMessage message .asks) (readMessage message .id) (record { told = h .2 .0 .told; cell = h .2 .0 .cell })
+    (h .2 .1 .0 .does) (h .2 .1 .1 .0) (h .2 .1 .1 .1) (known-by message)
+  where
+    go : (a : Asked) (id : List ℕ) (x : Heeded) → x ≡ heeded c a id → reply ≡ replyOf (x .told) → d ≡ x .cell → known (messageWords message) ≡ isKnown a
+        → refusalIn reply ≡ lowest (row UnknownMessage (not (known (messageWords message))) ∷ meantRows (inside c) (inSchedule (c .schedule)) (callOf a id))
+    go Asked′.Unknown id x e r s k = rw k (ap refusalIn (r ∙ ap (λ (y : Heeded). replyOf (y .told)) e))
+    go (Asked′.Wrong word fault) id x e r s k = rw k (ap refusalIn (r ∙ ap (λ (y : Heeded). replyOf (y .told)) e))
+    go (Asked′.Mark channel unit on) id x e r s k =
+        rw k (plain-numbers c d (Mark (channel .0) (unit .0) Mark″.Down on) reply tt (r ∙ ap (λ (y : Heeded). replyOf (y .told)) e, s ∙ ap (λ (y : Heeded). y .cell) e))
+    go Asked′.Release id x e r s k = rw k (plain-numbers c d (Release id) reply tt (r ∙ ap (λ (y : Heeded). replyOf (y .told)) e, s ∙ ap (λ (y : Heeded). y .cell) e))
+    go Asked′.Delete id x e r s k = rw k (plain-numbers c d (Delete id) reply tt (r ∙ ap (λ (y : Heeded). replyOf (y .told)) e, s ∙ ap (λ (y : Heeded). y .cell) e))
+
 -- WHICH NUMBER ANSWERS
 pub numbers : (c d : Cell) (x : Call) (reply : Reply) → Does c x reply d → RefusedBy (isSelect x) c x (refusalIn reply)
-numbers c d (Deck bytes) reply h = ap refusalIn (h .2 .1 .1 .0) ∙ ap ofOutcome (h .2 .1 .0 .deck .outcome) ∙ deck-rows bytes
-numbers c d Select reply h = subst (SelectRefused c) (sym (ap refusalIn (h .1 .1 .0))) (select-by c (h .0) (h .1 .0))
-numbers c d (Submit j p f k w) reply h = ap refusalIn (h .0) ∙ answers-by c (Rules.Submit j p f k w) ∙ rules-rows (inside c) (inSchedule (c .schedule)) j p f k w
-numbers c d (Start k) reply h = ap refusalIn (h .0) ∙ answers-by c (Rules.Start k) ∙ start-rows (inside c) (inSchedule (c .schedule)) k
-numbers c d (Complete k how) reply h = ap refusalIn (h .0) ∙ answers-by c (Rules.Complete k how) ∙ complete-rows (inside c) (inSchedule (c .schedule)) k how
-numbers c d (End j e) reply h = ap refusalIn (h .0) ∙ answers-by c (Rules.End j e) ∙ end-rows (inside c) (inSchedule (c .schedule)) j e
-numbers c d (Mark k u m on) reply h = ap refusalIn (h .0) ∙ answers-by c (Rules.Mark k u m on) ∙ mark-rows (inside c) (inSchedule (c .schedule)) k u m on
-numbers c d (Release id) reply h = ap refusalIn (h .0) ∙ release-rows (findNamed (isNamed id) (inSchedule (c .schedule))) (c .schedule) id
-numbers c d (Delete id) reply h = ap refusalIn (h .0) ∙ delete-rows (findNamed (isNamed id) (inSchedule (c .schedule))) (c .schedule) id
-numbers c d (Status j p) reply h = ap refusalIn (h .0) ∙ status-rows c j p
+numbers c d (Deck bytes) reply h = plain-numbers c d (Deck bytes) reply tt h
+numbers c d Select reply h = plain-numbers c d Select reply tt h
+numbers c d (Submit j p f k w) reply h = plain-numbers c d (Submit j p f k w) reply tt h
+numbers c d (Start k) reply h = plain-numbers c d (Start k) reply tt h
+numbers c d (Complete k how) reply h = plain-numbers c d (Complete k how) reply tt h
+numbers c d (End j e) reply h = plain-numbers c d (End j e) reply tt h
+numbers c d (Mark k u m on) reply h = plain-numbers c d (Mark k u m on) reply tt h
+numbers c d (Release id) reply h = plain-numbers c d (Release id) reply tt h
+numbers c d (Delete id) reply h = plain-numbers c d (Delete id) reply tt h
+numbers c d (Status j p) reply h = plain-numbers c d (Status j p) reply tt h
+numbers c d (Key message) reply h = key-numbers c d message reply h

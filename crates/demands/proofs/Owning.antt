@@ -66,7 +66,7 @@ module _ (configuration : Configuration) (es : List Event) (c : Cell) (l : Leads
 
 -- ---- one call more
 
-leads-more : (c d e : Cell) (es : List Event) (x : Event) → Leads c es d → Does d (x .call) (x .reply) e → Leads c (es ++ (x ∷ [])) e
+pub leads-more : (c d e : Cell) (es : List Event) (x : Event) → Leads c es d → Does d (x .call) (x .reply) e → Leads c (es ++ (x ∷ [])) e
 leads-more c d e [] x h k = (e, (subst (λ (m : Cell). Does m (x .call) (x .reply) e) h k, refl))
 leads-more c d e (y ∷ es) x h k = (h .0, (h .1 .0, leads-more (h .0) d e es x (h .1 .1) k))
 

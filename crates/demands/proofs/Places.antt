@@ -43,9 +43,13 @@ use Rattle.cell_selection.specs.declared.Selection.{Selection}
 use Rattle.cell_selection.proofs.SelectingLaws.{taking-granted}
 use Rattle.cell.specs.Calls.{acted, cellOf, follows, leftBy}
 use Rattle.cell.specs.declared.Cell.{Cell}
+use Rattle.keyboard.specs.Messages.{readMessage}
+use Rattle.keyboard.specs.declared.Asked.{Asked}
+use Rattle.keyboard.specs.declared.Asked.the-variants as Asked′
+use Rattle.cell_history.proofs.MeantLaws.{Plain, by-meant}
 use Rattle.cell_history.proofs.HeardLaws.{does-heard}
 use Rattle.cell_history.specs.Heard.{inside}
-use Rattle.cell_history.specs.History.{Call, Complete, Deck, Delete, Does, End, Mark, Release, Reply, Select, Start, Status, Submit}
+use Rattle.cell_history.specs.History.{Call, Complete, Deck, Delete, Does, End, Key, Mark, Release, Reply, Select, Start, Status, Submit, callOf, meant}
 use Rattle.demands.specs.Demands.{Ends, withUnits}
 use Rattle.demands.specs.Refusing.{refusalIn}
 use Rattle.demands.proofs.Accepted.{accepted-is}
@@ -103,6 +107,19 @@ Other (Mark k u m on) = Unit {0}
 Other (Release id) = Unit {0}
 Other (Delete id) = Unit {0}
 Other (Status j p) = Unit {0}
+Other (Key message) = Unit {0}
+
+-- of a message: the call that it asks for
+abbrev OtherBy : Option Call → Type 0
+OtherBy none = Unit {0}
+OtherBy (some x) = Other x
+
+key-other : (a : Asked) (id : List ℕ) → OtherBy (callOf a id)
+key-other Asked′.Unknown id = tt
+key-other (Asked′.Wrong word fault) id = tt
+key-other (Asked′.Mark channel unit on) id = tt
+key-other Asked′.Release id = tt
+key-other Asked′.Delete id = tt
 
 module _ (c d : Cell) (i : ℕ) (alive : isEmpty (stateIn (inside c .jobs) i) ≡ false) where
   abbrev Same : Cell → Type 0
@@ -112,24 +129,29 @@ module _ (c d : Cell) (i : ℕ) (alive : isEmpty (stateIn (inside c .jobs) i) �
       → stateIn (Rules.accept (inside c) y .jobs) i ≡ stateIn (inside c .jobs) i → Same d
   acted-same x reply h y is e = by-refusal c d x reply h Same refl (λ n. ap (λ (s : State). stateIn (s .jobs) i) (is n) ∙ e)
 
-  others-keep : (x : Call) (reply : Reply) → Does c x reply d → Other x → Same d
+  plain-keep : (x : Call) (reply : Reply) → Plain x → Does c x reply d → Other x → Same d
   unfolding Rules.run Rules.accept
-  others-keep (Deck bytes) reply h o = ap (λ (s : State). stateIn (s .jobs) i) (does-heard c d (Deck bytes) reply h)
-  others-keep Select reply h o =
+  plain-keep (Deck bytes) reply z h o = ap (λ (s : State). stateIn (s .jobs) i) (does-heard c d (Deck bytes) reply h)
+  plain-keep Select reply z h o =
       ap (λ (s : State). stateIn (s .jobs) i) (does-heard c d Select reply h)
       ∙ rw (h .1 .1 .0) (select-keeps c (h .0 .selection) i (h .1 .0 .takes .selects) alive)
-  others-keep (Submit j p f k w) reply h o =
+  plain-keep (Submit j p f k w) reply z h o =
       let y = Rules.Submit j p f k w in
       acted-same (Submit j p f k w) reply h y (λ n. accepted-is c d (Submit j p f k w) reply h n y refl .1) (states-submit (inside c) j p f k w i)
-  others-keep (Start k) reply h o = acted-same (Start k) reply h (Rules.Start k) (λ n. accepted-is c d (Start k) reply h n (Rules.Start k) refl .1) (states-started (inside c) k i)
-  others-keep (Complete k how) reply h o = absurd o
-  others-keep (End j e) reply h o = absurd o
-  others-keep (Mark k u m on) reply h o =
+  plain-keep (Start k) reply z h o = acted-same (Start k) reply h (Rules.Start k) (λ n. accepted-is c d (Start k) reply h n (Rules.Start k) refl .1) (states-started (inside c) k i)
+  plain-keep (Complete k how) reply z h o = absurd o
+  plain-keep (End j e) reply z h o = absurd o
+  plain-keep (Mark k u m on) reply z h o =
       let y = Rules.Mark k u m on in
       acted-same (Mark k u m on) reply h y (λ n. accepted-is c d (Mark k u m on) reply h n y refl .1) refl
-  others-keep (Release id) reply h o = ap (λ (s : State). stateIn (s .jobs) i) (does-heard c d (Release id) reply h)
-  others-keep (Delete id) reply h o = ap (λ (s : State). stateIn (s .jobs) i) (does-heard c d (Delete id) reply h)
-  others-keep (Status j p) reply h o = ap (λ (s : State). stateIn (s .jobs) i) (does-heard c d (Status j p) reply h)
+  plain-keep (Release id) reply z h o = ap (λ (s : State). stateIn (s .jobs) i) (does-heard c d (Release id) reply h)
+  plain-keep (Delete id) reply z h o = ap (λ (s : State). stateIn (s .jobs) i) (does-heard c d (Delete id) reply h)
+  plain-keep (Status j p) reply z h o = ap (λ (s : State). stateIn (s .jobs) i) (does-heard c d (Status j p) reply h)
+  plain-keep (Key message) reply z h o = absurd z
+
+  others-keep : (x : Call) (reply : Reply) → Does c x reply d → OtherBy (meant x) → Same d
+  others-keep x reply h o =
+      by-meant (λ m. OtherBy m → Same d) c d reply (λ e o. ap (λ (x : Cell). stateIn (inside x .jobs) i) e) (λ y z k o. plain-keep y reply z k o) x h o
 
 -- ---- what a completion and an end leave
 
@@ -208,7 +230,7 @@ module _ (c d : Cell) (reply : Reply) (ok : refusalIn reply ≡ none) (place : �
       en
 
   -- any other call leaves a closing place as it is
-  ended-kept : (x : Call) → Does c x reply d → Other x → (x ≡ End place inError → ⊥) → Ends c x place inError → Is
+  ended-kept : (x : Call) → Does c x reply d → OtherBy (meant x) → (x ≡ End place inError → ⊥) → Ends c x place inError → Is
   ended-kept x h o not-it en =
       ⊎-elim (λ q. absurd (not-it q)) (λ e. inl (others-keep c d place (ap isEmpty e ∙ closing-live inError .0) x reply h o ∙ e)) en
 
@@ -223,6 +245,8 @@ module _ (c d : Cell) (reply : Reply) (ok : refusalIn reply ≡ none) (place : �
   ended-so (Release id) h en = ended-kept (Release id) h tt (λ q. let z : _≡_ {A = ℕ} 0 1 = cc in omega arith) en
   ended-so (Delete id) h en = ended-kept (Delete id) h tt (λ q. let z : _≡_ {A = ℕ} 0 1 = cc in omega arith) en
   ended-so (Status j p) h en = ended-kept (Status j p) h tt (λ q. let z : _≡_ {A = ℕ} 0 1 = cc in omega arith) en
+  ended-so (Key message) h en =
+      ended-kept (Key message) h (key-other (readMessage message .asks) (readMessage message .id)) (λ q. let z : _≡_ {A = ℕ} 0 1 = cc in omega arith) en
 
 -- ---- a running job
 
@@ -236,7 +260,7 @@ module _ (c d : Cell) (reply : Reply) (place : ℕ) (e : stateIn (inside c .jobs
       (λ t. subst (λ (n : ℕ). stateIn (returnIfDone n s .jobs) place ≡ Running) (eqb-true place j t) (rw (not-done s r) r))
       (λ t. states-left s j place t ∙ r)
 
-  kept : (x : Call) → Does c x reply d → Other x → stateIn (inside d .jobs) place ≡ Running
+  kept : (x : Call) → Does c x reply d → OtherBy (meant x) → stateIn (inside d .jobs) place ≡ Running
   kept x h o = others-keep c d place (ap isEmpty e) x reply h o ∙ e
 
   runs-complete : (k : ℕ) (how : How) → Does c (Complete k how) reply d → stateIn (inside d .jobs) place ≡ Running
@@ -271,6 +295,7 @@ module _ (c d : Cell) (reply : Reply) (place : ℕ) (e : stateIn (inside c .jobs
   runs-on (Release id) h n = kept (Release id) h tt
   runs-on (Delete id) h n = kept (Delete id) h tt
   runs-on (Status j p) h n = kept (Status j p) h tt
+  runs-on (Key message) h n = kept (Key message) h (key-other (readMessage message .asks) (readMessage message .id))
 
 -- ---- a mark
 

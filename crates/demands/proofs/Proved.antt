@@ -4,7 +4,7 @@ use Prim.Native.Nat.{ℕ}
 use mathlib.Core.Path.{_≡_, refl, sym, ap, subst, _∙_}
 use mathlib.Core.Bool.{Bool, true, false, cond, _&&_}
 use mathlib.Core.List.{List, [], _∷_, _++_}
-use mathlib.Core.Option.{none, some}
+use mathlib.Core.Option.{Option, none, some}
 use native.Mathlib.Omega.{arith}
 use lib.Dec.{ltb}
 use Rattle.numbers.proofs.Tests.{by-bool}
@@ -41,16 +41,18 @@ use Rattle.cell.specs.Calls.{acted, freshCell, outcomeOf, Enters}
 use Rattle.cell.specs.declared.Cell.{Cell}
 use Rattle.lists.specs.declared.StatusAnswer.the-variants.{Is}
 use Rattle.cell_history.proofs.HeardLaws.{does-heard, leads-heard}
-use Rattle.cell_history.specs.Heard.{heard, heardOf, inside, taken, told}
-use Rattle.cell_history.specs.History.{Call, Chosen, Does, Event, Leads, Reply, Said, Select, Shown, Complete, Deck, Delete, End, Mark, Release, Start, Submit}
+use Rattle.cell_history.specs.Heard.{heard, heardBy, heardOf, inside, taken, told}
+use Rattle.cell_history.specs.History.{Call, Chosen, Does, Event, Leads, Reply, Said, Select, Shown, Complete, Deck, Delete, End, Mark, Release, Start, Submit, meant}
 use Rattle.demands.specs.Demands.{Demand1, Demand2, Demand3, WhileHeld, joins}
 use Rattle.demands.proofs.Accepted.{accepted-is, heard-granted}
 use Rattle.demands.proofs.InOrder.{first-in-order}
+use Rattle.demands.proofs.Named.{named-so, nobody-so}
 use Rattle.demands.proofs.Oldest.{ordered}
 use Rattle.demands.proofs.Owning.{free-place, holds-then, on-its-own, reached-inv, still-own, still-there}
 use Rattle.demands.proofs.Marks.{answers-so, changes-so, channels-stay, marks-stay}
 use Rattle.demands.proofs.Places.{ended-so, marked-so, runs-on}
 use Rattle.demands.proofs.Requests.{closes-so, completes-so, starts-so, submits-so}
+use Rattle.demands.proofs.Typed.{faulty-so, mistyped-so, typed-so, unknown-so}
 use Rattle.demands.proofs.Texts.{counted-fresh, kept-room, listed, listed-bad, writes-12, writes-13, writes-so, written-so}
 use Rattle.demands.specs.Refusing.{refusalIn}
 use Rattle.demands.proofs.Numbers.{answers-by, numbers, ofVerdict}
@@ -59,6 +61,7 @@ use Rattle.packets.proofs.Inv.{motion-busy}
 use Rattle.packets.specs.declared.Assignment.{Assignment}
 use Rattle.packets_given.specs.Given.{OnItsOwn, StillOwn, taking}
 use Rattle.cell_history.proofs.FromFresh.{chosen-is, done-found, reached, refused-found, selected-of, taking-of}
+use Rattle.cell_history.proofs.SpelledProof.{spelled-out}
 use Rattle.cell_history.proofs.ToldLaws.{leads-told}
 use Rattle.cell_agreement.proofs.AgreementProof.{agrees-always}
 use Rattle.cell_reached.proofs.ReachedProof.{every-cell}
@@ -83,6 +86,10 @@ demand-1 =
       stands = stands;
       lent = deck-lent;
       kept = kept-room;
+      mistyped = mistyped-so;
+      faulty = faulty-so;
+      answered = λ c message room after r h. h .text;
+      unknown = unknown-so;
       wrong = λ r room n. writes-13 r room (not-taken r n);
       short = λ r room a. writes-12 r room (allowed-taken r a);
       configuration = meaning;
@@ -167,6 +174,7 @@ demand-2 =
       noted = λ c deck room after r h. h .deck .text;
       selected = selected-of;
       holds = holds-then;
+      typed = typed-so;
       marked = marked-so;
       marks = marks-stay;
       channels = channels-stay;
@@ -180,6 +188,8 @@ demand-2 =
       runs = runs-then;
       released = λ c d id reply h. ap (λ (x : Cell). x .schedule) (h .1);
       deleted = λ c d id reply h. ap (λ (x : Cell). x .schedule) (h .1);
+      named = named-so;
+      nobody = λ configuration es c h word w. nobody-so configuration es c h word (w .plain);
       first = λ configuration es c h d s k. first-in-order configuration es c h s (selected-of c d s k);
       refused = λ c d o s h.
           let e = chosen-is (h .1 .1 .0) in
@@ -220,24 +230,27 @@ taken-stretch h s (Reply.Entered o) H = tt
 taken-stretch h s (Chosen o selection) H = by-bool (selection .found) (λ t. rw t (H, tt)) (λ t. rw t tt)
 taken-stretch h s (Reply.Said a) H = tt
 taken-stretch h s (Reply.Shown x) H = tt
+taken-stretch h s (Reply.Mistyped f) H = tt
 
-heard-stretch : (h : Holding) (s : State) (x : Call) (reply : Reply) → Holds s h → Stretch h s (heardOf x reply)
-heard-stretch h s (Deck bytes) reply H = tt
-heard-stretch h s Select reply H = taken-stretch h s reply H
-heard-stretch h s (Submit place packet function channel spot) reply H = (H, tt)
-heard-stretch h s (Start channel) reply H = (H, tt)
-heard-stretch h s (Complete channel how) reply H = (H, tt)
-heard-stretch h s (End place inError) reply H = (H, tt)
-heard-stretch h s (Mark channel unit mark on) reply H = (H, tt)
-heard-stretch h s (Release id) reply H = tt
-heard-stretch h s (Delete id) reply H = tt
-heard-stretch h s (Call.Status place packet) reply H = tt
+heard-stretch : (h : Holding) (s : State) (o : Option Call) (reply : Reply) → Holds s h → Stretch h s (heardBy o reply)
+heard-stretch h s none reply H = tt
+heard-stretch h s (some (Deck bytes)) reply H = tt
+heard-stretch h s (some Select) reply H = taken-stretch h s reply H
+heard-stretch h s (some (Submit place packet function channel spot)) reply H = (H, tt)
+heard-stretch h s (some (Start channel)) reply H = (H, tt)
+heard-stretch h s (some (Complete channel how)) reply H = (H, tt)
+heard-stretch h s (some (End place inError)) reply H = (H, tt)
+heard-stretch h s (some (Mark channel unit mark on)) reply H = (H, tt)
+heard-stretch h s (some (Release id)) reply H = tt
+heard-stretch h s (some (Delete id)) reply H = tt
+heard-stretch h s (some (Call.Status place packet)) reply H = tt
+heard-stretch h s (some (Call.Key message)) reply H = tt
 
 held-stretch : (h : Holding) (c d : Cell) (es : List Event) → WhileHeld h c es d → Stretch h (inside c) (heard es)
 held-stretch h c d [] w = tt
 held-stretch h c d (e ∷ es) w =
     stretch-append h (inside c) (heardOf (e .call) (e .reply)) (heard es)
-    (heard-stretch h (inside c) (e .call) (e .reply) (w .0))
+    (heard-stretch h (inside c) (meant (e .call)) (e .reply) (w .0))
     (subst (λ (s : State). Stretch h s (heard es)) (does-heard c (w .1 .0) (e .call) (e .reply) (w .1 .1 .0)) (held-stretch h (w .1 .0) d es (w .1 .1 .1)))
 
 -- the calls that the lists heard, from the cell after the selection, and what the rules answer to them
@@ -267,6 +280,7 @@ module _ (configuration : Configuration) (before : List Event) (c : Cell) (l : L
 pub demand-3 : Demand3
 demand-3 =
     record {
+      spelled = spelled-out;
       alike = as-told;
       moving = still-there;
       own = still-own;

@@ -36,7 +36,8 @@ use Rattle.cell.specs.Calls.{acted, answerOf, cellOf, follows, outcomeOf, Enter
 use Rattle.cell.specs.declared.Cell.{Cell}
 use Rattle.cell.specs.declared.DeckAnswer.{DeckAnswer}
 use Rattle.cell.specs.declared.SelectAnswer.{SelectAnswer}
-use Rattle.cell_history.specs.History.{Call, Complete, Deck, Delete, Does, End, Mark, Release, Reply, Select, Start, Status, Submit}
+use Rattle.cell_history.proofs.MeantLaws.{Plain, by-meant}
+use Rattle.cell_history.specs.History.{Call, Complete, Deck, Delete, Does, End, Key, Mark, Release, Reply, Select, Start, Status, Submit}
 use Rattle.demands.specs.Refusing.{ofAnswer, ofOutcome, refusalIn}
 
 -- an option is not both
@@ -134,15 +135,20 @@ select-stands c r n h e =
     h .takes .leaves ∙ ap (λ (b : Bool). leftBy b (c .schedule) (c .lists) (r .selection)) f in
     λ i. record { schedule = l i .0; lists = l i .1 }
 
+-- after a refused call that is no message the cell stands
+plain-stands : (c d : Cell) (x : Call) (reply : Reply) (n : Refusal) → Plain x → Does c x reply d → refusalIn reply ≡ some n → d ≡ c
+plain-stands c d (Deck bytes) reply n z h e = h .2 .1 .1 .1 ∙ deck-stands c bytes (h .0) (h .1) (h .2 .0) n (h .2 .1 .0) (sym (ap refusalIn (h .2 .1 .1 .0)) ∙ e)
+plain-stands c d Select reply n z h e = h .1 .1 .1 ∙ select-stands c (h .0) n (h .1 .0) (sym (ap refusalIn (h .1 .1 .0)) ∙ e)
+plain-stands c d (Submit j p f k w) reply n z h e = h .1 ∙ acts-stand c (Rules.Submit j p f k w) n (sym (ap refusalIn (h .0)) ∙ e)
+plain-stands c d (Start k) reply n z h e = h .1 ∙ acts-stand c (Rules.Start k) n (sym (ap refusalIn (h .0)) ∙ e)
+plain-stands c d (Complete k how) reply n z h e = h .1 ∙ acts-stand c (Rules.Complete k how) n (sym (ap refusalIn (h .0)) ∙ e)
+plain-stands c d (End j b) reply n z h e = h .1 ∙ acts-stand c (Rules.End j b) n (sym (ap refusalIn (h .0)) ∙ e)
+plain-stands c d (Mark k u m on) reply n z h e = h .1 ∙ acts-stand c (Rules.Mark k u m on) n (sym (ap refusalIn (h .0)) ∙ e)
+plain-stands c d (Release id) reply n z h e = h .1 ∙ release-stands c id n (findRequest (isNamed id) (inSchedule (c .schedule))) (sym (ap refusalIn (h .0)) ∙ e)
+plain-stands c d (Delete id) reply n z h e = h .1 ∙ delete-stands c id n (findRequest (isNamed id) (inSchedule (c .schedule))) (sym (ap refusalIn (h .0)) ∙ e)
+plain-stands c d (Status j p) reply n z h e = h .1
+plain-stands c d (Key message) reply n z h e = absurd z
+
 -- AFTER A REFUSED CALL THE CELL STANDS
 pub stands : (c d : Cell) (x : Call) (reply : Reply) (n : Refusal) → Does c x reply d → refusalIn reply ≡ some n → d ≡ c
-stands c d (Deck bytes) reply n h e = h .2 .1 .1 .1 ∙ deck-stands c bytes (h .0) (h .1) (h .2 .0) n (h .2 .1 .0) (sym (ap refusalIn (h .2 .1 .1 .0)) ∙ e)
-stands c d Select reply n h e = h .1 .1 .1 ∙ select-stands c (h .0) n (h .1 .0) (sym (ap refusalIn (h .1 .1 .0)) ∙ e)
-stands c d (Submit j p f k w) reply n h e = h .1 ∙ acts-stand c (Rules.Submit j p f k w) n (sym (ap refusalIn (h .0)) ∙ e)
-stands c d (Start k) reply n h e = h .1 ∙ acts-stand c (Rules.Start k) n (sym (ap refusalIn (h .0)) ∙ e)
-stands c d (Complete k how) reply n h e = h .1 ∙ acts-stand c (Rules.Complete k how) n (sym (ap refusalIn (h .0)) ∙ e)
-stands c d (End j b) reply n h e = h .1 ∙ acts-stand c (Rules.End j b) n (sym (ap refusalIn (h .0)) ∙ e)
-stands c d (Mark k u m on) reply n h e = h .1 ∙ acts-stand c (Rules.Mark k u m on) n (sym (ap refusalIn (h .0)) ∙ e)
-stands c d (Release id) reply n h e = h .1 ∙ release-stands c id n (findRequest (isNamed id) (inSchedule (c .schedule))) (sym (ap refusalIn (h .0)) ∙ e)
-stands c d (Delete id) reply n h e = h .1 ∙ delete-stands c id n (findRequest (isNamed id) (inSchedule (c .schedule))) (sym (ap refusalIn (h .0)) ∙ e)
-stands c d (Status j p) reply n h e = h .1
+stands c d x reply n h e = by-meant (λ o. d ≡ c) c d reply (λ s. s) (λ y z k. plain-stands c d y reply n z k e) x h

@@ -1,6 +1,7 @@
 -- THE THREE DEMANDS, one page, to be laid beside the words of the people who asked. Each is a theorem, proved in
 -- proofs/Proved.antt, about any cell and call as the contracts of the public functions give them, and about any
--- history of calls from a fresh cell. A reader has to believe this page.
+-- history of calls from a fresh cell. Keyboard messages are among the calls, and a history with them is one with the
+-- calls that they are (`spelled`): the demands read on unchanged. A reader has to believe this page.
 use Prim.Native.Nat.{ℕ, _≤_, _<_}
 use mathlib.Core.Path.{_≡_}
 use mathlib.Core.Bool.{Bool, true, false, cond, _&&_, _||_}
@@ -9,17 +10,27 @@ use mathlib.Core.Logic.{_⊎_}
 use mathlib.Core.Option.{none, some}
 use lib.Dec.{eqb}
 use lib.ListN.{length, take, drop}
+use Rattle.numbers.specs.Quoted.{bytes}
 use Rattle.numbers.specs.declared.ChannelNumber.{ChannelNumber}
 use Rattle.numbers.specs.declared.Outcome.{Outcome}
 use Rattle.numbers.specs.declared.Outcome.the-variants.{Done, Refused}
 use Rattle.numbers.specs.declared.Refusal.{Refusal}
 use Rattle.numbers.specs.declared.Refusal.the-variants.{NoRoom, NothingSelected, WrongRequest}
+use Rattle.text.specs.Class.{isAlnum}
+use Rattle.words.specs.Words.{every}
+use Rattle.line_words.specs.Forms.{IsWord, idOf}
 use Rattle.units.specs.State.{assignable, markedUnit, unitIn, unitSet, unitsFrom}
 use Rattle.units.specs.declared.Mark.{Mark as UnitMark}
 use Rattle.units.specs.declared.Unit.{Unit as UnitState}
 use Rattle.channels.specs.Channels.{hasUnit}
 use Rattle.channels.specs.declared.Channel.{Channel}
 use Rattle.channels.specs.declared.Configuration.{Configuration}
+use Rattle.keyboard.specs.Messages.{messageWords, readMessage}
+use Rattle.keyboard.specs.Typed.{known}
+use Rattle.keyboard.specs.declared.Asked.the-variants.{Wrong}
+use Rattle.keyboard.specs.declared.Fault.{Fault}
+use Rattle.keyboard.specs.declared.Word.{Word}
+use Rattle.keyboard_answers.specs.Answers.{answerText}
 use Rattle.configuration.specs.Configured.{configurationOf, good, refused}
 use Rattle.configuration_form.specs.Form.{FirstBad, InForm}
 use Rattle.configuration_form.specs.Means.{Means}
@@ -32,11 +43,12 @@ use Rattle.cards_group.specs.Group.{readGroup}
 use Rattle.cards.specs.declared.Request.{Request}
 use Rattle.cards.specs.declared.Verdict.the-variants.{Good}
 use Rattle.cards_writing.specs.Writing.{fits, textOf, writeAnswer, written}
-use Rattle.cards_round.specs.Allowed.{Allowed}
+use Rattle.cards_round.specs.Allowed.{Allowed, Name}
 use Rattle.cards_round.specs.Permuted.{Permuted}
-use Rattle.schedule_entries.specs.Entries.{keyOf, precedes}
-use Rattle.schedule_list.specs.InSchedule.{entryAt, inSchedule}
+use Rattle.schedule_entries.specs.Entries.{isNamed, keyOf, precedes}
+use Rattle.schedule_list.specs.InSchedule.{entryAt, find, inSchedule}
 use Rattle.schedule.specs.Calls as Schedule
+use Rattle.schedule_orderly.specs.Orderly.{Each, requests}
 use Rattle.schedule_deck.specs.Report.{deckNotes, deckSchedule}
 use Rattle.text.specs.Room.{Whole}
 use Rattle.assign_drum.specs.Drum.{noArea}
@@ -56,11 +68,13 @@ use Rattle.packets.specs.declared.Status.{Status}
 use Rattle.cell_taken.specs.Taken.{areaOf, coreOf}
 use Rattle.cell_selection.specs.Selecting.{Candidate, HasNone, Selected, NoneToSelect, assignmentOf, noSelection, seenIn}
 use Rattle.cell_selection.specs.declared.Selection.{Selection}
-use Rattle.cell.specs.Calls.{Enters, cellOf, freshCell}
+use Rattle.cell.specs.Calls.{Enters, Keys, cellOf, freshCell}
 use Rattle.cell.specs.declared.Cell.{Cell}
 use Rattle.cell.specs.declared.DeckAnswer.{DeckAnswer}
+use Rattle.cell.specs.declared.KeyAnswer.{KeyAnswer}
 use Rattle.lists.specs.declared.StatusAnswer.the-variants.{Is}
 use Rattle.cell_history.specs.Heard.{heardOf, inside, told}
+use Rattle.cell_history.specs.Spelled.{SpelledAlways}
 use Rattle.cell_history.specs.History.{
   Call,
   Chosen,
@@ -69,8 +83,10 @@ use Rattle.cell_history.specs.History.{
   Does,
   End,
   Event,
+  Key,
   Leads,
   Mark,
+  Mistyped,
   Release,
   Reply,
   Said,
@@ -78,6 +94,7 @@ use Rattle.cell_history.specs.History.{
   Shown,
   Start,
   Submit,
+  meant,
 }
 use Rattle.cell_agreement.specs.Agreement.{standing, statesIn}
 use Rattle.demands.specs.Refusing.{refusalIn}
@@ -106,6 +123,18 @@ pub record Demand1 : Type 0 where
   -- characters, or lent room too short"
   pub wrong : (r : Request) (room : ℕ) → (Allowed r → ⊥) → writeAnswer r room ≡ Wrote′.Refused WrongRequest
   pub short : (r : Request) (room : ℕ) → Allowed r → fits r room ≡ false → writeAnswer r room ≡ Wrote′.Refused NoRoom
+  -- The room that was lent for a keyboard message's answer holds that answer, refused or not, whole at its start; every
+  -- byte behind it stands as before
+  pub answered : (c : Cell) (message room after : List ℕ) (r : KeyAnswer) → Keys c message room after r
+      → Whole (answerText (readMessage message .asks) (r .told)) room after (r .at)
+  -- "17 unknown message word, checked before everything else": it is answered `--- 17 IN ER` and changes nothing
+  pub unknown : (c : Cell) (message room after : List ℕ) (r : KeyAnswer) → Keys c message room after r
+      → known (messageWords message) ≡ false → Whole (bytes "--- 17 IN ER") room after (r .at) × (r .cell ≡ c)
+  -- a message with a fault in its fields is told the first and changes nothing, and one without is told of none
+  pub mistyped : (c d : Cell) (message : List ℕ) (reply : Reply) (word : Word) (fault : Fault) → Does c (Key message) reply d
+      → readMessage message .asks ≡ Wrong word fault → (reply ≡ Mistyped fault) × (d ≡ c)
+  pub faulty : (c d : Cell) (message : List ℕ) (fault : Fault) → Does c (Key message) (Mistyped fault) d
+      → (word : Word) × (readMessage message .asks ≡ Wrong word fault)
   -- a configuration is read exactly if it is the written form of one; else refusal 14 names the first bad or
   -- missing line
   pub configuration : (s : List ℕ) → Means s (configurationOf s)
@@ -174,6 +203,14 @@ pub record Demand2 : Type 0 where
       → d .schedule ≡ Schedule.released (c .schedule) id .schedule
   pub deleted : (c d : Cell) (id : List ℕ) (reply : Reply) → Does c (Delete id) reply d
       → d .schedule ≡ Schedule.deleted (c .schedule) id .schedule
+  -- "ID, 1-6 letters or digits": such is the ID of every request in a schedule that any calls lead to,
+  pub named : (configuration : Configuration) (es : List Event) (c : Cell) → Leads (freshCell configuration) es c
+      → Each (λ r. Name isAlnum 1 6 (r .id)) (requests (inSchedule (c .schedule)))
+  -- so that a word is no request's ID if it has over six bytes or one that is no letter or digit: "15 no such ID" answers
+  -- it
+  pub nobody : (configuration : Configuration) (es : List Event) (c : Cell) → Leads (freshCell configuration) es c
+      → (word : List ℕ) → IsWord word → (6 < length word) ⊎ (every isAlnum word ≡ false)
+      → find (isNamed (idOf word)) (inSchedule (c .schedule)) ≡ none
   -- the answer to a deck, "errors .. in deck order" and "the last good ID", is the first bytes of the lent room, cut
   -- nowhere, and every byte behind it is kept
   pub noted : (c : Cell) (deck room after : List ℕ) (r : DeckAnswer) → Enters c deck room after r
@@ -201,13 +238,16 @@ pub record Demand2 : Type 0 where
       × (NoneToSelect (c .schedule) (c .lists) → o ≡ Refused NothingSelected)
   -- "a refused call returns the number alone"
   pub alone : (c d : Cell) (s : Selection) (n : Refusal) → Does c Select (Chosen (Refused n) s) d → s ≡ noSelection
+  -- "Each message does what the existing call does": it is answered as that call is, and leaves the cell that it leaves
+  pub typed : (c d : Cell) (message : List ℕ) (reply : Reply) (x : Call) → Does c (Key message) reply d → meant (Key message) ≡ some x
+      → Does c x reply d
   -- "Marks may change at any time": the unit is marked or the mark cleared, and nothing else changes
   pub marked : (c d : Cell) (channel unit : ℕ) (mark : UnitMark) (on : Bool) (reply : Reply)
       → Does c (Mark channel unit mark on) reply d → refusalIn reply ≡ none
       → d ≡ withUnits c (unitSet (c .lists .units .of) channel unit (markedUnit mark on (unitIn (c .lists .units .of) channel unit)))
-  -- by no other call does a mark change, nor by any call what "a channel has"
+  -- by no other call, typed or not, does a mark change, nor by any call what "a channel has"
   pub marks : (c d : Cell) (x : Call) (reply : Reply) → Does c x reply d
-      → ((channel unit : ℕ) (mark : UnitMark) (on : Bool) → x ≡ Mark channel unit mark on → ⊥) → (channel unit : ℕ)
+      → ((channel unit : ℕ) (mark : UnitMark) (on : Bool) → meant x ≡ some (Mark channel unit mark on) → ⊥) → (channel unit : ℕ)
       → SameMarks (unitIn (inside d .units) channel unit) (unitIn (inside c .units) channel unit)
   pub channels : (c d : Cell) (x : Call) (reply : Reply) → Does c x reply d → inside d .channels ≡ inside c .channels
   -- "only then a normal end removes its request; an error end suspends it if its sequence is 1 or more, else removes
@@ -283,6 +323,8 @@ WhileHeld h c (e ∷ es) d = Holds (inside c) h × ((m : Cell) × (Does c (e .ca
 -- calls that acted on it, given to a lone unit written separately, make the same starts in the same order and leave
 -- the same packet statuses; on a unit nothing of another job starts or moves meanwhile."
 pub record Demand3 : Type 0 where
+  -- a history with keyboard messages is one with the calls that they are
+  pub spelled : SpelledAlways
   pub alike :
       -- any sequence of calls from a fresh cell
       (configuration : Configuration) (before : List Event) (c : Cell) → Leads (freshCell configuration) before c

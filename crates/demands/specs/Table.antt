@@ -1,9 +1,10 @@
 -- THE TABLE OF REFUSED CALLS: for each call the sentences that may refuse it, in the order of their numbers, and
--- whether each of them holds. The lowest answers. A reader has to believe this page.
+-- whether each of them holds. The lowest answers; 17, "checked before everything else", comes first, and where it holds
+-- there is no other sentence. A reader has to believe this page.
 use Prim.Native.Nat.{ℕ, _+_}
 use mathlib.Core.Path.{_≡_}
 use mathlib.Core.Bool.{Bool, true, false, not, cond, _&&_, _||_}
-use mathlib.Core.List.{List, [], _∷_}
+use mathlib.Core.List.{List, [], _∷_, _++_}
 use mathlib.Core.Logic.{_⊎_}
 use mathlib.Core.Option.{Option, none, some}
 use lib.Dec.{eqb, ltb, leb}
@@ -24,10 +25,13 @@ use Rattle.numbers.specs.declared.Refusal.the-variants.{
   BadDeck,
   NoSuchRequest,
   JobRuns,
+  UnknownMessage,
 }
 use Rattle.units.specs.State.{unitIn}
 use Rattle.channels.specs.declared.Fitted.{Fitted}
 use Rattle.channels.specs.declared.Fitted.the-variants.{Nothing, With}
+use Rattle.keyboard.specs.Messages.{messageWords}
+use Rattle.keyboard.specs.Typed.{known}
 use Rattle.cards_fields.specs.Deck.{cardsOf, terminated}
 use Rattle.schedule_entries.specs.Entries.{active, isNamed, suspended}
 use Rattle.schedule_entries.specs.declared.Entry.{Entry}
@@ -62,7 +66,7 @@ use Rattle.packets.specs.declared.Status.{Status as PacketStatus}
 use Rattle.cell_selection.specs.Selecting.{NoneToSelect}
 use Rattle.cell.specs.declared.Cell.{Cell}
 use Rattle.cell_history.specs.Heard.{inside}
-use Rattle.cell_history.specs.History.{Call, Complete, Deck, Delete, End, Mark, Release, Select, Start, Status, Submit}
+use Rattle.cell_history.specs.History.{Call, Complete, Deck, Delete, End, Key, Mark, Release, Select, Start, Status, Submit, meant}
 
 -- a sentence of the table: its refusal, and whether it holds
 pub record Row : Type 0 where
@@ -164,10 +168,31 @@ rowsIn s es (Release id) = row NoSuchRequest (not (isSuspended (find (isNamed id
 rowsIn s es (Delete id) = row NoSuchRequest (not (isThere (find (isNamed id) es))) ∷ row JobRuns (isActive (find (isNamed id) es)) ∷ []
 -- 1
 rowsIn s es (Status j p) = row OutOfRange (not (ltb j 16 && ltb p 16)) ∷ []
+-- a keyboard message is no call that is meant: its sentences are those of the call that it asks for
+rowsIn s es (Key message) = []
+
+-- the sentences of the call that is meant, if there is one
+abbrev pub meantRows : State → List Entry → Option Call → List Row
+meantRows s es none = []
+meantRows s es (some x) = rowsIn s es x
+
+-- 17: unknown message word, or text after the last field; "checked before everything else"
+abbrev pub unknownRows : Call → List Row
+unknownRows (Deck bytes) = []
+unknownRows Select = []
+unknownRows (Submit j p f k w) = []
+unknownRows (Start k) = []
+unknownRows (Complete k how) = []
+unknownRows (End j inError) = []
+unknownRows (Mark k u mark on) = []
+unknownRows (Release id) = []
+unknownRows (Delete id) = []
+unknownRows (Status j p) = []
+unknownRows (Key message) = row UnknownMessage (not (known (messageWords message))) ∷ []
 
 -- the sentences of a call on a cell
 abbrev pub rows : Cell → Call → List Row
-rows c x = rowsIn (inside c) (inSchedule (c .schedule)) x
+rows c x = unknownRows x ++ meantRows (inside c) (inSchedule (c .schedule)) (meant x)
 
 -- a call is a selection
 abbrev pub isSelect : Call → Bool
@@ -181,6 +206,7 @@ isSelect (Mark k u mark on) = false
 isSelect (Release id) = false
 isSelect (Delete id) = false
 isSelect (Status j p) = false
+isSelect (Key message) = false
 
 -- 10: no place free, or no candidate has an assignment
 abbrev pub SelectRefused : Cell → Option Refusal → Type 0
