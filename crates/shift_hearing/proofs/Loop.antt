@@ -96,6 +96,7 @@ talks-on (Line′.Mark c u m o) e = refl
 talks-on Line′.Release e = refl
 talks-on Line′.Delete e = refl
 talks-on (Line′.Status p k) e = refl
+talks-on Line′.Key e = refl
 
 -- a call on the request lists is answered only while calls are, and the phase stays
 call-turns : (phase : Phase) (schedule : Schedule) (lists : Lists) (line room answer answer′ : List ℕ) (h : Handled) → isForLists (askedIn phase line) ≡ true → Handles lists (askedIn phase line) answer answer′ h

@@ -65,3 +65,4 @@ handles-one lists (Line′.Mark c u m o) room a b r q x y = tells-one x y
 handles-one lists Line′.Release room a b r q x y = tells-one x y
 handles-one lists Line′.Delete room a b r q x y = tells-one x y
 handles-one lists (Line′.Status p k) room a b r q x y = tells-one x y
+handles-one lists Line′.Key room a b r q x y = tells-one x y

@@ -36,6 +36,7 @@ isForLists (Line′.Mark channel unit mark on) = true
 isForLists Line′.Release = false
 isForLists Line′.Delete = false
 isForLists (Line′.Status place packet) = true
+isForLists Line′.Key = false
 
 -- ---- what a line leaves: the text from the room's start on, cut at its end, the call's answer, and the lists
 
@@ -74,3 +75,4 @@ Handles lists Line′.Release room after r = NotHere lists room after r
 Handles lists Line′.Delete room after r = NotHere lists room after r
 Handles lists (Line′.Status place packet) room after r =
     Tells (statusAnswerText (statusIn lists place packet)) (nothingDone lists) room after r
+Handles lists Line′.Key room after r = NotHere lists room after r

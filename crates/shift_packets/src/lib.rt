@@ -42,6 +42,7 @@ pub fn is_for_lists(call: Line) -> bool
         Line::Release => false,
         Line::Delete => false,
         Line::Status(_, _) => true,
+        Line::Key => false,
     }
 }
 
@@ -147,5 +148,6 @@ pub fn reply(lists: Lists, call: Line, out: &mut [u8]) -> Handled
         Line::Status(place, packet) => {
             unchanged(lists, put_status(out, lists::status(lists, place, packet)))
         }
+        Line::Key => unchanged(lists, 0),
     }
 }

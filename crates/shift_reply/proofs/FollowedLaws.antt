@@ -74,6 +74,7 @@ followed-replies cell Line′.Release id line room after h e g = absurd (false�
 followed-replies cell Line′.Delete id line room after h e g = absurd (false≢true e)
 followed-replies cell (Line′.Status p k) id line room after h e g =
     record { cell = ap₂ cellOf (ap (afterCompletion (cell .schedule)) (g .answer)) (g .lists); put = g .put }
+followed-replies cell Line′.Key id line room after h e g = absurd (false≢true e)
 
 -- what such a line is said to leave is what its reply is
 pub replies-followed : (cell : Cell) (call : Line) (id line room after : List ℕ) (r : Replied) → isForLists call ≡ true → Followed cell call room after r → Replies cell call id line room after r

@@ -58,3 +58,4 @@ replies-one cell (Line′.Mark c u m o) id line room a b r q x y = shows-one x y
 replies-one cell Line′.Release id line room a b r q x y = shows-one x y
 replies-one cell Line′.Delete id line room a b r q x y = shows-one x y
 replies-one cell (Line′.Status p k) id line room a b r q x y = shows-one x y
+replies-one cell Line′.Key id line room a b r q x y = shows-one x y

@@ -10,14 +10,18 @@ use Rattle.text.specs.Room.{Written}
 use Rattle.schedule_deck.specs.Report.{deckNotes, deckSchedule, deckOutcome}
 use Rattle.packets.specs.Rules as Rules
 use Rattle.cell_selection.specs.declared.Selection.{Selection}
-use Rattle.cell.specs.Calls.{cellOf, acted, releasing, deleting, statusOf, SelectsIn}
+use Rattle.keyboard.specs.Messages.{readMessage}
+use Rattle.keyboard_answers.specs.Answers.{answerText as keyText}
+use Rattle.cell.specs.Calls.{cellOf, acted, releasing, deleting, statusOf, heeded, SelectsIn}
 use Rattle.cell.specs.declared.Answered.{Answered}
 use Rattle.cell.specs.declared.Cell.{Cell}
+use Rattle.cell.specs.declared.Heeded.{Heeded}
 use Rattle.cell.specs.declared.SelectAnswer.{SelectAnswer}
 use Rattle.shift_answers.specs.Answers.{refusedText, noCallText}
 use Rattle.shift_packets.specs.Texts.{answerText, statusAnswerText, submission}
 use Rattle.shift_selected.specs.Selected.{selectedText}
 use Rattle.board.specs.Board.{boardText}
+use Rattle.shift_script.specs.Script.{messageIn}
 use Rattle.shift_script.specs.declared.Submission.{Submission}
 use Rattle.shift_script.specs.declared.Line.{Line}
 use Rattle.shift_script.specs.declared.Line.the-variants as Line′
@@ -70,6 +74,18 @@ deckCell cell deck = cellOf (deckSchedule (cell .schedule) deck) (cell .lists)
 abbrev pub EntersDeck : Cell → List ℕ → List ℕ → List ℕ → Replied → Type 0
 EntersDeck cell deck room after r = Shows (deckReply cell deck) (deckCell cell deck) room after r
 
+-- a keyboard message: it does what the call does that it is
+abbrev pub keyed : Cell → List ℕ → Heeded
+keyed cell message = heeded cell (readMessage message .asks) (readMessage message .id)
+
+-- "the message's own answer line", and nothing else: its answer, and an LF
+abbrev pub keyReply : Cell → List ℕ → List ℕ
+keyReply cell message = keyText (readMessage message .asks) (keyed cell message .told) ++ bytes "\n"
+
+-- a message handed over
+abbrev pub KeysMessage : Cell → List ℕ → List ℕ → List ℕ → Replied → Type 0
+KeysMessage cell message room after r = Shows (keyReply cell message) (keyed cell message .cell) room after r
+
 -- THE ANSWER TO A LINE: what it says, the ID that it names, and the line itself; `DECK` is answered when its deck has
 -- been gathered
 abbrev pub Replies : Cell → Line → List ℕ → List ℕ → List ℕ → List ℕ → Replied → Type 0
@@ -87,3 +103,4 @@ Replies cell (Line′.Mark channel unit mark on) id line room after r =
 Replies cell Line′.Release id line room after r = Gives (releasing cell id) room after r
 Replies cell Line′.Delete id line room after r = Gives (deleting cell id) room after r
 Replies cell (Line′.Status place packet) id line room after r = Shows (statusAnswerText (statusOf cell place packet)) cell room after r
+Replies cell Line′.Key id line room after r = KeysMessage cell (messageIn line) room after r

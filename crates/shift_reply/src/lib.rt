@@ -10,7 +10,7 @@ ghost use mathlib.Core.Path.{_≡_};
 ghost use Rattle.text.specs.Room.{Written};
 ghost use Rattle.board.specs.Board.{boardText};
 ghost use Rattle.shift_reply.specs.Followed.{Followed};
-ghost use Rattle.shift_reply.specs.Replies.{selectText, refusalText, echoText, Shows, Gives, Selects, EntersDeck, Replies};
+ghost use Rattle.shift_reply.specs.Replies.{selectText, refusalText, echoText, Shows, Gives, Selects, EntersDeck, KeysMessage, Replies};
 
 // The cell after a line, and where the answer ends in the lent room.
 pub struct Replied {
@@ -123,6 +123,21 @@ fn on_lists(cell: Cell, call: Line, out: &mut [u8]) -> Replied
     }
 }
 
+// A keyboard message, its answer and an LF.
+fn key(cell: Cell, message: &[u8], out: &mut [u8]) -> Replied
+    ensures { λ r. ⌜ KeysMessage cell (now (message .entry)) (now (out .entry)) (now (out .exit)) r ⌝ }
+{
+    let mut room = [b' '; 12];
+    let answer = cell::key(cell, message, &mut room);
+    let after = answer.cell;
+    let at = answer.at;
+    let end = text::put_bytes(out, 0, &room[..at]);
+    Replied {
+        cell: after,
+        at: text::put_byte(out, end, b'\n'),
+    }
+}
+
 // The board.
 fn board(cell: Cell, out: &mut [u8]) -> Replied
     ensures { λ r. ⌜ Shows (boardText (cell .lists) (cell .schedule)) cell (now (out .entry)) (now (out .exit)) r ⌝ }
@@ -152,5 +167,6 @@ pub fn reply_line(cell: Cell, said: Said, line: &[u8], out: &mut [u8]) -> Replie
         Line::Release => with_answer(out, cell::release(cell, id)),
         Line::Delete => with_answer(out, cell::delete(cell, id)),
         Line::Status(_, _) => on_lists(cell, call, out),
+        Line::Key => key(cell, shift_script::message_in(line), out),
     }
 }

@@ -4,8 +4,9 @@ use Prim.Native.String.{String}
 use mathlib.Core.Bool.{Bool, true, false, cond, _||_}
 use mathlib.Core.List.{List, [], _∷_}
 use lib.Dec.{eqb, ltb}
-use lib.ListN.{length, getD}
+use lib.ListN.{length, getD, take, drop}
 use Rattle.numbers.specs.Quoted.{byte, bytes}
+use Rattle.words.specs.Words.{same}
 use Rattle.numbers.specs.declared.ChannelNumber.{ChannelNumber}
 use Rattle.numbers.specs.declared.UnitNumber.{UnitNumber}
 use Rattle.units.specs.declared.Mark.the-variants as Mark′
@@ -15,7 +16,7 @@ use Rattle.line_words.specs.Forms.{wordsOf, numberIn, fitting, idOf}
 use Rattle.shift_script.specs.declared.Submission.{Submission}
 use Rattle.shift_script.specs.declared.Line.{Line}
 use Rattle.shift_script.specs.declared.Line.the-variants.{NoCall, Echo, Deck, Select, Board, Submit, Start, Complete}
-use Rattle.shift_script.specs.declared.Line.the-variants.{End, Mark, Release, Delete, Status}
+use Rattle.shift_script.specs.declared.Line.the-variants.{End, Mark, Release, Delete, Status, Key}
 use Rattle.shift_script.specs.declared.Said.{Said}
 
 -- the number that word k writes, the line's first word at 0
@@ -94,6 +95,16 @@ sayBy (row ∷ rows) words = cond (fitting (wordsOf (row .form)) words) (row .sa
 unfoldable pub isEcho : List ℕ → Bool
 isEcho s = eqb (length s) 0 || eqb (getD s 0 0) (byte "#")
 
--- "A line of over 255 bytes, `#` or not, is no call"
+-- "The line is `KEY`, one space, and the message: the rest of the line, .. as they stand. `KEY` alone .. is the empty
+-- message"; "the rule of single spaces does not hold behind that first space"
+unfoldable pub isKey : List ℕ → Bool
+isKey s = same s (bytes "KEY") || same (take 4 s) (bytes "KEY ")
+
+-- the message of such a line: the bytes behind the first four, none for `KEY` alone
+abbrev pub messageIn : List ℕ → List ℕ
+messageIn s = drop 4 s
+
+-- "A line of over 255 bytes, `#` or not, is no call", and `KEY` or not
 unfoldable pub lineSays : List ℕ → Said
-lineSays s = cond (ltb 255 (length s)) (said NoCall) (cond (isEcho s) (said Echo) (sayBy table (wordsOf s)))
+lineSays s =
+    cond (ltb 255 (length s)) (said NoCall) (cond (isEcho s) (said Echo) (cond (isKey s) (said Key) (sayBy table (wordsOf s))))

@@ -1,15 +1,15 @@
 // The script of a cell that is talked to line by line: what a line says.
+use line_words::Base;
 use numbers::ChannelNumber;
 use numbers::UnitNumber;
 use packets::How;
-use line_words::Base;
 use units::Mark;
 ghost use mathlib.Core.Path.{_≡_};
 ghost use Prim.Native.Nat.{min};
 ghost use lib.ListN.{drop};
 ghost use Rattle.line_words.specs.Forms.{wordsOf};
 ghost use Rattle.shift_script.specs.Script.{said, named, smallAt, codeAt, channelAt, unitAt, submissionOf};
-ghost use Rattle.shift_script.specs.Script.{isEcho, sayBy, table, lineSays};
+ghost use Rattle.shift_script.specs.Script.{isEcho, isKey, messageIn, sayBy, table, lineSays};
 
 // A submission: place, packet, function, channel; at: the unit, or on the drum channel the address X or L; to: H
 // there, 0 where it was left out.
@@ -23,7 +23,7 @@ pub struct Submission {
 }
 
 // What a line says: no call, an echo, or one of the calls. End: the place, and whether in error; Mark: whether it is
-// set; the ID of a release or a deletion stands beside it.
+// set; the ID of a release or a deletion stands beside it. Key: a keyboard message, which stands in the line.
 pub enum Line {
     NoCall,
     Echo,
@@ -38,6 +38,7 @@ pub enum Line {
     Release,
     Delete,
     Status(u8, u8),
+    Key,
 }
 
 // A line's meaning with the ID that it names, blanks where it names none.
@@ -205,6 +206,29 @@ fn is_echo(line: &[u8]) -> bool
     text::byte_at(line, 0) == b'#'
 }
 
+// Whether a line is a keyboard message: `KEY`, one space, and the message; or `KEY` alone.
+fn is_key(line: &[u8]) -> bool
+    ensures { λ r. ⌜ r ≡ isKey (now (line .entry)) ⌝ }
+{
+    if words::is_same(line, b"KEY") {
+        return true;
+    }
+    if line.len() < 4 {
+        return false;
+    }
+    words::is_same(&line[..4], b"KEY ")
+}
+
+// The message of a line that is one; empty for `KEY` alone.
+pub fn message_in(line: &[u8]) -> &[u8]
+    ensures { λ r. ⌜ now r ≡ messageIn (now (line .entry)) ⌝ }
+{
+    if line.len() < 4 {
+        return &line[0..0];
+    }
+    &line[4..]
+}
+
 // What a line says, its LF apart.
 pub fn read_line(line: &[u8]) -> Said
     ensures { λ r. ⌜ r ≡ lineSays (now (line .entry)) ⌝ }
@@ -214,6 +238,9 @@ pub fn read_line(line: &[u8]) -> Said
     }
     if is_echo(line) {
         return plain(Line::Echo);
+    }
+    if is_key(line) {
+        return plain(Line::Key);
     }
     on_packets(line)
 }

@@ -6,15 +6,14 @@ use mathlib.Core.List.{List, [], _∷_, _++_}
 use lib.Dec.{ltb}
 use lib.ListN.{length}
 use Rattle.numbers.specs.Quoted.{byte, bytes}
-use Rattle.words.specs.Words.{every, isnt}
 use Rattle.units.specs.declared.Mark.the-variants as Mark′
 use Rattle.packets.specs.declared.How.the-variants.{Full, Cut, Failed}
 use Rattle.line_words.specs.declared.Base.{Base}
 use Rattle.line_words.specs.declared.Base.the-variants.{Decimal, Octal}
-use Rattle.line_words.specs.Forms.{baseOf, idOf}
+use Rattle.line_words.specs.Forms.{IsWord, baseOf}
 use Rattle.shift_script.specs.declared.Line.{Line}
 use Rattle.shift_script.specs.declared.Line.the-variants.{NoCall, Echo, Deck, Select, Board, Submit, Start, Complete}
-use Rattle.shift_script.specs.declared.Line.the-variants.{End, Mark, Release, Delete, Status}
+use Rattle.shift_script.specs.declared.Line.the-variants.{End, Mark, Release, Delete, Status, Key}
 
 -- words with single spaces between them
 abbrev pub spaced : List (List ℕ) → List ℕ
@@ -59,18 +58,18 @@ callWords (Mark channel unit Mark′.Reserved false) id = bytes "UNRESERVE" ∷ 
 callWords Release id = bytes "RELEASE" ∷ id ∷ []
 callWords Delete id = bytes "DELETE" ∷ id ∷ []
 callWords (Status place packet) id = bytes "STATUS" ∷ decimal place ∷ decimal packet ∷ []
+callWords Key id = []
 
 -- the line of a call
 abbrev pub lineFor : Line → List ℕ → List ℕ
 lineFor line id = spaced (callWords line id)
 
--- a word: no space in it, and at least one byte
-pub record Word (s : List ℕ) : Type 0 where
-  pub some : 0 < length s
-  pub plain : every (isnt (byte " ")) s ≡ true
+-- the line of a keyboard message: it is handed over as it stands
+abbrev pub keyLine : List ℕ → List ℕ
+keyLine message = bytes "KEY " ++ message
 
--- what a line can say of a call: numbers of nine digits, of eight bits where the call takes no more, and a word for
--- an ID, as long as a line can hold it
+-- what a line can say of a call of the table: numbers of nine digits, of eight bits where the call takes no more, and a
+-- word for an ID, as long as a line can hold it
 abbrev pub Sayable : Line → List ℕ → Type 0
 Sayable NoCall id = ⊥
 Sayable Echo id = ⊥
@@ -85,6 +84,7 @@ Sayable (Complete channel Cut) id = (id ≡ []) × (channel .0 ≤ 255)
 Sayable (Complete channel (Failed code)) id = (id ≡ []) × (channel .0 ≤ 255) × (code ≤ 255)
 Sayable (End place inError) id = (id ≡ []) × (place ≤ 255)
 Sayable (Mark channel unit mark on) id = (id ≡ []) × (channel .0 ≤ 255) × (unit .0 ≤ 255)
-Sayable Release id = Word id × (length id ≤ 247)
-Sayable Delete id = Word id × (length id ≤ 247)
+Sayable Release id = IsWord id × (length id ≤ 247)
+Sayable Delete id = IsWord id × (length id ≤ 247)
 Sayable (Status place packet) id = (id ≡ []) × (place ≤ 255) × (packet ≤ 255)
+Sayable Key id = ⊥

@@ -77,6 +77,7 @@ afterLine (Line′.Mark channel unit mark on) = Phase′.Talks
 afterLine Line′.Release = Phase′.Talks
 afterLine Line′.Delete = Phase′.Talks
 afterLine (Line′.Status place packet) = Phase′.Talks
+afterLine Line′.Key = Phase′.Talks
 
 -- a turn to this phase and this cell
 abbrev pub turnOf : Phase → Cell → ℕ → Turn

@@ -106,6 +106,7 @@ fn after_line(call: Line) -> Phase
         Line::Release => Phase::Talks,
         Line::Delete => Phase::Talks,
         Line::Status(_, _) => Phase::Talks,
+        Line::Key => Phase::Talks,
     }
 }
 

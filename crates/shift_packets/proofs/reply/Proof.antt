@@ -101,6 +101,12 @@ put-status-requires c κs = search needs
 unchanged-requires-9 : tie.Need-unchanged-requires-9
 unchanged-requires-9 c κs = search needs
 
+enum-told-9 : tie.Need-enum-told-9
+enum-told-9 c = search needs
+
+unchanged-requires-10 : tie.Need-unchanged-requires-10
+unchanged-requires-10 c κs = search needs
+
 returns : tie.Need-returns
 returns c = rw (c .before .enum-told .given .1) (told (c .unchanged .ensures) (none (c .before .before .before .before .args .out .now) 0))
 
@@ -155,6 +161,9 @@ same-length-5 c = search needs
 returns-13 : tie.Need-returns-13
 returns-13 c = rw (c .before .before .before .before .before .before .before .call5 .given .1) (told (c .unchanged9 .ensures) (rw (← c .before .before .before .before .status .ensures) (c .before .before .before .put-status .ensures)))
 
+returns-14 : tie.Need-returns-14
+returns-14 c = rw (c .before .enum-told9 .given .1) (told (c .unchanged10 .ensures) (none (c .before .before .before .before .args .out .now) 0))
+
 pub reply-spec : {M : Type 1} → statement M
 reply-spec =
     tie.close
@@ -191,6 +200,8 @@ reply-spec =
     status-requires
     put-status-requires
     unchanged-requires-9
+    enum-told-9
+    unchanged-requires-10
     returns
     returns-2
     returns-3
@@ -208,4 +219,5 @@ reply-spec =
     returns-11
     returns-12
     same-length-5
-    returns-13)
+    returns-13
+    returns-14)

@@ -1,7 +1,7 @@
 -- `shift_reply::reply_line` meets its contract: what the line says is what was answered. Assumes nothing.
 use mathlib.Core.Path.{refl}
 use Rattle.text.proofs.RoomLaws.{none}
-use Rattle.shift_reply.proofs.ReplyLaws.{shown, gives-as}
+use Rattle.shift_reply.proofs.ReplyLaws.{shown, gives-as, keys-as}
 use Rattle.shift_reply.proofs.FollowedLaws.{replies-followed}
 use borrow.Author.Needs.{needs}
 use Rattle.shift_reply.proofs.reply_line.Statement.{statement}
@@ -100,6 +100,15 @@ enum-told-12 c = search needs
 on-lists-requires-5 : tie.Need-on-lists-requires-5
 on-lists-requires-5 c κs = search needs
 
+enum-told-13 : tie.Need-enum-told-13
+enum-told-13 c = search needs
+
+message-in-requires : tie.Need-message-in-requires
+message-in-requires c κs = search needs
+
+key-requires : tie.Need-key-requires
+key-requires c κs = search needs
+
 same-length : tie.Need-same-length
 same-length c = search needs
 
@@ -175,6 +184,12 @@ same-length-12 c = search needs
 returns-13 : tie.Need-returns-13
 returns-13 c = replies-followed (c .before .before .before .before .before .before .before .before .before .args .cell) (c .before .before .before .before .before .before .before .before .before .args .said .line) (c .before .before .before .before .before .before .before .before .before .args .said .id) (c .before .before .before .before .before .before .before .before .before .args .line .now) (c .before .before .before .before .before .before .before .before .before .args .out .now) _ _ (rw (c .before .before .before .before .enum-told12 .given .1) refl) (c .before .before .on-lists5 .ensures)
 
+same-length-13 : tie.Need-same-length-13
+same-length-13 c = search needs
+
+returns-14 : tie.Need-returns-14
+returns-14 c = rw (c .before .before .before .before .before .enum-told13 .given .1) (keys-as (c .before .before .before .before .before .before .before .before .before .before .args .cell) (c .before .before .before .before .message-in .ensures) (c .before .before .key .ensures))
+
 pub reply-line-spec : {M : Type 1} → statement M
 reply-line-spec =
     tie.close
@@ -210,6 +225,9 @@ reply-line-spec =
     with-answer-requires-3
     enum-told-12
     on-lists-requires-5
+    enum-told-13
+    message-in-requires
+    key-requires
     same-length
     returns
     same-length-2
@@ -234,4 +252,6 @@ reply-line-spec =
     same-length-11
     returns-12
     same-length-12
-    returns-13)
+    returns-13
+    same-length-13
+    returns-14)

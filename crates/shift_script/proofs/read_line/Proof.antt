@@ -24,12 +24,22 @@ returns-2 : tie.Need-returns-2
 unfolding lineSays
 returns-2 c = c .plain2 .ensures ∙ rw (le-ltb 255 (length (c .before .before .before .before .before .args .line .now)) (c .before .before .before .if1 .left), sym (c .before .before .is-echo .ensures) ∙ c .before .if2 .taken)
 
-on-packets-requires : tie.Need-on-packets-requires
-on-packets-requires c κs = search needs
+is-key-requires : tie.Need-is-key-requires
+is-key-requires c κs = search needs
+
+plain-requires-3 : tie.Need-plain-requires-3
+plain-requires-3 c κs = search needs
 
 returns-3 : tie.Need-returns-3
 unfolding lineSays
-returns-3 c = c .on-packets .ensures ∙ rw (le-ltb 255 (length (c .before .before .before .before .before .args .line .now)) (c .before .before .before .if1 .left), sym (c .before .before .is-echo .ensures) ∙ c .before .if2 .left)
+returns-3 c = c .plain3 .ensures ∙ rw (le-ltb 255 (length (c .before .before .before .before .before .before .before .args .line .now)) (c .before .before .before .before .before .if1 .left), sym (c .before .before .before .before .is-echo .ensures) ∙ c .before .before .before .if2 .left, sym (c .before .before .is-key .ensures) ∙ c .before .if3 .taken)
+
+on-packets-requires : tie.Need-on-packets-requires
+on-packets-requires c κs = search needs
+
+returns-4 : tie.Need-returns-4
+unfolding lineSays
+returns-4 c = c .on-packets .ensures ∙ rw (le-ltb 255 (length (c .before .before .before .before .before .before .before .args .line .now)) (c .before .before .before .before .before .if1 .left), sym (c .before .before .before .before .is-echo .ensures) ∙ c .before .before .before .if2 .left, sym (c .before .before .is-key .ensures) ∙ c .before .if3 .left)
 
 pub read-line-spec : {M : Type 1} → statement M
 read-line-spec =
@@ -40,5 +50,8 @@ read-line-spec =
     is-echo-requires
     plain-requires-2
     returns-2
+    is-key-requires
+    plain-requires-3
+    returns-3
     on-packets-requires
-    returns-3)
+    returns-4)
