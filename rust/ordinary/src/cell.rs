@@ -6,6 +6,7 @@ use crate::assign::{assign, Assignment, Free, ASSIGNABLE_CORE};
 use crate::configuration::{Channel, Configuration, DRUM_START};
 use crate::deck;
 use crate::functions::{self, REMOVE_INTERLOCK, TERMINATE};
+use crate::keyboard::{self, Answer, Message};
 use crate::numbers::{ChannelNumber, Kind, Refusal, UnitNumber};
 use crate::schedule::{Schedule, State};
 
@@ -197,6 +198,21 @@ impl Cell {
             Mark::Reserved => unit.reserved = on,
         }
         Ok(())
+    }
+
+    /// Does what an operator's message of any bytes asks for.
+    pub fn keyboard(&mut self, message: &[u8]) -> Answer {
+        let Message { word, call } = Message::read(message);
+        Answer { word, outcome: call.and_then(|call| self.asked(call).map_err(keyboard::Error::Refused)) }
+    }
+
+    /// The call of a message: the same as without the message, accepted and refused alike.
+    fn asked(&mut self, call: keyboard::Call) -> Result<(), Refusal> {
+        match call {
+            keyboard::Call::Down { channel, unit, on } => self.mark(channel, unit, Mark::Down, on),
+            keyboard::Call::Release(id) => self.release(&id),
+            keyboard::Call::Delete(id) => self.delete(&id),
+        }
     }
 
     /// Takes the first candidate with an assignment into the lowest free place.

@@ -9,6 +9,7 @@ pub mod cell;
 pub mod configuration;
 pub mod deck;
 pub mod functions;
+pub mod keyboard;
 pub mod numbers;
 pub mod schedule;
 pub mod shift;

@@ -97,6 +97,8 @@ pub enum Refusal {
     NoSuchRequest = 15,
     /// The request to delete runs or closes.
     RequestRuns = 16,
+    /// An unknown message word, or text after the message's last field.
+    UnknownMessage = 17,
 }
 
 impl Refusal {

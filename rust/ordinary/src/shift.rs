@@ -24,6 +24,7 @@ enum Call {
     Mark { channel: u32, unit: u32, mark: Mark, on: bool },
     Release(String),
     Delete(String),
+    Keyboard(Vec<u8>),
     Status(u32, u32),
     Board,
 }
@@ -31,6 +32,10 @@ enum Call {
 impl Call {
     /// The call of a line that has exactly the words and numbers of one.
     fn read(line: &[u8]) -> Option<Call> {
+        // The rule of single spaces does not hold in a message.
+        if let Some(message) = key_message(line) {
+            return Some(Call::Keyboard(message.to_vec()));
+        }
         let words: Vec<&[u8]> = line.split(|&byte| byte == b' ').collect();
         if words.iter().any(|word| word.is_empty()) {
             return None;
@@ -65,6 +70,15 @@ impl Call {
             [b"BOARD"] => Call::Board,
             _ => return None,
         })
+    }
+}
+
+/// The message of a `KEY` line: all that stands behind `KEY` and one space. `KEY` alone has the empty message.
+fn key_message(line: &[u8]) -> Option<&[u8]> {
+    match line.strip_prefix(b"KEY")? {
+        [] => Some(b""),
+        [b' ', message @ ..] => Some(message),
+        _ => None,
     }
 }
 
@@ -162,6 +176,8 @@ impl Shift {
             Call::Mark { channel, unit, mark, on } => cell.mark(channel, unit, mark, on).map(done),
             Call::Release(id) => cell.release(&id).map(done),
             Call::Delete(id) => cell.delete(&id).map(done),
+            // A message has its own line for a refusal too.
+            Call::Keyboard(message) => Ok(format!("{}\n", cell.keyboard(&message))),
             Call::Status(place, packet) => cell.status(place, packet).map(|status| match status {
                 Status::Blank => "ACK BLANK\n".to_string(),
                 Status::Listed => "ACK LISTED\n".to_string(),

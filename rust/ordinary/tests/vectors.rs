@@ -37,5 +37,5 @@ fn listing() {
 
 #[test]
 fn shift() {
-    check("../../crates/cases_shift/data", 13, ordinary::shift::converse);
+    check("../../crates/cases_shift/data", 27, ordinary::shift::converse);
 }
