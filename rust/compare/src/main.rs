@@ -8,6 +8,7 @@
 
 mod configurations;
 mod decks;
+mod messages;
 mod programs;
 mod random;
 mod reduce;
@@ -182,6 +183,10 @@ fn sort_of(subject: Subject, line: &[u8]) -> String {
         }
         (Subject::Shift, [_, _, word @ ("WAITS" | "RUNS" | "CLOSES" | "SUSPENDED")]) => format!("board request {word}"),
         (Subject::Shift, ["END", "OF", "BOARD"]) => "board end".into(),
+        (Subject::Shift, [word @ ("DWN" | "AVL" | "SEL" | "DEL"), "ACK"]) => format!("message {word} accepted"),
+        (Subject::Shift, [word @ ("DWN" | "AVL" | "SEL" | "DEL" | "---"), number, "IN", "ER"]) => {
+            format!("message {word} error {number:0>2}")
+        }
         (Subject::Shift, ["??"]) => "no call".into(),
         (Subject::Shift, _) => "echo".into(),
     }

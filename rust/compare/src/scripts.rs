@@ -10,6 +10,7 @@ use ordinary::shift::Shift;
 
 use crate::configurations;
 use crate::decks::{self, Reach, Style};
+use crate::messages;
 use crate::random::{damage, Random, ODD_BYTES};
 
 /// A configuration, and calls with their line ends; a deck is one call with its cards.
@@ -30,12 +31,13 @@ enum Sort {
     End,
     Mark,
     Request,
+    Message,
     Status,
     Board,
     Noise,
 }
 
-const SORTS: [Sort; 11] = [
+const SORTS: [Sort; 12] = [
     Sort::Deck,
     Sort::Select,
     Sort::Submit,
@@ -44,22 +46,23 @@ const SORTS: [Sort; 11] = [
     Sort::End,
     Sort::Mark,
     Sort::Request,
+    Sort::Message,
     Sort::Status,
     Sort::Board,
     Sort::Noise,
 ];
 
-const WEIGHTS: &[[usize; 11]] = &[
+const WEIGHTS: &[[usize; 12]] = &[
     // An ordinary day.
-    [3, 10, 35, 18, 17, 4, 3, 3, 4, 2, 1],
+    [3, 10, 35, 18, 17, 4, 3, 3, 6, 4, 2, 1],
     // Long request lists.
-    [2, 6, 80, 3, 3, 1, 1, 1, 2, 1, 0],
+    [2, 6, 80, 3, 3, 1, 1, 1, 3, 2, 1, 0],
     // Many short jobs.
-    [8, 25, 15, 10, 10, 18, 4, 5, 3, 2, 0],
+    [8, 25, 15, 10, 10, 18, 4, 5, 6, 3, 2, 0],
     // A full schedule and full places.
-    [15, 20, 20, 8, 8, 1, 6, 8, 4, 2, 1],
+    [15, 20, 20, 8, 8, 1, 6, 8, 7, 4, 2, 1],
     // Failures and marks.
-    [3, 10, 30, 20, 22, 4, 8, 1, 1, 2, 0],
+    [3, 10, 30, 20, 22, 4, 8, 1, 6, 1, 2, 0],
 ];
 
 struct Writer<'r> {
@@ -171,6 +174,11 @@ impl Writer<'_> {
             Sort::End => self.end(),
             Sort::Mark => self.mark(),
             Sort::Request => self.request(),
+            Sort::Message => {
+                let mut line = messages::key_line(self.random, self.shift.cell());
+                line.push(b'\n');
+                line
+            }
             Sort::Status => {
                 let (place, packet) = (self.place(), self.random.within(0..=16).to_string());
                 self.line(&["STATUS", &place, &packet])
@@ -198,13 +206,15 @@ impl Writer<'_> {
                 }
             }
         }
-        let end: &[u8] = match self.random.below(12) {
+        let end: &[u8] = match self.random.below(14) {
             0 => b"BOARD",
             1 => b"DECK",
             2 => b"DECK\nA,PTY,2,,P,,,M,P,A,P,1.\nA,FAC,IB/1.\n",
             3 => b"DECK\n)))))))) +++++++++++++                                                  ))))))))",
             4 => b"#",
             5 => b"\xff",
+            6 => b"KEY",
+            7 => b"KEY DEL A ",
             _ => return,
         };
         self.pieces.push(end.to_vec());
@@ -419,7 +429,7 @@ impl Writer<'_> {
                 format!("{} {}", self.random.pick(&words), self.random.pick(&numbers)).into_bytes()
             }
             6 => {
-                let word = *self.random.pick(&["START", "RELEASE", "DELETE", "#"]);
+                let word = *self.random.pick(&["START", "RELEASE", "DELETE", "KEY", "KEY SEL", "#"]);
                 let digits = length.saturating_sub(word.len() + 1);
                 format!("{word} {}", "0".repeat(digits)).into_bytes()
             }
