@@ -122,11 +122,14 @@ impl Heads {
         let (call, answer) = (String::from_utf8_lossy(&answered.call.text), String::from_utf8_lossy(line));
         let words: Vec<&str> = call.lines().next().unwrap_or_default().split(' ').collect();
         let said: Vec<&str> = answer.trim_end().split(' ').collect();
-        if said[0] == "ACK" {
-            // A call that is not as the program takes it cannot have been accepted; of a journal made by hand it is
-            // passed over.
-            let _ = self.accepted(&words, &said[1..]);
-        }
+        // A call that is not as the program takes it cannot have been accepted; of a journal made by hand it is passed
+        // over.
+        let _ = match (&words[..], &said[..]) {
+            // The answer to a message has the message's word before it.
+            (["KEY", message @ ..], [_, "ACK"]) => self.accepted_message(message),
+            (_, ["ACK", said @ ..]) => self.accepted(&words, said),
+            _ => None,
+        };
     }
 
     fn accepted(&mut self, words: &[&str], said: &[&str]) -> Option<()> {
@@ -148,6 +151,20 @@ impl Heads {
             }
             _ => None,
         }
+    }
+
+    /// `DWN Ccc Uuu` or `AVL Ccc Uuu`, with as many spaces and zeros as the operator likes. Other messages change no
+    /// head.
+    fn accepted_message(&mut self, message: &[&str]) -> Option<()> {
+        let words: Vec<&str> = message.iter().copied().filter(|word| !word.is_empty()).collect();
+        let (down, channel, unit) = match words[..] {
+            ["DWN", channel, unit] => (true, channel, unit),
+            ["AVL", channel, unit] => (false, channel, unit),
+            _ => return None,
+        };
+        let (channel, unit) = (channel.strip_prefix('C')?, unit.strip_prefix('U')?);
+        self.head(number(channel)?, number(unit)?)?.down = down;
+        Some(())
     }
 
     /// `p id IB a-b`, then perhaps `MD a-b`, and each unit as `cc/uu`.
@@ -214,5 +231,62 @@ impl Heads {
             head.holder = None;
         }
         Some(())
+    }
+}
+
+#[cfg(test)]
+mod tests {
+    use super::*;
+    use crate::calls::Call;
+    use crate::journal::Answer;
+
+    const CONFIGURATION: &[u8] = b"2\n03 MT 4\n07 MD 40000\n0\n";
+
+    /// The heads that are down after these calls with their answers.
+    fn down(calls: &[(&[u8], &str)]) -> Vec<HeadName> {
+        let mut heads = Heads::fresh(CONFIGURATION).unwrap();
+        for (line, answer) in calls {
+            let call = Call { text: [line, &b"\n"[..]].concat(), open: false };
+            let answered = Answered { call, answer: Answer::new(format!("{answer}\n").as_bytes()) };
+            assert!(!answered.call.is_none(format!("{answer}\n").as_bytes()));
+            heads.hear(&answered);
+        }
+        heads.heads.iter().filter(|(_, head)| head.down).map(|(name, _)| *name).collect()
+    }
+
+    #[test]
+    fn messages_that_are_accepted_change_the_down_mark() {
+        assert_eq!(down(&[(b"KEY DWN C03 U01", "DWN ACK"), (b"KEY DWN C3 U2", "DWN ACK")]), [(3, 1), (3, 2)]);
+        assert_eq!(down(&[(b"KEY DWN C03 U01", "DWN ACK"), (b"KEY AVL C03 U01", "AVL ACK")]), []);
+        // Set and cleared by the calls too.
+        assert_eq!(down(&[(b"DOWN 3 1", "ACK"), (b"KEY AVL C3 U1", "AVL ACK")]), []);
+        assert_eq!(down(&[(b"KEY DWN C3 U1", "DWN ACK"), (b"UP 3 1", "ACK")]), []);
+        let zeros = format!("KEY   DWN  C{0}3   U{0}1  ", "0".repeat(100));
+        assert_eq!(down(&[(zeros.as_bytes(), "DWN ACK")]), [(3, 1)]);
+    }
+
+    #[test]
+    fn messages_in_error_and_other_messages_change_nothing() {
+        let before: (&[u8], &str) = (b"KEY DWN C03 U01", "DWN ACK");
+        for call in [
+            (&b"KEY AVL C16 U01"[..], "AVL 12 IN ER"),
+            (b"KEY AVL C07 U00", "AVL 31 IN ER"),
+            (b"KEY AVL C03 U01\r", "AVL 10 IN ER"),
+            (b"KEY AVL C03 U01 X", "--- 17 IN ER"),
+            (b"KEY UPF C03 U01", "--- 17 IN ER"),
+            (b"KEY", "--- 17 IN ER"),
+            (b"KEY ", "--- 17 IN ER"),
+            (b"KEY SEL A1", "SEL ACK"),
+            (b"KEY DEL C03", "DEL ACK"),
+            (b"KEY SEL \xff", "SEL 15 IN ER"),
+            // Of journals made by hand.
+            (b"KEY AVL", "AVL ACK"),
+            (b"KEY AVL C03", "AVL ACK"),
+            (b"KEY AVL C99999999999 U01", "AVL ACK"),
+            (b"KEY AVL C03 U01", "ACK"),
+            (b"KEY", "ACK"),
+        ] {
+            assert_eq!(down(&[before, call]), [(3, 1)], "{call:?}");
+        }
     }
 }

@@ -13,12 +13,13 @@ fn bytes(random: &mut Random, most: usize) -> Vec<u8> {
     let length = random.below(most);
     let mut bytes = Vec::new();
     while bytes.len() < length {
-        match random.below(12) {
+        match random.below(13) {
             0..=5 => bytes.push(random.below(256) as u8),
             6 | 7 => bytes.push(*random.pick(ODD_BYTES)),
             8 => bytes.extend(random.pick(&["DECK\n", "BOARD\n", "SELECT\n", "\n", "#", TERMINATION]).bytes()),
             9 => bytes.extend(vec![b'X'; random.below(400)]),
             10 => bytes.push(b'\n'),
+            11 => bytes.extend(random.pick(&["KEY", "KEY ", "\nKEY ", "\nKEY DWN C3 U", "KEY AVL C03 U01\n"]).bytes()),
             _ => bytes.extend(b"@ 1 0 0\n"),
         }
     }
@@ -100,6 +101,10 @@ fn any_record_is_read_or_refused() {
         "ACK",
         "SELECT",
         "START",
+        "KEY",
+        "DWN",
+        "C03",
+        "U00",
         " ",
         "0",
         "9",

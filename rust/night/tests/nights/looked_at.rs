@@ -8,6 +8,7 @@ use night::journal::{Answer, Answered};
 use night::tracks::{tracks, Row, Track};
 use ordinary::cell::{Cell, Status};
 use ordinary::numbers::{ChannelNumber, UnitNumber};
+use ordinary::shift::converse;
 
 use crate::support::{script, Place, Script};
 
@@ -123,6 +124,43 @@ fn night(words: &[&str], place: &Place) -> String {
     let output = command.arg(words[0]).arg("--journal").arg(place.journal()).args(&words[1..]).output().unwrap();
     assert!(output.status.success(), "{}", String::from_utf8_lossy(&output.stderr));
     String::from_utf8(output.stdout).unwrap()
+}
+
+#[test]
+fn messages_are_calls_and_their_marks_are_seen() {
+    const CONFIGURATION: &[u8] = b"1\n03 MT 4\n0\n";
+    // Each with whether it is a call, and whether the head 03/01 is down after it.
+    let lines: [(&[u8], bool, bool); 14] = [
+        (b"KEY", true, false),
+        (b"KEY ", true, false),
+        (b"KEY DWN C03 U1X", true, false),
+        (b"KEY DWN C3 U01", true, true),
+        (b"", false, true),
+        (b"KEY UPF C03 U01", true, true),
+        (b"KEY AVL C03 U01 \0", true, true),
+        (b"KEY\tAVL C03 U01", false, true),
+        (b"#KEY AVL C03 U01", false, true),
+        (b"--- 17 IN ER", false, true),
+        (b"KEY   AVL  C003 U0000000001  ", true, false),
+        (b"KEY DWN C03 U01\r", true, false),
+        (b"KEY SEL \xff\0", true, false),
+        (b"KEY  DWN C03 U01 ", true, true),
+    ];
+    let place = Place::new("messages", CONFIGURATION);
+    let input: Vec<u8> = lines.iter().flat_map(|(line, _, _)| [line, &b"\n"[..]].concat()).collect();
+    assert_eq!(place.answers(&input), converse(&[CONFIGURATION, &input].concat())[..]);
+    let kept = night::store::look_at(&place.journal()).unwrap().calls;
+    let calls: Vec<_> = lines.iter().filter(|(_, is_call, _)| *is_call).collect();
+    let texts: Vec<Vec<u8>> = calls.iter().map(|(line, _, _)| [line, &b"\n"[..]].concat()).collect();
+    assert_eq!(kept.into_iter().map(|answered| answered.call.text).collect::<Vec<_>>(), texts);
+    for (number, (_, _, is_down)) in (1..).zip(&calls) {
+        let said = night(&["who", "03", "01", &i32::to_string(&number)], &place);
+        assert_eq!(said.ends_with(": free; marked down\n"), *is_down, "{said}");
+        assert_eq!(said.ends_with(": free\n"), !*is_down, "{said}");
+    }
+    assert!(night(&["show"], &place).contains(r#"<line class="down""#));
+    // They are played back.
+    assert!(place.answers(b"BOARD\n").starts_with(b"UNIT 03/01 DOWN\nCORE "));
 }
 
 #[test]

@@ -11,6 +11,9 @@ mod configurations;
 #[path = "../../../compare/src/decks.rs"]
 mod decks;
 #[allow(dead_code)]
+#[path = "../../../compare/src/messages.rs"]
+mod messages;
+#[allow(dead_code)]
 #[path = "../../../compare/src/random.rs"]
 mod random;
 #[allow(dead_code)]
