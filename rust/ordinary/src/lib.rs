@@ -1,7 +1,9 @@
-//! The executive of one cell in ordinary Rust: requests, schedule, selection, assignment and channel request lists.
+//! The executive of one cell in ordinary Rust: requests, schedule, selection, assignment, channel request lists and
+//! keyboard messages.
 //!
-//! Written from the requirements ("document 01") and the settled points alone, and not from the proved code, so that
-//! the two can be compared. Octal numbers are written as such (`0o23`).
+//! Written from the requirements ("document 01", and the requests of "document 02" that have landed) and the settled
+//! points alone, and not from the proved code, so that the two can be compared. Octal numbers are written as such
+//! (`0o23`).
 
 pub mod assign;
 pub mod card;
