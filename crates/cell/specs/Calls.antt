@@ -129,9 +129,9 @@ statusOf cell place packet = statusIn (cell .lists) place packet
 abbrev pub called : Answered → Heeded
 called a = record { told = Said (a .answer); cell = a .cell }
 
--- "Each message does what the existing call does": `DWN` and `AVL` are MARK with the down mark, `SEL` is RELEASE, `DEL` is
--- DELETE, of the ID beside. An unknown message is refused with 17, one with a fault in a field is told that, and neither
--- changes anything
+-- "Each message does what the existing call does": `DWN` and `AVL` are MARK with the down mark, `SEL` is RELEASE and
+-- `DEL` is DELETE, of the ID beside. An unknown message is refused with 17, one with a fault in a field is told that,
+-- and neither changes anything
 abbrev pub heeded : Cell → Asked → List ℕ → Heeded
 heeded cell Asked′.Unknown id = record { told = Said (Refused UnknownMessage); cell = cell }
 heeded cell (Asked′.Wrong word fault) id = record { told = Mistyped fault; cell = cell }

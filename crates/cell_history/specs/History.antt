@@ -1,5 +1,5 @@
--- ANY SEQUENCE OF CALLS. A call of documents 01 and 02 on the cell, what it answers, and what it leaves, each exactly as the
--- contract of the public function of its name in `cell` gives it; and calls one after the other. A reader has to
+-- ANY SEQUENCE OF CALLS. A call of documents 01 and 02 on the cell, what it answers, and what it leaves, each exactly as
+-- the contract of the public function of its name in `cell` gives it; and calls one after the other. A reader has to
 -- believe this page. Of the room lent for a deck or a message it keeps no length: their contracts have it by type.
 use Prim.Native.Nat.{ℕ}
 use mathlib.Core.Path.{_≡_}

@@ -12,8 +12,8 @@ abbrev pub eventOf : Option Call → Reply → List Event
 eventOf none reply = []
 eventOf (some x) reply = record { call = x; reply = reply } ∷ []
 
--- a history with each message spelled out as the call that it asks for, answered as the message was; a message that asks
--- for none is left out
+-- a history with each message spelled out as the call that it asks for, answered as the message was; a message that
+-- asks for none is left out
 abbrev pub spelled : List Event → List Event
 spelled [] = []
 spelled (e ∷ es) = eventOf (meant (e .call)) (e .reply) ++ spelled es
@@ -23,8 +23,8 @@ abbrev pub NoMessages : List Event → Type 0
 NoMessages [] = Unit {0}
 NoMessages (e ∷ es) = ((message : List ℕ) → e .call ≡ Key message → ⊥) × NoMessages es
 
--- THE STATEMENT: the spelled history has no message, it leads to the same cell, and the lists hear and the caller is told
--- the same
+-- THE STATEMENT: the spelled history has no message, it leads to the same cell, and the lists hear and the caller is
+-- told the same
 pub record SpelledOut (c : Cell) (es : List Event) (d : Cell) : Type 0 where
   pub plain : NoMessages (spelled es)
   pub leads : Leads c (spelled es) d

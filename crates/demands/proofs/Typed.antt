@@ -1,5 +1,5 @@
--- KEYBOARD MESSAGES: each does what the existing call does; one with a fault in its fields is told the first, an unknown
--- one is answered `--- 17 IN ER`, and neither changes anything. By what the message asks for. Assumes nothing.
+-- KEYBOARD MESSAGES: each does what the existing call does; one with a fault in its fields is told that, an unknown one
+-- is answered `--- 17 IN ER`, and neither changes anything. By what the message asks for. Assumes nothing.
 use Prim.Native.Nat.{ℕ}
 use mathlib.Core.Path.{_≡_, refl, sym, ap, subst, _∙_}
 use mathlib.Core.Bool.{false}

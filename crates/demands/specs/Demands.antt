@@ -130,7 +130,7 @@ pub record Demand1 : Type 0 where
   -- "17 unknown message word, checked before everything else": it is answered `--- 17 IN ER` and changes nothing
   pub unknown : (c : Cell) (message room after : List ℕ) (r : KeyAnswer) → Keys c message room after r
       → known (messageWords message) ≡ false → Whole (bytes "--- 17 IN ER") room after (r .at) × (r .cell ≡ c)
-  -- a message with a fault in its fields is told the first and changes nothing, and one without is told of none
+  -- a message in whose fields a fault is read is told that and changes nothing, and any other is told of none
   pub mistyped : (c d : Cell) (message : List ℕ) (reply : Reply) (word : Word) (fault : Fault) → Does c (Key message) reply d
       → readMessage message .asks ≡ Wrong word fault → (reply ≡ Mistyped fault) × (d ≡ c)
   pub faulty : (c d : Cell) (message : List ℕ) (fault : Fault) → Does c (Key message) (Mistyped fault) d
@@ -204,10 +204,10 @@ pub record Demand2 : Type 0 where
   pub deleted : (c d : Cell) (id : List ℕ) (reply : Reply) → Does c (Delete id) reply d
       → d .schedule ≡ Schedule.deleted (c .schedule) id .schedule
   -- "ID, 1-6 letters or digits": such is the ID of every request in a schedule that any calls lead to,
-  pub named : (configuration : Configuration) (es : List Event) (c : Cell) → Leads (freshCell configuration) es c
+  pub identified : (configuration : Configuration) (es : List Event) (c : Cell) → Leads (freshCell configuration) es c
       → Each (λ r. Name isAlnum 1 6 (r .id)) (requests (inSchedule (c .schedule)))
-  -- so that a word is no request's ID if it has over six bytes or one that is no letter or digit: "15 no such ID" answers
-  -- it
+  -- so that a word is no request's ID if it has over six bytes or one that is no letter or digit: "15 no such ID"
+  -- answers it
   pub nobody : (configuration : Configuration) (es : List Event) (c : Cell) → Leads (freshCell configuration) es c
       → (word : List ℕ) → IsWord word → (6 < length word) ⊎ (every isAlnum word ≡ false)
       → find (isNamed (idOf word)) (inSchedule (c .schedule)) ≡ none

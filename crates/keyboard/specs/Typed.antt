@@ -59,8 +59,8 @@ abbrev pub known : List (List ℕ) → Bool
 known [] = false
 known (word ∷ fields) = within (fieldsOf word) fields
 
--- "17 unknown message word, checked before everything else": whatever else is wrong with it, a message is unknown exactly
--- if it has no message word in front or text follows its last field
+-- "17 unknown message word, checked before everything else": whatever else is wrong with it, a message is unknown
+-- exactly if it has no message word in front or text follows its last field
 abbrev pub FirstOfAll : Type 0
 FirstOfAll = (message : List ℕ) → (known (messageWords message) ≡ false → readMessage message ≡ saying Unknown [])
     × (readMessage message .asks ≡ Unknown → known (messageWords message) ≡ false)

@@ -23,7 +23,8 @@ pub enum Word {
     Del,
 }
 
-// What can be wrong with a field: it is missing or empty; a unit or channel number over 15; a nondigit in a number.
+// What can be wrong with a field: it is missing, without its letter, or has nothing behind that; a unit or channel
+// number over 15; a nondigit in a number.
 pub enum Fault {
     NoLength,
     UnitTooLarge,

@@ -1,5 +1,5 @@
--- WHAT IS ANSWERED TO A KEYBOARD MESSAGE (02, request 1), to the byte: "answers `mc ACK`, or `mc ee IN ER` with the error
--- or refusal number". A reader has to believe this page.
+-- WHAT IS ANSWERED TO A KEYBOARD MESSAGE (02, request 1), to the byte: "answers `mc ACK`, or `mc ee IN ER` with the
+-- error or refusal number". A reader has to believe this page.
 use Prim.Native.Nat.{ℕ}
 use mathlib.Core.Bool.{Bool, true, false, cond}
 use mathlib.Core.List.{List, _++_}
@@ -58,8 +58,8 @@ saidText (Answer′.Completed place packet leaving) = doneText
 saidText (Answer′.Closed leaving) = doneText
 saidText (Answer′.Refused refusal) = errorText (shownNumber refusal)
 
--- what was told: what the call answered (an unknown message, which is no call, is told as one that was refused), or of a
--- message in error its first fault
+-- what was told: what the call answered (an unknown message, which is no call, is told as one that was refused), or of
+-- a message in error its first fault
 abbrev pub toldText : Told → List ℕ
 toldText (Said answer) = saidText answer
 toldText (Mistyped fault) = errorText (faultNumber fault)

@@ -60,7 +60,7 @@ fitting [] (word ∷ words) = false
 fitting (form ∷ forms) [] = false
 fitting (form ∷ forms) (word ∷ words) = wordFits form word && fitting forms words
 
--- the ID that a word writes, in six bytes, blanks behind it; a word of over six bytes is no ID and becomes blanks alone,
--- which no request has
+-- the ID that a word writes, in six bytes, blanks behind it; a word of over six bytes is no ID and becomes blanks
+-- alone, which no request has
 unfoldable pub idOf : List ℕ → List ℕ
 idOf word = cond (ltb 6 (length word)) (padded 6 []) (padded 6 word)

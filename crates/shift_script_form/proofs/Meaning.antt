@@ -1,6 +1,6 @@
 -- What reading a line means. Every call of the table that a line can say is read back from the line that is written for
--- it; a line that is read as such a call has exactly the words of one row of the table, with single spaces between them;
--- and an ID is that of one word alone. A keyboard message: page KeyLaws. Assumes nothing.
+-- it; a line that is read as such a call has exactly the words of one row of the table, with single spaces between
+-- them; and an ID is that of one word alone. A keyboard message: page KeyLaws. Assumes nothing.
 use Prim.Native.Nat.{ℕ, zero, suc, _+_, _^_, _≤_, _<_}
 use mathlib.Core.Path.{_≡_, refl, sym, ap, _∙_}
 use mathlib.Core.Bool.{true, false}
@@ -128,8 +128,8 @@ read-back (Status place packet) id h =
     rw (h .0) (said-by 83 (bytes "TATUS") (decimal place ∷ decimal packet ∷ []) (said (Status place packet)) refl refl refl (a .plain, (b .plain, tt)) (omega (arith, a .short, b .short)) (status-row a (h .1) b (h .2)))
 read-back Key id h = absurd h
 
--- a line that is read as a call of the table: at most 255 bytes, no echo, no keyboard message, the words of one row with
--- single spaces between them, and what that row says
+-- a line that is read as a call of the table: at most 255 bytes, no echo, no keyboard message, the words of one row
+-- with single spaces between them, and what that row says
 pub record Called (s : List ℕ) : Type 0 where
   pub few : length s ≤ 255
   pub loud : isEcho s ≡ false

@@ -1,5 +1,5 @@
--- `keyboard::word_at` meets its contract. The loop's invariant: the word that is asked for is the one at `left` of those
--- from `at` on. Assumes nothing.
+-- `keyboard::word_at` meets its contract. The loop's invariant: the word that is asked for is the one at `left` of
+-- those from `at` on. Assumes nothing.
 use Prim.Native.Nat.{_≤_, _-_}
 use mathlib.Core.Path.{_≡_, _∙_}
 use mathlib.Core.List.{[]}
