@@ -1,13 +1,13 @@
 -- A HISTORY WITH KEYBOARD MESSAGES IS ONE WITH THE CALLS THAT THEY ARE, shown call by call: a message does what the
 -- call does that it asks for, or nothing. Assumes nothing.
-use mathlib.Core.Path.{_≡_, refl, sym, ap, subst, _∙_}
+use mathlib.Core.Path.{_≡_, refl, ap, subst, _∙_}
 use mathlib.Core.List.{List, [], _∷_, _++_}
-use mathlib.Core.Option.{Option, none, some}
+use mathlib.Core.Option.{Option, some}
 use Rattle.packets.specs.Demand as Told
 use Rattle.packets.specs.Rules as Rules
 use Rattle.cell.specs.declared.Cell.{Cell}
 use Rattle.cell_history.proofs.MeantLaws.{Plain, by-meant}
-use Rattle.cell_history.specs.Heard.{heard, heardAs, heardBy, heardOf, told, toldAs, toldBy, toldOf}
+use Rattle.cell_history.specs.Heard.{heard, heardBy, heardOf, told, toldBy, toldOf}
 use Rattle.cell_history.specs.History.{Call, Complete, Deck, Delete, Does, End, Event, Key, Leads, Mark, Release, Reply, Select, Start, Status, Submit, meant}
 use Rattle.cell_history.specs.Spelled.{NoMessages, SpelledAlways, eventOf, spelled}
 

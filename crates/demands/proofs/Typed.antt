@@ -1,10 +1,10 @@
 -- KEYBOARD MESSAGES: each does what the existing call does; one with a fault in its fields is told that, an unknown one
 -- is answered `--- 17 IN ER`, and neither changes anything. By what the message asks for. Assumes nothing.
 use Prim.Native.Nat.{ℕ}
-use mathlib.Core.Path.{_≡_, refl, sym, ap, subst, _∙_}
+use mathlib.Core.Path.{_≡_, refl, ap, subst, _∙_}
 use mathlib.Core.Bool.{false}
 use mathlib.Core.List.{List}
-use mathlib.Core.Option.{Option, none, some}
+use mathlib.Core.Option.{some}
 use native.Mathlib.Omega.{arith}
 use Rattle.numbers.specs.Quoted.{bytes}
 use Rattle.numbers.specs.declared.Refusal.the-variants.{UnknownMessage}

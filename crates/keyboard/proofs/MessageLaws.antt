@@ -2,14 +2,13 @@
 -- word and a field come to. Assumes nothing.
 use Prim.Native.Nat.{ℕ, zero, suc, min, _+_, _-_, _*_, _≤_, _<_}
 use mathlib.Core.Path.{_≡_, refl, sym, ap, _∙_}
-use mathlib.Core.Bool.{Bool, true, false, cond, not, _&&_}
+use mathlib.Core.Bool.{Bool, true, false}
 use mathlib.Core.List.{List, [], _∷_}
-use mathlib.Core.Logic.{_⊎_, ⊎-elim}
 use native.Mathlib.Omega.{arith}
 use lib.Dec.{eqb, ltb, leb}
 use lib.ListN.{length, getD, drop, take, length-drop}
 use lib.Seq.{length-take-le}
-use borrow.Author.Tests.{eq-eqb, ne-eqb, eqb-true, lt-ltb, le-ltb, le-leb, lt-leb, ltb-true, leb-true, leb-false}
+use borrow.Author.Tests.{eq-eqb, ne-eqb, lt-ltb, le-ltb, le-leb, lt-leb, ltb-true, leb-true, leb-false}
 use Rattle.numbers.proofs.Tests.{by-bool}
 use Rattle.text.specs.Class.{isDigit}
 use Rattle.words.specs.Words.{every, same, value, valueFrom}
@@ -19,7 +18,6 @@ use Rattle.line_words.specs.Forms as Forms
 use Rattle.line_words.proofs.SplitLaws.{Word}
 use Rattle.cards_fields.proofs.FieldLaws.{rest-is}
 use Rattle.keyboard.specs.Messages.{filled, isMessage, numberField, messageWords}
-use Rattle.keyboard.specs.declared.Counted.{Counted}
 use Rattle.keyboard.specs.declared.Counted.the-variants.{Is, Wrong}
 use Rattle.keyboard.specs.declared.Fault.{Fault}
 use Rattle.keyboard.specs.declared.Fault.the-variants.{NoLength, NotADigit}

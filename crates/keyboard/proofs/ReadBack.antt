@@ -1,32 +1,30 @@
 -- READING UNDOES WRITING, and an unknown message is found first: what the page Typed says. A written message is words
 -- with a space before each but the first, and two digits are a number. Assumes nothing.
-use Prim.Native.Nat.{ℕ, suc, _+_, _-_, _*_, _/_, _%_, _≤_, _<_}
+use Prim.Native.Nat.{ℕ, suc, _+_, _-_, _/_, _%_, _≤_, _<_}
 use mathlib.Core.Path.{_≡_, refl, sym, ap, _∙_}
-use mathlib.Core.Bool.{Bool, true, false, cond, not, _&&_, _||_}
+use mathlib.Core.Bool.{Bool, true, false, not, _||_}
 use mathlib.Core.List.{List, [], _∷_, _++_}
-use mathlib.Core.Option.{Option, none, some}
+use mathlib.Core.Option.{some}
 use native.Mathlib.Omega.{arith}
-use lib.Dec.{eqb, ltb, leb}
-use lib.ListN.{length, getD, drop}
+use lib.Dec.{eqb, leb}
+use lib.ListN.{length, getD}
 use borrow.Author.Tests.{eq-eqb, ne-eqb, le-leb, le-ltb, lt-ltb, not-true}
 use Rattle.numbers.proofs.Tests.{by-bool, never, both}
 use Rattle.numbers.specs.Quoted.{bytes}
 use Rattle.text.specs.Class.{isDigit}
 use Rattle.text.specs.Writing.{twoText}
 use Rattle.words.specs.Words.{every, isnt, same, value}
-use Rattle.cards_fields.specs.Fields.{onto}
 use Rattle.line_words.specs.Forms as Forms
 use Rattle.line_words.specs.Forms.{IsWord}
 use Rattle.words.proofs.WordLaws.{same-equal}
 use Rattle.keyboard.proofs.MessageLaws.{suc-leb}
-use Rattle.keyboard.specs.Messages.{channelThen, filled, isMessage, messageOf, numberField, onRequest, onUnit, readMessage, saying, messageWords}
+use Rattle.keyboard.specs.Messages.{channelThen, isMessage, messageOf, numberField, onRequest, onUnit, readMessage, saying, messageWords}
 use Rattle.keyboard.specs.Typed.{FirstOfAll, ReadBack, fieldsOf, known, unitText, within}
 use Rattle.keyboard.specs.declared.Asked.{Asked}
 use Rattle.keyboard.specs.declared.Asked.the-variants.{Unknown, Wrong, Mark, Release, Delete}
 use Rattle.keyboard.specs.declared.Counted.{Counted}
 use Rattle.keyboard.specs.declared.Counted.the-variants as Counted′
 use Rattle.keyboard.specs.declared.Fault.{Fault}
-use Rattle.keyboard.specs.declared.Message.{Message}
 use Rattle.keyboard.specs.declared.Word.{Word as MessageWord}
 use Rattle.keyboard.specs.declared.Word.the-variants.{Dwn, Avl, Sel, Del}
 

@@ -4,7 +4,7 @@ use mathlib.Core.Path.{_≡_, sym}
 use mathlib.Core.Bool.{true, false}
 use mathlib.Core.List.{List, []}
 use native.Mathlib.Omega.{arith}
-use lib.ListN.{length, take, drop, length-take, drop-of-length-le}
+use lib.ListN.{length, take, length-take, drop-of-length-le}
 use Rattle.numbers.specs.Quoted.{bytes}
 use Rattle.words.specs.Words.{same}
 use Rattle.words.proofs.WordLaws.{same-long}

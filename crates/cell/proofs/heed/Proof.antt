@@ -1,5 +1,5 @@
 -- `cell::heed` meets its contract: each message does what its call does. Assumes nothing.
-use mathlib.Core.Path.{sym, ap, _∙_}
+use mathlib.Core.Path.{ap, _∙_}
 use Rattle.cell.specs.Calls.{called}
 use borrow.Author.Needs.{needs}
 use Rattle.cell.proofs.heed.Statement.{statement}

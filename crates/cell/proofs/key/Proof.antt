@@ -1,9 +1,5 @@
 -- `cell::key` meets its contract: what the message asks for is done, and its answer put. Assumes nothing.
-use mathlib.Core.Path.{ap, _∙_}
-use mathlib.Core.List.{List}
-use Prim.Native.Nat.{ℕ}
-use Rattle.keyboard.specs.declared.Message.{Message}
-use Rattle.cell.specs.Calls.{heeded}
+use mathlib.Core.Path.{_∙_}
 use borrow.Author.Needs.{needs}
 use Rattle.cell.proofs.key.Statement.{statement}
 use Rattle.cell.proofs.key.Tie as tie

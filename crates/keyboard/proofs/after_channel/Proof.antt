@@ -1,5 +1,4 @@
 -- `keyboard::after_channel` meets its contract: what the unit field says. Assumes nothing.
-use mathlib.Core.Path.{sym, _∙_}
 use borrow.Author.Needs.{needs}
 use Rattle.keyboard.proofs.after_channel.Statement.{statement}
 use Rattle.keyboard.proofs.after_channel.Tie as tie

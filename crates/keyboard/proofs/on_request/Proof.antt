@@ -1,5 +1,4 @@
 -- `keyboard::on_request` meets its contract: whether there is a word for the ID. Assumes nothing.
-use mathlib.Core.Path.{sym, ap, _∙_}
 use lib.ListN.{length}
 use borrow.Author.Tests.{eq-eqb, ne-eqb}
 use Rattle.keyboard.specs.Messages.{onRequest}

@@ -1,5 +1,5 @@
 -- `keyboard::on_unit` meets its contract: what the channel field says, and then the unit field. Assumes nothing.
-use mathlib.Core.Path.{sym, _∙_}
+use mathlib.Core.Path.{_∙_}
 use Rattle.keyboard.specs.Messages.{onUnit}
 use borrow.Author.Needs.{needs}
 use Rattle.keyboard.proofs.on_unit.Statement.{statement}
