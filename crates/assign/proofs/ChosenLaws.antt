@@ -6,9 +6,13 @@ use mathlib.Core.List.{List}
 use mathlib.Core.Logic.{_⊎_, inl, inr, ⊎-elim}
 use native.Mathlib.Nat.{eq-or-lt-of-le}
 use native.Mathlib.Omega.{arith}
+use lib.Dec.{ltb}
 use lib.Seq.{ext-getD}
+use borrow.Author.Tests.{ltb-true, ltb-false}
 use Rattle.numbers.proofs.Order.{le-or-lt, one-more}
 use Rattle.numbers.proofs.Tests.{by-bool, never}
+use Rattle.numbers.specs.Values.{values}
+use Rattle.numbers.proofs.ValuesLaws.{values-at}
 use Rattle.numbers.specs.declared.ChannelNumber.{ChannelNumber}
 use Rattle.assign_core.specs.declared.Pair.{Pair}
 use Rattle.assign_core.specs.declared.Found.the-variants as C
@@ -18,7 +22,7 @@ use Rattle.assign_drum.specs.declared.Area.{Area}
 use Rattle.assign_drum.specs.declared.Start.{Start}
 use Rattle.assign_drum.specs.declared.Start.the-variants as D
 use Rattle.assign_drum.specs.Drum as Drum
-use Rattle.assign_channels.specs.Choice.{want, on}
+use Rattle.assign_channels.specs.Choice.{channel, want, on}
 use Rattle.assign_channels.proofs.ChoiceLaws.{lex-both}
 use Rattle.assign_heads.specs.declared.Given.{Given}
 use Rattle.assign_heads.specs.declared.Given.the-variants.{Nothing, To}
@@ -30,34 +34,94 @@ use Rattle.cards.specs.declared.Facilities.{Facilities}
 use Rattle.assign.specs.declared.KindChannels.{KindChannels}
 use Rattle.assign.specs.declared.Kinds.{Kinds}
 use Rattle.assign.specs.declared.Assigned.{Assigned}
+use Rattle.assign.specs.declared.Lacking.{Lacking}
+use Rattle.assign.specs.declared.Lacking.the-variants as Lacking
+use Rattle.assign.specs.declared.Part.{Part}
+use Rattle.assign.specs.declared.Part.the-variants as Part
+use Rattle.assign.specs.declared.Provision.{Provision}
+use Rattle.assign.specs.Parts.{kinds, parts, FirstOf, FirstLacking, Has, HasCore, HasKind}
 use Rattle.assign.specs.Assignment.{Cell, unitKinds, drumLength, wantsOf, noChannels, channelsOf, freeOf, given, givenOf, IsAssignment}
-use Rattle.assign.specs.Kinds.{Possible, KindsDone, KindLacking, KindsAnswer, ServesKinds}
-use Rattle.assign.specs.Chosen.{Chosen, nothing, Answer, Assigns}
+use Rattle.assign.specs.Kinds.{unitKind, Possible, KindsDone, KindLacking, KindsAnswer, ServesKinds}
+use Rattle.assign.specs.Chosen.{Chosen, without, Answer, Assigns}
+use Rattle.assign.proofs.FirstLaws.{first-one, not-nothing}
+
+-- ---- the channels of a kind's entries as a list
+abbrev pub listed : (ℕ → ℕ) → List ChannelNumber
+listed its = values 16 (λ l. channel (its l))
+
+module _ (free : ℕ → Bool) (wants : ℕ → ℕ) (its : ℕ → ℕ) (to : ℕ → Given) (s : Served free wants its to) where
+  same : (l : ℕ) → l < 16 → on (listed its) l ≡ its l
+  same l h = ap (λ (c : ChannelNumber). c .0) (values-at 16 (λ l. channel (its l)) l (channel 0) h)
+
+  pub by-list : Served free wants (on (listed its)) to
+  by-list = record {
+    only = s .only;
+    all = s .all;
+    known = s .known;
+    there = λ i l h t. by-bool (ltb l 16) (λ b. s .there i l h t ∙ sym (same l (ltb-true l 16 b))) (λ b. absurd (s .known i l (ltb-false l 16 b) t));
+    own = λ l m h k b p q e. s .own l m h k b p q (sym (same l (omega arith)) ∙ e ∙ same m b);
+    none-0 = same 0 (omega arith) ∙ s .none-0;
+    none = λ l h k e. same l k ∙ s .none l h k e;
+  }
 
 module _ (cell : Cell) (wanted : Facilities) where
   -- an assignment's channels are possible for each kind
   possible : {b : Assigned} {kind : ℕ} → kind < unitKinds → IsAssignment cell wanted b → Possible (freeOf cell) (wanted .units) kind (channelsOf b kind)
   possible {b} {kind} h i = record { long = i .shaped .entries kind h; to = givenOf cell kind b; served = i .kinds kind h }
 
+  -- a kind that is served in some way has channels that are possible, and the other way round
+  pub kind-possible : (row : ℕ) → HasKind cell wanted row → (others : List ChannelNumber) × Possible (freeOf cell) (wanted .units) row others
+  kind-possible row h = (
+    listed (h .on),
+    record {
+      long = refl;
+      to = h .to;
+      served = by-list (freeOf cell row) (want (wantsOf (wanted .units) row)) (h .on) (h .to) (h .served);
+    },
+  )
+
+  pub possible-kind : (row : ℕ) → (others : List ChannelNumber) × Possible (freeOf cell) (wanted .units) row others → HasKind cell wanted row
+  possible-kind row p = record { on = on (p .0); to = p .1 .to; served = p .1 .served }
+
   -- ---- a part that is lacking
-  none : ((b : Assigned) → IsAssignment cell wanted b → ⊥) → {a : Assigned} → a ≡ nothing → Assigns cell wanted a
-  none never {a} e = subst (Assigns cell wanted) (sym e) (record { never = never; blank = refl })
+  lacks : (part : Part) → FirstLacking cell wanted (Lacking.First part) → {r : Provision} → r ≡ without part → Assigns cell wanted r
+  lacks part f e = subst (Assigns cell wanted) (sym e) (f, refl)
 
-  pub no-core : Core.Answers (cell .occupancy) (wanted .ib) (wanted .db) C.Nothing → {a : Assigned} → a ≡ nothing → Assigns cell wanted a
-  no-core c = none (λ b i. c (b .ib) (b .db) (i .core))
+  pub no-core : Core.Answers (cell .occupancy) (wanted .ib) (wanted .db) C.Nothing → {r : Provision} → r ≡ without Part.Core → Assigns cell wanted r
+  no-core c = lacks Part.Core (inl (λ h. c (h .ib) (h .db) (h .fits), refl))
 
-  pub no-drum : Drum.Answers (cell .areas) (drumLength (cell .channels)) (wanted .md) D.Nothing → {a : Assigned} → a ≡ nothing → Assigns cell wanted a
-  no-drum d = none (λ b i. d (b .drum) (i .drum))
+  module _ {p : Pair} (c : Core.Answers (cell .occupancy) (wanted .ib) (wanted .db) (C.At p)) where
+    has-core : HasCore (cell .occupancy) wanted
+    has-core = record { ib = p .0; db = p .1; fits = c .0 }
 
-  pub no-kind : KindLacking (freeOf cell) (wanted .units) → {a : Assigned} → a ≡ nothing → Assigns cell wanted a
-  no-kind k = none (λ b i. k .never (channelsOf b (k .kind)) (possible (k .is-kind) i))
+    pub no-drum : Drum.Answers (cell .areas) (drumLength (cell .channels)) (wanted .md) D.Nothing → {r : Provision} → r ≡ without Part.Drum → Assigns cell wanted r
+    no-drum d = lacks Part.Drum (inr (has-core, inl (λ h. d (h .start) (h .fits), refl)))
+
+    -- the first kind that is lacking, by its row
+    first-kind : (row : ℕ) → row < unitKinds → ((kind : ℕ) → kind < row → HasKind cell wanted kind) → (HasKind cell wanted row → ⊥)
+        → FirstOf (Has cell wanted) kinds (Lacking.First (Part.Units (unitKind row)))
+    first-kind zero h before none = inl (none, refl)
+    first-kind (suc zero) h before none = inr (before 0 (omega arith), inl (none, refl))
+    first-kind (suc (suc zero)) h before none = inr (before 0 (omega arith), inr (before 1 (omega arith), inl (none, refl)))
+    first-kind (suc (suc (suc row))) h before none = absurd (omega arith)
+
+    pub no-kind : {s : ℕ} → Drum.Answers (cell .areas) (drumLength (cell .channels)) (wanted .md) (D.At s)
+        → {row : ℕ} → KindLacking (freeOf cell) (wanted .units) row → {r : Provision} → r ≡ without (Part.Units (unitKind row)) → Assigns cell wanted r
+    no-kind {s} d {row} k = lacks (Part.Units (unitKind row))
+        (inr (
+          has-core,
+          inr (
+            record { start = s; fits = d .0 },
+            first-kind row (k .is-kind) (λ kind h. possible-kind kind (k .before kind h)) (λ h. let p = kind-possible row h in k .never (p .0) (p .1)),
+          ),
+        ))
 
   -- ---- all parts
   module _ (p : Pair) (s : ℕ) (named : List KindChannels) (heads : List Head)
       (c : Core.Answers (cell .occupancy) (wanted .ib) (wanted .db) (C.At p)) (d : Drum.Answers (cell .areas) (drumLength (cell .channels)) (wanted .md) (D.At s))
       (k : KindsDone (freeOf cell) (wanted .units) named heads unitKinds) where
     abbrev all : Assigned
-    all = record { found = true; ib = p .0; db = p .1; drum = s; channels = named; heads = heads }
+    all = record { ib = p .0; db = p .1; drum = s; channels = named; heads = heads }
 
     is-one : IsAssignment cell wanted all
     is-one = record {
@@ -68,7 +132,7 @@ module _ (cell : Cell) (wanted : Facilities) where
       kinds = λ kind h. k .each kind h .served;
     }
 
-    pub assigned : Assigns cell wanted all
+    pub assigned : Chosen cell wanted all
     assigned = record {
       is = is-one;
       core = λ b i. c .1 (b .ib) (b .db) (i .core);
@@ -131,27 +195,48 @@ module _ (cell : Cell) (wanted : Facilities) where
         ext-getD blank (a .heads) (b .heads) (p .is .shaped .units ∙ sym (q .is .shaped .units)) λ i h.
         let e = given-one i (omega (arith, p .is .shaped .units)) in λ j. record { to = e j }
 
-    pub chosen-one : a .found ≡ b .found → a ≡ b
-    chosen-one f =
+    pub chosen-one : a ≡ b
+    chosen-one =
         let c = core-one in let d = drum-one in let n = channels-one in let u = heads-one in
-        λ i. record { found = f i; ib = c .0 i; db = c .1 i; drum = d i; channels = n i; heads = u i }
+        λ i. record { ib = c .0 i; db = c .1 i; drum = d i; channels = n i; heads = u i }
 
-  one-of : (f g : Bool) (a b : Assigned) → a .found ≡ f → b .found ≡ g → Answer f cell wanted a → Answer g cell wanted b → a ≡ b
-  one-of true true a b e h p q = chosen-one a b p q (e ∙ sym h)
-  one-of true false a b e h p q = absurd (q .never a (p .is))
-  one-of false true a b e h p q = absurd (p .never b (q .is))
-  one-of false false a b e h p q = p .blank ∙ sym (q .blank)
+  -- ---- an assignment has every part
+  module _ (b : Assigned) (i : IsAssignment cell wanted b) where
+    kind-of : (row : ℕ) → row < unitKinds → HasKind cell wanted row
+    kind-of row h = possible-kind row (channelsOf b row, possible h i)
+
+    pub all-there : FirstLacking cell wanted Lacking.Nothing
+    all-there =
+        inr (
+          record { ib = b .ib; db = b .db; fits = i .core },
+          inr (
+            record { start = b .drum; fits = i .drum },
+            inr (kind-of 0 (omega arith), inr (kind-of 1 (omega arith), inr (kind-of 2 (omega arith), refl))),
+          ),
+        )
+
+    pub none-lacking : {part : Part} → FirstLacking cell wanted (Lacking.First part) → ⊥
+    none-lacking {part} f = not-nothing (first-one (Has cell wanted) parts Lacking.Nothing (Lacking.First part) all-there f)
+
+  one-of : (f g : Lacking) (a b : Assigned) → Answer f cell wanted a → Answer g cell wanted b → (f ≡ g) × (a ≡ b)
+  one-of Lacking.Nothing Lacking.Nothing a b p q = (refl, chosen-one a b p q)
+  one-of Lacking.Nothing (Lacking.First x) a b p q = absurd (none-lacking a (p .is) (q .0))
+  one-of (Lacking.First x) Lacking.Nothing a b p q = absurd (none-lacking b (q .is) (p .0))
+  one-of (Lacking.First x) (Lacking.First y) a b p q =
+      (first-one (Has cell wanted) parts (Lacking.First x) (Lacking.First y) (p .0) (q .0), p .1 ∙ sym (q .1))
 
   -- two answers are one
-  pub assigns-one : (a b : Assigned) → Assigns cell wanted a → Assigns cell wanted b → a ≡ b
-  assigns-one a b = one-of (a .found) (b .found) a b refl refl
+  pub assigns-one : (r s : Provision) → Assigns cell wanted r → Assigns cell wanted s → r ≡ s
+  assigns-one r s p q =
+      let e = one-of (r .lacking) (s .lacking) (r .assigned) (s .assigned) p q in
+      λ i. record { lacking = e .0 i; assigned = e .1 i }
 
 -- ---- what the kinds answer, by what it says of itself
 pub kinds-served : {free : ℕ → ℕ → Bool} {asked : List ℕ} (r : Kinds) → r .ok ≡ true → ServesKinds free asked r → KindsDone free asked (r .channels) (r .heads) unitKinds
-kinds-served {free} {asked} r e s = subst (λ (b : Bool). KindsAnswer b free asked (r .channels) (r .heads)) e s
+kinds-served {free} {asked} r e s = subst (λ (b : Bool). KindsAnswer b free asked r) e s
 
-pub kinds-lacking : {free : ℕ → ℕ → Bool} {asked : List ℕ} (r : Kinds) → r .ok ≡ false → ServesKinds free asked r → KindLacking free asked
-kinds-lacking {free} {asked} r e s = subst (λ (b : Bool). KindsAnswer b free asked (r .channels) (r .heads)) e s
+pub kinds-lacking : {free : ℕ → ℕ → Bool} {asked : List ℕ} (r : Kinds) → r .ok ≡ false → ServesKinds free asked r → KindLacking free asked (r .row)
+kinds-lacking {free} {asked} r e s = subst (λ (b : Bool). KindsAnswer b free asked r) e s
 
 -- the drum's answer for the length that was worked out
 pub for-length : (areas : List Area) (words : ℕ) {n m : ℕ} {r s : Start} → n ≡ m → r ≡ s → Drum.Answers areas n words r → Drum.Answers areas m words s

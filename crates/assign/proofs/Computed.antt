@@ -30,11 +30,13 @@ use Rattle.cards.specs.Requests.{counts}
 use Rattle.cards.specs.declared.Facilities.{Facilities}
 use Rattle.assign.specs.declared.KindChannels.{KindChannels}
 use Rattle.assign.specs.declared.Kinds.{Kinds}
-use Rattle.assign.specs.declared.Assigned.{Assigned}
+use Rattle.assign.specs.declared.Lacking.the-variants as Lacking
+use Rattle.assign.specs.declared.Part.the-variants as Part
+use Rattle.assign.specs.declared.Provision.{Provision}
 use Rattle.assign.specs.Assignment.{Cell, unitKinds, drumLength, wantsOf, noChannels, freeOf}
-use Rattle.assign.specs.Kinds.{KindsDone, KindsAnswer, ServesKinds}
+use Rattle.assign.specs.Kinds.{unitKind, KindsDone, KindsAnswer, ServesKinds}
 use Rattle.assign.proofs.KindsLaws.{none-yet, one-more, lacking, all-done}
-use Rattle.assign.specs.Chosen.{nothing, Assigns}
+use Rattle.assign.specs.Chosen.{without, Assigns}
 use Rattle.assign.proofs.ChosenLaws.{no-core, no-drum, no-kind, assigned, assigns-one}
 
 -- ---- the kinds, n of them from a row on
@@ -43,9 +45,9 @@ module _ (units : List (List Unit)) (channels : List Channel) (asked : List ℕ)
   serviceAt row heads = serveOf (marksOf units channels row) (wantsOf asked row) heads
 
   unfoldable pub kindsFrom : ℕ → ℕ → List KindChannels → List Head → Kinds
-  kindsFrom zero row named heads = record { ok = true; channels = named; heads = heads }
+  kindsFrom zero row named heads = record { ok = true; row = row; channels = named; heads = heads }
   kindsFrom (suc n) row named heads =
-      cond (serviceAt row heads .ok) (kindsFrom n (row + 1) (set named row (record { on = serviceAt row heads .on })) (serviceAt row heads .heads)) (record { ok = false; channels = named; heads = heads })
+      cond (serviceAt row heads .ok) (kindsFrom n (row + 1) (set named row (record { on = serviceAt row heads .on })) (serviceAt row heads .heads)) (record { ok = false; row = row; channels = named; heads = heads })
 
   abbrev pub kindsOf : Kinds
   kindsOf = kindsFrom unitKinds 0 (replicate unitKinds noChannels) (replicate 256 blank)
@@ -58,12 +60,12 @@ module _ (units : List (List Unit)) (channels : List Channel) (asked : List ℕ)
     step : (n row : ℕ) (named : List KindChannels) (heads : List Head) → row < unitKinds → (s : Service) → Serving.Serves (marksOf units channels row) (wantsOf asked row) heads s
         → (KindsDone (isFreeOf units channels) asked (set named row (record { on = s .on })) (s .heads) (row + 1) → ServesKinds (isFreeOf units channels) asked (kindsFrom n (row + 1) (set named row (record { on = s .on })) (s .heads)))
         → KindsDone (isFreeOf units channels) asked named heads row
-        → ServesKinds (isFreeOf units channels) asked (cond (s .ok) (kindsFrom n (row + 1) (set named row (record { on = s .on })) (s .heads)) (record { ok = false; channels = named; heads = heads }))
+        → ServesKinds (isFreeOf units channels) asked (cond (s .ok) (kindsFrom n (row + 1) (set named row (record { on = s .on })) (s .heads)) (record { ok = false; row = row; channels = named; heads = heads }))
     step n row named heads h s a more k = by-answer (s .ok) refl
       where
-        by-answer : (b : Bool) → s .ok ≡ b → ServesKinds (isFreeOf units channels) asked (cond (s .ok) (kindsFrom n (row + 1) (set named row (record { on = s .on })) (s .heads)) (record { ok = false; channels = named; heads = heads }))
+        by-answer : (b : Bool) → s .ok ≡ b → ServesKinds (isFreeOf units channels) asked (cond (s .ok) (kindsFrom n (row + 1) (set named row (record { on = s .on })) (s .heads)) (record { ok = false; row = row; channels = named; heads = heads }))
         by-answer true e = rw e (more (one-more units channels asked size row h (marks-answer units channels row) refl (served-so (marksOf units channels row) (wantsOf asked row) heads s e a) k))
-        by-answer false e = rw e (lacking units channels asked size row h (marks-answer units channels row) refl (lacking-so (marksOf units channels row) (wantsOf asked row) heads s e a))
+        by-answer false e = rw e (lacking units channels asked size row h (marks-answer units channels row) refl (lacking-so (marksOf units channels row) (wantsOf asked row) heads s e a) k)
 
     kinds-from : (n row : ℕ) (named : List KindChannels) (heads : List Head) → row + n ≡ unitKinds → KindsDone (isFreeOf units channels) asked named heads row
         → ServesKinds (isFreeOf units channels) asked (kindsFrom n row named heads)
@@ -77,31 +79,35 @@ module _ (units : List (List Unit)) (channels : List Channel) (asked : List ℕ)
     kinds-answer = kinds-from unitKinds 0 (replicate unitKinds noChannels) (replicate 256 blank) refl (none-yet (isFreeOf units channels) asked)
 
 -- ---- the whole
-abbrev pub withKinds : Pair → ℕ → Kinds → Assigned
-withKinds p s k = cond (k .ok) (record { found = true; ib = p .0; db = p .1; drum = s; channels = k .channels; heads = k .heads }) nothing
+abbrev pub withKinds : Pair → ℕ → Kinds → Provision
+withKinds p s k =
+    cond (k .ok) (record {
+      lacking = Lacking.Nothing;
+      assigned = record { ib = p .0; db = p .1; drum = s; channels = k .channels; heads = k .heads };
+    }) (without (Part.Units (unitKind (k .row))))
 
-abbrev pub withDrum : Cell → Facilities → Pair → Start → Assigned
+abbrev pub withDrum : Cell → Facilities → Pair → Start → Provision
 withDrum cell wanted p (D.At s) = withKinds p s (kindsOf (cell .units) (cell .channels) (wanted .units))
-withDrum cell wanted p D.Nothing = nothing
+withDrum cell wanted p D.Nothing = without Part.Drum
 
-abbrev pub withCore : Cell → Facilities → Found → Assigned
+abbrev pub withCore : Cell → Facilities → Found → Provision
 withCore cell wanted (C.At p) = withDrum cell wanted p (startOf (cell .areas) (drumLength (cell .channels)) (wanted .md))
-withCore cell wanted C.Nothing = nothing
+withCore cell wanted C.Nothing = without Part.Core
 
-unfoldable pub assignOf : Cell → Facilities → Assigned
+unfoldable pub assignOf : Cell → Facilities → Provision
 assignOf cell wanted = withCore cell wanted (searchOf (cell .occupancy) (wanted .ib) (wanted .db))
 
 module _ (cell : Cell) (wanted : Facilities) (size : length (cell .channels) ≡ 16) (full : length (wanted .units) ≡ counts) where
   with-kinds : (p : Pair) (s : ℕ) → Core.Answers (cell .occupancy) (wanted .ib) (wanted .db) (C.At p) → Drum.Answers (cell .areas) (drumLength (cell .channels)) (wanted .md) (D.At s)
-      → (k : Kinds) (b : Bool) → k .ok ≡ b → KindsAnswer b (freeOf cell) (wanted .units) (k .channels) (k .heads) → Assigns cell wanted (withKinds p s k)
+      → (k : Kinds) (b : Bool) → k .ok ≡ b → KindsAnswer b (freeOf cell) (wanted .units) k → Assigns cell wanted (withKinds p s k)
   with-kinds p s c d k true e a = rw e (assigned cell wanted p s (k .channels) (k .heads) c d a)
-  with-kinds p s c d k false e a = rw e (no-kind cell wanted a refl)
+  with-kinds p s c d k false e a = rw e (no-kind cell wanted c d a refl)
 
   with-drum : (p : Pair) → Core.Answers (cell .occupancy) (wanted .ib) (wanted .db) (C.At p) → (r : Start) → Drum.Answers (cell .areas) (drumLength (cell .channels)) (wanted .md) r → Assigns cell wanted (withDrum cell wanted p r)
   with-drum p c (D.At s) d =
       let k = kindsOf (cell .units) (cell .channels) (wanted .units) in
       with-kinds p s c d k (k .ok) refl (kinds-answer (cell .units) (cell .channels) (wanted .units) size full)
-  with-drum p c D.Nothing d = no-drum cell wanted d refl
+  with-drum p c D.Nothing d = no-drum cell wanted c d refl
 
   with-core : (r : Found) → Core.Answers (cell .occupancy) (wanted .ib) (wanted .db) r → Assigns cell wanted (withCore cell wanted r)
   with-core (C.At p) c = with-drum p c (startOf (cell .areas) (drumLength (cell .channels)) (wanted .md)) (start-answers (cell .areas) (drumLength (cell .channels)) (wanted .md))
@@ -112,5 +118,5 @@ module _ (cell : Cell) (wanted : Facilities) (size : length (cell .channels) ≡
   unfolding assignOf
   assign-answers = with-core (searchOf (cell .occupancy) (wanted .ib) (wanted .db)) (search-answers (cell .occupancy) (wanted .ib) (wanted .db))
 
-  pub computed : (a : Assigned) → Assigns cell wanted a → a ≡ assignOf cell wanted
+  pub computed : (a : Provision) → Assigns cell wanted a → a ≡ assignOf cell wanted
   computed a p = assigns-one cell wanted a (assignOf cell wanted) p assign-answers

@@ -1,5 +1,5 @@
 -- One more kind served keeps what is known of the kinds before: no unit is of two kinds. Assumes nothing.
-use Prim.Native.Nat.{ℕ, _+_, _≤_, _<_}
+use Prim.Native.Nat.{ℕ, zero, suc, _+_, _≤_, _<_}
 use mathlib.Core.Path.{_≡_, refl, sym, ap, _∙_, subst}
 use mathlib.Core.Bool.{Bool, true, false, cond}
 use mathlib.Core.List.{List}
@@ -10,6 +10,7 @@ use borrow.Author.Tests.{ltb-true, ltb-false}
 use Rattle.numbers.proofs.Tests.{by-bool, never}
 use Rattle.numbers.proofs.Stores.{stored}
 use Rattle.numbers.specs.declared.ChannelNumber.{ChannelNumber}
+use Rattle.numbers.specs.declared.Kind.the-variants.{Pr}
 use Rattle.units.specs.declared.Unit.{Unit}
 use Rattle.channels.specs.declared.Channel.{Channel}
 use Rattle.assign_channels.specs.Choice.{want, on}
@@ -22,7 +23,7 @@ use Rattle.assign_free.specs.Assignable.{isFreeOf, FreeUnits}
 use Rattle.assign_free.proofs.AssignableLaws.{marks, one-kind}
 use Rattle.assign.specs.declared.KindChannels.{KindChannels}
 use Rattle.assign.specs.Assignment.{unitKinds, wantsOf, noChannels}
-use Rattle.assign.specs.Kinds.{Possible, KindDone, toOf, KindsDone, KindLacking}
+use Rattle.assign.specs.Kinds.{unitKind, Possible, KindDone, toOf, KindsDone, KindLacking}
 
 -- functions that agree are one
 same-function : {A : Type 0} {f g : ℕ → A} → ((i : ℕ) → f i ≡ g i) → f ≡ g
@@ -61,8 +62,13 @@ module _ (units : List (List Unit)) (channels : List Channel) (asked : List ℕ)
     served = subst (λ (w : List ℕ). Served (freeAt free) (want w) (on others) (p .to)) (sym are) (subst (λ (f : ℕ → Bool). Served f (want (wantsOf asked row)) (on others) (p .to)) (sym marks-are) (p .served));
   }
 
-  pub lacking : {before heads : List Head} {channels : List ChannelNumber} → Serving.Lacking free wants before channels heads → KindLacking freeOf asked
-  lacking l = record { kind = row; is-kind = more; never = λ others p. l .never others (possible p) }
+  pub lacking : {before heads : List Head} {mine : List ChannelNumber} {named : List KindChannels} → Serving.Lacking free wants before mine heads
+      → KindsDone freeOf asked named before row → KindLacking freeOf asked row
+  lacking {named = named} l k = record {
+    is-kind = more;
+    before = λ kind h. let d = k .each kind h in (getD named kind noChannels .on, record { long = d .long; to = _; served = d .served });
+    never = λ others p. l .never others (possible p);
+  }
 
   module _ {before heads : List Head} {mine : List ChannelNumber} (c : Serving.Chosen free wants before mine heads) where
     -- the kind itself
@@ -104,3 +110,9 @@ all-done {free} {asked} {channels} {heads} {row} h k = subst (KindsDone free ask
   where
     upto : (row : ℕ) → unitKinds ≤ row → row ≤ unitKinds → row ≡ unitKinds
     upto row h l = omega arith
+
+-- the kind of a row that is neither 0 nor 1
+pub last-kind : (row : ℕ) → (row ≡ 0 → ⊥) → (row ≡ 1 → ⊥) → Pr ≡ unitKind row
+last-kind zero h k = absurd (h refl)
+last-kind (suc zero) h k = absurd (k refl)
+last-kind (suc (suc row)) h k = refl

@@ -1,15 +1,20 @@
 -- Which assignment is chosen, and what the assigner answers. A reader has to believe this page.
 use Prim.Native.Nat.{ℕ, _<_}
 use mathlib.Core.Path.{_≡_}
-use mathlib.Core.Bool.{Bool, true, false}
-use lib.ListN.{replicate}
+use lib.ListN.{length, replicate}
 use Rattle.assign_core.specs.Core.{Before}
 use Rattle.assign_channels.specs.Choice.{LexLe}
 use Rattle.assign_heads.specs.Heads.{Lowest}
 use Rattle.assign_heads.specs.Whose.{blank}
+use Rattle.cards.specs.Requests.{counts}
 use Rattle.cards.specs.declared.Facilities.{Facilities}
 use Rattle.assign.specs.declared.Assigned.{Assigned}
+use Rattle.assign.specs.declared.Lacking.{Lacking}
+use Rattle.assign.specs.declared.Lacking.the-variants.{Nothing, First}
+use Rattle.assign.specs.declared.Part.{Part}
+use Rattle.assign.specs.declared.Provision.{Provision}
 use Rattle.assign.specs.Assignment.{Cell, unitKinds, noChannels, channelsOf, freeOf, givenOf, IsAssignment}
+use Rattle.assign.specs.Parts.{FirstLacking}
 
 -- the chosen assignment
 pub record Chosen (cell : Cell) (wanted : Facilities) (a : Assigned) : Type 0 where
@@ -27,18 +32,24 @@ pub record Chosen (cell : Cell) (wanted : Facilities) (a : Assigned) : Type 0 wh
 
 -- no facility is named
 abbrev pub nothing : Assigned
-nothing = record { found = false; ib = 0; db = 0; drum = 0; channels = replicate unitKinds noChannels; heads = replicate 256 blank }
+nothing = record { ib = 0; db = 0; drum = 0; channels = replicate unitKinds noChannels; heads = replicate 256 blank }
 
--- there is no assignment
-pub record NoAssignment (cell : Cell) (wanted : Facilities) (a : Assigned) : Type 0 where
-  pub never : (b : Assigned) → IsAssignment cell wanted b → ⊥
-  pub blank : a ≡ nothing
+-- a part is lacking, and nothing is given
+abbrev pub without : Part → Provision
+without part = record { lacking = First part; assigned = nothing }
 
--- what is answered: yes with the chosen assignment, or no
-abbrev pub Answer : Bool → Cell → Facilities → Assigned → Type 0
-Answer true = Chosen
-Answer false = NoAssignment
+-- what is answered: the chosen assignment, where nothing is lacking; or the first part that is, and no facility
+abbrev pub Answer : Lacking → Cell → Facilities → Assigned → Type 0
+Answer Nothing cell wanted a = Chosen cell wanted a
+Answer (First part) cell wanted a = FirstLacking cell wanted (First part) × (a ≡ nothing)
 
--- the chosen assignment is found, or there is none
-abbrev pub Assigns : Cell → Facilities → Assigned → Type 0
-Assigns cell wanted a = Answer (a .found) cell wanted a
+-- THE ASSIGNER: the chosen assignment, or the first part that is lacking
+abbrev pub Assigns : Cell → Facilities → Provision → Type 0
+Assigns cell wanted r = Answer (r .lacking) cell wanted (r .assigned)
+
+-- AN ASSIGNMENT EXISTS EXACTLY WHEN NOTHING IS LACKING, for 16 channels and a number for each logical channel of each
+-- kind, which their types have
+pub record ExistsExactly : Type 0 where
+  pub only : (cell : Cell) (wanted : Facilities) (b : Assigned) → IsAssignment cell wanted b → FirstLacking cell wanted Nothing
+  pub when : (cell : Cell) (wanted : Facilities) → length (cell .channels) ≡ 16 → length (wanted .units) ≡ counts
+      → FirstLacking cell wanted Nothing → (b : Assigned) × IsAssignment cell wanted b

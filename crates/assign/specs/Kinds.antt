@@ -1,11 +1,13 @@
 -- What is known of the kinds that have been served, one after the other; `free` says which units are of a kind and
 -- assignable. Nothing here has to be believed: a private function cites it, and Chosen says what comes out.
-use Prim.Native.Nat.{ℕ, _≤_, _<_}
+use Prim.Native.Nat.{ℕ, zero, suc, _≤_, _<_}
 use mathlib.Core.Path.{_≡_}
 use mathlib.Core.Bool.{Bool, true, false, cond}
 use mathlib.Core.List.{List}
 use lib.ListN.{length, getD}
 use Rattle.numbers.specs.declared.ChannelNumber.{ChannelNumber}
+use Rattle.numbers.specs.declared.Kind.{Kind}
+use Rattle.numbers.specs.declared.Kind.the-variants.{Ma, Mt, Pr}
 use Rattle.assign_channels.specs.Choice.{want, on, LexLe}
 use Rattle.assign_heads.specs.declared.Given.{Given}
 use Rattle.assign_heads.specs.declared.Given.the-variants.{Nothing}
@@ -41,17 +43,23 @@ pub record KindsDone (free : ℕ → ℕ → Bool) (asked : List ℕ) (channels 
   pub each : (kind : ℕ) → kind < row → KindDone free asked kind (getD channels kind noChannels .on) (toOf free kind heads)
   pub only : (i : ℕ) → isGiven (getD heads i blank .to) ≡ true → (kind : ℕ) × ((kind < row) × (free kind i ≡ true))
 
--- a kind is not served: it is lacking
-pub record KindLacking (free : ℕ → ℕ → Bool) (asked : List ℕ) : Type 0 where
-  pub kind : ℕ
-  pub is-kind : kind < unitKinds
-  pub never : (others : List ChannelNumber) → Possible free asked kind others → ⊥
+-- the kinds that have units, by their rows
+abbrev pub unitKind : ℕ → Kind
+unitKind zero = Ma
+unitKind (suc zero) = Mt
+unitKind (suc (suc row)) = Pr
+
+-- a kind is not served: it is lacking, and those of lower rows are not
+pub record KindLacking (free : ℕ → ℕ → Bool) (asked : List ℕ) (row : ℕ) : Type 0 where
+  pub is-kind : row < unitKinds
+  pub before : (kind : ℕ) → kind < row → (others : List ChannelNumber) × Possible free asked kind others
+  pub never : (others : List ChannelNumber) → Possible free asked row others → ⊥
 
 -- what is known of an answer
-abbrev pub KindsAnswer : Bool → (ℕ → ℕ → Bool) → List ℕ → List KindChannels → List Head → Type 0
-KindsAnswer true free asked channels heads = KindsDone free asked channels heads unitKinds
-KindsAnswer false free asked channels heads = KindLacking free asked
+abbrev pub KindsAnswer : Bool → (ℕ → ℕ → Bool) → List ℕ → Kinds → Type 0
+KindsAnswer true free asked r = KindsDone free asked (r .channels) (r .heads) unitKinds
+KindsAnswer false free asked r = KindLacking free asked (r .row)
 
--- every kind is served, or one is lacking
+-- every kind is served, or the first that is lacking is told
 abbrev pub ServesKinds : (ℕ → ℕ → Bool) → List ℕ → Kinds → Type 0
-ServesKinds free asked r = KindsAnswer (r .ok) free asked (r .channels) (r .heads)
+ServesKinds free asked r = KindsAnswer (r .ok) free asked r

@@ -1,3 +1,4 @@
 pub mod Assignment
+pub mod Parts
 pub mod Chosen
 pub mod Kinds

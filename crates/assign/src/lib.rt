@@ -1,4 +1,4 @@
-// The facilities that a job gets: core, drum area, and units of each kind.
+// The facilities that a job gets: core, drum area, and units of each kind; or which of them is lacking first.
 use assign_core::Found;
 use assign_drum::Area;
 use assign_drum::Start;
@@ -9,25 +9,24 @@ use cards::Request;
 use channels::Channel;
 use channels::Fitted;
 use numbers::ChannelNumber;
+use numbers::Kind;
 use units::Units;
 ghost use mathlib.Core.Path.{_≡_};
 ghost use Prim.Native.Nat.{_<_, _*_};
 ghost use lib.ListN.{take, drop};
 ghost use Rattle.assign_free.specs.Assignable.{isFreeOf};
 ghost use Rattle.assign.specs.Assignment.{drumLength, cellOf};
-ghost use Rattle.assign.specs.Kinds.{ServesKinds};
-ghost use Rattle.assign.specs.Chosen.{nothing, Assigns};
+ghost use Rattle.assign.specs.Kinds.{unitKind, ServesKinds};
+ghost use Rattle.assign.specs.Chosen.{nothing, without, Assigns};
 
 // The channels of a kind's entries, by logical channel; 0 where there is no entry.
 pub struct KindChannels {
     pub on: [ChannelNumber; 16],
 }
 
-// Whether there is an assignment; then the starts of its blocks and drum area, 0 where none are asked for, the
-// channels of each kind's entries, and to which entry of its channel's kind each unit is given, unit u of channel c
-// at c * 16 + u.
+// The starts of a job's blocks and drum area, 0 where none are asked for, the channels of each kind's entries, and to
+// which entry of its channel's kind each unit is given, unit u of channel c at c * 16 + u.
 pub struct Assigned {
-    pub found: bool,
     pub ib: u32,
     pub db: u32,
     pub drum: u32,
@@ -35,9 +34,29 @@ pub struct Assigned {
     pub heads: [Head; 256],
 }
 
-// Whether every kind is served; then as in Assigned.
+// A part of an assignment: the core, the drum area, or the units of a kind.
+pub enum Part {
+    Core,
+    Drum,
+    Units(Kind),
+}
+
+// What is lacking for an assignment: nothing, or the first part that alone has no solution.
+pub enum Lacking {
+    Nothing,
+    First(Part),
+}
+
+// What the assigner answers: what is lacking, and what the job gets where nothing is.
+pub struct Provision {
+    pub lacking: Lacking,
+    pub assigned: Assigned,
+}
+
+// Whether every kind is served; then as in Assigned. Else the row of the first that is not.
 struct Kinds {
     ok: bool,
+    row: usize,
     channels: [KindChannels; 3],
     heads: [Head; 256],
 }
@@ -48,7 +67,6 @@ pub fn nothing() -> Assigned
 {
     let none = [ChannelNumber(0); 16];
     Assigned {
-        found: false,
         ib: 0,
         db: 0,
         drum: 0,
@@ -89,6 +107,19 @@ fn wants_of(units: [u8; cards::COUNTS], row: usize) -> [u8; 16]
     wants
 }
 
+// The kind of a row that has units.
+fn unit_kind(row: usize) -> Kind
+    ensures { λ r. ⌜ r ≡ unitKind row ⌝ }
+{
+    if row == 0 {
+        return Kind::Ma;
+    }
+    if row == 1 {
+        return Kind::Mt;
+    }
+    Kind::Pr
+}
+
 // Serves the kinds in the order of their rows, MA, MT, PR; the first that is lacking ends it.
 fn serve_kinds(units: Units, channels: [Channel; 16], asked: [u8; cards::COUNTS]) -> Kinds
     ensures { λ r. ⌜ ServesKinds (isFreeOf (units .of) channels) asked r ⌝ }
@@ -104,6 +135,7 @@ fn serve_kinds(units: Units, channels: [Channel; 16], asked: [u8; cards::COUNTS]
         if !service.ok {
             return Kinds {
                 ok: false,
+                row,
                 channels: chosen,
                 heads,
             };
@@ -116,12 +148,23 @@ fn serve_kinds(units: Units, channels: [Channel; 16], asked: [u8; cards::COUNTS]
     }
     Kinds {
         ok: true,
+        row,
         channels: chosen,
         heads,
     }
 }
 
-// The assignment that is chosen for what a job asks for, or nothing where there is none. The parts are looked for in
+// A part is lacking, and nothing is given.
+fn without(part: Part) -> Provision
+    ensures { λ r. ⌜ r ≡ without part ⌝ }
+{
+    Provision {
+        lacking: Lacking::First(part),
+        assigned: nothing(),
+    }
+}
+
+// The assignment that is chosen for what a job asks for, or the first part that is lacking. The parts are looked for in
 // the order core, drum, MA, MT, PR.
 fn find(
     units: Units,
@@ -129,40 +172,42 @@ fn find(
     areas: [Area; 16],
     channels: [Channel; 16],
     wanted: Facilities,
-) -> Assigned
+) -> Provision
     ensures { λ r. ⌜ Assigns (cellOf (units .of) occupancy areas channels) wanted r ⌝ }
 {
     let Found::At(pair) = assign_core::search(occupancy, wanted.ib as u32, wanted.db as u32) else {
-        return nothing();
+        return without(Part::Core);
     };
     let Start::At(start) = assign_drum::lowest_start(areas, drum_length(channels), wanted.md) else {
-        return nothing();
+        return without(Part::Drum);
     };
     let asked = wanted.units;
     let kinds = serve_kinds(units, channels, asked);
     if !kinds.ok {
-        return nothing();
+        return without(Part::Units(unit_kind(kinds.row)));
     }
     let named = kinds.channels;
     let heads = kinds.heads;
-    Assigned {
-        found: true,
-        ib: pair.0,
-        db: pair.1,
-        drum: start,
-        channels: named,
-        heads,
+    Provision {
+        lacking: Lacking::Nothing,
+        assigned: Assigned {
+            ib: pair.0,
+            db: pair.1,
+            drum: start,
+            channels: named,
+            heads,
+        },
     }
 }
 
-// The assignment that is chosen for a job request, or nothing where there is none.
+// The assignment that is chosen for a job request, or the first part that is lacking for it.
 pub fn assign(
     units: Units,
     occupancy: u32,
     areas: [Area; 16],
     channels: [Channel; 16],
     request: Request,
-) -> Assigned
+) -> Provision
     ensures { λ r. ⌜ Assigns (cellOf (units .of) occupancy areas channels) (request .facilities) r ⌝ }
 {
     let wanted = request.facilities;

@@ -5,17 +5,13 @@ use mathlib.Core.Path.{_≡_, refl, sym, ap, _∙_, subst}
 use mathlib.Core.Bool.{Bool, true}
 use mathlib.Core.List.{List}
 use native.Mathlib.Omega.{arith}
-use lib.Dec.{ltb}
 use lib.ListN.{length, getD, drop, replicate, length-drop}
 use lib.Seq.{ext-getD, length-take-le, getD-take, getD-drop}
-use borrow.Author.Tests.{ltb-true, ltb-false}
 use Rattle.numbers.proofs.Tests.{by-bool}
-use Rattle.numbers.specs.Values.{values}
 use Rattle.numbers.proofs.ValuesLaws.{values-at}
-use Rattle.numbers.specs.declared.ChannelNumber.{ChannelNumber}
 use Rattle.units.specs.declared.Unit.{Unit}
 use Rattle.channels.specs.declared.Channel.{Channel}
-use Rattle.assign_channels.specs.Choice.{channel, want, on, Placed}
+use Rattle.assign_channels.specs.Choice.{want, on, Placed}
 use Rattle.assign_channels.specs.Greedy.{chooseOf}
 use Rattle.assign_channels.proofs.ChoiceLaws.{chosen, found-none}
 use Rattle.assign_heads.specs.declared.Given.{Given}
@@ -32,26 +28,8 @@ use Rattle.assign_free.proofs.AssignableLaws.{marks}
 use Rattle.assign_free.proofs.Computed.{marksOf, marks-answer}
 use Rattle.assign_counts.specs.Assignable.{Counted}
 use Rattle.assign.specs.Assignment.{wantsOf}
-use Rattle.assign_lacking.specs.Parts.{Servable}
-
--- ---- the channels of the entries as a list
-abbrev pub listed : (ℕ → ℕ) → List ChannelNumber
-listed its = values 16 (λ l. channel (its l))
-
-module _ (free : ℕ → Bool) (wants : ℕ → ℕ) (its : ℕ → ℕ) (to : ℕ → Given) (s : Served free wants its to) where
-  same : (l : ℕ) → l < 16 → on (listed its) l ≡ its l
-  same l h = ap (λ (c : ChannelNumber). c .0) (values-at 16 (λ l. channel (its l)) l (channel 0) h)
-
-  pub by-list : Served free wants (on (listed its)) to
-  by-list = record {
-    only = s .only;
-    all = s .all;
-    known = s .known;
-    there = λ i l h t. by-bool (ltb l 16) (λ b. s .there i l h t ∙ sym (same l (ltb-true l 16 b))) (λ b. absurd (s .known i l (ltb-false l 16 b) t));
-    own = λ l m h k b p q e. s .own l m h k b p q (sym (same l (omega arith)) ∙ e ∙ same m b);
-    none-0 = same 0 (omega arith) ∙ s .none-0;
-    none = λ l h k e. same l k ∙ s .none l h k e;
-  }
+use Rattle.assign.proofs.ChosenLaws.{listed, by-list}
+use Rattle.assign_lacking.specs.ByCounts.{Servable}
 
 module _ (units : List (List Unit)) (channels : List Channel) (size : length channels ≡ 16) (row : ℕ) (is : row < 3) (counts asked : List ℕ) (full : length asked ≡ 48)
     (c : Counted units channels counts) where

@@ -1,5 +1,7 @@
 // Which part of what a job asks for is lacking first: told from the number of assignable units, the occupancy word
 // and the drum areas alone, so that no unit is looked at and nothing is assigned.
+use assign::Lacking;
+use assign::Part;
 use assign_core::Found;
 use assign_counts::Counts;
 use assign_drum::Area;
@@ -10,27 +12,8 @@ ghost use mathlib.Core.Path.{_≡_};
 ghost use Prim.Native.Nat.{_<_};
 ghost use Rattle.numbers.specs.Decides.{Decides};
 ghost use Rattle.assign.specs.Assignment.{wantsOf};
-ghost use Rattle.assign_lacking.specs.Parts.{isNothing, Servable, HasUnits, kinds, First, Answers};
-
-// The part of an assignment that is lacking: the core, the drum area, or the units of a kind; or nothing is.
-pub enum Lacking {
-    Nothing,
-    Core,
-    Drum,
-    Units(Kind),
-}
-
-// Whether nothing is lacking.
-pub fn is_nothing(lacking: Lacking) -> bool
-    ensures { λ r. ⌜ r ≡ isNothing lacking ⌝ }
-{
-    match lacking {
-        Lacking::Nothing => true,
-        Lacking::Core => false,
-        Lacking::Drum => false,
-        Lacking::Units(_) => false,
-    }
-}
+ghost use Rattle.assign.specs.Parts.{FirstOf, kinds};
+ghost use Rattle.assign_lacking.specs.ByCounts.{Servable, HasUnits, Answers};
 
 // A kind's part of a table by kind and channel, or by kind and logical channel.
 fn row_at(table: [u8; cards::COUNTS], row: usize) -> [u8; 16]
@@ -67,16 +50,16 @@ fn has_units(counts: [u8; cards::COUNTS], asked: [u8; cards::COUNTS], row: usize
 
 // The first kind whose units are lacking.
 fn lacking_kind(counts: [u8; cards::COUNTS], asked: [u8; cards::COUNTS]) -> Lacking
-    ensures { λ r. ⌜ First (HasUnits counts asked) kinds r ⌝ }
+    ensures { λ r. ⌜ FirstOf (HasUnits counts asked) kinds r ⌝ }
 {
     if !has_units(counts, asked, 0) {
-        return Lacking::Units(Kind::Ma);
+        return Lacking::First(Part::Units(Kind::Ma));
     }
     if !has_units(counts, asked, 1) {
-        return Lacking::Units(Kind::Mt);
+        return Lacking::First(Part::Units(Kind::Mt));
     }
     if !has_units(counts, asked, 2) {
-        return Lacking::Units(Kind::Pr);
+        return Lacking::First(Part::Units(Kind::Pr));
     }
     Lacking::Nothing
 }
@@ -94,10 +77,10 @@ pub fn first_lacking(
     let of = counts.of;
     let asked = wanted.units;
     let Found::At(_) = assign_core::search(occupancy, wanted.ib as u32, wanted.db as u32) else {
-        return Lacking::Core;
+        return Lacking::First(Part::Core);
     };
     let Start::At(_) = assign_drum::lowest_start(areas, drum, wanted.md) else {
-        return Lacking::Drum;
+        return Lacking::First(Part::Drum);
     };
     lacking_kind(of, asked)
 }

@@ -2,11 +2,11 @@
 -- it puts together the pages of the schedule's calls, of selection, of the request lists and of keyboard messages.
 use Prim.Native.Nat.{ℕ}
 use mathlib.Core.Path.{_≡_}
-use mathlib.Core.Bool.{Bool, true, false}
+use mathlib.Core.Bool.{true, false}
 use mathlib.Core.List.{List, []}
 use Rattle.numbers.specs.declared.Outcome.{Outcome}
 use Rattle.numbers.specs.declared.Outcome.the-variants as Outcomes
-use Rattle.numbers.specs.declared.Refusal.the-variants.{NothingSelected, UnknownMessage}
+use Rattle.numbers.specs.declared.Refusal.the-variants as Refusals
 use Rattle.text.specs.Room.{Whole}
 use Rattle.channels.specs.declared.Configuration.{Configuration}
 use Rattle.units.specs.declared.Mark.the-variants.{Down}
@@ -31,6 +31,8 @@ use Rattle.keyboard.specs.declared.Asked.the-variants as Asked′
 use Rattle.keyboard_answers.specs.Answers.{answerText}
 use Rattle.keyboard_answers.specs.declared.Told.the-variants.{Said, Mistyped}
 use Rattle.cell_selection.specs.Selecting.{Takes}
+use Rattle.cell_selection.specs.declared.Choice.{Choice}
+use Rattle.cell_selection.specs.declared.Choice.the-variants.{Job, NoPlace, NoCandidates, Lacks}
 use Rattle.cell.specs.declared.Answered.{Answered}
 use Rattle.cell.specs.declared.Cell.{Cell}
 use Rattle.cell.specs.declared.DeckAnswer.{DeckAnswer}
@@ -109,13 +111,16 @@ pub record Enters (cell : Cell) (bytes room after· : List ℕ) (r : DeckAnswer)
   pub deck : DeckEntered (cell .schedule) bytes room after· (record { outcome = r .outcome; schedule = r .cell .schedule; at = r .at })
   pub lists : r .cell .lists ≡ cell .lists
 
--- SELECT: refusal 10 where nothing is selected
-abbrev pub outcomeOf : Bool → Outcome
-outcomeOf true = Outcomes.Done
-outcomeOf false = Outcomes.Refused NothingSelected
+-- SELECT: where nothing is selected 18, "no place is free", 19, "there are no candidates", or 20, "there are some";
+-- with 20 the selection has the first candidate's ID and the part that is lacking
+abbrev pub outcomeOf : Choice → Outcome
+outcomeOf Job = Outcomes.Done
+outcomeOf NoPlace = Outcomes.Refused Refusals.NoPlaceFree
+outcomeOf NoCandidates = Outcomes.Refused Refusals.NoCandidates
+outcomeOf (Lacks part) = Outcomes.Refused Refusals.NoAssignment
 
 pub record SelectsIn (cell : Cell) (r : SelectAnswer) : Type 0 where
-  pub outcome : r .outcome ≡ outcomeOf (r .selection .found)
+  pub outcome : r .outcome ≡ outcomeOf (r .selection .choice)
   pub takes :
       Takes (cell .schedule) (cell .lists) (record { selection = r .selection; schedule = r .cell .schedule; lists = r .cell .lists })
 
@@ -133,7 +138,7 @@ called a = record { told = Said (a .answer); cell = a .cell }
 -- `DEL` is DELETE, of the ID beside. An unknown message is refused with 17, one with a fault in a field is told that,
 -- and neither changes anything
 abbrev pub heeded : Cell → Asked → List ℕ → Heeded
-heeded cell Asked′.Unknown id = record { told = Said (Refused UnknownMessage); cell = cell }
+heeded cell Asked′.Unknown id = record { told = Said (Refused Refusals.UnknownMessage); cell = cell }
 heeded cell (Asked′.Wrong word fault) id = record { told = Mistyped fault; cell = cell }
 heeded cell (Asked′.Mark channel unit on) id = called (acted cell (Mark (channel .0) (unit .0) Down on))
 heeded cell Asked′.Release id = called (releasing cell id)

@@ -1,5 +1,6 @@
 // The cell: its schedule and its request lists in one value, and every call on it. The configuration is in the lists,
 // as their channels.
+use cell_selection::Choice;
 use cell_selection::Selection;
 use channels::Configuration;
 use keyboard::Asked;
@@ -39,7 +40,8 @@ pub struct DeckAnswer {
     pub cell: Cell,
 }
 
-// What a selection answers (with place, request and assignment), and the cell then.
+// What a selection answers (with place, request and assignment, or with 20 the first candidate's ID and what it lacks),
+// and the cell then.
 pub struct SelectAnswer {
     pub outcome: Outcome,
     pub selection: Selection,
@@ -91,17 +93,20 @@ pub fn enter(cell: Cell, deck: &[u8], out: &mut [u8; 53248]) -> DeckAnswer
     }
 }
 
-// How a selection ends.
-fn outcome_of(found: bool) -> Outcome
-    ensures { λ r. ⌜ r ≡ outcomeOf found ⌝ }
+// How a selection ends, by what is chosen.
+fn outcome_of(choice: Choice) -> Outcome
+    ensures { λ r. ⌜ r ≡ outcomeOf choice ⌝ }
 {
-    if found {
-        return Outcome::Done;
+    match choice {
+        Choice::Job => Outcome::Done,
+        Choice::NoPlace => Outcome::Refused(Refusal::NoPlaceFree),
+        Choice::NoCandidates => Outcome::Refused(Refusal::NoCandidates),
+        Choice::Lacks(_) => Outcome::Refused(Refusal::NoAssignment),
     }
-    Outcome::Refused(Refusal::NothingSelected)
 }
 
-// Selects the first candidate in order that has an assignment and takes its job into the lowest free place.
+// Selects the first candidate in order that has an assignment and takes its job into the lowest free place; else the
+// selection says why nothing is selected, with 20 what the first candidate lacks.
 pub fn select(cell: Cell) -> SelectAnswer
     ensures { λ r. ⌜ SelectsIn cell r ⌝ }
 {
@@ -111,8 +116,9 @@ pub fn select(cell: Cell) -> SelectAnswer
     let selection = taking.selection;
     let with_job = taking.schedule;
     let after = taking.lists;
+    let choice = selection.choice;
     SelectAnswer {
-        outcome: outcome_of(selection.found),
+        outcome: outcome_of(choice),
         selection,
         cell: Cell {
             schedule: with_job,

@@ -3,7 +3,7 @@
 -- whose job runs or closes. Assumes nothing.
 use Prim.Native.Nat.{ℕ, _<_}
 use mathlib.Core.Path.{_≡_, refl, sym, ap, subst, _∙_}
-use mathlib.Core.Bool.{Bool, true, false, not, _&&_}
+use mathlib.Core.Bool.{true, not, _&&_}
 use mathlib.Core.List.{List, [], _∷_}
 use native.Mathlib.Decide.{decLt}
 use native.Mathlib.Omega.{arith}
@@ -36,7 +36,9 @@ use Rattle.packets.specs.declared.Verdict.the-variants.{Granted}
 use Rattle.lists.proofs.History.{outcome-is}
 use Rattle.lists.specs.Outcomes.{outcome, stateOf}
 use Rattle.cell_selection.specs.Selecting as Selecting
-use Rattle.cell_selection.specs.Selecting.{Selected, SelectsBy, assignmentOf, takingOf}
+use Rattle.cell_selection.specs.Selecting.{Selected, SelectsBy, assignmentOf, isJob, takingOf}
+use Rattle.cell_selection.specs.declared.Choice.{Choice}
+use Rattle.cell_selection.specs.declared.Choice.the-variants.{Job, NoPlace, NoCandidates, Lacks}
 use Rattle.cell_selection.proofs.SelectingLaws.{taking-granted}
 use Rattle.cell_selection.specs.declared.Selection.{Selection}
 use Rattle.cell.specs.Calls.{acted, follows, freshCell}
@@ -70,10 +72,12 @@ module _ (s : Schedule) (lists : Lists) (I : Inv (stateOf lists)) (A : Agree s (
       (λ j. state-fresh (lists .jobs) (r .place) asg j (rw (I .places) (h .place .0)))
       (λ j q. A j)))
 
-  agree-select : (found : Bool) (r : Selection) → SelectsBy found (inSchedule s) lists r
-      → Agree (Selecting.leftBy found s lists r .0) (stateOf (Selecting.leftBy found s lists r .1))
-  agree-select true r h = agree-taken r h
-  agree-select false r h = A
+  agree-select : (choice : Choice) (r : Selection) → SelectsBy choice (inSchedule s) lists r
+      → Agree (Selecting.leftBy (isJob choice) s lists r .0) (stateOf (Selecting.leftBy (isJob choice) s lists r .1))
+  agree-select Job r h = agree-taken r h
+  agree-select NoPlace r h = A
+  agree-select NoCandidates r h = A
+  agree-select (Lacks part) r h = A
 
 -- ---- the calls on the cell
 
@@ -98,7 +102,7 @@ plain-agree c d Select reply p h I A =
     let r = h .0 in
     subst AgreeIn (sym (h .1 .1 .1))
     (subst (λ (t : Schedule × Lists). Agree (t .0) (stateOf (t .1))) (sym (h .1 .0 .takes .leaves))
-    (agree-select (c .schedule) (c .lists) I A (r .selection .found) (r .selection) (h .1 .0 .takes .selects)))
+    (agree-select (c .schedule) (c .lists) I A (r .selection .choice) (r .selection) (h .1 .0 .takes .selects)))
 plain-agree c d (Submit place packet function channel spot) reply p h I A =
     agree-acts c d (Rules.Submit place packet function channel spot) (h .1) (λ n. refl) (λ r. agree-submit (c .schedule) (inside c) A place packet function channel spot) A
 plain-agree c d (Start channel) reply p h I A =

@@ -93,7 +93,7 @@ plain-sound c d (Deck bytes) reply p h s =
 plain-sound c d Select reply p h s =
     let r = h .0 in
     subst SoundIn (sym (h .1 .1 .1))
-    (subst (λ (t : Schedule × Lists). Sound (t .0)) (sym (h .1 .0 .takes .leaves)) (sound-select (c .schedule) s (r .selection .found) (c .lists) (r .selection)))
+    (subst (λ (t : Schedule × Lists). Sound (t .0)) (sym (h .1 .0 .takes .leaves)) (sound-select (c .schedule) s (Selecting.isJob (r .selection .choice)) (c .lists) (r .selection)))
 plain-sound c d (Submit place packet function channel spot) reply p h s = sound-acts c d (Rules.Submit place packet function channel spot) (h .1) s
 plain-sound c d (Start channel) reply p h s = sound-acts c d (Rules.Start channel) (h .1) s
 plain-sound c d (Complete channel how) reply p h s = sound-acts c d (Rules.Complete channel how) (h .1) s

@@ -1,12 +1,11 @@
 -- The lists of a fresh cell and of any cell that a history leads to, and what a selection's answer says. Assumes
 -- nothing.
 use mathlib.Core.Path.{_≡_, refl, sym, ap, subst, _∙_}
-use mathlib.Core.Bool.{Bool, true, false}
+use mathlib.Core.Bool.{true}
 use mathlib.Core.List.{List}
 use Rattle.numbers.specs.declared.Outcome.{Outcome}
 use Rattle.numbers.specs.declared.Outcome.the-variants.{Done, Refused}
 use Rattle.numbers.specs.declared.Refusal.{Refusal}
-use Rattle.numbers.specs.declared.Refusal.the-variants.{NothingSelected}
 use Rattle.channels.specs.declared.Configuration.{Configuration}
 use Rattle.configuration_units.specs.Fresh.{freshUnits}
 use Rattle.schedule_list.specs.InSchedule.{inSchedule}
@@ -15,8 +14,10 @@ use Rattle.packets.specs.Rules as Rules
 use Rattle.packets.specs.State.{State}
 use Rattle.packets.specs.declared.Verdict.the-variants.{Granted}
 use Rattle.lists.proofs.History.{state-of}
-use Rattle.cell_selection.specs.Selecting.{Selected, SelectsBy, takingOf}
-use Rattle.cell_selection.proofs.SelectingLaws.{taking-granted}
+use Rattle.cell_selection.specs.Selecting.{Selected, Selects, isJob, takingOf}
+use Rattle.cell_selection.proofs.SelectingLaws.{is-selected, taking-granted}
+use Rattle.cell_selection.specs.declared.Choice.{Choice}
+use Rattle.cell_selection.specs.declared.Choice.the-variants.{Job, NoPlace, NoCandidates, Lacks}
 use Rattle.cell_selection.specs.declared.Selection.{Selection}
 use Rattle.cell.specs.Calls.{freshCell, outcomeOf}
 use Rattle.cell.specs.declared.Cell.{Cell}
@@ -61,24 +62,23 @@ not-done {n} e = subst (λ (o : Outcome). is o) e tt
     is Done = ⊥
     is (Refused m) = Unit {0}
 
-pub done-found : (b : Bool) → outcomeOf b ≡ Done → b ≡ true
-done-found true e = refl
-done-found false e = absurd (not-done e)
+-- done is a job, and nothing else is
+pub done-job : (x : Choice) → outcomeOf x ≡ Done → isJob x ≡ true
+done-job Job e = refl
+done-job NoPlace e = absurd (not-done e)
+done-job NoCandidates e = absurd (not-done e)
+done-job (Lacks part) e = absurd (not-done e)
 
-pub found-of : (c d : Cell) (s : Selection) → Does c Select (Chosen Done s) d → s .found ≡ true
+pub found-of : (c d : Cell) (s : Selection) → Does c Select (Chosen Done s) d → isJob (s .choice) ≡ true
 found-of c d s h =
     let e = chosen-is (h .1 .1 .0) in
-    ap (λ (x : Selection). x .found) (e .1) ∙ done-found (h .0 .selection .found) (sym (h .1 .0 .outcome) ∙ sym (e .0))
+    ap (λ (x : Selection). isJob (x .choice)) (e .1) ∙ done-job (h .0 .selection .choice) (sym (h .1 .0 .outcome) ∙ sym (e .0))
 
 pub selected-of : (c d : Cell) (s : Selection) → Does c Select (Chosen Done s) d → Selected (inSchedule (c .schedule)) (c .lists) s
 selected-of c d s h =
     let e = chosen-is (h .1 .1 .0) in
-    let w : SelectsBy (s .found) (inSchedule (c .schedule)) (c .lists) s = subst (λ (x : Selection). SelectsBy (x .found) (inSchedule (c .schedule)) (c .lists) x) (sym (e .1)) (h .1 .0 .takes .selects) in
-    subst (λ (b : Bool). SelectsBy b (inSchedule (c .schedule)) (c .lists) s) (found-of c d s h) w
-
-pub refused-found : (b : Bool) → outcomeOf b ≡ Refused NothingSelected → b ≡ false
-refused-found true e = absurd (not-done (sym e))
-refused-found false e = refl
+    let w : Selects (c .schedule) (c .lists) s = subst (Selects (c .schedule) (c .lists)) (sym (e .1)) (h .1 .0 .takes .selects) in
+    is-selected (inSchedule (c .schedule)) (c .lists) s (s .choice) (found-of c d s h) w
 
 -- a selection is a taking that the lists accept
 pub taking-of : (c d : Cell) (s : Selection) → Does c Select (Chosen Done s) d

@@ -10,12 +10,12 @@ use Rattle.packets.specs.State.{State}
 use Rattle.packets.specs.declared.Lists.{Lists}
 use Rattle.lists.specs.Outcomes.{stateOf}
 use Rattle.lists.proofs.History.{outcome-is}
-use Rattle.cell_selection.specs.Selecting.{leftBy, takingOf}
+use Rattle.cell_selection.specs.Selecting.{isJob, leftBy, takingOf}
 use Rattle.cell_selection.specs.declared.Selection.{Selection}
 use Rattle.cell.specs.Calls.{acted}
 use Rattle.cell.specs.declared.Cell.{Cell}
 use Rattle.cell_history.proofs.MeantLaws.{Plain, by-meant}
-use Rattle.cell_history.specs.History.{Call, Chosen, Complete, Deck, Delete, Does, End, Entered, Event, Key, Leads, Mark, Release, Reply, Said, Select, Shown, Start, Status, Submit}
+use Rattle.cell_history.specs.History.{Call, Complete, Deck, Delete, Does, End, Event, Key, Leads, Mark, Release, Reply, Select, Start, Status, Submit}
 use Rattle.cell_history.specs.Heard.{heard, heardAs, heardBy, heardOf, inside}
 
 -- ---- one call
@@ -25,11 +25,11 @@ unfolding acted Rules.run
 acts-heard c d x e = ap inside e ∙ outcome-is (c .lists) x .1
 
 select-heard : (c : Cell) (selection : Selection) (schedule : Schedule) (lists : Lists)
-    → _≡_ {A = Schedule × Lists} (schedule, lists) (leftBy (selection .found) (c .schedule) (c .lists) selection)
-    → stateOf lists ≡ Rules.run (inside c) (cond (selection .found) (takingOf selection ∷ []) [])
+    → _≡_ {A = Schedule × Lists} (schedule, lists) (leftBy (isJob (selection .choice)) (c .schedule) (c .lists) selection)
+    → stateOf lists ≡ Rules.run (inside c) (cond (isJob (selection .choice)) (takingOf selection ∷ []) [])
 unfolding Rules.run
 select-heard c selection schedule lists e =
-    by-bool (selection .found)
+    by-bool (isJob (selection .choice))
     (λ t. rw t (ap (λ (x : Schedule × Lists). stateOf (x .1)) e ∙ rw t (outcome-is (c .lists) (takingOf selection) .1)))
     (λ t. rw t (ap (λ (x : Schedule × Lists). stateOf (x .1)) e ∙ rw t refl))
 

@@ -33,7 +33,7 @@ pub selects-in-one : (c : Cell) (r s : SelectAnswer) → SelectsIn c r → Selec
 selects-in-one c r s a b =
     let t = takes-one (c .schedule) (c .lists) _ _ (a .takes) (b .takes) in
     let x : r .selection ≡ s .selection = ap (λ (y : Taking). y .selection) t in
-    let o : r .outcome ≡ s .outcome = a .outcome ∙ ap (λ (y : Selection). outcomeOf (y .found)) x ∙ sym (b .outcome) in
+    let o : r .outcome ≡ s .outcome = a .outcome ∙ ap (λ (y : Selection). outcomeOf (y .choice)) x ∙ sym (b .outcome) in
     let k : r .cell .schedule ≡ s .cell .schedule = ap (λ (y : Taking). y .schedule) t in
     let l : r .cell .lists ≡ s .cell .lists = ap (λ (y : Taking). y .lists) t in
     λ i. record { outcome = o i; selection = x i; cell = record { schedule = k i; lists = l i } }

@@ -1,10 +1,11 @@
 -- WHAT THE CALLER WAS TOLD over a history is what the rules answer to the calls that the lists heard. So what a
 -- statement reads from the recorded replies, it could read from the rules. Assumes nothing.
-use mathlib.Core.Path.{_≡_, refl, sym, ap, subst, _∙_}
-use mathlib.Core.Bool.{Bool, cond}
+use mathlib.Core.Path.{_≡_, refl, sym, ap, _∙_}
+use mathlib.Core.Bool.{true, false, cond}
 use mathlib.Core.List.{List, [], _∷_, _++_}
-use Rattle.numbers.proofs.Tests.{by-bool}
+use Rattle.numbers.proofs.Tests.{by-bool, never}
 use Rattle.numbers.specs.declared.Outcome.{Outcome}
+use Rattle.numbers.specs.declared.Outcome.the-variants as Outcomes
 use Rattle.schedule_list.specs.InSchedule.{inSchedule}
 use Rattle.packets.specs.Demand as Told
 use Rattle.packets.specs.Demand.{events}
@@ -15,8 +16,10 @@ use Rattle.packets.specs.declared.Answer.the-variants.{Done}
 use Rattle.packets.specs.declared.Verdict.{Verdict}
 use Rattle.packets.specs.declared.Verdict.the-variants.{Granted}
 use Rattle.lists.proofs.History.{outcome-is}
-use Rattle.cell_selection.specs.Selecting.{SelectsBy, takingOf}
-use Rattle.cell_selection.proofs.SelectingLaws.{taking-granted}
+use Rattle.cell_selection.specs.Selecting.{SelectsBy, isJob, takingOf}
+use Rattle.cell_selection.proofs.SelectingLaws.{is-selected, taking-granted}
+use Rattle.cell_selection.specs.declared.Choice.{Choice}
+use Rattle.cell_selection.specs.declared.Choice.the-variants.{Job, NoPlace, NoCandidates, Lacks}
 use Rattle.cell_selection.specs.declared.Selection.{Selection}
 use Rattle.cell.specs.Calls.{acted, outcomeOf}
 use Rattle.cell.specs.declared.Cell.{Cell}
@@ -37,14 +40,27 @@ taking-done : (s : State) (r : Selection) → Rules.refusal s (takingOf r) ≡ G
 unfolding Rules.step Rules.answer
 taking-done s r g = ap (λ (v : Verdict). Rules.decided s (takingOf r) v .answer) g
 
-select-told : (c : Cell) (r : Selection) (o : Outcome) → o ≡ outcomeOf (r .found) → SelectsBy (r .found) (inSchedule (c .schedule)) (c .lists) r
-    → doneAs o r ≡ events (inside c) (cond (r .found) (takingOf r ∷ []) [])
+-- a job's outcome is done, and no other's
+job-done : (x : Choice) → isJob x ≡ true → outcomeOf x ≡ Outcomes.Done
+job-done Job t = refl
+job-done NoPlace t = never t refl
+job-done NoCandidates t = never t refl
+job-done (Lacks part) t = never t refl
+
+none-done : (x : Choice) (r : Selection) → isJob x ≡ false → doneAs (outcomeOf x) r ≡ []
+none-done Job r t = never refl t
+none-done NoPlace r t = refl
+none-done NoCandidates r t = refl
+none-done (Lacks part) r t = refl
+
+select-told : (c : Cell) (r : Selection) (o : Outcome) → o ≡ outcomeOf (r .choice) → SelectsBy (r .choice) (inSchedule (c .schedule)) (c .lists) r
+    → doneAs o r ≡ events (inside c) (cond (isJob (r .choice)) (takingOf r ∷ []) [])
 unfolding events
 select-told c r o e h =
-    by-bool (r .found)
-    (λ t. let g = taking-granted (c .schedule) (c .lists) r (subst (λ (b : Bool). SelectsBy b (inSchedule (c .schedule)) (c .lists) r) t h) in
-    rw (e, t) (ap (λ (a : Answer). record { call = takingOf r; answer = a } ∷ []) (sym (taking-done (inside c) r g))))
-    (λ t. rw (e, t) refl)
+    by-bool (isJob (r .choice))
+    (λ t. let g = taking-granted (c .schedule) (c .lists) r (is-selected (inSchedule (c .schedule)) (c .lists) r (r .choice) t h) in
+    rw (e, job-done (r .choice) t, t) (ap (λ (a : Answer). record { call = takingOf r; answer = a } ∷ []) (sym (taking-done (inside c) r g))))
+    (λ t. rw (e, t) (none-done (r .choice) r t))
 
 -- each call that is no message is told as the rules answer it
 plain-told : (c d : Cell) (x : Call) (reply : Reply) → Plain x → Does c x reply d → toldAs x reply ≡ events (inside c) (heardAs x reply)

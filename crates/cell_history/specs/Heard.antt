@@ -11,7 +11,7 @@ use Rattle.packets.specs.Rules as Rules
 use Rattle.packets.specs.State.{State}
 use Rattle.packets.specs.declared.Answer.the-variants.{Done}
 use Rattle.lists.specs.Outcomes.{stateOf}
-use Rattle.cell_selection.specs.Selecting.{takingOf}
+use Rattle.cell_selection.specs.Selecting.{isJob, takingOf}
 use Rattle.cell_selection.specs.declared.Selection.{Selection}
 use Rattle.cell.specs.declared.Cell.{Cell}
 use Rattle.cell_history.specs.History.{
@@ -40,7 +40,7 @@ use Rattle.cell_history.specs.History.{
 -- the taking that a selection makes, if it selects
 abbrev pub taken : Reply → List Rules.Call
 taken (Entered o) = []
-taken (Chosen o selection) = cond (selection .found) (takingOf selection ∷ []) []
+taken (Chosen o selection) = cond (isJob (selection .choice)) (takingOf selection ∷ []) []
 taken (Said a) = []
 taken (Shown s) = []
 taken (Mistyped f) = []

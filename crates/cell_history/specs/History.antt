@@ -41,8 +41,8 @@ pub data Call : Type 0 where
   Status : ℕ → ℕ → Call
   Key : List ℕ → Call
 
--- what they answer: how a deck ended; what was selected; the answer of a packet, job, mark or schedule call, typed or
--- not; a packet's status; the fault of a keyboard message
+-- what they answer: how a deck ended; what was selected, or why nothing was; the answer of a packet, job, mark or
+-- schedule call, typed or not; a packet's status; the fault of a keyboard message
 pub data Reply : Type 0 where
   Entered : Outcome → Reply
   Chosen : Outcome → Selection → Reply

@@ -22,7 +22,8 @@ use Rattle.units.specs.declared.Mark.{Mark as UnitMark}
 use Rattle.packets_given.specs.Given.{AsGiven, AtItsArea, Wanting, Wants, taking}
 use Rattle.packets_given.proofs.DrumProof.{on-its-own-words}
 use Rattle.packets_given.proofs.GivenProof.{holds-what-it-was-given}
-use Rattle.cell_selection.specs.Selecting.{Selected, SelectsBy, takingOf}
+use Rattle.cell_selection.specs.Selecting.{Selected, SelectsBy, isJob, takingOf}
+use Rattle.cell_selection.proofs.SelectingLaws.{is-selected}
 use Rattle.cell_selection.specs.declared.Selection.{Selection}
 use Rattle.cell.specs.Calls.{freshCell}
 use Rattle.cell.specs.declared.Cell.{Cell}
@@ -55,11 +56,11 @@ pub record OfTakings (P : State → Rules.Call → Type 0) : Type 0 where
   pub selection : (c : Cell) (s : Selection) → Selected (inSchedule (c .schedule)) (c .lists) s → P (inside c) (takingOf s)
 
 module _ (P : State → Rules.Call → Type 0) (T : OfTakings P) where
-  select-each : (c : Cell) (s : Selection) → SelectsBy (s .found) (inSchedule (c .schedule)) (c .lists) s → Each P (inside c) (cond (s .found) (takingOf s ∷ []) [])
+  select-each : (c : Cell) (s : Selection) → SelectsBy (s .choice) (inSchedule (c .schedule)) (c .lists) s → Each P (inside c) (cond (isJob (s .choice)) (takingOf s ∷ []) [])
   unfolding Each
   select-each c s h =
-      by-bool (s .found)
-      (λ t. rw t (T .selection c s (subst (λ (b : Bool). SelectsBy b (inSchedule (c .schedule)) (c .lists) s) t h), tt))
+      by-bool (isJob (s .choice))
+      (λ t. rw t (T .selection c s (is-selected (inSchedule (c .schedule)) (c .lists) s (s .choice) t h), tt))
       (λ t. rw t tt)
 
   plain-each : (c d : Cell) (x : Call) (reply : Reply) → Plain x → Does c x reply d → Each P (inside c) (heardAs x reply)

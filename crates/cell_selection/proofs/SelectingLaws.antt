@@ -1,34 +1,42 @@
--- What selection's promise means: there is one outcome, refusal 10 is given exactly when no place is free or no
--- candidate has an assignment, and the taking that a selection makes is accepted by the lists. Assumes nothing.
-use Prim.Native.Nat.{ℕ, _≤_}
-use mathlib.Core.Path.{_≡_, refl, sym, ap, subst, _∙_}
-use mathlib.Core.Bool.{Bool, true, false}
+-- What selection's promise means: there is one outcome, it is refused exactly when no place is free or no candidate has
+-- an assignment, and the taking that a selection makes is accepted by the lists. Assumes nothing.
+use Prim.Native.Nat.{ℕ, _<_}
+use mathlib.Core.Path.{_≡_, refl, sym, ap, _∙_}
+use mathlib.Core.Bool.{true, false}
 use mathlib.Core.List.{List}
-use mathlib.Core.Logic.{_⊎_, ⊎-elim}
+use mathlib.Core.Logic.{_⊎_, inl, inr, ⊎-elim}
 use native.Mathlib.Omega.{arith}
-use lib.Dec.{ltb}
-use borrow.Author.Tests.{ltb-false, ltb-true, lt-ltb}
+use borrow.Author.Tests.{lt-ltb}
 use Rattle.numbers.proofs.Tests.{by-bool, never}
 use Rattle.schedule_entries.specs.declared.Entry.{Entry}
 use Rattle.schedule_list.specs.InSchedule.{inSchedule, entryAt}
 use Rattle.schedule_list.specs.declared.Schedule.{Schedule}
 use Rattle.assign.specs.Assignment.{Cell}
-use Rattle.assign.specs.Chosen.{Answer}
-use Rattle.assign.proofs.ChosenLaws.{assigns-one}
+use Rattle.assign.specs.Parts.{Has, parts}
+use Rattle.assign.proofs.FirstLaws.{first-one}
+use Rattle.assign.proofs.ChosenLaws.{chosen-one}
 use Rattle.assign.specs.declared.Assigned.{Assigned}
+use Rattle.assign.specs.declared.Lacking.{Lacking}
+use Rattle.assign.specs.declared.Lacking.the-variants.{Nothing, First}
+use Rattle.assign.specs.declared.Part.{Part}
 use Rattle.packets.specs.Rules.{refusal}
 use Rattle.packets.specs.declared.Lists.{Lists}
 use Rattle.packets.specs.declared.Verdict.the-variants.{Granted}
 use Rattle.lists.specs.Outcomes.{stateOf}
-use Rattle.cell_taken.specs.Taken.{LowestFree}
 use Rattle.cell_taken.proofs.TakenLaws.{lowest-one}
 use Rattle.cell_taken.specs.declared.FreePlace.{FreePlace}
 use Rattle.cell_taken.specs.declared.FreePlace.the-variants.{At, Full}
-use Rattle.cell_selection.specs.Selecting.{FirstFit, NoFit, NotSelected, Selected, Selects, SelectsBy, Takes, leftBy, noSelection, seenIn, takingOf, NoneToSelect}
+use Rattle.cell_selection.specs.Selecting.{AllHeld, FirstFit, FirstLacks, NoFit, Selected, Selects, SelectsBy, Takes, Unselected, isJob, leftBy, seenIn, takingOf, unselected}
+use Rattle.cell_selection.specs.declared.Choice.{Choice}
+use Rattle.cell_selection.specs.declared.Choice.the-variants.{Job, NoPlace, NoCandidates, Lacks}
 use Rattle.cell_selection.specs.declared.Selection.{Selection}
 use Rattle.cell_selection.specs.declared.Taking.{Taking}
 
 -- ---- one outcome
+
+-- neither of two numbers is below the other
+level : {k m : ℕ} → (k < m → ⊥) → (m < k → ⊥) → k ≡ m
+level f g = omega arith
 
 module _ (es : List Entry) (cell : Cell) where
   -- a first fit is not found where none is
@@ -38,18 +46,22 @@ module _ (es : List Entry) (cell : Cell) where
   -- two first fits stand at one index
   fit-at : {k m : ℕ} {a b : Assigned} → FirstFit es cell k a → FirstFit es cell m b → k ≡ m
   fit-at {k} {m} {a} {b} f g =
-      by-bool (ltb k m) (λ t. absurd (g .first k (ltb-true k m t) (f .candidate) a (f .chosen .is)))
-      (λ t. by-bool (ltb m k) (λ q. absurd (f .first m (ltb-true m k q) (g .candidate) b (g .chosen .is)))
-      (λ q. same (ltb-false k m t) (ltb-false m k q)))
-    where
-      same : m ≤ k → k ≤ m → k ≡ m
-      same l h = omega arith
+      level (λ l. g .first k l (f .candidate) a (f .chosen .is)) (λ l. f .first m l (g .candidate) b (g .chosen .is))
 
   fit-given : {k m : ℕ} {a b : Assigned} → k ≡ m → FirstFit es cell k a → FirstFit es cell m b → a ≡ b
-  fit-given {k} {m} {a} {b} e f g =
-      assigns-one cell (entryAt es m .request .facilities) a b
-      (subst (λ (x : Bool). Answer x cell (entryAt es m .request .facilities) a) (sym (f .found)) (rw (sym e) (f .chosen)))
-      (subst (λ (x : Bool). Answer x cell (entryAt es m .request .facilities) b) (sym (g .found)) (g .chosen))
+  fit-given {k} {m} {a} {b} e f g = chosen-one cell (entryAt es m .request .facilities) a b (rw (sym e) (f .chosen)) (g .chosen)
+
+  -- the first candidate is one, and so is the first part that is lacking for it
+  lacks-at : {k m : ℕ} {p q : Part} → FirstLacks es cell k p → FirstLacks es cell m q → k ≡ m
+  lacks-at {k} {m} f g = level (λ l. g .first k l (f .candidate)) (λ l. f .first m l (g .candidate))
+
+  lacks-part : {k m : ℕ} {p q : Part} → k ≡ m → FirstLacks es cell k p → FirstLacks es cell m q → p ≡ q
+  lacks-part {k} {m} {p} {q} e f g =
+      ap part-of (first-one (Has cell (entryAt es m .request .facilities)) parts (First p) (First q) (rw (sym e) (f .lacking)) (g .lacking))
+    where
+      part-of : Lacking → Part
+      part-of Nothing = p
+      part-of (First x) = x
 
 at-injective : {p q : ℕ} → At p ≡ At q → p ≡ q
 at-injective {p} {q} e = ap (λ (f : FreePlace). number f) e
@@ -59,48 +71,90 @@ at-injective {p} {q} e = ap (λ (f : FreePlace). number f) e
     number Full = 0
 
 module _ (es : List Entry) (lists : Lists) where
-  -- a selection and a refusal do not go together
-  pub not-both : (r s : Selection) → Selected es lists r → NotSelected es lists s → ⊥
-  not-both r s a b =
-      ⊎-elim (λ f. never (a .place .1 .0) (f (r .place) (a .place .0)))
-      (λ n. fit-some es (seenIn lists) (a .fit) n) (b .why)
+  -- a selection is made by a choice of a job, and by no other
+  pub is-selected : (r : Selection) (c : Choice) → isJob c ≡ true → SelectsBy c es lists r → Selected es lists r
+  is-selected r Job t s = s
+  is-selected r NoPlace t s = never t refl
+  is-selected r NoCandidates t s = never t refl
+  is-selected r (Lacks part) t s = never t refl
 
-  one-by : (u v : Bool) (r s : Selection) → r .found ≡ u → s .found ≡ v → SelectsBy u es lists r → SelectsBy v es lists s → r ≡ s
-  one-by true true r s e h a b =
+  pub not-selected : (r : Selection) (c : Choice) → isJob c ≡ false → SelectsBy c es lists r → Unselected c es lists (r .first) × (r ≡ unselected c (r .first))
+  not-selected r Job t s = never refl t
+  not-selected r NoPlace t s = s
+  not-selected r NoCandidates t s = s
+  not-selected r (Lacks part) t s = s
+
+  -- what is refused: no place is free, or no candidate has an assignment
+  pub why : (c : Choice) (id : List ℕ) → Unselected c es lists id → AllHeld lists ⊎ NoFit es (seenIn lists)
+  why Job id a = absurd a
+  why NoPlace id a = inl (a .0)
+  why NoCandidates id a = inr (λ i c. absurd (a .1 .0 i c))
+  why (Lacks part) id a = inr (a .1 .0)
+
+  -- a selection and a refusal do not go together
+  pub not-both : (r : Selection) → Selected es lists r → AllHeld lists ⊎ NoFit es (seenIn lists) → ⊥
+  not-both r a b =
+      ⊎-elim (λ f. never (a .place .1 .0) (f (r .place) (a .place .0)))
+      (λ n. fit-some es (seenIn lists) (a .fit) n) b
+
+  -- two reasons are one
+  same-why : (c d : Choice) (id jd : List ℕ) → Unselected c es lists id → Unselected d es lists jd → unselected c id ≡ unselected d jd
+  same-why Job d id jd a b = absurd a
+  same-why NoPlace Job id jd a b = absurd b
+  same-why NoPlace NoPlace id jd a b = ap (unselected NoPlace) (a .1 ∙ sym (b .1))
+  same-why NoPlace NoCandidates id jd a b = absurd (b .0 (a .0))
+  same-why NoPlace (Lacks q) id jd a b = absurd (b .0 (a .0))
+  same-why NoCandidates Job id jd a b = absurd b
+  same-why NoCandidates NoPlace id jd a b = absurd (a .0 (b .0))
+  same-why NoCandidates NoCandidates id jd a b = ap (unselected NoCandidates) (a .1 .1 ∙ sym (b .1 .1))
+  same-why NoCandidates (Lacks q) id jd a b = absurd (a .1 .0 (b .1 .1 .0) (b .1 .1 .1 .0 .candidate))
+  same-why (Lacks p) Job id jd a b = absurd b
+  same-why (Lacks p) NoPlace id jd a b = absurd (a .0 (b .0))
+  same-why (Lacks p) NoCandidates id jd a b = absurd (b .1 .0 (a .1 .1 .0) (a .1 .1 .1 .0 .candidate))
+  same-why (Lacks p) (Lacks q) id jd a b =
+      let e = lacks-at es (seenIn lists) (a .1 .1 .1 .0) (b .1 .1 .1 .0) in
+      let f : p ≡ q = lacks-part es (seenIn lists) e (a .1 .1 .1 .0) (b .1 .1 .1 .0) in
+      let g : id ≡ jd = a .1 .1 .1 .1 ∙ ap (λ (i : ℕ). entryAt es i .request .id) e ∙ sym (b .1 .1 .1 .1) in
+      λ i. unselected (Lacks (f i)) (g i)
+
+  both-selected : (r s : Selection) → r .choice ≡ s .choice → Selected es lists r → Selected es lists s → r ≡ s
+  both-selected r s f a b =
       let k : r .at ≡ s .at = fit-at es (seenIn lists) (a .fit) (b .fit) in
       let p : r .place ≡ s .place = at-injective (lowest-one (lists .jobs) (At (r .place)) (At (s .place)) (a .place) (b .place)) in
       let g : r .assigned ≡ s .assigned = fit-given es (seenIn lists) k (a .fit) (b .fit) in
       let q : r .request ≡ s .request = a .request ∙ ap (λ (i : ℕ). entryAt es i .request) k ∙ sym (b .request) in
-      let f : r .found ≡ s .found = e ∙ sym h in
-      λ i. record { found = f i; place = p i; at = k i; request = q i; assigned = g i }
-  one-by true false r s e h a b = absurd (not-both r s a b)
-  one-by false true r s e h a b = absurd (not-both s r b a)
-  one-by false false r s e h a b = a .blank ∙ sym (b .blank)
+      let n : r .first ≡ s .first = a .unnamed ∙ sym (b .unnamed) in
+      λ i. record { choice = f i; first = n i; place = p i; at = k i; request = q i; assigned = g i }
+
+  -- two choices of a job are one
+  job-one : (c : Choice) → isJob c ≡ true → c ≡ Job
+  job-one Job t = refl
+  job-one NoPlace t = never t refl
+  job-one NoCandidates t = never t refl
+  job-one (Lacks part) t = never t refl
+
+  one-by : (r s : Selection) → SelectsBy (r .choice) es lists r → SelectsBy (s .choice) es lists s → r ≡ s
+  one-by r s a b =
+      by-bool (isJob (r .choice))
+      (λ t. let x = is-selected r (r .choice) t a in
+      by-bool (isJob (s .choice)) (λ u. both-selected r s (job-one (r .choice) t ∙ sym (job-one (s .choice) u)) x (is-selected s (s .choice) u b))
+      (λ u. absurd (not-both r x (why (s .choice) (s .first) (not-selected s (s .choice) u b .0)))))
+      (λ t. let x = not-selected r (r .choice) t a in
+      by-bool (isJob (s .choice)) (λ u. absurd (not-both s (is-selected s (s .choice) u b) (why (r .choice) (r .first) (x .0))))
+      (λ u. let y = not-selected s (s .choice) u b in x .1 ∙ same-why (r .choice) (s .choice) (r .first) (s .first) (x .0) (y .0) ∙ sym (y .1)))
 
 -- TWO SELECTIONS ARE ONE, and leave the same
 pub selects-one : (schedule : Schedule) (lists : Lists) (r s : Selection) → Selects schedule lists r → Selects schedule lists s → r ≡ s
-selects-one schedule lists r s a b = one-by (inSchedule schedule) lists (r .found) (s .found) r s refl refl a b
+selects-one schedule lists r s a b = one-by (inSchedule schedule) lists r s a b
 
 pub takes-one : (schedule : Schedule) (lists : Lists) (r s : Taking) → Takes schedule lists r → Takes schedule lists s → r ≡ s
 takes-one schedule lists r s a b =
     let e : r .selection ≡ s .selection = selects-one schedule lists (r .selection) (s .selection) (a .selects) (b .selects) in
     let l : _≡_ {A = Schedule × Lists} (r .schedule, r .lists) (s .schedule, s .lists) =
-    a .leaves ∙ ap (λ (x : Selection). leftBy (x .found) schedule lists x) e ∙ sym (b .leaves) in
+    a .leaves ∙ ap (λ (x : Selection). leftBy (isJob (x .choice)) schedule lists x) e ∙ sym (b .leaves) in
     let f : r .schedule ≡ s .schedule = ap (λ (x : Schedule × Lists). x .0) l in
     let g : r .lists ≡ s .lists = ap (λ (x : Schedule × Lists). x .1) l in
     λ i. record { selection = e i; schedule = f i; lists = g i }
-
--- ---- refusal 10 is given exactly when no place is free or no candidate has an assignment
-
-pub refused-when : (schedule : Schedule) (lists : Lists) (r : Selection) → Selects schedule lists r → r .found ≡ false → NoneToSelect schedule lists
-refused-when schedule lists r s e = subst (λ (b : Bool). SelectsBy b (inSchedule schedule) lists r) e s .why
-
-pub refused-only : (schedule : Schedule) (lists : Lists) (r : Selection) → Selects schedule lists r → NoneToSelect schedule lists → r .found ≡ false
-refused-only schedule lists r s n =
-    by-bool (r .found)
-    (λ t. let a = subst (λ (b : Bool). SelectsBy b (inSchedule schedule) lists r) t s in
-    absurd (not-both (inSchedule schedule) lists r noSelection a (record { why = n; blank = refl })))
-    (λ t. t)
 
 -- ---- the lists accept the taking
 

@@ -3,7 +3,6 @@ use Prim.Native.Nat.{ℕ, _+_, _≤_, _<_}
 use mathlib.Core.Path.{_≡_, refl, sym, ap, subst, _∙_}
 use mathlib.Core.Bool.{Bool, true, false}
 use mathlib.Core.List.{List}
-use mathlib.Core.Logic.{inl, inr}
 use native.Mathlib.Omega.{arith}
 use lib.Dec.{eqb}
 use lib.ListN.{length, getD, take}
@@ -12,7 +11,6 @@ use Rattle.numbers.proofs.Tests.{by-bool, never}
 use Rattle.units.specs.declared.Unit.{Unit}
 use Rattle.channels.specs.declared.Channel.{Channel}
 use Rattle.cards.specs.declared.Facilities.{Facilities}
-use Rattle.schedule_entries.specs.Entries.{blank}
 use Rattle.schedule_entries.specs.declared.Entry.{Entry}
 use Rattle.schedule_list.specs.InSchedule.{inSchedule, entryAt}
 use Rattle.schedule_list.proofs.InScheduleLaws.{schedule-at, schedule-few, schedule-sized}
@@ -20,57 +18,96 @@ use Rattle.schedule_list.specs.declared.Schedule.{Schedule}
 use Rattle.schedule_candidates.specs.Candidates.{Marks}
 use Rattle.assign_drum.specs.declared.Area.{Area}
 use Rattle.assign_counts.specs.Assignable.{Counted}
-use Rattle.assign.specs.Assignment.{Cell, cellOf, drumLength, IsAssignment}
-use Rattle.assign.specs.Chosen.{Answer, Assigns}
+use Rattle.assign.specs.Assignment.{Cell, cellOf, drumLength}
+use Rattle.assign.specs.Parts.{parts, FirstOf, FirstLacking}
+use Rattle.assign.specs.Chosen.{Assigns, nothing}
 use Rattle.assign.specs.declared.Assigned.{Assigned}
-use Rattle.assign_lacking.specs.declared.Lacking.{Lacking}
-use Rattle.assign_lacking.specs.declared.Lacking.the-variants.{Nothing, Core, Drum, Units}
-use Rattle.assign_lacking.specs.Parts.{isNothing, parts, First, Has, Answers}
-use Rattle.assign_lacking.specs.InCell.{Tells}
-use Rattle.assign_lacking.proofs.InCellLaws.{lacking-tells}
+use Rattle.assign.specs.declared.Lacking.{Lacking}
+use Rattle.assign.specs.declared.Lacking.the-variants as Lacking
+use Rattle.assign.specs.declared.Part.{Part}
+use Rattle.assign.specs.declared.Provision.{Provision}
+use Rattle.assign.proofs.ChosenLaws.{none-lacking}
+use Rattle.assign.proofs.LackingLaws.{chosen-when}
+use Rattle.assign_lacking.specs.ByCounts.{Answers, HasBy}
+use Rattle.assign_lacking.proofs.InCellLaws.{in-cell}
 use Rattle.packets.specs.declared.Lists.{Lists}
 use Rattle.cell_taken.specs.Taken.{LowestFree}
-use Rattle.cell_taken.specs.declared.FreePlace.the-variants.{At, Full}
-use Rattle.cell_selection.specs.Selecting.{Candidate, HasNone, NoFit, Picks, PicksBy, Selected, SelectsBy, Starts, noSelection, seenIn}
+use Rattle.cell_taken.specs.declared.FreePlace.the-variants.{At}
+use Rattle.cell_selection.specs.Selecting.{AllHeld, Candidate, FirstFit, FirstLacks, HasNone, NoFit, Picks, PicksBy, PicksNone, Selected, SelectsBy, Starts, isJob, noId, seenIn, unselected}
+use Rattle.cell_selection.specs.Noting.{atThen, lackingThen, nonePicked, noted, picked}
+use Rattle.cell_selection.specs.declared.Choice.the-variants.{Job, NoPlace, NoCandidates, Lacks}
+use Rattle.cell_selection.specs.declared.Noted.{Noted}
+use Rattle.cell_selection.proofs.SelectingLaws.{is-selected}
 use Rattle.cell_selection.specs.declared.Pick.{Pick}
 use Rattle.cell_selection.specs.declared.Selection.{Selection}
 
--- the candidates before k have no assignment
-pub record Walked (es : List Entry) (cell : Cell) (k : ℕ) : Type 0 where
+-- ---- what is noted of the candidates before k, of whom none has an assignment
+
+abbrev pub NotedBy : Lacking → List Entry → Cell → ℕ → ℕ → Type 0
+NotedBy Lacking.Nothing es cell k at = ((i : ℕ) → i < k → Candidate es i → ⊥) × (at ≡ 0)
+NotedBy (Lacking.First part) es cell k at = (at < k) × FirstLacks es cell at part
+
+pub record Walked (es : List Entry) (cell : Cell) (lacking : Lacking) (at k : ℕ) : Type 0 where
   pub passed : (i : ℕ) → i < k → Candidate es i → HasNone cell (entryAt es i .request)
+  pub so-far : NotedBy lacking es cell k at
 
-pub walk-start : (es : List Entry) (cell : Cell) → Walked es cell 0
-walk-start es cell = record { passed = λ i h c. absurd (omega arith) }
+pub walk-start : (es : List Entry) (cell : Cell) → Walked es cell Lacking.Nothing 0 0
+walk-start es cell = record { passed = λ i h c. absurd (omega arith); so-far = (λ i h c. absurd (omega arith), refl) }
 
--- one more has none, or is no candidate
-walk-more : {es : List Entry} {cell : Cell} {k : ℕ} → Walked es cell k → (Candidate es k → HasNone cell (entryAt es k .request)) → Walked es cell (k + 1)
-walk-more {es} {cell} {k} w f =
-    record {
-      passed = λ i h c. by-bool (eqb i k) (λ q. let e : i ≡ k = eqb-true i k q in rw e (f (rw e at c)))
-          (λ q. w .passed i (less i h (eqb-false i k q)) c);
+module _ (es : List Entry) (cell : Cell) (k : ℕ) where
+  -- below k + 1 is below k, or k itself
+  below : (P : ℕ → Type 0) → ((i : ℕ) → i < k → Candidate es i → P i) → (Candidate es k → P k) → (i : ℕ) → i < k + 1 → Candidate es i → P i
+  below P f g i h c =
+      by-bool (eqb i k) (λ q. let e : i ≡ k = eqb-true i k q in subst P (sym e) (g (subst (Candidate es) e c)))
+      (λ q. f i (less (eqb-false i k q)) c)
+    where
+      less : (i ≡ k → ⊥) → i < k
+      less q = omega arith
+
+  -- one more is no candidate
+  past : (l : Lacking) (at : ℕ) → (Candidate es k → ⊥) → NotedBy l es cell k at → NotedBy l es cell (k + 1) at
+  past Lacking.Nothing at h n = (below (λ i. ⊥) (n .0) h, n .1)
+  past (Lacking.First part) at h n = (omega (arith, n .0), n .1)
+
+  pub walk-past : {l : Lacking} {at : ℕ} → Walked es cell l at k → (Candidate es k → ⊥) → Walked es cell l at (k + 1)
+  walk-past {l} {at} w h = record {
+    passed = below (λ i. HasNone cell (entryAt es i .request)) (w .passed) (λ d. absurd (h d));
+    so-far = past l at h (w .so-far);
+  }
+
+  -- one more is a candidate and lacks a part
+  module _ (part : Part) (is : Candidate es k) (f : FirstLacking cell (entryAt es k .request .facilities) (Lacking.First part)) where
+    lacks : (l : Lacking) (at : ℕ) → NotedBy l es cell k at → NotedBy (lackingThen l part) es cell (k + 1) (atThen l at k)
+    lacks Lacking.Nothing at a = (omega arith, record { candidate = is; first = a .0; lacking = f })
+    lacks (Lacking.First other) at a = (omega (arith, a .0), a .1)
+
+    pub walk-lacks : {l : Lacking} {at : ℕ} → Walked es cell l at k → Walked es cell (lackingThen l part) (atThen l at k) (k + 1)
+    walk-lacks {l} {at} w = record {
+      passed = below (λ i. HasNone cell (entryAt es i .request)) (w .passed)
+          (λ d b i. none-lacking cell (entryAt es k .request .facilities) b i f);
+      so-far = lacks l at (w .so-far);
     }
-  where
-    less : (i : ℕ) → i < k + 1 → (i ≡ k → ⊥) → i < k
-    less i h q = omega arith
 
--- an assigner finds one where there is one
-has-found : (cell : Cell) (wanted : Facilities) (a : Assigned) → Assigns cell wanted a → (b : Assigned) × IsAssignment cell wanted b → a .found ≡ true
-has-found cell wanted a r b = by-bool (a .found) (λ t. t) (λ t. absurd (subst (λ (x : Bool). Answer x cell wanted a) t r .never (b .0) (b .1)))
+  -- the last has been looked at
+  pub walked-all : {l : Lacking} {at : ℕ} → Walked es cell l at k → length es ≤ k → (a : Assigned) → a ≡ nothing
+      → Picks es cell (record { found = false; lacking = l; at = at; assigned = a })
+  walked-all {l} {at} w h a g = by-lack l (w .so-far)
+    where
+      none : NoFit es cell
+      none i d = w .passed i (omega (arith, d .0)) d
 
--- what says that nothing is lacking
-nothing-lacks : (l : Lacking) → isNothing l ≡ true → l ≡ Nothing
-nothing-lacks Nothing e = refl
-nothing-lacks Core e = never e refl
-nothing-lacks Drum e = never e refl
-nothing-lacks (Units kind) e = never e refl
+      by-lack : (m : Lacking) → NotedBy m es cell k at → PicksNone m es cell (record { found = false; lacking = l; at = at; assigned = a })
+      by-lack Lacking.Nothing x = (λ i d. x .0 i (omega (arith, d .0)) d, (x .1, g))
+      by-lack (Lacking.First part) x = (none, (x .1, g))
 
 -- what the counts tell of a cell
-pub told : (units : List (List Unit)) (occupancy : ℕ) (areas : List Area) (channels : List Channel) (wanted : Facilities) (counts : List ℕ) {drum : ℕ} (l : Lacking) → length channels ≡ 16
-    → Counted units channels counts → drum ≡ drumLength channels → Answers counts occupancy areas drum wanted l → Tells (cellOf units occupancy areas channels) wanted l
-told units occupancy areas channels wanted counts {drum} l size c e a =
-    lacking-tells units occupancy areas channels wanted counts size (a .full) c l (subst (λ (x : ℕ). First (Has counts occupancy areas x wanted) parts l) e (a .first))
+pub told : (units : List (List Unit)) (occupancy : ℕ) (areas : List Area) (channels : List Channel) (wanted : Facilities) (counts : List ℕ) {drum : ℕ} {l m : Lacking} → length channels ≡ 16
+    → Counted units channels counts → drum ≡ drumLength channels → Answers counts occupancy areas drum wanted l → l ≡ m → FirstLacking (cellOf units occupancy areas channels) wanted m
+told units occupancy areas channels wanted counts {drum} {l} {m} size c e a q =
+    in-cell units occupancy areas channels wanted counts size (a .full) c m
+    (subst (λ (x : ℕ). FirstOf (HasBy counts occupancy areas x wanted) parts m) e (subst (FirstOf (HasBy counts occupancy areas drum wanted) parts) q (a .first)))
 
--- the walk over a schedule's array, by the marks of its candidates
+-- ---- the walk over a schedule's array, by the marks of its candidates
 module _ (s : Schedule) (wide : length (s .entries) ≡ 64) {n : ℕ} (size : n ≡ length (inSchedule s)) {may : List Bool} (marks : Marks (inSchedule s) may) (cell : Cell) where
   part : take n (s .entries) ≡ inSchedule s
   part = schedule-sized s size
@@ -78,59 +115,83 @@ module _ (s : Schedule) (wide : length (s .entries) ≡ 64) {n : ℕ} (size : n 
   pub few : n ≤ 64
   few = omega (arith, schedule-few s wide)
 
-  walk-in : {k : ℕ} → Walked (take n (s .entries)) cell k → Walked (inSchedule s) cell k
-  walk-in {k} w = subst (λ (es : List Entry). Walked es cell k) part w
+  module _ {k : ℕ} (so-far : Noted) (w : Walked (take n (s .entries)) cell (so-far .lacking) (so-far .at) k) where
+    walked : Walked (inSchedule s) cell (so-far .lacking) (so-far .at) k
+    walked = subst (λ (es : List Entry). Walked es cell (so-far .lacking) (so-far .at) k) part w
 
-  pub walk-found : {k : ℕ} (d : Entry) (a : Assigned) (l : Lacking) → Walked (take n (s .entries)) cell k → k < n → getD may k false ≡ true
-      → Tells cell (getD (s .entries) k d .request .facilities) l → isNothing l ≡ true → Assigns cell (getD (s .entries) k d .request .facilities) a
-      → PicksBy true (inSchedule s) cell (record { found = true; at = k; assigned = a })
-  walk-found {k} d a t w h m tells e r =
-      let l : k < length (inSchedule s) = omega arith in
-      let f = has-found cell (getD (s .entries) k d .request .facilities) a r (tells .some (nothing-lacks t e)) in
-      record {
-        candidate = (l, sym (marks .each k l) ∙ m);
-        found = f;
-        chosen = rw (sym (schedule-at s k d l)) (subst (λ (b : Bool). Answer b cell (getD (s .entries) k d .request .facilities) a) f r);
-        first = walk-in w .passed;
-      }
+    again : {l : Lacking} {at : ℕ} → Walked (inSchedule s) cell l at (k + 1) → Walked (take n (s .entries)) cell l at (k + 1)
+    again {l} {at} x = subst (λ (es : List Entry). Walked es cell l at (k + 1)) (sym part) x
 
-  pub walk-none : {k : ℕ} (d : Entry) (l : Lacking) → Walked (take n (s .entries)) cell k → k < n → Tells cell (getD (s .entries) k d .request .facilities) l → isNothing l ≡ false
-      → Walked (take n (s .entries)) cell (k + 1)
-  walk-none {k} d t w h tells e =
-      let l : k < length (inSchedule s) = omega arith in
-      subst (λ (es : List Entry). Walked es cell (k + 1)) (sym part) (walk-more (walk-in w) λ c. rw (sym (schedule-at s k d l)) none)
-    where
-      none : HasNone cell (getD (s .entries) k d .request)
-      none b i = never (ap isNothing (tells .none b i)) e
+    module _ (h : k < n) where
+      inside : k < length (inSchedule s)
+      inside = omega arith
 
-  pub walk-past : {k : ℕ} → Walked (take n (s .entries)) cell k → k < n → getD may k false ≡ false → Walked (take n (s .entries)) cell (k + 1)
-  walk-past {k} w h m =
-      let l : k < length (inSchedule s) = omega arith in
-      subst (λ (es : List Entry). Walked es cell (k + 1)) (sym part) (walk-more (walk-in w) λ c b a. never (c .1) (sym (marks .each k l) ∙ m))
+      pub walk-on : getD may k false ≡ false → Walked (take n (s .entries)) cell (so-far .lacking) (so-far .at) (k + 1)
+      walk-on m = again (walk-past (inSchedule s) cell k walked (λ c. never (c .1) (sym (marks .each k inside) ∙ m)))
 
-  pub walk-end : {k : ℕ} → Walked (take n (s .entries)) cell k → n ≤ k → NoFit (inSchedule s) cell
-  walk-end w h i c = walk-in w .passed i (omega (arith, c .0)) c
+      module _ (d : Entry) (m : getD may k false ≡ true) where
+        candidate : Candidate (inSchedule s) k
+        candidate = (inside, sym (marks .each k inside) ∙ m)
+
+        pub walk-found : FirstLacking cell (getD (s .entries) k d .request .facilities) Lacking.Nothing
+            → (given : Provision) → Assigns cell (getD (s .entries) k d .request .facilities) given
+            → (r : Pick) → r ≡ picked k given → Picks (inSchedule s) cell r
+        walk-found f given a r e =
+            let fit : FirstFit (inSchedule s) cell k (given .assigned) = record {
+              candidate = candidate;
+              chosen = rw (sym (schedule-at s k d inside)) (chosen-when cell (getD (s .entries) k d .request .facilities) f given a);
+              first = walked .passed;
+            } in
+            subst (Picks (inSchedule s) cell) (sym e) (fit, refl)
+
+        pub walk-next : (part : Part) → FirstLacking cell (getD (s .entries) k d .request .facilities) (Lacking.First part)
+            → (next : Noted) → next ≡ noted so-far part k → Walked (take n (s .entries)) cell (next .lacking) (next .at) (k + 1)
+        walk-next part f next e =
+            subst (λ (x : Noted). Walked (take n (s .entries)) cell (x .lacking) (x .at) (k + 1)) (sym e)
+            (again (walk-lacks (inSchedule s) cell k part candidate (rw (sym (schedule-at s k d inside)) f) walked))
+
+    -- the last has been looked at
+    pub walk-end : n ≤ k → (r : Pick) → r ≡ nonePicked so-far → Picks (inSchedule s) cell r
+    walk-end h r e = subst (Picks (inSchedule s) cell) (sym e) (walked-all (inSchedule s) cell k walked (omega arith) nothing refl)
 
 -- ---- the whole selection
 
 -- no place is free
-pub refused-full : (es : List Entry) (lists : Lists) (r : Selection) → LowestFree (lists .jobs) Full → r ≡ noSelection → SelectsBy (r .found) es lists r
-refused-full es lists r f e = rw e (record { why = inl f; blank = refl })
+pub refused-full : (es : List Entry) (lists : Lists) (r : Selection) → AllHeld lists → r ≡ unselected NoPlace noId → SelectsBy (r .choice) es lists r
+refused-full es lists r f e = rw e ((f, refl), refl)
 
--- no candidate has an assignment
-pub refused-none : (es : List Entry) (lists : Lists) (p : Pick) (r : Selection) → p .found ≡ false → Picks es (seenIn lists) p → r ≡ noSelection → SelectsBy (r .found) es lists r
-refused-none es lists p r f s e = rw e (record { why = inr (subst (λ (b : Bool). PicksBy b es (seenIn lists) p) f s .0); blank = refl })
+module _ (es : List Entry) (lists : Lists) (p : Pick) (place : ℕ) (entry : Entry) (picks : Picks es (seenIn lists) p) (l : LowestFree (lists .jobs) (At place))
+    (is : entry ≡ entryAt es (p .at)) where
+  some-free : AllHeld lists → ⊥
+  some-free f = never (l .1 .0) (f place (l .0))
 
--- the first that has one, for the lowest free place
-pub selected : (es : List Entry) (lists : Lists) (p : Pick) (place : ℕ) (entry : Entry) → p .found ≡ true → Picks es (seenIn lists) p → LowestFree (lists .jobs) (At place)
-    → entry ≡ entryAt es (p .at) → Selected es lists (record { found = true; place = place; at = p .at; request = entry .request; assigned = p .assigned })
-selected es lists p place entry f s l e =
-    record { place = l; fit = subst (λ (b : Bool). PicksBy b es (seenIn lists) p) f s; request = ap (λ (x : Entry). x .request) e }
+  module _ (f : p .found ≡ false) where
+    none : {l : Lacking} → p .lacking ≡ l → PicksNone l es (seenIn lists) p
+    none e = subst (λ (l : Lacking). PicksNone l es (seenIn lists) p) e (subst (λ (b : Bool). PicksBy b es (seenIn lists) p) f picks)
+
+    -- there are no candidates
+    pub refused-none : p .lacking ≡ Lacking.Nothing → (r : Selection) → r ≡ unselected NoCandidates noId → SelectsBy (r .choice) es lists r
+    refused-none e r g = rw g ((some-free, (none e .0, refl)), refl)
+
+    -- none has an assignment
+    pub refused-lacks : (part : Part) → p .lacking ≡ Lacking.First part → (r : Selection) → r ≡ unselected (Lacks part) (entry .request .id)
+        → SelectsBy (r .choice) es lists r
+    refused-lacks part e r g = rw g ((some-free, (none e .0, (p .at, (none e .1 .0, ap (λ (x : Entry). x .request .id) is)))), refl)
+
+  -- the first that has one, for the lowest free place
+  pub selected : p .found ≡ true
+      → Selected es lists (record { choice = Job; first = noId; place = place; at = p .at; request = entry .request; assigned = p .assigned })
+  selected e = record {
+    place = l;
+    fit = subst (λ (b : Bool). PicksBy b es (seenIn lists) p) e picks .0;
+    request = ap (λ (x : Entry). x .request) is;
+    unnamed = refl;
+  }
 
 -- the starts of an assignment's blocks are numbers of blocks
-pub starts : (es : List Entry) (lists : Lists) (r : Selection) → r .found ≡ true → SelectsBy (r .found) es lists r → Starts (r .request .facilities) (r .assigned)
+pub starts : (es : List Entry) (lists : Lists) (r : Selection) → isJob (r .choice) ≡ true → SelectsBy (r .choice) es lists r → Starts (r .request .facilities) (r .assigned)
 starts es lists r f s =
-    let d : Selected es lists r = subst (λ (b : Bool). SelectsBy b es lists r) f s in
+    let d : Selected es lists r = is-selected es lists r (r .choice) f s in
     let k = d .fit .chosen .is .core in
     rw (d .request) (record {
       ib = λ n. omega (arith, k .instructions .high);

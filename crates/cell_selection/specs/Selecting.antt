@@ -1,12 +1,12 @@
--- Document 01, 'Selecting and assigning': which request is selected, for which place, with which assignment. A reader
--- has to believe this page.
+-- Document 01, 'Selecting and assigning', and document 02's second request: which request is selected, for which place,
+-- with which assignment; else why none is, and what was missing. A reader has to believe this page.
 use Prim.Native.Nat.{ℕ, _<_}
 use mathlib.Core.Path.{_≡_}
 use mathlib.Core.Bool.{Bool, true, false, cond}
 use mathlib.Core.List.{List, map}
-use mathlib.Core.Logic.{_⊎_}
 use lib.Dec.{eqb}
-use lib.ListN.{length}
+use lib.ListN.{length, replicate}
+use Rattle.numbers.specs.Quoted.{byte}
 use Rattle.cards.specs.declared.Facilities.{Facilities}
 use Rattle.cards.specs.declared.Request.{Request}
 use Rattle.schedule_entries.specs.Entries.{blank}
@@ -18,8 +18,12 @@ use Rattle.schedule_candidates.specs.Candidates.{candidate}
 use Rattle.assign_heads.specs.Heads.{isGiven}
 use Rattle.assign_heads.specs.declared.Head.{Head}
 use Rattle.assign.specs.Assignment.{Cell, cellOf, IsAssignment}
+use Rattle.assign.specs.Parts.{FirstLacking}
 use Rattle.assign.specs.Chosen.{Chosen, nothing}
 use Rattle.assign.specs.declared.Assigned.{Assigned}
+use Rattle.assign.specs.declared.Lacking.{Lacking}
+use Rattle.assign.specs.declared.Lacking.the-variants.{Nothing, First}
+use Rattle.assign.specs.declared.Part.{Part}
 use Rattle.packets.specs.declared.Assignment.{Assignment}
 use Rattle.packets.specs.declared.Blocks.{Blocks}
 use Rattle.packets.specs.declared.Lists.{Lists}
@@ -27,6 +31,8 @@ use Rattle.packets.specs.Rules.{Call, Take}
 use Rattle.lists.specs.Outcomes.{outcome}
 use Rattle.cell_taken.specs.Taken.{LowestFree, anyHas, areaOf, coreOf, occupancy}
 use Rattle.cell_taken.specs.declared.FreePlace.the-variants.{At, Full}
+use Rattle.cell_selection.specs.declared.Choice.{Choice}
+use Rattle.cell_selection.specs.declared.Choice.the-variants.{Job, NoPlace, NoCandidates, Lacks}
 use Rattle.cell_selection.specs.declared.Pick.{Pick}
 use Rattle.cell_selection.specs.declared.Selection.{Selection}
 use Rattle.cell_selection.specs.declared.Taking.{Taking}
@@ -46,44 +52,81 @@ Candidate es i = (i < length es) × (candidate es (entryAt es i) ≡ true)
 -- "The first candidate with an assignment": at k, with the one chosen
 pub record FirstFit (es : List Entry) (cell : Cell) (k : ℕ) (a : Assigned) : Type 0 where
   pub candidate : Candidate es k
-  pub found : a .found ≡ true
   pub chosen : Chosen cell (entryAt es k .request .facilities) a
   pub first : (i : ℕ) → i < k → Candidate es i → HasNone cell (entryAt es i .request)
 
--- "no candidate has an assignment"
+-- 18: "no place is free"
+abbrev pub AllHeld : Lists → Type 0
+AllHeld lists = LowestFree (lists .jobs) Full
+
+-- 19: "there are no candidates"
+abbrev pub NoCandidate : List Entry → Type 0
+NoCandidate es = (i : ℕ) → Candidate es i → ⊥
+
+-- 20, where there are candidates: "no candidate has an assignment"
 abbrev pub NoFit : List Entry → Cell → Type 0
 NoFit es cell = (i : ℕ) → Candidate es i → HasNone cell (entryAt es i .request)
 
+-- "the first candidate" is at k, and the part is "the first facility lacking for it"
+pub record FirstLacks (es : List Entry) (cell : Cell) (k : ℕ) (part : Part) : Type 0 where
+  pub candidate : Candidate es k
+  pub first : (i : ℕ) → i < k → Candidate es i → ⊥
+  pub lacking : FirstLacking cell (entryAt es k .request .facilities) (First part)
+
+-- no candidate has an assignment: there are none, or the first lacks a part
+abbrev pub PicksNone : Lacking → List Entry → Cell → Pick → Type 0
+PicksNone Nothing es cell r = NoCandidate es × ((r .at ≡ 0) × (r .assigned ≡ nothing))
+PicksNone (First part) es cell r = NoFit es cell × (FirstLacks es cell (r .at) part × (r .assigned ≡ nothing))
+
 -- the first candidate with an assignment is found, or there is none
 abbrev pub PicksBy : Bool → List Entry → Cell → Pick → Type 0
-PicksBy true es cell r = FirstFit es cell (r .at) (r .assigned)
-PicksBy false es cell r = NoFit es cell × ((r .at ≡ 0) × (r .assigned ≡ nothing))
+PicksBy true es cell r = FirstFit es cell (r .at) (r .assigned) × (r .lacking ≡ Nothing)
+PicksBy false es cell r = PicksNone (r .lacking) es cell r
 
 abbrev pub Picks : List Entry → Cell → Pick → Type 0
 Picks es cell r = PicksBy (r .found) es cell r
 
--- nothing is named where nothing is selected
-abbrev pub noSelection : Selection
-noSelection = record { found = false; place = 0; at = 0; request = blank .request; assigned = nothing }
+-- no ID: six blanks
+abbrev pub noId : List ℕ
+noId = replicate 6 (byte " ")
+
+-- nothing is named where nothing is selected, but for the reason and the first candidate's ID
+abbrev pub unselected : Choice → List ℕ → Selection
+unselected choice first =
+    record { choice = choice; first = first; place = 0; at = 0; request = blank .request; assigned = nothing }
 
 -- SELECTED: "The first candidate with an assignment is taken into the lowest free place"
 pub record Selected (es : List Entry) (lists : Lists) (r : Selection) : Type 0 where
   pub place : LowestFree (lists .jobs) (At (r .place))
   pub fit : FirstFit es (seenIn lists) (r .at) (r .assigned)
   pub request : r .request ≡ entryAt es (r .at) .request
+  pub unnamed : r .first ≡ noId
 
--- REFUSED: "no place free, or no candidate has an assignment"; nothing is named then
-pub record NotSelected (es : List Entry) (lists : Lists) (r : Selection) : Type 0 where
-  pub why : LowestFree (lists .jobs) Full ⊎ NoFit es (seenIn lists)
-  pub blank : r ≡ noSelection
+-- NOT SELECTED, and the ID beside: 18 "no place is free"; else 19 "there are no candidates"; else 20 none has an
+-- assignment, "with the first candidate's ID and the first facility lacking for it"
+abbrev pub Unselected : Choice → List Entry → Lists → List ℕ → Type 0
+Unselected Job es lists id = ⊥
+Unselected NoPlace es lists id = AllHeld lists × (id ≡ noId)
+Unselected NoCandidates es lists id = (AllHeld lists → ⊥) × (NoCandidate es × (id ≡ noId))
+Unselected (Lacks part) es lists id =
+    (AllHeld lists → ⊥) × (NoFit es (seenIn lists) × ((k : ℕ) × (FirstLacks es (seenIn lists) k part × (id ≡ entryAt es k .request .id))))
 
-abbrev pub SelectsBy : Bool → List Entry → Lists → Selection → Type 0
-SelectsBy true = Selected
-SelectsBy false = NotSelected
+-- what is selected, or why nothing is; nothing else is named then
+abbrev pub SelectsBy : Choice → List Entry → Lists → Selection → Type 0
+SelectsBy Job es lists r = Selected es lists r
+SelectsBy NoPlace es lists r = Unselected NoPlace es lists (r .first) × (r ≡ unselected NoPlace (r .first))
+SelectsBy NoCandidates es lists r = Unselected NoCandidates es lists (r .first) × (r ≡ unselected NoCandidates (r .first))
+SelectsBy (Lacks part) es lists r = Unselected (Lacks part) es lists (r .first) × (r ≡ unselected (Lacks part) (r .first))
 
--- what is selected, or that nothing is
 abbrev pub Selects : Schedule → Lists → Selection → Type 0
-Selects schedule lists r = SelectsBy (r .found) (inSchedule schedule) lists r
+Selects schedule lists r = SelectsBy (r .choice) (inSchedule schedule) lists r
+
+-- a job is selected
+abbrev pub isJob : Choice → Bool
+isJob Job = true
+isJob NoPlace = false
+isJob NoCandidates = false
+isJob (Lacks part) = false
 
 -- ---- the assignment as the request lists take it
 
@@ -124,8 +167,4 @@ leftBy false schedule lists r = (schedule, lists)
 -- SELECTION: what is selected, and what schedule and lists then hold
 pub record Takes (schedule : Schedule) (lists : Lists) (r : Taking) : Type 0 where
   pub selects : Selects schedule lists (r .selection)
-  pub leaves : (r .schedule, r .lists) ≡ leftBy (r .selection .found) schedule lists (r .selection)
-
--- no place is free, or no candidate has an assignment
-abbrev pub NoneToSelect : Schedule → Lists → Type 0
-NoneToSelect schedule lists = LowestFree (lists .jobs) Full ⊎ NoFit (inSchedule schedule) (seenIn lists)
+  pub leaves : (r .schedule, r .lists) ≡ leftBy (isJob (r .selection .choice)) schedule lists (r .selection)

@@ -1,5 +1,9 @@
-// Which request is selected: the first candidate in order that has an assignment, for the lowest free place.
+// Which request is selected: the first candidate in order that has an assignment, for the lowest free place; or why
+// none is, and what the first candidate lacks.
 use assign::Assigned;
+use assign::Lacking;
+use assign::Part;
+use assign::Provision;
 use assign_drum::Area;
 use assign_heads::Given;
 use assign_heads::Head;
@@ -19,19 +23,39 @@ ghost use mathlib.Core.List.{map};
 ghost use Prim.Native.Nat.{_<_};
 ghost use Rattle.assign.specs.Assignment.{cellOf};
 ghost use Rattle.schedule_list.specs.InSchedule.{inSchedule};
-ghost use Rattle.cell_selection.specs.Selecting.{Picks, Selects, seenIn, noSelection, isTaken, runOf, assignmentOf, Starts, Takes};
+ghost use Rattle.cell_selection.specs.Selecting.{isJob, Picks, Selects, seenIn, unselected, isTaken, runOf, assignmentOf, Starts, Takes};
+ghost use Rattle.cell_selection.specs.Noting.{noted, picked, nonePicked};
 
-// The index of the selected request in the schedule, and its assignment; not found where no candidate has one.
+// What is chosen: a job; or none, since no place is free, there are no candidates, or none has an assignment. Then the
+// part is the first that is lacking for the first candidate.
+pub enum Choice {
+    Job,
+    NoPlace,
+    NoCandidates,
+    Lacks(Part),
+}
+
+// The candidates so far, of which none has an assignment: what the first of them lacks, and its index in the schedule;
+// nothing where there was none.
+struct Noted {
+    lacking: Lacking,
+    at: usize,
+}
+
+// What is picked among the candidates: the index of a request in the schedule, and its assignment. Where none has one:
+// what the first candidate lacks, and its index; nothing where there are no candidates.
 pub struct Pick {
     pub found: bool,
+    pub lacking: Lacking,
     pub at: usize,
     pub assigned: Assigned,
 }
 
-// A selection: the job place, the request and its index in the schedule, and what it is given; blank where nothing is
-// selected.
+// A selection: the job place, the request and its index in the schedule, and what it is given. Where nothing is
+// selected these are blank, and where no candidate has an assignment `first` is the first candidate's ID.
 pub struct Selection {
-    pub found: bool,
+    pub choice: Choice,
+    pub first: [u8; 6],
     pub place: u8,
     pub at: usize,
     pub request: Request,
@@ -45,8 +69,61 @@ pub struct Taking {
     pub lists: Lists,
 }
 
-// The first candidate in order that has an assignment. The units are looked at once, and only the one found is
-// assigned to: whether another has an assignment is told from the counts.
+// Whether a job is chosen.
+fn is_job(choice: Choice) -> bool
+    ensures { λ r. ⌜ r ≡ isJob choice ⌝ }
+{
+    match choice {
+        Choice::Job => true,
+        Choice::NoPlace => false,
+        Choice::NoCandidates => false,
+        Choice::Lacks(_) => false,
+    }
+}
+
+// A candidate that lacks a part is noted if it is the first.
+fn note(before: Noted, part: Part, at: usize) -> Noted
+    ensures { λ r. ⌜ r ≡ noted before part at ⌝ }
+{
+    let lacking = before.lacking;
+    match lacking {
+        Lacking::Nothing => Noted {
+            lacking: Lacking::First(part),
+            at,
+        },
+        Lacking::First(_) => before,
+    }
+}
+
+// A candidate that has an assignment is picked.
+fn picked(at: usize, given: Provision) -> Pick
+    ensures { λ r. ⌜ r ≡ picked at given ⌝ }
+{
+    let assigned = given.assigned;
+    Pick {
+        found: true,
+        lacking: Lacking::Nothing,
+        at,
+        assigned,
+    }
+}
+
+// None is picked, with what was noted.
+fn none_picked(noted: Noted) -> Pick
+    ensures { λ r. ⌜ r ≡ nonePicked noted ⌝ }
+{
+    let lacking = noted.lacking;
+    Pick {
+        found: false,
+        lacking,
+        at: noted.at,
+        assigned: assign::nothing(),
+    }
+}
+
+// The first candidate in order that has an assignment, or what the first of all lacks. The units are looked at once,
+// and only the one found is assigned to: what another lacks is told from the counts, and is what the assigner would
+// answer.
 fn first_fit(
     schedule: Schedule,
     units: Units,
@@ -61,6 +138,10 @@ fn first_fit(
     let list = schedule.entries;
     let counts = assign_counts::count(units, channels);
     let drum = assign::drum_length(channels);
+    let mut so_far = Noted {
+        lacking: Lacking::Nothing,
+        at: 0,
+    };
     let mut k: usize = 0;
     while k < n {
         if may[k] {
@@ -68,31 +149,26 @@ fn first_fit(
             let request = entry.request;
             let wanted = request.facilities;
             let lacking = assign_lacking::first_lacking(counts, occupancy, areas, drum, wanted);
-            if assign_lacking::is_nothing(lacking) {
-                return Pick {
-                    found: true,
-                    at: k,
-                    assigned: assign::assign(units, occupancy, areas, channels, request),
-                };
-            }
+            let Lacking::First(part) = lacking else {
+                let given = assign::assign(units, occupancy, areas, channels, request);
+                return picked(k, given);
+            };
+            so_far = note(so_far, part, k);
         }
         k += 1;
     }
-    Pick {
-        found: false,
-        at: 0,
-        assigned: assign::nothing(),
-    }
+    none_picked(so_far)
 }
 
-// Nothing is selected.
-fn none_selected() -> Selection
-    ensures { λ r. ⌜ r ≡ noSelection ⌝ }
+// Nothing is selected, for a reason; and an ID, the first candidate's where it lacks something.
+fn unselected(choice: Choice, first: [u8; 6]) -> Selection
+    ensures { λ r. ⌜ r ≡ unselected choice first ⌝ }
 {
     let entry = schedule_entries::blank();
     let request = entry.request;
     Selection {
-        found: false,
+        choice,
+        first,
         place: 0,
         at: 0,
         request,
@@ -100,7 +176,7 @@ fn none_selected() -> Selection
     }
 }
 
-// The first candidate in order that has an assignment in this cell.
+// The first candidate in order that has an assignment in this cell, or what the first of all lacks.
 fn picked_in(schedule: Schedule, lists: Lists) -> Pick
     ensures { λ r. ⌜ Picks (inSchedule schedule) (seenIn lists) r ⌝ }
 {
@@ -116,27 +192,36 @@ fn picked_in(schedule: Schedule, lists: Lists) -> Pick
     )
 }
 
-// What is selected, or that nothing is: no place is free, or no candidate has an assignment.
+// What is selected, or why nothing is: no place is free, else there are no candidates, else none has an assignment.
 pub fn choose(schedule: Schedule, lists: Lists) -> Selection
     ensures { λ r. ⌜ Selects schedule lists r ⌝ }
 {
     let jobs = lists.jobs;
+    let no_id = [b' '; 6];
     let FreePlace::At(place) = cell_taken::lowest_free(jobs) else {
-        return none_selected();
+        return unselected(Choice::NoPlace, no_id);
     };
     let picked = picked_in(schedule, lists);
-    if !picked.found {
-        return none_selected();
-    }
     let entry = schedule_list::entry_at(schedule, picked.at);
     let request = entry.request;
-    let assigned = picked.assigned;
-    Selection {
-        found: true,
-        place,
-        at: picked.at,
-        request,
-        assigned,
+    if picked.found {
+        let assigned = picked.assigned;
+        return Selection {
+            choice: Choice::Job,
+            first: no_id,
+            place,
+            at: picked.at,
+            request,
+            assigned,
+        };
+    }
+    let lacking = picked.lacking;
+    match lacking {
+        Lacking::Nothing => unselected(Choice::NoCandidates, no_id),
+        Lacking::First(part) => {
+            let id = request.id;
+            unselected(Choice::Lacks(part), id)
+        }
     }
 }
 
@@ -200,7 +285,8 @@ pub fn select(schedule: Schedule, lists: Lists) -> Taking
     ensures { λ r. ⌜ Takes schedule lists r ⌝ }
 {
     let selection = choose(schedule, lists);
-    if !selection.found {
+    let choice = selection.choice;
+    if !is_job(choice) {
         return Taking {
             selection,
             schedule,

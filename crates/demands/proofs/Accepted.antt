@@ -2,18 +2,17 @@
 -- Assumes nothing.
 use Prim.Native.Nat.{ℕ}
 use mathlib.Core.Path.{_≡_, refl, sym, ap, subst, _∙_}
-use mathlib.Core.Bool.{Bool, true, cond}
+use mathlib.Core.Bool.{cond}
 use mathlib.Core.List.{List, [], _∷_}
-use mathlib.Core.Option.{none, some}
+use mathlib.Core.Option.{none}
 use native.Mathlib.Omega.{arith}
 use Rattle.numbers.proofs.Tests.{by-bool}
 use Rattle.schedule_list.specs.InSchedule.{inSchedule}
 use Rattle.packets.specs.Rules as Rules
-use Rattle.packets.specs.State.{State}
 use Rattle.packets.specs.declared.Verdict.{Verdict}
 use Rattle.packets.specs.declared.Verdict.the-variants.{Denied, Granted}
-use Rattle.cell_selection.specs.Selecting.{Selects, SelectsBy, takingOf}
-use Rattle.cell_selection.proofs.SelectingLaws.{taking-granted}
+use Rattle.cell_selection.specs.Selecting.{Selects, isJob, takingOf}
+use Rattle.cell_selection.proofs.SelectingLaws.{is-selected, taking-granted}
 use Rattle.cell_selection.specs.declared.Selection.{Selection}
 use Rattle.cell.specs.Calls.{acted}
 use Rattle.cell.specs.declared.Cell.{Cell}
@@ -39,13 +38,13 @@ module _ (c : Cell) (y : Rules.Call) where
   not-cons : _≡_ {A = List Rules.Call} [] (y ∷ []) → ⊥
   not-cons q = let z : _≡_ {A = ℕ} 0 1 = cc in omega arith
 
-  taken-one : (s : Selection) → Selects (c .schedule) (c .lists) s → cond (s .found) (takingOf s ∷ []) [] ≡ y ∷ [] → Rules.refusal (inside c) y ≡ Granted
+  taken-one : (s : Selection) → Selects (c .schedule) (c .lists) s → cond (isJob (s .choice)) (takingOf s ∷ []) [] ≡ y ∷ [] → Rules.refusal (inside c) y ≡ Granted
   taken-one s w q =
-      by-bool (s .found)
+      by-bool (isJob (s .choice))
       (λ t. let p : takingOf s ∷ [] ≡ y ∷ [] = rw t at q in
       let i : takingOf s ≡ y = cc in
       subst (λ (z : Rules.Call). Rules.refusal (inside c) z ≡ Granted) i
-      (taking-granted (c .schedule) (c .lists) s (subst (λ (b : Bool). SelectsBy b (inSchedule (c .schedule)) (c .lists) s) t w)))
+      (taking-granted (c .schedule) (c .lists) s (is-selected (inSchedule (c .schedule)) (c .lists) s (s .choice) t w)))
       (λ t. absurd (not-cons (rw t at q)))
 
 plain-granted : (c d : Cell) (x : Call) (reply : Reply) → Plain x → Does c x reply d → refusalIn reply ≡ none → (y : Rules.Call) → heardAs x reply ≡ y ∷ [] → Rules.refusal (inside c) y ≡ Granted

@@ -46,7 +46,7 @@ not-itself k e =
 
 -- the schedule stands in the order
 module _ (es : List Entry) (keys : Pairs Ahead (requests es)) where
-  ahead : (i j : ℕ) → i < j → j < length es → precedes (keyOf (entryAt es i .request)) (keyOf (entryAt es j .request)) ≡ true
+  pub ahead : (i j : ℕ) → i < j → j < length es → precedes (keyOf (entryAt es i .request)) (keyOf (entryAt es j .request)) ≡ true
   ahead i j l h =
       let f : Entry → Request = λ (e : Entry). e .request in
       let p : Ahead (getD (requests es) i (blank .request)) (getD (requests es) j (blank .request)) =

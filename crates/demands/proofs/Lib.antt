@@ -1,6 +1,7 @@
 pub mod Numbers
 pub mod Standing
 pub mod InOrder
+pub mod Missing
 pub mod Texts
 pub mod Accepted
 pub mod Places

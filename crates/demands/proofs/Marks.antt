@@ -2,7 +2,7 @@
 -- so of the cell's calls. And what an accepted call answers. Assumes nothing.
 use Prim.Native.Nat.{ℕ}
 use mathlib.Core.Path.{_≡_, refl, sym, ap, _∙_}
-use mathlib.Core.Bool.{Bool, true, false, cond, _&&_}
+use mathlib.Core.Bool.{Bool, true, false, _&&_}
 use mathlib.Core.List.{List, [], _∷_}
 use mathlib.Core.Logic.{_⊎_, ⊎-elim}
 use mathlib.Core.Option.{Option, none, some}
@@ -18,7 +18,7 @@ use Rattle.schedule.specs.Calls.{deleted, released}
 use Rattle.packets.specs.Picks.{All, find}
 use Rattle.packets.specs.Rules as Rules
 use Rattle.packets.specs.Rules.{accept, closed, completed, finished, isDone, isFailure, locked, returnIfDone, siteOf, startable, started, submitted}
-use Rattle.packets.specs.State.{State, heldBy, isUnit, motionOn, packetIn, release, setLock, takeUnit, wanted, withLock}
+use Rattle.packets.specs.State.{State, isUnit, motionOn, packetIn, release, setLock, takeUnit, wanted, withLock}
 use Rattle.packets.specs.declared.Answer.{Answer}
 use Rattle.packets.specs.declared.Answer.the-variants as Answers
 use Rattle.packets.specs.declared.How.{How}
@@ -31,7 +31,7 @@ use Rattle.packets.specs.declared.Verdict.{Verdict}
 use Rattle.packets.specs.declared.Verdict.the-variants.{Denied, Granted}
 use Rattle.packets.proofs.Store.{unit-keep, unit-release, unit-take}
 use Rattle.lists.proofs.History.{outcome-is}
-use Rattle.cell_selection.specs.Selecting.{takingOf}
+use Rattle.cell_selection.specs.Selecting.{isJob}
 use Rattle.cell.specs.Calls.{acted, answerOf}
 use Rattle.cell.specs.declared.Cell.{Cell}
 use Rattle.cell_history.proofs.MeantLaws.{Plain, by-meant}
@@ -154,7 +154,7 @@ module _ (f : UnitState → Bool) (locks : (v : UnitState) (b : Bool) → f (wit
 
 taken-unmarking : (reply : Reply) → All Unmarking (taken reply)
 taken-unmarking (Entered o) = tt
-taken-unmarking (Chosen o s) = by-bool (s .found) (λ t. rw t (tt, tt)) (λ t. rw t tt)
+taken-unmarking (Chosen o s) = by-bool (isJob (s .choice)) (λ t. rw t (tt, tt)) (λ t. rw t tt)
 taken-unmarking (Said a) = tt
 taken-unmarking (Shown s) = tt
 taken-unmarking (Mistyped f) = tt

@@ -173,7 +173,7 @@ plain-named c d (Deck bytes) reply p h s n =
 plain-named c d Select reply p h s n =
     let r = h .0 in
     subst NamedIn (sym (h .1 .1 .1))
-    (subst (λ (t : Schedule × Lists). EachIn Formed (t .0)) (sym (h .1 .0 .takes .leaves)) (each-select Formed (c .schedule) n (r .selection .found) (c .lists) (r .selection)))
+    (subst (λ (t : Schedule × Lists). EachIn Formed (t .0)) (sym (h .1 .0 .takes .leaves)) (each-select Formed (c .schedule) n (Selecting.isJob (r .selection .choice)) (c .lists) (r .selection)))
 plain-named c d (Submit place packet function channel spot) reply p h s n = named-acts c d (Rules.Submit place packet function channel spot) (h .1) n
 plain-named c d (Start channel) reply p h s n = named-acts c d (Rules.Start channel) (h .1) n
 plain-named c d (Complete channel how) reply p h s n = named-acts c d (Rules.Complete channel how) (h .1) n

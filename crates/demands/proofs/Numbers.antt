@@ -8,7 +8,7 @@ use mathlib.Core.Logic.{inl, inr}
 use mathlib.Core.Option.{Option, none, some}
 use lib.Dec.{eqb, leb, ltb}
 use lib.ListN.{length}
-use Rattle.numbers.proofs.Tests.{by-bool, never}
+use Rattle.numbers.proofs.Tests.{by-bool}
 use Rattle.numbers.specs.declared.Refusal.{Refusal}
 use Rattle.numbers.specs.declared.Refusal.the-variants.{BadDeck, ChannelBusy, JobRuns, NoSuchRequest, NothingStartable, OutOfRange, UnknownMessage}
 use Rattle.units.specs.declared.Mark.{Mark as Mark′}
@@ -41,8 +41,13 @@ use Rattle.packets.specs.declared.Spot.the-variants.{OnDrum, OnUnit}
 use Rattle.packets.specs.declared.Verdict.{Verdict}
 use Rattle.packets.specs.declared.Verdict.the-variants.{Denied, Granted}
 use Rattle.lists.specs.Outcomes.{outcome, settled, stateOf}
-use Rattle.cell_selection.proofs.SelectingLaws.{refused-only, refused-when}
-use Rattle.cell.specs.Calls.{SelectsIn, acted, answerOf, heeded, statusOf}
+use Rattle.cell_selection.specs.Selecting.{SelectsBy}
+use Rattle.cell_selection.proofs.SelectingLaws.{not-both}
+use Rattle.cell_selection.specs.declared.Choice.{Choice}
+use Rattle.cell_selection.specs.declared.Choice.the-variants as Choices
+use Rattle.cell_selection.specs.declared.Choice.the-variants.{Job, NoPlace, Lacks}
+use Rattle.cell_selection.specs.declared.Selection.{Selection}
+use Rattle.cell.specs.Calls.{SelectsIn, acted, answerOf, heeded, outcomeOf, statusOf}
 use Rattle.cell.specs.declared.SelectAnswer.{SelectAnswer}
 use Rattle.cell.specs.declared.Cell.{Cell}
 use Rattle.cell.specs.declared.Heeded.{Heeded}
@@ -169,11 +174,17 @@ status-rows c j p = by-bool (ltb j 16 && ltb p 16) (λ e. rw e refl) (λ e. rw e
 
 -- ---- selection
 
+module _ (c : Cell) (r : Selection) where
+  by-choice : (x : Choice) → SelectsBy x (inSchedule (c .schedule)) (c .lists) r → SelectRefused c (ofOutcome (outcomeOf x))
+  by-choice Job h =
+      let none = not-both (inSchedule (c .schedule)) (c .lists) r h in
+      inr (λ f. none (inl f), inr (λ n. none (inr (λ i k. absurd (n i k))), inr (λ n. none (inr n), refl)))
+  by-choice NoPlace h = inl (refl, h .0 .0)
+  by-choice Choices.NoCandidates h = inr (h .0 .0, inl (refl, h .0 .1 .0))
+  by-choice (Lacks part) h = inr (h .0 .0, inr (λ n. n (h .0 .1 .1 .0) (h .0 .1 .1 .1 .0 .candidate), inl (refl, h .0 .1 .0)))
+
 select-by : (c : Cell) (r : SelectAnswer) → SelectsIn c r → SelectRefused c (ofOutcome (r .outcome))
-select-by c r h =
-    by-bool (r .selection .found)
-    (λ t. inr (ap ofOutcome (h .outcome) ∙ rw t refl, λ n. never t (refused-only (c .schedule) (c .lists) (r .selection) (h .takes .selects) n)))
-    (λ t. inl (ap ofOutcome (h .outcome) ∙ rw t refl, refused-when (c .schedule) (c .lists) (r .selection) (h .takes .selects) t))
+select-by c r h = subst (SelectRefused c) (sym (ap ofOutcome (h .outcome))) (by-choice c (r .selection) (r .selection .choice) (h .takes .selects))
 
 -- which number answers a call that is no message
 plain-numbers : (c d : Cell) (x : Call) (reply : Reply) → Plain x → Does c x reply d → RefusedBy (isSelect x) c x (refusalIn reply)

@@ -11,7 +11,7 @@ use native.Mathlib.Omega.{arith}
 use lib.Dec.{eqb}
 use lib.ListN.{getD, set}
 use lib.Seq.{getD-set-other}
-use borrow.Author.Tests.{eqb-true, eqb-false}
+use borrow.Author.Tests.{eqb-true}
 use Rattle.numbers.proofs.Tests.{by-bool, never, both}
 use Rattle.numbers.specs.declared.Refusal.{Refusal}
 use Rattle.units.specs.State.{markedUnit, unitIn, unitSet}
@@ -23,12 +23,11 @@ use Rattle.packets.specs.Picks.{find}
 use Rattle.packets.specs.Rules as Rules
 use Rattle.packets.specs.Rules.{closed, closing, finished, freshJob, isDone, leaving, leavingAs, returnIfDone}
 use Rattle.packets.specs.State.{State, isClosing, isEmpty, isRunning, motionOn, noJob, stateIn}
-use Rattle.packets.specs.declared.Answer.{Answer}
 use Rattle.packets.specs.declared.Assignment.{Assignment}
 use Rattle.packets.specs.declared.How.{How}
 use Rattle.packets.specs.declared.Job.{Job}
 use Rattle.packets.specs.declared.JobState.{JobState}
-use Rattle.packets.specs.declared.JobState.the-variants.{ClosingError, ClosingNormal, Empty, Running}
+use Rattle.packets.specs.declared.JobState.the-variants.{Empty, Running}
 use Rattle.packets.specs.declared.Motion.{Motion}
 use Rattle.packets.specs.declared.Verdict.{Verdict}
 use Rattle.packets.specs.declared.Verdict.the-variants.{Granted}
@@ -38,9 +37,9 @@ use Rattle.packets.proofs.Steps.{busy-of}
 use Rattle.packets.proofs.Told.{assigns-to, completes-on, ends-of}
 use Rattle.lists.proofs.History.{outcome-is}
 use Rattle.lists.specs.Outcomes.{outcome, settled}
-use Rattle.cell_selection.specs.Selecting.{SelectsBy, assignmentOf, takingOf}
+use Rattle.cell_selection.specs.Selecting.{SelectsBy, assignmentOf, isJob, takingOf}
 use Rattle.cell_selection.specs.declared.Selection.{Selection}
-use Rattle.cell_selection.proofs.SelectingLaws.{taking-granted}
+use Rattle.cell_selection.proofs.SelectingLaws.{is-selected, taking-granted}
 use Rattle.cell.specs.Calls.{acted, cellOf, follows, leftBy}
 use Rattle.cell.specs.declared.Cell.{Cell}
 use Rattle.keyboard.specs.Messages.{readMessage}
@@ -86,12 +85,12 @@ states-left s j i n = by-bool (isDone s j) (λ d. rw d (states-returned s j d i 
 abbrev given : Selection → Assignment
 given r = assignmentOf (r .request .facilities) (r .assigned)
 
-select-keeps : (c : Cell) (r : Selection) (i : ℕ) → SelectsBy (r .found) (inSchedule (c .schedule)) (c .lists) r → isEmpty (stateIn (inside c .jobs) i) ≡ false
-    → stateIn (Rules.run (inside c) (cond (r .found) (takingOf r ∷ []) []) .jobs) i ≡ stateIn (inside c .jobs) i
+select-keeps : (c : Cell) (r : Selection) (i : ℕ) → SelectsBy (r .choice) (inSchedule (c .schedule)) (c .lists) r → isEmpty (stateIn (inside c .jobs) i) ≡ false
+    → stateIn (Rules.run (inside c) (cond (isJob (r .choice)) (takingOf r ∷ []) []) .jobs) i ≡ stateIn (inside c .jobs) i
 unfolding Rules.run Rules.step Rules.accept
 select-keeps c r i w a =
-    by-bool (r .found)
-    (λ t. let g = taking-granted (c .schedule) (c .lists) r (subst (λ (b : Bool). SelectsBy b (inSchedule (c .schedule)) (c .lists) r) t w) in
+    by-bool (isJob (r .choice))
+    (λ t. let g = taking-granted (c .schedule) (c .lists) r (is-selected (inSchedule (c .schedule)) (c .lists) r (r .choice) t w) in
     rw t (ap (λ (v : Verdict). stateIn (Rules.decided (inside c) (takingOf r) v .state .jobs) i) g ∙ states-taken (inside c) (r .place) (given r) i (assigns-to (inside c) (r .place) (given r) g .1) a))
     (λ t. rw t refl)
 

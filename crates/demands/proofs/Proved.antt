@@ -2,7 +2,7 @@
 -- history of the cell by what the lists hear of it. Assumes nothing.
 use Prim.Native.Nat.{ℕ}
 use mathlib.Core.Path.{_≡_, refl, sym, ap, subst, _∙_}
-use mathlib.Core.Bool.{Bool, true, false, cond, _&&_}
+use mathlib.Core.Bool.{Bool, true, false, _&&_}
 use mathlib.Core.List.{List, [], _∷_, _++_}
 use mathlib.Core.Option.{Option, none, some}
 use native.Mathlib.Omega.{arith}
@@ -24,7 +24,6 @@ use Rattle.cards_round.proofs.Allowing.{allowed-taken, taken-allowed}
 use Rattle.cards_round.proofs.Fits.{always-written}
 use Rattle.cards_round.proofs.Order.{same-request}
 use Rattle.cards_writing.proofs.Round.{room-read}
-use Rattle.schedule_list.specs.InSchedule.{inSchedule}
 use Rattle.packets.specs.Codes.{statusAfter}
 use Rattle.packets.proofs.CodesProof.{codes}
 use Rattle.packets.specs.Demand.{Holds, Isolated, Stretch, Holding, events}
@@ -32,12 +31,11 @@ use Rattle.packets.proofs.DemandProof.{demand3}
 use Rattle.packets.specs.Picks.{keep}
 use Rattle.packets.specs.State.{State, isStill, packetIn}
 use Rattle.packets.specs.declared.Status.{Status}
-use Rattle.packets.specs.declared.Verdict.{Verdict}
-use Rattle.packets.specs.declared.Verdict.the-variants.{Denied, Granted}
-use Rattle.cell_selection.specs.Selecting.{Selects, SelectsBy, noSelection, takingOf, leftBy}
-use Rattle.cell_selection.proofs.SelectingLaws.{refused-only, refused-when, taking-granted}
+use Rattle.packets.specs.declared.Verdict.the-variants.{Granted}
+use Rattle.assign.proofs.LackingLaws.{exists-exactly}
+use Rattle.cell_selection.specs.Selecting.{isJob, takingOf, leftBy}
 use Rattle.cell_selection.specs.declared.Selection.{Selection}
-use Rattle.cell.specs.Calls.{acted, freshCell, outcomeOf, Enters}
+use Rattle.cell.specs.Calls.{freshCell, Enters}
 use Rattle.cell.specs.declared.Cell.{Cell}
 use Rattle.lists.specs.declared.StatusAnswer.the-variants.{Is}
 use Rattle.cell_history.proofs.HeardLaws.{does-heard, leads-heard}
@@ -50,17 +48,16 @@ use Rattle.demands.proofs.Named.{named-so, nobody-so}
 use Rattle.demands.proofs.Oldest.{ordered}
 use Rattle.demands.proofs.Owning.{free-place, holds-then, on-its-own, reached-inv, still-own, still-there}
 use Rattle.demands.proofs.Marks.{answers-so, changes-so, channels-stay, marks-stay}
+use Rattle.demands.proofs.Missing.{refused-so, missing-so, alone-so}
 use Rattle.demands.proofs.Places.{ended-so, marked-so, runs-on}
 use Rattle.demands.proofs.Requests.{closes-so, completes-so, starts-so, submits-so}
 use Rattle.demands.proofs.Typed.{faulty-so, mistyped-so, typed-so, unknown-so}
 use Rattle.demands.proofs.Texts.{counted-fresh, kept-room, listed, listed-bad, writes-12, writes-13, writes-so, written-so}
 use Rattle.demands.specs.Refusing.{refusalIn}
-use Rattle.demands.proofs.Numbers.{answers-by, numbers, ofVerdict}
+use Rattle.demands.proofs.Numbers.{numbers}
 use Rattle.demands.proofs.Standing.{deck-lent, stands}
-use Rattle.packets.proofs.Inv.{motion-busy}
-use Rattle.packets.specs.declared.Assignment.{Assignment}
-use Rattle.packets_given.specs.Given.{OnItsOwn, StillOwn, taking}
-use Rattle.cell_history.proofs.FromFresh.{chosen-is, done-found, reached, refused-found, selected-of, taking-of}
+use Rattle.packets_given.specs.Given.{taking}
+use Rattle.cell_history.proofs.FromFresh.{chosen-is, done-job, reached, selected-of, taking-of}
 use Rattle.cell_history.proofs.SpelledProof.{spelled-out}
 use Rattle.cell_history.proofs.ToldLaws.{leads-told}
 use Rattle.cell_agreement.proofs.AgreementProof.{agrees-always}
@@ -146,21 +143,10 @@ entered-so c deck room after r h = h .deck .then
 runs-then : (c d : Cell) (s : Selection) → Does c Select (Chosen Done s) d → d .schedule ≡ taken′ (c .schedule) (s .at) (s .place)
 runs-then c d s h =
     let e = chosen-is (h .1 .1 .0) in
-    let f : h .0 .selection .found ≡ true = done-found (h .0 .selection .found) (sym (h .1 .0 .outcome) ∙ sym (e .0)) in
+    let f : isJob (h .0 .selection .choice) ≡ true = done-job (h .0 .selection .choice) (sym (h .1 .0 .outcome) ∙ sym (e .0)) in
     ap (λ (x : Cell). x .schedule) (h .1 .1 .1)
     ∙ ap (λ (x : Schedule × Lists). x .0) (h .1 .0 .takes .leaves ∙ ap (λ (b : Bool). leftBy b (c .schedule) (c .lists) (h .0 .selection)) f)
     ∙ ap (λ (x : Selection). taken′ (c .schedule) (x .at) (x .place)) (sym (e .1))
-
--- a refused selection names nothing
-none-found : (b : Bool) (n : Refusal) → outcomeOf b ≡ Refused n → b ≡ false
-none-found true n e = absurd (let z : _≡_ {A = ℕ} 0 1 = cc in omega arith)
-none-found false n e = refl
-
-selects-nothing : (c d : Cell) (s : Selection) (n : Refusal) → Does c Select (Chosen (Refused n) s) d → s ≡ noSelection
-selects-nothing c d s n h =
-    let e = chosen-is (h .1 .1 .0) in
-    let f : h .0 .selection .found ≡ false = none-found (h .0 .selection .found) n (sym (h .1 .0 .outcome) ∙ sym (e .0)) in
-    e .1 ∙ subst (λ (b : Bool). SelectsBy b (inSchedule (c .schedule)) (c .lists) (h .0 .selection)) f (h .1 .0 .takes .selects) .blank
 
 pub demand-2 : Demand2
 demand-2 =
@@ -191,13 +177,10 @@ demand-2 =
       identified = named-so;
       nobody = λ configuration es c h word w. nobody-so configuration es c h word (w .plain);
       first = λ configuration es c h d s k. first-in-order configuration es c h s (selected-of c d s k);
-      refused = λ c d o s h.
-          let e = chosen-is (h .1 .1 .0) in
-          let w = h .1 .0 .takes .selects in (
-            λ q. refused-when (c .schedule) (c .lists) (h .0 .selection) w (refused-found (h .0 .selection .found) (sym (h .1 .0 .outcome) ∙ sym (e .0) ∙ q)),
-            λ n. e .0 ∙ h .1 .0 .outcome ∙ ap outcomeOf (refused-only (c .schedule) (c .lists) (h .0 .selection) w n),
-          );
-      alone = λ c d s n h. selects-nothing c d s n h;
+      refused = refused-so;
+      missing = missing-so;
+      exists = exists-exactly;
+      alone = alone-so;
       busy = λ configuration es c h channel place packet. (every-cell configuration es c h .always .moving channel place packet, every-cell configuration es c h .always .movers place packet);
       codes = codes-in;
       answers = answers-so;
@@ -227,7 +210,7 @@ stretch-append h s (x ∷ l) m a b = (a .0, stretch-append h (Rules.step s x .st
 
 taken-stretch : (h : Holding) (s : State) (reply : Reply) → Holds s h → Stretch h s (taken reply)
 taken-stretch h s (Reply.Entered o) H = tt
-taken-stretch h s (Chosen o selection) H = by-bool (selection .found) (λ t. rw t (H, tt)) (λ t. rw t tt)
+taken-stretch h s (Chosen o selection) H = by-bool (isJob (selection .choice)) (λ t. rw t (H, tt)) (λ t. rw t tt)
 taken-stretch h s (Reply.Said a) H = tt
 taken-stretch h s (Reply.Shown x) H = tt
 taken-stretch h s (Reply.Mistyped f) H = tt

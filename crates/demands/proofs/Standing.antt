@@ -2,7 +2,7 @@
 -- refusal. Assumes nothing.
 use Prim.Native.Nat.{ℕ}
 use mathlib.Core.Path.{_≡_, refl, sym, ap, subst, _∙_}
-use mathlib.Core.Bool.{Bool, true, false}
+use mathlib.Core.Bool.{Bool, false}
 use mathlib.Core.List.{List, []}
 use mathlib.Core.Option.{Option, none, some}
 use lib.ListN.{drop}
@@ -31,7 +31,9 @@ use Rattle.packets.specs.declared.Motion.the-variants.{Busy, Idle}
 use Rattle.packets.specs.declared.Verdict.{Verdict}
 use Rattle.packets.specs.declared.Verdict.the-variants.{Denied, Granted}
 use Rattle.lists.specs.Outcomes.{outcome, settled, stateOf}
-use Rattle.cell_selection.specs.Selecting.{leftBy}
+use Rattle.cell_selection.specs.Selecting.{isJob, leftBy}
+use Rattle.cell_selection.specs.declared.Choice.{Choice}
+use Rattle.cell_selection.specs.declared.Choice.the-variants.{Job, NoPlace, NoCandidates, Lacks}
 use Rattle.cell.specs.Calls.{acted, answerOf, cellOf, follows, outcomeOf, Enters, SelectsIn}
 use Rattle.cell.specs.declared.Cell.{Cell}
 use Rattle.cell.specs.declared.DeckAnswer.{DeckAnswer}
@@ -124,13 +126,15 @@ deck-lent c bytes room after r n h e =
 
 -- ---- selection
 
-outcome-found : (b : Bool) (n : Refusal) → ofOutcome (outcomeOf b) ≡ some n → b ≡ false
-outcome-found true n e = absurd (not-some e)
-outcome-found false n e = refl
+outcome-none : (x : Choice) (n : Refusal) → ofOutcome (outcomeOf x) ≡ some n → isJob x ≡ false
+outcome-none Job n e = absurd (not-some e)
+outcome-none NoPlace n e = refl
+outcome-none NoCandidates n e = refl
+outcome-none (Lacks part) n e = refl
 
 select-stands : (c : Cell) (r : SelectAnswer) (n : Refusal) → SelectsIn c r → ofOutcome (r .outcome) ≡ some n → r .cell ≡ c
 select-stands c r n h e =
-    let f : r .selection .found ≡ false = outcome-found (r .selection .found) n (sym (ap ofOutcome (h .outcome)) ∙ e) in
+    let f : isJob (r .selection .choice) ≡ false = outcome-none (r .selection .choice) n (sym (ap ofOutcome (h .outcome)) ∙ e) in
     let l : _≡_ {A = Schedule × Lists} (r .cell .schedule, r .cell .lists) (c .schedule, c .lists) =
     h .takes .leaves ∙ ap (λ (b : Bool). leftBy b (c .schedule) (c .lists) (r .selection)) f in
     λ i. record { schedule = l i .0; lists = l i .1 }

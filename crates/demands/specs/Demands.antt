@@ -15,7 +15,7 @@ use Rattle.numbers.specs.declared.ChannelNumber.{ChannelNumber}
 use Rattle.numbers.specs.declared.Outcome.{Outcome}
 use Rattle.numbers.specs.declared.Outcome.the-variants.{Done, Refused}
 use Rattle.numbers.specs.declared.Refusal.{Refusal}
-use Rattle.numbers.specs.declared.Refusal.the-variants.{NoRoom, NothingSelected, WrongRequest}
+use Rattle.numbers.specs.declared.Refusal.the-variants.{NoAssignment, NoCandidates, NoPlaceFree, NoRoom, WrongRequest}
 use Rattle.text.specs.Class.{isAlnum}
 use Rattle.words.specs.Words.{every}
 use Rattle.line_words.specs.Forms.{IsWord, idOf}
@@ -66,9 +66,14 @@ use Rattle.packets.specs.declared.Motion.the-variants.{Busy}
 use Rattle.packets.specs.declared.Spot.{Spot}
 use Rattle.packets.specs.declared.Status.{Status}
 use Rattle.cell_taken.specs.Taken.{areaOf, coreOf}
-use Rattle.cell_selection.specs.Selecting.{Candidate, HasNone, Selected, NoneToSelect, assignmentOf, noSelection, seenIn}
+use Rattle.assign.specs.Parts.{FirstLacking}
+use Rattle.assign.specs.Chosen.{ExistsExactly}
+use Rattle.assign.specs.declared.Lacking.the-variants.{First}
+use Rattle.assign.specs.declared.Part.{Part}
+use Rattle.cell_selection.specs.Selecting.{AllHeld, Candidate, HasNone, NoCandidate, NoFit, Selected, assignmentOf, noId, seenIn, unselected}
+use Rattle.cell_selection.specs.declared.Choice.the-variants.{Lacks}
 use Rattle.cell_selection.specs.declared.Selection.{Selection}
-use Rattle.cell.specs.Calls.{Enters, Keys, cellOf, freshCell}
+use Rattle.cell.specs.Calls.{Enters, Keys, cellOf, freshCell, outcomeOf}
 use Rattle.cell.specs.declared.Cell.{Cell}
 use Rattle.cell.specs.declared.DeckAnswer.{DeckAnswer}
 use Rattle.cell.specs.declared.KeyAnswer.{KeyAnswer}
@@ -173,6 +178,34 @@ joins (Rules.Complete channel how) = []
 joins (Rules.End place inError) = []
 joins (Rules.Mark channel unit mark on) = []
 
+-- a fact holds exactly when another does
+abbrev pub Exactly : Type 0 → Type 0 → Type 0
+Exactly A B = (A → B) × (B → A)
+
+-- a selection "refused" is "these three together", each exactly when its sentence holds
+pub record RefusedSo (c : Cell) (o : Outcome) : Type 0 where
+  -- "18 means no place is free",
+  pub noPlace : Exactly (o ≡ Refused NoPlaceFree) (AllHeld (c .lists))
+  -- else "19 that there are no candidates",
+  pub noCandidates : Exactly (o ≡ Refused NoCandidates) ((AllHeld (c .lists) → ⊥) × NoCandidate (inSchedule (c .schedule)))
+  -- else "20 that there are some", and none of them has an assignment;
+  pub noAssignment : Exactly (o ≡ Refused NoAssignment)
+      ((AllHeld (c .lists) → ⊥) × ((NoCandidate (inSchedule (c .schedule)) → ⊥) × NoFit (inSchedule (c .schedule)) (seenIn (c .lists))))
+  -- and it is refused "exactly when no place is free or no such job exists"
+  pub together : Exactly (o ≡ Done → ⊥) (AllHeld (c .lists) ⊎ NoFit (inSchedule (c .schedule)) (seenIn (c .lists)))
+
+-- what comes with 20: "the first candidate's ID and the first facility lacking for it, in the order core, drum, MA, MT,
+-- PR"
+pub record Missing (c : Cell) (s : Selection) : Type 0 where
+  pub at : ℕ
+  pub candidate : Candidate (inSchedule (c .schedule)) at
+  pub first : (i : ℕ) → Candidate (inSchedule (c .schedule)) i → (i ≡ at → ⊥)
+      → precedes (keyOf (entryAt (inSchedule (c .schedule)) at .request)) (keyOf (entryAt (inSchedule (c .schedule)) i .request)) ≡ true
+  pub id : s .first ≡ entryAt (inSchedule (c .schedule)) at .request .id
+  pub part : Part
+  pub lacking : FirstLacking (seenIn (c .lists)) (entryAt (inSchedule (c .schedule)) at .request .facilities) (First part)
+  pub told : s .choice ≡ Lacks part
+
 -- "2. It is right: cards written are read back as the same request; the job selected is the first in order, of
 -- those allowed to run, for which all facilities can be found; selection is refused exactly when no place is free
 -- or no such job exists; packets end with the stated codes."
@@ -232,12 +265,15 @@ pub record Demand2 : Type 0 where
   pub holds : (configuration : Configuration) (es : List Event) (c : Cell) → Leads (freshCell configuration) es c
       → (d : Cell) (s : Selection) → Does c Select (Chosen Done s) d
       → StillOwn (inside d) (s .place) (assignmentOf (s .request .facilities) (s .assigned))
-  -- "selection is refused exactly when no place is free or no such job exists"
-  pub refused : (c d : Cell) (o : Outcome) (s : Selection) → Does c Select (Chosen o s) d
-      → (o ≡ Refused NothingSelected → NoneToSelect (c .schedule) (c .lists))
-      × (NoneToSelect (c .schedule) (c .lists) → o ≡ Refused NothingSelected)
-  -- "a refused call returns the number alone"
-  pub alone : (c d : Cell) (s : Selection) (n : Refusal) → Does c Select (Chosen (Refused n) s) d → s ≡ noSelection
+  -- "selection is refused exactly when no place is free or no such job exists", with 18, 19 or 20;
+  pub refused : (c d : Cell) (o : Outcome) (s : Selection) → Does c Select (Chosen o s) d → RefusedSo c o
+  -- 20 says what was missing, and something is missing exactly when there is no assignment;
+  pub missing : (configuration : Configuration) (es : List Event) (c : Cell) → Leads (freshCell configuration) es c
+      → (d : Cell) (s : Selection) → Does c Select (Chosen (Refused NoAssignment) s) d → Missing c s
+  pub exists : ExistsExactly
+  -- but for that "a refused call returns the number alone"
+  pub alone : (c d : Cell) (s : Selection) (n : Refusal) → Does c Select (Chosen (Refused n) s) d
+      → (outcomeOf (s .choice) ≡ Refused n) × ((s ≡ unselected (s .choice) (s .first)) × ((n ≡ NoAssignment → ⊥) → s .first ≡ noId))
   -- "Each message does what the existing call does": it is answered as that call is, and leaves the cell that it leaves
   pub typed : (c d : Cell) (message : List ℕ) (reply : Reply) (x : Call) → Does c (Key message) reply d → meant (Key message) ≡ some x
       → Does c x reply d

@@ -21,11 +21,13 @@ use Rattle.numbers.specs.declared.Refusal.the-variants.{
   NothingStartable,
   NothingInProgress,
   WrongCompletion,
-  NothingSelected,
   BadDeck,
   NoSuchRequest,
   JobRuns,
   UnknownMessage,
+  NoPlaceFree,
+  NoCandidates,
+  NoAssignment,
 }
 use Rattle.units.specs.State.{unitIn}
 use Rattle.channels.specs.declared.Fitted.{Fitted}
@@ -63,7 +65,7 @@ use Rattle.packets.specs.declared.Site.the-variants.{AtAddress, AtUnit}
 use Rattle.packets.specs.declared.Spot.{Spot}
 use Rattle.packets.specs.declared.Spot.the-variants.{OnDrum, OnUnit}
 use Rattle.packets.specs.declared.Status.{Status as PacketStatus}
-use Rattle.cell_selection.specs.Selecting.{NoneToSelect}
+use Rattle.cell_selection.specs.Selecting.{AllHeld, NoCandidate, NoFit, seenIn}
 use Rattle.cell.specs.declared.Cell.{Cell}
 use Rattle.cell_history.specs.Heard.{inside}
 use Rattle.cell_history.specs.History.{Call, Complete, Deck, Delete, End, Key, Mark, Release, Select, Start, Status, Submit, meant}
@@ -143,6 +145,7 @@ isActive (some e) = active (e .state)
 abbrev pub rowsIn : State → List Entry → Call → List Row
 -- 11: deck too long or without termination card
 rowsIn s es (Deck bytes) = row BadDeck (not (leb (length bytes) 16384 && terminated (cardsOf bytes))) ∷ []
+-- a selection: stated by itself, below (`SelectRefused`)
 rowsIn s es Select = []
 rowsIn s es (Submit j p f k w) = submitRows s (fittedOn (s .channels) k) j p f k w
 -- 1; 6: start on a busy channel; 7: start with nothing startable
@@ -208,13 +211,20 @@ isSelect (Delete id) = false
 isSelect (Status j p) = false
 isSelect (Key message) = false
 
--- 10: no place free, or no candidate has an assignment
-abbrev pub SelectRefused : Cell → Option Refusal → Type 0
-SelectRefused c o =
-    ((o ≡ some NothingSelected) × NoneToSelect (c .schedule) (c .lists)) ⊎ ((o ≡ none) × (NoneToSelect (c .schedule) (c .lists) → ⊥))
+-- a sentence that is no computed test: its refusal answers where it holds, else what the others say
+abbrev pub orElse : Refusal → Type 0 → (Option Refusal → Type 0) → Option Refusal → Type 0
+orElse n holds others o = ((o ≡ some n) × holds) ⊎ ((holds → ⊥) × others o)
 
--- WHICH REFUSAL ANSWERS, if any: for a selection 10 exactly when its sentence holds, for any other call the lowest
--- of its sentences that hold
+-- a selection: "18 means no place is free; 19 that there are no candidates; 20 that there are some", of which none has
+-- an assignment; "18, 19, 20 in that order"
+abbrev pub SelectRefused : Cell → Option Refusal → Type 0
+SelectRefused c =
+    orElse NoPlaceFree (AllHeld (c .lists))
+    (orElse NoCandidates (NoCandidate (inSchedule (c .schedule)))
+    (orElse NoAssignment (NoFit (inSchedule (c .schedule)) (seenIn (c .lists)))
+    (λ o. o ≡ none)))
+
+-- WHICH REFUSAL ANSWERS, if any: the lowest of the call's sentences that hold
 abbrev pub RefusedBy : Bool → Cell → Call → Option Refusal → Type 0
 RefusedBy true c x o = SelectRefused c o
 RefusedBy false c x o = o ≡ lowest (rows c x)

@@ -21,7 +21,6 @@ use Rattle.numbers.specs.declared.Refusal.the-variants.{
   NothingStartable,
   NothingInProgress,
   WrongCompletion,
-  NothingSelected,
   BadDeck,
   NoRoom,
   WrongRequest,
@@ -29,6 +28,9 @@ use Rattle.numbers.specs.declared.Refusal.the-variants.{
   NoSuchRequest,
   JobRuns,
   UnknownMessage,
+  NoPlaceFree,
+  NoCandidates,
+  NoAssignment,
 }
 use Rattle.text.specs.Room.{Whole, Written}
 use Rattle.text.specs.Writing.{decimalText}
@@ -70,7 +72,6 @@ number-few ChannelBusy = omega arith
 number-few NothingStartable = omega arith
 number-few NothingInProgress = omega arith
 number-few WrongCompletion = omega arith
-number-few NothingSelected = omega arith
 number-few BadDeck = omega arith
 number-few NoRoom = omega arith
 number-few WrongRequest = omega arith
@@ -78,6 +79,9 @@ number-few BadConfiguration = omega arith
 number-few NoSuchRequest = omega arith
 number-few JobRuns = omega arith
 number-few UnknownMessage = omega arith
+number-few NoPlaceFree = omega arith
+number-few NoCandidates = omega arith
+number-few NoAssignment = omega arith
 
 shown-few : (refusal : Refusal) → shownNumber refusal < 100
 unfolding shownNumber

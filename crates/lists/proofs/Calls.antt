@@ -9,7 +9,7 @@ use lib.Dec.{ltb}
 use borrow.Author.Tests.{ltb-true, not-false}
 use Rattle.numbers.proofs.Tests.{by-bool}
 use Rattle.numbers.specs.declared.Refusal.{Refusal}
-use Rattle.numbers.specs.declared.Refusal.the-variants.{NoJob, NothingSelected, OutOfRange}
+use Rattle.numbers.specs.declared.Refusal.the-variants.{NoJob, NoPlaceFree, OutOfRange}
 use Rattle.units.specs.State.{markedUnit, unitIn, unitSet, unitsFrom}
 use Rattle.units.specs.declared.Mark.{Mark as UnitMark}
 use Rattle.units.specs.declared.Units.{Units}
@@ -112,7 +112,7 @@ module _ (r : Lists) (j : ℕ) (err : Bool) where
 -- ---- taking a job
 
 module _ (r : Lists) (j : ℕ) (asg : Assignment) where
-  pub take-verdict : (v : Verdict) → v ≡ first (not (ltb j 16 && isEmpty (getD (r .jobs) (j % 16) noJob .state))) NothingSelected Granted
+  pub take-verdict : (v : Verdict) → v ≡ first (not (ltb j 16 && isEmpty (getD (r .jobs) (j % 16) noJob .state))) NoPlaceFree Granted
       → refusal (stateOf r) (Take j asg) ≡ v
   unfolding refusal stateIn
   take-verdict v e = by-bool (ltb j 16) (λ t. rw (e, t, small-is j t)) (λ t. rw (e, t))
@@ -130,7 +130,7 @@ module _ (r : Lists) (j : ℕ) (asg : Assignment) where
       granted-is r (Take j asg) granted _ _ (rw (e, u, k)) refl
     where
       small : ltb j 16 ≡ true
-      small = unfold refusal in and-left (ltb j 16) _ (not-false _ (passes (not (ltb j 16 && isEmpty (stateIn (r .jobs) j))) NothingSelected Granted granted .0))
+      small = unfold refusal in and-left (ltb j 16) _ (not-false _ (passes (not (ltb j 16 && isEmpty (stateIn (r .jobs) j))) NoPlaceFree Granted granted .0))
 
 -- ---- marks
 

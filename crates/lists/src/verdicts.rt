@@ -16,7 +16,7 @@ ghost use mathlib.Core.Path.{_≡_};
 ghost use mathlib.Core.Bool.{not, _&&_};
 ghost use lib.Dec.{ltb};
 ghost use Rattle.numbers.specs.declared.Refusal.the-variants.{OutOfRange, NoJob, ChannelBusy};
-ghost use Rattle.numbers.specs.declared.Refusal.the-variants.{NothingStartable, NothingInProgress, WrongCompletion, NothingSelected};
+ghost use Rattle.numbers.specs.declared.Refusal.the-variants.{NothingStartable, NothingInProgress, WrongCompletion, NoPlaceFree};
 ghost use Rattle.packets.specs.declared.Verdict.the-variants.{Granted};
 ghost use Rattle.packets.specs.declared.Spot.the-variants.{OnUnit};
 ghost use Rattle.packets.specs.State.{isThereOf, isIdle, isRunning, isEmpty};
@@ -114,13 +114,13 @@ pub fn of_end(state: JobState, j: u8) -> Verdict
 }
 
 pub fn of_take(state: JobState, j: u8) -> Verdict
-    ensures { λ r. ⌜ r ≡ first (not (ltb j 16 && isEmpty state)) NothingSelected Granted ⌝ }
+    ensures { λ r. ⌜ r ≡ first (not (ltb j 16 && isEmpty state)) NoPlaceFree Granted ⌝ }
 {
     if 15 < j {
-        return Verdict::Denied(Refusal::NothingSelected);
+        return Verdict::Denied(Refusal::NoPlaceFree);
     }
     if !packets_job::is_empty(state) {
-        return Verdict::Denied(Refusal::NothingSelected);
+        return Verdict::Denied(Refusal::NoPlaceFree);
     }
     Verdict::Granted
 }

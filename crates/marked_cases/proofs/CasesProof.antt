@@ -3,7 +3,7 @@
 use mathlib.Core.Path.{_≡_, refl, sym, ap, subst, _∙_}
 use mathlib.Core.Bool.{true}
 use mathlib.Core.List.{List, [], _∷_}
-use Rattle.numbers.specs.declared.Refusal.the-variants.{NothingSelected}
+use Rattle.numbers.specs.declared.Refusal.the-variants.{NoAssignment}
 use Rattle.units.specs.State.{unitIn, unitSet, assignable}
 use Rattle.channels.specs.Channels.{noChannels}
 use Rattle.packets.specs.Demand.{fresh}
@@ -11,7 +11,6 @@ use Rattle.cell.specs.Calls.{acted, freshCell}
 use Rattle.cell.specs.declared.Cell.{Cell}
 use Rattle.marked_cases.proofs.Computed.{cellAfter, does-computed, replyOf, sized}
 use Rattle.marked_cases.proofs.Moving.{k9}
-use Rattle.cell_history.specs.History.{Does, Reply}
 use Rattle.schedule_deck.specs.Report.{after, groupText, reportText, shownBy}
 use Rattle.cards_writing.specs.Writing.{priorityText}
 use Rattle.cards_fac.specs.Fac.{askedOf, codeError, codes, entryOf, formError, facError, facOf}
@@ -26,6 +25,8 @@ use Rattle.schedule_list.specs.InSchedule.{changedAt, inserted, removed, schedu
 use Rattle.numbers.specs.Quoted.{is2, bytes}
 use Rattle.text.specs.Class.{isAlnum, isDigit, isLetter}
 use Rattle.numbers.specs.Kinds.{kindOf}
+use Rattle.numbers.specs.declared.Kind.the-variants.{Mt}
+use Rattle.assign.specs.declared.Part.the-variants.{Units}
 use Rattle.schedule_entries.specs.Entries.{lowerSequence, precedes, sameKey, sameRank}
 use Rattle.words.specs.Words.{numberIn as numberOfText}
 use Rattle.text.specs.Reading.{twoDigitsOf}
@@ -43,7 +44,7 @@ use Rattle.packets.specs.Rules.{accept, answer, refusal}
 use Rattle.packets.specs.State.{configured, drumOn, enlisted, entryOf as entryOf′, fittedOn, packetIn, packetOf, placeOf, put, relist, releaseAll, restatusAll, setState, stateIn, takeAll}
 use Rattle.lists.specs.Outcomes.{outcome}
 use Rattle.cell_taken.specs.Taken.{wordFrom}
-use Rattle.marked_cases.specs.Cases.{All, Errs, Follows, Given, Holds, Plays, Prints, Refused, Step, alone, drumChannels, k1Deck, k4Steps, marked, mtChannels, seen, with·}
+use Rattle.marked_cases.specs.Cases.{All, Errs, Follows, Given, Holds, Missing, Plays, Prints, Step, alone, drumChannels, k1Deck, k4Steps, marked, mtChannels, seen, with·}
 
 -- what computing has to show
 abbrev Computes : Cell → List Step → Type 0
@@ -84,9 +85,9 @@ k6 : Holds (Plays (with· mtChannels) (alone (bytes "IB/1,MT1/2,MT/4") (Given 0 
 unfolding after askedOf cardByte clashError codeError codes deckEnd digitsText enterError entryOf facError facOf fields formError frontError inserted is2 isAlnum isDigit isLetter kindOf lowerSequence malformed numberOfText orderedError precedes priorityOf programName ptyError ranked readCards rules sameKey sameRank sameThere scheduleOf shownBy twoDigitsOf assignOf kindsFrom searchOf runB fitsB startOf areaB drumLength serveOf serviceOf giveFrom chooseOf picks lowestFrom testsB ge sumTo isFreeOf unitIn unitSet assignable legalOf refusal accept answer fresh fittedOn drumOn configured packetIn stateIn put relist enlisted entryOf′ placeOf packetOf setState restatusAll takeAll releaseAll freshCell acted outcome candidate wordFrom freshUnits changedAt withState removed setStateIn
 k6 = let k : Computes (freshCell (with· mtChannels)) (alone (bytes "IB/1,MT1/2,MT/4") (Given 0 2 0 0 0 3 0)) = (refl, (refl, (refl, (refl, tt)))) in follows (freshCell (with· mtChannels)) (alone (bytes "IB/1,MT1/2,MT/4") (Given 0 2 0 0 0 3 0)) k
 
-k7 : Holds (Plays (with· mtChannels) (alone (bytes "IB/1,MT1/2,MT/5") (Refused NothingSelected)))
+k7 : Holds (Plays (with· mtChannels) (alone (bytes "IB/1,MT1/2,MT/5") (Missing NoAssignment (bytes "A1    ") (Units Mt))))
 unfolding after askedOf cardByte clashError codeError codes deckEnd digitsText enterError entryOf facError facOf fields formError frontError inserted is2 isAlnum isDigit isLetter kindOf lowerSequence malformed numberOfText orderedError precedes priorityOf programName ptyError ranked readCards rules sameKey sameRank sameThere scheduleOf shownBy twoDigitsOf assignOf kindsFrom searchOf runB fitsB startOf areaB drumLength serveOf serviceOf giveFrom chooseOf picks lowestFrom testsB ge sumTo isFreeOf unitIn unitSet assignable legalOf refusal accept answer fresh fittedOn drumOn configured packetIn stateIn put relist enlisted entryOf′ placeOf packetOf setState restatusAll takeAll releaseAll freshCell acted outcome candidate wordFrom freshUnits changedAt withState removed setStateIn
-k7 = let k : Computes (freshCell (with· mtChannels)) (alone (bytes "IB/1,MT1/2,MT/5") (Refused NothingSelected)) = (refl, (refl, (refl, (refl, tt)))) in follows (freshCell (with· mtChannels)) (alone (bytes "IB/1,MT1/2,MT/5") (Refused NothingSelected)) k
+k7 = let k : Computes (freshCell (with· mtChannels)) (alone (bytes "IB/1,MT1/2,MT/5") (Missing NoAssignment (bytes "A1    ") (Units Mt))) = (refl, (refl, (refl, (refl, tt)))) in follows (freshCell (with· mtChannels)) (alone (bytes "IB/1,MT1/2,MT/5") (Missing NoAssignment (bytes "A1    ") (Units Mt))) k
 
 k8 : Holds (Plays (with· drumChannels) (alone (bytes "IB/1,MD/1500") (Given 0 2 0 35329 36828 0 0)))
 unfolding after askedOf cardByte clashError codeError codes deckEnd digitsText enterError entryOf facError facOf fields formError frontError inserted is2 isAlnum isDigit isLetter kindOf lowerSequence malformed numberOfText orderedError precedes priorityOf programName ptyError ranked readCards rules sameKey sameRank sameThere scheduleOf shownBy twoDigitsOf assignOf kindsFrom searchOf runB fitsB startOf areaB drumLength serveOf serviceOf giveFrom chooseOf picks lowestFrom testsB ge sumTo isFreeOf unitIn unitSet assignable legalOf refusal accept answer fresh fittedOn drumOn configured packetIn stateIn put relist enlisted entryOf′ placeOf packetOf setState restatusAll takeAll releaseAll freshCell acted outcome candidate wordFrom freshUnits changedAt withState removed setStateIn

@@ -2,18 +2,16 @@
 -- allow is what they compute, so that cases are shown by computing. Selection goes through the candidates with the
 -- computed assigner. Assumes nothing.
 use Prim.Native.Nat.{ℕ, zero, suc, _+_, _≤_, _<_}
-use mathlib.Core.Path.{_≡_, refl, sym, ap, subst, _∙_}
+use mathlib.Core.Path.{_≡_, refl, ap, _∙_}
 use mathlib.Core.Bool.{Bool, true, false, cond, _&&_}
 use mathlib.Core.List.{List, [], _∷_}
-use mathlib.Core.Logic.{_⊎_, inl, inr, ⊎-elim}
+use mathlib.Core.Logic.{_⊎_, ⊎-elim}
 use native.Mathlib.Nat.{eq-or-lt-of-le}
 use native.Mathlib.Omega.{arith}
-use lib.Dec.{eqb, ltb}
-use lib.ListN.{length, getD}
+use lib.Dec.{eqb}
+use lib.ListN.{length}
 use borrow.Author.Tests.{eqb-true}
 use Rattle.numbers.proofs.Tests.{by-bool, both, never}
-use Rattle.cards.specs.declared.Request.{Request}
-use Rattle.schedule_entries.specs.Entries.{blank}
 use Rattle.schedule_entries.specs.declared.Entry.{Entry}
 use Rattle.schedule_list.specs.InSchedule.{entryAt, inSchedule}
 use Rattle.schedule_list.specs.declared.Schedule.{Schedule}
@@ -23,6 +21,9 @@ use Rattle.assign.specs.Assignment as Assign
 use Rattle.assign.specs.Chosen.{Answer, nothing}
 use Rattle.assign.proofs.Computed.{assign-answers, assignOf}
 use Rattle.assign.specs.declared.Assigned.{Assigned}
+use Rattle.assign.specs.declared.Lacking.{Lacking}
+use Rattle.assign.specs.declared.Lacking.the-variants.{Nothing, First}
+use Rattle.assign.specs.declared.Part.{Part}
 use Rattle.packets.specs.Rules as Rules
 use Rattle.packets.specs.State.{isEmpty, stateIn}
 use Rattle.packets.specs.declared.Job.{Job}
@@ -30,7 +31,11 @@ use Rattle.packets.specs.declared.Lists.{Lists}
 use Rattle.cell_taken.specs.Taken.{LowestFree}
 use Rattle.cell_taken.specs.declared.FreePlace.{FreePlace}
 use Rattle.cell_taken.specs.declared.FreePlace.the-variants.{At, Full}
-use Rattle.cell_selection.specs.Selecting.{Candidate, HasNone, NoFit, Picks, Selects, leftBy, noSelection, seenIn}
+use Rattle.cell_selection.specs.Selecting.{AllHeld, Picks, PicksBy, PicksNone, Selects, isJob, leftBy, noId, seenIn, unselected}
+use Rattle.cell_selection.specs.Noting.{atThen, lackingThen}
+use Rattle.cell_selection.proofs.Walk.{Walked, walk-start, walk-past, walk-lacks, walked-all}
+use Rattle.cell_selection.specs.declared.Choice.the-variants as Choices
+use Rattle.cell_selection.specs.declared.Choice.the-variants.{NoPlace, NoCandidates, Lacks}
 use Rattle.cell_selection.specs.declared.Pick.{Pick}
 use Rattle.cell_selection.specs.declared.Selection.{Selection}
 use Rattle.keyboard.specs.Messages.{readMessage}
@@ -41,44 +46,39 @@ use Rattle.cell.specs.declared.SelectAnswer.{SelectAnswer}
 use Rattle.cell_history.proofs.One.{selects-in-one}
 use Rattle.cell_history.specs.History.{Call, Chosen, Complete, Deck, Delete, Does, End, Entered, Key, Mark, Release, Reply, Said, Select, Shown, Start, Status, Submit, replyOf as toldReply}
 
--- ---- the first candidate with an assignment, of n from index k on
+-- ---- the first candidate with an assignment, or what the first of all lacks, of n from index k on
 
-abbrev orNext : ℕ → Assigned → Pick → Pick
-orNext k a next = cond (a .found) (record { found = true; at = k; assigned = a }) next
+abbrev orNext : ℕ → Lacking → Assigned → Lacking → ℕ → (Lacking → ℕ → Pick) → Pick
+orNext k Nothing a l at next = record { found = true; lacking = Nothing; at = k; assigned = a }
+orNext k (First part) a l at next = next (lackingThen l part) (atThen l at k)
 
-abbrev pickFrom : List Entry → Assign.Cell → ℕ → ℕ → Pick
-pickFrom es cell zero k = record { found = false; at = 0; assigned = nothing }
-pickFrom es cell (suc n) k =
-    cond (candidate es (entryAt es k)) (orNext k (assignOf cell (entryAt es k .request .facilities)) (pickFrom es cell n (suc k))) (pickFrom es cell n (suc k))
+abbrev pickFrom : List Entry → Assign.Cell → ℕ → ℕ → Lacking → ℕ → Pick
+pickFrom es cell zero k l at = record { found = false; lacking = l; at = at; assigned = nothing }
+pickFrom es cell (suc n) k l at =
+    let p = assignOf cell (entryAt es k .request .facilities) in
+    cond (candidate es (entryAt es k)) (orNext k (p .lacking) (p .assigned) l at (pickFrom es cell n (k + 1))) (pickFrom es cell n (k + 1) l at)
+
+abbrev pickOf : List Entry → Assign.Cell → Pick
+pickOf es cell = pickFrom es cell (length es) 0 Nothing 0
 
 module _ (es : List Entry) (cell : Assign.Cell) (size : length (cell .channels) ≡ 16) (full : (k : ℕ) → length (entryAt es k .request .facilities .units) ≡ 48) where
-  -- no candidate before k has an assignment
-  abbrev None : ℕ → Type 0
-  None k = (i : ℕ) → i < k → Candidate es i → HasNone cell (entryAt es i .request)
-
-  one-more : (k : ℕ) → None k → (Candidate es k → HasNone cell (entryAt es k .request)) → None (suc k)
-  one-more k before here i h c = ⊎-elim (λ e. subst (λ (x : ℕ). Candidate es x → HasNone cell (entryAt es x .request)) (sym e) here c) (λ l. before i l c) (eq-or-lt-of-le (less i k h))
-    where
-      less : (i k : ℕ) → i < suc k → i ≤ k
-      less i k h = omega arith
-
-  picks-from : (n k : ℕ) → k + n ≡ length es → None k → Picks es cell (pickFrom es cell n k)
-  picks-from zero k e before = (λ i c. before i (omega (arith, c .0)) c, (refl, refl))
-  picks-from (suc n) k e before =
+  picks-from : (n k : ℕ) (x : Lacking) (at : ℕ) → k + n ≡ length es → Walked es cell x at k → Picks es cell (pickFrom es cell n k x at)
+  picks-from zero k x at e w = walked-all es cell k w (omega arith) nothing refl
+  picks-from (suc n) k x at e w =
+      let p = assignOf cell (entryAt es k .request .facilities) in
       by-bool (candidate es (entryAt es k))
-      (λ c. rw c (tried c (assignOf cell (entryAt es k .request .facilities)) (assign-answers cell (entryAt es k .request .facilities) size (full k)) (picks-from n (suc k) (omega arith))))
-      (λ c. rw c (picks-from n (suc k) (omega arith) (one-more k before (λ d. never (d .1) c))))
+      (λ c. rw c (tried c (p .lacking) (p .assigned) (assign-answers cell (entryAt es k .request .facilities) size (full k))
+      (λ part. picks-from n (k + 1) (lackingThen x part) (atThen x at k) (omega arith))))
+      (λ c. rw c (picks-from n (k + 1) x at (omega arith) (walk-past es cell k w (λ d. never (d .1) c))))
     where
-      tried : candidate es (entryAt es k) ≡ true → (a : Assigned) → Answer (a .found) cell (entryAt es k .request .facilities) a
-          → (None (suc k) → Picks es cell (pickFrom es cell n (suc k))) → Picks es cell (orNext k a (pickFrom es cell n (suc k)))
-      tried c a w next = by-found (a .found) refl
-        where
-          by-found : (b : Bool) → a .found ≡ b → Picks es cell (cond b (record { found = true; at = k; assigned = a }) (pickFrom es cell n (suc k)))
-          by-found true t = record { candidate = (omega arith, c); found = t; chosen = subst (λ (b : Bool). Answer b cell (entryAt es k .request .facilities) a) t w; first = before }
-          by-found false t = next (one-more k before (λ d b i. subst (λ (x : Bool). Answer x cell (entryAt es k .request .facilities) a) t w .never b i))
+      tried : candidate es (entryAt es k) ≡ true → (l : Lacking) (a : Assigned) → Answer l cell (entryAt es k .request .facilities) a
+          → ((part : Part) → Walked es cell (lackingThen x part) (atThen x at k) (k + 1) → Picks es cell (pickFrom es cell n (k + 1) (lackingThen x part) (atThen x at k)))
+          → Picks es cell (orNext k l a x at (pickFrom es cell n (k + 1)))
+      tried c Nothing a q next = (record { candidate = (omega arith, c); chosen = q; first = w .passed }, refl)
+      tried c (First part) a q next = next part (walk-lacks es cell k part (omega arith, c) (q .0) w)
 
-  pub picks : Picks es cell (pickFrom es cell (length es) 0)
-  picks = picks-from (length es) 0 (omega arith) (λ i h. absurd (omega arith))
+  pub picks : Picks es cell (pickOf es cell)
+  picks = picks-from (length es) 0 Nothing 0 (omega arith) (walk-start es cell)
 
 -- ---- the lowest free place, of n from place p on
 
@@ -101,13 +101,21 @@ place-from jobs (suc n) p e before =
 
 -- ---- selection
 
+abbrev unselectedBy : Lacking → Schedule → Pick → Selection
+unselectedBy Nothing schedule p = unselected NoCandidates noId
+unselectedBy (First part) schedule p = unselected (Lacks part) (entryAt (inSchedule schedule) (p .at) .request .id)
+
+abbrev selectedBy : Bool → Schedule → ℕ → Pick → Selection
+selectedBy true schedule place p =
+    record { choice = Choices.Job; first = noId; place = place; at = p .at; request = entryAt (inSchedule schedule) (p .at) .request; assigned = p .assigned }
+selectedBy false schedule place p = unselectedBy (p .lacking) schedule p
+
 abbrev selectedAs : Schedule → ℕ → Pick → Selection
-selectedAs schedule place p =
-    cond (p .found) (record { found = true; place = place; at = p .at; request = entryAt (inSchedule schedule) (p .at) .request; assigned = p .assigned }) noSelection
+selectedAs schedule place p = selectedBy (p .found) schedule place p
 
 abbrev selectionBy : Schedule → Lists → FreePlace → Selection
-selectionBy schedule lists Full = noSelection
-selectionBy schedule lists (At place) = selectedAs schedule place (pickFrom (inSchedule schedule) (seenIn lists) (length (inSchedule schedule)) 0)
+selectionBy schedule lists Full = unselected NoPlace noId
+selectionBy schedule lists (At place) = selectedAs schedule place (pickOf (inSchedule schedule) (seenIn lists))
 
 abbrev pub selectionOf : Schedule → Lists → Selection
 selectionOf schedule lists = selectionBy schedule lists (placeFrom (lists .jobs) 16 0)
@@ -115,7 +123,11 @@ selectionOf schedule lists = selectionBy schedule lists (placeFrom (lists .jobs)
 abbrev pub selectOf : Cell → SelectAnswer
 selectOf c =
     let s = selectionOf (c .schedule) (c .lists) in
-    record { outcome = outcomeOf (s .found); selection = s; cell = cellOf (leftBy (s .found) (c .schedule) (c .lists) s .0) (leftBy (s .found) (c .schedule) (c .lists) s .1) }
+    record {
+      outcome = outcomeOf (s .choice);
+      selection = s;
+      cell = cellOf (leftBy (isJob (s .choice)) (c .schedule) (c .lists) s .0) (leftBy (isJob (s .choice)) (c .schedule) (c .lists) s .1);
+    }
 
 -- the request's counts and the cell's channels are as many as they are in every cell of the code
 abbrev countsFull : List Entry → Bool
@@ -134,18 +146,25 @@ module _ (c : Cell) (s : sized c ≡ true) where
   parts : (eqb (length (c .lists .channels)) 16 ≡ true) × (countsFull (inSchedule (c .schedule)) ≡ true)
   parts = both (eqb (length (c .lists .channels)) 16) (countsFull (inSchedule (c .schedule))) s
 
-  picked : Picks (inSchedule (c .schedule)) (seenIn (c .lists)) (pickFrom (inSchedule (c .schedule)) (seenIn (c .lists)) (length (inSchedule (c .schedule))) 0)
+  picked : Picks (inSchedule (c .schedule)) (seenIn (c .lists)) (pickOf (inSchedule (c .schedule)) (seenIn (c .lists)))
   picked = picks (inSchedule (c .schedule)) (seenIn (c .lists)) (eqb-true (length (c .lists .channels)) 16 (parts .0)) (counts-full (inSchedule (c .schedule)) (parts .1))
 
-  selects-at : (place : ℕ) → LowestFree (c .lists .jobs) (At place) → (p : Pick) → Picks (inSchedule (c .schedule)) (seenIn (c .lists)) p → Selects (c .schedule) (c .lists) (selectedAs (c .schedule) place p)
-  selects-at place l p w =
-      by-bool (p .found)
-      (λ t. rw t (record { place = l; fit = rw t at w; request = refl }))
-      (λ t. rw t (record { why = inr ((rw t at w) .0); blank = refl }))
+  module _ (place : ℕ) (l : LowestFree (c .lists .jobs) (At place)) (p : Pick) where
+    some-free : AllHeld (c .lists) → ⊥
+    some-free f = never (l .1 .0) (f place (l .0))
+
+    by-lack : (x : Lacking) → PicksNone x (inSchedule (c .schedule)) (seenIn (c .lists)) p → Selects (c .schedule) (c .lists) (unselectedBy x (c .schedule) p)
+    by-lack Nothing w = ((some-free, (w .0, refl)), refl)
+    by-lack (First part) w = ((some-free, (w .0, (p .at, (w .1 .0, refl)))), refl)
+
+    selects-at : (found : Bool) → PicksBy found (inSchedule (c .schedule)) (seenIn (c .lists)) p → Selects (c .schedule) (c .lists) (selectedBy found (c .schedule) place p)
+    selects-at true w = record { place = l; fit = w .0; request = refl; unnamed = refl }
+    selects-at false w = by-lack (p .lacking) w
 
   selects-by : (f : FreePlace) → LowestFree (c .lists .jobs) f → Selects (c .schedule) (c .lists) (selectionBy (c .schedule) (c .lists) f)
-  selects-by Full l = record { why = inl l; blank = refl }
-  selects-by (At place) l = selects-at place l (pickFrom (inSchedule (c .schedule)) (seenIn (c .lists)) (length (inSchedule (c .schedule))) 0) picked
+  selects-by Full l = ((l, refl), refl)
+  selects-by (At place) l =
+      let p = pickOf (inSchedule (c .schedule)) (seenIn (c .lists)) in selects-at place l p (p .found) picked
 
   pub selects : SelectsIn c (selectOf c)
   selects = record { outcome = refl; takes = record { selects = selects-by (placeFrom (c .lists .jobs) 16 0) (place-from (c .lists .jobs) 16 0 refl (λ q h. absurd (omega arith))); leaves = refl } }

@@ -60,7 +60,9 @@ use Rattle.cards.specs.declared.Facilities.{Facilities}
 use Rattle.cards.specs.declared.Request.{Request}
 use Rattle.schedule_entries.specs.declared.State.the-variants.{Waiting}
 use Rattle.packets.specs.declared.Lists.{Lists}
-use Rattle.cell_selection.specs.Selecting.{isTaken, seenIn, SelectsBy, leftBy, runOf}
+use Rattle.cell_selection.specs.Selecting.{isJob, isTaken, noId, seenIn, SelectsBy, leftBy, runOf}
+use Rattle.cell_selection.specs.declared.Choice.{Choice}
+use Rattle.cell_selection.specs.declared.Choice.the-variants.{Job}
 use Rattle.cell_selection.specs.declared.Selection.{Selection}
 use Rattle.units.specs.declared.Holder.the-variants.{Held, Free}
 use Rattle.units.specs.declared.Unit.{Unit as UnitState}
@@ -127,13 +129,13 @@ entered = refl
 
 -- ---- the unit that the selection gives: the lowest of channel 3
 
-chosen-so : (selectOf c₁ .selection .found ≡ true) × ((selectOf c₁ .selection .place ≡ 0) × (selectOf c₁ .selection .at ≡ 0))
+chosen-so : (selectOf c₁ .selection .choice ≡ Job) × ((selectOf c₁ .selection .place ≡ 0) × ((selectOf c₁ .selection .at ≡ 0) × (selectOf c₁ .selection .first ≡ noId)))
 unfolding areaB assignOf assignable candidate chooseOf drumLength fitsB fresh freshUnits ge giveFrom isFreeOf kindsFrom lowerSequence lowestFrom picks runB sameRank scheduleOf searchOf serveOf serviceOf startOf stateIn sumTo testsB unitIn wordFrom
-chosen-so = (refl, (refl, refl))
+chosen-so = (refl, (refl, (refl, refl)))
 
-what-so : (selectOf c₁ .selection .assigned .found ≡ true) × ((selectOf c₁ .selection .assigned .ib ≡ 2) × ((selectOf c₁ .selection .assigned .db ≡ 0) × ((selectOf c₁ .selection .assigned .drum ≡ 0) × (on (channelsOf (selectOf c₁ .selection .assigned) 1) 1 ≡ 3))))
+what-so : (selectOf c₁ .selection .assigned .ib ≡ 2) × ((selectOf c₁ .selection .assigned .db ≡ 0) × ((selectOf c₁ .selection .assigned .drum ≡ 0) × (on (channelsOf (selectOf c₁ .selection .assigned) 1) 1 ≡ 3)))
 unfolding areaB assignOf assignable candidate chooseOf drumLength fitsB fresh freshUnits ge giveFrom isFreeOf kindsFrom lowerSequence lowestFrom picks runB sameRank scheduleOf searchOf serveOf serviceOf startOf stateIn sumTo testsB unitIn wordFrom
-what-so = (refl, (refl, (refl, (refl, refl))))
+what-so = (refl, (refl, (refl, refl)))
 
 seen-so : seen (replyOf c₁ Select) ≡ Given 0 2 0 0 0 3 0
 unfolding areaB assignOf assignable candidate chooseOf drumLength fitsB fresh freshUnits ge giveFrom isFreeOf kindsFrom lowerSequence lowestFrom picks runB sameRank scheduleOf searchOf serveOf serviceOf startOf stateIn sumTo testsB unitIn wordFrom
@@ -178,7 +180,7 @@ unit-given a c o =
 
 abbrev sel : List KindChannels → List Head → Selection
 sel named heads =
-    record { found = true; place = 0; at = 0; request = asks; assigned = record { found = true; ib = 2; db = 0; drum = 0; channels = named; heads = heads } }
+    record { choice = Job; first = noId; place = 0; at = 0; request = asks; assigned = record { ib = 2; db = 0; drum = 0; channels = named; heads = heads } }
 
 abbrev S : Selection
 S = selectOf c₁ .selection
@@ -189,23 +191,24 @@ request-so = refl
 
 selection-so : S ≡ sel (S .assigned .channels) (S .assigned .heads)
 selection-so = λ i. record {
-  found = chosen-so .0 i;
+  choice = chosen-so .0 i;
+  first = chosen-so .1 .1 .1 i;
   place = chosen-so .1 .0 i;
-  at = chosen-so .1 .1 i;
+  at = chosen-so .1 .1 .0 i;
   request = request-so i;
-  assigned = record { found = what-so .0 i; ib = what-so .1 .0 i; db = what-so .1 .1 .0 i; drum = what-so .1 .1 .1 .0 i; channels = S .assigned .channels; heads = S .assigned .heads };
+  assigned = record { ib = what-so .0 i; db = what-so .1 .0 i; drum = what-so .1 .1 .0 i; channels = S .assigned .channels; heads = S .assigned .heads };
 }
 
 -- the chosen assignment is one
 chosen-one : Chosen seen₁ wants (S .assigned)
 chosen-one =
-    let w : SelectsBy true (inSchedule (c₁ .schedule)) lists₁ S = subst (λ (b : Bool). SelectsBy b (inSchedule (c₁ .schedule)) lists₁ S) (chosen-so .0) (selects c₁ sized-so .takes .selects) in
+    let w : SelectsBy Job (inSchedule (c₁ .schedule)) lists₁ S = subst (λ (x : Choice). SelectsBy x (inSchedule (c₁ .schedule)) lists₁ S) (chosen-so .0) (selects c₁ sized-so .takes .selects) in
     subst (λ (r : Request). Chosen seen₁ (r .facilities) (S .assigned)) (sym (w .request) ∙ request-so) (w .fit .chosen)
 
 -- ---- the cell after it
 
 abbrev after₂ : Selection → Cell
-after₂ s = cellOf (leftBy (s .found) (c₁ .schedule) lists₁ s .0) (leftBy (s .found) (c₁ .schedule) lists₁ s .1)
+after₂ s = cellOf (leftBy (isJob (s .choice)) (c₁ .schedule) lists₁ s .0) (leftBy (isJob (s .choice)) (c₁ .schedule) lists₁ s .1)
 
 -- what it gives, but for the units
 abbrev plain : Assignment
@@ -253,7 +256,7 @@ abbrev heads₁ : List Head
 heads₁ = S .assigned .heads
 
 taken-48 : getD (map isTaken heads₁) 48 false ≡ true
-taken-48 = unit-given (S .assigned) chosen-one (what-so .1 .1 .1 .1)
+taken-48 = unit-given (S .assigned) chosen-one (what-so .1 .1 .1)
 
 selected-is : cellAfter c₁ Select ≡ base (unitsOf heads₁)
 selected-is = ap after₂ selection-so ∙ based (S .assigned .channels) heads₁

@@ -10,7 +10,7 @@ use Rattle.numbers.specs.Quoted.{bytes}
 use Rattle.numbers.specs.declared.Kind.the-variants.{Mt, Md}
 use Rattle.numbers.specs.declared.Outcome.the-variants as Outcomes
 use Rattle.numbers.specs.declared.Refusal.{Refusal}
-use Rattle.numbers.specs.declared.Refusal.the-variants.{NothingSelected}
+use Rattle.numbers.specs.declared.Refusal.the-variants.{NoAssignment}
 use Rattle.units.specs.State.{unitIn}
 use Rattle.units.specs.declared.Holder.{Holder}
 use Rattle.units.specs.declared.Holder.the-variants.{Free, Held}
@@ -26,12 +26,16 @@ use Rattle.cards.specs.declared.Verdict.the-variants.{Good, Wrong}
 use Rattle.schedule_deck.specs.Report.{deckText}
 use Rattle.assign_channels.specs.Choice.{on}
 use Rattle.assign.specs.Assignment.{channelsOf}
+use Rattle.assign.specs.declared.Part.{Part}
+use Rattle.assign.specs.declared.Part.the-variants.{Units}
 use Rattle.packets.specs.declared.Answer.{Answer}
 use Rattle.packets.specs.declared.Answer.the-variants.{Closed, Completed, Done, Started}
 use Rattle.packets.specs.declared.How.the-variants.{Full}
 use Rattle.packets.specs.declared.Leaving.the-variants.{AfterNormal, Stays}
 use Rattle.packets.specs.declared.Site.the-variants.{AtUnit}
 use Rattle.packets.specs.declared.Spot.the-variants.{OnUnit}
+use Rattle.cell_selection.specs.declared.Choice.{Choice}
+use Rattle.cell_selection.specs.declared.Choice.the-variants.{Job, NoPlace, NoCandidates, Lacks}
 use Rattle.cell_selection.specs.declared.Selection.{Selection}
 use Rattle.cell.specs.Calls.{freshCell}
 use Rattle.cell.specs.declared.Cell.{Cell}
@@ -43,11 +47,12 @@ use Rattle.cell_history.specs.History.{Call, Chosen, Complete, Deck, Does, End,
 -- ---- what is seen of a reply
 
 -- of a selection: the job's place, the starts of IB and DB, the first and last word of its drum area, the channels
--- of MT's entries 1 and 2
+-- of MT's entries 1 and 2; of one that is refused for a facility: the first candidate's ID, and what is lacking
 pub data Seen : Type 0 where
   Accepted : Seen
   Refused : Refusal → Seen
   Given : (place ib db first last mt1 mt2 : ℕ) → Seen
+  Missing : Refusal → List ℕ → Part → Seen
   Answered : Answer → Seen
   Faulty : Fault → Seen
 
@@ -64,11 +69,17 @@ given s =
     Given (s .place) (s .assigned .ib) (s .assigned .db) (s .assigned .drum) (lastWord (s .assigned .drum) (s .request .facilities .md))
     (on (channelsOf (s .assigned) mt) 1) (on (channelsOf (s .assigned) mt) 2)
 
+abbrev pub missing : Refusal → List ℕ → Choice → Seen
+missing n id Job = Refused n
+missing n id NoPlace = Refused n
+missing n id NoCandidates = Refused n
+missing n id (Lacks part) = Missing n id part
+
 abbrev pub seen : Reply → Seen
 seen (Entered Outcomes.Done) = Accepted
 seen (Entered (Outcomes.Refused n)) = Refused n
 seen (Chosen Outcomes.Done s) = given s
-seen (Chosen (Outcomes.Refused n) s) = Refused n
+seen (Chosen (Outcomes.Refused n) s) = missing n (s .first) (s .choice)
 seen (Said a) = Answered a
 seen (Reply.Shown (StatusAnswers.Is status)) = Accepted
 seen (Reply.Shown (StatusAnswers.Refused n)) = Refused n
@@ -225,8 +236,8 @@ marked =
     ∷ Plays (with· mtChannels) (alone (bytes "IB/1,MT1/2,MT2/3") (Given 0 2 0 0 0 5 3))
     -- K6 same channels, MT1/2 and MT/4 fit
     ∷ Plays (with· mtChannels) (alone (bytes "IB/1,MT1/2,MT/4") (Given 0 2 0 0 0 3 0))
-    -- K7 MT1/2 and MT/5 don't
-    ∷ Plays (with· mtChannels) (alone (bytes "IB/1,MT1/2,MT/5") (Refused NothingSelected))
+    -- K7 MT1/2 and MT/5 don't: MT is lacking
+    ∷ Plays (with· mtChannels) (alone (bytes "IB/1,MT1/2,MT/5") (Missing NoAssignment (bytes "A1    ") (Units Mt)))
     -- K8 fresh drum, MD/1500 holds 35,329 to 36,828
     ∷ Plays (with· drumChannels) (alone (bytes "IB/1,MD/1500") (Given 0 2 0 35329 36828 0 0))
     -- K9 job ends while moving: unit not free until the completion

@@ -11,7 +11,6 @@ use Rattle.numbers.specs.declared.Refusal.the-variants.{
   NothingStartable,
   NothingInProgress,
   WrongCompletion,
-  NothingSelected,
   BadDeck,
   NoRoom,
   WrongRequest,
@@ -19,6 +18,9 @@ use Rattle.numbers.specs.declared.Refusal.the-variants.{
   NoSuchRequest,
   JobRuns,
   UnknownMessage,
+  NoPlaceFree,
+  NoCandidates,
+  NoAssignment,
 }
 
 abbrev pub numberOf : Refusal → ℕ
@@ -40,8 +42,6 @@ numberOf NothingStartable = 7
 numberOf NothingInProgress = 8
 -- cut for a packet not stopping; failure code 00, 01, 16o, 17o or over 77o
 numberOf WrongCompletion = 9
--- no place free, or no candidate has an assignment
-numberOf NothingSelected = 10
 -- deck too long or without termination card
 numberOf BadDeck = 11
 -- card to write over 80 characters, or lent room too short
@@ -56,3 +56,9 @@ numberOf NoSuchRequest = 15
 numberOf JobRuns = 16
 -- unknown message word, or text after the last field (02, request 1)
 numberOf UnknownMessage = 17
+-- selection: no place is free (02, request 2, which took 10 out of the table)
+numberOf NoPlaceFree = 18
+-- selection: there are no candidates (02, request 2)
+numberOf NoCandidates = 19
+-- selection: there are some, and none has an assignment (02, request 2)
+numberOf NoAssignment = 20

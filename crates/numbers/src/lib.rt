@@ -38,7 +38,6 @@ pub enum Refusal {
     NothingStartable,
     NothingInProgress,
     WrongCompletion,
-    NothingSelected,
     BadDeck,
     NoRoom,
     WrongRequest,
@@ -46,6 +45,9 @@ pub enum Refusal {
     NoSuchRequest,
     JobRuns,
     UnknownMessage,
+    NoPlaceFree,
+    NoCandidates,
+    NoAssignment,
 }
 
 // How a call that answers nothing else ends: it was done, or refused.
@@ -130,7 +132,6 @@ pub fn number_of(refusal: Refusal) -> u8
         Refusal::NothingStartable => 7,
         Refusal::NothingInProgress => 8,
         Refusal::WrongCompletion => 9,
-        Refusal::NothingSelected => 10,
         Refusal::BadDeck => 11,
         Refusal::NoRoom => 12,
         Refusal::WrongRequest => 13,
@@ -138,5 +139,8 @@ pub fn number_of(refusal: Refusal) -> u8
         Refusal::NoSuchRequest => 15,
         Refusal::JobRuns => 16,
         Refusal::UnknownMessage => 17,
+        Refusal::NoPlaceFree => 18,
+        Refusal::NoCandidates => 19,
+        Refusal::NoAssignment => 20,
     }
 }

@@ -7,7 +7,7 @@ use lib.Dec.{ltb}
 use borrow.Author.Tests.{ltb-true, not-false}
 use Rattle.numbers.proofs.Tests.{never}
 use Rattle.numbers.specs.Kinds.{isDrum}
-use Rattle.numbers.specs.declared.Refusal.the-variants.{ChannelBusy, NoJob, NotLegal, NotTheJobs, NothingInProgress, NothingSelected, NothingStartable, OutOfRange, PacketInUse, WrongCompletion}
+use Rattle.numbers.specs.declared.Refusal.the-variants.{ChannelBusy, NoJob, NotLegal, NotTheJobs, NothingInProgress, NoPlaceFree, NothingStartable, OutOfRange, PacketInUse, WrongCompletion}
 use Rattle.packets.specs.State.{inMotion, State, configured, drumOn, fittedOn, heldBy, isBusy, isDrumOf, isEmpty, isIdle, isListed, isRunning, jobIn, legalFor, motionOn, movingStatus, packetIn, stateIn, isUnit, unitAt}
 use Rattle.packets.proofs.Laws.{and-left, and-right, passes}
 use Rattle.packets.specs.Picks.{find}
@@ -95,7 +95,7 @@ ends-of s j e r =
 pub assigns-to : (s : State) (j : ℕ) (asg : Assignment) → refusal s (Take j asg) ≡ Granted → (j < 16) × (isEmpty (stateIn (s .jobs) j) ≡ true)
 unfolding refusal
 assigns-to s j asg e =
-    let r₁ = passes (not (ltb j 16 && isEmpty (stateIn (s .jobs) j))) NothingSelected Granted e in
+    let r₁ = passes (not (ltb j 16 && isEmpty (stateIn (s .jobs) j))) NoPlaceFree Granted e in
     (ltb-true j 16 (and-left (ltb j 16) _ (not-false _ (r₁ .0))), and-right (ltb j 16) _ (not-false _ (r₁ .0)))
 
 -- ---- statuses under the two sweeps

@@ -18,7 +18,7 @@ use Rattle.numbers.specs.declared.Refusal.the-variants.{
   NothingStartable,
   NothingInProgress,
   WrongCompletion,
-  NothingSelected,
+  NoPlaceFree,
 }
 use Rattle.units.specs.State.{unitIn, unitSet, markedUnit}
 use Rattle.units.specs.declared.Holder.{Holder}
@@ -357,7 +357,8 @@ submitRefusal has job unit j p f c w =
     Granted))))
 
 unfoldable pub refusal : State → Call → Verdict
-refusal s (Take j asg) = first (not (ltb j 16 && isEmpty (stateIn (s .jobs) j))) NothingSelected Granted
+-- a job is taken into a place that is free; 18 is for any other, which no selection names (it is shown of each)
+refusal s (Take j asg) = first (not (ltb j 16 && isEmpty (stateIn (s .jobs) j))) NoPlaceFree Granted
 refusal s (Submit j p f c w) = submitRefusal (fittedOn (s .channels) c) (jobIn (s .jobs) j) (unitAt (s .units) c (siteOf w)) j p f c w
 refusal s (Start c) =
     first (not (configured (s .channels) c)) OutOfRange

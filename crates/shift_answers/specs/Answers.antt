@@ -12,9 +12,13 @@ use Rattle.packets.specs.declared.Status.{Status}
 use Rattle.packets.specs.declared.Status.the-variants.{Blank, Listed, InProgress, Stopping, Ended}
 use Rattle.shift_pieces.specs.Pieces.{octalText, packetText}
 
--- a refused call: `NO n`, n document 01's number
+-- `NO n`, n the refusal's number
+abbrev pub noText : Refusal → List ℕ
+noText refusal = bytes "NO " ++ decimalText (numberOf refusal)
+
+-- a refused call: that, and nothing else
 abbrev pub refusedText : Refusal → List ℕ
-refusedText refusal = bytes "NO " ++ (decimalText (numberOf refusal) ++ bytes "\n")
+refusedText refusal = noText refusal ++ bytes "\n"
 
 -- a call that answers nothing else: `ACK`
 abbrev pub doneText : List ℕ

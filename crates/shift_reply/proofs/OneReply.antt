@@ -28,7 +28,7 @@ abbrev takenBy : SelectAnswer → Taking
 takenBy a = record { selection = a .selection; schedule = a .cell .schedule; lists = a .cell .lists }
 
 abbrev answerBy : Taking → SelectAnswer
-answerBy t = record { outcome = outcomeOf (t .selection .found); selection = t .selection; cell = cellOf (t .schedule) (t .lists) }
+answerBy t = record { outcome = outcomeOf (t .selection .choice); selection = t .selection; cell = cellOf (t .schedule) (t .lists) }
 
 answer-is : (cell : Cell) (a : SelectAnswer) → SelectsIn cell a → a ≡ answerBy (takenBy a)
 answer-is cell a s = rw (← s .outcome)

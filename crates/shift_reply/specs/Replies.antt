@@ -7,8 +7,11 @@ use Rattle.numbers.specs.declared.Outcome.{Outcome}
 use Rattle.numbers.specs.declared.Outcome.the-variants as Outcome′
 use Rattle.channels.specs.declared.Channel.{Channel}
 use Rattle.text.specs.Room.{Written}
+use Rattle.cards_fields.specs.Fields.{spaceless}
 use Rattle.schedule_deck.specs.Report.{deckNotes, deckSchedule, deckOutcome}
 use Rattle.packets.specs.Rules as Rules
+use Rattle.cell_selection.specs.declared.Choice.{Choice}
+use Rattle.cell_selection.specs.declared.Choice.the-variants.{Job, NoPlace, NoCandidates, Lacks}
 use Rattle.cell_selection.specs.declared.Selection.{Selection}
 use Rattle.keyboard.specs.Messages.{readMessage}
 use Rattle.keyboard_answers.specs.Answers.{answerText as keyText}
@@ -17,9 +20,9 @@ use Rattle.cell.specs.declared.Answered.{Answered}
 use Rattle.cell.specs.declared.Cell.{Cell}
 use Rattle.cell.specs.declared.Heeded.{Heeded}
 use Rattle.cell.specs.declared.SelectAnswer.{SelectAnswer}
-use Rattle.shift_answers.specs.Answers.{refusedText, noCallText}
+use Rattle.shift_answers.specs.Answers.{noText, refusedText, noCallText}
 use Rattle.shift_packets.specs.Texts.{answerText, statusAnswerText, submission}
-use Rattle.shift_selected.specs.Selected.{selectedText}
+use Rattle.shift_selected.specs.Selected.{selectedText, partText}
 use Rattle.board.specs.Board.{boardText}
 use Rattle.shift_script.specs.Script.{messageIn}
 use Rattle.shift_script.specs.declared.Submission.{Submission}
@@ -34,10 +37,20 @@ abbrev pub refusalText : Outcome → List ℕ
 refusalText Outcome′.Done = []
 refusalText (Outcome′.Refused refusal) = refusedText refusal
 
--- "`SELECT`: `ACK p id ` and the assignment"
+-- what stands behind the number where nothing is selected: nothing in "`NO 18`: no place is free" and "`NO 19`: a place
+-- is free, but there is no candidate"; the first candidate's ID and the first part that is lacking for it in
+-- "`NO 20 id WHAT`"
+abbrev pub lackText : Choice → List ℕ → List ℕ
+lackText Job id = []
+lackText NoPlace id = []
+lackText NoCandidates id = []
+lackText (Lacks part) id = bytes " " ++ (spaceless id ++ (bytes " " ++ partText part))
+
+-- "`SELECT`: `ACK p id ` and the assignment", or refused "with one of three lines"
 abbrev pub selectText : Outcome → Selection → List Channel → List ℕ
 selectText Outcome′.Done selection channels = selectedText (selection .place) (selection .request) (selection .assigned) channels
-selectText (Outcome′.Refused refusal) selection channels = refusedText refusal
+selectText (Outcome′.Refused refusal) selection channels =
+    noText refusal ++ (lackText (selection .choice) (selection .first) ++ bytes "\n")
 
 -- "echoed as it stands"
 abbrev pub echoText : List ℕ → List ℕ

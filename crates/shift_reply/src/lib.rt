@@ -1,6 +1,8 @@
 // What is answered to a line of the script, put into lent room, and the cell then.
+use cards_writing::put;
 use cell::Answered;
 use cell::Cell;
+use cell_selection::Choice;
 use cell_selection::Selection;
 use channels::Channel;
 use numbers::Outcome;
@@ -10,7 +12,7 @@ ghost use mathlib.Core.Path.{_≡_};
 ghost use Rattle.text.specs.Room.{Written};
 ghost use Rattle.board.specs.Board.{boardText};
 ghost use Rattle.shift_reply.specs.Followed.{Followed};
-ghost use Rattle.shift_reply.specs.Replies.{selectText, refusalText, echoText, Shows, Gives, Selects, EntersDeck, KeysMessage, Replies};
+ghost use Rattle.shift_reply.specs.Replies.{lackText, selectText, refusalText, echoText, Shows, Gives, Selects, EntersDeck, KeysMessage, Replies};
 
 // The cell after a line, and where the answer ends in the lent room.
 pub struct Replied {
@@ -45,6 +47,23 @@ fn put_echo(out: &mut [u8], line: &[u8]) -> usize
     text::put_byte(out, end, b'\n')
 }
 
+// Puts what was lacking behind the number of a refused selection: the first candidate's ID and the part.
+fn put_lack(out: &mut [u8], at: usize, choice: Choice, id: [u8; 6]) -> usize
+    ensures { λ r. ⌜ Written (now (out .entry)) at (lackText choice id) (now (out .exit)) r ⌝ }
+{
+    match choice {
+        Choice::Job => at,
+        Choice::NoPlace => at,
+        Choice::NoCandidates => at,
+        Choice::Lacks(part) => {
+            let space = text::put_byte(out, at, b' ');
+            let name = put::put_name(out, space, &id);
+            let next = text::put_byte(out, name, b' ');
+            shift_selected::put_part(out, next, part)
+        }
+    }
+}
+
 // Puts the line of a selection.
 fn put_selection(
     out: &mut [u8],
@@ -60,7 +79,13 @@ fn put_selection(
             let assigned = selection.assigned;
             shift_selected::put_selected(out, 0, selection.place, request, assigned, channels)
         }
-        Outcome::Refused(refusal) => shift_answers::put_refused(out, 0, refusal),
+        Outcome::Refused(refusal) => {
+            let choice = selection.choice;
+            let first = selection.first;
+            let number = shift_answers::put_no(out, 0, refusal);
+            let lack = put_lack(out, number, choice, first);
+            text::put_byte(out, lack, b'\n')
+        }
     }
 }
 

@@ -1,4 +1,4 @@
--- How long the line of a selection is at most: 4,938 bytes, if its numbers and its name are what their types let them
+-- How long the line of a job selected is at most: 4,938 bytes, if its numbers and its name are what their types let them
 -- be. A unit is given to one entry of a kind at most, so a kind's entries name 256 units at most, together. Assumes
 -- nothing.
 use Prim.Native.Nat.{ℕ, zero, suc, _+_, _*_, _-_, _/_, _%_, _^_, _≤_, _<_}
@@ -157,7 +157,7 @@ pub record InTypes (place : ℕ) (request : Request) (assigned : Assigned) : Typ
   pub db : (assigned .db < 2 ^ 32) × (request .facilities .db < 2 ^ 32)
   pub md : (assigned .drum < 2 ^ 32) × (request .facilities .md < 2 ^ 32)
 
--- every line of a selection has at most so many bytes
+-- every line of a job selected has at most so many bytes
 pub selected-bound : (place : ℕ) (request : Request) (assigned : Assigned) (channels : List Channel) → InTypes place request assigned
     → length (selectedText place request assigned channels) ≤ 4938
 selected-bound place request assigned channels t =

@@ -1,7 +1,6 @@
 -- The example of a selection's answer, computed: A1 asks for IB/2 and MT1/2 and gets blocks 2 and 3 and the first two
 -- units of channel 3. Assumes nothing.
 use mathlib.Core.Path.{_≡_, refl}
-use mathlib.Core.Bool.{true}
 use mathlib.Core.List.{List, []}
 use lib.ListN.{set, replicate}
 use Rattle.numbers.specs.Quoted.{byte, bytes}
@@ -45,7 +44,7 @@ unfoldable pub first : Head
 first = record { to = To (logical 1) }
 
 unfoldable pub given : Assigned
-given = record { found = true; ib = 2; db = 0; drum = 0; channels = []; heads = set (set (replicate 256 blank) 48 first) 49 first }
+given = record { ib = 2; db = 0; drum = 0; channels = []; heads = set (set (replicate 256 blank) 48 first) 49 first }
 
 pub selected-a1 : selectedText 0 a1 given channels ≡ bytes "ACK 0 A1 IB 2-3 MT1 03/00 03/01\n"
 unfolding a1 channels first given digitsText eachFrom givenText entryText asked askedText

@@ -1,4 +1,4 @@
--- What a selection answers: `ACK p id ` and the assignment.
+-- What a selection answers: `ACK p id ` and the assignment; and the word for a part that is lacking.
 use Prim.Native.Nat.{ℕ, _+_, _*_, _/_, _%_}
 use mathlib.Core.Bool.{Bool, false, cond, _&&_}
 use mathlib.Core.List.{List, [], _++_}
@@ -22,6 +22,8 @@ use Rattle.assign_heads.specs.declared.Given.{Given}
 use Rattle.assign_heads.specs.declared.Given.the-variants as G
 use Rattle.assign_heads.specs.declared.Head.{Head}
 use Rattle.assign.specs.declared.Assigned.{Assigned}
+use Rattle.assign.specs.declared.Part.{Part}
+use Rattle.assign.specs.declared.Part.the-variants.{Core, Drum, Units}
 use Rattle.shift_pieces.specs.Pieces.{unitText, spanText, each}
 
 -- a run of blocks or words behind its code, first and last, "if asked for"
@@ -85,3 +87,9 @@ selectedText place request assigned channels =
     ++ (spaceless (request .id)
     ++ (areasText (request .facilities) (assigned .ib) (assigned .db) (assigned .drum)
     ++ (kindsText (request .facilities .units) channels (assigned .heads) ++ bytes "\n")))))
+
+-- "`CORE`, `DRUM`, `MA`, `MT`, `PR`"
+abbrev pub partText : Part → List ℕ
+partText Core = bytes "CORE"
+partText Drum = bytes "DRUM"
+partText (Units kind) = codeOf kind

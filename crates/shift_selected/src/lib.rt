@@ -1,5 +1,6 @@
-// What a selection answers: the place, the job's ID and all that it was given.
+// What a selection answers: the place, the job's ID and all that it was given; and the word for a part that is lacking.
 use assign::Assigned;
+use assign::Part;
 use assign_heads::Given;
 use assign_heads::Head;
 use cards::Facilities;
@@ -14,7 +15,7 @@ use numbers::UnitNumber;
 ghost use mathlib.Core.Path.{_≡_};
 ghost use Rattle.text.specs.Room.{Written};
 ghost use Rattle.shift_selected.specs.Selected.{runText, isOfKind, isTo, givenText, unitsText, entryText};
-ghost use Rattle.shift_selected.specs.Selected.{asked, askedText, kindText, areasText, kindsText, selectedText};
+ghost use Rattle.shift_selected.specs.Selected.{asked, askedText, kindText, areasText, kindsText, selectedText, partText};
 
 // Puts a run of blocks or words behind its code, nothing where none is asked for.
 fn put_run(out: &mut [u8], at: usize, code: &[u8], first: u32, count: u32) -> usize
@@ -214,4 +215,18 @@ pub fn put_selected(
     let heads = assigned.heads;
     let kinds = put_kinds(out, areas, units, channels, heads);
     text::put_byte(out, kinds, b'\n')
+}
+
+// Puts the word for a part of an assignment.
+pub fn put_part(out: &mut [u8], at: usize, part: Part) -> usize
+    ensures { λ r. ⌜ Written (now (out .entry)) at (partText part) (now (out .exit)) r ⌝ }
+{
+    match part {
+        Part::Core => text::put_bytes(out, at, b"CORE"),
+        Part::Drum => text::put_bytes(out, at, b"DRUM"),
+        Part::Units(kind) => {
+            let code = numbers::code_of(kind);
+            text::put_bytes(out, at, &code)
+        }
+    }
 }

@@ -29,7 +29,7 @@ serve-requires : tie.Need-serve-requires Inv-loop μ-loop
 serve-requires c κs = search needs
 
 returns : tie.Need-returns Inv-loop μ-loop
-returns c = lacking (c .before .before .before .before .before .before .before .args .units .of) (c .before .before .before .before .before .before .before .args .channels) (c .before .before .before .before .before .before .before .args .asked) (omega arith) (c .before .before .before .before .before .before .loop .row) (c .before .before .before .before .before .loop-test .taken) (c .before .before .before .before .free-units .ensures) (c .before .before .before .wants-of .ensures) (lacking-so (c .before .before .before .before .free-units .result) (c .before .before .before .wants-of .result) (c .before .before .before .before .before .before .loop .heads) (c .before .before .serve .result) (not-true (c .before .before .serve .result .ok) (c .if1 .taken)) (c .before .before .serve .ensures))
+returns c = lacking (c .before .before .before .before .before .before .before .args .units .of) (c .before .before .before .before .before .before .before .args .channels) (c .before .before .before .before .before .before .before .args .asked) (omega arith) (c .before .before .before .before .before .before .loop .row) (c .before .before .before .before .before .loop-test .taken) (c .before .before .before .before .free-units .ensures) (c .before .before .before .wants-of .ensures) (lacking-so (c .before .before .before .before .free-units .result) (c .before .before .before .wants-of .result) (c .before .before .before .before .before .before .loop .heads) (c .before .before .serve .result) (not-true (c .before .before .serve .result .ok) (c .if1 .taken)) (c .before .before .serve .ensures)) (c .before .before .before .before .before .before .loop .inv)
 
 mul-chosen : tie.Need-mul-chosen Inv-loop μ-loop
 mul-chosen c = search needs

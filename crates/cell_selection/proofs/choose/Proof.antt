@@ -1,9 +1,8 @@
--- `cell_selection::choose` meets its contract. Assumes nothing.
+-- `cell_selection::choose` meets its contract: by what is picked among the candidates. Assumes nothing.
 use mathlib.Core.Path.{subst}
-use borrow.Author.Tests.{not-true, not-false}
 use Rattle.schedule_list.specs.InSchedule.{inSchedule}
 use Rattle.cell_taken.specs.Taken.{LowestFree}
-use Rattle.cell_selection.proofs.Walk.{refused-full, refused-none, selected}
+use Rattle.cell_selection.proofs.Walk.{refused-full, refused-none, refused-lacks, selected}
 use borrow.Author.Needs.{needs}
 use Rattle.cell_selection.proofs.choose.Statement.{statement}
 use Rattle.cell_selection.proofs.choose.Tie as tie
@@ -17,26 +16,38 @@ enum-known-place c = search needs
 enum-told : tie.Need-enum-told
 enum-told c = search needs
 
-none-selected-requires : tie.Need-none-selected-requires
-none-selected-requires c κs = search needs
+unselected-requires : tie.Need-unselected-requires
+unselected-requires c κs = search needs
 
 returns : tie.Need-returns
-returns c = refused-full (inSchedule (c .before .before .before .before .before .args .schedule)) (c .before .before .before .before .before .args .lists) (c .none-selected .result) (subst (LowestFree (c .before .before .before .before .before .args .lists .jobs)) (c .before .enum-told .given .1) (c .before .before .before .lowest-free .ensures)) (c .none-selected .ensures)
+returns c = refused-full (inSchedule (c .before .before .before .before .before .args .schedule)) (c .before .before .before .before .before .args .lists) (c .unselected .result) (subst (LowestFree (c .before .before .before .before .before .args .lists .jobs)) (c .before .enum-told .given .1) (c .before .before .before .lowest-free .ensures)) (c .unselected .ensures)
 
 picked-in-requires : tie.Need-picked-in-requires
 picked-in-requires c κs = search needs
 
-none-selected-requires-2 : tie.Need-none-selected-requires-2
-none-selected-requires-2 c κs = search needs
-
-returns-2 : tie.Need-returns-2
-returns-2 c = refused-none (inSchedule (c .before .before .before .before .before .before .before .before .before .args .schedule)) (c .before .before .before .before .before .before .before .before .before .args .lists) (c .before .before .before .picked-in .result) (c .none-selected2 .result) (not-true (c .before .before .before .picked-in .result .found) (c .before .if1 .taken)) (c .before .before .before .picked-in .ensures) (c .none-selected2 .ensures)
-
 entry-at-requires : tie.Need-entry-at-requires
 entry-at-requires c κs = search needs
 
+returns-2 : tie.Need-returns-2
+returns-2 c = selected (inSchedule (c .before .before .before .before .before .before .before .before .before .before .args .schedule)) (c .before .before .before .before .before .before .before .before .before .before .args .lists) (c .before .before .before .before .picked-in .result) (c .before .before .before .before .before .before .place .given .0 .0) (c .before .before .before .entry-at .result) (c .before .before .before .before .picked-in .ensures) (subst (LowestFree (c .before .before .before .before .before .before .before .before .before .before .args .lists .jobs)) (c .before .before .before .before .before .before .place .given .1) (c .before .before .before .before .before .before .before .before .lowest-free .ensures)) (c .before .before .before .entry-at .ensures) (c .before .if1 .taken)
+
+enum-told-2 : tie.Need-enum-told-2
+enum-told-2 c = search needs
+
+unselected-requires-2 : tie.Need-unselected-requires-2
+unselected-requires-2 c κs = search needs
+
+enum-known-lacking : tie.Need-enum-known-lacking
+enum-known-lacking c = search needs
+
+unselected-requires-3 : tie.Need-unselected-requires-3
+unselected-requires-3 c κs = search needs
+
 returns-3 : tie.Need-returns-3
-returns-3 c = selected (inSchedule (c .before .before .before .before .before .before .before .before .before .before .before .args .schedule)) (c .before .before .before .before .before .before .before .before .before .before .before .args .lists) (c .before .before .before .before .before .picked-in .result) (c .before .before .before .before .before .before .before .place .given .0 .0) (c .before .before .entry-at .result) (not-false (c .before .before .before .before .before .picked-in .result .found) (c .before .before .before .if1 .left)) (c .before .before .before .before .before .picked-in .ensures) (subst (LowestFree (c .before .before .before .before .before .before .before .before .before .before .before .args .lists .jobs)) (c .before .before .before .before .before .before .before .place .given .1) (c .before .before .before .before .before .before .before .before .before .lowest-free .ensures)) (c .before .before .entry-at .ensures)
+returns-3 c = refused-none (inSchedule (c .before .before .before .before .before .before .before .before .before .before .before .before .args .schedule)) (c .before .before .before .before .before .before .before .before .before .before .before .before .args .lists) (c .before .before .before .before .before .before .picked-in .result) (c .before .before .before .before .before .before .before .before .place .given .0 .0) (c .before .before .before .before .before .entry-at .result) (c .before .before .before .before .before .before .picked-in .ensures) (subst (LowestFree (c .before .before .before .before .before .before .before .before .before .before .before .before .args .lists .jobs)) (c .before .before .before .before .before .before .before .before .place .given .1) (c .before .before .before .before .before .before .before .before .before .before .lowest-free .ensures)) (c .before .before .before .before .before .entry-at .ensures) (c .before .before .before .if1 .left) (c .before .enum-told2 .given .1) (c .unselected2 .result) (c .unselected2 .ensures)
+
+returns-4 : tie.Need-returns-4
+returns-4 c = refused-lacks (inSchedule (c .before .before .before .before .before .before .before .before .before .before .before .before .before .before .args .schedule)) (c .before .before .before .before .before .before .before .before .before .before .before .before .before .before .args .lists) (c .before .before .before .before .before .before .before .before .picked-in .result) (c .before .before .before .before .before .before .before .before .before .before .place .given .0 .0) (c .before .before .before .before .before .before .before .entry-at .result) (c .before .before .before .before .before .before .before .before .picked-in .ensures) (subst (LowestFree (c .before .before .before .before .before .before .before .before .before .before .before .before .before .before .args .lists .jobs)) (c .before .before .before .before .before .before .before .before .before .before .place .given .1) (c .before .before .before .before .before .before .before .before .before .before .before .before .lowest-free .ensures)) (c .before .before .before .before .before .before .before .entry-at .ensures) (c .before .before .before .before .before .if1 .left) (c .before .before .before .lacking .given .0 .0) (c .before .before .before .lacking .given .1) (c .unselected3 .result) (c .unselected3 .ensures)
 
 pub choose-spec : {M : Type 1} → statement M
 choose-spec =
@@ -45,10 +56,14 @@ choose-spec =
     lowest-free-requires
     enum-known-place
     enum-told
-    none-selected-requires
+    unselected-requires
     returns
     picked-in-requires
-    none-selected-requires-2
-    returns-2
     entry-at-requires
-    returns-3)
+    returns-2
+    enum-told-2
+    unselected-requires-2
+    enum-known-lacking
+    unselected-requires-3
+    returns-3
+    returns-4)

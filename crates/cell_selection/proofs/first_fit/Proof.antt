@@ -1,22 +1,23 @@
--- `cell_selection::first_fit` meets its contract: the loop keeps that the candidates so far have no assignment.
--- Assumes nothing.
-use Prim.Native.Nat.{_-_}
-use mathlib.Core.Path.{refl, sym, _∙_}
+-- `cell_selection::first_fit` meets its contract: the loop keeps that the candidates so far have no assignment, and
+-- what the first of them lacks. Assumes nothing.
+use Prim.Native.Nat.{_+_, _-_}
+use mathlib.Core.Path.{sym, subst, _∙_}
 use mathlib.Core.Logic.{⊎-elim}
 use native.Mathlib.Omega.{arith}
 use lib.ListN.{take}
 use Rattle.schedule_list.proofs.Full.{full}
 use Rattle.assign.specs.Assignment.{cellOf}
-use Rattle.cell_selection.proofs.Walk.{Walked, told, few, walk-start, walk-found, walk-none, walk-past, walk-end}
+use Rattle.cell_selection.specs.declared.Noted.{Noted}
+use Rattle.cell_selection.proofs.Walk.{Walked, told, few, walk-start, walk-found, walk-next, walk-on, walk-end}
 use borrow.Author.Needs.{needs}
 use Rattle.cell_selection.proofs.first_fit.Statement.{statement}
 use Rattle.cell_selection.proofs.first_fit.Tie as tie
 
 abbrev Inv-loop : tie.InvT-loop
-Inv-loop units occupancy areas channels n may list counts drum k₀ k = Walked (take n list) (cellOf (units .of) occupancy areas channels) k
+Inv-loop units occupancy areas channels n may list counts drum so-far₀ k₀ so-far k = Walked (take n list) (cellOf (units .of) occupancy areas channels) (so-far .lacking) (so-far .at) k
 
 abbrev μ-loop : tie.MeasureT-loop
-μ-loop units occupancy areas channels n may list counts drum k₀ k = n - k
+μ-loop units occupancy areas channels n may list counts drum so-far₀ k₀ so-far k = n - k
 
 size-requires : tie.Need-size-requires Inv-loop μ-loop
 size-requires c κs = search needs
@@ -45,14 +46,23 @@ array-copy-out-entry c = omega (arith, few (c .before .before .before .before .b
 first-lacking-requires : tie.Need-first-lacking-requires Inv-loop μ-loop
 first-lacking-requires c κs = search needs
 
-is-nothing-requires : tie.Need-is-nothing-requires Inv-loop μ-loop
-is-nothing-requires c κs = search needs
+enum-known-lacking : tie.Need-enum-known-lacking Inv-loop μ-loop
+enum-known-lacking c = search needs
+
+enum-told : tie.Need-enum-told Inv-loop μ-loop
+enum-told c = search needs
 
 assign-requires : tie.Need-assign-requires Inv-loop μ-loop
 assign-requires c κs = search needs
 
+picked-requires : tie.Need-picked-requires Inv-loop μ-loop
+picked-requires c κs = search needs
+
 returns : tie.Need-returns Inv-loop μ-loop
-returns c = walk-found (c .before .before .before .before .before .before .before .before .before .before .before .before .before .before .before .args .schedule) (full (c .before .before .before .before .before .before .before .before .before .before .before .before .before .before .before .args .schedule) _ (c .before .before .before .before .before .before .before .before .before .before .before .before .before .before .before .good .0)) (c .before .before .before .before .before .before .before .before .before .before .before .before .before .before .size .ensures) (c .before .before .before .before .before .before .before .before .before .before .before .before .before .all .ensures) (cellOf (c .before .before .before .before .before .before .before .before .before .before .before .before .before .before .before .args .units .of) (c .before .before .before .before .before .before .before .before .before .before .before .before .before .before .before .args .occupancy) (c .before .before .before .before .before .before .before .before .before .before .before .before .before .before .before .args .areas) (c .before .before .before .before .before .before .before .before .before .before .before .before .before .before .before .args .channels)) _ (c .assign .result) (c .before .before .before .first-lacking .result) (c .before .before .before .before .before .before .before .before .before .loop .inv) (omega arith) (c .before .before .before .before .before .before .before .if1 .taken) (told (c .before .before .before .before .before .before .before .before .before .before .before .before .before .before .before .args .units .of) (c .before .before .before .before .before .before .before .before .before .before .before .before .before .before .before .args .occupancy) (c .before .before .before .before .before .before .before .before .before .before .before .before .before .before .before .args .areas) (c .before .before .before .before .before .before .before .before .before .before .before .before .before .before .before .args .channels) _ (c .before .before .before .before .before .before .before .before .before .before .before .count .result .of) (c .before .before .before .first-lacking .result) (omega (arith, c .before .before .before .before .before .before .before .before .before .before .before .before .before .before .before .good)) (c .before .before .before .before .before .before .before .before .before .before .before .count .ensures) (c .before .before .before .before .before .before .before .before .before .before .drum-length .ensures) (c .before .before .before .first-lacking .ensures)) (sym (c .before .before .is-nothing .ensures) ∙ c .before .if2 .taken) (c .assign .ensures)
+returns c = walk-found (c .before .before .before .before .before .before .before .before .before .before .before .before .before .before .before .before .args .schedule) (full (c .before .before .before .before .before .before .before .before .before .before .before .before .before .before .before .before .args .schedule) _ (c .before .before .before .before .before .before .before .before .before .before .before .before .before .before .before .before .good .0)) (c .before .before .before .before .before .before .before .before .before .before .before .before .before .before .before .size .ensures) (c .before .before .before .before .before .before .before .before .before .before .before .before .before .before .all .ensures) (cellOf (c .before .before .before .before .before .before .before .before .before .before .before .before .before .before .before .before .args .units .of) (c .before .before .before .before .before .before .before .before .before .before .before .before .before .before .before .before .args .occupancy) (c .before .before .before .before .before .before .before .before .before .before .before .before .before .before .before .before .args .areas) (c .before .before .before .before .before .before .before .before .before .before .before .before .before .before .before .before .args .channels)) (c .before .before .before .before .before .before .before .before .before .before .loop .so-far) (c .before .before .before .before .before .before .before .before .before .before .loop .inv) (omega arith) _ (c .before .before .before .before .before .before .before .before .if1 .taken) (told (c .before .before .before .before .before .before .before .before .before .before .before .before .before .before .before .before .args .units .of) (c .before .before .before .before .before .before .before .before .before .before .before .before .before .before .before .before .args .occupancy) (c .before .before .before .before .before .before .before .before .before .before .before .before .before .before .before .before .args .areas) (c .before .before .before .before .before .before .before .before .before .before .before .before .before .before .before .before .args .channels) _ (c .before .before .before .before .before .before .before .before .before .before .before .before .count .result .of) (omega (arith, c .before .before .before .before .before .before .before .before .before .before .before .before .before .before .before .before .good)) (c .before .before .before .before .before .before .before .before .before .before .before .before .count .ensures) (c .before .before .before .before .before .before .before .before .before .before .before .drum-length .ensures) (c .before .before .before .before .first-lacking .ensures) (c .before .before .enum-told .given .1)) (c .before .assign .result) (c .before .assign .ensures) (c .picked .result) (c .picked .ensures)
+
+note-requires : tie.Need-note-requires Inv-loop μ-loop
+note-requires c κs = search needs
 
 add-k : tie.Need-add-k Inv-loop μ-loop
 add-k c = search needs
@@ -61,13 +71,13 @@ loop-less : tie.Need-loop-less Inv-loop μ-loop
 loop-less c = search needs
 
 loop-again : tie.Need-loop-again Inv-loop μ-loop
-loop-again c = ⊎-elim (λ w. walk-none (c .before .before .before .before .before .before .before .before .args .schedule) (full (c .before .before .before .before .before .before .before .before .args .schedule) _ (c .before .before .before .before .before .before .before .before .good .0)) (c .before .before .before .before .before .before .before .size .ensures) (c .before .before .before .before .before .before .all .ensures) (cellOf (c .before .before .before .before .before .before .before .before .args .units .of) (c .before .before .before .before .before .before .before .before .args .occupancy) (c .before .before .before .before .before .before .before .before .args .areas) (c .before .before .before .before .before .before .before .before .args .channels)) _ (w .4 .result) (c .before .before .loop .inv) (omega arith) (told (c .before .before .before .before .before .before .before .before .args .units .of) (c .before .before .before .before .before .before .before .before .args .occupancy) (c .before .before .before .before .before .before .before .before .args .areas) (c .before .before .before .before .before .before .before .before .args .channels) _ (c .before .before .before .before .count .result .of) (w .4 .result) (omega arith) (c .before .before .before .before .count .ensures) (c .before .before .before .drum-length .ensures) (w .4 .ensures)) (sym (w .5 .ensures) ∙ w .6 .left)) (λ w. walk-past (c .before .before .before .before .before .before .before .before .args .schedule) (full (c .before .before .before .before .before .before .before .before .args .schedule) _ (c .before .before .before .before .before .before .before .before .good .0)) (c .before .before .before .before .before .before .before .size .ensures) (c .before .before .before .before .before .before .all .ensures) (cellOf (c .before .before .before .before .before .before .before .before .args .units .of) (c .before .before .before .before .before .before .before .before .args .occupancy) (c .before .before .before .before .before .before .before .before .args .areas) (c .before .before .before .before .before .before .before .before .args .channels)) (c .before .before .loop .inv) (omega arith) (w .left)) (c .if1 .came)
+loop-again c = ⊎-elim (λ w. walk-next (c .before .before .before .before .before .before .before .before .args .schedule) (full (c .before .before .before .before .before .before .before .before .args .schedule) _ (c .before .before .before .before .before .before .before .before .good .0)) (c .before .before .before .before .before .before .before .size .ensures) (c .before .before .before .before .before .before .all .ensures) (cellOf (c .before .before .before .before .before .before .before .before .args .units .of) (c .before .before .before .before .before .before .before .before .args .occupancy) (c .before .before .before .before .before .before .before .before .args .areas) (c .before .before .before .before .before .before .before .before .args .channels)) (c .before .before .loop .so-far) (c .before .before .loop .inv) (omega arith) _ (w .0 .taken) (w .6 .given .0 .0) (told (c .before .before .before .before .before .before .before .before .args .units .of) (c .before .before .before .before .before .before .before .before .args .occupancy) (c .before .before .before .before .before .before .before .before .args .areas) (c .before .before .before .before .before .before .before .before .args .channels) _ (c .before .before .before .before .count .result .of) (omega arith) (c .before .before .before .before .count .ensures) (c .before .before .before .drum-length .ensures) (w .4 .ensures) (w .6 .given .1)) (c .if1 .so-far) (w .9 ∙ w .8 .ensures)) (λ w. subst (λ (x : Noted). Walked (take (c .before .before .before .before .before .before .before .size .result) (c .before .before .before .before .before .before .before .before .args .schedule .entries)) (cellOf (c .before .before .before .before .before .before .before .before .args .units .of) (c .before .before .before .before .before .before .before .before .args .occupancy) (c .before .before .before .before .before .before .before .before .args .areas) (c .before .before .before .before .before .before .before .before .args .channels)) (x .lacking) (x .at) (c .before .before .loop .k + 1)) (sym (w .1)) (walk-on (c .before .before .before .before .before .before .before .before .args .schedule) (full (c .before .before .before .before .before .before .before .before .args .schedule) _ (c .before .before .before .before .before .before .before .before .good .0)) (c .before .before .before .before .before .before .before .size .ensures) (c .before .before .before .before .before .before .all .ensures) (cellOf (c .before .before .before .before .before .before .before .before .args .units .of) (c .before .before .before .before .before .before .before .before .args .occupancy) (c .before .before .before .before .before .before .before .before .args .areas) (c .before .before .before .before .before .before .before .before .args .channels)) (c .before .before .loop .so-far) (c .before .before .loop .inv) (omega arith) (w .0 .left))) (c .if1 .came)
 
-nothing-requires : tie.Need-nothing-requires Inv-loop μ-loop
-nothing-requires c κs = search needs
+none-picked-requires : tie.Need-none-picked-requires Inv-loop μ-loop
+none-picked-requires c κs = search needs
 
 returns-2 : tie.Need-returns-2 Inv-loop μ-loop
-returns-2 c = (walk-end (c .before .before .before .before .before .before .before .before .args .schedule) (full (c .before .before .before .before .before .before .before .before .args .schedule) _ (c .before .before .before .before .before .before .before .before .good .0)) (c .before .before .before .before .before .before .before .size .ensures) (c .before .before .before .before .before .before .all .ensures) (cellOf (c .before .before .before .before .before .before .before .before .args .units .of) (c .before .before .before .before .before .before .before .before .args .occupancy) (c .before .before .before .before .before .before .before .before .args .areas) (c .before .before .before .before .before .before .before .before .args .channels)) (c .before .before .loop .inv) (omega arith), (refl, c .nothing .ensures))
+returns-2 c = walk-end (c .before .before .before .before .before .before .before .before .args .schedule) (full (c .before .before .before .before .before .before .before .before .args .schedule) _ (c .before .before .before .before .before .before .before .before .good .0)) (c .before .before .before .before .before .before .before .size .ensures) (c .before .before .before .before .before .before .all .ensures) (cellOf (c .before .before .before .before .before .before .before .before .args .units .of) (c .before .before .before .before .before .before .before .before .args .occupancy) (c .before .before .before .before .before .before .before .before .args .areas) (c .before .before .before .before .before .before .before .before .args .channels)) (c .before .before .loop .so-far) (c .before .before .loop .inv) (omega arith) (c .none-picked .result) (c .none-picked .ensures)
 
 pub first-fit-spec : {M : Type 1} → statement M
 first-fit-spec =
@@ -84,11 +94,14 @@ first-fit-spec =
     mul-entry
     array-copy-out-entry
     first-lacking-requires
-    is-nothing-requires
+    enum-known-lacking
+    enum-told
     assign-requires
+    picked-requires
     returns
+    note-requires
     add-k
     loop-less
     loop-again
-    nothing-requires
+    none-picked-requires
     returns-2)

@@ -1,4 +1,6 @@
--- `shift_reply::put_selection` meets its contract. Assumes nothing.
+-- `shift_reply::put_selection` meets its contract: what was selected, or the number and what was lacking. Assumes
+-- nothing.
+use Rattle.text.proofs.RoomLaws.{andThen}
 use borrow.Author.Needs.{needs}
 use Rattle.shift_reply.proofs.put_selection.Statement.{statement}
 use Rattle.shift_reply.proofs.put_selection.Tie as tie
@@ -12,8 +14,14 @@ put-selected-requires c κs = search needs
 enum-known-outcome : tie.Need-enum-known-outcome
 enum-known-outcome c = search needs
 
-put-refused-requires : tie.Need-put-refused-requires
-put-refused-requires c κs = search needs
+put-no-requires : tie.Need-put-no-requires
+put-no-requires c κs = search needs
+
+put-lack-requires : tie.Need-put-lack-requires
+put-lack-requires c κs = search needs
+
+put-byte-requires : tie.Need-put-byte-requires
+put-byte-requires c κs = search needs
 
 same-length : tie.Need-same-length
 same-length c = search needs
@@ -25,7 +33,7 @@ same-length-2 : tie.Need-same-length-2
 same-length-2 c = search needs
 
 returns-2 : tie.Need-returns-2
-returns-2 c = rw (c .before .before .before .before .before .outcome .given .1) (c .before .before .put-refused .ensures)
+returns-2 c = rw (c .before .before .before .before .before .before .before .before .before .before .before .before .before .before .outcome .given .1) (andThen (c .before .before .before .before .before .before .before .before .before .before .put-no .ensures) (andThen (c .before .before .before .before .before .before .put-lack .ensures) (c .before .before .put-byte .ensures)))
 
 pub put-selection-spec : {M : Type 1} → statement M
 put-selection-spec =
@@ -34,7 +42,9 @@ put-selection-spec =
     enum-told
     put-selected-requires
     enum-known-outcome
-    put-refused-requires
+    put-no-requires
+    put-lack-requires
+    put-byte-requires
     same-length
     returns
     same-length-2

@@ -1,0 +1,37 @@
+-- THE THEOREM: an assignment exists exactly when nothing is lacking. In an assignment each part has a solution; and
+-- where each has one, the assigner's answer is an assignment. Assumes nothing.
+use mathlib.Core.Path.{_≡_}
+use lib.ListN.{length}
+use Rattle.cards.specs.Requests.{counts}
+use Rattle.cards.specs.declared.Facilities.{Facilities}
+use Rattle.assign.specs.declared.Assigned.{Assigned}
+use Rattle.assign.specs.declared.Lacking.{Lacking}
+use Rattle.assign.specs.declared.Lacking.the-variants as Lacking
+use Rattle.assign.specs.declared.Provision.{Provision}
+use Rattle.assign.specs.Assignment.{Cell, IsAssignment}
+use Rattle.assign.specs.Parts.{parts, FirstLacking, Has}
+use Rattle.assign.specs.Chosen.{Answer, Assigns, Chosen, ExistsExactly}
+use Rattle.assign.proofs.FirstLaws.{first-one, not-nothing}
+use Rattle.assign.proofs.ChosenLaws.{all-there}
+use Rattle.assign.proofs.Computed.{assignOf, assign-answers}
+
+module _ (cell : Cell) (wanted : Facilities) where
+  -- where there is an assignment nothing is lacking
+  pub exists-only : (b : Assigned) → IsAssignment cell wanted b → FirstLacking cell wanted Lacking.Nothing
+  exists-only = all-there cell wanted
+
+  -- where nothing is lacking the assigner's answer is the chosen assignment
+  pub chosen-when : FirstLacking cell wanted Lacking.Nothing → (r : Provision) → Assigns cell wanted r → Chosen cell wanted (r .assigned)
+  chosen-when f r = by-answer (r .lacking)
+    where
+      by-answer : (l : Lacking) → Answer l cell wanted (r .assigned) → Chosen cell wanted (r .assigned)
+      by-answer Lacking.Nothing p = p
+      by-answer (Lacking.First x) p = absurd (not-nothing (first-one (Has cell wanted) parts Lacking.Nothing (Lacking.First x) f (p .0)))
+
+  -- so there is an assignment
+  pub exists-when : length (cell .channels) ≡ 16 → length (wanted .units) ≡ counts → FirstLacking cell wanted Lacking.Nothing
+      → (b : Assigned) × IsAssignment cell wanted b
+  exists-when size full f = (assignOf cell wanted .assigned, chosen-when f (assignOf cell wanted) (assign-answers cell wanted size full) .is)
+
+pub exists-exactly : ExistsExactly
+exists-exactly = record { only = exists-only; when = exists-when }

@@ -1,0 +1,59 @@
+-- The parts of an assignment, each alone, and the first that is lacking. A reader has to believe this page.
+use Prim.Native.Nat.{ℕ}
+use mathlib.Core.Path.{_≡_}
+use mathlib.Core.List.{List, [], _∷_}
+use mathlib.Core.Logic.{_⊎_}
+use Rattle.numbers.specs.Kinds.{rowOf}
+use Rattle.numbers.specs.declared.Kind.the-variants.{Ma, Mt, Pr}
+use Rattle.assign_core.specs.Core as Cores
+use Rattle.assign_drum.specs.Drum as Drums
+use Rattle.assign_drum.specs.declared.Area.{Area}
+use Rattle.assign_channels.specs.Choice.{want}
+use Rattle.assign_heads.specs.declared.Given.{Given}
+use Rattle.assign_heads.specs.Heads.{Served}
+use Rattle.cards.specs.declared.Facilities.{Facilities}
+use Rattle.assign.specs.declared.Lacking.{Lacking}
+use Rattle.assign.specs.declared.Lacking.the-variants.{Nothing, First}
+use Rattle.assign.specs.declared.Part.{Part}
+use Rattle.assign.specs.declared.Part.the-variants.{Core, Drum, Units}
+use Rattle.assign.specs.Assignment.{Cell, drumLength, wantsOf, freeOf}
+
+-- core: a pair of starts fits
+pub record HasCore (occupancy : ℕ) (wanted : Facilities) : Type 0 where
+  pub ib : ℕ
+  pub db : ℕ
+  pub fits : Cores.Fits occupancy (wanted .ib) (wanted .db) ib db
+
+-- drum: a start fits
+pub record HasDrum (areas : List Area) (length : ℕ) (wanted : Facilities) : Type 0 where
+  pub start : ℕ
+  pub fits : Drums.Fits areas length (wanted .md) start
+
+-- a kind: its entries are served in some way, whatever the other kinds
+pub record HasKind (cell : Cell) (wanted : Facilities) (row : ℕ) : Type 0 where
+  pub on : ℕ → ℕ
+  pub to : ℕ → Given
+  pub served : Served (freeOf cell row) (want (wantsOf (wanted .units) row)) on to
+
+-- a part alone has a solution in this cell; it is lacking where it has none
+abbrev pub Has : Cell → Facilities → Part → Type 0
+Has cell wanted Core = HasCore (cell .occupancy) wanted
+Has cell wanted Drum = HasDrum (cell .areas) (drumLength (cell .channels)) wanted
+Has cell wanted (Units kind) = HasKind cell wanted (rowOf kind)
+
+-- the kinds that have units, as parts
+abbrev pub kinds : List Part
+kinds = Units Ma ∷ Units Mt ∷ Units Pr ∷ []
+
+-- the parts "in the order core, drum, MA, MT, PR"
+abbrev pub parts : List Part
+parts = Core ∷ Drum ∷ kinds
+
+-- the first of some parts that is not there; nothing is lacking where all are
+abbrev pub FirstOf : (Part → Type 0) → List Part → Lacking → Type 0
+FirstOf has [] r = r ≡ Nothing
+FirstOf has (p ∷ ps) r = ((has p → ⊥) × (r ≡ First p)) ⊎ (has p × FirstOf has ps r)
+
+-- what is lacking first in this cell for what a job asks for
+abbrev pub FirstLacking : Cell → Facilities → Lacking → Type 0
+FirstLacking cell wanted r = FirstOf (Has cell wanted) parts r
