@@ -192,6 +192,7 @@ RT
     cat <<'RT'
 // Functions of the proved crates under plain names, for a harness.
 use cell::Cell;
+use cell_selection::Choice;
 use cell_selection::Taking;
 use lists::StatusAnswer;
 use numbers::ChannelNumber;
@@ -275,7 +276,13 @@ fn enters(schedule: Schedule, deck: &[u8], room: &mut [u8; 53248]) -> bool {
 fn finds(schedule: Schedule, lists: Lists) -> bool {
     let taking = cell_selection::select(schedule, lists);
     let selection = taking.selection;
-    selection.found
+    let choice = selection.choice;
+    match choice {
+        Choice::Job => true,
+        Choice::NoPlace => false,
+        Choice::NoCandidates => false,
+        Choice::Lacks(_) => false,
+    }
 }
 
 RT

@@ -109,9 +109,12 @@ pub fn finished(random: &mut Random, style: Style, groups: usize) -> Vec<u8> {
 
 /// A deck that ends with its termination card.
 pub fn for_script(random: &mut Random, style: Style, groups: usize) -> Vec<u8> {
-    let mut deck = requests(random, style, groups);
-    deck.extend(TERMINATION);
-    deck
+    terminated(&requests(random, style, groups))
+}
+
+/// Cards with the termination card behind them.
+pub fn terminated(cards: &[u8]) -> Vec<u8> {
+    [cards, TERMINATION].concat()
 }
 
 /// A deck for a shift script of any kind, perhaps too long, always with a termination card in the end.

@@ -8,6 +8,7 @@
 
 mod configurations;
 mod decks;
+mod lacks;
 mod messages;
 mod programs;
 mod random;
@@ -172,6 +173,7 @@ fn sort_of(subject: Subject, line: &[u8]) -> String {
         },
         (Subject::Listing, _) => "channel listed".into(),
         (Subject::Shift, ["NO", number]) => format!("refusal {number:0>2}"),
+        (Subject::Shift, ["NO", number, _, lacking]) => format!("refusal {number:0>2} for {lacking}"),
         (Subject::Shift, ["ACK"]) => "accepted".into(),
         (Subject::Shift, ["ACK", "ENDED", code]) => format!("status ended {code}"),
         (Subject::Shift, ["ACK", word @ ("BLANK" | "LISTED" | "MOVING" | "STOPPING")]) => format!("status {word}"),

@@ -1,7 +1,7 @@
 //! Random shift scripts. A shift of the ordinary implementation runs beside, so that most calls make sense in the
 //! state they meet.
 
-use ordinary::cell::{Job, PacketName, Status};
+use ordinary::cell::{Job, PacketName, Status, PLACES};
 use ordinary::configuration::{Channel, Configuration, DRUM_START};
 use ordinary::functions::{self, REMOVE_INTERLOCK, TERMINATE};
 use ordinary::numbers::{ChannelNumber, Kind};
@@ -10,6 +10,7 @@ use ordinary::shift::Shift;
 
 use crate::configurations;
 use crate::decks::{self, Reach, Style};
+use crate::lacks;
 use crate::messages;
 use crate::random::{damage, Random, ODD_BYTES};
 
@@ -35,9 +36,11 @@ enum Sort {
     Status,
     Board,
     Noise,
+    /// Requests for a little more than is free, and a selection.
+    More,
 }
 
-const SORTS: [Sort; 12] = [
+const SORTS: [Sort; 13] = [
     Sort::Deck,
     Sort::Select,
     Sort::Submit,
@@ -50,19 +53,20 @@ const SORTS: [Sort; 12] = [
     Sort::Status,
     Sort::Board,
     Sort::Noise,
+    Sort::More,
 ];
 
-const WEIGHTS: &[[usize; 12]] = &[
+const WEIGHTS: &[[usize; 13]] = &[
     // An ordinary day.
-    [3, 10, 35, 18, 17, 4, 3, 3, 6, 4, 2, 1],
+    [3, 10, 35, 18, 17, 4, 3, 3, 6, 4, 2, 1, 2],
     // Long request lists.
-    [2, 6, 80, 3, 3, 1, 1, 1, 3, 2, 1, 0],
+    [2, 6, 80, 3, 3, 1, 1, 1, 3, 2, 1, 0, 1],
     // Many short jobs.
-    [8, 25, 15, 10, 10, 18, 4, 5, 6, 3, 2, 0],
+    [8, 25, 15, 10, 10, 18, 4, 5, 6, 3, 2, 0, 3],
     // A full schedule and full places.
-    [15, 20, 20, 8, 8, 1, 6, 8, 7, 4, 2, 1],
+    [15, 20, 20, 8, 8, 1, 6, 8, 7, 4, 2, 1, 3],
     // Failures and marks.
-    [3, 10, 30, 20, 22, 4, 8, 1, 6, 1, 2, 0],
+    [3, 10, 30, 20, 22, 4, 8, 1, 6, 1, 2, 0, 2],
 ];
 
 struct Writer<'r> {
@@ -149,7 +153,8 @@ impl Writer<'_> {
                 Sort::End => cell.jobs().any(|(_, job)| job.end.is_none()),
                 Sort::Start => cell.listed().any(|(channel, _)| cell.moving(channel).is_none()),
                 Sort::Complete => ChannelNumber::all().any(|channel| cell.moving(channel).is_some()),
-                Sort::Select => cell.clone().select().is_ok(),
+                // Why nothing is selected is worth asking too.
+                Sort::Select => cell.clone().select().is_ok() || self.random.percent(10),
                 Sort::Deck => cell.schedule().requests().len() < 64,
                 _ => true,
             };
@@ -185,8 +190,40 @@ impl Writer<'_> {
             }
             Sort::Board => b"BOARD\n".to_vec(),
             Sort::Noise => self.noise(),
+            Sort::More => return self.ask_for_more(),
         };
         self.push(piece);
+    }
+
+    /// Requests for a little more than is free, a selection, and mostly they are deleted again.
+    fn ask_for_more(&mut self) {
+        // With all places held requests pile up: that no place is free comes before that nothing waits.
+        if self.shift.cell().jobs().count() == PLACES && self.random.percent(20) {
+            return self.leave_none_waiting();
+        }
+        let (deck, ids) = lacks::deck(self.random, self.shift.cell());
+        self.push([b"DECK\n", &deck[..]].concat());
+        self.push(b"SELECT\n".to_vec());
+        for id in ids {
+            if self.random.percent(80) {
+                self.push(format!("DELETE {id}\n").into_bytes());
+            }
+            // What was behind it, or in its way, may be named now.
+            if self.random.percent(30) {
+                self.push(b"SELECT\n".to_vec());
+            }
+        }
+    }
+
+    /// Deletes all requests that wait, and selects.
+    fn leave_none_waiting(&mut self) {
+        let requests = self.shift.cell().schedule().requests().iter();
+        let waiting = requests.filter(|scheduled| scheduled.state == State::Waiting);
+        let deletions: Vec<String> = waiting.map(|waiting| format!("DELETE {}\n", waiting.request.id)).collect();
+        for deletion in deletions {
+            self.push(deletion.into_bytes());
+        }
+        self.push(b"SELECT\n".to_vec());
     }
 
     fn push(&mut self, piece: Vec<u8>) {

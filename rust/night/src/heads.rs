@@ -242,8 +242,8 @@ mod tests {
 
     const CONFIGURATION: &[u8] = b"2\n03 MT 4\n07 MD 40000\n0\n";
 
-    /// The heads that are down after these calls with their answers.
-    fn down(calls: &[(&[u8], &str)]) -> Vec<HeadName> {
+    /// The heads after these calls with their answers.
+    fn after(calls: &[(&[u8], &str)]) -> Heads {
         let mut heads = Heads::fresh(CONFIGURATION).unwrap();
         for (line, answer) in calls {
             let call = Call { text: [line, &b"\n"[..]].concat(), open: false };
@@ -251,7 +251,26 @@ mod tests {
             assert!(!answered.call.is_none(format!("{answer}\n").as_bytes()));
             heads.hear(&answered);
         }
-        heads.heads.iter().filter(|(_, head)| head.down).map(|(name, _)| *name).collect()
+        heads
+    }
+
+    /// Those that are down.
+    fn down(calls: &[(&[u8], &str)]) -> Vec<HeadName> {
+        after(calls).heads.iter().filter(|(_, head)| head.down).map(|(name, _)| *name).collect()
+    }
+
+    #[test]
+    fn a_selection_that_is_refused_gives_no_head_to_anybody() {
+        let taken = (&b"SELECT"[..], "ACK 0 A1 IB 2-3 MT1 03/00 03/01");
+        let heads = after(&[taken]);
+        // Whatever the ID is, it is no assignment.
+        for answer in ["NO 18", "NO 19", "NO 20 B CORE", "NO 20 0 DRUM", "NO 20 ACK MA", "NO 20 IB MT", "NO 20 MD PR"] {
+            let same = after(&[taken, (b"SELECT", answer)]);
+            assert_eq!((&same.heads, &same.jobs), (&heads.heads, &heads.jobs), "{answer}");
+            let none = after(&[(b"SELECT", answer)]);
+            assert!(none.heads.values().all(|head| *head == Head::default()), "{answer}");
+            assert!(none.jobs.iter().all(Option::is_none), "{answer}");
+        }
     }
 
     #[test]

@@ -218,7 +218,7 @@ mod tests {
 
     fn calls() -> Vec<Answered> {
         let mut calls = vec![
-            answered("SELECT\n", "NO 10\n"),
+            answered("SELECT\n", "NO 20 A1 CORE\n"),
             answered("DECK\n@ 1 0 0\n\n\u{e4}\n", "SP A ER 1\n------ SCH ACK\n"),
             answered("BOARD\n", "CORE\nEND OF BOARD\n"),
             answered("DECK\nX\n", "NO 11\n"),

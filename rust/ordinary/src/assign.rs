@@ -38,16 +38,40 @@ pub struct Assignment {
     pub units: Vec<Given>,
 }
 
-/// The assignment that is chosen for a request, if it has one.
-pub fn assign(request: &Request, free: &Free) -> Option<Assignment> {
-    let (ib, db) = core(request.asked(Code::Ib), request.asked(Code::Db), &free.core)?;
-    let drum = drum(request.asked(Code::Of(Kind::Md)), free)?;
+/// What a request may lack.
+#[derive(Clone, Copy, Debug, PartialEq, Eq)]
+pub enum Facility {
+    /// No run for IB, or none for DB beside it.
+    Core,
+    /// No area, or no drum at all.
+    Drum,
+    /// The entries of this kind have no assignment, whatever the other kinds.
+    Units(Kind),
+}
+
+impl Facility {
+    /// The word that people see.
+    pub fn word(self) -> &'static str {
+        match self {
+            Facility::Core => "CORE",
+            Facility::Drum => "DRUM",
+            Facility::Units(kind) => kind.letters(),
+        }
+    }
+}
+
+/// The assignment that is chosen for a request, or the first facility that is lacking for it. Core, drum and kinds do
+/// not depend on each other, so looking at them in the order in which they are named finds the first.
+pub fn assign(request: &Request, free: &Free) -> Result<Assignment, Facility> {
+    let (ib, db) = core(request.asked(Code::Ib), request.asked(Code::Db), &free.core).ok_or(Facility::Core)?;
+    let drum = drum(request.asked(Code::Of(Kind::Md)), free).ok_or(Facility::Drum)?;
     let mut units = Vec::new();
     for kind in Kind::WITH_UNITS {
         let entries: Vec<Entry> = request.units(kind).collect();
-        units.extend(units_of_kind(&entries, free.channels.iter().filter(|channel| channel.1 == kind))?);
+        let given = units_of_kind(&entries, free.channels.iter().filter(|channel| channel.1 == kind));
+        units.extend(given.ok_or(Facility::Units(kind))?);
     }
-    Some(Assignment { ib, db, drum, units })
+    Ok(Assignment { ib, db, drum, units })
 }
 
 /// The lowest IB start and, for it, the lowest DB start such that both runs are free and disjoint.

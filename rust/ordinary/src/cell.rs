@@ -2,7 +2,7 @@
 
 use std::ops::Range;
 
-use crate::assign::{assign, Assignment, Free, ASSIGNABLE_CORE};
+use crate::assign::{assign, Assignment, Facility, Free, ASSIGNABLE_CORE};
 use crate::configuration::{Channel, Configuration, DRUM_START};
 use crate::deck;
 use crate::functions::{self, REMOVE_INTERLOCK, TERMINATE};
@@ -88,6 +88,28 @@ pub struct Job {
 struct Place {
     job: Option<Job>,
     packets: [Packet; PACKETS],
+}
+
+/// Why nothing is selected; the first that holds.
+#[derive(Clone, Debug, PartialEq, Eq)]
+pub enum NoSelection {
+    NoPlace,
+    NoCandidate,
+    /// No candidate has an assignment: the first one's ID, and what is lacking for it first.
+    Lacking {
+        id: String,
+        facility: Facility,
+    },
+}
+
+impl NoSelection {
+    pub fn refusal(&self) -> Refusal {
+        match self {
+            NoSelection::NoPlace => Refusal::NoPlace,
+            NoSelection::NoCandidate => Refusal::NoCandidate,
+            NoSelection::Lacking { .. } => Refusal::Lacking,
+        }
+    }
 }
 
 /// A submission, with numbers as the caller gave them.
@@ -216,15 +238,11 @@ impl Cell {
     }
 
     /// Takes the first candidate with an assignment into the lowest free place.
-    pub fn select(&mut self) -> Result<(usize, &Job), Refusal> {
-        let place = self.places.iter().position(|place| place.job.is_none()).ok_or(Refusal::NothingSelected)?;
-        let free = self.free();
-        let chosen = self.schedule.candidates().find_map(|at| {
-            let request = &self.schedule.requests()[at].request;
-            Some((at, request.id.clone(), assign(request, &free)?))
-        });
-        let (at, id, assignment) = chosen.ok_or(Refusal::NothingSelected)?;
+    pub fn select(&mut self) -> Result<(usize, &Job), NoSelection> {
+        let place = self.places.iter().position(|place| place.job.is_none()).ok_or(NoSelection::NoPlace)?;
+        let (at, assignment) = self.first_that_fits()?;
 
+        let id = self.schedule.requests()[at].request.id.clone();
         self.schedule.set_state(at, State::Running(place));
         for (channel, unit) in assignment.units.iter().flat_map(|(_, units)| units) {
             let unit = &mut self.units[channel.index()][unit.index()];
@@ -233,6 +251,23 @@ impl Cell {
         }
         self.places[place].packets = Default::default();
         Ok((place, self.places[place].job.insert(Job { id, assignment, end: None })))
+    }
+
+    /// The position of the first candidate with an assignment, and the assignment that it gets.
+    fn first_that_fits(&self) -> Result<(usize, Assignment), NoSelection> {
+        let free = self.free();
+        let mut why = None;
+        for at in self.schedule.candidates() {
+            let request = &self.schedule.requests()[at].request;
+            match assign(request, &free) {
+                Ok(assignment) => return Ok((at, assignment)),
+                // A later candidate may still fit; if none does, the first one is named.
+                Err(facility) => {
+                    why.get_or_insert_with(|| NoSelection::Lacking { id: request.id.clone(), facility });
+                }
+            }
+        }
+        Err(why.unwrap_or(NoSelection::NoCandidate))
     }
 
     /// What is assignable now.

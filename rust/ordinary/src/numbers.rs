@@ -65,7 +65,7 @@ impl Kind {
     }
 }
 
-/// Why a call is refused, with the requirements' numbers.
+/// Why a call is refused, with the requirements' numbers. There is no 10 any more: 18, 19 and 20 say what it was.
 #[derive(Clone, Copy, Debug, PartialEq, Eq, PartialOrd, Ord)]
 #[repr(u8)]
 pub enum Refusal {
@@ -84,8 +84,6 @@ pub enum Refusal {
     NothingInProgress = 8,
     /// Cut for a packet that is not stopping, or a failure code that is none.
     BadCompletion = 9,
-    /// No place free, or no candidate has an assignment.
-    NothingSelected = 10,
     /// A deck that is too long or has no termination card.
     BadDeck = 11,
     /// A card over 80 characters, or too little room for it.
@@ -99,6 +97,12 @@ pub enum Refusal {
     RequestRuns = 16,
     /// An unknown message word, or text after the message's last field.
     UnknownMessage = 17,
+    /// A selection with all places held.
+    NoPlace = 18,
+    /// A selection with a place, but no candidate.
+    NoCandidate = 19,
+    /// A selection with candidates, none of which has an assignment.
+    Lacking = 20,
 }
 
 impl Refusal {

@@ -4,7 +4,7 @@
 use std::fmt::Write;
 
 use crate::assign::{Assignment, ASSIGNABLE_CORE, CORE};
-use crate::cell::{Cell, Completion, End, Job, Mark, PacketName, Status, Submission};
+use crate::cell::{Cell, Completion, End, Job, Mark, NoSelection, PacketName, Status, Submission};
 use crate::configuration::Configuration;
 use crate::deck::{self, DECK_LENGTH};
 use crate::numbers::{Refusal, UnitNumber};
@@ -162,7 +162,11 @@ impl Shift {
         let cell = &mut self.cell;
         let done = |()| "ACK\n".to_string();
         match call {
-            Call::Select => cell.select().map(|(place, job)| selected(place, job)),
+            // A selection's refusal says more than its number.
+            Call::Select => Ok(match cell.select() {
+                Ok((place, job)) => selected(place, job),
+                Err(why) => not_selected(&why),
+            }),
             Call::Submit(submission) => cell.submit(submission).map(done),
             Call::Start(channel) => cell.start(channel).map(|started| {
                 let PacketName { place, packet } = started.name;
@@ -219,6 +223,16 @@ pub fn bad_configuration(line: crate::configuration::BadLine) -> String {
 
 fn refused(refusal: Refusal) -> String {
     format!("NO {}\n", refusal.number())
+}
+
+/// The refusal of a selection; if a candidate waits for something, who and for what.
+fn not_selected(why: &NoSelection) -> String {
+    match why {
+        NoSelection::NoPlace | NoSelection::NoCandidate => refused(why.refusal()),
+        NoSelection::Lacking { id, facility } => {
+            format!("NO {} {id} {}\n", why.refusal().number(), facility.word())
+        }
+    }
 }
 
 /// `ACK p id ` and the assignment.

@@ -26,7 +26,7 @@ fn k9_a_unit_is_not_free_until_the_completion() {
     let calls = "SELECT\nSUBMIT 0 0 42 3 0\nSTART 3\nEND 0\nSELECT\nDONE 3\nSELECT\n";
     assert_eq!(
         answers(TAPES, &["IB/1,MT/6", "IB/1,MT/6"], calls),
-        "ACK 0 A IB 2-2 MT 03/00 03/01 03/02 03/03 05/00 05/01\nACK\nACK 0 0 42 0\nACK\nNO 10\nACK 0 0\n\
+        "ACK 0 A IB 2-2 MT 03/00 03/01 03/02 03/03 05/00 05/01\nACK\nACK 0 0 42 0\nACK\nNO 20 B MT\nACK 0 0\n\
          ACK 0 B IB 2-2 MT 03/00 03/01 03/02 03/03 05/00 05/01\n"
     );
 }
@@ -35,7 +35,7 @@ fn k9_a_unit_is_not_free_until_the_completion() {
 fn all_facilities_return_together_at_the_last_completion() {
     let calls = "SELECT\nSUBMIT 0 0 42 3 0\nSUBMIT 0 1 42 5 0\nSTART 3\nSTART 5\nEND 0\nCUT 5\nSELECT\nCUT 3\nSELECT\n";
     let answers = answers(TAPES, &["IB/1,MT/6", "IB/1,MT/2"], calls);
-    assert!(answers.ends_with("ACK\nACK 0 1\nNO 10\nACK 0 0\nACK 0 B IB 2-2 MT 03/00 03/01\n"), "{answers}");
+    assert!(answers.ends_with("ACK\nACK 0 1\nNO 20 B MT\nACK 0 0\nACK 0 B IB 2-2 MT 03/00 03/01\n"), "{answers}");
 }
 
 #[test]
@@ -52,7 +52,7 @@ fn a_serial_job_runs_alone() {
         format!("0\n0\n{deck}{TERMINATION}SELECT\nSELECT\nEND 0\nSELECT\nEND 1\nSELECT\nSELECT\nEND 0\nSELECT\n");
     assert_eq!(
         converse(input.as_bytes()),
-        b"C SCH ACK\nACK 0 A IB 2-2\nACK 1 C IB 3-3\nACK\nNO 10\nACK\nACK 0 B IB 2-2\nNO 10\nACK\nNO 10\n"
+        b"C SCH ACK\nACK 0 A IB 2-2\nACK 1 C IB 3-3\nACK\nNO 19\nACK\nACK 0 B IB 2-2\nNO 19\nACK\nNO 19\n"
     );
 }
 

@@ -37,5 +37,5 @@ fn listing() {
 
 #[test]
 fn shift() {
-    check("../../crates/cases_shift/data", 27, ordinary::shift::converse);
+    check("../../crates/cases_shift/data", 45, ordinary::shift::converse);
 }

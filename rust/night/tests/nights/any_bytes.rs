@@ -7,7 +7,7 @@ use crate::random::{damage, Random, ODD_BYTES};
 use crate::support::{script, Place};
 
 const CONFIGURATION: &[u8] = b"1\n03 MT 4\n0\n";
-const TERMINATION: &str = ")))))))) +++++++++++++                                                  ))))))))\n";
+pub const TERMINATION: &str = ")))))))) +++++++++++++                                                  ))))))))\n";
 
 fn bytes(random: &mut Random, most: usize) -> Vec<u8> {
     let length = random.below(most);

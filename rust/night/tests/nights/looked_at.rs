@@ -10,6 +10,7 @@ use ordinary::cell::{Cell, Status};
 use ordinary::numbers::{ChannelNumber, UnitNumber};
 use ordinary::shift::converse;
 
+use crate::any_bytes::TERMINATION;
 use crate::support::{script, Place, Script};
 
 /// The calls of a script as a journal has them.
@@ -164,6 +165,26 @@ fn messages_are_calls_and_their_marks_are_seen() {
 }
 
 #[test]
+fn the_journal_says_why_nothing_was_selected() {
+    const CONFIGURATION: &[u8] = b"1\n03 MT 4\n0\n";
+    let group = |id: &str, entries: &str| format!("{id},PTY,2,,P,,,M,P,A{},P,1.\n{id},FAC,{entries}.\n", &id[1..]);
+    let mut deck: Vec<String> = (0..16).map(|number| group(&format!("J{number}"), "IB/1")).collect();
+    deck.push(group("J16", "IB/1,MT1/5"));
+    deck.push(group("J17", "IB/28"));
+    let later = "END 3\nSELECT\nDELETE J16\nSELECT\nDELETE J17\nSELECT\n";
+    let input = format!("SELECT\nDECK\n{}{TERMINATION}{}{later}", deck.concat(), "SELECT\n".repeat(17));
+    let place = Place::new("why", CONFIGURATION);
+    assert_eq!(place.answers(input.as_bytes()), converse(&[CONFIGURATION, input.as_bytes()].concat())[..]);
+    let kept = night::store::look_at(&place.journal()).unwrap().calls;
+    let refused =
+        kept.iter().filter_map(|answered| answered.answer.line.as_deref()).filter(|line| line.starts_with(b"NO"));
+    let refused: Vec<&[u8]> = refused.collect();
+    assert_eq!(refused, [&b"NO 19\n"[..], b"NO 18\n", b"NO 20 J16 MT\n", b"NO 20 J17 CORE\n", b"NO 19\n"]);
+    // They are played back, and were answered the same.
+    assert!(place.answers(b"BOARD\n").starts_with(b"PLACE 0 J0 RUNS\n"));
+}
+
+#[test]
 fn the_night_of_the_readme_is_shown_and_looked_up() {
     let script = include_bytes!("../../../../examples/night.script");
     let cut = script.iter().position(|&byte| byte == b'#').unwrap();
@@ -176,7 +197,8 @@ fn the_night_of_the_readme_is_shown_and_looked_up() {
         ("5", "03/00 after call 5 (SELECT): held by A1 (place 0); no packet moves\n"),
         ("8", "03/00 after call 8 (START 03): held by A1 (place 0); packet 0 moves (function 42)\n"),
         ("9", "03/00 after call 9 (END 0): held by A1 (place 0, closing); packet 0 is stopping (function 42)\n"),
-        ("12", "03/00 after call 12 (CUT 03): free\n"),
+        ("13", "03/00 after call 13 (CUT 03): free\n"),
+        ("15", "03/00 after call 15 (SELECT): held by C3 (place 0); no packet moves\n"),
     ] {
         assert_eq!(night(&["who", "03", "00", call], &place), due);
     }

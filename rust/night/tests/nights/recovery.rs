@@ -92,10 +92,10 @@ fn a_start_that_was_cut_short_begins_anew() {
     let bytes = place.journal_bytes();
     for length in 0..bytes.len() {
         std::fs::write(place.journal(), &bytes[..length]).unwrap();
-        assert_eq!(place.answers(b"SELECT\n"), b"NO 10\n", "{length}");
+        assert_eq!(place.answers(b"SELECT\n"), b"NO 19\n", "{length}");
     }
     std::fs::write(place.journal(), vec![0; 4096]).unwrap();
-    assert_eq!(place.answers(b"SELECT\n"), b"NO 10\n");
+    assert_eq!(place.answers(b"SELECT\n"), b"NO 19\n");
     assert!(place.journal_bytes().starts_with(&bytes));
 }
 
@@ -104,7 +104,7 @@ fn another_configuration_a_second_night_and_other_files_are_refused() {
     let place = Place::new("refused", CONFIGURATION);
     let mut running = place.start();
     running.send(b"SELECT\n");
-    assert_eq!(running.answer(6), b"NO 10\n");
+    assert_eq!(running.answer(6), b"NO 19\n");
     place.is_refused("another night is running");
     running.finish();
     std::fs::write(place.folder.join("configuration"), b"1\n03 MT 5\n0\n").unwrap();
