@@ -1,4 +1,4 @@
--- How long the line of a job selected is at most: 4,938 bytes, if its numbers and its name are what their types let them
+-- How long the line of a job selected is at most: 4,938 bytes, if its numbers and name are what their types let them
 -- be. A unit is given to one entry of a kind at most, so a kind's entries name 256 units at most, together. Assumes
 -- nothing.
 use Prim.Native.Nat.{ℕ, zero, suc, _+_, _*_, _-_, _/_, _%_, _^_, _≤_, _<_}
