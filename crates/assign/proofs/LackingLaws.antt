@@ -16,10 +16,6 @@ use Rattle.assign.proofs.ChosenLaws.{all-there}
 use Rattle.assign.proofs.Computed.{assignOf, assign-answers}
 
 module _ (cell : Cell) (wanted : Facilities) where
-  -- where there is an assignment nothing is lacking
-  pub exists-only : (b : Assigned) → IsAssignment cell wanted b → FirstLacking cell wanted Lacking.Nothing
-  exists-only = all-there cell wanted
-
   -- where nothing is lacking the assigner's answer is the chosen assignment
   pub chosen-when : FirstLacking cell wanted Lacking.Nothing → (r : Provision) → Assigns cell wanted r → Chosen cell wanted (r .assigned)
   chosen-when f r = by-answer (r .lacking)
@@ -34,4 +30,4 @@ module _ (cell : Cell) (wanted : Facilities) where
   exists-when size full f = (assignOf cell wanted .assigned, chosen-when f (assignOf cell wanted) (assign-answers cell wanted size full) .is)
 
 pub exists-exactly : ExistsExactly
-exists-exactly = record { only = exists-only; when = exists-when }
+exists-exactly = record { only = all-there; when = exists-when }
