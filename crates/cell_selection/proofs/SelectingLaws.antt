@@ -23,6 +23,7 @@ use Rattle.packets.specs.Rules.{refusal}
 use Rattle.packets.specs.declared.Lists.{Lists}
 use Rattle.packets.specs.declared.Verdict.the-variants.{Granted}
 use Rattle.lists.specs.Outcomes.{stateOf}
+use Rattle.cell_taken.specs.Taken.{LowestFree}
 use Rattle.cell_taken.proofs.TakenLaws.{lowest-one}
 use Rattle.cell_taken.specs.declared.FreePlace.{FreePlace}
 use Rattle.cell_taken.specs.declared.FreePlace.the-variants.{At, Full}
@@ -70,6 +71,10 @@ at-injective {p} {q} e = ap (λ (f : FreePlace). number f) e
     number (At p) = p
     number Full = 0
 
+-- where a place is free not all are held
+pub some-free : (lists : Lists) {place : ℕ} → LowestFree (lists .jobs) (At place) → AllHeld lists → ⊥
+some-free lists {place} l f = never (l .1 .0) (f place (l .0))
+
 module _ (es : List Entry) (lists : Lists) where
   -- a selection is made by a choice of a job, and by no other
   pub is-selected : (r : Selection) (c : Choice) → isJob c ≡ true → SelectsBy c es lists r → Selected es lists r
@@ -94,7 +99,7 @@ module _ (es : List Entry) (lists : Lists) where
   -- a selection and a refusal do not go together
   pub not-both : (r : Selection) → Selected es lists r → AllHeld lists ⊎ NoFit es (seenIn lists) → ⊥
   not-both r a b =
-      ⊎-elim (λ f. never (a .place .1 .0) (f (r .place) (a .place .0)))
+      ⊎-elim (some-free lists (a .place))
       (λ n. fit-some es (seenIn lists) (a .fit) n) b
 
   -- two reasons are one

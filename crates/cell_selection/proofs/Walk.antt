@@ -33,11 +33,11 @@ use Rattle.assign_lacking.proofs.InCellLaws.{in-cell}
 use Rattle.packets.specs.declared.Lists.{Lists}
 use Rattle.cell_taken.specs.Taken.{LowestFree}
 use Rattle.cell_taken.specs.declared.FreePlace.the-variants.{At}
-use Rattle.cell_selection.specs.Selecting.{AllHeld, Candidate, FirstFit, FirstLacks, HasNone, NoFit, Picks, PicksBy, PicksNone, Selected, SelectsBy, Starts, isJob, noId, seenIn, unselected}
-use Rattle.cell_selection.specs.Noting.{atThen, lackingThen, nonePicked, noted, picked}
+use Rattle.cell_selection.specs.Selecting.{AllHeld, Candidate, FirstFit, FirstLacks, HasNone, NoFit, Selected, SelectsBy, Starts, isJob, noId, seenIn, unselected}
+use Rattle.cell_selection.specs.Noting.{Picks, PicksBy, PicksNone, atThen, lackingThen, nonePicked, noted, picked}
 use Rattle.cell_selection.specs.declared.Choice.the-variants.{Job, NoPlace, NoCandidates, Lacks}
 use Rattle.cell_selection.specs.declared.Noted.{Noted}
-use Rattle.cell_selection.proofs.SelectingLaws.{is-selected}
+use Rattle.cell_selection.proofs.SelectingLaws.{is-selected, some-free}
 use Rattle.cell_selection.specs.declared.Pick.{Pick}
 use Rattle.cell_selection.specs.declared.Selection.{Selection}
 
@@ -162,21 +162,18 @@ refused-full es lists r f e = rw e ((f, refl), refl)
 
 module _ (es : List Entry) (lists : Lists) (p : Pick) (place : ℕ) (entry : Entry) (picks : Picks es (seenIn lists) p) (l : LowestFree (lists .jobs) (At place))
     (is : entry ≡ entryAt es (p .at)) where
-  some-free : AllHeld lists → ⊥
-  some-free f = never (l .1 .0) (f place (l .0))
-
   module _ (f : p .found ≡ false) where
     none : {l : Lacking} → p .lacking ≡ l → PicksNone l es (seenIn lists) p
     none e = subst (λ (l : Lacking). PicksNone l es (seenIn lists) p) e (subst (λ (b : Bool). PicksBy b es (seenIn lists) p) f picks)
 
     -- there are no candidates
     pub refused-none : p .lacking ≡ Lacking.Nothing → (r : Selection) → r ≡ unselected NoCandidates noId → SelectsBy (r .choice) es lists r
-    refused-none e r g = rw g ((some-free, (none e .0, refl)), refl)
+    refused-none e r g = rw g ((some-free lists l, (none e .0, refl)), refl)
 
     -- none has an assignment
     pub refused-lacks : (part : Part) → p .lacking ≡ Lacking.First part → (r : Selection) → r ≡ unselected (Lacks part) (entry .request .id)
         → SelectsBy (r .choice) es lists r
-    refused-lacks part e r g = rw g ((some-free, (none e .0, (p .at, (none e .1 .0, ap (λ (x : Entry). x .request .id) is)))), refl)
+    refused-lacks part e r g = rw g ((some-free lists l, (none e .0, (p .at, (none e .1 .0, ap (λ (x : Entry). x .request .id) is)))), refl)
 
   -- the first that has one, for the lowest free place
   pub selected : p .found ≡ true

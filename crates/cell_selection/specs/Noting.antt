@@ -1,7 +1,11 @@
 -- What is noted on the walk over the candidates: what the first lacks; and what is picked at its end. Nothing on this
 -- page has to be believed: private functions cite it.
 use Prim.Native.Nat.{ℕ}
-use mathlib.Core.Bool.{true, false}
+use mathlib.Core.Path.{_≡_}
+use mathlib.Core.Bool.{Bool, true, false}
+use mathlib.Core.List.{List}
+use Rattle.schedule_entries.specs.declared.Entry.{Entry}
+use Rattle.assign.specs.Assignment.{Cell}
 use Rattle.assign.specs.Chosen.{nothing}
 use Rattle.assign.specs.declared.Lacking.{Lacking}
 use Rattle.assign.specs.declared.Lacking.the-variants.{Nothing, First}
@@ -9,6 +13,7 @@ use Rattle.assign.specs.declared.Part.{Part}
 use Rattle.assign.specs.declared.Provision.{Provision}
 use Rattle.cell_selection.specs.declared.Noted.{Noted}
 use Rattle.cell_selection.specs.declared.Pick.{Pick}
+use Rattle.cell_selection.specs.Selecting.{FirstFit, FirstLacks, NoCandidate, NoFit}
 
 -- a candidate that lacks a part is noted if there was none before: what it lacks,
 abbrev pub lackingThen : Lacking → Part → Lacking
@@ -29,3 +34,16 @@ picked at given = record { found = true; lacking = Nothing; at = at; assigned = 
 
 abbrev pub nonePicked : Noted → Pick
 nonePicked noted = record { found = false; lacking = noted .lacking; at = noted .at; assigned = nothing }
+
+-- no candidate has an assignment: there are none, or the first lacks a part
+abbrev pub PicksNone : Lacking → List Entry → Cell → Pick → Type 0
+PicksNone Nothing es cell r = NoCandidate es × ((r .at ≡ 0) × (r .assigned ≡ nothing))
+PicksNone (First part) es cell r = NoFit es cell × (FirstLacks es cell (r .at) part × (r .assigned ≡ nothing))
+
+-- the first candidate with an assignment is found, or there is none
+abbrev pub PicksBy : Bool → List Entry → Cell → Pick → Type 0
+PicksBy true es cell r = FirstFit es cell (r .at) (r .assigned) × (r .lacking ≡ Nothing)
+PicksBy false es cell r = PicksNone (r .lacking) es cell r
+
+abbrev pub Picks : List Entry → Cell → Pick → Type 0
+Picks es cell r = PicksBy (r .found) es cell r

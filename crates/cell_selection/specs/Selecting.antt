@@ -21,8 +21,7 @@ use Rattle.assign.specs.Assignment.{Cell, cellOf, IsAssignment}
 use Rattle.assign.specs.Parts.{FirstLacking}
 use Rattle.assign.specs.Chosen.{Chosen, nothing}
 use Rattle.assign.specs.declared.Assigned.{Assigned}
-use Rattle.assign.specs.declared.Lacking.{Lacking}
-use Rattle.assign.specs.declared.Lacking.the-variants.{Nothing, First}
+use Rattle.assign.specs.declared.Lacking.the-variants.{First}
 use Rattle.assign.specs.declared.Part.{Part}
 use Rattle.packets.specs.declared.Assignment.{Assignment}
 use Rattle.packets.specs.declared.Blocks.{Blocks}
@@ -33,7 +32,6 @@ use Rattle.cell_taken.specs.Taken.{LowestFree, anyHas, areaOf, coreOf, occupanc
 use Rattle.cell_taken.specs.declared.FreePlace.the-variants.{At, Full}
 use Rattle.cell_selection.specs.declared.Choice.{Choice}
 use Rattle.cell_selection.specs.declared.Choice.the-variants.{Job, NoPlace, NoCandidates, Lacks}
-use Rattle.cell_selection.specs.declared.Pick.{Pick}
 use Rattle.cell_selection.specs.declared.Selection.{Selection}
 use Rattle.cell_selection.specs.declared.Taking.{Taking}
 
@@ -72,19 +70,6 @@ pub record FirstLacks (es : List Entry) (cell : Cell) (k : ℕ) (part : Part) : 
   pub candidate : Candidate es k
   pub first : (i : ℕ) → i < k → Candidate es i → ⊥
   pub lacking : FirstLacking cell (entryAt es k .request .facilities) (First part)
-
--- no candidate has an assignment: there are none, or the first lacks a part
-abbrev pub PicksNone : Lacking → List Entry → Cell → Pick → Type 0
-PicksNone Nothing es cell r = NoCandidate es × ((r .at ≡ 0) × (r .assigned ≡ nothing))
-PicksNone (First part) es cell r = NoFit es cell × (FirstLacks es cell (r .at) part × (r .assigned ≡ nothing))
-
--- the first candidate with an assignment is found, or there is none
-abbrev pub PicksBy : Bool → List Entry → Cell → Pick → Type 0
-PicksBy true es cell r = FirstFit es cell (r .at) (r .assigned) × (r .lacking ≡ Nothing)
-PicksBy false es cell r = PicksNone (r .lacking) es cell r
-
-abbrev pub Picks : List Entry → Cell → Pick → Type 0
-Picks es cell r = PicksBy (r .found) es cell r
 
 -- no ID: six blanks
 abbrev pub noId : List ℕ

@@ -23,8 +23,8 @@ ghost use mathlib.Core.List.{map};
 ghost use Prim.Native.Nat.{_<_};
 ghost use Rattle.assign.specs.Assignment.{cellOf};
 ghost use Rattle.schedule_list.specs.InSchedule.{inSchedule};
-ghost use Rattle.cell_selection.specs.Selecting.{isJob, Picks, Selects, seenIn, unselected, isTaken, runOf, assignmentOf, Starts, Takes};
-ghost use Rattle.cell_selection.specs.Noting.{noted, picked, nonePicked};
+ghost use Rattle.cell_selection.specs.Selecting.{isJob, Selects, seenIn, unselected, isTaken, runOf, assignmentOf, Starts, Takes};
+ghost use Rattle.cell_selection.specs.Noting.{noted, picked, nonePicked, Picks};
 
 // What is chosen: a job; or none, since no place is free, there are no candidates, or none has an assignment. Then the
 // part is the first that is lacking for the first candidate.

@@ -31,8 +31,9 @@ use Rattle.packets.specs.declared.Lists.{Lists}
 use Rattle.cell_taken.specs.Taken.{LowestFree}
 use Rattle.cell_taken.specs.declared.FreePlace.{FreePlace}
 use Rattle.cell_taken.specs.declared.FreePlace.the-variants.{At, Full}
-use Rattle.cell_selection.specs.Selecting.{AllHeld, Picks, PicksBy, PicksNone, Selects, isJob, leftBy, noId, seenIn, unselected}
-use Rattle.cell_selection.specs.Noting.{atThen, lackingThen}
+use Rattle.cell_selection.specs.Selecting.{Selects, isJob, leftBy, noId, seenIn, unselected}
+use Rattle.cell_selection.specs.Noting.{Picks, PicksBy, PicksNone, atThen, lackingThen}
+use Rattle.cell_selection.proofs.SelectingLaws.{some-free}
 use Rattle.cell_selection.proofs.Walk.{Walked, walk-start, walk-past, walk-lacks, walked-all}
 use Rattle.cell_selection.specs.declared.Choice.the-variants as Choices
 use Rattle.cell_selection.specs.declared.Choice.the-variants.{NoPlace, NoCandidates, Lacks}
@@ -150,12 +151,9 @@ module _ (c : Cell) (s : sized c ≡ true) where
   picked = picks (inSchedule (c .schedule)) (seenIn (c .lists)) (eqb-true (length (c .lists .channels)) 16 (parts .0)) (counts-full (inSchedule (c .schedule)) (parts .1))
 
   module _ (place : ℕ) (l : LowestFree (c .lists .jobs) (At place)) (p : Pick) where
-    some-free : AllHeld (c .lists) → ⊥
-    some-free f = never (l .1 .0) (f place (l .0))
-
     by-lack : (x : Lacking) → PicksNone x (inSchedule (c .schedule)) (seenIn (c .lists)) p → Selects (c .schedule) (c .lists) (unselectedBy x (c .schedule) p)
-    by-lack Nothing w = ((some-free, (w .0, refl)), refl)
-    by-lack (First part) w = ((some-free, (w .0, (p .at, (w .1 .0, refl)))), refl)
+    by-lack Nothing w = ((some-free (c .lists) l, (w .0, refl)), refl)
+    by-lack (First part) w = ((some-free (c .lists) l, (w .0, (p .at, (w .1 .0, refl)))), refl)
 
     selects-at : (found : Bool) → PicksBy found (inSchedule (c .schedule)) (seenIn (c .lists)) p → Selects (c .schedule) (c .lists) (selectedBy found (c .schedule) place p)
     selects-at true w = record { place = l; fit = w .0; request = refl; unnamed = refl }
