@@ -9,10 +9,11 @@ use native.Mathlib.Omega.{arith}
 use lib.Dec.{leb, eqb}
 use borrow.Author.Tests.{eq-eqb, eqb-true, eqb-false, le-leb, leb-true}
 use Rattle.numbers.proofs.Find.{Hit, hit, none, find, First, first}
-use Rattle.numbers.proofs.Tests.{by-bool, both}
+use Rattle.numbers.proofs.Tests.{by-bool, both, or-true}
 use Rattle.assign_core.specs.declared.Found.{Found}
 use Rattle.assign_core.specs.declared.Found.the-variants.{At, Nothing}
-use Rattle.assign_core.specs.Core.{bit, Run, Beside, Fits, Answers}
+use Rattle.numbers.specs.Bits.{bit}
+use Rattle.assign_core.specs.Core.{Run, Beside, Fits, Answers}
 use Rattle.assign_core.proofs.CoreLaws.{answers-one}
 
 either : (a b : Bool) → (a || b) ≡ true → (a ≡ true) ⊎ (b ≡ true)
@@ -69,10 +70,6 @@ module _ (w ib db i j : ℕ) where
         run = run-sound w db j (q .0);
         apart = ⊎-elim (λ a. inl (leb-true (j + db) i a)) (λ a. inr (leb-true (i + ib) j a)) (either (leb (j + db) i) (leb (i + ib) j) (q .1));
       }
-
-  or-true : (a : Bool) → (a || true) ≡ true
-  or-true true = refl
-  or-true false = refl
 
   fits-complete : Fits w ib db i j → fitsB w ib db i j ≡ true
   unfolding fitsB

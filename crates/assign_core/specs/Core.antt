@@ -1,16 +1,14 @@
 -- Core: 32 blocks of 2,048 words; 2 to 29 are assignable, the rest the executive's. What a job's core is, and which
 -- is chosen. A reader has to believe this page.
-use Prim.Native.Nat.{ℕ, _+_, _≤_, _<_, _/_, _%_, _^_}
+use Prim.Native.Nat.{ℕ, _+_, _≤_, _<_}
 use mathlib.Core.Path.{_≡_}
 use mathlib.Core.Logic.{_⊎_}
+use Rattle.numbers.specs.Bits.{bit}
 use Rattle.assign_core.specs.declared.Found.{Found}
 use Rattle.assign_core.specs.declared.Found.the-variants.{At, Nothing}
 
--- bit b of an occupancy word: 1 where block b is taken
-abbrev pub bit : ℕ → ℕ → ℕ
-bit w b = (w / 2 ^ b) % 2
-
--- a run of n blocks from i: assignable blocks, and all free
+-- a run of n blocks from i of the occupancy word w, whose bit b is 1 where block b is taken: assignable blocks, and all
+-- free
 pub record Run (w n i : ℕ) : Type 0 where
   pub low : 2 ≤ i
   pub high : i + n ≤ 30

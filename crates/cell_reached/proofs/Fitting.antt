@@ -13,7 +13,7 @@ use Rattle.numbers.proofs.Tests.{both, by-bool}
 use Rattle.units.specs.State.{assignable, unitIn}
 use Rattle.assign_free.specs.Assignable.{isFreeOf, unitsOfRow}
 use Rattle.channels.specs.Channels.{noChannel}
-use Rattle.assign_core.specs.Core.{bit}
+use Rattle.numbers.specs.Bits.{bit}
 use Rattle.assign_drum.specs.Drum.{In, noArea}
 use Rattle.assign_drum.specs.declared.Area.{Area}
 use Rattle.assign_heads.specs.Whose.{blank}

@@ -1,16 +1,16 @@
 -- What the occupancy word means: bit b of it is 1 exactly where block b is taken, and it has no more bits; and two
 -- answers to the lowest free place are one. Assumes nothing.
 use Prim.Native.Nat.{ℕ, zero, suc, _+_, _*_, _/_, _%_, _^_, _<_, _-_}
-use mathlib.Core.Path.{_≡_, refl, sym, ap, _∙_}
+use mathlib.Core.Path.{_≡_, refl, ap, _∙_}
 use mathlib.Core.Bool.{Bool, true, false, cond}
 use mathlib.Core.List.{List}
 use mathlib.Core.Logic.{⊎-elim}
-use native.Mathlib.Nat.{div-one, eq-zero-or-pos, le-of-suc-le-suc, pow-suc}
+use native.Mathlib.Nat.{eq-zero-or-pos, le-of-suc-le-suc, pow-suc}
 use native.Mathlib.Omega.{arith}
-use lib.Pow.{shr-shr}
+use Rattle.numbers.proofs.BitLaws.{bit-suc, bit-zero}
 use Rattle.numbers.proofs.Order.{at-most-one}
 use Rattle.numbers.proofs.Tests.{never}
-use Rattle.assign_core.specs.Core.{bit}
+use Rattle.numbers.specs.Bits.{bit}
 use Rattle.packets.specs.declared.Job.{Job}
 use Rattle.cell_taken.specs.Taken.{wordFrom, LowestFree}
 use Rattle.cell_taken.specs.declared.FreePlace.{FreePlace}
@@ -31,14 +31,11 @@ half : (x : ℕ) (b : Bool) → (x * 2 + cond b 1 0) / 2 ≡ x
 half x true = omega arith
 half x false = omega arith
 
-bit-suc : (w b : ℕ) → bit w (suc b) ≡ bit (w / 2) b
-bit-suc w b = ap (λ (x : ℕ). x % 2) (sym (shr-shr w 1 b ∙ ap (λ (m : ℕ). w / 2 ^ m) (omega arith)))
-
 word-bits : (taken : ℕ → Bool) (n k b : ℕ) → b < n → bit (wordFrom taken k n) b ≡ cond (taken (k + b)) 1 0
 unfolding wordFrom
 word-bits taken zero k b h = absurd (omega arith)
 word-bits taken (suc n) k zero h =
-    ap (λ (x : ℕ). x % 2) (div-one (wordFrom taken (suc k) n * 2 + cond (taken k) 1 0))
+    bit-zero (wordFrom taken (suc k) n * 2 + cond (taken k) 1 0)
     ∙ low (wordFrom taken (suc k) n) (taken k) ∙ ap (λ (x : ℕ). cond (taken x) 1 0) (let e : k ≡ k + 0 = omega arith in e)
 word-bits taken (suc n) k (suc b) h =
     bit-suc (wordFrom taken (suc k) n * 2 + cond (taken k) 1 0) b

@@ -9,7 +9,7 @@ use native.Mathlib.Omega.{arith}
 use lib.Dec.{eqb, leb}
 use lib.ListN.{length, getD}
 use borrow.Author.Tests.{eq-eqb, ne-eqb, le-leb, le-ltb, lt-ltb, not-true}
-use Rattle.numbers.proofs.Tests.{by-bool, never, both}
+use Rattle.numbers.proofs.Tests.{by-bool, never, both, or-false}
 use Rattle.numbers.specs.Quoted.{bytes}
 use Rattle.text.specs.Class.{isDigit}
 use Rattle.text.specs.Writing.{twoText}
@@ -170,10 +170,6 @@ module _ (word : List ℕ) (fields : List (List ℕ)) where
       (λ e. by-bool (same word (bytes "DEL"))
       (λ f. rw (no-word (bytes "DWN") 3 a, no-word (bytes "AVL") 3 b, no-word (bytes "SEL") 2 e, is-word (bytes "DEL") 1 f, a, b, e, f))
       (λ f. rw (no-word (bytes "DWN") 3 a, no-word (bytes "AVL") 3 b, no-word (bytes "SEL") 2 e, no-word (bytes "DEL") 2 f, a, b, e, f)))))
-    where
-      or-false : (b : Bool) → b || false ≡ b
-      or-false true = refl
-      or-false false = refl
 
 -- where one of them holds the message is read as known, and where none does as unknown
 read-known : (ws : List (List ℕ)) → isMessage (bytes "DWN") 3 ws || (isMessage (bytes "AVL") 3 ws || (isMessage (bytes "SEL") 2 ws || isMessage (bytes "DEL") 2 ws))

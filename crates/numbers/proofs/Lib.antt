@@ -5,3 +5,4 @@ pub mod DecidesLaws
 pub mod Stores
 pub mod Find
 pub mod ValuesLaws
+pub mod BitLaws

@@ -3,3 +3,4 @@ pub mod Kinds
 pub mod Refusals
 pub mod Decides
 pub mod Values
+pub mod Bits

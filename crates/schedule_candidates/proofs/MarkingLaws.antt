@@ -7,6 +7,7 @@ use native.Mathlib.Omega.{arith}
 use lib.ListN.{length, getD, take, drop, set, replicate, length-set, drop-of-length-le}
 use lib.Seq.{getD-set-other}
 use Rattle.numbers.proofs.Stores.{stored}
+use Rattle.numbers.proofs.Tests.{or-assoc, or-false}
 use Rattle.schedule_entries.specs.Entries.{keyOf, lowerSequence, active, serial}
 use Rattle.schedule_entries.specs.declared.Entry.{Entry}
 use Rattle.schedule_entries.specs.declared.Key.{Key}
@@ -19,14 +20,6 @@ use Rattle.schedule_candidates.specs.Marking.{Keys, Outlines, LowerStand
 use Rattle.schedule_candidates.specs.declared.Outline.{Outline}
 
 -- some entry passes a test: what is told of those before an index, and those from there on
-or-assoc : (a b c : Bool) → (a || b) || c ≡ a || (b || c)
-or-assoc true b c = refl
-or-assoc false b c = refl
-
-or-false : (a : Bool) → a || false ≡ a
-or-false true = refl
-or-false false = refl
-
 module _ (p : Entry → Bool) (es : List Entry) (i : ℕ) where
   told-turn : (b : Bool) {b′ : Bool} → i < length es → b′ ≡ b || p (entryAt es i) → b || any p (drop i es) ≡ any p es → b′ || any p (drop (i + 1) es) ≡ any p es
   told-turn b h e t =

@@ -4,7 +4,7 @@ use mathlib.Core.Path.{_≡_}
 use native.Mathlib.Omega.{arith}
 use borrow.Author.Count.{below-more}
 use Rattle.numbers.proofs.DecidesLaws.{yes, no}
-use Rattle.assign_core.specs.Core.{bit}
+use Rattle.numbers.specs.Bits.{bit}
 use borrow.Author.Needs.{needs}
 use Rattle.assign_core.proofs.is_run.Statement.{statement}
 use Rattle.assign_core.proofs.is_run.Tie as tie
