@@ -4,13 +4,13 @@ use Prim.Native.Nat.{ℕ}
 use Rattle.numbers.specs.Quoted.{bytes}
 use Rattle.numbers.specs.Refusals.{numberOf}
 use Rattle.numbers.specs.declared.Refusal.{Refusal}
-use Rattle.text.specs.Writing.{decimalText}
+use Rattle.text.specs.Writing.{decimalText, octalText}
 use Rattle.packets.specs.declared.Begun.{Begun}
 use Rattle.packets.specs.declared.Site.{Site}
 use Rattle.packets.specs.declared.Site.the-variants.{AtAddress, AtUnit}
 use Rattle.packets.specs.declared.Status.{Status}
 use Rattle.packets.specs.declared.Status.the-variants.{Blank, Listed, InProgress, Stopping, Ended}
-use Rattle.shift_pieces.specs.Pieces.{octalText, packetText}
+use Rattle.shift_pieces.specs.Pieces.{packetText}
 
 -- `NO n`, n the refusal's number
 abbrev pub noText : Refusal → List ℕ

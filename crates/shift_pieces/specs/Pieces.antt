@@ -1,14 +1,10 @@
 -- The pieces of text that the answers and the board share, and texts that are made of a piece for each of some
 -- numbers or things.
-use Prim.Native.Nat.{ℕ, zero, suc, _+_, _-_, _/_, _%_}
+use Prim.Native.Nat.{ℕ, zero, suc, _+_, _-_}
 use mathlib.Core.Bool.{Bool, cond}
 use mathlib.Core.List.{List, [], _∷_, _++_}
-use Rattle.numbers.specs.Quoted.{byte, bytes}
+use Rattle.numbers.specs.Quoted.{bytes}
 use Rattle.text.specs.Writing.{twoText, decimalText}
-
--- `ff`: two octal digits
-abbrev pub octalText : ℕ → List ℕ
-octalText n = (byte "0" + n / 8) ∷ (byte "0" + n % 8) ∷ []
 
 -- `cc/uu`: a unit by its channel and its number there
 abbrev pub unitText : ℕ → ℕ → List ℕ

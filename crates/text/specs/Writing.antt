@@ -9,6 +9,10 @@ use Rattle.numbers.specs.Quoted.{byte}
 abbrev pub twoText : ℕ → List ℕ
 twoText n = (byte "0" + n / 10) ∷ (byte "0" + n % 10) ∷ []
 
+-- two octal digits
+abbrev pub octalText : ℕ → List ℕ
+octalText n = (byte "0" + n / 8) ∷ (byte "0" + n % 8) ∷ []
+
 -- the digits of n: those of n / 10, then that of n % 10; `most` is as large as n
 unfoldable pub digitsText : ℕ → ℕ → List ℕ
 digitsText zero n = (byte "0" + n) ∷ []
