@@ -80,6 +80,7 @@ unfoldable pub lists : Lists
 lists =
     record {
       channels = set (set noChannels 3 (fitted Mt 4)) 5 (fitted Md 40000);
+      codes = 0;
       jobs = job ∷ replicate 15 noJob;
       list = record { entries = 1 ∷ replicate 255 0; count = 1 };
       moving = set (replicate 16 idle) 3 (record { motion = Busy 0 0 });

@@ -43,9 +43,11 @@ use Rattle.cell.specs.declared.SelectAnswer.{SelectAnswer}
 abbrev pub cellOf : Schedule → Lists → Cell
 cellOf schedule lists = record { schedule = schedule; lists = lists }
 
--- the fresh cell of a configuration: an empty schedule, no job, every unit free, down where the configuration says so
+-- the fresh cell of a configuration: an empty schedule, no job, every unit free, down where the configuration says so;
+-- its codes set interlock
 unfoldable pub freshCell : Configuration → Cell
-freshCell configuration = cellOf (scheduleOf []) (listsOf (fresh (configuration .channels) (freshUnits (configuration .down))))
+freshCell configuration =
+    cellOf (scheduleOf []) (listsOf (fresh (configuration .channels) (configuration .codes) (freshUnits (configuration .down))))
 
 -- ---- the calls on packets, jobs and marks: what the request lists say, and the schedule follows
 

@@ -1,5 +1,5 @@
 // The cell: its schedule and its request lists in one value, and every call on it. The configuration is in the lists,
-// as their channels.
+// as their channels, their units' down marks and their codes that set interlock.
 use cell_selection::Choice;
 use cell_selection::Selection;
 use channels::Configuration;
@@ -61,7 +61,8 @@ pub struct KeyAnswer {
     pub cell: Cell,
 }
 
-// The fresh cell of a configuration: an empty schedule, no job, every unit free, down where the configuration says so.
+// The fresh cell of a configuration: an empty schedule, no job, every unit free, down where the configuration says so;
+// its codes set interlock.
 pub fn fresh(configuration: Configuration) -> Cell
     ensures { λ r. ⌜ r ≡ freshCell configuration ⌝ }
 {
@@ -69,7 +70,7 @@ pub fn fresh(configuration: Configuration) -> Cell
     let units = configuration_units::fresh(configuration);
     Cell {
         schedule: schedule_list::empty(),
-        lists: lists::fresh(channels, units),
+        lists: lists::fresh(channels, configuration.codes, units),
     }
 }
 

@@ -27,5 +27,5 @@ states-beyond s I j h =
 pub fresh-cell-inv : (configuration : Configuration) → Inv (inside (freshCell configuration))
 unfolding freshCell
 fresh-cell-inv configuration =
-    rw (state-of (fresh (configuration .channels) (freshUnits (configuration .down))))
-    (fresh-inv (configuration .channels) (freshUnits (configuration .down)) (fresh-free (configuration .down)))
+    rw (state-of (fresh (configuration .channels) (configuration .codes) (freshUnits (configuration .down))))
+    (fresh-inv (configuration .channels) (configuration .codes) (freshUnits (configuration .down)) (fresh-free (configuration .down)))

@@ -28,12 +28,12 @@ use Rattle.cell_history.specs.History.{Chosen, Does, Event, Leads, Reply
 -- ---- the fresh cell
 
 -- the lists of a fresh cell, and of any cell that a history leads to
-pub fresh-inside : (configuration : Configuration) → inside (freshCell configuration) ≡ fresh (configuration .channels) (freshUnits (configuration .down))
+pub fresh-inside : (configuration : Configuration) → inside (freshCell configuration) ≡ fresh (configuration .channels) (configuration .codes) (freshUnits (configuration .down))
 unfolding freshCell
-fresh-inside configuration = state-of (fresh (configuration .channels) (freshUnits (configuration .down)))
+fresh-inside configuration = state-of (fresh (configuration .channels) (configuration .codes) (freshUnits (configuration .down)))
 
 pub reached : (configuration : Configuration) (es : List Event) (c : Cell) → Leads (freshCell configuration) es c
-    → inside c ≡ Rules.run (fresh (configuration .channels) (freshUnits (configuration .down))) (heard es)
+    → inside c ≡ Rules.run (fresh (configuration .channels) (configuration .codes) (freshUnits (configuration .down))) (heard es)
 reached configuration es c h = leads-heard (freshCell configuration) c es h ∙ ap (λ (s : State). Rules.run s (heard es)) (fresh-inside configuration)
 
 -- ---- selection's answer

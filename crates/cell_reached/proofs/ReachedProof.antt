@@ -137,23 +137,24 @@ unit-takings =
 pub every-cell : Invariants
 every-cell configuration es c h =
     let channels = configuration .channels in
+    let codes = configuration .codes in
     let units = freshUnits (configuration .down) in
     let free = fresh-free (configuration .down) in
     let is = reached configuration es c h in
-    let apart = disjoint channels units free (heard es) in
+    let apart = disjoint channels codes units free (heard es) in
     record {
-      always = subst Always (sym is) (invariants channels units free (heard es));
-      drum = subst (Apart Rules.inArea) (sym is) (apart .0 (fits-each Rules.inArea (fresh channels units) (heard es) (from-fresh (Fits Rules.inArea) area-takings)));
-      core = subst (Apart inCore) (sym is) (apart .1 (fits-each inCore (fresh channels units) (heard es) (from-fresh (Fits inCore) core-takings)));
-      addresses = subst AtItsArea (sym is) (on-its-own-words channels units free (heard es));
+      always = subst Always (sym is) (invariants channels codes units free (heard es));
+      drum = subst (Apart Rules.inArea) (sym is) (apart .0 (fits-each Rules.inArea (fresh channels codes units) (heard es) (from-fresh (Fits Rules.inArea) area-takings)));
+      core = subst (Apart inCore) (sym is) (apart .1 (fits-each inCore (fresh channels codes units) (heard es) (from-fresh (Fits inCore) core-takings)));
+      addresses = subst AtItsArea (sym is) (on-its-own-words channels codes units free (heard es));
       given = λ place. subst (λ (s : State). AsGiven s place (taking (told es) place)) (sym is)
-          (subst (λ (l : List Told.Event). AsGiven (Rules.run (fresh channels units) (heard es)) place (taking l place)) (sym answers)
-          (holds-what-it-was-given channels units free (fresh-square (configuration .down)) (heard es) (wants-each (fresh channels units) (heard es) (from-fresh Wants unit-takings)) place));
+          (subst (λ (l : List Told.Event). AsGiven (Rules.run (fresh channels codes units) (heard es)) place (taking l place)) (sym answers)
+          (holds-what-it-was-given channels codes units free (fresh-square (configuration .down)) (heard es) (wants-each (fresh channels codes units) (heard es) (from-fresh Wants unit-takings)) place));
     }
   where
     -- what the caller was told, from the fresh cell on
-    answers : told es ≡ events (fresh (configuration .channels) (freshUnits (configuration .down))) (heard es)
+    answers : told es ≡ events (fresh (configuration .channels) (configuration .codes) (freshUnits (configuration .down))) (heard es)
     answers = leads-told (freshCell configuration) c es h ∙ ap (λ (s : State). events s (heard es)) (fresh-inside configuration)
 
-    from-fresh : (P : State → Rules.Call → Type 0) → OfTakings P → Each P (fresh (configuration .channels) (freshUnits (configuration .down))) (heard es)
+    from-fresh : (P : State → Rules.Call → Type 0) → OfTakings P → Each P (fresh (configuration .channels) (configuration .codes) (freshUnits (configuration .down))) (heard es)
     from-fresh P T = subst (λ (s : State). Each P s (heard es)) (fresh-inside configuration) (leads-each P T (freshCell configuration) c es h)

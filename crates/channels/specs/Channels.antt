@@ -1,12 +1,14 @@
--- What is configured: 16 channels, each with nothing or with a kind and its n, and the units that are down.
+-- What is configured: 16 channels, each with nothing or with a kind and its n, the units that are down, and the codes
+-- that set interlock.
 use Prim.Native.Nat.{ℕ}
 use mathlib.Core.Bool.{Bool, false, cond, _&&_}
 use mathlib.Core.List.{List}
-use lib.Dec.{leb, ltb}
+use lib.Dec.{eqb, leb, ltb}
 use lib.ListN.{getD, replicate}
 use Rattle.numbers.specs.declared.ChannelNumber.{ChannelNumber}
 use Rattle.numbers.specs.declared.UnitNumber.{UnitNumber}
 use Rattle.numbers.specs.declared.Kind.{Kind}
+use Rattle.numbers.specs.Bits.{bit}
 use Rattle.numbers.specs.Kinds.{isDrum}
 use Rattle.channels.specs.declared.Fitted.{Fitted}
 use Rattle.channels.specs.declared.Fitted.the-variants.{Nothing, With}
@@ -26,6 +28,14 @@ noChannels = replicate 16 noChannel
 
 abbrev pub noDown : List Bool
 noDown = replicate 256 false
+
+-- no code sets interlock
+abbrev pub noCodes : ℕ
+noCodes = 0
+
+-- a code sets interlock: the codes that do are a word of 64 bits, bit k for code k
+unfoldable pub setsInterlock : ℕ → ℕ → Bool
+setsInterlock codes k = eqb (bit codes k) 1
 
 -- how many units there are; the drum has none
 abbrev pub unitsIn : Fitted → ℕ

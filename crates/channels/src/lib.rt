@@ -1,10 +1,10 @@
-// What is configured: the channels of the cell, and the units that are down.
+// What is configured: the channels of the cell, the units that are down, and the codes that set interlock.
 use numbers::ChannelNumber;
 use numbers::Kind;
 use numbers::UnitNumber;
 ghost use mathlib.Core.Path.{_≡_};
 ghost use lib.ListN.{getD};
-ghost use Rattle.channels.specs.Channels.{noChannel, noChannels, unitsOf, channelIn, hasUnit};
+ghost use Rattle.channels.specs.Channels.{noChannel, noChannels, unitsOf, channelIn, hasUnit, setsInterlock};
 
 // What a channel has: nothing, or a kind with its n, units or for MD the drum's length in words.
 pub enum Fitted {
@@ -17,10 +17,12 @@ pub struct Channel {
     pub has: Fitted,
 }
 
-// The channels by number, and whether unit u of channel c is down, at c * 16 + u.
+// The channels by number, whether unit u of channel c is down, at c * 16 + u, and the codes that set interlock, bit k
+// for code k.
 pub struct Configuration {
     pub channels: [Channel; 16],
     pub down: [bool; 256],
+    pub codes: u64,
 }
 
 // A channel that has nothing.
@@ -83,4 +85,14 @@ pub fn has_unit(configuration: Configuration, channel: ChannelNumber, unit: Unit
         return false;
     }
     (unit.0 as u32) < n
+}
+
+// Whether a failure's code is one of those that set interlock; a code over 77 octal has no bit.
+pub fn sets_interlock(codes: u64, code: u8) -> bool
+    ensures { λ r. ⌜ r ≡ setsInterlock codes code ⌝ }
+{
+    if 0o77 < code {
+        return false;
+    }
+    (codes >> code) % 2 == 1
 }

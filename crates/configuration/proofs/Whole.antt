@@ -8,11 +8,36 @@ use borrow.Author.Tests.{lt-ltb, le-ltb}
 use Rattle.text.specs.declared.Number.the-variants.{Is, Wrong}
 use Rattle.configuration.specs.declared.section.Channels.{Channels}
 use Rattle.configuration.specs.declared.section.Downs.{Downs}
+use Rattle.configuration.specs.declared.section.Codes.{Codes}
 use Rattle.configuration.specs.Lines.{lastNumber}
-use Rattle.channels.specs.Channels.{noChannels, noDown}
-use Rattle.configuration.specs.Sections.{channelsFrom, downsFrom}
-use Rattle.configuration.specs.Configured.{refused, good, afterDowns, afterChannels, configurationOf}
+use Rattle.channels.specs.Channels.{noChannels, noDown, noCodes}
+use Rattle.configuration.specs.Sections.{badCodes, channelsFrom, downsFrom, codesFrom}
+use Rattle.configuration.specs.Configured.{refused, good, andNoMore, thirdSection, withCodes, afterDowns, afterChannels, configurationOf}
 
+-- the third section, and that nothing follows it
+module _ (s : List ℕ) (line at : ℕ) where
+  pub no-codes : lastNumber 0 60 (drop at s) ≡ Wrong → badCodes line ≡ thirdSection s line at
+  unfolding thirdSection
+  no-codes e = rw e
+
+  module _ {n k : ℕ} {third : Codes} (e : lastNumber 0 60 (drop at s) ≡ Is n k) (q : third ≡ codesFrom n (line + 1) (at + k) 0 noCodes (drop (at + k) s)) where
+    whole-last : thirdSection s line at ≡ andNoMore s third
+    unfolding thirdSection
+    whole-last = rw (e, ← q)
+
+    pub bad-codes : third .good ≡ false → third ≡ thirdSection s line at
+    unfolding andNoMore
+    bad-codes g = rw (whole-last, g)
+
+    pub more-follows : third .good ≡ true → third .at < length s → badCodes (third .line) ≡ thirdSection s line at
+    unfolding andNoMore
+    more-follows g h = rw (whole-last, g, lt-ltb (third .at) (length s) h)
+
+    pub nothing-follows : third .good ≡ true → length s ≤ third .at → third ≡ thirdSection s line at
+    unfolding andNoMore
+    nothing-follows g h = rw (whole-last, g, le-ltb (third .at) (length s) h)
+
+-- the whole text
 module _ (s : List ℕ) where
   pub no-count : lastNumber 0 16 s ≡ Wrong → refused 1 ≡ configurationOf s
   unfolding configurationOf
@@ -42,10 +67,13 @@ module _ (s : List ℕ) where
         unfolding afterDowns
         bad-second f = rw (whole-second, f)
 
-        pub more-follows : second .good ≡ true → second .at < length s → refused (second .line) ≡ configurationOf s
-        unfolding afterDowns
-        more-follows f h = rw (whole-second, f, lt-ltb (second .at) (length s) h)
+        module _ (f : second .good ≡ true) {third : Codes} (u : third ≡ thirdSection s (second .line) (second .at)) where
+          whole-third : configurationOf s ≡ withCodes (first .of) (second .of) third
+          unfolding afterDowns
+          whole-third = rw (whole-second, f, ← u)
 
-        pub all-read : second .good ≡ true → length s ≤ second .at → good (first .of) (second .of) ≡ configurationOf s
-        unfolding afterDowns
-        all-read f h = rw (whole-second, f, le-ltb (second .at) (length s) h)
+          pub bad-third : third .good ≡ false → refused (third .line) ≡ configurationOf s
+          bad-third b = rw (whole-third, b)
+
+          pub all-read : third .good ≡ true → good (first .of) (second .of) (third .of) ≡ configurationOf s
+          all-read b = rw (whole-third, b)

@@ -1,7 +1,7 @@
--- The lines of a configuration: decimal text, single spaces, LF at the end.
-use Prim.Native.Nat.{ℕ, _+_, _≤_}
+-- The lines of a configuration: decimal text but for the codes, single spaces, LF at the end.
+use Prim.Native.Nat.{ℕ, _+_, _*_, _/_, _%_, _≤_}
 use mathlib.Core.Path.{_≡_}
-use mathlib.Core.Bool.{Bool, cond}
+use mathlib.Core.Bool.{Bool, cond, not, _&&_}
 use mathlib.Core.List.{List}
 use lib.Dec.{eqb, leb}
 use lib.ListN.{length, getD, drop}
@@ -18,6 +18,8 @@ use Rattle.configuration.specs.declared.line.ChannelLine.{ChannelLine}
 use Rattle.configuration.specs.declared.line.ChannelLine.the-variants as ChannelLine′
 use Rattle.configuration.specs.declared.line.DownLine.{DownLine}
 use Rattle.configuration.specs.declared.line.DownLine.the-variants as DownLine′
+use Rattle.configuration.specs.declared.line.CodeLine.{CodeLine}
+use Rattle.configuration.specs.declared.line.CodeLine.the-variants as CodeLine′
 
 -- units 1 to 16, or for MD the drum length, 35,330 to 1,000,000 words
 abbrev pub least : Kind → ℕ
@@ -71,6 +73,18 @@ downLine s =
     cond (leb u 15) (cond (stands (byte "\n") 5 s) (DownLine′.Is (record { 0 = c }) (record { 0 = u })) DownLine′.Wrong) DownLine′.Wrong)
     DownLine′.Wrong) DownLine′.Wrong
 
+-- a code that may be listed: "02 to 77 octal and neither 16 nor 17"
+abbrev pub isCode : ℕ → Bool
+isCode k = leb 0o02 k && (leb k 0o77 && (not (eqb k 0o16) && not (eqb k 0o17)))
+
+-- two octal digits, so two digits of which each is at most 7: such a code
+unfoldable pub codeLine : List ℕ → CodeLine
+codeLine s =
+    onNumber (twoDigitsOf s) CodeLine′.Wrong λ n _.
+    cond (leb (n / 10) 7) (cond (leb (n % 10) 7)
+    (cond (isCode (n / 10 * 8 + n % 10)) (cond (stands (byte "\n") 2 s) (CodeLine′.Is (n / 10 * 8 + n % 10)) CodeLine′.Wrong) CodeLine′.Wrong)
+    CodeLine′.Wrong) CodeLine′.Wrong
+
 -- what a reader of a line answers: what the line says, and that it lies within the text
 abbrev pub channelFits : ChannelLine → ℕ → Type 0
 channelFits (ChannelLine′.Is channel kind n k) size = (channel .0 ≤ 15) × (k ≤ size)
@@ -87,3 +101,11 @@ downFits DownLine′.Wrong size = 0 ≤ size
 pub record DownRead (s : List ℕ) (r : DownLine) : Type 0 where
   pub is : r ≡ downLine s
   pub fits : downFits r (length s)
+
+abbrev pub codeFits : CodeLine → ℕ → Type 0
+codeFits (CodeLine′.Is code) size = (code ≤ 0o77) × (3 ≤ size)
+codeFits CodeLine′.Wrong size = 0 ≤ size
+
+pub record CodeRead (s : List ℕ) (r : CodeLine) : Type 0 where
+  pub is : r ≡ codeLine s
+  pub fits : codeFits r (length s)

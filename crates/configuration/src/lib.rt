@@ -2,10 +2,13 @@
 mod line;
 mod section;
 
+use crate::section::Codes;
 use channels::Configuration;
 use text::Number;
+ghost use Prim.Native.Nat.{_≤_, _<_};
 ghost use mathlib.Core.Path.{_≡_};
-ghost use Rattle.configuration.specs.Configured.{refused, configurationOf};
+ghost use lib.ListN.{length};
+ghost use Rattle.configuration.specs.Configured.{refused, thirdSection, configurationOf};
 
 // Good, or refusal 14 with the first bad or missing line.
 pub enum Verdict {
@@ -28,8 +31,26 @@ fn refuse(line: usize) -> Answer
         configuration: Configuration {
             channels: channels::no_channels(),
             down: [false; 256],
+            codes: 0,
         },
     }
+}
+
+// The third section with its count, from `at` on, where line `line` begins; nothing follows it.
+fn read_third(s: &[u8], line: usize, at: usize) -> Codes
+    requires { ⌜ (at ≤ length (now s)) × (line < 17179869184) ⌝ }
+    ensures { λ r. ⌜ r ≡ thirdSection (now (s .entry)) line at ⌝ }
+{
+    let Number::Is(n, k) = line::last_number(&s[at..], 0, 60) else {
+        return section::bad_codes(line);
+    };
+    let third = section::read_codes(s, n, line + 1, at + k);
+    if third.good {
+        if third.at < s.len() {
+            return section::bad_codes(third.line);
+        }
+    }
+    third
 }
 
 // Reads a configuration.
@@ -53,12 +74,17 @@ pub fn read(s: &[u8]) -> Answer
     if !second.good {
         return refuse(second.line);
     }
-    if second.at < s.len() {
-        return refuse(second.line);
+    let third = read_third(s, second.line, second.at);
+    if !third.good {
+        return refuse(third.line);
     }
     let down = second.of;
     Answer {
         verdict: Verdict::Good,
-        configuration: Configuration { channels, down },
+        configuration: Configuration {
+            channels,
+            down,
+            codes: third.of,
+        },
     }
 }

@@ -5,7 +5,7 @@ use numbers::Kind;
 use numbers::UnitNumber;
 use text::Number;
 ghost use mathlib.Core.Path.{_≡_};
-ghost use Rattle.configuration.specs.Lines.{least, most, lastNumber, ChannelRead, DownRead};
+ghost use Rattle.configuration.specs.Lines.{least, most, lastNumber, isCode, ChannelRead, DownRead, CodeRead};
 
 // A line `cc KK n`: what it says, and how many bytes it takes.
 pub enum ChannelLine {
@@ -16,6 +16,12 @@ pub enum ChannelLine {
 // A line `cc uu`.
 pub enum DownLine {
     Is(ChannelNumber, UnitNumber),
+    Wrong,
+}
+
+// A line of two octal digits.
+pub enum CodeLine {
+    Is(u8),
     Wrong,
 }
 
@@ -110,4 +116,43 @@ pub fn down_line(s: &[u8]) -> DownLine
         return DownLine::Wrong;
     }
     DownLine::Is(ChannelNumber(c as u8), UnitNumber(u as u8))
+}
+
+// Whether a code may be listed: 02 to 77 octal, neither 16 nor 17.
+fn is_code(code: u32) -> bool
+    ensures { λ r. ⌜ r ≡ isCode code ⌝ }
+{
+    if code < 0o02 {
+        return false;
+    }
+    if 0o77 < code {
+        return false;
+    }
+    if code == 0o16 {
+        return false;
+    }
+    code != 0o17
+}
+
+// A line of two octal digits, three bytes with its LF: two digits, each at most 7.
+pub fn code_line(s: &[u8]) -> CodeLine
+    ensures { λ r. ⌜ CodeRead (now (s .entry)) r ⌝ }
+{
+    let Number::Is(n, _) = text::two_digits(s) else {
+        return CodeLine::Wrong;
+    };
+    if 7 < n / 10 {
+        return CodeLine::Wrong;
+    }
+    if 7 < n % 10 {
+        return CodeLine::Wrong;
+    }
+    let code = n / 10 * 8 + n % 10;
+    if !is_code(code) {
+        return CodeLine::Wrong;
+    }
+    if text::byte_at(s, 2) != b'\n' {
+        return CodeLine::Wrong;
+    }
+    CodeLine::Is(code as u8)
 }

@@ -1,6 +1,7 @@
-// The two sections of a configuration, each read line by line after its count.
+// The three sections of a configuration, each read line by line after its count.
 use crate::line;
 use crate::line::ChannelLine;
+use crate::line::CodeLine;
 use crate::line::DownLine;
 use channels::Channel;
 use channels::Fitted;
@@ -11,8 +12,9 @@ ghost use mathlib.Core.Path.{_≡_};
 ghost use mathlib.Core.Bool.{_||_};
 ghost use Prim.Native.Nat.{_≤_, _<_};
 ghost use lib.ListN.{length, drop};
-ghost use Rattle.configuration.specs.Sections.{channelAllowed, downAllowed, badChannels, badDowns, ChannelsRead, downsFrom};
-ghost use Rattle.channels.specs.Channels.{noDown};
+ghost use Rattle.configuration.specs.Sections.{channelAllowed, downAllowed, badChannels, badDowns, badCodes};
+ghost use Rattle.configuration.specs.Sections.{ChannelsRead, DownsRead, codesFrom};
+ghost use Rattle.channels.specs.Channels.{noCodes};
 
 // The channels of the first section, and where it ends: the next line's number and index. Where a line is bad: its
 // number.
@@ -29,6 +31,14 @@ pub struct Downs {
     pub line: usize,
     pub at: usize,
     pub of: [bool; 256],
+}
+
+// The codes of the third section, bit k for code k.
+pub struct Codes {
+    pub good: bool,
+    pub line: usize,
+    pub at: usize,
+    pub of: u64,
 }
 
 fn either(a: bool, b: bool) -> bool
@@ -82,6 +92,17 @@ fn bad_downs(line: usize) -> Downs
     }
 }
 
+pub fn bad_codes(line: usize) -> Codes
+    ensures { λ r. ⌜ r ≡ badCodes line ⌝ }
+{
+    Codes {
+        good: false,
+        line,
+        at: 0,
+        of: 0,
+    }
+}
+
 // The channel lines, from `start` on, where line 2 begins.
 pub fn read_channels(s: &[u8], count: u32, start: usize) -> Channels
     requires { ⌜ start ≤ length (now s) ⌝ }
@@ -129,7 +150,7 @@ pub fn read_downs(
     channels: [Channel; 16],
 ) -> Downs
     requires { ⌜ (start ≤ length (now s)) × (first < 8589934592) ⌝ }
-    ensures { λ r. ⌜ r ≡ downsFrom count first start 0 channels noDown (drop start (now (s .entry))) ⌝ }
+    ensures { λ r. ⌜ DownsRead (now (s .entry)) count first start channels r ⌝ }
 {
     let mut of = [false; 256];
     let mut left = count;
@@ -152,6 +173,38 @@ pub fn read_downs(
         left -= 1;
     }
     Downs {
+        good: true,
+        line,
+        at,
+        of,
+    }
+}
+
+// The code lines, from `start` on, where line `first` begins. A code that is read is higher than those before it, so
+// that adding its bit sets it.
+pub fn read_codes(s: &[u8], count: u32, first: usize, start: usize) -> Codes
+    requires { ⌜ (start ≤ length (now s)) × (first < 34359738368) ⌝ }
+    ensures { λ r. ⌜ r ≡ codesFrom count first start 0 noCodes (drop start (now (s .entry))) ⌝ }
+{
+    let mut of: u64 = 0;
+    let mut left = count;
+    let mut line = first;
+    let mut at = start;
+    let mut next: u8 = 0;
+    while 0 < left {
+        let CodeLine::Is(code) = line::code_line(&s[at..]) else {
+            return bad_codes(line);
+        };
+        if code < next {
+            return bad_codes(line);
+        }
+        of += 1 << code;
+        next = code + 1;
+        at += 3;
+        line += 1;
+        left -= 1;
+    }
+    Codes {
         good: true,
         line,
         at,

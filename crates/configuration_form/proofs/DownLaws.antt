@@ -1,25 +1,26 @@
--- The down lines, as the channel lines. By the count of lines that are left. Assumes nothing.
-use Prim.Native.Nat.{ℕ, zero, suc, _+_, _-_, _*_, _≤_, _<_}
+-- The down lines, as the channel lines: a line that is read and allowed is a right one, and where none is no right one
+-- comes. Assumes nothing.
+use Prim.Native.Nat.{ℕ, suc, _+_, _*_, _≤_, _<_}
 use mathlib.Core.Path.{_≡_, refl, sym, ap, _∙_}
-use mathlib.Core.Bool.{Bool, true, false, cond}
+use mathlib.Core.Bool.{Bool, true}
 use mathlib.Core.List.{List, _++_}
 use native.Mathlib.Omega.{arith}
 use lib.Dec.{leb, ltb}
-use lib.ListN.{getD, set, drop}
+use lib.ListN.{getD}
 use borrow.Author.Tests.{le-leb, leb-true, lt-ltb, ltb-true}
 use Rattle.numbers.proofs.Tests.{by-bool, never, both}
 use Rattle.numbers.specs.declared.ChannelNumber.{ChannelNumber}
 use Rattle.numbers.specs.declared.UnitNumber.{UnitNumber}
 use Rattle.channels.specs.declared.Channel.{Channel}
 use Rattle.channels.specs.Channels.{noChannel, unitsOf}
-use Rattle.configuration.specs.declared.section.Downs.{Downs}
 use Rattle.configuration.specs.declared.line.DownLine.{DownLine}
 use Rattle.configuration.specs.declared.line.DownLine.the-variants as DownLine′
 use Rattle.configuration.specs.Lines.{downLine}
-use Rattle.configuration.specs.Sections.{downAllowed, badDowns, onDown, downsFrom}
-use Rattle.configuration_form.specs.Form.{Item, line, Due, Right}
-use Rattle.configuration_form.proofs.ReadLaws.{no-lines, Ended, Stopped, at-once, ended-more, stopped-more}
-use Rattle.configuration_form.proofs.LineLaws.{DownIs, down-redone, down-undone}
+use Rattle.configuration.specs.Sections.{downAllowed}
+use Rattle.configuration.proofs.AnySection.{DownsAt, downSection, downs-wrong, downs-refused, downs-go}
+use Rattle.configuration_form.specs.Form.{Item, line, Due, Right, Bad}
+use Rattle.configuration_form.proofs.LineLaws.{down-redone, down-undone}
+use Rattle.configuration_form.proofs.SectionLaws.{Step}
 
 -- what the reader allows is what is right
 allowed : (next : ℕ) (on : Channel) (c : ChannelNumber) (u : UnitNumber) → downAllowed next on c u ≡ true → (next ≤ c .0 * 16 + u .0) × (u .0 < unitsOf on)
@@ -39,62 +40,31 @@ module _ {left next : ℕ} {of : List Channel} {marks : List Bool} where
   right-read s t (Right.downLine {c = c} {u = u} a b d e) q =
       (record { 0 = c }, record { 0 = u }, ap downLine q ∙ down-undone c u t a b, allows next (getD of c noChannel) (record { 0 = c }) (record { 0 = u }) d e)
 
--- what the reader of the down lines found
-pub record DownsFound (left line at next : ℕ) (of : List Channel) (marks : List Bool) (s : List ℕ) (r : Downs) : Type 0 where
-  pub last : ℕ
-  pub good : r .good ≡ true → (r .line ≡ line + left) × Ended (Due.downs left next of marks) s left (Due.downs 0 last of (r .of)) at (r .at)
-  pub bad : r .good ≡ false → Stopped (Due.downs left next of marks) s line (r .line)
+module _ (of : List Channel) where
+  -- what is due where `left` lines are left
+  abbrev pub downsDue : ℕ → DownsAt → Due
+  downsDue left p = Due.downs left (p .next) of (p .of)
 
--- a bad line: no right one comes
-down-bad : {left next line at : ℕ} {of : List Channel} {marks : List Bool} {s : List ℕ}
-    → ((c : ChannelNumber) (u : UnitNumber) → downLine s ≡ DownLine′.Is c u → downAllowed next (getD of (c .0) noChannel) c u ≡ true → ⊥)
-    → DownsFound (suc left) line at next of marks s (badDowns line)
-down-bad {line = line} {s = s} f =
-    record {
-      last = 0;
-      good = λ e. never e refl;
-      bad = λ e. at-once line (record {
-        none = λ item end t r q. let w = right-read s t r q in f (w .0) (w .1) (w .2) (w .3);
-        more = λ of marks c e. c;
-      });
-    }
+  pub down-step : (p : DownsAt) (s : List ℕ) → Step (downSection of) downsDue p s
+  down-step p s = by (downLine s) refl
+    where
+      none : ((c : ChannelNumber) (u : UnitNumber) → downLine s ≡ DownLine′.Is c u → downAllowed (p .next) (getD of (c .0) noChannel) c u ≡ true → ⊥)
+          → (left : ℕ) → Bad (downsDue (suc left) p) s
+      none f left =
+          record {
+            none = λ item end t r q. let w = right-read s t r q in f (w .0) (w .1) (w .2) (w .3);
+            more = λ of marks word c e. c;
+          }
 
-pub downs-found : (left line at next : ℕ) (of : List Channel) (marks : List Bool) (s : List ℕ) → DownsFound left line at next of marks s (downsFrom left line at next of marks s)
-unfolding downsFrom
-downs-found zero line at next of marks s =
-    let z : at - at ≡ 0 = omega arith in
-    record {
-      last = next;
-      good = λ e. (omega arith, record { on = omega arith; reads = rw z (no-lines (Due.downs 0 next of marks) s) });
-      bad = λ e. never refl e;
-    }
-downs-found (suc left) line at next of marks s =
-    by (downLine s) refl (λ line at next marks s. downs-found left line at next of marks s)
-  where
-    further : (c : ChannelNumber) (u : UnitNumber) → DownIs s (c .0) (u .0) → (next ≤ c .0 * 16 + u .0) × (u .0 < unitsOf (getD of (c .0) noChannel))
-        → {r : Downs} → DownsFound left (line + 1) (at + 6) (c .0 * 16 + u .0 + 1) of (set marks (c .0 * 16 + u .0) true) (drop 6 s) r
-        → DownsFound (suc left) line at next of marks s r
-    further c u i a {r} m =
-        let right : Right (Due.downs (suc left) next of marks) (Item.down (c .0) (u .0)) (Due.downs left (c .0 * 16 + u .0 + 1) of (set marks (c .0 * 16 + u .0) true)) =
-        Right.downLine (i .channel) (i .unit) (a .0) (a .1) in
-        record {
-          last = m .last;
-          good = λ e. let g = m .good e in (omega (arith, g .0), ended-more 6 right (i .starts .same) (g .1));
-          bad = λ e. stopped-more right (i .starts .same) (m .bad e);
-        }
-
-    by : (r : DownLine) → downLine s ≡ r
-        → ((line at next : ℕ) (marks : List Bool) (s : List ℕ) → DownsFound left line at next of marks s (downsFrom left line at next of marks s))
-        → DownsFound (suc left) line at next of marks s (onDown r (badDowns line) λ c u.
-        cond (downAllowed next (getD of (c .0) noChannel) c u)
-        (downsFrom left (line + 1) (at + 6) (c .0 * 16 + u .0 + 1) of (set marks (c .0 * 16 + u .0) true) (drop 6 s))
-        (badDowns line))
-    by DownLine′.Wrong e rest = down-bad (λ c u q a. let z : _≡_ {A = ℕ} 0 1 = cc in omega arith)
-    by (DownLine′.Is c u) e rest =
-        by-bool (downAllowed next (getD of (c .0) noChannel) c u)
-        (λ t. rw t (further c u (down-redone s c u e) (allowed next (getD of (c .0) noChannel) c u t) (rest (line + 1) (at + 6) (c .0 * 16 + u .0 + 1) (set marks (c .0 * 16 + u .0) true) (drop 6 s))))
-        (λ t. rw t (down-bad (λ d v q a.
-        let p : DownLine′.Is c u ≡ DownLine′.Is d v = sym e ∙ q in
-        let x : c ≡ d = cc in
-        let y : u ≡ v = cc in
-        never (rw (← x, ← y) at a) t)))
+      by : (r : DownLine) → downLine s ≡ r → Step (downSection of) downsDue p s
+      by DownLine′.Wrong e = Step.stops (none (λ c u q a. let z : _≡_ {A = ℕ} 0 1 = cc in omega arith)) (downs-wrong of e)
+      by (DownLine′.Is c u) e =
+          by-bool (downAllowed (p .next) (getD of (c .0) noChannel) c u)
+          (λ t. let i = down-redone s c u e in
+          let a = allowed (p .next) (getD of (c .0) noChannel) c u t in
+          Step.takes 6 _ (λ left. Right.downLine (i .channel) (i .unit) (a .0) (a .1)) (i .starts .same) (downs-go of e t))
+          (λ t. Step.stops (none (λ d v q a.
+          let w : DownLine′.Is c u ≡ DownLine′.Is d v = sym e ∙ q in
+          let x : c ≡ d = cc in
+          let y : u ≡ v = cc in
+          never (rw (← x, ← y) at a) t)) (downs-refused of e t))

@@ -1,5 +1,5 @@
 -- The first 2,048 bytes decide: a longer text is read as what it begins with, so a program need not keep more. No
--- right lines take more than 1,767 bytes, so a text of 2,048 bytes has a bad line, and that line lies within them.
+-- right lines take more than 1,950 bytes, so a text of 2,048 bytes has a bad line, and that line lies within them.
 -- Assumes nothing.
 use Prim.Native.Nat.{ℕ, suc, _+_, _*_, _^_, _≤_, _<_}
 use mathlib.Core.Path.{_≡_, sym, ap, _∙_}
@@ -24,9 +24,10 @@ use Rattle.configuration_form.proofs.Unique.{first-named}
 
 -- how many bytes the lines that are due take at most
 abbrev weight : Due → ℕ
-weight Due.first = 1767
-weight (Due.channels left next drum of) = 14 * left + 1540
-weight (Due.downs left next of marks) = 6 * left
+weight Due.first = 1950
+weight (Due.channels left next drum of) = 14 * left + 1723
+weight (Due.downs left next of marks) = 6 * left + 183
+weight (Due.codes left next of marks word) = 3 * left
 
 count-long : (k n : ℕ) → n < 10 ^ suc k → length (line (Item.count n)) ≤ k + 2
 count-long k n h = omega (arith, length-append (decimalText n) (bytes "\n"), few-digits k n h)
@@ -45,6 +46,8 @@ share (Right.channelLine {left = left} {c = c} {n = n} {kind = kind} a b d e f) 
     (omega (arith, channel-long c kind n), omega (arith, channel-long c kind n))
 share (Right.downCount {m = m} a) = let l = count-long 2 m (omega arith) in (omega arith, omega arith)
 share (Right.downLine {left = left} a b d e) = (omega arith, omega arith)
+share (Right.codeCount {n = n} a) = let l = count-long 1 n (omega arith) in (omega arith, omega arith)
+share (Right.codeLine {left = left} a b d e f) = (omega arith, omega arith)
 
 shares : {due end : Due} {items : List Item} → AllRight due items end → length (written items) + weight end ≤ weight due
 shares AllRight.none = omega arith
@@ -58,7 +61,7 @@ starts l rest more x h e =
     sym (take-append-drop n rest) ∙ ap (λ (p : List ℕ). p ++ drop n rest) f
 
 -- the first bad line of a text is that of a longer one, where it has 14 bytes or more to show
-longer : (s more : List ℕ) (number : ℕ) → 1781 ≤ length s → FirstBad s number → FirstBad (s ++ more) number
+longer : (s more : List ℕ) (number : ℕ) → 1964 ≤ length s → FirstBad s number → FirstBad (s ++ more) number
 longer s more number h f =
     let r = f .reads in
     let w = shares (r .right) in
@@ -77,12 +80,12 @@ longer s more number h f =
       };
       bad = record {
         none = λ item next t q e. f .bad .none item next (drop (length (line item)) (f .rest)) q (starts (line item) (f .rest) more t (omega (arith, share q .1)) e);
-        more = λ of marks c e. let z : length (f .rest ++ more) ≡ 0 = ap length e in omega (arith, length-append (f .rest) more);
+        more = λ of marks word c e. let z : length (f .rest ++ more) ≡ 0 = ap length e in omega (arith, length-append (f .rest) more);
       };
     }
 
 -- the written form of a configuration is shorter
-form-long : {s : List ℕ} {of : List Channel} {marks : List Bool} → InForm s of marks → length s ≤ 1767
+form-long : {s : List ℕ} {of : List Channel} {marks : List Bool} {word : ℕ} → InForm s of marks word → length s ≤ 1950
 form-long {s} w =
     let r = w .reads in
     let l : length s ≡ length (written (r .items)) + 0 = ap length (r .text) ∙ length-append (written (r .items)) [] in
@@ -93,25 +96,28 @@ pub enough : (s more : List ℕ) → 2048 ≤ length s → configurationOf (s ++
 enough s more h = by (meaning s .said)
   where
     by : Said (configurationOf s) → configurationOf (s ++ more) ≡ configurationOf s
-    by (Said.goods of marks e) = absurd (omega (arith, form-long (meaning s .written of marks e)))
+    by (Said.goods of marks word e) = absurd (omega (arith, form-long (meaning s .written of marks word e)))
     by (Said.bads n e) = first-named (s ++ more) n (longer s more n (omega arith) (meaning s .first n e)) ∙ sym e
 
 -- how many lines are due at most
 abbrev lines : Due → ℕ
-lines Due.first = 274
-lines (Due.channels left next drum of) = left + 257
-lines (Due.downs left next of marks) = left
+lines Due.first = 335
+lines (Due.channels left next drum of) = left + 318
+lines (Due.downs left next of marks) = left + 61
+lines (Due.codes left next of marks word) = left
 
 one-less : {due next : Due} {item : Item} → Right due item next → lines next + 1 ≤ lines due
 one-less (Right.channelCount a) = omega arith
 one-less (Right.channelLine a b d e f) = omega arith
 one-less (Right.downCount a) = omega arith
 one-less (Right.downLine a b d e) = omega arith
+one-less (Right.codeCount a) = omega arith
+one-less (Right.codeLine a b d e f) = omega arith
 
 less : {due end : Due} {items : List Item} → AllRight due items end → length items + lines end ≤ lines due
 less AllRight.none = omega arith
 less (AllRight.more r a) = omega (arith, one-less r, less a)
 
--- and no line after the 275th is ever named
-pub few-lines : (s : List ℕ) (number : ℕ) → FirstBad s number → number ≤ 275
+-- and no line after the 336th is ever named
+pub few-lines : (s : List ℕ) (number : ℕ) → FirstBad s number → number ≤ 336
 few-lines s number f = omega (arith, f .next, f .reads .many, less (f .reads .right))

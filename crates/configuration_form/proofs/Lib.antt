@@ -1,7 +1,10 @@
 pub mod LineLaws
 pub mod ReadLaws
+pub mod SectionLaws
 pub mod ChannelLaws
 pub mod DownLaws
+pub mod CodeLaws
 pub mod Meaning
 pub mod Unique
 pub mod Enough
+pub mod Listed

@@ -39,7 +39,7 @@ pub record Starts (s : List ℕ) (item : Item) (k : ℕ) : Type 0 where
   pub long : k ≡ length (line item)
 
 -- a byte that stands at an index, not 0, is what is dropped there
-head-at : (s : List ℕ) (k b : ℕ) → getD s k 0 ≡ suc b → drop k s ≡ suc b ∷ drop (suc k) s
+pub head-at : (s : List ℕ) (k b : ℕ) → getD s k 0 ≡ suc b → drop k s ≡ suc b ∷ drop (suc k) s
 head-at [] k b e = absurd (omega arith)
 head-at (x ∷ s) zero b e = rw e refl
 head-at (x ∷ s) (suc k) b e = head-at s k b e

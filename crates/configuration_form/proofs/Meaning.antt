@@ -1,34 +1,34 @@
 -- What reading a configuration means: a good answer is given for the written form of just that configuration, and
--- refusal 14 names the first bad or missing line. The count line, the channel lines, the second count line and the
--- down lines are joined, one case for each way out. Assumes nothing.
-use Prim.Native.Nat.{ℕ, _+_, _-_, _^_, _≤_, _<_}
-use mathlib.Core.Path.{_≡_, refl, ap, subst, _∙_}
+-- refusal 14 names the first bad or missing line. The three sections, each after its count, are joined by what
+-- proofs/SectionLaws.antt shows of any one. Assumes nothing.
+use Prim.Native.Nat.{ℕ, _<_, _≤_}
+use mathlib.Core.Path.{_≡_, refl, sym, ap, subst}
 use mathlib.Core.Bool.{Bool, true, false}
-use mathlib.Core.List.{List, [], _++_}
+use mathlib.Core.List.{List, []}
+use native.Mathlib.Nat.{zero-add}
 use native.Mathlib.Omega.{arith}
 use lib.Dec.{ltb}
 use lib.ListN.{length, drop, length-drop, drop-of-length-le}
-use lib.Seq.{drop-drop}
 use borrow.Author.Tests.{ltb-true, ltb-false}
 use Rattle.numbers.proofs.Tests.{by-bool, never}
-use Rattle.text.specs.declared.Number.{Number}
-use Rattle.text.specs.declared.Number.the-variants as Number′
 use Rattle.channels.specs.declared.Channel.{Channel}
-use Rattle.channels.specs.Channels.{noChannels, noDown}
+use Rattle.channels.specs.Channels.{noChannels, noDown, noCodes}
 use Rattle.configuration.specs.declared.section.Channels.{Channels}
 use Rattle.configuration.specs.declared.section.Downs.{Downs}
+use Rattle.configuration.specs.declared.section.Codes.{Codes}
 use Rattle.configuration.specs.declared.Verdict.{Verdict}
 use Rattle.configuration.specs.declared.Verdict.the-variants as Verdict′
 use Rattle.configuration.specs.declared.Answer.{Answer}
-use Rattle.configuration.specs.Lines.{onNumber, lastNumber}
-use Rattle.configuration.specs.Sections.{channelsFrom, downsFrom}
-use Rattle.configuration.specs.Configured.{refused, good, afterDowns, afterChannels, configurationOf}
-use Rattle.configuration_form.specs.Form.{Item, line, Due, Right, Reads, Bad, InForm, FirstBad}
-use Rattle.configuration_form.proofs.LineLaws.{last-redone, last-undone}
-use Rattle.configuration_form.proofs.ReadLaws.{no-lines, one-more, and-then}
-use Rattle.configuration_form.proofs.ChannelLaws.{channels-found}
-use Rattle.configuration_form.proofs.DownLaws.{downs-found}
+use Rattle.configuration.specs.Sections.{badCodes, channelsFrom, downsFrom, codesFrom}
+use Rattle.configuration.specs.Configured.{refused, good, andNoMore, thirdSection, withCodes, afterDowns, afterChannels, configurationOf}
+use Rattle.configuration.proofs.AnySection.{ChannelsAt, channelSection, DownsAt, downSection, CodesAt, codeSection}
+use Rattle.configuration_form.specs.Form.{Item, Due, Right, InForm, FirstBad}
 use Rattle.configuration_form.specs.Means.{Said, Means}
+use Rattle.configuration_form.proofs.ReadLaws.{no-lines}
+use Rattle.configuration_form.proofs.SectionLaws.{SoFar, Through, counted}
+use Rattle.configuration_form.proofs.ChannelLaws.{channelsDue, channel-step}
+use Rattle.configuration_form.proofs.DownLaws.{downsDue, down-step}
+use Rattle.configuration_form.proofs.CodeLaws.{codesDue, code-step}
 
 abbrev isGood : Verdict → Bool
 isGood Verdict′.Good = true
@@ -42,135 +42,99 @@ means-bad : {s : List ℕ} {number : ℕ} → FirstBad s number → Means s (ref
 means-bad {s} {number} b =
     record {
       said = Said.bads number refl;
-      written = λ of marks e. never (ap (λ (a : Answer). isGood (a .verdict)) e) refl;
+      written = λ of marks word e. never (ap (λ (a : Answer). isGood (a .verdict)) e) refl;
       first = λ n e. subst (FirstBad s) (ap (λ (a : Answer). lineOf (a .verdict)) e) b;
     }
 
-means-good : {s : List ℕ} {of : List Channel} {marks : List Bool} → InForm s of marks → Means s (good of marks)
-means-good {s} {of} {marks} w =
+means-good : {s : List ℕ} {of : List Channel} {marks : List Bool} {word : ℕ} → InForm s of marks word → Means s (good of marks word)
+means-good {s} {of} {marks} {word} w =
     record {
-      said = Said.goods of marks refl;
-      written = λ o m e.
+      said = Said.goods of marks word refl;
+      written = λ o m x e.
           let p : of ≡ o = ap (λ (a : Answer). a .configuration .channels) e in
           let q : marks ≡ m = ap (λ (a : Answer). a .configuration .down) e in
-          rw (← p, ← q) w;
+          let r : word ≡ x = ap (λ (a : Answer). a .configuration .codes) e in
+          rw (← p, ← q, ← r) w;
       first = λ n e. never refl (ap (λ (a : Answer). isGood (a .verdict)) e);
     }
 
--- no count where one is due
-no-count : (most : ℕ) (s : List ℕ) (item : Item) (t : List ℕ) → most < 10 ^ 7 → lastNumber 0 most s ≡ Number′.Wrong → (n : ℕ) → n ≤ most → item ≡ Item.count n → s ≡ line item ++ t → ⊥
-no-count most s item t h e n l i q =
-    let w : s ≡ line (Item.count n) ++ t = q ∙ ap (λ (j : Item). line j ++ t) i in
-    let r = ap (lastNumber 0 most) w ∙ last-undone 0 most n t (omega arith) l h in
-    let z : _≡_ {A = ℕ} 0 1 = cc in
-    omega arith
+-- nothing is right behind the last code line
+pub nothing-due : {next word : ℕ} {of : List Channel} {marks : List Bool} {item : Item} {end : Due} → Right (Due.codes 0 next of marks word) item end → ⊥
+nothing-due = elim [ ]
 
 module _ (s : List ℕ) where
-  -- the down lines were read, and then
-  after-downs : {before last : ℕ} {of : List Channel} (second : Downs)
-      → (second .good ≡ true → (second .line ≡ before + 1) × Reads Due.first s before (Due.downs 0 last of (second .of)) (drop (second .at) s))
-      → (second .good ≡ false → FirstBad s (second .line))
-      → Means s (afterDowns s of second)
-  unfolding afterDowns
-  after-downs {before} {last} {of} second g b =
-      by-bool (second .good)
-      (λ t. by-bool (ltb (second .at) (length s))
-      (λ u. rw (t, u) (means-bad (record {
-        before = before;
-        next = g t .0;
-        due = Due.downs 0 last of (second .of);
-        rest = drop (second .at) s;
-        reads = g t .1;
-        bad = record { none = λ item next x r q. nothing r; more = λ o m c e. follows (ltb-true (second .at) (length s) u) e };
+  -- the third section was read, and then nothing follows
+  no-more : (of : List Channel) (marks : List Bool) (line to : ℕ) (last : CodesAt) → SoFar s line to (codesDue of marks 0 last)
+      → Means s (withCodes of marks (andNoMore s (codesFrom 0 line to (last .next) (last .of) (drop to s))))
+  unfolding andNoMore codesFrom
+  no-more of marks line to last far =
+      by-bool (ltb to (length s))
+      (λ u. rw u (means-bad (record {
+        before = far .before;
+        next = far .counted;
+        due = codesDue of marks 0 last;
+        rest = drop to s;
+        reads = far .reads;
+        bad = record { none = λ item next t r q. nothing-due r; more = λ o m x c q. follows (ltb-true to (length s) u) q };
       })))
-      (λ u. rw (t, u) (means-good (record {
-        lines = before;
-        end = Due.downs 0 last of (second .of);
-        reads = rw (drop-of-length-le s {i = second .at} (ltb-false (second .at) (length s) u)) at (g t .1);
-        all = (refl, refl);
-      }))))
-      (λ t. rw t (means-bad (b t)))
+      (λ u. rw u (means-good (record {
+        lines = far .before;
+        end = codesDue of marks 0 last;
+        reads = rw (drop-of-length-le s {i = to} (ltb-false to (length s) u)) at (far .reads);
+        all = (refl, refl, refl);
+      })))
     where
-      nothing : {next : ℕ} {o : List Channel} {m : List Bool} {item : Item} {end : Due} → Right (Due.downs 0 next o m) item end → ⊥
-      nothing = elim [ ]
+      follows : to < length s → drop to s ≡ [] → ⊥
+      follows h q = let l : length (drop to s) ≡ 0 = ap length q in omega (arith, length-drop to s)
 
-      follows : second .at < length s → drop (second .at) s ≡ [] → ⊥
-      follows h e = let l : length (drop (second .at) s) ≡ 0 = ap length e in omega (arith, length-drop (second .at) s)
+  after-codes : (of : List Channel) (marks : List Bool) (third : Codes) → Through codeSection (codesDue of marks) (code-step of marks) s third → Means s (withCodes of marks (andNoMore s third))
+  unfolding andNoMore
+  after-codes of marks third (Through.good line to last e far) = subst (λ (r : Codes). Means s (withCodes of marks (andNoMore s r))) (sym e) (no-more of marks line to last far)
+  after-codes of marks third (Through.bad number e b) = subst (λ (r : Codes). Means s (withCodes of marks (andNoMore s r))) (sym e) (means-bad b)
 
-  -- the channel lines were read, and then
-  after-channels : {before last : ℕ} {drums : Bool} (first : Channels)
-      → (first .good ≡ true → (first .line ≡ before + 1) × Reads Due.first s before (Due.channels 0 last drums (first .of)) (drop (first .at) s))
-      → (first .good ≡ false → FirstBad s (first .line))
-      → Means s (afterChannels s first)
+  -- the second section was read, and then the third follows
+  with-third : (of : List Channel) (line to : ℕ) (last : DownsAt) → SoFar s line to (downsDue of 0 last)
+      → Means s (afterDowns s of (downsFrom 0 line to (last .next) of (last .of) (drop to s)))
+  unfolding afterDowns thirdSection downsFrom
+  with-third of line to last far =
+      counted codeSection (codesDue of (last .of)) (code-step of (last .of)) 60 (omega arith) (downsDue of 0 last) (record { next = 0; of = noCodes })
+      (λ n h. Right.codeCount h) only (λ o m w c. c)
+      (λ (third : Codes). Means s (withCodes of (last .of) third)) (badCodes line) (andNoMore s) s line to far means-bad (after-codes of (last .of))
+    where
+      only : (item : Item) (next : Due) → Right (downsDue of 0 last) item next → (n : ℕ) × (n ≤ 60) × (item ≡ Item.count n)
+      only item next (Right.codeCount {n = n} l) = (n, l, refl)
+
+  after-downs : (of : List Channel) (second : Downs) → Through (downSection of) (downsDue of) (down-step of) s second → Means s (afterDowns s of second)
+  unfolding afterDowns
+  after-downs of second (Through.good line to last e far) = subst (λ (r : Downs). Means s (afterDowns s of r)) (sym e) (with-third of line to last far)
+  after-downs of second (Through.bad number e b) = subst (λ (r : Downs). Means s (afterDowns s of r)) (sym e) (means-bad b)
+
+  -- the first section was read, and then the second follows
+  with-second : (line to : ℕ) (last : ChannelsAt) → SoFar s line to (channelsDue 0 last)
+      → Means s (afterChannels s (channelsFrom 0 line to (last .next) (last .drum) (last .of) (drop to s)))
+  unfolding afterChannels channelsFrom
+  with-second line to last far =
+      counted (downSection (last .of)) (downsDue (last .of)) (down-step (last .of)) 256 (omega arith) (channelsDue 0 last) (record { next = 0; of = noDown })
+      (λ n h. Right.downCount h) only (λ o m w c. c)
+      (Means s) (refused line) (afterDowns s (last .of)) s line to far means-bad (after-downs (last .of))
+    where
+      only : (item : Item) (next : Due) → Right (channelsDue 0 last) item next → (n : ℕ) × (n ≤ 256) × (item ≡ Item.count n)
+      only item next (Right.downCount {m = m} l) = (m, l, refl)
+
+  after-channels : (first : Channels) → Through channelSection channelsDue channel-step s first → Means s (afterChannels s first)
   unfolding afterChannels
-  after-channels {before} {last} {drums} first g b =
-      by-bool (first .good)
-      (λ t. rw t (count (lastNumber 0 256 (drop (first .at) s)) refl (g t .0) (g t .1)))
-      (λ t. rw t (means-bad (b t)))
-    where
-      only : (item : Item) {next : Due} → Right (Due.channels 0 last drums (first .of)) item next → (m : ℕ) × (m ≤ 256) × (item ≡ Item.count m)
-      only item (Right.downCount {m = m} l) = (m, l, refl)
-
-      count : (d : Number) → lastNumber 0 256 (drop (first .at) s) ≡ d → first .line ≡ before + 1
-          → Reads Due.first s before (Due.channels 0 last drums (first .of)) (drop (first .at) s)
-          → Means s (onNumber d (refused (first .line)) λ m j.
-          afterDowns s (first .of) (downsFrom m (first .line + 1) (first .at + j) 0 (first .of) noDown (drop (first .at + j) s)))
-      count Number′.Wrong e l r =
-          means-bad (record {
-            before = before;
-            next = l;
-            due = Due.channels 0 last drums (first .of);
-            rest = drop (first .at) s;
-            reads = r;
-            bad = record {
-              none = λ item next t w q. let o = only item w in no-count 256 (drop (first .at) s) item t (omega arith) e (o .0) (o .1) (o .2) q;
-              more = λ of marks c q. c;
-            };
-          })
-      count (Number′.Is m j) e l r =
-          let k = last-redone 0 256 (drop (first .at) s) m j e in
-          let one = one-more (Right.downCount {next = last} {drum = drums} {of = first .of} (k .most)) (k .starts .same) (no-lines (Due.downs m 0 (first .of) noDown) (drop j (drop (first .at) s))) in
-          let upto : Reads Due.first s (before + 1) (Due.downs m 0 (first .of) noDown) (drop (first .at + j) s) = rw (drop-drop j (first .at) s) at (and-then r one) in
-          let found = downs-found m (first .line + 1) (first .at + j) 0 (first .of) noDown (drop (first .at + j) s) in
-          let second = downsFrom m (first .line + 1) (first .at + j) 0 (first .of) noDown (drop (first .at + j) s) in
-          after-downs {before = before + 1 + m} second
-          (λ t. let f = found .good t in
-          let d : first .at + j + (second .at - (first .at + j)) ≡ second .at = omega (arith, f .1 .on) in
-          let p : drop (second .at - (first .at + j)) (drop (first .at + j) s) ≡ drop (second .at) s = drop-drop (second .at - (first .at + j)) (first .at + j) s ∙ ap (λ (n : ℕ). drop n s) d in
-          (omega (arith, f .0, l), rw p at (and-then upto (f .1 .reads))))
-          (λ t. let f = found .bad t in
-          record { before = before + 1 + f .before; next = omega (arith, f .counted, l); due = f .end; rest = f .rest; reads = and-then upto (f .reads); bad = f .bad })
+  after-channels first (Through.good line to last e far) = subst (λ (r : Channels). Means s (afterChannels s r)) (sym e) (with-second line to last far)
+  after-channels first (Through.bad number e b) = subst (λ (r : Channels). Means s (afterChannels s r)) (sym e) (means-bad b)
 
 -- what the reader answers
 pub meaning : (s : List ℕ) → Means s (configurationOf s)
 unfolding configurationOf
-meaning s = count (lastNumber 0 16 s) refl
+meaning s =
+    simp zero-add at (
+    counted channelSection channelsDue channel-step 16 (omega arith) Due.first (record { next = 0; drum = false; of = noChannels })
+    (λ n h. Right.channelCount h) only (λ o m w c. c)
+    (Means s) (refused 1) (afterChannels s) s 1 0 (record { before = 0; counted = refl; reads = no-lines Due.first s }) means-bad (after-channels s)
+    )
   where
-    only : (item : Item) {next : Due} → Right Due.first item next → (n : ℕ) × (n ≤ 16) × (item ≡ Item.count n)
-    only item (Right.channelCount {n = n} l) = (n, l, refl)
-
-    count : (d : Number) → lastNumber 0 16 s ≡ d → Means s (onNumber d (refused 1) λ n k. afterChannels s (channelsFrom n 2 k 0 false noChannels (drop k s)))
-    count Number′.Wrong e =
-        means-bad (record {
-          before = 0;
-          next = refl;
-          due = Due.first;
-          rest = s;
-          reads = no-lines Due.first s;
-          bad = record {
-            none = λ item next t w q. let o = only item w in no-count 16 s item t (omega arith) e (o .0) (o .1) (o .2) q;
-            more = λ of marks c q. c;
-          };
-        })
-    count (Number′.Is n k) e =
-        let c = last-redone 0 16 s n k e in
-        let one = one-more (Right.channelCount (c .most)) (c .starts .same) (no-lines (Due.channels n 0 false noChannels) (drop k s)) in
-        let found = channels-found n 2 k 0 false noChannels (drop k s) in
-        let first = channelsFrom n 2 k 0 false noChannels (drop k s) in
-        after-channels s {before = 1 + n} first
-        (λ t. let f = found .good t in
-        let d : k + (first .at - k) ≡ first .at = omega (arith, f .1 .on) in
-        let p : drop (first .at - k) (drop k s) ≡ drop (first .at) s = drop-drop (first .at - k) k s ∙ ap (λ (n : ℕ). drop n s) d in
-        (omega (arith, f .0), rw p at (and-then one (f .1 .reads))))
-        (λ t. let f = found .bad t in
-        record { before = 1 + f .before; next = omega (arith, f .counted); due = f .end; rest = f .rest; reads = and-then one (f .reads); bad = f .bad })
+    only : (item : Item) (next : Due) → Right Due.first item next → (n : ℕ) × (n ≤ 16) × (item ≡ Item.count n)
+    only item next (Right.channelCount {n = n} l) = (n, l, refl)

@@ -18,12 +18,13 @@ use Rattle.configuration.specs.declared.line.ChannelLine.{ChannelLine}
 use Rattle.configuration.specs.declared.line.ChannelLine.the-variants as ChannelLine′
 use Rattle.configuration.specs.declared.line.DownLine.{DownLine}
 use Rattle.configuration.specs.declared.line.DownLine.the-variants as DownLine′
-use Rattle.configuration.specs.Lines.{least, most, lastNumber, channelLine, downLine}
+use Rattle.configuration.specs.Lines.{least, most, lastNumber, channelLine, downLine, codeLine}
 use Rattle.configuration.specs.Configured.{refused, good, configurationOf}
 use Rattle.configuration_form.specs.Form.{Item, line, written, Due, Right, AllRight, Complete, Reads, InForm, FirstBad}
 use Rattle.configuration_form.proofs.LineLaws.{last-undone, channel-undone, down-undone}
+use Rattle.configuration_form.proofs.CodeLaws.{Code, is-same, code-undone}
 use Rattle.configuration_form.specs.Means.{Said}
-use Rattle.configuration_form.proofs.Meaning.{meaning}
+use Rattle.configuration_form.proofs.Meaning.{meaning, nothing-due}
 
 -- two counts that one text starts with are one
 same-count : (high m n : ℕ) (s t : List ℕ) → high < 10 ^ 7 → m ≤ high → n ≤ high → line (Item.count m) ++ s ≡ line (Item.count n) ++ t → m ≡ n
@@ -33,7 +34,7 @@ same-count high m n s t h a b e =
     let r : Number′.Is m (length (line (Item.count m))) ≡ Number′.Is n (length (line (Item.count n))) = sym p ∙ ap (lastNumber 0 high) e ∙ q in
     cc
 
--- and two channels, and two down units
+-- and two channels, two down units, two codes
 same-channel : (c d : ℕ) (k l : Kind) (m n : ℕ) (s t : List ℕ) → c ≤ 15 → least k ≤ m → m ≤ most k → d ≤ 15 → least l ≤ n → n ≤ most l
     → line (Item.channel c k m) ++ s ≡ line (Item.channel d l n) ++ t → (c ≡ d) × (k ≡ l) × (m ≡ n)
 same-channel c d k l m n s t c15 km mk d15 ln nl e =
@@ -53,6 +54,9 @@ same-down c d u v s t c15 u15 d15 v15 e =
     numbers : (x y : ChannelNumber) (a b : UnitNumber) → DownLine′.Is x a ≡ DownLine′.Is y b → (x ≡ y) × (a ≡ b)
     numbers x y a b e = (cc, cc)
 
+same-code : (j k : ℕ) (s t : List ℕ) → Code j → Code k → line (Item.code j) ++ s ≡ line (Item.code k) ++ t → j ≡ k
+same-code j k s t a b e = is-same (sym (code-undone j s a) ∙ ap codeLine e ∙ code-undone k t b)
+
 -- where a line is due, one text starts with one right line
 one : {due next end : Due} {i j : Item} (s t : List ℕ) → Right due i next → Right due j end → line i ++ s ≡ line j ++ t → (i ≡ j) × (next ≡ end)
 one s t (Right.channelCount {n = m} a) (Right.channelCount {n = n} b) e =
@@ -63,6 +67,10 @@ one s t (Right.downCount {m = m} a) (Right.downCount {m = n} b) e =
     let z = same-count 256 m n s t (omega arith) a b e in rw z (refl, refl)
 one s t (Right.downLine {c = c} {u = u} c15 u15 p q) (Right.downLine {c = d} {u = v} d15 v15 x y) e =
     let z = same-down c d u v s t c15 u15 d15 v15 e in rw (z .0, z .1) (refl, refl)
+one s t (Right.codeCount {n = m} a) (Right.codeCount {n = n} b) e =
+    let z = same-count 60 m n s t (omega arith) a b e in rw z (refl, refl)
+one s t (Right.codeLine {k = j} a b d f p) (Right.codeLine {k = k} x y z w q) e =
+    let i = same-code j k s t (record { least = a; most = b; not16 = d; not17 = f }) (record { least = x; most = y; not16 = z; not17 = w }) e in rw i (refl, refl)
 
 -- nothing right follows
 abbrev Stop : Due → List ℕ → Type 0
@@ -92,42 +100,39 @@ reads-once {t = t} {u = u} x p y q =
     (sym (x .many) ∙ z .0 ∙ y .many, z .1, z .2)
 
 -- where all is configured nothing right follows, and what is configured is known
-all-stops : (due : Due) (of : List Channel) (marks : List Bool) (rest : List ℕ) → Complete due of marks → Stop due rest
-all-stops (Due.downs zero next o m) of marks rest c = λ item end t r e. nothing r
-  where
-    nothing : {item : Item} {end : Due} → Right (Due.downs zero next o m) item end → ⊥
-    nothing = elim [ ]
+pub all-stops : (due : Due) (of : List Channel) (marks : List Bool) (word : ℕ) (rest : List ℕ) → Complete due of marks word → Stop due rest
+all-stops (Due.codes zero next o m w) of marks word rest c = λ item end t r e. nothing-due r
 
-all-once : (due : Due) (of o : List Channel) (marks m : List Bool) → Complete due of marks → Complete due o m → (of ≡ o) × (marks ≡ m)
-all-once (Due.downs zero next x y) of o marks m c d = (sym (c .0) ∙ d .0, sym (c .1) ∙ d .1)
+all-once : (due : Due) (of o : List Channel) (marks m : List Bool) (word w : ℕ) → Complete due of marks word → Complete due o m w → (of ≡ o) × (marks ≡ m) × (word ≡ w)
+all-once (Due.codes zero next x y z) of o marks m word w c d = (sym (c .0) ∙ d .0, sym (c .1) ∙ d .1, sym (c .2) ∙ d .2)
 
 -- every configuration in the written form is read as itself
-pub read-back : (s : List ℕ) (of : List Channel) (marks : List Bool) → InForm s of marks → configurationOf s ≡ good of marks
-read-back s of marks w = by (meaning s .said)
+pub read-back : (s : List ℕ) (of : List Channel) (marks : List Bool) (word : ℕ) → InForm s of marks word → configurationOf s ≡ good of marks word
+read-back s of marks word w = by (meaning s .said)
   where
     stops : Stop (w .end) []
-    stops = all-stops (w .end) of marks [] (w .all)
+    stops = all-stops (w .end) of marks word [] (w .all)
 
-    by : Said (configurationOf s) → configurationOf s ≡ good of marks
-    by (Said.goods o m e) =
-        let v = meaning s .written o m e in
-        let z = reads-once (w .reads) stops (v .reads) (all-stops (v .end) o m [] (v .all)) in
-        let a = all-once (v .end) o of m marks (v .all) (subst (λ (d : Due). Complete d of marks) (z .1) (w .all)) in
-        e ∙ rw (a .0, a .1) refl
+    by : Said (configurationOf s) → configurationOf s ≡ good of marks word
+    by (Said.goods o m x e) =
+        let v = meaning s .written o m x e in
+        let z = reads-once (w .reads) stops (v .reads) (all-stops (v .end) o m x [] (v .all)) in
+        let a = all-once (v .end) o of m marks x word (v .all) (subst (λ (d : Due). Complete d of marks word) (z .1) (w .all)) in
+        e ∙ rw (a .0, a .1, a .2) refl
     by (Said.bads n e) =
         let f = meaning s .first n e in
         let z = reads-once (w .reads) stops (f .reads) (f .bad .none) in
-        absurd (f .bad .more of marks (subst (λ (d : Due). Complete d of marks) (z .1) (w .all)) (sym (z .2)))
+        absurd (f .bad .more of marks word (subst (λ (d : Due). Complete d of marks word) (z .1) (w .all)) (sym (z .2)))
 
 -- and the first bad line is the one that is named
 pub first-named : (s : List ℕ) (number : ℕ) → FirstBad s number → configurationOf s ≡ refused number
 first-named s number f = by (meaning s .said)
   where
     by : Said (configurationOf s) → configurationOf s ≡ refused number
-    by (Said.goods o m e) =
-        let v = meaning s .written o m e in
-        let z = reads-once (v .reads) (all-stops (v .end) o m [] (v .all)) (f .reads) (f .bad .none) in
-        absurd (f .bad .more o m (subst (λ (d : Due). Complete d o m) (z .1) (v .all)) (sym (z .2)))
+    by (Said.goods o m x e) =
+        let v = meaning s .written o m x e in
+        let z = reads-once (v .reads) (all-stops (v .end) o m x [] (v .all)) (f .reads) (f .bad .none) in
+        absurd (f .bad .more o m x (subst (λ (d : Due). Complete d o m x) (z .1) (v .all)) (sym (z .2)))
     by (Said.bads n e) =
         let g = meaning s .first n e in
         let z = reads-once (g .reads) (g .bad .none) (f .reads) (f .bad .none) in

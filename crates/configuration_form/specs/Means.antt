@@ -11,11 +11,11 @@ use Rattle.configuration_form.specs.Form.{InForm, FirstBad}
 
 -- an answer is a configuration, or a line's number
 pub data Said (a : Answer) : Type 0 where
-  goods : (of : List Channel) (marks : List Bool) → a ≡ good of marks → Said a
+  goods : (of : List Channel) (marks : List Bool) (word : ℕ) → a ≡ good of marks word → Said a
   bads : (number : ℕ) → a ≡ refused number → Said a
 
 -- what an answer says of a text
 pub record Means (s : List ℕ) (a : Answer) : Type 0 where
   pub said : Said a
-  pub written : (of : List Channel) (marks : List Bool) → a ≡ good of marks → InForm s of marks
+  pub written : (of : List Channel) (marks : List Bool) (word : ℕ) → a ≡ good of marks word → InForm s of marks word
   pub first : (number : ℕ) → a ≡ refused number → FirstBad s number

@@ -54,7 +54,7 @@ pub listing-bound : (s : List ℕ) → length (listingOf s) ≤ 96
 listing-bound s = by (meaning s .said)
   where
     by : Said (configurationOf s) → length (listingOf s) ≤ 96
-    by (Said.goods of marks e) = rw e (omega (arith, lines-bound (record { channels = of; down = marks }) 16 0))
+    by (Said.goods of marks word e) = rw e (omega (arith, lines-bound (record { channels = of; down = marks; codes = word }) 16 0))
     by (Said.bads n e) =
         let number = decimalText (numberOf BadConfiguration) in
         rw e (omega (arith, length-append number (bytes " LINE " ++ (decimalText n ++ bytes "\n")), few-digits 1 (numberOf BadConfiguration) (omega arith), length-append (decimalText n) (bytes "\n"), few-digits 2 n (omega (arith, few-lines s n (meaning s .first n e)))))

@@ -25,15 +25,16 @@ same-line e = ap (λ (a : Answer). badLineOf (a .verdict)) e
 abbrev pub badLine : List ℕ → ℕ
 badLine s = badLineOf (configurationOf s .verdict)
 
--- a text in the written form of some channels and down units
+-- a text in the written form of some channels, down units and codes
 pub record Configures (s : List ℕ) : Type 0 where
   pub of : List Channel
   pub marks : List Bool
-  pub form : InForm s of marks
+  pub word : ℕ
+  pub form : InForm s of marks word
 
 -- the written form of a configuration gets 0
 pub form-0 : (s : List ℕ) → Configures s → badLine s ≡ 0
-form-0 s w = same-line (read-back s (w .of) (w .marks) (w .form))
+form-0 s w = same-line (read-back s (w .of) (w .marks) (w .word) (w .form))
 
 -- and the first bad or missing line of a text is the number that it gets
 pub first-bad : (s : List ℕ) (number : ℕ) → FirstBad s number → badLine s ≡ number
@@ -44,7 +45,7 @@ pub 0-form : (s : List ℕ) → badLine s ≡ 0 → Configures s
 0-form s z = by (meaning s .said)
   where
     by : Said (configurationOf s) → Configures s
-    by (Said.goods o m e) = record { of = o; marks = m; form = meaning s .written o m e }
+    by (Said.goods o m x e) = record { of = o; marks = m; word = x; form = meaning s .written o m x e }
     by (Said.bads n e) =
         let f = meaning s .first n e in
         let same : badLine s ≡ n = same-line e in
@@ -54,7 +55,7 @@ pub bad-first : (s : List ℕ) → 1 ≤ badLine s → FirstBad s (badLine s)
 bad-first s p = by (meaning s .said)
   where
     by : Said (configurationOf s) → FirstBad s (badLine s)
-    by (Said.goods o m e) =
+    by (Said.goods o m x e) =
         let same : badLine s ≡ 0 = same-line e in
         absurd (omega (arith, p, same))
     by (Said.bads n e) = subst (FirstBad s) (sym (same-line e)) (meaning s .first n e)

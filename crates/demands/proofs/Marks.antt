@@ -1,5 +1,5 @@
--- WHAT NO CALL CHANGES: what a channel has, and but for a mark call the marks of a unit; shown of the rules' steps, and
--- so of the cell's calls. And what an accepted call answers. Assumes nothing.
+-- WHAT NO CALL CHANGES: what a channel has, the codes that set interlock, and but for a mark call the marks of a unit;
+-- shown of the rules' steps, and so of the cell's calls. And what an accepted call answers. Assumes nothing.
 use Prim.Native.Nat.{ℕ}
 use mathlib.Core.Path.{_≡_, refl, sym, ap, _∙_}
 use mathlib.Core.Bool.{Bool, true, false, _&&_}
@@ -14,10 +14,13 @@ use Rattle.numbers.specs.declared.Outcome.the-variants as Outcomes
 use Rattle.units.specs.State.{assignable, unitIn}
 use Rattle.units.specs.declared.Mark.{Mark as UnitMark}
 use Rattle.units.specs.declared.Unit.{Unit as UnitState}
+use Rattle.channels.specs.declared.Configuration.{Configuration}
+use Rattle.configuration_units.specs.Fresh.{freshUnits}
 use Rattle.schedule.specs.Calls.{deleted, released}
+use Rattle.packets.specs.Demand.{fresh}
 use Rattle.packets.specs.Picks.{All, find}
 use Rattle.packets.specs.Rules as Rules
-use Rattle.packets.specs.Rules.{accept, closed, completed, finished, isDone, isFailure, locked, returnIfDone, siteOf, startable, started, submitted}
+use Rattle.packets.specs.Rules.{accept, closed, completed, finished, isDone, isTrouble, locked, returnIfDone, siteOf, startable, started, submitted}
 use Rattle.packets.specs.State.{State, isUnit, motionOn, packetIn, release, setLock, takeUnit, wanted, withLock}
 use Rattle.packets.specs.declared.Answer.{Answer}
 use Rattle.packets.specs.declared.Answer.the-variants as Answers
@@ -29,64 +32,32 @@ use Rattle.packets.specs.declared.Site.the-variants.{AtAddress, AtUnit}
 use Rattle.packets.specs.declared.Spot.{Spot}
 use Rattle.packets.specs.declared.Verdict.{Verdict}
 use Rattle.packets.specs.declared.Verdict.the-variants.{Denied, Granted}
+use Rattle.packets.proofs.Stays.{Configured, run-has}
 use Rattle.packets.proofs.Store.{unit-keep, unit-release, unit-take}
 use Rattle.lists.proofs.History.{outcome-is}
 use Rattle.cell_selection.specs.Selecting.{isJob}
-use Rattle.cell.specs.Calls.{acted, answerOf}
+use Rattle.cell.specs.Calls.{acted, answerOf, freshCell}
 use Rattle.cell.specs.declared.Cell.{Cell}
+use Rattle.cell_history.proofs.FromFresh.{reached}
 use Rattle.cell_history.proofs.MeantLaws.{Plain, by-meant}
 use Rattle.cell_history.proofs.HeardLaws.{does-heard}
-use Rattle.cell_history.specs.Heard.{heardAs, heardBy, heardOf, inside, taken}
-use Rattle.cell_history.specs.History.{Call, Chosen, Complete, Deck, Delete, Does, End, Entered, Key, Mark, Mistyped, Release, Reply, Said, Select, Shown, Start, Status, Submit, meant}
+use Rattle.cell_history.specs.Heard.{heard, heardAs, heardBy, heardOf, inside, taken}
+use Rattle.cell_history.specs.History.{Call, Chosen, Complete, Deck, Delete, Does, End, Entered, Event, Key, Leads, Mark, Mistyped, Release, Reply, Said, Select, Shown, Start, Status, Submit, meant}
 use Rattle.demands.specs.Demands.{SameMarks}
 use Rattle.demands.specs.Refusing.{refusalIn}
 use Rattle.demands.proofs.Accepted.{heard-granted}
 
--- ---- the channels
-
-module _ (s : State) where
-  starts-has : (c : ℕ) (o : Option ℕ) → started s c o .channels ≡ s .channels
-  starts-has c none = refl
-  starts-has c (some e) = refl
-
-  returns-has : (j : ℕ) (t : State) → t .channels ≡ s .channels → returnIfDone j t .channels ≡ s .channels
-  returns-has j t h = by-bool (isDone t j) (λ e. rw e h) (λ e. rw e h)
-
-  completed-has : (c : ℕ) (how : How) (m : Motion) → completed s c how m .channels ≡ s .channels
-  completed-has c how Idle = refl
-  completed-has c how (Busy j p) =
-      returns-has j (finished s c how j p)
-      (by-bool (isFailure how && isUnit (packetIn (s .jobs) j p .at)) (λ e. rw e refl) (λ e. rw e refl))
-
-  submitted-has : (j p f c : ℕ) (w : Spot) → submitted s j p f c w .channels ≡ s .channels
-  submitted-has j p f c w =
-      by-bool (eqb f 0o07) (λ e. by-bool (locked s c (siteOf w)) (λ d. rw (e, d) refl) (λ d. rw (e, d) refl))
-      (λ e. by-bool (eqb f 0o23) (λ d. rw (e, d) refl) (λ d. rw (e, d) refl))
-
-  accept-has : (x : Rules.Call) → accept s x .channels ≡ s .channels
-  unfolding accept
-  accept-has (Rules.Take j asg) = refl
-  accept-has (Rules.Submit j p f c w) = submitted-has j p f c w
-  accept-has (Rules.Start c) = starts-has c (find (startable s c) (s .queue))
-  accept-has (Rules.Complete c how) = completed-has c how (motionOn s c)
-  accept-has (Rules.End j e) = returns-has j (closed s j e) refl
-  accept-has (Rules.Mark c u m on) = refl
-
-  step-has : (x : Rules.Call) → Rules.step s x .state .channels ≡ s .channels
-  unfolding Rules.step
-  step-has x = go (Rules.refusal s x)
-    where
-      go : (v : Verdict) → Rules.decided s x v .state .channels ≡ s .channels
-      go Granted = accept-has x
-      go (Denied n) = refl
-
-run-has : (s : State) (l : List Rules.Call) → Rules.run s l .channels ≡ s .channels
-unfolding Rules.run
-run-has s [] = refl
-run-has s (x ∷ l) = run-has (Rules.step s x .state) l ∙ step-has s x
+-- ---- the channels and the codes
 
 pub channels-stay : (c d : Cell) (x : Call) (reply : Reply) → Does c x reply d → inside d .channels ≡ inside c .channels
-channels-stay c d x reply h = ap (λ (s : State). s .channels) (does-heard c d x reply h) ∙ run-has (inside c) (heardOf x reply)
+channels-stay c d x reply h =
+    ap (λ (s : State). s .channels) (does-heard c d x reply h) ∙ ap (λ (z : Configured). z .channels) (run-has (inside c) (heardOf x reply))
+
+pub codes-stay : (configuration : Configuration) (es : List Event) (c : Cell) → Leads (freshCell configuration) es c → inside c .codes ≡ configuration .codes
+codes-stay configuration es c h =
+    ap (λ (s : State). s .codes) (reached configuration es c h)
+    ∙ ap (λ (z : Configured). z .codes) (run-has (fresh (configuration .channels) (configuration .codes) (freshUnits (configuration .down))) (heard es))
+    ∙ (unfold fresh in refl)
 
 -- ---- the marks
 
@@ -121,7 +92,7 @@ module _ (f : UnitState → Bool) (locks : (v : UnitState) (b : Bool) → f (wit
     completed-keeps c how Idle = refl
     completed-keeps c how (Busy j p) =
         returns-keep j (finished s c how j p)
-        ∙ by-bool (isFailure how && isUnit (packetIn (s .jobs) j p .at))
+        ∙ by-bool (isTrouble (s .codes) how && isUnit (packetIn (s .jobs) j p .at))
         (λ e. rw e (lock-keeps (s .units) c (packetIn (s .jobs) j p .at) true)) (λ e. rw e refl)
 
     submitted-keeps : (j p g c : ℕ) (spot : Spot) → read (submitted s j p g c spot) ≡ read s

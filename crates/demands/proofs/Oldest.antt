@@ -11,7 +11,7 @@ use borrow.Author.Tests.{eqb-true}
 use Rattle.numbers.proofs.Tests.{by-bool, never}
 use Rattle.packets.specs.Picks.{All, find, keep}
 use Rattle.packets.specs.Rules as Rules
-use Rattle.packets.specs.Rules.{aimed, always, closed, closing, codeFor, cut, failed, finished, freshJob, isAt, isDone, isFailure, locked, over, packet, returnIfDone, siteOf, startable, started, submitted}
+use Rattle.packets.specs.Rules.{aimed, always, closed, closing, codeFor, cut, failed, finished, freshJob, isAt, isDone, isTrouble, locked, over, packet, returnIfDone, siteOf, startable, started, submitted}
 use Rattle.packets.specs.State.{State, entryOf, isEmpty, isListed, isStill, isUnit, motionOn, packetIn, packetOf, packetsIn, placeOf, put, lock, relist, restatus, restatusAll, stateIn, store, sweep, withStatus}
 use Rattle.packets.specs.declared.Assignment.{Assignment}
 use Rattle.packets.specs.declared.How.{How}
@@ -179,7 +179,7 @@ module _ (s : State) (I : Inv s) (c : ℕ) (small : c < 16) (how : How) (j p : �
   thins-finished =
       let s₁ = over s c j p (codeFor how) in
       let a = packetIn (s .jobs) j p .at in
-      by-bool (isFailure how && isUnit a)
+      by-bool (isTrouble (s .codes) how && isUnit a)
       (λ e. rw e
       (let t = thins-on s s₁ (sweep s₁ j (isAt c a) failed) thins-over (thins-sweep s₁ j (isAt c a) failed (over-inside s I c small j p is (codeFor how)) refl failed-less (thins-still s s₁ thins-over)) in
       record { queue = t .queue; fewer = t .fewer }))

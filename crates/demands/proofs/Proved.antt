@@ -15,6 +15,7 @@ use Rattle.channels.specs.declared.Configuration.{Configuration}
 use Rattle.configuration_units.specs.Fresh.{freshUnits}
 use Rattle.configuration_units.proofs.FreshLaws.{fresh-free}
 use Rattle.configuration_form.proofs.Meaning.{meaning}
+use Rattle.configuration_form.proofs.Listed.{listed-exactly}
 use Rattle.configuration_form.proofs.Unique.{first-named, read-back}
 use Rattle.configuration_listing.specs.Listing.{counted}
 use Rattle.cards_writing.specs.Writing.{takes}
@@ -24,10 +25,13 @@ use Rattle.cards_round.proofs.Allowing.{allowed-taken, taken-allowed}
 use Rattle.cards_round.proofs.Fits.{always-written}
 use Rattle.cards_round.proofs.Order.{same-request}
 use Rattle.cards_writing.proofs.Round.{room-read}
+use Rattle.units.specs.State.{unitIn}
 use Rattle.packets.specs.Codes.{statusAfter}
 use Rattle.packets.proofs.CodesProof.{codes}
 use Rattle.packets.specs.Demand.{Holds, Isolated, Stretch, Holding, events}
 use Rattle.packets.proofs.DemandProof.{demand3}
+use Rattle.packets.proofs.BeforeProof.{all-listed, as-before}
+use Rattle.packets.proofs.InterlocksProof.{lock-after}
 use Rattle.packets.specs.Picks.{keep}
 use Rattle.packets.specs.State.{State, isStill, packetIn}
 use Rattle.packets.specs.declared.Status.{Status}
@@ -47,7 +51,7 @@ use Rattle.demands.proofs.InOrder.{first-in-order}
 use Rattle.demands.proofs.Named.{named-so, nobody-so}
 use Rattle.demands.proofs.Oldest.{ordered}
 use Rattle.demands.proofs.Owning.{free-place, holds-then, on-its-own, reached-inv, still-own, still-there}
-use Rattle.demands.proofs.Marks.{answers-so, changes-so, channels-stay, marks-stay}
+use Rattle.demands.proofs.Marks.{answers-so, changes-so, channels-stay, codes-stay, marks-stay}
 use Rattle.demands.proofs.Missing.{refused-so, missing-so, alone-so}
 use Rattle.demands.proofs.Places.{ended-so, marked-so, runs-on}
 use Rattle.demands.proofs.Requests.{closes-so, completes-so, starts-so, submits-so}
@@ -92,6 +96,7 @@ demand-1 =
       configuration = meaning;
       read = read-back;
       named = first-named;
+      section = listed-exactly;
       printed = listed-bad;
     }
 
@@ -104,7 +109,7 @@ unfolding Rules.step
 codes-at configuration es c h x =
     subst (λ (s : State). Rules.refusal s x ≡ Granted → (place packet : ℕ) → packetIn (Rules.decided s x (Rules.refusal s x) .state .jobs) place packet .status ≡ statusAfter s x place packet)
     (sym (reached configuration es c h))
-    (λ g place packet. rw g (codes (configuration .channels) (freshUnits (configuration .down)) (fresh-free (configuration .down)) (heard es) x g place packet))
+    (λ g place packet. rw g (codes (configuration .channels) (configuration .codes) (freshUnits (configuration .down)) (fresh-free (configuration .down)) (heard es) x g place packet))
 
 -- the stated codes, in the cell that follows
 codes-in : (configuration : Configuration) (es : List Event) (c : Cell) → Leads (freshCell configuration) es c
@@ -164,6 +169,7 @@ demand-2 =
       marked = marked-so;
       marks = marks-stay;
       channels = channels-stay;
+      sectionStays = codes-stay;
       ended = λ c d x reply h ok place inError. ended-so c d reply ok place inError x h;
       closes = closes-so;
       submits = submits-so;
@@ -183,6 +189,11 @@ demand-2 =
       alone = alone-so;
       busy = λ configuration es c h channel place packet. (every-cell configuration es c h .always .moving channel place packet, every-cell configuration es c h .always .movers place packet);
       codes = codes-in;
+      interlocks = λ configuration es c h d x reply k e y q channel unit.
+          let a = accepted-is c d x reply k e y q in
+          ap (λ (s : State). unitIn (s .units) channel unit .interlock) (a .1)
+          ∙ lock-after (inside c) (reached-inv configuration es c h) channel unit y (a .0);
+      before = (all-listed, as-before);
       answers = answers-so;
       changes = changes-so;
       order = λ configuration es c h d x reply k e y q.
@@ -239,25 +250,25 @@ held-stretch h c d (e ∷ es) w =
 -- the calls that the lists heard, from the cell after the selection, and what the rules answer to them
 module _ (configuration : Configuration) (before : List Event) (c : Cell) (l : Leads (freshCell configuration) before c)
     (d : Cell) (job : Selection) (k : Does c Select (Chosen Done job) d) (h : Holding) (at : h .place ≡ job .place) (H : Holds (inside d) h) where
-  by-the-rules : (calls : List Rules.Call) → Stretch h (inside d) calls → Isolated h (events (inside d) calls) (Rules.run (inside d) calls)
+  by-the-rules : (calls : List Rules.Call) → Stretch h (inside d) calls → Isolated (configuration .codes) h (events (inside d) calls) (Rules.run (inside d) calls)
   by-the-rules calls stretch =
       let t = taking-of c d job k in
-      subst (λ (s : State). Isolated h (events s calls) (Rules.run s calls)) (sym (t .1))
+      subst (λ (s : State). Isolated (configuration .codes) h (events s calls) (Rules.run s calls)) (sym (t .1))
       (subst (λ (s : State). Rules.refusal s (takingOf job) ≡ Granted → Holds (Rules.step s (takingOf job) .state) h
       → Stretch h (Rules.step s (takingOf job) .state) calls
-      → Isolated h (events (Rules.step s (takingOf job) .state) calls) (Rules.run (Rules.step s (takingOf job) .state) calls))
+      → Isolated (configuration .codes) h (events (Rules.step s (takingOf job) .state) calls) (Rules.run (Rules.step s (takingOf job) .state) calls))
       (sym (reached configuration before c l))
-      (λ g o u. demand3 (configuration .channels) (freshUnits (configuration .down)) (fresh-free (configuration .down)) (heard before) (job .place) _ g h at o calls u)
+      (λ g o u. demand3 (configuration .channels) (configuration .codes) (freshUnits (configuration .down)) (fresh-free (configuration .down)) (heard before) (job .place) _ g h at o calls u)
       (t .0)
       (subst (λ (s : State). Holds s h) (t .1) H)
       (subst (λ (s : State). Stretch h s calls) (t .1) stretch))
 
   -- what the caller was told is what the rules answer, and the lists at the end are what the rules lead to
-  as-told : (during : List Event) (e : Cell) → WhileHeld h d during e → Isolated h (told during) (inside e)
+  as-told : (during : List Event) (e : Cell) → WhileHeld h d during e → Isolated (configuration .codes) h (told during) (inside e)
   as-told during e w =
       let m = held-leads h d e during w in
-      subst (λ (x : List Told.Event). Isolated h x (inside e)) (sym (leads-told d e during m))
-      (subst (λ (s : State). Isolated h (events (inside d) (heard during)) s) (sym (leads-heard d e during m))
+      subst (λ (x : List Told.Event). Isolated (configuration .codes) h x (inside e)) (sym (leads-told d e during m))
+      (subst (λ (s : State). Isolated (configuration .codes) h (events (inside d) (heard during)) s) (sym (leads-heard d e during m))
       (by-the-rules (heard during) (held-stretch h d e during w)))
 
 pub demand-3 : Demand3

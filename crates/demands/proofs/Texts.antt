@@ -65,10 +65,10 @@ unfolding written
 written-so r room t f = rw (t, f) refl
 
 -- what the listing program puts for the written form of a configuration
-pub listed : (s room after : List ℕ) (r : ℕ) (of : List Channel) (marks : List Bool) → InForm s of marks → Listed s room after r
-    → 96 ≤ length room → take r after ≡ linesFrom (record { channels = of; down = marks }) 16 0
-listed s room after r of marks f l h =
-    l .whole h .0 ∙ ap (λ (a : Answer). answerText (a .verdict) (a .configuration)) (read-back s of marks f)
+pub listed : (s room after : List ℕ) (r : ℕ) (of : List Channel) (marks : List Bool) (word : ℕ) → InForm s of marks word → Listed s room after r
+    → 96 ≤ length room → take r after ≡ linesFrom (record { channels = of; down = marks; codes = word }) 16 0
+listed s room after r of marks word f l h =
+    l .whole h .0 ∙ ap (λ (a : Answer). answerText (a .verdict) (a .configuration)) (read-back s of marks word f)
 
 -- the units that it counts are those of the fresh cell
 counted-to : (configuration : Configuration) (grid : List (List UnitState)) (channel : ChannelNumber) (n : ℕ)

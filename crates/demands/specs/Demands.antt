@@ -22,7 +22,7 @@ use Rattle.line_words.specs.Forms.{IsWord, idOf}
 use Rattle.units.specs.State.{assignable, markedUnit, unitIn, unitSet, unitsFrom}
 use Rattle.units.specs.declared.Mark.{Mark as UnitMark}
 use Rattle.units.specs.declared.Unit.{Unit as UnitState}
-use Rattle.channels.specs.Channels.{hasUnit}
+use Rattle.channels.specs.Channels.{hasUnit, setsInterlock}
 use Rattle.channels.specs.declared.Channel.{Channel}
 use Rattle.channels.specs.declared.Configuration.{Configuration}
 use Rattle.keyboard.specs.Messages.{messageWords, readMessage}
@@ -32,7 +32,7 @@ use Rattle.keyboard.specs.declared.Fault.{Fault}
 use Rattle.keyboard.specs.declared.Word.{Word}
 use Rattle.keyboard_answers.specs.Answers.{answerText}
 use Rattle.configuration.specs.Configured.{configurationOf, good, refused}
-use Rattle.configuration_form.specs.Form.{FirstBad, InForm}
+use Rattle.configuration_form.specs.Form.{FirstBad, InForm, listsCode}
 use Rattle.configuration_form.specs.Means.{Means}
 use Rattle.configuration_units.specs.Fresh.{freshUnits}
 use Rattle.configuration_listing.specs.Listing.{Listed, assignableUnits, errorText, linesFrom}
@@ -53,8 +53,10 @@ use Rattle.schedule_deck.specs.Report.{deckNotes, deckSchedule}
 use Rattle.text.specs.Room.{Whole}
 use Rattle.assign_drum.specs.Drum.{noArea}
 use Rattle.assign_heads.specs.Sums.{howMany}
+use Rattle.packets.specs.Before.{AllListed, AsBefore, all60}
 use Rattle.packets.specs.Codes.{statusAfter}
 use Rattle.packets.specs.Demand.{Holding, Holds, Isolated}
+use Rattle.packets.specs.Interlocks.{interlockAfter}
 use Rattle.packets.specs.Picks.{keep}
 use Rattle.packets.specs.State.{entryOf, heldBy, inMotion, isClosing, isEmpty, isStill, jobIn, motionOn, noCore, packetIn, stateIn}
 use Rattle.packets.specs.Rules.{closing}
@@ -140,11 +142,15 @@ pub record Demand1 : Type 0 where
       → readMessage message .asks ≡ Wrong word fault → (reply ≡ Mistyped fault) × (d ≡ c)
   pub faulty : (c d : Cell) (message : List ℕ) (fault : Fault) → Does c (Key message) (Mistyped fault) d
       → (word : Word) × (readMessage message .asks ≡ Wrong word fault)
-  -- a configuration is read exactly if it is the written form of one; else refusal 14 names the first bad or
-  -- missing line
+  -- a configuration, with its three sections, is read exactly if it is the written form of one; else refusal 14 names
+  -- the first bad or missing line
   pub configuration : (s : List ℕ) → Means s (configurationOf s)
-  pub read : (s : List ℕ) (of : List Channel) (marks : List Bool) → InForm s of marks → configurationOf s ≡ good of marks
+  pub read : (s : List ℕ) (of : List Channel) (marks : List Bool) (word : ℕ) → InForm s of marks word
+      → configurationOf s ≡ good of marks word
   pub named : (s : List ℕ) (line : ℕ) → FirstBad s line → configurationOf s ≡ refused line
+  -- the third section is "the codes that set interlock": those that its lines list, and no other
+  pub section : (s : List ℕ) (of : List Channel) (marks : List Bool) (word : ℕ) (form : InForm s of marks word) (code : ℕ)
+      → setsInterlock word code ≡ listsCode (form .reads .items) code
   -- and the second program prints that line
   pub printed : (s room after : List ℕ) (r line : ℕ) → FirstBad s line → Listed s room after r → 96 ≤ length room
       → take r after ≡ errorText line
@@ -155,6 +161,7 @@ withUnits c units =
     cellOf (c .schedule)
     (record {
       channels = c .lists .channels;
+      codes = c .lists .codes;
       jobs = c .lists .jobs;
       list = c .lists .list;
       moving = c .lists .moving;
@@ -286,6 +293,9 @@ pub record Demand2 : Type 0 where
       → ((channel unit : ℕ) (mark : UnitMark) (on : Bool) → meant x ≡ some (Mark channel unit mark on) → ⊥) → (channel unit : ℕ)
       → SameMarks (unitIn (inside d .units) channel unit) (unitIn (inside c .units) channel unit)
   pub channels : (c d : Cell) (x : Call) (reply : Reply) → Does c x reply d → inside d .channels ≡ inside c .channels
+  -- and the codes that set interlock are those of the configuration through any calls
+  pub sectionStays : (configuration : Configuration) (es : List Event) (c : Cell) → Leads (freshCell configuration) es c
+      → inside c .codes ≡ configuration .codes
   -- "only then a normal end removes its request; an error end suspends it if its sequence is 1 or more, else removes
   -- it": a job that ends is closing so, until a call empties its place; that call does this to its request
   pub ended : (c d : Cell) (x : Call) (reply : Reply) → Does c x reply d → refusalIn reply ≡ none
@@ -323,6 +333,15 @@ pub record Demand2 : Type 0 where
       → (d : Cell) (x : Call) (reply : Reply) → Does c x reply d → refusalIn reply ≡ none
       → (y : Rules.Call) → heardOf x reply ≡ y ∷ []
       → (place packet : ℕ) → packetIn (inside d .jobs) place packet .status ≡ statusAfter (inside c) y place packet
+  -- and each unit's interlock is what such a call makes of it: set by a failure there with one of the codes of the
+  -- section, "any other failure code sets none"; cleared by 07 there, and for the job that gets the unit,
+  pub interlocks : (configuration : Configuration) (es : List Event) (c : Cell) → Leads (freshCell configuration) es c
+      → (d : Cell) (x : Call) (reply : Reply) → Does c x reply d → refusalIn reply ≡ none
+      → (y : Rules.Call) → heardOf x reply ≡ y ∷ []
+      → (channel unit : ℕ) → unitIn (inside d .units) channel unit .interlock ≡ interlockAfter (inside c) y channel unit
+  -- so that where all 60 codes are listed, and a section can list all, any calls of the lists leave and answer what they
+  -- did when document 01 "had every failure set it"
+  pub before : AllListed all60 × AsBefore
   -- what an accepted call answers: "a completion answers the place and number of the packet it ends", and like an end
   -- whether the job's facilities returned; a start what begins; a submission and a mark are done,
   pub answers : (c d : Cell) (x : Call) (a : Answer) → Does c x (Said a) d → refusalIn (Said a) ≡ none
@@ -343,8 +362,8 @@ pub record Demand2 : Type 0 where
       → (status ≡ packetIn (inside c .jobs) place packet .status) × (d ≡ c)
   -- "the second program": for each channel but the drum's its number and how many of its units are assignable in
   -- the fresh cell
-  pub listing : (s room after : List ℕ) (r : ℕ) (of : List Channel) (marks : List Bool) → InForm s of marks → Listed s room after r
-      → 96 ≤ length room → take r after ≡ linesFrom (record { channels = of; down = marks }) 16 0
+  pub listing : (s room after : List ℕ) (r : ℕ) (of : List Channel) (marks : List Bool) (word : ℕ) → InForm s of marks word
+      → Listed s room after r → 96 ≤ length room → take r after ≡ linesFrom (record { channels = of; down = marks; codes = word }) 16 0
   pub counted : (configuration : Configuration) (channel : ChannelNumber)
       → assignableUnits configuration (freshUnits (configuration .down)) channel 16
       ≡ howMany 16 (λ u. hasUnit configuration channel (record { 0 = u })
@@ -370,10 +389,10 @@ pub record Demand3 : Type 0 where
       → (h : Holding) → h .place ≡ job .place → Holds (inside d) h
       -- and any calls while it has it, up to its return or any earlier moment
       → (during : List Event) (e : Cell) → WhileHeld h d during e
-      -- by what the caller was told: the lone unit takes every call that acted, makes the same starts in the same
-      -- order and leaves the same statuses; what starts or moves on a unit this job has submitted there since its
-      -- selection, so that it is of no other job, nor of one that had the same place before
-      → Isolated h (told during) (inside e)
+      -- by what the caller was told: the lone unit, which "takes the same section", takes every call that acted, makes
+      -- the same starts in the same order and leaves the same statuses; what starts or moves on a unit this job has
+      -- submitted there since its selection, so that it is of no other job, nor of one that had the same place before
+      → Isolated (configuration .codes) h (told during) (inside e)
   -- "the head is handed on at once" cannot happen: while a packet of a job is in progress or stopping, on whatever
   -- channel, the job is in its place,
   pub moving : (configuration : Configuration) (es : List Event) (c : Cell) → Leads (freshCell configuration) es c

@@ -98,7 +98,7 @@ module _ (r : Lists) (j : ℕ) (err : Bool) where
         → (left : RequestList) → left ≡ padded (relist j (shut .job .packets) (listOf (r .list)))
         → (units : Units) → units ≡ unitsFrom (cond (shut .done) (releaseAll (r .units .of) j) (r .units .of))
         → _≡_ {A = Acted} (record {
-          lists = record { channels = r .channels; jobs = set (r .jobs) (j % 16) (shut .job); list = left; moving = r .moving; units = units };
+          lists = record { channels = r .channels; codes = r .codes; jobs = set (r .jobs) (j % 16) (shut .job); list = left; moving = r .moving; units = units };
           answer = Closed (shut .leaving);
         }) (outcome r (End j err))
     unfolding accept answer
@@ -121,7 +121,7 @@ module _ (r : Lists) (j : ℕ) (asg : Assignment) where
       → (job : Job) → job ≡ freshJob asg
       → (units : Units) → units ≡ unitsFrom (takeAll (r .units .of) j (wanted asg))
       → _≡_ {A = Acted} (record {
-        lists = record { channels = r .channels; jobs = set (r .jobs) (j % 16) job; list = r .list; moving = r .moving; units = units };
+        lists = record { channels = r .channels; codes = r .codes; jobs = set (r .jobs) (j % 16) job; list = r .list; moving = r .moving; units = units };
         answer = Done;
       }) (outcome r (Take j asg))
   unfolding accept answer
@@ -143,7 +143,7 @@ module _ (r : Lists) (c u : ℕ) (m : UnitMark) (on : Bool) where
   pub mark-is : refusal (stateOf r) (Mark c u m on) ≡ Granted
       → (units : Units) → units ≡ unitsFrom (unitSet (r .units .of) c u (markedUnit m on (unitIn (r .units .of) c u)))
       → _≡_ {A = Acted} (record {
-        lists = record { channels = r .channels; jobs = r .jobs; list = r .list; moving = r .moving; units = units };
+        lists = record { channels = r .channels; codes = r .codes; jobs = r .jobs; list = r .list; moving = r .moving; units = units };
         answer = Done;
       }) (outcome r (Mark c u m on))
   unfolding accept answer

@@ -14,7 +14,7 @@ use Rattle.units.specs.declared.Units.{Units}
 use Rattle.channels.specs.declared.Channel.{Channel}
 use Rattle.channels.specs.declared.Fitted.the-variants.{Nothing}
 use Rattle.packets.proofs.Laws.{and-left, and-right, passes}
-use Rattle.packets.specs.Rules.{Complete, accept, answer, isAt, broken, codeFor, completed, completes, failed, finished, first, isFailure, isWrong, leaving, over, refusal, returnIfDone}
+use Rattle.packets.specs.Rules.{Complete, accept, answer, isAt, broken, codeFor, completed, completes, failed, finished, first, isTrouble, isWrong, leaving, over, refusal, returnIfDone}
 use Rattle.packets.specs.State.{State, blank, carrying, configured, isIdle, isListed, isThereOf, isUnit, jobIn, lock, motionOn, movingStatus, move, noJob, packetIn, relist, restatus, setLock, store, sweep, withPackets, withStatus}
 use Rattle.packets.proofs.Told.{configured-in}
 use Rattle.packets.specs.declared.Acted.{Acted}
@@ -82,13 +82,13 @@ module _ (s : State) (c j p : ℕ) (how : How) (h : j < length (s .jobs)) where
       ∙ ap (focus (move s c Idle) j (withPackets job qs)) (relist-twice j ended qs (fewer-map ended (isAt c at) failed failed-listed) (s .queue)))
 
   -- what a completion leaves before facilities return
-  pub finished-is : let b = isFailure how && isUnit at in
+  pub finished-is : let b = isTrouble (s .codes) how && isUnit at in
       let after = overJob job p how c b in
       finished s c how j p ≡ focus (reunit (move s c Idle) (cond b (setLock (s .units) c at true) (s .units))) j after (relist j (after .packets) (s .queue))
   unfolding packetIn
   finished-is =
-      by-bool (isFailure how && isUnit at)
-      (λ t. rw (t, broken-at c at (and-right (isFailure how) _ t) ended) broken-is)
+      by-bool (isTrouble (s .codes) how && isUnit at)
+      (λ t. rw (t, broken-at c at (and-right (isTrouble (s .codes) how) _ t) ended) broken-is)
       (λ t. rw t over-is)
 
 -- what moves is a packet of the cell, read by its place and number
@@ -133,7 +133,7 @@ module _ (r : Lists) (c : ℕ) (how : How) (m : Motion) (is : m ≡ getD (r .mov
     site = getD (jobIn (r .jobs) j .packets) p blank .at
 
     abbrev breaks : Bool
-    breaks = isFailure how && isUnit site
+    breaks = isTrouble (r .codes) how && isUnit site
 
     abbrev overs : Job
     overs = overJob (jobIn (r .jobs) j) p how c breaks
@@ -148,12 +148,12 @@ module _ (r : Lists) (c : ℕ) (how : How) (m : Motion) (is : m ≡ getD (r .mov
     whole = finished-is (stateOf r) c j p how (omega (arith, size, moves .1))
 
     pub complete-is : (idle : Carrier) → idle ≡ carrying Idle
-        → (b : Bool) → b ≡ isFailure how && isUnit (q .at)
+        → (b : Bool) → b ≡ isTrouble (r .codes) how && isUnit (q .at)
         → (over : Ending) → over ≡ endingOf (overJob (getD (r .jobs) (j % 16) noJob) p how c b) (set (r .moving) (c % 16) idle) j
         → (left : RequestList) → left ≡ padded (relist j (over .job .packets) (listOf (r .list)))
         → (units : Units) → units ≡ unitsFrom (unitsAfter (r .units .of) c (q .at) b j (over .done))
         → _≡_ {A = Acted} (record {
-          lists = record { channels = r .channels; jobs = set (r .jobs) (j % 16) (over .job); list = left; moving = set (r .moving) (c % 16) idle; units = units };
+          lists = record { channels = r .channels; codes = r .codes; jobs = set (r .jobs) (j % 16) (over .job); list = left; moving = set (r .moving) (c % 16) idle; units = units };
           answer = Completed j p (over .leaving);
         }) (outcome r (Complete c how))
     unfolding accept answer

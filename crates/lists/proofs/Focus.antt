@@ -21,7 +21,7 @@ use Rattle.packets.specs.declared.Status.{Status}
 
 -- the state with this job in place j and this list
 abbrev pub focus : State → ℕ → Job → List ℕ → State
-focus s j x q = record { channels = s .channels; units = s .units; moving = s .moving; jobs = set (s .jobs) j x; queue = q }
+focus s j x q = record { channels = s .channels; codes = s .codes; units = s .units; moving = s .moving; jobs = set (s .jobs) j x; queue = q }
 
 pub focus-self : (s : State) (j : ℕ) → s ≡ focus s j (jobIn (s .jobs) j) (s .queue)
 focus-self s j = rw (set-getD (s .jobs) j noJob)
@@ -57,7 +57,7 @@ module _ (s : State) (j : ℕ) (h : j < length (s .jobs)) (x : Job) (q : List �
 
 -- the state with other units
 abbrev pub reunit : State → List (List UnitState) → State
-reunit s units = record { channels = s .channels; units = units; moving = s .moving; jobs = s .jobs; queue = s .queue }
+reunit s units = record { channels = s .channels; codes = s .codes; units = units; moving = s .moving; jobs = s .jobs; queue = s .queue }
 
 -- an ending leaves the packets alone
 pub ending-packets : (b : Bool) (x : Job) → endingIf b x .job .packets ≡ x .packets

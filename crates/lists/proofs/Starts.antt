@@ -85,6 +85,7 @@ module _ (r : Lists) (c : ℕ) (found : Found) (is : found ≡ foundOf (find (st
         → _≡_ {A = Acted} (record {
           lists = record {
             channels = r .channels;
+            codes = r .codes;
             jobs = set (r .jobs) (placeOf e) gone;
             list = left;
             moving = set (r .moving) (c % 16) busy;

@@ -123,7 +123,7 @@ module _ (r : Lists) (j p f c : ℕ) (w : Spot) (on : Channel) (oi : on ≡ getD
         → (left : RequestList) → left ≡ padded (listAfter f (listedAs j p) (relist j (gone .packets) (listOf (r .list))))
         → (units : Units) → units ≡ unitsFrom (cond unlocking (setLock (r .units .of) c (siteOf w) false) (r .units .of))
         → _≡_ {A = Acted} (record {
-          lists = record { channels = r .channels; jobs = set (r .jobs) (j % 16) gone; list = left; moving = r .moving; units = units };
+          lists = record { channels = r .channels; codes = r .codes; jobs = set (r .jobs) (j % 16) gone; list = left; moving = r .moving; units = units };
           answer = Done;
         }) (outcome r (Submit j p f c w))
     unfolding accept answer entryOf

@@ -18,15 +18,15 @@ use Rattle.lists.specs.declared.StatusAnswer.the-variants as StatusAnswe
 
 -- the state that the rules speak of
 abbrev pub stateOf : Lists → State
-stateOf r = record { channels = r .channels; units = r .units .of; jobs = r .jobs; queue = listOf (r .list); moving = r .moving }
+stateOf r = record { channels = r .channels; codes = r .codes; units = r .units .of; jobs = r .jobs; queue = listOf (r .list); moving = r .moving }
 
 -- a state as the code holds it
 abbrev pub listsOf : State → Lists
-listsOf s = record { channels = s .channels; jobs = s .jobs; list = padded (s .queue); moving = s .moving; units = unitsFrom (s .units) }
+listsOf s = record { channels = s .channels; codes = s .codes; jobs = s .jobs; list = padded (s .queue); moving = s .moving; units = unitsFrom (s .units) }
 
 -- the same where a call does not touch the list, whose bytes stay
 abbrev pub keeping : Lists → State → Lists
-keeping r s = record { channels = s .channels; jobs = s .jobs; list = r .list; moving = s .moving; units = unitsFrom (s .units) }
+keeping r s = record { channels = s .channels; codes = s .codes; jobs = s .jobs; list = r .list; moving = s .moving; units = unitsFrom (s .units) }
 
 -- a state as the code holds it, and with 0 past the list's packets
 pub record Kept (s : State) (r : Lists) : Type 0 where

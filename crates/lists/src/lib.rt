@@ -31,9 +31,9 @@ pub enum StatusAnswer {
     Refused(Refusal),
 }
 
-// The state of a fresh cell with these channels and units.
-pub fn fresh(channels: [Channel; 16], units: Units) -> Lists
-    ensures { λ r. ⌜ r ≡ listsOf (fresh channels (units .of)) ⌝ }
+// The state of a fresh cell with these channels, codes that set interlock, and units.
+pub fn fresh(channels: [Channel; 16], codes: u64, units: Units) -> Lists
+    ensures { λ r. ⌜ r ≡ listsOf (fresh channels codes (units .of)) ⌝ }
 {
     let jobs = [packets_job::empty(); 16];
     let list = packets_queue::empty();
@@ -42,6 +42,7 @@ pub fn fresh(channels: [Channel; 16], units: Units) -> Lists
     }; 16];
     Lists {
         channels,
+        codes,
         jobs,
         list,
         moving,
@@ -161,7 +162,7 @@ pub fn complete(lists: Lists, channel: ChannelNumber, how: How) -> Acted
             next.moving[c] = idle;
             let moving = next.moving;
             let at = q.at;
-            let breaking = packets_end::is_breaking(how, at);
+            let breaking = packets_end::is_breaking(next.codes, how, at);
             let over = packets_end::over(job, p, how, channel, breaking, moving, j);
             let gone = over.job;
             next.jobs[i] = gone;

@@ -1,5 +1,6 @@
 -- THE MARKED CASES HOLD, all of them, by computing: decks and cards from their bytes, calls by the computed cell,
 -- which is what the contracts allow. Assumes nothing.
+use Prim.Native.Nat.{ℕ}
 use mathlib.Core.Path.{_≡_, refl, sym, ap, subst, _∙_}
 use mathlib.Core.Bool.{true}
 use mathlib.Core.List.{List, [], _∷_}
@@ -69,30 +70,31 @@ k3 = refl
 
 -- ---- K2 and K4 to K8, by the computed cell
 
-k2 : Holds (Plays (with· noChannels) (alone (bytes "IB/28") (Given 0 2 0 0 0 0 0)))
-unfolding after askedOf cardByte clashError codeError codes deckEnd digitsText enterError entryOf facError facOf fields formError frontError inserted is2 isAlnum isDigit isLetter kindOf lowerSequence malformed numberOfText orderedError precedes priorityOf programName ptyError ranked readCards rules sameKey sameRank sameThere scheduleOf shownBy twoDigitsOf assignOf kindsFrom searchOf runB fitsB startOf areaB drumLength serveOf serviceOf giveFrom chooseOf picks lowestFrom testsB ge sumTo isFreeOf unitIn unitSet assignable legalOf refusal accept answer fresh fittedOn drumOn configured packetIn stateIn put relist enlisted entryOf′ placeOf packetOf setState restatusAll takeAll releaseAll freshCell acted outcome candidate wordFrom freshUnits changedAt withState removed setStateIn
-k2 = let k : Computes (freshCell (with· noChannels)) (alone (bytes "IB/28") (Given 0 2 0 0 0 0 0)) = (refl, (refl, (refl, (refl, tt)))) in follows (freshCell (with· noChannels)) (alone (bytes "IB/28") (Given 0 2 0 0 0 0 0)) k
+module _ (section : ℕ) where
+  k2 : Holds (Plays (with· section noChannels) (alone (bytes "IB/28") (Given 0 2 0 0 0 0 0)))
+  unfolding after askedOf cardByte clashError codeError codes deckEnd digitsText enterError entryOf facError facOf fields formError frontError inserted is2 isAlnum isDigit isLetter kindOf lowerSequence malformed numberOfText orderedError precedes priorityOf programName ptyError ranked readCards rules sameKey sameRank sameThere scheduleOf shownBy twoDigitsOf assignOf kindsFrom searchOf runB fitsB startOf areaB drumLength serveOf serviceOf giveFrom chooseOf picks lowestFrom testsB ge sumTo isFreeOf unitIn unitSet assignable legalOf refusal accept answer fresh fittedOn drumOn configured packetIn stateIn put relist enlisted entryOf′ placeOf packetOf setState restatusAll takeAll releaseAll freshCell acted outcome candidate wordFrom freshUnits changedAt withState removed setStateIn
+  k2 = let k : Computes (freshCell (with· section noChannels)) (alone (bytes "IB/28") (Given 0 2 0 0 0 0 0)) = (refl, (refl, (refl, (refl, tt)))) in follows (freshCell (with· section noChannels)) (alone (bytes "IB/28") (Given 0 2 0 0 0 0 0)) k
 
-k4 : Holds (Plays (with· noChannels) k4Steps)
-unfolding after askedOf cardByte clashError codeError codes deckEnd digitsText enterError entryOf facError facOf fields formError frontError inserted is2 isAlnum isDigit isLetter kindOf lowerSequence malformed numberOfText orderedError precedes priorityOf programName ptyError ranked readCards rules sameKey sameRank sameThere scheduleOf shownBy twoDigitsOf assignOf kindsFrom searchOf runB fitsB startOf areaB drumLength serveOf serviceOf giveFrom chooseOf picks lowestFrom testsB ge sumTo isFreeOf unitIn unitSet assignable legalOf refusal accept answer fresh fittedOn drumOn configured packetIn stateIn put relist enlisted entryOf′ placeOf packetOf setState restatusAll takeAll releaseAll freshCell acted outcome candidate wordFrom freshUnits changedAt withState removed setStateIn
-k4 = let k : Computes (freshCell (with· noChannels)) k4Steps = (refl, (refl, (refl, (refl, (refl, (refl, (refl, (refl, (refl, (refl, (refl, (refl, (refl, (refl, (refl, (refl, tt)))))))))))))))) in follows (freshCell (with· noChannels)) k4Steps k
+  k4 : Holds (Plays (with· section noChannels) k4Steps)
+  unfolding after askedOf cardByte clashError codeError codes deckEnd digitsText enterError entryOf facError facOf fields formError frontError inserted is2 isAlnum isDigit isLetter kindOf lowerSequence malformed numberOfText orderedError precedes priorityOf programName ptyError ranked readCards rules sameKey sameRank sameThere scheduleOf shownBy twoDigitsOf assignOf kindsFrom searchOf runB fitsB startOf areaB drumLength serveOf serviceOf giveFrom chooseOf picks lowestFrom testsB ge sumTo isFreeOf unitIn unitSet assignable legalOf refusal accept answer fresh fittedOn drumOn configured packetIn stateIn put relist enlisted entryOf′ placeOf packetOf setState restatusAll takeAll releaseAll freshCell acted outcome candidate wordFrom freshUnits changedAt withState removed setStateIn
+  k4 = let k : Computes (freshCell (with· section noChannels)) k4Steps = (refl, (refl, (refl, (refl, (refl, (refl, (refl, (refl, (refl, (refl, (refl, (refl, (refl, (refl, (refl, (refl, tt)))))))))))))))) in follows (freshCell (with· section noChannels)) k4Steps k
 
-k5 : Holds (Plays (with· mtChannels) (alone (bytes "IB/1,MT1/2,MT2/3") (Given 0 2 0 0 0 5 3)))
-unfolding after askedOf cardByte clashError codeError codes deckEnd digitsText enterError entryOf facError facOf fields formError frontError inserted is2 isAlnum isDigit isLetter kindOf lowerSequence malformed numberOfText orderedError precedes priorityOf programName ptyError ranked readCards rules sameKey sameRank sameThere scheduleOf shownBy twoDigitsOf assignOf kindsFrom searchOf runB fitsB startOf areaB drumLength serveOf serviceOf giveFrom chooseOf picks lowestFrom testsB ge sumTo isFreeOf unitIn unitSet assignable legalOf refusal accept answer fresh fittedOn drumOn configured packetIn stateIn put relist enlisted entryOf′ placeOf packetOf setState restatusAll takeAll releaseAll freshCell acted outcome candidate wordFrom freshUnits changedAt withState removed setStateIn
-k5 = let k : Computes (freshCell (with· mtChannels)) (alone (bytes "IB/1,MT1/2,MT2/3") (Given 0 2 0 0 0 5 3)) = (refl, (refl, (refl, (refl, tt)))) in follows (freshCell (with· mtChannels)) (alone (bytes "IB/1,MT1/2,MT2/3") (Given 0 2 0 0 0 5 3)) k
+  k5 : Holds (Plays (with· section mtChannels) (alone (bytes "IB/1,MT1/2,MT2/3") (Given 0 2 0 0 0 5 3)))
+  unfolding after askedOf cardByte clashError codeError codes deckEnd digitsText enterError entryOf facError facOf fields formError frontError inserted is2 isAlnum isDigit isLetter kindOf lowerSequence malformed numberOfText orderedError precedes priorityOf programName ptyError ranked readCards rules sameKey sameRank sameThere scheduleOf shownBy twoDigitsOf assignOf kindsFrom searchOf runB fitsB startOf areaB drumLength serveOf serviceOf giveFrom chooseOf picks lowestFrom testsB ge sumTo isFreeOf unitIn unitSet assignable legalOf refusal accept answer fresh fittedOn drumOn configured packetIn stateIn put relist enlisted entryOf′ placeOf packetOf setState restatusAll takeAll releaseAll freshCell acted outcome candidate wordFrom freshUnits changedAt withState removed setStateIn
+  k5 = let k : Computes (freshCell (with· section mtChannels)) (alone (bytes "IB/1,MT1/2,MT2/3") (Given 0 2 0 0 0 5 3)) = (refl, (refl, (refl, (refl, tt)))) in follows (freshCell (with· section mtChannels)) (alone (bytes "IB/1,MT1/2,MT2/3") (Given 0 2 0 0 0 5 3)) k
 
-k6 : Holds (Plays (with· mtChannels) (alone (bytes "IB/1,MT1/2,MT/4") (Given 0 2 0 0 0 3 0)))
-unfolding after askedOf cardByte clashError codeError codes deckEnd digitsText enterError entryOf facError facOf fields formError frontError inserted is2 isAlnum isDigit isLetter kindOf lowerSequence malformed numberOfText orderedError precedes priorityOf programName ptyError ranked readCards rules sameKey sameRank sameThere scheduleOf shownBy twoDigitsOf assignOf kindsFrom searchOf runB fitsB startOf areaB drumLength serveOf serviceOf giveFrom chooseOf picks lowestFrom testsB ge sumTo isFreeOf unitIn unitSet assignable legalOf refusal accept answer fresh fittedOn drumOn configured packetIn stateIn put relist enlisted entryOf′ placeOf packetOf setState restatusAll takeAll releaseAll freshCell acted outcome candidate wordFrom freshUnits changedAt withState removed setStateIn
-k6 = let k : Computes (freshCell (with· mtChannels)) (alone (bytes "IB/1,MT1/2,MT/4") (Given 0 2 0 0 0 3 0)) = (refl, (refl, (refl, (refl, tt)))) in follows (freshCell (with· mtChannels)) (alone (bytes "IB/1,MT1/2,MT/4") (Given 0 2 0 0 0 3 0)) k
+  k6 : Holds (Plays (with· section mtChannels) (alone (bytes "IB/1,MT1/2,MT/4") (Given 0 2 0 0 0 3 0)))
+  unfolding after askedOf cardByte clashError codeError codes deckEnd digitsText enterError entryOf facError facOf fields formError frontError inserted is2 isAlnum isDigit isLetter kindOf lowerSequence malformed numberOfText orderedError precedes priorityOf programName ptyError ranked readCards rules sameKey sameRank sameThere scheduleOf shownBy twoDigitsOf assignOf kindsFrom searchOf runB fitsB startOf areaB drumLength serveOf serviceOf giveFrom chooseOf picks lowestFrom testsB ge sumTo isFreeOf unitIn unitSet assignable legalOf refusal accept answer fresh fittedOn drumOn configured packetIn stateIn put relist enlisted entryOf′ placeOf packetOf setState restatusAll takeAll releaseAll freshCell acted outcome candidate wordFrom freshUnits changedAt withState removed setStateIn
+  k6 = let k : Computes (freshCell (with· section mtChannels)) (alone (bytes "IB/1,MT1/2,MT/4") (Given 0 2 0 0 0 3 0)) = (refl, (refl, (refl, (refl, tt)))) in follows (freshCell (with· section mtChannels)) (alone (bytes "IB/1,MT1/2,MT/4") (Given 0 2 0 0 0 3 0)) k
 
-k7 : Holds (Plays (with· mtChannels) (alone (bytes "IB/1,MT1/2,MT/5") (Missing NoAssignment (bytes "A1    ") (Units Mt))))
-unfolding after askedOf cardByte clashError codeError codes deckEnd digitsText enterError entryOf facError facOf fields formError frontError inserted is2 isAlnum isDigit isLetter kindOf lowerSequence malformed numberOfText orderedError precedes priorityOf programName ptyError ranked readCards rules sameKey sameRank sameThere scheduleOf shownBy twoDigitsOf assignOf kindsFrom searchOf runB fitsB startOf areaB drumLength serveOf serviceOf giveFrom chooseOf picks lowestFrom testsB ge sumTo isFreeOf unitIn unitSet assignable legalOf refusal accept answer fresh fittedOn drumOn configured packetIn stateIn put relist enlisted entryOf′ placeOf packetOf setState restatusAll takeAll releaseAll freshCell acted outcome candidate wordFrom freshUnits changedAt withState removed setStateIn
-k7 = let k : Computes (freshCell (with· mtChannels)) (alone (bytes "IB/1,MT1/2,MT/5") (Missing NoAssignment (bytes "A1    ") (Units Mt))) = (refl, (refl, (refl, (refl, tt)))) in follows (freshCell (with· mtChannels)) (alone (bytes "IB/1,MT1/2,MT/5") (Missing NoAssignment (bytes "A1    ") (Units Mt))) k
+  k7 : Holds (Plays (with· section mtChannels) (alone (bytes "IB/1,MT1/2,MT/5") (Missing NoAssignment (bytes "A1    ") (Units Mt))))
+  unfolding after askedOf cardByte clashError codeError codes deckEnd digitsText enterError entryOf facError facOf fields formError frontError inserted is2 isAlnum isDigit isLetter kindOf lowerSequence malformed numberOfText orderedError precedes priorityOf programName ptyError ranked readCards rules sameKey sameRank sameThere scheduleOf shownBy twoDigitsOf assignOf kindsFrom searchOf runB fitsB startOf areaB drumLength serveOf serviceOf giveFrom chooseOf picks lowestFrom testsB ge sumTo isFreeOf unitIn unitSet assignable legalOf refusal accept answer fresh fittedOn drumOn configured packetIn stateIn put relist enlisted entryOf′ placeOf packetOf setState restatusAll takeAll releaseAll freshCell acted outcome candidate wordFrom freshUnits changedAt withState removed setStateIn
+  k7 = let k : Computes (freshCell (with· section mtChannels)) (alone (bytes "IB/1,MT1/2,MT/5") (Missing NoAssignment (bytes "A1    ") (Units Mt))) = (refl, (refl, (refl, (refl, tt)))) in follows (freshCell (with· section mtChannels)) (alone (bytes "IB/1,MT1/2,MT/5") (Missing NoAssignment (bytes "A1    ") (Units Mt))) k
 
-k8 : Holds (Plays (with· drumChannels) (alone (bytes "IB/1,MD/1500") (Given 0 2 0 35329 36828 0 0)))
-unfolding after askedOf cardByte clashError codeError codes deckEnd digitsText enterError entryOf facError facOf fields formError frontError inserted is2 isAlnum isDigit isLetter kindOf lowerSequence malformed numberOfText orderedError precedes priorityOf programName ptyError ranked readCards rules sameKey sameRank sameThere scheduleOf shownBy twoDigitsOf assignOf kindsFrom searchOf runB fitsB startOf areaB drumLength serveOf serviceOf giveFrom chooseOf picks lowestFrom testsB ge sumTo isFreeOf unitIn unitSet assignable legalOf refusal accept answer fresh fittedOn drumOn configured packetIn stateIn put relist enlisted entryOf′ placeOf packetOf setState restatusAll takeAll releaseAll freshCell acted outcome candidate wordFrom freshUnits changedAt withState removed setStateIn
-k8 = let k : Computes (freshCell (with· drumChannels)) (alone (bytes "IB/1,MD/1500") (Given 0 2 0 35329 36828 0 0)) = (refl, (refl, (refl, (refl, tt)))) in follows (freshCell (with· drumChannels)) (alone (bytes "IB/1,MD/1500") (Given 0 2 0 35329 36828 0 0)) k
+  k8 : Holds (Plays (with· section drumChannels) (alone (bytes "IB/1,MD/1500") (Given 0 2 0 35329 36828 0 0)))
+  unfolding after askedOf cardByte clashError codeError codes deckEnd digitsText enterError entryOf facError facOf fields formError frontError inserted is2 isAlnum isDigit isLetter kindOf lowerSequence malformed numberOfText orderedError precedes priorityOf programName ptyError ranked readCards rules sameKey sameRank sameThere scheduleOf shownBy twoDigitsOf assignOf kindsFrom searchOf runB fitsB startOf areaB drumLength serveOf serviceOf giveFrom chooseOf picks lowestFrom testsB ge sumTo isFreeOf unitIn unitSet assignable legalOf refusal accept answer fresh fittedOn drumOn configured packetIn stateIn put relist enlisted entryOf′ placeOf packetOf setState restatusAll takeAll releaseAll freshCell acted outcome candidate wordFrom freshUnits changedAt withState removed setStateIn
+  k8 = let k : Computes (freshCell (with· section drumChannels)) (alone (bytes "IB/1,MD/1500") (Given 0 2 0 35329 36828 0 0)) = (refl, (refl, (refl, (refl, tt)))) in follows (freshCell (with· section drumChannels)) (alone (bytes "IB/1,MD/1500") (Given 0 2 0 35329 36828 0 0)) k
 
 -- K1 TO K9
-pub marked-cases : All marked
-marked-cases = (k1, (k2, (k3, (k4, (k5, (k6, (k7, (k8, (k9, tt)))))))))
+pub marked-cases : (section : ℕ) → All (marked section)
+marked-cases section = (k1, (k2 section, (k3, (k4 section, (k5 section, (k6 section, (k7 section, (k8 section, (k9 section, tt)))))))))

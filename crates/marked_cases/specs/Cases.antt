@@ -148,9 +148,9 @@ abbrev pub job : List ℕ → List ℕ → List ℕ → List ℕ
 job id priority entries =
     id ++ (bytes ",PTY,2,,ECU,,T,PROG,P," ++ (priority ++ (bytes ",P,3.\n" ++ (id ++ (bytes ",FAC," ++ (entries ++ bytes ".\n"))))))
 
--- a cell with these channels and no unit down
-abbrev pub with· : List Channel → Configuration
-with· channels = record { channels = channels; down = noDown }
+-- a cell with these codes that set interlock and these channels, and no unit down
+abbrev pub with· : ℕ → List Channel → Configuration
+with· codes channels = record { channels = channels; down = noDown; codes = codes }
 
 -- MT channel 3 with four free and 5 with two
 abbrev pub mtChannels : List Channel
@@ -222,26 +222,27 @@ k1Deck =
     (bytes "A1,PTY,2,,ECU,,T,PROG,P,02A5,P,3.\nA1,FAC,IB/2,MT1/2.\n"
     ++ (bytes "B7,PTY,2,,LABEL,,T,PROG,P,A5,C,1.\nB7,FAC,IB/1.\n" ++ bytes "D4,PTY,2,,KEY,,T,PROG,P,01A5,C,1.\nD4,FAC,IB/1.\n"))
 
-abbrev pub marked : List Case
-marked =
+-- whatever codes set interlock
+abbrev pub marked : ℕ → List Case
+marked codes =
     -- K1's priorities in order
     Prints k1Deck (bytes "SP B7 ER 31\nD4 01A05\nA1 02A05\nD4 SCH ACK\n")
     -- K2 fresh core, IB/28 starts at 2
-    ∷ Plays (with· noChannels) (alone (bytes "IB/28") (Given 0 2 0 0 0 0 0))
+    ∷ Plays (with· codes noChannels) (alone (bytes "IB/28") (Given 0 2 0 0 0 0 0))
     -- K3 IB/14 with DB/15 gives card error 14
     ∷ Errs (bytes "A1,PTY,2,,ECU,,T,PROG,P,A5,P,3." ∷ bytes "A1,FAC,IB/14,DB/15." ∷ []) 14
     -- K4 free blocks 2-4 and 8-9, IB/2 and DB/3: IB at 8, DB at 2
-    ∷ Plays (with· noChannels) k4Steps
+    ∷ Plays (with· codes noChannels) k4Steps
     -- K5 MT channel 3 with four free and 5 with two, MT1/2 and MT2/3: 1 to channel 5, 2 to 3
-    ∷ Plays (with· mtChannels) (alone (bytes "IB/1,MT1/2,MT2/3") (Given 0 2 0 0 0 5 3))
+    ∷ Plays (with· codes mtChannels) (alone (bytes "IB/1,MT1/2,MT2/3") (Given 0 2 0 0 0 5 3))
     -- K6 same channels, MT1/2 and MT/4 fit
-    ∷ Plays (with· mtChannels) (alone (bytes "IB/1,MT1/2,MT/4") (Given 0 2 0 0 0 3 0))
+    ∷ Plays (with· codes mtChannels) (alone (bytes "IB/1,MT1/2,MT/4") (Given 0 2 0 0 0 3 0))
     -- K7 MT1/2 and MT/5 don't: MT is lacking
-    ∷ Plays (with· mtChannels) (alone (bytes "IB/1,MT1/2,MT/5") (Missing NoAssignment (bytes "A1    ") (Units Mt)))
+    ∷ Plays (with· codes mtChannels) (alone (bytes "IB/1,MT1/2,MT/5") (Missing NoAssignment (bytes "A1    ") (Units Mt)))
     -- K8 fresh drum, MD/1500 holds 35,329 to 36,828
-    ∷ Plays (with· drumChannels) (alone (bytes "IB/1,MD/1500") (Given 0 2 0 35329 36828 0 0))
+    ∷ Plays (with· codes drumChannels) (alone (bytes "IB/1,MD/1500") (Given 0 2 0 35329 36828 0 0))
     -- K9 job ends while moving: unit not free until the completion
-    ∷ Keeps (with· oneChannel) 3 0 k9Steps
+    ∷ Keeps (with· codes oneChannel) 3 0 k9Steps
     ∷ []
 
 -- each of a list

@@ -46,17 +46,17 @@ actsNow h s (Mark c u m on) = false
 -- doesn't, and the lone unit stands still
 pub record Acted (h : Holding) (s : State) (l : Lone) (x : Call) : Type 0 where
   pub taken : loneTakes l x ≡ true
-  pub sim : Sim h (accept s x) (loneStep (h .drum) l x)
+  pub sim : Sim h (accept s x) (loneStep (s .codes) (h .drum) l x)
   pub start : loneStart (h .place) l x ≡ startIn (answer s x)
 
 -- from a call that the lone unit takes
-acted-by : (h : Holding) (s : State) (l : Lone) (x : Call) → loneTakes l x ≡ true → Sim h (accept s x) (loneDoes (h .drum) l x)
+acted-by : (h : Holding) (s : State) (l : Lone) (x : Call) → loneTakes l x ≡ true → Sim h (accept s x) (loneDoes (s .codes) (h .drum) l x)
     → startBy (h .place) l x ≡ startIn (answer s x) → Acted h s l x
 unfolding loneStart loneStep
 acted-by h s l x t sim start =
     record {
       taken = t;
-      sim = subst (λ (b : Bool). Sim h (accept s x) (cond b (loneDoes (h .drum) l x) l)) (sym t) sim;
+      sim = subst (λ (b : Bool). Sim h (accept s x) (cond b (loneDoes (s .codes) (h .drum) l x) l)) (sym t) sim;
       start = ap (λ (b : Bool). cond b (startBy (h .place) l x) []) t ∙ start;
     }
 

@@ -17,7 +17,7 @@ use Rattle.packets.proofs.InvJobs.{held-once, take-held}
 use Rattle.packets.proofs.InvStores.{mark-holder}
 use Rattle.packets.proofs.Laws.{find-holds}
 use Rattle.packets.specs.Picks.{find}
-use Rattle.packets.specs.Rules.{Call, Complete, End, Mark, Start, Submit, Take, accept, always, answer, siteOf, begins, begun, closing, completed, cut, decided, finished, isFailure, locked, marked, packet, refusal, returnIfDone, startable, started, step, submitted}
+use Rattle.packets.specs.Rules.{Call, Complete, End, Mark, Start, Submit, Take, accept, always, answer, siteOf, begins, begun, closing, completed, cut, decided, finished, isTrouble, locked, marked, packet, refusal, returnIfDone, startable, started, step, submitted}
 use Rattle.packets.proofs.SeenLaws.{SeenOk}
 use Rattle.packets.proofs.There.{is-there, unit-held}
 use Rattle.packets.specs.State.{State, anyMoves, close, heldBy, isBusy, isClosing, isUnit, motionOn, packetIn, packetOf, placeOf, stateIn, sweep}
@@ -62,7 +62,7 @@ submit-keeps s j p f c w d u =
 
 pub finish-keeps : (s : State) (c : ℕ) (how : How) (j p d u : ℕ) → unitIn (finished s c how j p .units) d u .holder ≡ unitIn (s .units) d u .holder
 finish-keeps s c how j p d u =
-    by-bool (isFailure how && isUnit (packetIn (s .jobs) j p .at))
+    by-bool (isTrouble (s .codes) how && isUnit (packetIn (s .jobs) j p .at))
     (λ e. rw e (lock-holder (s .units) c (packetIn (s .jobs) j p .at) true d u))
     (λ e. rw e)
 

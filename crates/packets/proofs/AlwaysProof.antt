@@ -74,12 +74,12 @@ holds-always s I S H =
         (λ l. let k = I .motion (packetAt s j p .channel .0) j p (S .mover j p refl (busy-either (packetAt s j p .status) b l)) in (k .owned, k .alive))
 
 pub invariants : Invariants
-invariants channels units free calls =
-    holds-always (run (fresh channels units) calls)
-    (run-inv (fresh channels units) (fresh-inv channels units free) calls)
-    (run-sound (fresh channels units) (fresh-inv channels units free) (fresh-sound channels units) calls)
-    (run-halts (fresh channels units) (fresh-inv channels units free) (fresh-halts channels units) calls)
+invariants channels codes units free calls =
+    holds-always (run (fresh channels codes units) calls)
+    (run-inv (fresh channels codes units) (fresh-inv channels codes units free) calls)
+    (run-sound (fresh channels codes units) (fresh-inv channels codes units free) (fresh-sound channels codes units) calls)
+    (run-halts (fresh channels codes units) (fresh-inv channels codes units free) (fresh-halts channels codes units) calls)
 
 pub no-early-hand-over : NoEarlyHandOver
-no-early-hand-over channels units free calls j p h d =
-    invariants channels units free calls .held j p (motion-busy (packetAt (run (fresh channels units) calls) j p .status) h) d
+no-early-hand-over channels codes units free calls j p h d =
+    invariants channels codes units free calls .held j p (motion-busy (packetAt (run (fresh channels codes units) calls) j p .status) h) d

@@ -17,7 +17,7 @@ use Rattle.packets.specs.Demand.{emptyPlace, fresh}
 use Rattle.packets.proofs.Inv.{Inv, running-alive}
 use Rattle.packets.proofs.Laws.{and-left, eqb-self, getD-set-keep}
 use Rattle.packets.specs.Picks.{find}
-use Rattle.packets.specs.Rules.{Call, Complete, End, Mark, Start, Submit, Take, accept, aimed, always, assigned, siteOf, isAt, begun, broken, closed, closing, codeFor, cut, decided, ended, enlist, failed, finished, freshJob, inArea, isDone, isFailure, locked, marked, over, packet, refusal, returnIfDone, returned, run, startable, started, step, submitted}
+use Rattle.packets.specs.Rules.{Call, Complete, End, Mark, Start, Submit, Take, accept, aimed, always, assigned, siteOf, isAt, begun, broken, closed, closing, codeFor, cut, decided, ended, enlist, failed, finished, freshJob, inArea, isDone, isTrouble, locked, marked, over, packet, refusal, returnIfDone, returned, run, startable, started, step, submitted}
 use Rattle.packets.specs.State.{State, isClosing, isEmpty, isUnit, jobIn, lock, motionOn, move, noJob, packetIn, packetOf, placeOf, put, restatus, restatusAll, setState, stateIn, store, sweep, withPackets, withState, withStatus}
 use Rattle.packets.proofs.Steps.{busy-of, closing-alive, closing-not-running, fresh-inv, fresh-state, step-inv}
 use Rattle.packets.proofs.Store.{alive-in, state-fresh, state-put, state-restatus, state-state}
@@ -103,7 +103,7 @@ module _ (part : Part) (L : Lasting part) where
   same-finished s c how j p =
       let s₁ = over s c j p (codeFor how) in
       let o : Held-on s s₁ = same-trans (same-jobs s (move s c Idle) refl) (same-store (move s c Idle) j p (withStatus (packetIn (s .jobs) j p) (Ended (codeFor how)))) in
-      by-bool (isFailure how && isUnit (packetIn (s .jobs) j p .at))
+      by-bool (isTrouble (s .codes) how && isUnit (packetIn (s .jobs) j p .at))
       (λ e. rw e (same-trans o (same-trans (same-sweep s₁ j (isAt c (packetIn (s .jobs) j p .at)) failed) (same-jobs _ (broken s₁ c (packetIn (s .jobs) j p .at) j) refl))))
       (λ e. rw e o)
 
@@ -173,14 +173,14 @@ module _ (part : Part) (L : Lasting part) where
   run-apart s I A [] f = A
   run-apart s I A (x ∷ l) f = run-apart (step s x .state) (step-inv s I x) (step-apart s I A x (f .0)) l (f .1)
 
-  fresh-apart : (channels : List Channel) (units : List (List UnitState)) → Apart part (fresh channels units)
+  fresh-apart : (channels : List Channel) (codes : ℕ) (units : List (List UnitState)) → Apart part (fresh channels codes units)
   unfolding fresh
-  fresh-apart channels units i j x a b h g = never {b = isEmpty (stateIn (fresh channels units .jobs) i)} (ap isEmpty (fresh-state 16 emptyPlace refl i)) a
+  fresh-apart channels codes units i j x a b h g = never {b = isEmpty (stateIn (fresh channels codes units .jobs) i)} (ap isEmpty (fresh-state 16 emptyPlace refl i)) a
 
 pub disjoint : Disjoint
-disjoint channels units free calls = (
-  λ f. run-apart inArea area (fresh channels units) (fresh-inv channels units free) (fresh-apart inArea area channels units) calls f,
-  λ f. run-apart inCore core (fresh channels units) (fresh-inv channels units free) (fresh-apart inCore core channels units) calls f,
+disjoint channels codes units free calls = (
+  λ f. run-apart inArea area (fresh channels codes units) (fresh-inv channels codes units free) (fresh-apart inArea area channels codes units) calls f,
+  λ f. run-apart inCore core (fresh channels codes units) (fresh-inv channels codes units free) (fresh-apart inCore core channels codes units) calls f,
 )
   where
     area : Lasting inArea

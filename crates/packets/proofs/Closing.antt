@@ -18,7 +18,7 @@ use Rattle.packets.specs.Demand.{emptyPlace, fresh}
 use Rattle.packets.proofs.Inv.{EntryOk, Inv}
 use Rattle.packets.proofs.Laws.{eqb-self, find-holds}
 use Rattle.packets.specs.Picks.{any, find}
-use Rattle.packets.specs.Rules.{Call, Complete, End, Mark, Start, Submit, Take, accept, isAt, closed, closing, completed, cut, decided, failed, finished, isDone, isFailure, refusal, returnIfDone, returned, run, startable, started, step}
+use Rattle.packets.specs.Rules.{Call, Complete, End, Mark, Start, Submit, Take, accept, isAt, closed, closing, completed, cut, decided, failed, finished, isDone, isTrouble, refusal, returnIfDone, returned, run, startable, started, step}
 use Rattle.packets.specs.State.{State, anyMoves, carrying, inMotion, isClosing, isPacket, isRunning, isUnit, motionOn, moves, packetIn, placeOf, stateIn}
 use Rattle.packets.proofs.States.{states-begun, states-closed, states-finished, states-returned, states-submit}
 use Rattle.packets.proofs.Steps.{busy-of, closing-not-running, ending-inv, find-some, finished-inv, fresh-state, step-inv}
@@ -159,7 +159,7 @@ accept-halts s I H (Complete g how) r i c =
         → inMotion (statusIn (finished s g how j p) j n) ≡ true → statusIn (finished s g how j p) j n ≡ Stopping
     moved g how j p small is n x m =
         let a : statusIn (finished s g how j p) j n ≡ afterComplete s g how (Busy j p) j n = finished-status s I g small how j p is j n in
-        a ∙ go (isPacket j p j n) (eqb j j && ((isFailure how && isUnit (packetIn (s .jobs) j p .at)) && isAt g (packetIn (s .jobs) j p .at) (packetIn (s .jobs) j n))) (rw a at m)
+        a ∙ go (isPacket j p j n) (eqb j j && ((isTrouble (s .codes) how && isUnit (packetIn (s .jobs) j p .at)) && isAt g (packetIn (s .jobs) j p .at) (packetIn (s .jobs) j n))) (rw a at m)
       where
         go : (b d : Bool) → inMotion (cond b (Ended (codeOf how)) (cond d (endsWith 0o01 (statusIn s j n)) (statusIn s j n))) ≡ true
             → cond b (Ended (codeOf how)) (cond d (endsWith 0o01 (statusIn s j n)) (statusIn s j n)) ≡ Stopping
@@ -198,6 +198,6 @@ unfolding run
 run-halts s I H [] = H
 run-halts s I H (x ∷ l) = run-halts (step s x .state) (step-inv s I x) (step-halts s I H x) l
 
-pub fresh-halts : (channels : List Channel) (units : List (List UnitState)) → Halts (fresh channels units)
+pub fresh-halts : (channels : List Channel) (codes : ℕ) (units : List (List UnitState)) → Halts (fresh channels codes units)
 unfolding fresh
-fresh-halts channels units i c = never {b = false} (sym (ap isClosing (fresh-state 16 emptyPlace refl i)) ∙ c) refl
+fresh-halts channels codes units i c = never {b = false} (sym (ap isClosing (fresh-state 16 emptyPlace refl i)) ∙ c) refl

@@ -13,7 +13,7 @@ use Rattle.packets.proofs.InvStores.{sweep-inv}
 use Rattle.packets.proofs.Laws.{and-left, and-right, find-holds}
 use Rattle.packets.specs.Lone.{endsWith, stops}
 use Rattle.packets.specs.Picks.{find}
-use Rattle.packets.specs.Rules.{Call, Complete, End, Mark, Start, Submit, Take, accept, aimed, always, siteOf, isAt, closed, closing, codeFor, cut, decided, failed, finished, isDone, isFailure, locked, over, packet, refusal, returnIfDone, run, startable, step, submitted}
+use Rattle.packets.specs.Rules.{Call, Complete, End, Mark, Start, Submit, Take, accept, aimed, always, siteOf, isAt, closed, closing, codeFor, cut, decided, failed, finished, isDone, isTrouble, locked, over, packet, refusal, returnIfDone, run, startable, step, submitted}
 use Rattle.packets.specs.State.{isPacket, State, isRunning, isUnit, motionOn, packetIn, packetOf, placeOf, put, restatusAll, stateIn, sweep, withStatus}
 use Rattle.packets.proofs.SimSubmit.{cut-stops, failed-ends}
 use Rattle.packets.proofs.Steps.{Ready, busy-of, find-some, fresh-inv, over-fits, over-inside, ready-fits, ready-inside, ready-sweep, run-inv, start-fits, startable-on}
@@ -95,7 +95,7 @@ module _ (s : State) (I : Inv s) (c : ℕ) (small : c < 16) (how : How) (j p : �
       let s₁ = over s c j p (codeFor how) in
       let a = packetIn (s .jobs) j p .at in
       let read : packetIn (s₁ .jobs) i n ≡ cond (isPacket j p i n) q (packetIn (s .jobs) i n) = packet-put (s .jobs) j p q i n (over-fits s I c small j p is) in
-      by-bool (isFailure how && isUnit (packetIn (s .jobs) j p .at))
+      by-bool (isTrouble (s .codes) how && isUnit (packetIn (s .jobs) j p .at))
       (λ e. rw e
       (swept-status s₁ j (isAt c a) failed (endsWith 0o01) failed-ends (over-inside s I c small j p is (codeFor how)) refl i n
       ∙ rw read
@@ -134,8 +134,8 @@ status-after s I (End j e) r i n =
 status-after s I (Mark c u m on) r i n = refl
 
 pub codes : Codes
-codes channels units free before x r i n =
-    status-after (run (fresh channels units) before) (run-inv (fresh channels units) (fresh-inv channels units free) before) x r i n
+codes channels word units free before x r i n =
+    status-after (run (fresh channels word units) before) (run-inv (fresh channels word units) (fresh-inv channels word units free) before) x r i n
 
 -- ---- an ended packet keeps its code
 
@@ -171,20 +171,20 @@ keeps-code s I (Complete c how) r i n k e b =
     let e′ : packetIn (s .jobs) (o .0) (o .1) .status ≡ Ended k = rw (x, y) at e in
     never {b = false} (rw e′ at g) refl)
     (λ t. rw (t, e)
-    (by-bool (eqb i (o .0) && ((isFailure how && isUnit (packetIn (s .jobs) (o .0) (o .1) .at)) && isAt c (packetIn (s .jobs) (o .0) (o .1) .at) (packetIn (s .jobs) i n)))
+    (by-bool (eqb i (o .0) && ((isTrouble (s .codes) how && isUnit (packetIn (s .jobs) (o .0) (o .1) .at)) && isAt c (packetIn (s .jobs) (o .0) (o .1) .at) (packetIn (s .jobs) i n)))
     (λ d. rw d) (λ d. rw d))))
 keeps-code s I (End j err) r i n k e b = rw e (by-bool (eqb i j) (λ d. rw d) (λ d. rw d))
 keeps-code s I (Mark c u m on) r i n k e b = e
 
 pub kept : Kept
 unfolding step
-kept channels units free before x i n k e b = go (refusal s x) refl
+kept channels word units free before x i n k e b = go (refusal s x) refl
   where
     s : State
-    s = run (fresh channels units) before
+    s = run (fresh channels word units) before
 
     I : Inv s
-    I = run-inv (fresh channels units) (fresh-inv channels units free) before
+    I = run-inv (fresh channels word units) (fresh-inv channels word units free) before
 
     go : (v : Verdict) → refusal s x ≡ v → packetIn (decided s x v .state .jobs) i n .status ≡ Ended k
     go Granted r = status-after s I x r i n ∙ keeps-code s I x r i n k e b

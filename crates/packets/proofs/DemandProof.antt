@@ -1,7 +1,7 @@
 -- Demand 3 holds: the holding and its lone unit begin alike at the taking, and stay alike through the stretch.
 -- Assumes nothing.
 use Prim.Native.Nat.{ℕ, _<_}
-use mathlib.Core.Path.{_≡_, refl, sym, ap, _∙_}
+use mathlib.Core.Path.{_≡_, refl, sym, ap, subst, _∙_}
 use mathlib.Core.Bool.{Bool, true, false, not, cond, _&&_}
 use mathlib.Core.List.{List, [], _∷_, map}
 use mathlib.Core.Option.{none}
@@ -20,6 +20,7 @@ use Rattle.packets.specs.Lone.{Lone, Request, loneRun, loneStart, loneSt
 use Rattle.packets.specs.Rules.{Call, Take, accept, answer, assigned, decided, refusal, run, step}
 use Rattle.packets.proofs.SeenLaws.{SeenOk, accept-seen, acts-refused, acts-same, noted-refused}
 use Rattle.packets.proofs.Sim.{Sim, lockThere, movingThere, num, on}
+use Rattle.packets.proofs.Stays.{Configured, run-has, step-has}
 use Rattle.packets.proofs.There.{unit-held}
 use Rattle.packets.specs.State.{State, blank, heldBy, isEmpty, isRunning, lock, motionOn, packetIn, placeOf, stateIn, takeAll, wanted}
 use Rattle.packets.proofs.Steps.{fresh-inv, run-inv, step-inv}
@@ -42,16 +43,16 @@ unfolding step
 step-accepted s x e = ap (decided s x) e
 
 -- one step of the cell, and of the lone unit if the call acted
-pub record Next (h : Holding) (l : Lone) (t : Seen) (x : Call) (r : Answer) (s : State) : Type 0 where
-  pub acted : acts h t x r ≡ true → (loneStart (h .place) l x ≡ startIn r) × Sim h s (loneStep (h .drum) l x) × (loneTakes l x ≡ true)
+pub record Next (codes : ℕ) (h : Holding) (l : Lone) (t : Seen) (x : Call) (r : Answer) (s : State) : Type 0 where
+  pub acted : acts h t x r ≡ true → (loneStart (h .place) l x ≡ startIn r) × Sim h s (loneStep codes (h .drum) l x) × (loneTakes l x ≡ true)
   pub idled : acts h t x r ≡ false → Sim h s l
   pub seen : SeenOk h s (noted h t x r)
 
-pub next : (h : Holding) (s : State) → Inv s → Holds s h → (l : Lone) → Sim h s l → (t : Seen) → SeenOk h s t → (x : Call) → Next h l t x (step s x .answer) (step s x .state)
+pub next : (h : Holding) (s : State) → Inv s → Holds s h → (l : Lone) → Sim h s l → (t : Seen) → SeenOk h s t → (x : Call) → Next (s .codes) h l t x (step s x .answer) (step s x .state)
 unfolding step
 next h s I H l S t k x = go (refusal s x) refl
   where
-    go : (n : Verdict) → refusal s x ≡ n → Next h l t x (decided s x n .answer) (decided s x n .state)
+    go : (n : Verdict) → refusal s x ≡ n → Next (s .codes) h l t x (decided s x n .answer) (decided s x n .state)
     go Granted e =
         record {
           acted = λ a. let d : Acted h s l x = sim-acts h s I H l S x e (sym (acts-same h s I t k x) ∙ a) in (d .start, d .sim, d .taken);
@@ -65,29 +66,30 @@ next h s I H l S t k x = go (refusal s x) refl
           seen = rw (noted-refused h t x n) k;
         }
 
-pub record Through (h : Holding) (s : State) (l : Lone) (t : Seen) (during : List Call) : Type 0 where
+pub record Through (codes : ℕ) (h : Holding) (s : State) (l : Lone) (t : Seen) (during : List Call) : Type 0 where
   pub inv : Inv (run s during)
-  pub taken : loneTakesAll (h .drum) l (acting h t (events s during)) ≡ true
-  pub starts : startsIn h t (events s during) ≡ loneStarts (h .drum) (h .place) l (acting h t (events s during))
-  pub sim : Sim h (run s during) (loneRun (h .drum) l (acting h t (events s during)))
+  pub taken : loneTakesAll codes (h .drum) l (acting h t (events s during)) ≡ true
+  pub starts : startsIn h t (events s during) ≡ loneStarts codes (h .drum) (h .place) l (acting h t (events s during))
+  pub sim : Sim h (run s during) (loneRun codes (h .drum) l (acting h t (events s during)))
   pub seen : SeenOk h (run s during) (seenAfter h t (events s during))
   pub own : h .drum ≡ false → OwnStarts h t (events s during)
   pub quiet : h .drum ≡ false → Quiet h (run s during)
 
-pub through : (h : Holding) (s : State) → Inv s → (l : Lone) → Sim h s l → (t : Seen) → SeenOk h s t → (h .drum ≡ false → Quiet h s)
-    → (during : List Call) → Stretch h s during → Through h s l t during
+pub through : (codes : ℕ) (h : Holding) (s : State) → s .codes ≡ codes → Inv s → (l : Lone) → Sim h s l → (t : Seen) → SeenOk h s t → (h .drum ≡ false → Quiet h s)
+    → (during : List Call) → Stretch h s during → Through codes h s l t during
 unfolding startsIn acting seenAfter events loneStarts loneTakesAll loneRun run
-through h s I l S t k q [] H = record { inv = I; taken = refl; starts = refl; sim = S; seen = k; own = λ d. tt; quiet = q }
-through h s I l S t k q (x ∷ during) H =
-    let y = next h s I (H .0) l S t k x in
+through codes h s same I l S t k q [] H = record { inv = I; taken = refl; starts = refl; sim = S; seen = k; own = λ d. tt; quiet = q }
+through codes h s same I l S t k q (x ∷ during) H =
+    let y : Next codes h l t x (step s x .answer) (step s x .state) = subst (λ (z : ℕ). Next z h l t x (step s x .answer) (step s x .state)) same (next h s I (H .0) l S t k x) in
+    let same′ : step s x .state .codes ≡ codes = ap (λ (z : Configured). z .codes) (step-has s x) ∙ same in
     let s′ = step s x .state in
     let t′ = noted h t x (step s x .answer) in
     let q′ : h .drum ≡ false → Quiet h s′ = λ d. quiet-after h s I (H .0) d x in
     by-bool (acts h t x (step s x .answer))
     (λ a. let z = y .acted a in
-    let r : Through h s′ (loneStep (h .drum) l x) t′ during = through h s′ (step-inv s I x) (loneStep (h .drum) l x) (z .1) t′ (y .seen) q′ during (H .1) in
+    let r : Through codes h s′ (loneStep codes (h .drum) l x) t′ during = through codes h s′ same′ (step-inv s I x) (loneStep codes (h .drum) l x) (z .1) t′ (y .seen) q′ during (H .1) in
     record { inv = r .inv; taken = rw (a, z .2) (r .taken); starts = rw (a, z .0, r .starts); sim = rw a (r .sim); seen = r .seen; own = λ d. (own-start h s I (H .0) d t k x, r .own d); quiet = r .quiet })
-    (λ a. let r : Through h s′ l t′ during = through h s′ (step-inv s I x) l (y .idled a) t′ (y .seen) q′ during (H .1) in
+    (λ a. let r : Through codes h s′ l t′ during = through codes h s′ same′ (step-inv s I x) l (y .idled a) t′ (y .seen) q′ during (H .1) in
     record { inv = r .inv; taken = rw a (r .taken); starts = rw (a, r .starts); sim = rw a (r .sim); seen = r .seen; own = λ d. (own-start h s I (H .0) d t k x, r .own d); quiet = r .quiet })
 
 -- ---- the assignment
@@ -154,12 +156,13 @@ assigned-seen s I j asg r h at-j n =
     (λ x. never {b = false} x refl, λ b. never {b = false} (rw (e, z) at b) refl)
 
 pub demand3 : Demand3
-demand3 channels units free before j asg r h at-j H during stretch =
-    let s₀ = run (fresh channels units) before in
-    let I₀ : Inv s₀ = run-inv (fresh channels units) (fresh-inv channels units free) before in
+demand3 channels codes units free before j asg r h at-j H during stretch =
+    let s₀ = run (fresh channels codes units) before in
+    let I₀ : Inv s₀ = run-inv (fresh channels codes units) (fresh-inv channels codes units free) before in
     let s = step s₀ (Take j asg) .state in
     let I : Inv s = step-inv s₀ I₀ (Take j asg) in
-    let k = through h s I newLone (assigned-sim s₀ I₀ j asg r h at-j H) noneSeen (assigned-seen s₀ I₀ j asg r h at-j) (quiet-held h s I H) during stretch in
+    let same : s .codes ≡ codes = ap (λ (z : Configured). z .codes) (step-has s₀ (Take j asg) ∙ run-has (fresh channels codes units) before) ∙ (unfold fresh in refl) in
+    let k = through codes h s same I newLone (assigned-sim s₀ I₀ j asg r h at-j H) noneSeen (assigned-seen s₀ I₀ j asg r h at-j) (quiet-held h s I H) during stretch in
     record {
       taken = k .taken;
       starts = k .starts;

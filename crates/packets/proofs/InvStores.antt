@@ -131,7 +131,7 @@ module _ (s : State) (I : Inv s) (j : ℕ) (t : Packet → Bool) (f : Status →
 module _ (s : State) (I : Inv s) (units : List (List UnitState))
     (same : (c u : ℕ) → unitIn units c u .holder ≡ unitIn (s .units) c u .holder) where
   abbrev reunit : State
-  reunit = record { channels = s .channels; units = units; moving = s .moving; jobs = s .jobs; queue = s .queue }
+  reunit = record { channels = s .channels; codes = s .codes; units = units; moving = s .moving; jobs = s .jobs; queue = s .queue }
 
   pub reunit-inv : Inv reunit
   reunit-inv =
@@ -235,7 +235,7 @@ motion-move s c m d h =
 
 pub remove : (s : State) → Inv s → (moving : List Carrier) → length moving ≡ 16
     → ((c j p : ℕ) → getD moving c (record { motion = Idle }) .motion ≡ Busy j p → OkMotion s c j p)
-    → Inv (record { channels = s .channels; units = s .units; moving = moving; jobs = s .jobs; queue = s .queue })
+    → Inv (record { channels = s .channels; codes = s .codes; units = s .units; moving = moving; jobs = s .jobs; queue = s .queue })
 remove s I moving len f =
     record {
       sizes = I .sizes;
@@ -243,7 +243,7 @@ remove s I moving len f =
       channels = len;
       holders = I .holders;
       single = I .single;
-      queued = all-imp (EntryOk s) (EntryOk (record { channels = s .channels; units = s .units; moving = moving; jobs = s .jobs; queue = s .queue }))
+      queued = all-imp (EntryOk s) (EntryOk (record { channels = s .channels; codes = s .codes; units = s .units; moving = moving; jobs = s .jobs; queue = s .queue }))
           (λ e x. record { listed = x .listed; running = x .running; owned = x .owned }) (s .queue) (I .queued);
       motion = λ c i n e. record { going = f c i n e .going; channel = f c i n e .channel; alive = f c i n e .alive; owned = f c i n e .owned };
     }

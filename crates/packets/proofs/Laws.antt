@@ -32,6 +32,10 @@ and-both a b p q = rw (p, q)
 pub or-right : (a b : Bool) → a ≡ false → a || b ≡ true → b ≡ true
 or-right a b p e = rw p at e
 
+pub neither : (a b : Bool) → a || b ≡ false → (a ≡ false) × (b ≡ false)
+neither true b e = never {b = true} refl e
+neither false b e = (refl, e)
+
 pub passes : (b : Bool) (n : Refusal) (r : Verdict) → first b n r ≡ Granted → (b ≡ false) × (r ≡ Granted)
 passes true n r e = absurd (let z : _≡_ {A = ℕ} 0 1 = cc in omega arith)
 passes false n r e = (refl, e)

@@ -8,6 +8,7 @@ pub mod InvStores
 pub mod InvJobs
 pub mod Told
 pub mod Steps
+pub mod Stays
 pub mod Sound
 pub mod SoundSteps
 pub mod LoneLaws
@@ -23,6 +24,8 @@ pub mod Alone
 pub mod DemandProof
 pub mod ApartProof
 pub mod CodesProof
+pub mod InterlocksProof
+pub mod BeforeProof
 pub mod States
 pub mod Closing
 pub mod AlwaysProof

@@ -1,23 +1,32 @@
 -- What the lone unit refuses, one law for each of document 01's sentences, and that a refused call leaves it as it
--- was and starts nothing. So a lone unit that took more would not be proved. Assumes nothing.
-use Prim.Native.Nat.{ℕ, _<_}
-use mathlib.Core.Path.{_≡_, refl, ap, _∙_}
+-- was and starts nothing. So a lone unit that took more would not be proved. And that it reads its section as the cell
+-- does. Assumes nothing.
+use Prim.Native.Nat.{ℕ, zero, suc, _/_, _<_}
+use mathlib.Core.Path.{_≡_, refl, sym, ap, _∙_}
 use mathlib.Core.Bool.{Bool, true, false, not, cond, _&&_}
 use mathlib.Core.List.{[]}
 use mathlib.Core.Option.{none, some}
 use lib.Dec.{eqb, leb}
 use borrow.Author.Tests.{lt-leb}
+use Rattle.numbers.proofs.BitLaws.{bit-suc, bit-zero}
 use Rattle.numbers.proofs.Tests.{by-bool}
-use Rattle.packets.specs.Lone.{Lone, hasListed, inUse, isAtRest, isHalting, loneDoes, loneStart, loneStep, loneTakes, mayComplete, startBy}
+use Rattle.channels.specs.Channels.{setsInterlock}
+use Rattle.packets.specs.Lone.{Lone, hasListed, inUse, isAtRest, isHalting, isIn, loneDoes, loneStart, loneStep, loneTakes, mayComplete, startBy}
 use Rattle.packets.specs.Rules.{Call, Complete, End, Start, Submit}
 use Rattle.packets.specs.declared.How.{How}
 use Rattle.packets.specs.declared.How.the-variants.{Cut, Failed}
 use Rattle.packets.specs.declared.Spot.{Spot}
 
+-- a code is in the section exactly if its bit is 1
+pub in-section : (section k : ℕ) → isIn section k ≡ setsInterlock section k
+unfolding isIn setsInterlock
+in-section section zero = ap (λ (x : ℕ). eqb x 1) (sym (bit-zero section))
+in-section section (suc k) = in-section (section / 2) k ∙ ap (λ (x : ℕ). eqb x 1) (sym (bit-suc section k))
+
 -- a refused call leaves it as it was, and starts nothing
-pub refused-stands : (drum : Bool) (l : Lone) (x : Call) → loneTakes l x ≡ false → loneStep drum l x ≡ l
+pub refused-stands : (section : ℕ) (drum : Bool) (l : Lone) (x : Call) → loneTakes l x ≡ false → loneStep section drum l x ≡ l
 unfolding loneStep
-refused-stands drum l x e = ap (λ (b : Bool). cond b (loneDoes drum l x) l) e
+refused-stands section drum l x e = ap (λ (b : Bool). cond b (loneDoes section drum l x) l) e
 
 pub refused-starts : (place : ℕ) (l : Lone) (x : Call) → loneTakes l x ≡ false → loneStart place l x ≡ []
 unfolding loneStart

@@ -15,7 +15,7 @@ use Rattle.packets.proofs.Inv.{EntryOk, Inv, listed-busy, motion-busy, 
 use Rattle.packets.proofs.InvStores.{lock-inv, sweep-inv}
 use Rattle.packets.proofs.Laws.{and-left, and-right, find-holds}
 use Rattle.packets.specs.Picks.{find}
-use Rattle.packets.specs.Rules.{Call, Complete, End, Mark, Start, Submit, Take, accept, aimed, always, answer, assigned, siteOf, isAt, begins, begun, broken, closing, codeFor, completes, cut, ended, failed, finished, isFailure, locked, over, packet, refusal, returnIfDone, returned, startable, submitted, terminate, unlock}
+use Rattle.packets.specs.Rules.{Call, Complete, End, Mark, Start, Submit, Take, accept, aimed, always, answer, assigned, siteOf, isAt, begins, begun, broken, closing, codeFor, completes, cut, ended, failed, finished, isTrouble, locked, over, packet, refusal, returnIfDone, returned, startable, submitted, terminate, unlock}
 use Rattle.packets.proofs.SimSubmit.{eqb-flip, holder-alive}
 use Rattle.packets.specs.State.{State, anyMoves, close, isBusy, isClosing, isEmpty, isUnit, lock, motionOn, packetIn, packetOf, placeOf, put, restatus, restatusAll, stateIn, store, sweep, withStatus}
 use Rattle.packets.proofs.Steps.{Ready, busy-of, find-some, over-fits, over-inside, ready-fits, ready-inside, ready-sweep, start-fits, startable-on, stored-at}
@@ -153,7 +153,7 @@ calm-finished h s I c small how j p is n =
     let s₁ = over s c j p (codeFor how) in
     let k : Calm h s s₁ n = calm-status h s j p (Ended (codeFor how)) (over-fits s I c small j p is) b n in
     calm-trans h s (finished s c how j p) (returnIfDone j (finished s c how j p)) n
-    (by-bool (isFailure how && isUnit (packetIn (s .jobs) j p .at))
+    (by-bool (isTrouble (s .codes) how && isUnit (packetIn (s .jobs) j p .at))
     (λ e. rw e (calm-trans h s s₁ (broken s₁ c (packetIn (s .jobs) j p .at) j) n k
     (calm-sweep h s₁ j (isAt c (packetIn (s .jobs) j p .at)) failed (over-inside s I c small j p is (codeFor how)) refl failed-idle n)))
     (λ e. rw e k))

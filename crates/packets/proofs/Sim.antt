@@ -100,7 +100,7 @@ module _ (h : Holding) (s : State) (I : Inv s) (l : Lone) (S : Sim h s l) where
       (kept : (n : ℕ) → isBusy (packetIn (s .jobs) (h .place) n .status) ≡ true → there h (packetIn jobs (h .place) n) ≡ there h (packetIn (s .jobs) (h .place) n))
       (states : stateIn jobs (h .place) ≡ stateIn (s .jobs) (h .place)) where
     abbrev rejob : State
-    rejob = record { channels = s .channels; units = s .units; moving = s .moving; jobs = jobs; queue = relist j (packetsIn jobs j) (s .queue) }
+    rejob = record { channels = s .channels; codes = s .codes; units = s .units; moving = s .moving; jobs = jobs; queue = relist j (packetsIn jobs j) (s .queue) }
 
     same-moving : (m : Motion) → motionOn s (h .channel) ≡ m → movingThere h (s .jobs) m ≡ movingThere h jobs m
     same-moving Idle e = refl

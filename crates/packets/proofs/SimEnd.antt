@@ -1,30 +1,31 @@
 -- A completion, a job's end, a taking and a mark: the holding and its lone unit stay alike. Assumes nothing.
 use Prim.Native.Nat.{ℕ, _<_}
 use mathlib.Core.Path.{_≡_, refl, sym, ap, _∙_, subst}
-use mathlib.Core.Bool.{Bool, true, false, not, cond, _&&_, _||_}
+use mathlib.Core.Bool.{Bool, true, false, not, cond, _&&_}
 use mathlib.Core.Option.{Option, none, some}
 use lib.ListN.{length}
 use lib.Dec.{eqb, ltb}
-use borrow.Author.Tests.{eqb-true, eqb-false, eq-eqb, le-leb, ltb-false, not-false}
+use borrow.Author.Tests.{eqb-true, eqb-false, eq-eqb, le-leb, ltb-false, not-false, not-true}
 use Rattle.units.specs.declared.Unit.{Unit as UnitState}
 use Rattle.units.specs.declared.Mark.{Mark as UnitMark}
-use Rattle.units.specs.declared.Mark.the-variants.{Down, Reserved}
 use Rattle.numbers.proofs.Tests.{by-bool, never}
 use Rattle.units.specs.State.{unitIn, unitSet, markedUnit}
+use Rattle.channels.specs.Channels.{setsInterlock}
 use Rattle.packets.specs.Demand.{Holding, Holds, isThere, itsUnit, there}
 use Rattle.packets.proofs.Inv.{Inv, OwnedAt, running-alive}
 use Rattle.packets.proofs.InvJobs.{held-once, held-taken, take-held}
 use Rattle.packets.proofs.InvStores.{idle-inv, sweep-inv}
-use Rattle.packets.proofs.Laws.{and-left, and-right, eqb-self}
-use Rattle.packets.specs.Lone.{Lone, become, breaks, carries, completesAs, ends, endsWith, fails, halts, locks, stops, Request, closes, loneDoes, loneTakes, mayComplete, mayEnd}
-use Rattle.packets.specs.Rules.{Complete, End, always, assigned, isAt, broken, closing, codeFor, cut, ended, failed, finished, isFailure, marked, over, returnIfDone, isWrong}
+use Rattle.packets.proofs.Laws.{and-left, and-right, eqb-self, neither}
+use Rattle.packets.proofs.LoneLaws.{in-section}
+use Rattle.packets.specs.Lone.{Lone, become, carries, completesAs, ends, endsWith, fails, halts, isIn, locks, stops, Request, closes, loneDoes, loneTakes, mayComplete, mayEnd}
+use Rattle.packets.specs.Rules.{Complete, End, always, assigned, isAt, broken, closing, codeFor, cut, ended, failed, finished, isTrouble, marked, over, returnIfDone, isWrong}
 use Rattle.packets.proofs.Sim.{Sim, lockThere, movingThere, sim-store, sim-store-away, sim-sweep, sim-sweep-away}
 use Rattle.packets.proofs.SimRest.{sim-move, sim-move-away, sim-same, sim-units, sim-units-away, sim-same-but}
 use Rattle.packets.proofs.SimStart.{sim-return}
 use Rattle.packets.proofs.SimSubmit.{cut-stops, ends-use, fail-table, holder-alive, stops-use}
 use Rattle.packets.proofs.There.{is-there, lock-away, lock-here, there-channel, there-kind, there-unit, unit-held}
 use Rattle.packets.specs.State.{State, close, heldBy, isEmpty, isRunning, isStopping, isUnit, motionOn, move, packetIn, same, setLock, setState, stateIn, sweep, takeAll, unitAt, wanted, withStatus}
-use Rattle.packets.proofs.Sites.{same-is}
+use Rattle.packets.proofs.Sites.{mark-lock, same-is}
 use Rattle.packets.proofs.Steps.{ending-inv, finished-inv, over-fits, over-inside, over-inv}
 use Rattle.packets.proofs.Store.{alive-in, length-restatus, packet-fresh, packet-state, state-fresh, state-restatus, state-state, unit-keep}
 use Rattle.packets.proofs.Told.{cut-going, failed-going}
@@ -45,10 +46,6 @@ cut-stopping Listed e = never {b = false} e refl
 cut-stopping InProgress e = never {b = false} e refl
 cut-stopping Stopping e = refl
 cut-stopping (Ended k) e = never {b = false} e refl
-
-neither : (a b : Bool) → a || b ≡ false → (a ≡ false) × (b ≡ false)
-neither true b e = never {b = true} refl e
-neither false b e = (refl, e)
 
 may-end : (x : Status) (how : How) → isWrong x how ≡ false → mayEnd x how ≡ true
 may-end x Full e = refl
@@ -97,16 +94,17 @@ module _ (h : Holding) (s : State) (I : Inv s) (H : Holds s h) (l : Lone) (S : S
         (setLock (s .units) c a true) true
         (ap (λ (x : Site). lockThere h (setLock (s .units) c x true)) u ∙ lock-here h s H c true d channel-at)
 
-    by-kind : (k : ℕ) (x : Bool) → h .drum ≡ x → Sim h (cond (true && not x) (broken (over s c j p k) c (packetIn (s .jobs) j p .at) j) (over s c j p k)) (breaks x (ends l p k))
-    by-kind k true d = sim-over k
-    by-kind k false d = sim-broken k d
-
-    sim-finished : (how : How) → Sim h (finished s c how j p) (completesAs (h .drum) l how (some p))
+    sim-finished : (how : How) → Sim h (finished s c how j p) (completesAs (s .codes) (h .drum) l how (some p))
     sim-finished Full = sim-over 0o00
     sim-finished Cut = sim-over 0o17
     sim-finished (Failed k) =
-        subst (λ (x : Bool). Sim h (cond (true && x) (broken (over s c j p k) c (packetIn (s .jobs) j p .at) j) (over s c j p k)) (breaks (h .drum) (ends l p k)))
-        (sym (there-kind h (packetIn (s .jobs) j p .channel .0) (packetIn (s .jobs) j p .at) t)) (by-kind k (h .drum) refl)
+        let a = packetIn (s .jobs) j p .at in
+        let e : isIn (s .codes) k && not (h .drum) ≡ setsInterlock (s .codes) k && isUnit a =
+        rw (in-section (s .codes) k, there-kind h (packetIn (s .jobs) j p .channel .0) a t) in
+        subst (λ (b : Bool). Sim h (finished s c (Failed k) j p) (cond b (locks (fails (ends l p k)) true) (ends l p k))) (sym e)
+        (by-bool (setsInterlock (s .codes) k && isUnit a)
+        (λ b. rw b (sim-broken k (not-true (h .drum) (and-right (isIn (s .codes) k) (not (h .drum)) (e ∙ b)))))
+        (λ b. rw b (sim-over k)))
 
     -- the lone unit takes it: the packet moves there, and may end so
     pub takes-complete : (how : How) → isWrong (packetIn (s .jobs) j p .status) how ≡ false → loneTakes l (Complete c how) ≡ true
@@ -115,11 +113,11 @@ module _ (h : Holding) (s : State) (I : Inv s) (H : Holds s h) (l : Lone) (S : S
         let e : l .packets p .status ≡ packetIn (s .jobs) j p .status = ap (λ (r : Request). r .status) (S .table p (rw at-j t)) ∙ rw at-j in
         ap (mayComplete l how) moving-is ∙ ap (λ (x : Status). mayEnd x how) e ∙ may-end (packetIn (s .jobs) j p .status) how right
 
-    pub sim-complete : (how : How) → Sim h (returnIfDone j (finished s c how j p)) (loneDoes (h .drum) l (Complete c how))
+    pub sim-complete : (how : How) → Sim h (returnIfDone j (finished s c how j p)) (loneDoes (s .codes) (h .drum) l (Complete c how))
     unfolding loneDoes
     sim-complete how =
-        subst (λ (x : Option ℕ). Sim h (returnIfDone j (finished s c how j p)) (completesAs (h .drum) l how x)) (sym moving-is)
-        (sim-return h (finished s c how j p) (finished-inv s I c small j p is how) (completesAs (h .drum) l how (some p)) (sim-finished how) j)
+        subst (λ (x : Option ℕ). Sim h (returnIfDone j (finished s c how j p)) (completesAs (s .codes) (h .drum) l how x)) (sym moving-is)
+        (sim-return h (finished s c how j p) (finished-inv s I c small j p is how) (completesAs (s .codes) (h .drum) l how (some p)) (sim-finished how) j)
 
   module _ (away : eqb (h .place) j && there h (packetIn (s .jobs) j p) ≡ false) where
     none-here : (h .place ≡ j → there h (packetIn (s .jobs) j p) ≡ false)
@@ -169,8 +167,8 @@ module _ (h : Holding) (s : State) (I : Inv s) (H : Holds s h) (l : Lone) (S : S
     pub sim-complete-away : (how : How) → Sim h (returnIfDone j (finished s c how j p)) l
     sim-complete-away how =
         sim-return h (finished s c how j p) (finished-inv s I c small j p is how) l
-        (by-bool (isFailure how && isUnit (packetIn (s .jobs) j p .at))
-        (λ e. rw e (sim-broken-away (codeFor how) (and-right (isFailure how) _ e)))
+        (by-bool (isTrouble (s .codes) how && isUnit (packetIn (s .jobs) j p .at))
+        (λ e. rw e (sim-broken-away (codeFor how) (and-right (isTrouble (s .codes) how) _ e)))
         (λ e. rw e (sim-over-away (codeFor how))))
         j
 
@@ -210,7 +208,7 @@ module _ (h : Holding) (s : State) (I : Inv s) (l : Lone) (S : Sim h s l) (j : �
       let x : isRunning (stateIn (s .jobs) (h .place)) ≡ true = rw at-j r in
       ap not (S .over ∙ ap not x)
 
-  pub sim-end : h .place ≡ j → Sim h (ended s j err) (loneDoes (h .drum) l (End j err))
+  pub sim-end : h .place ≡ j → Sim h (ended s j err) (loneDoes (s .codes) (h .drum) l (End j err))
   unfolding loneDoes
   sim-end at-j =
       sim-return h (close swept j (closing err)) (ending-inv s I j err r) (closes (halts (λ x. true) l))
@@ -251,7 +249,3 @@ sim-mark h s I l S c u m on =
     sim-units-away h s I l S (unitSet (s .units) c u (markedUnit m on (unitIn (s .units) c u)))
     (by-bool (h .drum) (λ e. rw e)
     (λ e. rw (e, unit-keep (λ (v : UnitState). v .interlock) (s .units) c u (markedUnit m on (unitIn (s .units) c u)) (h .channel) (h .unit) (mark-lock m on (unitIn (s .units) c u)))))
-  where
-    mark-lock : (m : UnitMark) (on : Bool) (v : UnitState) → markedUnit m on v .interlock ≡ v .interlock
-    mark-lock Down on v = refl
-    mark-lock Reserved on v = refl

@@ -27,17 +27,17 @@ map-append f (x ∷ l) m = ap (λ (r : List ℕ). f x ∷ r) (map-append f l m)
 
 module _ (h : Holding) (s : State) (I : Inv s) (l : Lone) (S : Sim h s l) where
   pub sim-units : (units : List (List UnitState)) (b : Bool) → lockThere h units ≡ b
-      → Sim h (record { channels = s .channels; units = units; moving = s .moving; jobs = s .jobs; queue = s .queue }) (locks l b)
+      → Sim h (record { channels = s .channels; codes = s .codes; units = units; moving = s .moving; jobs = s .jobs; queue = s .queue }) (locks l b)
   sim-units units b e = record { order = S .order; table = S .table; moving = S .moving; lock = sym e; here = S .here; over = S .over }
 
   pub sim-units-away : (units : List (List UnitState)) → lockThere h units ≡ lockThere h (s .units)
-      → Sim h (record { channels = s .channels; units = units; moving = s .moving; jobs = s .jobs; queue = s .queue }) l
+      → Sim h (record { channels = s .channels; codes = s .codes; units = units; moving = s .moving; jobs = s .jobs; queue = s .queue }) l
   sim-units-away units e = record { order = S .order; table = S .table; moving = S .moving; lock = S .lock ∙ sym e; here = S .here; over = S .over }
 
   pub sim-same-but : (units : List (List UnitState)) (jobs : List Job) → lockThere h units ≡ lockThere h (s .units)
       → ((n : ℕ) → packetIn jobs (h .place) n ≡ packetIn (s .jobs) (h .place) n)
       → (b : Bool) → b ≡ not (isRunning (stateIn jobs (h .place)))
-      → Sim h (record { channels = s .channels; units = units; moving = s .moving; jobs = jobs; queue = s .queue })
+      → Sim h (record { channels = s .channels; codes = s .codes; units = units; moving = s .moving; jobs = jobs; queue = s .queue })
       (record { packets = l .packets; order = l .order; moving = l .moving; interlock = l .interlock; jobOver = b })
   sim-same-but units jobs e same b over =
       record {
@@ -57,7 +57,7 @@ module _ (h : Holding) (s : State) (I : Inv s) (l : Lone) (S : Sim h s l) where
   pub sim-same : (units : List (List UnitState)) (jobs : List Job) → lockThere h units ≡ lockThere h (s .units)
       → ((n : ℕ) → packetIn jobs (h .place) n ≡ packetIn (s .jobs) (h .place) n)
       → isRunning (stateIn jobs (h .place)) ≡ isRunning (stateIn (s .jobs) (h .place))
-      → Sim h (record { channels = s .channels; units = units; moving = s .moving; jobs = jobs; queue = s .queue }) l
+      → Sim h (record { channels = s .channels; codes = s .codes; units = units; moving = s .moving; jobs = jobs; queue = s .queue }) l
   sim-same units jobs e same runs = sim-same-but units jobs e same (l .jobOver) (S .over ∙ ap not (sym runs))
 
   pub sim-enqueue : (j p : ℕ) → New s j p → on h (s .jobs) (entryOf j p) ≡ true → Sim h (enqueue s j p) (joins l p)

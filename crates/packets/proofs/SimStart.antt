@@ -101,7 +101,7 @@ module _ (h : Holding) (s : State) (I : Inv s) (H : Holds s h) (l : Lone) (S : S
         takes over moving interlock order =
             loneTakes (record { packets = l .packets; order = order; moving = moving; interlock = interlock; jobOver = over }) (Start c)
 
-    lone-start : loneDoes (h .drum) l (Start c) ≡ carries (stores l (packetOf e) (become (l .packets (packetOf e)) InProgress)) (some (packetOf e))
+    lone-start : loneDoes (s .codes) (h .drum) l (Start c) ≡ carries (stores l (packetOf e) (become (l .packets (packetOf e)) InProgress)) (some (packetOf e))
     unfolding loneDoes
     lone-start = ap (setsOff l) order-is
 
@@ -111,7 +111,7 @@ module _ (h : Holding) (s : State) (I : Inv s) (H : Holds s h) (l : Lone) (S : S
         ap (startOf (h .place) l) order-is
         ∙ rw (found, at-e, S .table (packetOf e) t)
 
-    pub sim-start : Sim h (begun s c e) (loneDoes (h .drum) l (Start c))
+    pub sim-start : Sim h (begun s c e) (loneDoes (s .codes) (h .drum) l (Start c))
     sim-start =
         let q = withStatus (packetIn (s .jobs) (placeOf e) (packetOf e)) InProgress in
         let s₁ = store s (placeOf e) (packetOf e) q in

@@ -5,7 +5,9 @@ use mathlib.Core.Bool.{Bool, true, false}
 use mathlib.Core.List.{List}
 use borrow.Author.Tests.{eqb-true}
 use Rattle.numbers.proofs.Tests.{never}
-use Rattle.units.specs.State.{unitIn}
+use Rattle.units.specs.State.{markedUnit, unitIn}
+use Rattle.units.specs.declared.Mark.{Mark as UnitMark}
+use Rattle.units.specs.declared.Mark.the-variants.{Down, Reserved}
 use Rattle.units.specs.declared.Unit.{Unit as UnitState}
 use Rattle.packets.proofs.Laws.{eqb-self}
 use Rattle.packets.proofs.Store.{unit-keep}
@@ -41,3 +43,8 @@ holder-at units old e c (AtAddress x) = refl
 pub lock-holder : (units : List (List UnitState)) (c : ℕ) (a : Site) (b : Bool) (d u : ℕ) → unitIn (setLock units c a b) d u .holder ≡ unitIn units d u .holder
 lock-holder units c (AtUnit w) b d u = unit-keep (λ (v : UnitState). v .holder) units c (w .0) (withLock (unitIn units c (w .0)) b) d u refl
 lock-holder units c (AtAddress x) b d u = refl
+
+-- a mark leaves the interlock
+pub mark-lock : (m : UnitMark) (on : Bool) (v : UnitState) → markedUnit m on v .interlock ≡ v .interlock
+mark-lock Down on v = refl
+mark-lock Reserved on v = refl

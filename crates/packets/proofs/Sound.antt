@@ -151,7 +151,7 @@ module _ (s : State) (S : Sound s noPacket) (j : ℕ) (t : Packet → Bool) (f :
 
 -- a job's state, and the units, say nothing of packets
 pub state-sound : (s : State) → Sound s noPacket → (j : ℕ) (t : JobState) (units : List (List UnitState))
-    → Sound (record { channels = s .channels; units = units; moving = s .moving; jobs = setState (s .jobs) j t; queue = s .queue }) noPacket
+    → Sound (record { channels = s .channels; codes = s .codes; units = units; moving = s .moving; jobs = setState (s .jobs) j t; queue = s .queue }) noPacket
 state-sound s S j t units =
     record {
       mover = λ i n b h. rw (packet-state (s .jobs) j t i n) (S .mover i n b (rw (packet-state (s .jobs) j t i n) at h));
@@ -160,7 +160,7 @@ state-sound s S j t units =
     }
 
 pub units-sound : (s : State) (but : ℕ → ℕ → Bool) → Sound s but → (units : List (List UnitState))
-    → Sound (record { channels = s .channels; units = units; moving = s .moving; jobs = s .jobs; queue = s .queue }) but
+    → Sound (record { channels = s .channels; codes = s .codes; units = units; moving = s .moving; jobs = s .jobs; queue = s .queue }) but
 units-sound s but S units = record { mover = S .mover; member = S .member; sixteen = S .sixteen }
 
 -- a job is taken: its packets are blank

@@ -17,7 +17,7 @@ use Rattle.packets.specs.State.{inMotion, isPacket, State, blank, enqueu
 use Rattle.packets.proofs.InvStores.{New, enlisted-is, idle-is, lock-inv, motion-move, sweep-inv}
 use Rattle.packets.proofs.Laws.{eqb-self, find-holds, getD-replicate-const}
 use Rattle.packets.specs.Picks.{any, find}
-use Rattle.packets.specs.Rules.{Call, Complete, End, Mark, Start, Submit, Take, accept, aimed, always, siteOf, isAt, begun, closed, closing, codeFor, cut, decided, enlist, failed, finished, isDone, isFailure, locked, marked, over, packet, refusal, returnIfDone, run, startable, step, submitted}
+use Rattle.packets.specs.Rules.{Call, Complete, End, Mark, Start, Submit, Take, accept, aimed, always, siteOf, isAt, begun, closed, closing, codeFor, cut, decided, enlist, failed, finished, isDone, isTrouble, locked, marked, over, packet, refusal, returnIfDone, run, startable, step, submitted}
 use Rattle.packets.proofs.Sound.{Sound, assigned-sound, enqueue-sound, move-sound, noPacket, sound-but, sound-whole, state-sound, store-sound, sweep-sound, units-sound}
 use Rattle.packets.proofs.Steps.{Ready, busy-of, find-some, listed-new, over-fits, over-inside, ready-fits, ready-inside, ready-store, ready-sweep, start-at, start-fits, startable-on, step-inv, stored-at}
 use Rattle.packets.proofs.Store.{alive-in, packet-put, sizeIn}
@@ -146,7 +146,7 @@ module _ (s : State) (I : Inv s) (S : Sound s noPacket) (c : ℕ) (small : c < 1
 
   finished-sound : (how : How) → Sound (finished s c how j p) noPacket
   finished-sound how =
-      by-bool (isFailure how && isUnit (packetIn (s .jobs) j p .at))
+      by-bool (isTrouble (s .codes) how && isUnit (packetIn (s .jobs) j p .at))
       (λ e. let s₁ = over s c j p (codeFor how) in
       let a = packetIn (s .jobs) j p .at in
       rw e (units-sound (sweep s₁ j (isAt c a) failed) noPacket
@@ -192,9 +192,9 @@ run-sound s I S (x ∷ l) = run-sound (step s x .state) (step-inv s I x) (step-s
 
 -- ---- the fresh cell
 
-pub fresh-sound : (channels : List Channel) (units : List (List UnitState)) → Sound (fresh channels units) noPacket
+pub fresh-sound : (channels : List Channel) (codes : ℕ) (units : List (List UnitState)) → Sound (fresh channels codes units) noPacket
 unfolding fresh
-fresh-sound channels units =
+fresh-sound channels codes units =
     record {
       mover = λ i n b h. never {b = inMotion (packetIn (replicate 16 emptyPlace) i n .status)} h (ap (λ (q : Packet). inMotion (q .status)) (all-blank i n));
       member = λ i n b h. never {b = isListed (packetIn (replicate 16 emptyPlace) i n .status)} h (ap (λ (q : Packet). isListed (q .status)) (all-blank i n));

@@ -8,7 +8,7 @@ use lib.ListN.{length}
 use Rattle.numbers.proofs.Tests.{by-bool}
 use Rattle.packets.proofs.Inv.{running-alive}
 use Rattle.packets.proofs.Laws.{and-left}
-use Rattle.packets.specs.Rules.{aimed, always, isAt, begun, closed, closing, codeFor, cut, failed, finished, isDone, isFailure, locked, over, packet, returned, siteOf, submitted}
+use Rattle.packets.specs.Rules.{aimed, always, isAt, begun, closed, closing, codeFor, cut, failed, finished, isDone, isTrouble, locked, over, packet, returned, siteOf, submitted}
 use Rattle.packets.specs.State.{State, isClosing, isRunning, isUnit, packetIn, packetOf, placeOf, put, restatusAll, stateIn, withStatus}
 use Rattle.packets.proofs.Steps.{closing-not-running}
 use Rattle.packets.proofs.Store.{alive-in, length-restatus, state-put, state-restatus, state-state}
@@ -45,7 +45,7 @@ pub states-finished : (s : State) (c : ℕ) (how : How) (j p i : ℕ) → stateI
 states-finished s c how j p i =
     let a = packetIn (s .jobs) j p .at in
     let o : stateIn (over s c j p (codeFor how) .jobs) i ≡ stateIn (s .jobs) i = state-put (s .jobs) j p (withStatus (packetIn (s .jobs) j p) (Ended (codeFor how))) i in
-    by-bool (isFailure how && isUnit (packetIn (s .jobs) j p .at))
+    by-bool (isTrouble (s .codes) how && isUnit (packetIn (s .jobs) j p .at))
     (λ e. rw e (state-restatus (over s c j p (codeFor how) .jobs) j (isAt c a) failed i ∙ o))
     (λ e. rw e o)
 

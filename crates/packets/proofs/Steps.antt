@@ -20,7 +20,7 @@ use Rattle.packets.proofs.InvJobs.{NotOf, assigned-inv, close-inv, retu
 use Rattle.packets.proofs.InvStores.{New, busy-inv, enqueue-inv, entry-packet, entry-place, idle-inv, lock-inv, marked-inv, motion-move, store-inv, sweep-inv}
 use Rattle.packets.specs.Picks.{All, find, keep}
 use Rattle.packets.proofs.Laws.{all-imp, all-keep, and-left, and-right, any-none, eqb-self, find-holds, getD-replicate-const}
-use Rattle.packets.specs.Rules.{Call, Complete, End, Mark, Start, Submit, Take, accept, aimed, always, siteOf, isAt, begun, closing, codeFor, cut, decided, failed, finished, isFailure, isNone, locked, over, packet, refusal, returnIfDone, run, startable, step, submitted}
+use Rattle.packets.specs.Rules.{Call, Complete, End, Mark, Start, Submit, Take, accept, aimed, always, siteOf, isAt, begun, closing, codeFor, cut, decided, failed, finished, isTrouble, isNone, locked, over, packet, refusal, returnIfDone, run, startable, step, submitted}
 use Rattle.packets.proofs.Store.{alive-in, busy-in, packet-put, packet-restatus, sizeIn, state-put, state-restatus}
 use Rattle.packets.proofs.Told.{Submits, assigns-to, completes-on, cut-going, cut-idle, cut-unlisted, ends-of, failed-going, failed-idle, owns-unit, starts-on, submits}
 use Rattle.packets.specs.declared.Carrier.{Carrier}
@@ -215,7 +215,7 @@ module _ (s : State) (I : Inv s) (c : ℕ) (small : c < 16) (j p : ℕ) (is : mo
 
   pub finished-inv : (how : How) → Inv (finished s c how j p)
   finished-inv how =
-      by-bool (isFailure how && isUnit (packetIn (s .jobs) j p .at))
+      by-bool (isTrouble (s .codes) how && isUnit (packetIn (s .jobs) j p .at))
       (λ e. rw e
       (lock-inv (sweep (over s c j p (codeFor how)) j (isAt c (packetIn (s .jobs) j p .at)) failed)
       (sweep-inv (over s c j p (codeFor how)) (over-inv (codeFor how)) j (isAt c (packetIn (s .jobs) j p .at)) failed (over-inside (codeFor how)) refl failed-going)
@@ -285,11 +285,11 @@ pub fresh-state : (n : ℕ) (k : Job) → k .state ≡ Empty → (j : ℕ) → s
 unfolding stateIn
 fresh-state n k e j = getD-replicate-const (λ (x : Job). x .state) k noJob e n j
 
-pub fresh-inv : (channels : List Channel) (units : List (List UnitState)) → NoneHeld units → Inv (fresh channels units)
+pub fresh-inv : (channels : List Channel) (codes : ℕ) (units : List (List UnitState)) → NoneHeld units → Inv (fresh channels codes units)
 unfolding fresh
-fresh-inv channels units free =
+fresh-inv channels codes units free =
     record {
-      sizes = λ j a. never {b = isEmpty (stateIn (fresh channels units .jobs) j)} (ap isEmpty (fresh-state 16 emptyPlace refl j)) a;
+      sizes = λ j a. never {b = isEmpty (stateIn (fresh channels codes units .jobs) j)} (ap isEmpty (fresh-state 16 emptyPlace refl j)) a;
       places = refl;
       channels = refl;
       queued = tt;

@@ -58,13 +58,13 @@ pub record Always (s : State) : Type 0 where
       → packetAt s j p .status ≡ Stopping
 
 abbrev pub Invariants : Type 0
-Invariants = (channels : List Channel) (units : List (List UnitState)) → NoneHeld units → (calls : List Call)
-    → Always (run (fresh channels units) calls)
+Invariants = (channels : List Channel) (codes : ℕ) (units : List (List UnitState)) → NoneHeld units → (calls : List Call)
+    → Always (run (fresh channels codes units) calls)
 
 -- no early hand-over: a unit on which a packet is in progress or stopping is held by that packet's job
 abbrev pub NoEarlyHandOver : Type 0
 NoEarlyHandOver =
-    (channels : List Channel) (units : List (List UnitState)) → NoneHeld units → (calls : List Call) (j p : ℕ)
-    → inMotion (packetAt (run (fresh channels units) calls) j p .status) ≡ true
-    → (u : UnitNumber) → packetAt (run (fresh channels units) calls) j p .at ≡ AtUnit u
-    → let s = run (fresh channels units) calls in heldBy (unitIn (s .units) (packetAt s j p .channel .0) (u .0) .holder) j ≡ true
+    (channels : List Channel) (codes : ℕ) (units : List (List UnitState)) → NoneHeld units → (calls : List Call) (j p : ℕ)
+    → inMotion (packetAt (run (fresh channels codes units) calls) j p .status) ≡ true
+    → (u : UnitNumber) → packetAt (run (fresh channels codes units) calls) j p .at ≡ AtUnit u
+    → let s = run (fresh channels codes units) calls in heldBy (unitIn (s .units) (packetAt s j p .channel .0) (u .0) .holder) j ≡ true

@@ -42,6 +42,6 @@ Fitting part s (x ∷ l) = Fits part s x × Fitting part (step s x .state) l
 
 abbrev pub Disjoint : Type 0
 Disjoint =
-    (channels : List Channel) (units : List (List UnitState)) → NoneHeld units → (calls : List Call)
-    → (Fitting inArea (fresh channels units) calls → Apart inArea (run (fresh channels units) calls))
-    × (Fitting inCore (fresh channels units) calls → Apart inCore (run (fresh channels units) calls))
+    (channels : List Channel) (codes : ℕ) (units : List (List UnitState)) → NoneHeld units → (calls : List Call)
+    → (Fitting inArea (fresh channels codes units) calls → Apart inArea (run (fresh channels codes units) calls))
+    × (Fitting inCore (fresh channels codes units) calls → Apart inCore (run (fresh channels codes units) calls))

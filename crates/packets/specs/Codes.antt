@@ -22,7 +22,7 @@ use Rattle.packets.specs.Rules.{
   accept,
   aimed,
   isAt,
-  isFailure,
+  isTrouble,
   locked,
   refusal,
   run,
@@ -61,15 +61,15 @@ codeOf Full = 0o00
 codeOf Cut = 0o17
 codeOf (Failed k) = k
 
--- a completion: the packet that moved ends with 00, 17o or the failure's code; a failure ends with 01 what is listed
--- on its unit
+-- a completion: the packet that moved ends with 00, 17o or the failure's code; a failure with a code that sets
+-- interlock ends with 01 what is listed on its unit, any other ends nothing else
 abbrev pub afterComplete : State → ℕ → How → Motion → ℕ → ℕ → Status
 afterComplete s c how Idle i n = packetIn (s .jobs) i n .status
 afterComplete s c how (Busy j p) i n =
     let q = packetIn (s .jobs) i n in
     let a = packetIn (s .jobs) j p .at in
     cond (isPacket j p i n) (Ended (codeOf how))
-    (cond (eqb i j && ((isFailure how && isUnit a) && isAt c a q)) (endsWith 0o01 (q .status))
+    (cond (eqb i j && ((isTrouble (s .codes) how && isUnit a) && isAt c a q)) (endsWith 0o01 (q .status))
     (q .status))
 
 -- packet n of place i after an accepted call
@@ -85,9 +85,9 @@ statusAfter s (Mark c u m on) i n = packetIn (s .jobs) i n .status
 -- over any history: before each accepted call s is a cell that calls led to
 abbrev pub Codes : Type 0
 Codes =
-    (channels : List Channel) (units : List (List UnitState)) → NoneHeld units → (before : List Call) (x : Call)
-    → refusal (run (fresh channels units) before) x ≡ Granted → (i n : ℕ)
-    → packetIn (accept (run (fresh channels units) before) x .jobs) i n .status ≡ statusAfter (run (fresh channels units) before) x i n
+    (channels : List Channel) (codes : ℕ) (units : List (List UnitState)) → NoneHeld units → (before : List Call) (x : Call)
+    → refusal (run (fresh channels codes units) before) x ≡ Granted → (i n : ℕ)
+    → packetIn (accept (run (fresh channels codes units) before) x .jobs) i n .status ≡ statusAfter (run (fresh channels codes units) before) x i n
 
 -- the calls that a packet's ended status does not outlast: its own submission, and a taking of its place
 abbrev pub renews : Call → ℕ → ℕ → Bool
@@ -101,6 +101,6 @@ renews (Mark c u m on) i n = false
 -- an ended packet keeps its code through every other call, accepted or refused
 abbrev pub Kept : Type 0
 Kept =
-    (channels : List Channel) (units : List (List UnitState)) → NoneHeld units → (before : List Call) (x : Call) (i n k : ℕ)
-    → packetIn (run (fresh channels units) before .jobs) i n .status ≡ Ended k → renews x i n ≡ false
-    → packetIn (step (run (fresh channels units) before) x .state .jobs) i n .status ≡ Ended k
+    (channels : List Channel) (codes : ℕ) (units : List (List UnitState)) → NoneHeld units → (before : List Call) (x : Call) (i n k : ℕ)
+    → packetIn (run (fresh channels codes units) before .jobs) i n .status ≡ Ended k → renews x i n ≡ false
+    → packetIn (step (run (fresh channels codes units) before) x .state .jobs) i n .status ≡ Ended k

@@ -29,10 +29,11 @@ use Rattle.packets.specs.declared.Verdict.the-variants.{Granted}
 abbrev pub emptyPlace : Job
 emptyPlace = record { state = Empty; packets = replicate 16 blank; from = 0; words = 0; core = noCore }
 
-unfoldable pub fresh : List Channel → List (List UnitState) → State
-fresh channels units =
+unfoldable pub fresh : List Channel → ℕ → List (List UnitState) → State
+fresh channels codes units =
     record {
       channels = channels;
+      codes = codes;
       units = units;
       queue = [];
       moving = replicate 16 (record { motion = Idle });
@@ -182,30 +183,30 @@ OwnMotion h t s =
     (j p : ℕ) → motionOn s (h .channel) ≡ Busy j p → packetIn (s .jobs) j p .at ≡ itsUnit h → (j ≡ h .place) × (t p ≡ true)
 
 -- of a stretch, by its calls and the answers to them, and of the state at its end; every moment of a stretch is the
--- end of a shorter one
-pub record Isolated (h : Holding) (l : List Event) (end : State) : Type 0 where
+-- end of a shorter one. The lone unit's section is `codes`
+pub record Isolated (codes : ℕ) (h : Holding) (l : List Event) (end : State) : Type 0 where
   -- the lone unit takes every call that acted on the holding, each at the moment when it comes
-  pub taken : loneTakesAll (h .drum) newLone (acting h noneSeen l) ≡ true
+  pub taken : loneTakesAll codes (h .drum) newLone (acting h noneSeen l) ≡ true
   -- it makes the same starts in the same order
-  pub starts : startsIn h noneSeen l ≡ loneStarts (h .drum) (h .place) newLone (acting h noneSeen l)
+  pub starts : startsIn h noneSeen l ≡ loneStarts codes (h .drum) (h .place) newLone (acting h noneSeen l)
   -- it leaves the same status in every packet last submitted there
   pub status : (n : ℕ) → seenAfter h noneSeen l n ≡ true
-      → loneRun (h .drum) newLone (acting h noneSeen l) .packets n .status ≡ packetIn (end .jobs) (h .place) n .status
+      → loneRun codes (h .drum) newLone (acting h noneSeen l) .packets n .status ≡ packetIn (end .jobs) (h .place) n .status
   -- on a unit that is not the drum nothing of another job starts or is still moving, nor of one that had the place
   -- before
   pub started : h .drum ≡ false → OwnStarts h noneSeen l
   pub moves : h .drum ≡ false → OwnMotion h (seenAfter h noneSeen l) end
 
 -- in a cell that any calls led to from a fresh one, a job is taken with any assignment; for all that it then holds,
--- up to its return or any earlier moment
+-- up to its return or any earlier moment. "Demand 3's lone unit takes the same section"
 abbrev pub Demand3 : Type 0
 Demand3 =
-    (channels : List Channel) (units : List (List UnitState)) → NoneHeld units → (before : List Call)
+    (channels : List Channel) (codes : ℕ) (units : List (List UnitState)) → NoneHeld units → (before : List Call)
     (j : ℕ) (asg : Assignment)
-    → refusal (run (fresh channels units) before) (Take j asg) ≡ Granted
+    → refusal (run (fresh channels codes units) before) (Take j asg) ≡ Granted
     → (h : Holding) → h .place ≡ j
-    → Holds (step (run (fresh channels units) before) (Take j asg) .state) h
+    → Holds (step (run (fresh channels codes units) before) (Take j asg) .state) h
     → (during : List Call)
-    → Stretch h (step (run (fresh channels units) before) (Take j asg) .state) during
-    → Isolated h (events (step (run (fresh channels units) before) (Take j asg) .state) during)
-    (run (step (run (fresh channels units) before) (Take j asg) .state) during)
+    → Stretch h (step (run (fresh channels codes units) before) (Take j asg) .state) during
+    → Isolated codes h (events (step (run (fresh channels codes units) before) (Take j asg) .state) during)
+    (run (step (run (fresh channels codes units) before) (Take j asg) .state) during)

@@ -6,3 +6,5 @@ pub mod Demand
 pub mod Always
 pub mod Apart
 pub mod Codes
+pub mod Interlocks
+pub mod Before

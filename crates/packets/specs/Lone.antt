@@ -1,7 +1,8 @@
 -- A lone unit, or a lone piece of drum, that one job has to itself: what it refuses and what it does, written from
 -- document 01 and not from the rules of the cell. It knows nothing of channels, places or other units. A reader has
--- to believe this page. It shares with the rules only the calls, the statuses and the shape of a start.
-use Prim.Native.Nat.{ℕ}
+-- to believe this page. It shares with the rules only the calls, the statuses and the shape of a start. It takes the
+-- section of the codes that set interlock as its own parameter.
+use Prim.Native.Nat.{ℕ, zero, suc, _/_, _%_}
 use mathlib.Core.Bool.{Bool, true, false, not, cond, _&&_}
 use mathlib.Core.List.{List, [], _∷_, _++_}
 use mathlib.Core.Option.{Option, none, some}
@@ -29,7 +30,7 @@ pub record Lone : Type 0 where
   pub order : List ℕ
   -- the one in progress or stopping
   pub moving : Option ℕ
-  -- a failure sets it; a piece of drum never has it, since a failure there sets none
+  -- a failure with a code of the section sets it; a piece of drum never has it, since a failure there sets none
   pub interlock : Bool
   -- the job has ended
   pub jobOver : Bool
@@ -136,16 +137,21 @@ setsOff l (n ∷ r) = carries (stores l n (become (l .packets n) InProgress)) (s
 abbrev pub ends : Lone → ℕ → ℕ → Lone
 ends l n k = stores (carries l none) n (become (l .packets n) (Ended k))
 
--- a failure, on a unit that isn't the drum, sets the interlock and ends with 01 what is listed
-abbrev pub breaks : Bool → Lone → Lone
-breaks true l = l
-breaks false l = locks (fails l) true
+-- is a code in the section? The section is a word that has bit k for code k: halved k times it is odd
+unfoldable pub isIn : ℕ → ℕ → Bool
+isIn section zero = eqb (section % 2) 1
+isIn section (suc k) = isIn (section / 2) k
 
-abbrev pub completesAs : Bool → Lone → How → Option ℕ → Lone
-completesAs drum l how none = l
-completesAs drum l Full (some n) = ends l n 0o00
-completesAs drum l Cut (some n) = ends l n 0o17
-completesAs drum l (Failed k) (some n) = breaks drum (ends l n k)
+-- a failure with a code of the section, on a unit that isn't the drum, sets the interlock and ends with 01 what is
+-- listed; with any other code it does nothing more
+abbrev pub breaks : Bool → Bool → Lone → Lone
+breaks listed drum l = cond (listed && not drum) (locks (fails l) true) l
+
+abbrev pub completesAs : ℕ → Bool → Lone → How → Option ℕ → Lone
+completesAs section drum l how none = l
+completesAs section drum l Full (some n) = ends l n 0o00
+completesAs section drum l Cut (some n) = ends l n 0o17
+completesAs section drum l (Failed k) (some n) = breaks (isIn section k) drum (ends l n k)
 
 -- where a submission goes: to the unit, or on the drum to X or L
 abbrev pub goesTo : Spot → Site
@@ -210,18 +216,18 @@ loneTakes l (Mark c u m on) = false
 
 -- ---- what it does
 
--- what a call that it takes does; drum: it is a piece of drum
-unfoldable pub loneDoes : Bool → Lone → Call → Lone
-loneDoes drum l (Take j asg) = l
-loneDoes drum l (Submit j n f c w) = hears l n f w
-loneDoes drum l (Start c) = setsOff l (l .order)
-loneDoes drum l (Complete c how) = completesAs drum l how (l .moving)
-loneDoes drum l (End j e) = closes (halts (λ x. true) l)
-loneDoes drum l (Mark c u m on) = l
+-- what a call that it takes does; section: the codes that set interlock; drum: it is a piece of drum
+unfoldable pub loneDoes : ℕ → Bool → Lone → Call → Lone
+loneDoes section drum l (Take j asg) = l
+loneDoes section drum l (Submit j n f c w) = hears l n f w
+loneDoes section drum l (Start c) = setsOff l (l .order)
+loneDoes section drum l (Complete c how) = completesAs section drum l how (l .moving)
+loneDoes section drum l (End j e) = closes (halts (λ x. true) l)
+loneDoes section drum l (Mark c u m on) = l
 
 -- a refused call leaves it as it was
-unfoldable pub loneStep : Bool → Lone → Call → Lone
-loneStep drum l x = cond (loneTakes l x) (loneDoes drum l x) l
+unfoldable pub loneStep : ℕ → Bool → Lone → Call → Lone
+loneStep section drum l x = cond (loneTakes l x) (loneDoes section drum l x) l
 
 -- the start that a call makes, if it makes one; place is where the lone unit's job is
 abbrev pub startOf : ℕ → Lone → List ℕ → List Begun
@@ -242,15 +248,15 @@ loneStart place l x = cond (loneTakes l x) (startBy place l x) []
 
 -- ---- calls one after the other
 
-unfoldable pub loneRun : Bool → Lone → List Call → Lone
-loneRun drum l [] = l
-loneRun drum l (x ∷ xs) = loneRun drum (loneStep drum l x) xs
+unfoldable pub loneRun : ℕ → Bool → Lone → List Call → Lone
+loneRun section drum l [] = l
+loneRun section drum l (x ∷ xs) = loneRun section drum (loneStep section drum l x) xs
 
-unfoldable pub loneStarts : Bool → ℕ → Lone → List Call → List Begun
-loneStarts drum place l [] = []
-loneStarts drum place l (x ∷ xs) = loneStart place l x ++ loneStarts drum place (loneStep drum l x) xs
+unfoldable pub loneStarts : ℕ → Bool → ℕ → Lone → List Call → List Begun
+loneStarts section drum place l [] = []
+loneStarts section drum place l (x ∷ xs) = loneStart place l x ++ loneStarts section drum place (loneStep section drum l x) xs
 
 -- it takes every one of them, each at the moment when it comes
-unfoldable pub loneTakesAll : Bool → Lone → List Call → Bool
-loneTakesAll drum l [] = true
-loneTakesAll drum l (x ∷ xs) = loneTakes l x && loneTakesAll drum (loneStep drum l x) xs
+unfoldable pub loneTakesAll : ℕ → Bool → Lone → List Call → Bool
+loneTakesAll section drum l [] = true
+loneTakesAll section drum l (x ∷ xs) = loneTakes l x && loneTakesAll section drum (loneStep section drum l x) xs

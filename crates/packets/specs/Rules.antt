@@ -24,6 +24,7 @@ use Rattle.units.specs.State.{unitIn, unitSet, markedUnit}
 use Rattle.units.specs.declared.Holder.{Holder}
 use Rattle.units.specs.declared.Unit.{Unit as UnitState}
 use Rattle.units.specs.declared.Mark.{Mark as UnitMark}
+use Rattle.channels.specs.Channels.{setsInterlock}
 use Rattle.channels.specs.declared.Fitted.{Fitted}
 use Rattle.channels.specs.declared.Fitted.the-variants.{Nothing, With}
 use Rattle.packets.specs.declared.Status.{Status}
@@ -135,7 +136,7 @@ enlist s j p f c a = enqueue (store s j p (packet Listed f c a)) j p
 abbrev pub isAt : ℕ → Site → Packet → Bool
 isAt c a p = eqb (p .channel .0) c && same (p .at) a
 
--- what a failure, or 07 under interlock, does: a listed packet ends with 01
+-- what a failure that sets interlock, or 07 under interlock, does: a listed packet ends with 01
 abbrev pub failed : Status → Status
 failed Blank = Blank
 failed Listed = Ended 0o01
@@ -224,6 +225,7 @@ abbrev pub returned : State → ℕ → State
 returned s j =
     record {
       channels = s .channels;
+      codes = s .codes;
       queue = s .queue;
       moving = s .moving;
       units = releaseAll (s .units) j;
@@ -251,23 +253,26 @@ codeFor Full = 0o00
 codeFor Cut = 0o17
 codeFor (Failed k) = k
 
-abbrev pub isFailure : How → Bool
-isFailure Full = false
-isFailure Cut = false
-isFailure (Failed k) = true
+-- a failure with one of "the codes that set interlock"
+abbrev pub isTrouble : ℕ → How → Bool
+isTrouble codes Full = false
+isTrouble codes Cut = false
+isTrouble codes (Failed k) = setsInterlock codes k
 
 -- packet p of place j, in progress or stopping on channel c, has ended with a code
 abbrev pub over : State → ℕ → ℕ → ℕ → ℕ → State
 over s c j p k = store (move s c Idle) j p (withStatus (packetIn (s .jobs) j p) (Ended k))
 
--- a failure on a unit other than the drum sets its interlock and ends that unit's listed packets with 01
+-- a failure with one of those codes on a unit other than the drum sets its interlock and ends that unit's listed packets
+-- with 01
 abbrev pub broken : State → ℕ → Site → ℕ → State
 broken s c a j = lock (sweep s j (isAt c a) failed) c a true
 
+-- "Any other failure code sets none and ends no listed packet"
 abbrev pub finished : State → ℕ → How → ℕ → ℕ → State
 finished s c how j p =
     let a = packetIn (s .jobs) j p .at in
-    cond (isFailure how && isUnit a) (broken (over s c j p (codeFor how)) c a j) (over s c j p (codeFor how))
+    cond (isTrouble (s .codes) how && isUnit a) (broken (over s c j p (codeFor how)) c a j) (over s c j p (codeFor how))
 
 abbrev pub completed : State → ℕ → How → Motion → State
 completed s c how Idle = s
@@ -307,6 +312,7 @@ abbrev pub assigned : State → ℕ → Assignment → State
 assigned s j asg =
     record {
       channels = s .channels;
+      codes = s .codes;
       queue = s .queue;
       moving = s .moving;
       units = takeAll (s .units) j (wanted asg);
@@ -318,6 +324,7 @@ abbrev pub marked : State → ℕ → ℕ → UnitMark → Bool → State
 marked s c u m on =
     record {
       channels = s .channels;
+      codes = s .codes;
       queue = s .queue;
       moving = s .moving;
       jobs = s .jobs;

@@ -29,10 +29,12 @@ use Rattle.packets.specs.declared.Carrier.{Carrier}
 use Rattle.packets.specs.declared.Assignment.{Assignment}
 use Rattle.packets.specs.Picks.{keep, any, mapFrom}
 
--- what each channel has, the units, the places, the listed packets of all channels in order of submission (a channel's
--- request list is its part of it), and what moves on each channel
+-- what each channel has, the codes that set interlock (a word, bit k for code k), the units, the places, the listed
+-- packets of all channels in order of submission (a channel's request list is its part of it), and what moves on each
+-- channel
 pub record State : Type 0 where
   pub channels : List Channel
+  pub codes : ℕ
   pub units : List (List UnitState)
   pub jobs : List Job
   pub queue : List ℕ
@@ -271,28 +273,29 @@ anyMoves j moving = any (λ (m : Carrier). moves j (m .motion)) moving
 abbrev pub store : State → ℕ → ℕ → Packet → State
 store s j p q =
     let after = put (s .jobs) j p q in
-    record { channels = s .channels; units = s .units; moving = s .moving; jobs = after; queue = relist j (packetsIn after j) (s .queue) }
+    record { channels = s .channels; codes = s .codes; units = s .units; moving = s .moving; jobs = after; queue = relist j (packetsIn after j) (s .queue) }
 
 -- the packets of place j that pass the test change their status; what is no longer listed leaves the list
 abbrev pub sweep : State → ℕ → (Packet → Bool) → (Status → Status) → State
 sweep s j t f =
     let after = restatusAll (s .jobs) j t f in
-    record { channels = s .channels; units = s .units; moving = s .moving; jobs = after; queue = relist j (packetsIn after j) (s .queue) }
+    record { channels = s .channels; codes = s .codes; units = s .units; moving = s .moving; jobs = after; queue = relist j (packetsIn after j) (s .queue) }
 
 -- packet p of place j is the youngest of the list
 abbrev pub enqueue : State → ℕ → ℕ → State
 enqueue s j p =
-    record { channels = s .channels; units = s .units; moving = s .moving; jobs = s .jobs; queue = enlisted (s .queue) (entryOf j p) }
+    record { channels = s .channels; codes = s .codes; units = s .units; moving = s .moving; jobs = s .jobs; queue = enlisted (s .queue) (entryOf j p) }
 
 -- the interlock at a on channel c is set or cleared
 abbrev pub lock : State → ℕ → Site → Bool → State
-lock s c a b = record { channels = s .channels; units = setLock (s .units) c a b; moving = s .moving; jobs = s .jobs; queue = s .queue }
+lock s c a b = record { channels = s .channels; codes = s .codes; units = setLock (s .units) c a b; moving = s .moving; jobs = s .jobs; queue = s .queue }
 
 -- what moves on channel c
 abbrev pub move : State → ℕ → Motion → State
 move s c m =
     record {
       channels = s .channels;
+      codes = s .codes;
       units = s .units;
       moving = set (s .moving) c (carrying m);
       jobs = s .jobs;
@@ -301,7 +304,7 @@ move s c m =
 
 -- the state of the job in place j
 abbrev pub close : State → ℕ → JobState → State
-close s j t = record { channels = s .channels; units = s .units; moving = s .moving; jobs = setState (s .jobs) j t; queue = s .queue }
+close s j t = record { channels = s .channels; codes = s .codes; units = s .units; moving = s .moving; jobs = setState (s .jobs) j t; queue = s .queue }
 
 abbrev pub inMotion : Status → Bool
 inMotion Blank = false

@@ -73,9 +73,11 @@ pub struct Carrier {
     pub motion: Motion,
 }
 
-// The request lists: what each channel has, the places, the list, what moves on each channel, and the units.
+// The request lists: what each channel has, the codes that set interlock, the places, the list, what moves on each
+// channel, and the units.
 pub struct Lists {
     pub channels: [Channel; 16],
+    pub codes: u64,
     pub jobs: [Job; 16],
     pub list: RequestList,
     pub moving: [Carrier; 16],
@@ -153,9 +155,9 @@ pub enum Found {
     Nowhere,
 }
 
-// A change of status that a call makes to several packets of one job. A failure or 07 on a unit: its listed packets
-// end with 01. 23 on a unit or on words of the drum, and the job's end: listed packets end with 16 octal, those in
-// progress are stopping.
+// A change of status that a call makes to several packets of one job. A failure that sets interlock, or 07, on a unit:
+// its listed packets end with 01. 23 on a unit or on words of the drum, and the job's end: listed packets end with 16
+// octal, those in progress are stopping.
 pub enum Aim {
     Failing(ChannelNumber, UnitNumber),
     Cutting(ChannelNumber, Spot),

@@ -14,7 +14,7 @@ use packets::Status;
 ghost use mathlib.Core.Path.{_≡_};
 ghost use mathlib.Core.Bool.{not, _&&_};
 ghost use Rattle.packets.specs.State.{isUnit, isStopping, isClosing, anyMoves};
-ghost use Rattle.packets.specs.Rules.{isWrong, codeFor, isFailure, leavingAs, closing};
+ghost use Rattle.packets.specs.Rules.{isWrong, codeFor, isTrouble, leavingAs, closing};
 ghost use Rattle.packets_end.specs.Over.{brokenFor, overPackets, overJob, closedJob, endingOf};
 
 fn is_stopping(status: Status) -> bool
@@ -65,21 +65,22 @@ fn code_for(how: How) -> u8
     }
 }
 
-fn is_failure(how: How) -> bool
-    ensures { λ r. ⌜ r ≡ isFailure how ⌝ }
+// Whether a completion is a failure with one of the codes that set interlock.
+fn is_trouble(codes: u64, how: How) -> bool
+    ensures { λ r. ⌜ r ≡ isTrouble codes how ⌝ }
 {
     match how {
         How::Full => false,
         How::Cut => false,
-        How::Failed(_) => true,
+        How::Failed(k) => channels::sets_interlock(codes, k),
     }
 }
 
-// Whether a completion is a failure on a unit other than the drum, which sets its interlock.
-pub fn is_breaking(how: How, at: Site) -> bool
-    ensures { λ r. ⌜ r ≡ isFailure how && isUnit at ⌝ }
+// Whether a completion is such a failure on a unit other than the drum, and so sets its interlock.
+pub fn is_breaking(codes: u64, how: How, at: Site) -> bool
+    ensures { λ r. ⌜ r ≡ isTrouble codes how && isUnit at ⌝ }
 {
-    if !is_failure(how) {
+    if !is_trouble(codes, how) {
         return false;
     }
     match at {
@@ -88,7 +89,7 @@ pub fn is_breaking(how: How, at: Site) -> bool
     }
 }
 
-// The packets after a failure where one of them is: the unit's listed ones end with 01.
+// The packets after a failure that sets interlock where one of them is: the unit's listed ones end with 01.
 fn broken(ps: [Packet; 16], c: ChannelNumber, at: Site) -> [Packet; 16]
     ensures { λ r. ⌜ r ≡ brokenFor ps (c .0) at ⌝ }
 {
@@ -98,8 +99,8 @@ fn broken(ps: [Packet; 16], c: ChannelNumber, at: Site) -> [Packet; 16]
     }
 }
 
-// The job's packets after a completion of packet p on channel c; a failure there ends the unit's listed packets with
-// 01.
+// The job's packets after a completion of packet p on channel c; one that sets interlock ends the unit's listed packets
+// with 01.
 fn packets_over(ps: [Packet; 16], p: u8, how: How, c: ChannelNumber, breaking: bool) -> [Packet; 16]
     ensures { λ r. ⌜ r ≡ overPackets ps p how (c .0) breaking ⌝ }
 {

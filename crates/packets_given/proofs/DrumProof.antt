@@ -158,11 +158,11 @@ run-good s I K [] = K
 run-good s I K (x ∷ l) = run-good (step s x .state) (step-inv s I x) (step-good s I K x) l
 
 pub on-its-own-words : OnItsOwnWords
-on-its-own-words channels units free calls =
-    run-good (fresh channels units) (fresh-inv channels units free) none-busy calls
+on-its-own-words channels codes units free calls =
+    run-good (fresh channels codes units) (fresh-inv channels codes units free) none-busy calls
   where
     -- no job is there, so no packet is busy
-    none-busy : AtItsArea (fresh channels units)
+    none-busy : AtItsArea (fresh channels codes units)
     none-busy i n b x d =
-        let a : isEmpty (stateIn (fresh channels units .jobs) i) ≡ false = unfold run in invariants channels units free [] .live i n b in
-        never {b = (isEmpty (stateIn (fresh channels units .jobs) i))} (unfold fresh in ap isEmpty (fresh-state 16 emptyPlace refl i)) a
+        let a : isEmpty (stateIn (fresh channels codes units .jobs) i) ≡ false = unfold run in invariants channels codes units free [] .live i n b in
+        never {b = (isEmpty (stateIn (fresh channels codes units .jobs) i))} (unfold fresh in ap isEmpty (fresh-state 16 emptyPlace refl i)) a

@@ -212,20 +212,20 @@ run-kept given s I [] f K = K
 run-kept given s I (x ∷ l) f K =
     run-kept (λ (i : ℕ). takenBy i (given i) x (step s x .answer)) (step s x .state) (step-inv s I x) l (f .1) (step-kept given s I x (f .0) K)
 
-fresh-kept : (channels : List Channel) (units : List (List UnitState)) → Square units → Kept (λ (i : ℕ). none) (fresh channels units)
+fresh-kept : (channels : List Channel) (codes : ℕ) (units : List (List UnitState)) → Square units → Kept (λ (i : ℕ). none) (fresh channels codes units)
 unfolding fresh
-fresh-kept channels units q =
+fresh-kept channels codes units q =
     record {
       square = q;
-      live = λ i a. never {b = isEmpty (stateIn (fresh channels units .jobs) i)} (ap isEmpty (fresh-state 16 emptyPlace refl i)) a;
+      live = λ i a. never {b = isEmpty (stateIn (fresh channels codes units .jobs) i)} (ap isEmpty (fresh-state 16 emptyPlace refl i)) a;
     }
 
 pub holds-what-it-was-given : HoldsWhatItWasGiven
-holds-what-it-was-given channels units free q calls f j =
+holds-what-it-was-given channels codes units free q calls f j =
     record {
-      live = λ a. run-kept (λ (i : ℕ). none) (fresh channels units) I calls f (fresh-kept channels units q) .live j a;
-      empty = λ a c u. none-held (run (fresh channels units) calls) (run-inv (fresh channels units) I calls) j a c u;
+      live = λ a. run-kept (λ (i : ℕ). none) (fresh channels codes units) I calls f (fresh-kept channels codes units q) .live j a;
+      empty = λ a c u. none-held (run (fresh channels codes units) calls) (run-inv (fresh channels codes units) I calls) j a c u;
     }
   where
-    I : Inv (fresh channels units)
-    I = fresh-inv channels units free
+    I : Inv (fresh channels codes units)
+    I = fresh-inv channels codes units free

@@ -15,7 +15,7 @@ use Rattle.units.specs.declared.Mark.{Mark as UnitMark}
 use Rattle.units.specs.declared.Unit.{Unit as UnitState}
 use Rattle.packets.proofs.InvStores.{mark-holder}
 use Rattle.packets.proofs.Laws.{getD-set-keep}
-use Rattle.packets.specs.Rules.{aimed, always, begun, closed, closing, codeFor, cut, enlist, failed, finished, isAt, isFailure, locked, marked, over, packet, siteOf, submitted}
+use Rattle.packets.specs.Rules.{aimed, always, begun, closed, closing, codeFor, cut, enlist, failed, finished, isAt, isTrouble, locked, marked, over, packet, siteOf, submitted}
 use Rattle.packets.specs.State.{State, close, isEmpty, isUnit, jobIn, lock, move, noJob, packetIn, packetOf, placeOf, put, restatus, restatusAll, setState, stateIn, store, sweep, withLock, withPackets, withState, withStatus}
 use Rattle.packets.proofs.Steps.{closing-alive}
 use Rattle.packets.proofs.Store.{state-restatus, unit-keep}
@@ -129,7 +129,7 @@ same-finished s c how j p =
     let a = packetIn (s .jobs) j p .at in
     let s₁ = over s c j p (codeFor how) in
     let o : Same s s₁ = same-trans (same-rest s (move s c Idle) refl refl) (same-store (move s c Idle) j p q) in
-    by-bool (isFailure how && isUnit a)
+    by-bool (isTrouble (s .codes) how && isUnit a)
     (λ e. rw e (same-trans o (same-trans (same-sweep s₁ j (isAt c a) failed) (same-lock (sweep s₁ j (isAt c a) failed) c a true))))
     (λ e. rw e o)
 

@@ -95,9 +95,9 @@ pub record AsGiven (s : State) (j : ℕ) (last : Option Assignment) : Type 0 whe
 -- for every history of calls from a fresh cell of 16 channels of 16 units, and for every place
 abbrev pub HoldsWhatItWasGiven : Type 0
 HoldsWhatItWasGiven =
-    (channels : List Channel) (units : List (List UnitState)) → NoneHeld units → Square units → (calls : List Call)
-    → Wanting (fresh channels units) calls
-    → (j : ℕ) → AsGiven (run (fresh channels units) calls) j (taking (events (fresh channels units) calls) j)
+    (channels : List Channel) (codes : ℕ) (units : List (List UnitState)) → NoneHeld units → Square units → (calls : List Call)
+    → Wanting (fresh channels codes units) calls
+    → (j : ℕ) → AsGiven (run (fresh channels codes units) calls) j (taking (events (fresh channels codes units) calls) j)
 
 -- a packet that is listed, in progress or stopping at an address is at one of its job's area
 abbrev pub AtItsArea : State → Type 0
@@ -107,5 +107,5 @@ AtItsArea s =
 
 abbrev pub OnItsOwnWords : Type 0
 OnItsOwnWords =
-    (channels : List Channel) (units : List (List UnitState)) → NoneHeld units → (calls : List Call)
-    → AtItsArea (run (fresh channels units) calls)
+    (channels : List Channel) (codes : ℕ) (units : List (List UnitState)) → NoneHeld units → (calls : List Call)
+    → AtItsArea (run (fresh channels codes units) calls)

@@ -145,7 +145,7 @@ pub fn with_status_at(ps: [Packet; 16], p: u8, status: Status) -> [Packet; 16]
     with_packet(ps, p, with_status(packet_in(ps, p), status))
 }
 
-// What a failure or 07 does: a listed packet ends with 01.
+// What a failure that sets interlock, or 07, does: a listed packet ends with 01.
 fn failed_status(status: Status) -> Status
     ensures { λ r. ⌜ r ≡ failed status ⌝ }
 {

@@ -10,7 +10,7 @@ use Rattle.numbers.proofs.Tests.{by-bool}
 use Rattle.numbers.specs.Kinds.{codeOf}
 use Rattle.numbers.specs.declared.Kind.{Kind}
 use Rattle.numbers.specs.declared.Kind.the-variants.{Ma, Mt, Pr, Md}
-use Rattle.text.specs.Writing.{twoText, digitsText, decimalText}
+use Rattle.text.specs.Writing.{twoText, octalText, digitsText, decimalText}
 use Rattle.words.specs.Lines.{lineOf, linesOf, size}
 use Rattle.words.proofs.LineLaws.{NoLf, no-lf-append, first-ended, has-line, line-split, line-clean}
 use Rattle.configuration_form.specs.Form.{Item, line, written}
@@ -37,6 +37,7 @@ abbrev body : Item → List ℕ
 body (Item.count n) = decimalText n
 body (Item.channel c kind n) = twoText c ++ (32 ∷ (codeOf kind ++ (32 ∷ decimalText n)))
 body (Item.down c u) = twoText c ++ (32 ∷ (twoText u ++ []))
+body (Item.code k) = octalText k
 
 body-clean : (item : Item) → NoLf (body item)
 body-clean (Item.count n) = digits-clean n n
@@ -44,11 +45,13 @@ body-clean (Item.channel c kind n) =
     two-clean c (32 ∷ (codeOf kind ++ (32 ∷ decimalText n)))
     ((λ e. omega arith), code-clean kind (32 ∷ decimalText n) ((λ e. omega arith), digits-clean n n))
 body-clean (Item.down c u) = two-clean c (32 ∷ (twoText u ++ [])) ((λ e. omega arith), two-clean u [] tt)
+body-clean (Item.code k) = ((λ e. omega arith), ((λ e. omega arith), tt))
 
 line-is : (item : Item) → line item ≡ body item ++ (10 ∷ [])
 line-is (Item.count n) = refl
 line-is (Item.channel c kind n) = ap (λ (l : List ℕ). twoText c ++ (32 ∷ l)) (sym (append-assoc (codeOf kind) (32 ∷ decimalText n) (10 ∷ [])))
 line-is (Item.down c u) = refl
+line-is (Item.code k) = refl
 
 line-then : (item : Item) (t : List ℕ) → line item ++ t ≡ body item ++ (10 ∷ t)
 line-then item t = ap (λ (l : List ℕ). l ++ t) (line-is item) ∙ append-assoc (body item) (10 ∷ []) t

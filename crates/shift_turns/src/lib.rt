@@ -47,6 +47,7 @@ pub fn fresh() -> Shift
         cell: cell::fresh(Configuration {
             channels: channels::no_channels(),
             down: [false; 256],
+            codes: 0,
         }),
     }
 }
