@@ -63,7 +63,7 @@ fn loaded(configuration: &str, deck: &str, listed: u8) -> Cell {
 
 /// A packet submitted, started and completed on channel 1, while others stand before it in the list.
 pub fn turns() {
-    let configuration = "2\n00 MT 16\n01 MT 16\n0\n";
+    let configuration = "2\n00 MT 16\n01 MT 16\n0\n0\n";
     let deck = request(0, "IB/1,MT1/1,MT2/1") + &deck(1..16, "IB/1,MT1/1");
     let (config, deck_bytes) = (configuration.as_bytes(), deck.as_bytes());
     for listed in [0, 1, 64, 255] {
@@ -93,7 +93,7 @@ pub fn entries() {
     for count in [0, 1, 16, 63] {
         let before = deck(0..count, ENTRIES);
         let further = deck(count..count + 1, ENTRIES);
-        let cell = fresh("0\n0\n", &before);
+        let cell = fresh("0\n0\n0\n", &before);
         let ordinary = time_from(&cell, |cell| enter(cell, black_box(&further)));
         let proved = proved::LINKED.then(|| {
             let (before, further) = (before.as_bytes(), further.as_bytes());
@@ -114,7 +114,7 @@ fn every_kind() -> String {
             _ => format!("{channel:02} PR 4\n"),
         })
         .collect();
-    format!("16\n{channels}0\n")
+    format!("16\n{channels}0\n0\n")
 }
 
 const FITS: &str = "IB/1,DB/1,MD/100,MA1/4,MA2/3,MT1/4,MT2/3,PR1/4";

@@ -127,18 +127,20 @@ fn request(number: usize, entries: &str) -> String {
     format!("J{number},PTY,2,,PROG-{number},,T,LIB,P,{letter}{},P,10.\nJ{number},FAC,{entries}.\n", number % 63)
 }
 
-/// Sixteen channels with sixteen units each, all down.
+/// Sixteen channels with sixteen units each, all down, and all codes that there are.
 fn largest_configuration() -> String {
     let channels: String = (0..16).map(|channel| format!("{channel:02} MT 16\n")).collect();
     let down: String = (0..256).map(|unit| format!("{:02} {:02}\n", unit / 16, unit % 16)).collect();
-    format!("16\n{channels}256\n{down}")
+    let codes = (0o02..=0o77).filter(|code| ![0o16, 0o17].contains(code));
+    let codes: String = codes.map(|code| format!("{code:02o}\n")).collect();
+    format!("16\n{channels}256\n{down}60\n{codes}")
 }
 
-const CELL: &str = "6\n00 MA 4\n01 MA 2\n03 MT 6\n05 MT 3\n07 MD 40000\n12 PR 2\n1\n00 01\n";
+const CELL: &str = "6\n00 MA 4\n01 MA 2\n03 MT 6\n05 MT 3\n07 MD 40000\n12 PR 2\n1\n00 01\n5\n02\n06\n11\n13\n14\n";
 
 fn configurations() {
     for (what, text) in
-        [("six channels, one unit down", CELL.to_string()), ("256 units, all down", largest_configuration())]
+        [("six channels, one unit down", CELL.to_string()), ("256 units, all down, 60 codes", largest_configuration())]
     {
         let text = text.as_bytes();
         let ordinary = time(|| {

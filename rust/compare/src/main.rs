@@ -25,10 +25,11 @@ use std::sync::Mutex;
 use std::thread;
 use std::time::Instant;
 
-use ordinary::configuration::Configuration;
+use ordinary::configuration::{BadLine, Configuration};
 use ordinary::shift::Shift;
 use programs::{Outcome, Program};
 use random::Random;
+use scripts::Script;
 
 const USAGE: &str =
     "usage: compare deck|listing|shift [--seed N] [--count N] [--calls N] [--jobs N] [--save FOLDER] [--first] [--show] [-- COMMAND..]";
@@ -119,15 +120,13 @@ fn options() -> Result<Options, String> {
 }
 
 /// An input in pieces that may be left out one by one, with the number of calls in it.
-fn input(subject: Subject, seed: u64, calls: usize) -> (Vec<Vec<u8>>, usize) {
+fn input(subject: Subject, seed: u64, calls: usize) -> Script {
     let mut random = Random::new(seed);
+    let one = |piece| Script { pieces: vec![piece], calls: 1, failures: BTreeMap::new() };
     match subject {
-        Subject::Deck => (vec![decks::deck(&mut random)], 1),
-        Subject::Listing => (vec![configurations::configuration(&mut random)], 1),
-        Subject::Shift => {
-            let script = scripts::script(&mut random, if is_talk(seed) { 100 } else { calls });
-            (script.pieces, script.calls)
-        }
+        Subject::Deck => one(decks::deck(&mut random)),
+        Subject::Listing => one(configurations::configuration(&mut random)),
+        Subject::Shift => scripts::script(&mut random, if is_talk(seed) { 100 } else { calls }),
     }
 }
 
@@ -143,7 +142,7 @@ struct Tally {
     calls: u64,
     bytes: u64,
     differences: u64,
-    /// How often each sort of answer came.
+    /// How often each sort of answer came, and which sorts of failures were reported.
     answers: BTreeMap<String, u64>,
 }
 
@@ -155,7 +154,31 @@ impl Tally {
         for line in output.split(|&byte| byte == b'\n').filter(|line| !line.is_empty()) {
             *self.answers.entry(sort_of(subject, line)).or_default() += 1;
         }
+        if subject == Subject::Listing {
+            if let Some(section) = bad_section(input) {
+                *self.answers.entry(format!("bad in {section}")).or_default() += 1;
+            }
+        }
     }
+}
+
+/// Where the first bad or missing line of a configuration stands.
+fn bad_section(text: &[u8]) -> Option<&'static str> {
+    let BadLine(bad) = Configuration::from_text(text).err()?;
+    let lines: Vec<&[u8]> = text.split(|&byte| byte == b'\n').collect();
+    // A count before the bad line is a good one.
+    let count = |line: usize| {
+        let line = lines.get(line - 1).and_then(|line| std::str::from_utf8(line).ok());
+        line.and_then(|line| line.parse().ok()).unwrap_or(0)
+    };
+    let mut at = 1;
+    for section in ["the channels", "the down units", "the codes"] {
+        if bad == at || bad <= at + count(at) {
+            return Some(section);
+        }
+        at += count(at) + 1;
+    }
+    Some("what follows")
 }
 
 /// The answer without what is its own: the error number, the refusal, the word.
@@ -208,7 +231,7 @@ fn main() -> ExitCode {
 /// Runs all inputs and answers how many differ.
 fn compare(options: Options) -> Result<u64, String> {
     if options.show {
-        let (pieces, _) = input(options.subject, options.seed, options.calls);
+        let pieces = input(options.subject, options.seed, options.calls).pieces;
         use std::io::Write;
         std::io::stdout().write_all(&pieces.concat()).map_err(|error| error.to_string())?;
         return Ok(0);
@@ -253,7 +276,7 @@ fn compare(options: Options) -> Result<u64, String> {
 
 fn one(options: &Options, program: &Program, seed: u64, tally: &Mutex<Tally>) {
     let subject = options.subject;
-    let (pieces, calls) = input(subject, seed, options.calls);
+    let Script { pieces, calls, failures } = input(subject, seed, options.calls);
     let text = pieces.concat();
     let expected = subject.ordinary(&text);
     let answered = if subject == Subject::Shift && is_talk(seed) {
@@ -269,6 +292,9 @@ fn one(options: &Options, program: &Program, seed: u64, tally: &Mutex<Tally>) {
     }
     let mut tally = tally.lock().expect("no thread has failed");
     tally.add(subject, calls, &text, &expected);
+    for (failure, times) in failures {
+        *tally.answers.entry(failure).or_default() += times;
+    }
     tally.differences += u64::from(differs);
 }
 

@@ -1,6 +1,8 @@
 //! Random shift scripts. A shift of the ordinary implementation runs beside, so that most calls make sense in the
 //! state they meet.
 
+use std::collections::BTreeMap;
+
 use ordinary::cell::{Job, PacketName, Status, PLACES};
 use ordinary::configuration::{Channel, Configuration, DRUM_START};
 use ordinary::functions::{self, REMOVE_INTERLOCK, TERMINATE};
@@ -19,6 +21,8 @@ pub struct Script {
     pub pieces: Vec<Vec<u8>>,
     /// How many of the pieces are calls.
     pub calls: usize,
+    /// How often packets failed in which way.
+    pub failures: BTreeMap<String, u64>,
 }
 
 /// The calls by sort, each as likely as its weight says; the weights differ from script to script.
@@ -38,9 +42,11 @@ enum Sort {
     Noise,
     /// Requests for a little more than is free, and a selection.
     More,
+    /// A packet that fails with others listed around it, and what comes of them.
+    Failure,
 }
 
-const SORTS: [Sort; 13] = [
+const SORTS: [Sort; 14] = [
     Sort::Deck,
     Sort::Select,
     Sort::Submit,
@@ -54,19 +60,20 @@ const SORTS: [Sort; 13] = [
     Sort::Board,
     Sort::Noise,
     Sort::More,
+    Sort::Failure,
 ];
 
-const WEIGHTS: &[[usize; 13]] = &[
+const WEIGHTS: &[[usize; 14]] = &[
     // An ordinary day.
-    [3, 10, 35, 18, 17, 4, 3, 3, 6, 4, 2, 1, 2],
+    [3, 10, 35, 18, 17, 4, 3, 3, 6, 4, 2, 1, 2, 2],
     // Long request lists.
-    [2, 6, 80, 3, 3, 1, 1, 1, 3, 2, 1, 0, 1],
+    [2, 6, 80, 3, 3, 1, 1, 1, 3, 2, 1, 0, 1, 1],
     // Many short jobs.
-    [8, 25, 15, 10, 10, 18, 4, 5, 6, 3, 2, 0, 3],
+    [8, 25, 15, 10, 10, 18, 4, 5, 6, 3, 2, 0, 3, 2],
     // A full schedule and full places.
-    [15, 20, 20, 8, 8, 1, 6, 8, 7, 4, 2, 1, 3],
+    [15, 20, 20, 8, 8, 1, 6, 8, 7, 4, 2, 1, 3, 1],
     // Failures and marks.
-    [3, 10, 30, 20, 22, 4, 8, 1, 6, 1, 2, 0, 2],
+    [3, 10, 30, 20, 22, 4, 8, 1, 6, 1, 2, 0, 2, 8],
 ];
 
 struct Writer<'r> {
@@ -74,20 +81,27 @@ struct Writer<'r> {
     shift: Shift,
     style: Style,
     pieces: Vec<Vec<u8>>,
+    failures: BTreeMap<String, u64>,
 }
 
 /// A script with this many calls.
 pub fn script(random: &mut Random, calls: usize) -> Script {
     let configuration = match random.below(30) {
         0 => configurations::configuration(random),
-        1..=6 => b"6\n00 MA 4\n01 MA 2\n03 MT 6\n05 MT 3\n07 MD 40000\n12 PR 2\n1\n00 01\n".to_vec(),
-        7..=9 => b"4\n02 MD 35400\n03 MT 16\n05 MT 16\n06 PR 16\n0\n".to_vec(),
+        1 | 2 => configurations::with_bad_codes(random),
+        3..=6 => with_codes(random, "6\n00 MA 4\n01 MA 2\n03 MT 6\n05 MT 3\n07 MD 40000\n12 PR 2\n1\n00 01\n"),
+        7..=9 => with_codes(random, "4\n02 MD 35400\n03 MT 16\n05 MT 16\n06 PR 16\n0\n"),
         _ => with_units(random),
     };
     // What follows a configuration is no fault of it here.
     let mut lines = configuration.split_inclusive(|&byte| byte == b'\n');
     let Ok(read) = Configuration::from_lines(|| lines.next()) else {
-        return Script { pieces: vec![configuration, b"SELECT\nBOARD\n".to_vec()], calls: 0 };
+        // Some inputs end with it, within a section or a line.
+        let mut pieces = vec![configuration];
+        if *random.pick(&[true, true, false]) {
+            pieces.push(b"SELECT\nBOARD\n".to_vec());
+        }
+        return Script { pieces, calls: 0, failures: BTreeMap::new() };
     };
     let kept = configuration.len() - lines.map(<[u8]>::len).sum::<usize>();
     let style = Style {
@@ -104,7 +118,8 @@ pub fn script(random: &mut Random, calls: usize) -> Script {
         reach: Some(reach(&read)),
     };
     let weights = *random.pick(WEIGHTS);
-    let mut writer = Writer { random, shift: Shift::new(read), style, pieces: vec![configuration[..kept].to_vec()] };
+    let pieces = vec![configuration[..kept].to_vec()];
+    let mut writer = Writer { random, shift: Shift::new(read), style, pieces, failures: BTreeMap::new() };
     writer.call(Sort::Deck);
     while writer.pieces.len() <= calls {
         let sort = writer.sort(&weights);
@@ -112,7 +127,12 @@ pub fn script(random: &mut Random, calls: usize) -> Script {
     }
     writer.last();
     let calls = writer.pieces.len() - 1;
-    Script { pieces: writer.pieces, calls }
+    Script { pieces: writer.pieces, calls, failures: writer.failures }
+}
+
+/// The first two sections and a good third one.
+fn with_codes(random: &mut Random, before: &str) -> Vec<u8> {
+    [before, &configurations::codes(random)].concat().into_bytes()
 }
 
 /// A good configuration, mostly with units.
@@ -152,7 +172,7 @@ impl Writer<'_> {
                 Sort::Submit => cell.jobs().any(|(_, job)| has_something(job)),
                 Sort::End => cell.jobs().any(|(_, job)| job.end.is_none()),
                 Sort::Start => cell.listed().any(|(channel, _)| cell.moving(channel).is_none()),
-                Sort::Complete => ChannelNumber::all().any(|channel| cell.moving(channel).is_some()),
+                Sort::Complete | Sort::Failure => ChannelNumber::all().any(|channel| cell.moving(channel).is_some()),
                 // Why nothing is selected is worth asking too.
                 Sort::Select => cell.clone().select().is_ok() || self.random.percent(10),
                 Sort::Deck => cell.schedule().requests().len() < 64,
@@ -191,6 +211,7 @@ impl Writer<'_> {
             Sort::Board => b"BOARD\n".to_vec(),
             Sort::Noise => self.noise(),
             Sort::More => return self.ask_for_more(),
+            Sort::Failure => return self.failure(),
         };
         self.push(piece);
     }
@@ -226,7 +247,113 @@ impl Writer<'_> {
         self.push(b"SELECT\n".to_vec());
     }
 
+    /// A packet that moves fails: perhaps others are listed for its unit or beside it, perhaps it is stopping, perhaps
+    /// its job closes. Then it is looked at what can be started, and 07 or 23 comes.
+    fn failure(&mut self) {
+        let moving = ChannelNumber::all().filter_map(|at| Some((at, self.shift.cell().moving(at)?)));
+        let moving: Vec<(ChannelNumber, PacketName)> = moving.collect();
+        if moving.is_empty() {
+            return self.push(b"BOARD\n".to_vec());
+        }
+        let (channel, name) = *self.random.pick(&moving);
+        let target = self.shift.cell().packet(name).target;
+        if self.random.percent(25) {
+            self.submit_to(name.place, channel, target, Some(TERMINATE));
+        }
+        for _ in 0..self.random.below(4) {
+            self.submit_to(name.place, channel, target, None);
+        }
+        if self.random.percent(40) {
+            let beside = self.submit();
+            self.push(beside);
+        }
+        if self.random.percent(12) {
+            let word = *self.random.pick(&["END", "ABORT"]);
+            self.push(format!("{word} {}\n", name.place).into_bytes());
+        }
+        let cell = self.shift.cell();
+        let behind = cell.listed().map(|(_, other)| other).filter(|&other| cell.packet(other).target == target);
+        let looked_at: Vec<PacketName> = behind.chain([name]).collect();
+        let code = self.code();
+        self.push(format!("FAIL {} {code}\n", channel.0).into_bytes());
+        if self.random.percent(30) {
+            self.push(b"BOARD\n".to_vec());
+        }
+        for PacketName { place, packet } in looked_at {
+            if self.random.percent(30) {
+                self.push(format!("STATUS {place} {packet}\n").into_bytes());
+            }
+        }
+        for _ in 0..self.random.below(4) {
+            match self.random.below(5) {
+                0 => self.submit_to(name.place, channel, target, Some(REMOVE_INTERLOCK)),
+                1 => self.submit_to(name.place, channel, target, Some(TERMINATE)),
+                2 => self.submit_to(name.place, channel, target, None),
+                _ => self.push(format!("START {}\n", channel.0).into_bytes()),
+            }
+        }
+    }
+
+    /// A submission for a unit or an address, of this function or of one that moves a block.
+    fn submit_to(&mut self, place: usize, channel: ChannelNumber, target: u32, function: Option<u8>) {
+        let kind = self.shift.cell().configuration().channel(channel).map_or(Kind::Ma, Channel::kind);
+        let function = function.unwrap_or(if kind == Kind::Pr { 0o02 } else { 0o42 });
+        let packet = self.packet(place);
+        // On the drum 23 takes that one address.
+        let h = if kind == Kind::Md { format!(" {target}") } else { String::new() };
+        self.push(format!("SUBMIT {place} {packet} {function:02o} {} {target}{h}\n", channel.0).into_bytes());
+    }
+
+    /// A code to fail with: one of the section, one that is not there, a neighbour of one, any, or none.
+    fn code(&mut self) -> String {
+        let codes = self.shift.cell().configuration().codes().to_vec();
+        let others: Vec<u8> = configurations::FAILURES.into_iter().filter(|code| !codes.contains(code)).collect();
+        let any = self.random.below(64) as u8;
+        let code = match self.random.weighted(&[38, 32, 12, 12, 6]) {
+            0 if !codes.is_empty() => *self.random.pick(&codes),
+            1 if !others.is_empty() => *self.random.pick(&others),
+            2 if !codes.is_empty() => {
+                let code = *self.random.pick(&codes);
+                *self.random.pick(&[code - 1, code + 1])
+            }
+            4 => *self.random.pick(&[64, 66, 100, 127]),
+            _ => any,
+        };
+        self.octal(code)
+    }
+
+    /// Counts a failure that the cell is about to be told of, by its code, its unit and its packet.
+    fn count_failure(&mut self, line: &[u8]) {
+        let Some(words) = std::str::from_utf8(line).ok().and_then(|line| line.trim_end().strip_prefix("FAIL ")) else {
+            return;
+        };
+        let Some((channel, code)) = words.split_once(' ') else { return };
+        let (Ok(channel), Ok(code)) = (channel.parse(), u8::from_str_radix(code, 8)) else { return };
+        let cell = self.shift.cell();
+        let (channel, codes) = (ChannelNumber(channel), cell.configuration().codes());
+        let Some(name) = (channel.0 < 16).then(|| cell.moving(channel)).flatten() else { return };
+        if !configurations::FAILURES.contains(&code) {
+            return;
+        }
+        let packet = cell.packet(name);
+        let on_drum = cell.configuration().channel(channel).is_some_and(|channel| channel.kind() == Kind::Md);
+        let closing = cell.jobs().any(|(place, job)| place == name.place && job.end.is_some());
+        let behind = cell.listed().any(|(at, other)| at == channel && cell.packet(other).target == packet.target);
+        let words = [
+            if on_drum { "on the drum" } else { "on a unit" },
+            if codes.contains(&code) { ", code of the section" } else { ", another code" },
+            match packet.status {
+                _ if closing => ", job closing",
+                Status::Stopping => ", stopping",
+                _ => "",
+            },
+            if behind { ", others listed there" } else { "" },
+        ];
+        *self.failures.entry(format!("failed {}", words.concat())).or_default() += 1;
+    }
+
     fn push(&mut self, piece: Vec<u8>) {
+        self.count_failure(&piece);
         for line in piece.split_inclusive(|&byte| byte == b'\n') {
             self.shift.answer_line(line.strip_suffix(b"\n").unwrap_or(line));
         }
@@ -357,9 +484,7 @@ impl Writer<'_> {
             0 => self.line(&["DONE", &channel]),
             1 => self.line(&["CUT", &channel]),
             _ => {
-                let code =
-                    if self.random.percent(90) { self.random.below(64) } else { *self.random.pick(&[64, 100, 127]) };
-                let code = self.octal(code as u8);
+                let code = self.code();
                 self.line(&["FAIL", &channel, &code])
             }
         }

@@ -52,7 +52,7 @@ fn cut(path: &Path, whole: &[u8], put: impl Fn(&mut [u8]) -> usize) {
 
 #[test]
 fn listing() {
-    for (path, input, output) in cases("cases_listing", 30) {
+    for (path, input, output) in cases("cases_listing", 77) {
         let mut room = [0; LISTING_ROOM];
         let answered = controller::listing(&input, &mut room);
         same(&path, answered, &output);
@@ -64,7 +64,7 @@ fn listing() {
 #[test]
 fn deck() {
     let before: [u8; DECK_ROOM] = std::array::from_fn(|at| at as u8 ^ 0xa5);
-    for (path, input, output) in cases("cases_deck", 34) {
+    for (path, input, output) in cases("cases_deck", 36) {
         let mut room = before;
         let answered = controller::deck(&input, &mut room);
         same(&path, answered, &output);
@@ -77,14 +77,17 @@ fn deck() {
 #[test]
 fn bad_line() {
     let mut bad = 0;
-    for (path, input, _) in cases("cases_listing", 30) {
+    for (path, input, _) in cases("cases_listing", 77) {
         let expected = Configuration::from_text(&input).err().map(|line| line.0);
         assert_eq!(controller::bad_line(&input).map(NonZeroUsize::get), expected, "{}", path.display());
         bad += usize::from(expected.is_some());
     }
     assert!(bad > 0);
     assert_eq!(controller::bad_line(b"").map(NonZeroUsize::get), Some(1));
-    assert_eq!(controller::bad_line(b"0\n0\n"), None);
+    assert_eq!(controller::bad_line(b"0\n0\n").map(NonZeroUsize::get), Some(3));
+    assert_eq!(controller::bad_line(b"0\n0\n0\n"), None);
+    assert_eq!(controller::bad_line(b"0\n0\n2\n02\n77\n"), None);
+    assert_eq!(controller::bad_line(b"0\n0\n2\n15\n16\n").map(NonZeroUsize::get), Some(5));
 }
 
 #[test]
@@ -109,7 +112,7 @@ fn ordinary_starts(taken: u32, ib: u32, db: u32) -> Option<Starts> {
     request.entries = vec![entry(Code::Ib, ib), entry(Code::Db, db)];
     let core = std::array::from_fn(|block| taken >> block & 1 == 0);
     let free = Free { core, drum: 0..0, drum_held: Vec::new(), channels: Vec::new() };
-    let assignment = assign(&request, &free)?;
+    let assignment = assign(&request, &free).ok()?;
     Some(Starts { ib: assignment.ib.start, db: assignment.db.start })
 }
 

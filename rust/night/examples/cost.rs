@@ -9,7 +9,7 @@ use std::path::{Path, PathBuf};
 use std::process::{Child, Command, Stdio};
 use std::time::{Duration, Instant};
 
-const CONFIGURATION: &str = "2\n03 MT 4\n07 MD 100000\n0\n";
+const CONFIGURATION: &str = "2\n03 MT 4\n07 MD 100000\n0\n5\n02\n06\n11\n13\n14\n";
 /// A job that holds a head.
 const BEGINNING: &str = "DECK\nA1,PTY,2,,ECU,,T,PROG,P,A5,P,3.\nA1,FAC,IB/2,MT1/2.\n\
                          )))))))) +++++++++++++                                                  ))))))))\nSELECT\n";

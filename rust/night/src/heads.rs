@@ -50,6 +50,8 @@ pub struct Heads {
     pub heads: BTreeMap<HeadName, Head>,
     pub jobs: [Option<Job>; PLACES],
     moving: [Option<Moving>; CHANNELS],
+    /// The failure codes that set interlock.
+    codes: Vec<u32>,
 }
 
 fn number(word: &str) -> Option<u32> {
@@ -69,7 +71,9 @@ impl Heads {
         let channels = number(lines.next()?)? as usize;
         lines.by_ref().take(channels).try_for_each(|line| heads.add_channel(line))?;
         let down = number(lines.next()?)? as usize;
-        lines.take(down).try_for_each(|line| heads.add_down(line))?;
+        lines.by_ref().take(down).try_for_each(|line| heads.add_down(line))?;
+        let codes = number(lines.next()?)? as usize;
+        heads.codes = lines.take(codes).map(octal).collect::<Option<_>>()?;
         Some(heads)
     }
 
@@ -140,8 +144,8 @@ impl Heads {
                 self.submitted(number(place)? as usize, octal(function)?, number(channel)?, number(x)?, h)
             }
             ["START", channel] => self.started(number(channel)?, said),
-            ["DONE" | "CUT", channel] => self.completed(number(channel)?, false),
-            ["FAIL", channel, _] => self.completed(number(channel)?, true),
+            ["DONE" | "CUT", channel] => self.completed(number(channel)?, None),
+            ["FAIL", channel, code] => self.completed(number(channel)?, Some(octal(code)?)),
             ["END" | "ABORT", place] => self.ended(number(place)? as usize),
             ["DOWN", channel, unit] => self.head(number(channel)?, number(unit)?).map(|head| head.down = true),
             ["UP", channel, unit] => self.head(number(channel)?, number(unit)?).map(|head| head.down = false),
@@ -204,9 +208,11 @@ impl Heads {
         Some(())
     }
 
-    fn completed(&mut self, channel: u32, failed: bool) -> Option<()> {
+    /// A failure has a code; off the drum those of the configuration set interlock, and no others.
+    fn completed(&mut self, channel: u32, failure: Option<u32>) -> Option<()> {
         let moving = self.moving.get_mut(channel as usize)?.take()?;
-        if failed && self.drum != Some(channel) {
+        let locks = failure.is_some_and(|code| self.codes.contains(&code));
+        if locks && self.drum != Some(channel) {
             self.head(channel, moving.target)?.interlock = true;
         }
         self.return_if_closed(moving.place)
@@ -240,7 +246,7 @@ mod tests {
     use crate::calls::Call;
     use crate::journal::Answer;
 
-    const CONFIGURATION: &[u8] = b"2\n03 MT 4\n07 MD 40000\n0\n";
+    const CONFIGURATION: &[u8] = b"2\n03 MT 4\n07 MD 40000\n0\n2\n11\n77\n";
 
     /// The heads after these calls with their answers.
     fn after(calls: &[(&[u8], &str)]) -> Heads {
@@ -271,6 +277,37 @@ mod tests {
             assert!(none.heads.values().all(|head| *head == Head::default()), "{answer}");
             assert!(none.jobs.iter().all(Option::is_none), "{answer}");
         }
+    }
+
+    #[test]
+    fn codes_of_the_configuration_lock_a_head_and_others_do_not() {
+        let locked = |channel: &str, start: &str, failure: &str| {
+            let (start_call, fail_call) = (format!("START {channel}"), format!("FAIL {channel} {failure}"));
+            let heads = after(&[
+                (b"SELECT", "ACK 0 A1 IB 2-3 MD 35329-35330 MT1 03/00 03/01"),
+                (start_call.as_bytes(), start),
+                (fail_call.as_bytes(), "ACK 0 0"),
+            ]);
+            let locked = heads.heads.iter().filter(|(_, head)| head.interlock).map(|(name, _)| *name);
+            locked.collect::<Vec<HeadName>>()
+        };
+        for code in ["11", "77", "011", "000000077"] {
+            assert_eq!(locked("3", "ACK 0 0 42 1", code), [(3, 1)], "{code}");
+            assert_eq!(locked("7", "ACK 0 0 42 35329", code), [], "{code} on the drum");
+        }
+        for code in ["02", "03", "10", "12", "13", "76", "9"] {
+            assert_eq!(locked("03", "ACK 0 0 42 1", code), [], "{code}");
+            assert_eq!(locked("07", "ACK 0 0 42 35329", code), [], "{code} on the drum");
+        }
+    }
+
+    #[test]
+    fn a_configuration_has_three_sections() {
+        for text in ["", "0\n", "0\n0\n", "1\n03 MT 4\n0\n", "1\n03 MT 4\n0\nx\n", "0\n0\n1\n9\n"] {
+            assert!(Heads::fresh(text.as_bytes()).is_none(), "{text:?}");
+        }
+        assert_eq!(Heads::fresh(b"0\n0\n0\n").unwrap().codes, []);
+        assert_eq!(Heads::fresh(b"1\n03 MT 4\n1\n03 01\n3\n02\n10\n77\n").unwrap().codes, [0o02, 0o10, 0o77]);
     }
 
     #[test]

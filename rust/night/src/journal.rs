@@ -210,7 +210,7 @@ fn read_call<'b>(number: usize, mut next_line: impl FnMut() -> Option<&'b [u8]>)
 mod tests {
     use super::*;
 
-    const CONFIGURATION: &[u8] = b"1\n03 MT 4\n0\n";
+    const CONFIGURATION: &[u8] = b"1\n03 MT 4\n0\n2\n03\n11\n";
 
     fn answered(text: &str, answer: &str) -> Answered {
         Answered { call: Call { text: text.into(), open: false }, answer: Answer::new(answer.as_bytes()) }

@@ -371,7 +371,8 @@ impl Cell {
         Ok(Started { name, function: packet.function, target: packet.target })
     }
 
-    /// Completes what moves on the channel.
+    /// Completes what moves on the channel. A failure off the drum with a code that the configuration names sets the
+    /// unit's interlock and ends what is listed for it; any other code ends its packet alone.
     pub fn complete(&mut self, channel: u32, completion: Completion) -> Result<PacketName, Refusal> {
         let (number, channel) = self.configured(channel)?;
         let name = self.moving[number].ok_or(Refusal::NothingInProgress)?;
@@ -384,7 +385,8 @@ impl Cell {
         };
         self.moving[number] = None;
         self.packet_mut(name).status = Status::Ended(code);
-        if matches!(completion, Completion::Failed(_)) && channel.kind() != Kind::Md {
+        let failed = matches!(completion, Completion::Failed(_)) && channel.kind() != Kind::Md;
+        if failed && self.configuration.sets_interlock(code) {
             self.units[number][target as usize].interlock = true;
             self.end_listed(INTERLOCKED, |_, other| other.is_on(number, target..=target));
         }
@@ -426,7 +428,7 @@ impl Cell {
         self.places[place].job.as_ref().filter(|job| job.end.is_none()).ok_or(Refusal::NoJob)
     }
 
-    fn packet(&self, name: PacketName) -> &Packet {
+    pub fn packet(&self, name: PacketName) -> &Packet {
         &self.places[name.place].packets[name.packet]
     }
 

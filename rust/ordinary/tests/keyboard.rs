@@ -4,7 +4,7 @@ use ordinary::configuration::Configuration;
 use ordinary::shift::{converse, Shift};
 
 const TERMINATION: &str = ")))))))) +++++++++++++                                                  ))))))))\n";
-const CELL: &str = "4\n00 MA 2\n03 MT 4\n07 MD 40000\n15 PR 16\n0\n";
+const CELL: &str = "4\n00 MA 2\n03 MT 4\n07 MD 40000\n15 PR 16\n0\n0\n";
 
 /// The cards of a request without a sequence; `rush` is S for one that enters suspended.
 fn request(id: &str, rush: &str, precedence: u32, entries: &str) -> String {

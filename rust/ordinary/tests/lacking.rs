@@ -5,8 +5,8 @@ use ordinary::shift::Shift;
 
 const TERMINATION: &str = ")))))))) +++++++++++++                                                  ))))))))\n";
 /// One channel of each kind, two of MT; the drum has 671 words.
-const CELL: &str = "5\n00 MA 2\n03 MT 4\n05 MT 2\n07 MD 36000\n12 PR 1\n0\n";
-const WITHOUT_DRUM: &str = "4\n00 MA 2\n03 MT 4\n05 MT 2\n12 PR 1\n0\n";
+const CELL: &str = "5\n00 MA 2\n03 MT 4\n05 MT 2\n07 MD 36000\n12 PR 1\n0\n0\n";
+const WITHOUT_DRUM: &str = "4\n00 MA 2\n03 MT 4\n05 MT 2\n12 PR 1\n0\n0\n";
 
 /// The cell after a deck of these requests: ID, S or P, priority and entries.
 fn cell(configuration: &str, requests: &[(&str, &str, &str, &str)]) -> Shift {
@@ -94,7 +94,7 @@ fn a_cell_without_a_drum_lacks_it_only_if_it_is_asked_for() {
     is_refused(&mut cell(WITHOUT_DRUM, &[("A", "P", "A1", "IB/1,PR/2")]), "NO 20 A PR");
     takes(&mut cell(WITHOUT_DRUM, &[("A", "P", "A1", "IB/1")]), "0 A");
     // A kind that no channel has.
-    is_refused(&mut cell("0\n0\n", &[("A", "P", "A1", "IB/1,PR1/1,MT/1")]), "NO 20 A MT");
+    is_refused(&mut cell("0\n0\n0\n", &[("A", "P", "A1", "IB/1,PR1/1,MT/1")]), "NO 20 A MT");
 }
 
 #[test]

@@ -19,7 +19,7 @@ fn answers(configuration: &str, requests: &[&str], calls: &str) -> String {
     answers.to_string()
 }
 
-const TAPES: &str = "2\n03 MT 4\n05 MT 2\n0\n";
+const TAPES: &str = "2\n03 MT 4\n05 MT 2\n0\n1\n03\n";
 
 #[test]
 fn k9_a_unit_is_not_free_until_the_completion() {
@@ -49,7 +49,7 @@ fn a_failure_of_a_closing_jobs_packet_leaves_no_interlock_to_the_next() {
 fn a_serial_job_runs_alone() {
     let deck = "DECK\nA,PTY,2,,P,,,M,P,A1,P,1.\nA,FAC,IB/1.\nB,PTY,2,,P,,,M,S,A2,P,1.\nB,FAC,IB/1.\nC,PTY,2,,P,,,M,P,A3,P,1.\nC,FAC,IB/1.\n";
     let input =
-        format!("0\n0\n{deck}{TERMINATION}SELECT\nSELECT\nEND 0\nSELECT\nEND 1\nSELECT\nSELECT\nEND 0\nSELECT\n");
+        format!("0\n0\n0\n{deck}{TERMINATION}SELECT\nSELECT\nEND 0\nSELECT\nEND 1\nSELECT\nSELECT\nEND 0\nSELECT\n");
     assert_eq!(
         converse(input.as_bytes()),
         b"C SCH ACK\nACK 0 A IB 2-2\nACK 1 C IB 3-3\nACK\nNO 19\nACK\nACK 0 B IB 2-2\nNO 19\nACK\nNO 19\n"
@@ -59,14 +59,14 @@ fn a_serial_job_runs_alone() {
 #[test]
 fn a_serial_candidate_without_assignment_does_not_bar_the_next() {
     let deck = "DECK\nA,PTY,2,,P,,,M,S,A1,P,1.\nA,FAC,IB/1,MT/1.\nB,PTY,2,,P,,,M,P,A2,P,1.\nB,FAC,IB/1.\n";
-    let input = format!("0\n0\n{deck}{TERMINATION}SELECT\n");
+    let input = format!("0\n0\n0\n{deck}{TERMINATION}SELECT\n");
     assert_eq!(converse(input.as_bytes()), b"B SCH ACK\nACK 0 B IB 2-2\n");
 }
 
 #[test]
 fn long_lines_and_the_last_line() {
     let comment = |length: usize| format!("#{}", "x".repeat(length - 1));
-    let input = format!("0\n0\n{}\n{}\n{}", comment(255), comment(256), "BOARD");
+    let input = format!("0\n0\n0\n{}\n{}\n{}", comment(255), comment(256), "BOARD");
     let expected = format!("{}\n??\nCORE XX............................XX\nEND OF BOARD\n", comment(255));
     assert_eq!(String::from_utf8(converse(input.as_bytes())).unwrap(), expected);
 }
@@ -76,14 +76,14 @@ fn decks_that_are_refused() {
     // Too long: reading goes on after the termination card. One without LF at the input's end is taken as if it had
     // one.
     let long = "X\n".repeat(9000);
-    let input = format!("0\n0\nDECK\n{long}{TERMINATION}STATUS 0 0\nDECK\nX\n{}", TERMINATION.trim_end());
+    let input = format!("0\n0\n0\nDECK\n{long}{TERMINATION}STATUS 0 0\nDECK\nX\n{}", TERMINATION.trim_end());
     assert_eq!(converse(input.as_bytes()), b"NO 11\nACK BLANK\nSP ------ ER 25\n------ SCH ACK\n");
-    assert_eq!(converse(b"0\n0\nDECK\nX"), b"NO 11\n");
-    assert_eq!(converse(b"0\n0\nDECK"), b"NO 11\n");
+    assert_eq!(converse(b"0\n0\n0\nDECK\nX"), b"NO 11\n");
+    assert_eq!(converse(b"0\n0\n0\nDECK"), b"NO 11\n");
 
     let most = 16_384 - TERMINATION.len();
     for (length, answer) in [(most, "SP ------ ER 25\n------ SCH ACK\n"), (most + 1, "NO 11\n")] {
-        let input = format!("0\n0\nDECK\n{}\n{TERMINATION}", "X".repeat(length - 1));
+        let input = format!("0\n0\n0\nDECK\n{}\n{TERMINATION}", "X".repeat(length - 1));
         assert_eq!(String::from_utf8(converse(input.as_bytes())).unwrap(), answer);
     }
 }
@@ -91,18 +91,20 @@ fn decks_that_are_refused() {
 #[test]
 fn a_bad_configuration_ends_the_shift() {
     assert_eq!(converse(b"1\n03 MT 4\nSELECT\n"), b"ER 14 LINE 3\n");
+    assert_eq!(converse(b"1\n03 MT 4\n0\nSELECT\n"), b"ER 14 LINE 4\n");
+    assert_eq!(converse(b"1\n03 MT 4\n0\n1\n03\nSELECT\n"), b"NO 19\n");
 }
 
 #[test]
 fn words_of_release_and_delete() {
-    assert_eq!(converse(b"0\n0\nRELEASE \xff\xff\nDELETE a,b.\nDELETE \nDELETE\n"), b"NO 15\nNO 15\n??\n??\n");
+    assert_eq!(converse(b"0\n0\n0\nRELEASE \xff\xff\nDELETE a,b.\nDELETE \nDELETE\n"), b"NO 15\nNO 15\n??\n??\n");
 }
 
 #[test]
 fn drum_addresses_and_terminate() {
     let calls = "SELECT\nSELECT\nSUBMIT 0 0 02 2 35329\nSUBMIT 0 1 02 2 35338\nSUBMIT 1 0 02 2 35339\nSTART 2\n\
                  SUBMIT 0 2 23 2 35330 40000\nSTATUS 0 0\nSTATUS 0 1\nSUBMIT 0 2 23 2 0 35329\nSTATUS 0 0\nSTATUS 1 0\nSUBMIT 0 3 07 2 0\n";
-    let answers = answers("1\n02 MD 40000\n0\n", &["IB/1,MD/10", "IB/1,MD/10"], calls);
+    let answers = answers("1\n02 MD 40000\n0\n0\n", &["IB/1,MD/10", "IB/1,MD/10"], calls);
     assert_eq!(
         answers,
         "ACK 0 A IB 2-2 MD 35329-35338\nACK 1 B IB 3-3 MD 35339-35348\nACK\nACK\nACK\nACK 0 0 02 35329\nACK\nACK MOVING\nACK ENDED 16\n\
@@ -113,6 +115,6 @@ fn drum_addresses_and_terminate() {
 #[test]
 fn a_start_looks_only_at_its_own_channels_list() {
     let calls = "SELECT\nSUBMIT 0 0 02 2 35329\nSUBMIT 0 1 02 4 0\nSTART 4\nSTART 2\n";
-    let answers = answers("2\n02 MD 40000\n04 PR 1\n0\n", &["IB/1,MD/10,PR/1"], calls);
+    let answers = answers("2\n02 MD 40000\n04 PR 1\n0\n0\n", &["IB/1,MD/10,PR/1"], calls);
     assert_eq!(answers, "ACK 0 A IB 2-2 MD 35329-35338 PR 04/00\nACK\nACK\nACK 0 1 02 0\nACK 0 0 02 35329\n");
 }

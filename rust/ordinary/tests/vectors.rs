@@ -27,15 +27,15 @@ fn check(folder: &str, at_least: usize, answer: impl Fn(&[u8]) -> Vec<u8>) {
 
 #[test]
 fn deck() {
-    check("../../crates/cases_deck/data", 34, |input| ordinary::deck::report(input).into_bytes());
+    check("../../crates/cases_deck/data", 36, |input| ordinary::deck::report(input).into_bytes());
 }
 
 #[test]
 fn listing() {
-    check("../../crates/cases_listing/data", 30, |input| ordinary::configuration::listing(input).into_bytes());
+    check("../../crates/cases_listing/data", 77, |input| ordinary::configuration::listing(input).into_bytes());
 }
 
 #[test]
 fn shift() {
-    check("../../crates/cases_shift/data", 45, ordinary::shift::converse);
+    check("../../crates/cases_shift/data", 59, ordinary::shift::converse);
 }

@@ -10,7 +10,7 @@ use ordinary::numbers::ChannelNumber;
 use ordinary::schedule::State;
 use ordinary::shift::Shift;
 
-const CELL: &str = "5\n00 MA 8\n01 MT 8\n02 MT 10\n05 MD 100000\n12 PR 8\n0\n";
+const CELL: &str = "5\n00 MA 8\n01 MT 8\n02 MT 10\n05 MD 100000\n12 PR 8\n0\n5\n02\n06\n11\n13\n14\n";
 const TERMINATION: &str = ")))))))) +++++++++++++                                                  ))))))))\n";
 
 /// The sorts of calls. A deck may be the deletion of a request that an end in error has suspended.

@@ -1,5 +1,6 @@
 //! How sharp is the comparison? Each change of `mutants.txt` is made to a copy of the ordinary implementation, which
-//! is then compared with the proved program, or with COMMAND: there must be a difference.
+//! is then compared with the proved program, or with COMMAND: there must be a difference. The unchanged copy is compared
+//! first, and must have none: else a change that is found would say nothing.
 //!
 //! `mutants deck|listing|shift [--count N] [-- COMMAND..]`
 //!
@@ -63,26 +64,40 @@ fn main() -> ExitCode {
 
     let text = fs::read_to_string(here.join("mutants.txt")).expect("mutants.txt");
     let changes = changes(&text, &subject);
-    let mut kept = 0;
+    let build = |what: &str| {
+        let mut build = Command::new("cargo");
+        build.args(["build", "--offline", "--quiet", "--bin", "compare"]).current_dir(&work);
+        build.env("CARGO_TARGET_DIR", top.join("target/mutants-build"));
+        let built = build.stderr(Stdio::null()).status().expect("cargo");
+        assert!(built.success(), "{what} does not build");
+    };
+    // 0 if nothing differs, 1 if something does; anything else if the comparison itself has stopped.
+    let compare = || {
+        let mut compare = Command::new(top.join("target/mutants-build/debug/compare"));
+        compare.arg(&subject).args(["--first", "--save"]).arg(repository.join("differences")).args(&rest);
+        compare.stdout(Stdio::null()).stderr(Stdio::null()).status().expect("compare").code()
+    };
+    build("the unchanged copy");
+    assert_eq!(compare(), Some(0), "the unchanged copy must be compared without a difference");
+
+    let (mut kept, mut stopped) = (0, 0);
     for Change { file, old, new } in &changes {
         let path = work.join("ordinary/src").join(file);
         let source = fs::read_to_string(&path).expect("a source file");
         assert_eq!(source.matches(old.as_str()).count(), 1, "{file}: {old}");
         fs::write(&path, source.replace(old.as_str(), new)).expect("a written file");
-        let mut build = Command::new("cargo");
-        build.args(["build", "--offline", "--quiet", "--bin", "compare"]).current_dir(&work);
-        build.env("CARGO_TARGET_DIR", top.join("target/mutants-build"));
-        let built = build.stderr(Stdio::null()).status().expect("cargo");
-        assert!(built.success(), "{file}: {new} does not build");
-        let mut compare = Command::new(top.join("target/mutants-build/debug/compare"));
-        compare.arg(&subject).args(["--first", "--save"]).arg(repository.join("differences")).args(&rest);
-        let found = compare.stdout(Stdio::null()).stderr(Stdio::null()).status().expect("compare");
-        let verdict = if found.success() { "NOT FOUND" } else { "found" };
-        kept += u32::from(found.success());
+        build(&format!("{file}: {new}"));
+        let verdict = match compare() {
+            Some(0) => "NOT FOUND",
+            Some(1) => "found",
+            _ => "stopped",
+        };
+        kept += u32::from(verdict == "NOT FOUND");
+        stopped += u32::from(verdict == "stopped");
         println!("{verdict:<9}  {file}: {} -> {}", old.trim(), new.trim());
         fs::write(&path, source).expect("a written file");
     }
-    println!("{}: {} changes, {kept} not found", subject, changes.len());
+    println!("{subject}: {} changes, {kept} not found, {stopped} stopped the comparison", changes.len());
     if kept == 0 {
         ExitCode::SUCCESS
     } else {

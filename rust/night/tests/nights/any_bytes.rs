@@ -6,7 +6,7 @@ use ordinary::shift::converse;
 use crate::random::{damage, Random, ODD_BYTES};
 use crate::support::{script, Place};
 
-const CONFIGURATION: &[u8] = b"1\n03 MT 4\n0\n";
+const CONFIGURATION: &[u8] = b"1\n03 MT 4\n0\n2\n03\n11\n";
 pub const TERMINATION: &str = ")))))))) +++++++++++++                                                  ))))))))\n";
 
 fn bytes(random: &mut Random, most: usize) -> Vec<u8> {

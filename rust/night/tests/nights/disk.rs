@@ -5,7 +5,7 @@ use std::process::{Command, Stdio};
 
 use crate::support::{folder, Place};
 
-const CONFIGURATION: &[u8] = b"1\n03 MT 4\n0\n";
+const CONFIGURATION: &[u8] = b"1\n03 MT 4\n0\n2\n03\n11\n";
 
 #[test]
 fn a_journal_that_cannot_be_written_is_refused() {

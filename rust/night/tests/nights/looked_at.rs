@@ -129,7 +129,7 @@ fn night(words: &[&str], place: &Place) -> String {
 
 #[test]
 fn messages_are_calls_and_their_marks_are_seen() {
-    const CONFIGURATION: &[u8] = b"1\n03 MT 4\n0\n";
+    const CONFIGURATION: &[u8] = b"1\n03 MT 4\n0\n2\n03\n11\n";
     // Each with whether it is a call, and whether the head 03/01 is down after it.
     let lines: [(&[u8], bool, bool); 14] = [
         (b"KEY", true, false),
@@ -166,7 +166,7 @@ fn messages_are_calls_and_their_marks_are_seen() {
 
 #[test]
 fn the_journal_says_why_nothing_was_selected() {
-    const CONFIGURATION: &[u8] = b"1\n03 MT 4\n0\n";
+    const CONFIGURATION: &[u8] = b"1\n03 MT 4\n0\n2\n03\n11\n";
     let group = |id: &str, entries: &str| format!("{id},PTY,2,,P,,,M,P,A{},P,1.\n{id},FAC,{entries}.\n", &id[1..]);
     let mut deck: Vec<String> = (0..16).map(|number| group(&format!("J{number}"), "IB/1")).collect();
     deck.push(group("J16", "IB/1,MT1/5"));
@@ -199,6 +199,10 @@ fn the_night_of_the_readme_is_shown_and_looked_up() {
         ("9", "03/00 after call 9 (END 0): held by A1 (place 0, closing); packet 0 is stopping (function 42)\n"),
         ("13", "03/00 after call 13 (CUT 03): free\n"),
         ("15", "03/00 after call 15 (SELECT): held by C3 (place 0); no packet moves\n"),
+        // End of data locks nothing; a lost position does.
+        ("20", "03/00 after call 20 (FAIL 03 03): held by C3 (place 0); no packet moves\n"),
+        ("21", "03/00 after call 21 (START 03): held by C3 (place 0); packet 1 moves (function 42)\n"),
+        ("22", "03/00 after call 22 (FAIL 03 13): held by C3 (place 0); no packet moves; interlock\n"),
     ] {
         assert_eq!(night(&["who", "03", "00", call], &place), due);
     }

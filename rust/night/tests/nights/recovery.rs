@@ -9,7 +9,7 @@ use ordinary::shift::converse;
 use crate::random::Random;
 use crate::support::{script, Place, Script};
 
-const CONFIGURATION: &[u8] = b"1\n03 MT 4\n0\n";
+const CONFIGURATION: &[u8] = b"1\n03 MT 4\n0\n2\n03\n11\n";
 
 fn whole(script: &Script) -> Vec<u8> {
     script.steps.iter().flat_map(|step| step.text.clone()).collect()
@@ -107,7 +107,7 @@ fn another_configuration_a_second_night_and_other_files_are_refused() {
     assert_eq!(running.answer(6), b"NO 19\n");
     place.is_refused("another night is running");
     running.finish();
-    std::fs::write(place.folder.join("configuration"), b"1\n03 MT 5\n0\n").unwrap();
+    std::fs::write(place.folder.join("configuration"), b"1\n03 MT 4\n0\n2\n03\n12\n").unwrap();
     place.is_refused("another configuration");
     std::fs::write(place.folder.join("configuration"), CONFIGURATION).unwrap();
     for (bytes, words) in [(&b"root:x:0:0\n"[..], "no journal"), (b"luffgravel night journal 9\n", "another version")] {
@@ -124,10 +124,16 @@ fn a_bad_configuration_is_answered_and_no_journal_is_made() {
         (&b""[..], "ER 14 LINE 1\n"),
         (b"1\n03 MT 4\n", "ER 14 LINE 3\n"),
         (b"1\n03 MT 4\n0", "ER 14 LINE 3\n"),
+        (b"1\n03 MT 4\n0\n", "ER 14 LINE 4\n"),
         (b"1\n03 MT 4\n0\n\n", "ER 14 LINE 4\n"),
         (b"1\n03 MT 4\n0\n#0\n#1\n", "ER 14 LINE 4\n"),
-        (b"1\n03 MT 4\n0\nDECK\n", "ER 14 LINE 4\n"),
-        (b"0\n0\nBOARD\nBOARD", "ER 14 LINE 3\n"),
+        (b"1\n03 MT 4\n0\n2\n03\n", "ER 14 LINE 6\n"),
+        (b"1\n03 MT 4\n0\n2\n03\n03\n", "ER 14 LINE 6\n"),
+        (b"1\n03 MT 4\n0\n1\n03\n\n", "ER 14 LINE 6\n"),
+        (b"1\n03 MT 4\n0\n1\n03\n#0\n#1\n", "ER 14 LINE 6\n"),
+        (b"1\n03 MT 4\n0\n1\n03\n11\n", "ER 14 LINE 6\n"),
+        (b"1\n03 MT 4\n0\n0\nDECK\n", "ER 14 LINE 5\n"),
+        (b"0\n0\n0\nBOARD\nBOARD", "ER 14 LINE 4\n"),
         (&[b'7'; 100_000], "ER 14 LINE 1\n"),
     ] {
         let place = Place::new("bad", text);
