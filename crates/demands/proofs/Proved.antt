@@ -30,7 +30,7 @@ use Rattle.packets.specs.Codes.{statusAfter}
 use Rattle.packets.proofs.CodesProof.{codes}
 use Rattle.packets.specs.Demand.{Holds, Isolated, Stretch, Holding, events}
 use Rattle.packets.proofs.DemandProof.{demand3}
-use Rattle.packets.proofs.BeforeProof.{all-listed, as-before}
+use Rattle.packets.proofs.BeforeProof.{all-listed, as-before, only-completions}
 use Rattle.packets.proofs.InterlocksProof.{lock-after}
 use Rattle.packets.specs.Picks.{keep}
 use Rattle.packets.specs.State.{State, isStill, packetIn}
@@ -194,6 +194,7 @@ demand-2 =
           ap (λ (s : State). unitIn (s .units) channel unit .interlock) (a .1)
           ∙ lock-after (inside c) (reached-inv configuration es c h) channel unit y (a .0);
       before = (all-listed, as-before);
+      elsewhere = only-completions;
       answers = answers-so;
       changes = changes-so;
       order = λ configuration es c h d x reply k e y q.

@@ -53,7 +53,7 @@ use Rattle.schedule_deck.specs.Report.{deckNotes, deckSchedule}
 use Rattle.text.specs.Room.{Whole}
 use Rattle.assign_drum.specs.Drum.{noArea}
 use Rattle.assign_heads.specs.Sums.{howMany}
-use Rattle.packets.specs.Before.{AllListed, AsBefore, all60}
+use Rattle.packets.specs.Before.{AllListed, AsBefore, OnlyCompletions, all60}
 use Rattle.packets.specs.Codes.{statusAfter}
 use Rattle.packets.specs.Demand.{Holding, Holds, Isolated}
 use Rattle.packets.specs.Interlocks.{interlockAfter}
@@ -339,9 +339,10 @@ pub record Demand2 : Type 0 where
       → (d : Cell) (x : Call) (reply : Reply) → Does c x reply d → refusalIn reply ≡ none
       → (y : Rules.Call) → heardOf x reply ≡ y ∷ []
       → (channel unit : ℕ) → unitIn (inside d .units) channel unit .interlock ≡ interlockAfter (inside c) y channel unit
-  -- so that where all 60 codes are listed, and a section can list all, any calls of the lists leave and answer what they
-  -- did when document 01 "had every failure set it"
+  -- so that where all 60 codes are listed, and a section can list all, a completion leaves and answers what it did when
+  -- document 01 "had every failure set it"; and nothing else goes by the section
   pub before : AllListed all60 × AsBefore
+  pub elsewhere : OnlyCompletions
   -- what an accepted call answers: "a completion answers the place and number of the packet it ends", and like an end
   -- whether the job's facilities returned; a start what begins; a submission and a mark are done,
   pub answers : (c d : Cell) (x : Call) (a : Answer) → Does c x (Said a) d → refusalIn (Said a) ≡ none

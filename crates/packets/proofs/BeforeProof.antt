@@ -1,32 +1,31 @@
--- The page Before holds: an accepted failure has one of the 60 codes, so that where all are listed it sets interlock.
--- And there is such a section. Assumes nothing.
+-- The page Before holds: an accepted failure has one of the 60 codes, so that where all are listed it sets interlock;
+-- no other call looks at the section. And there is such a section. Assumes nothing.
 use Prim.Native.Nat.{ℕ, _-_, _≤_}
-use mathlib.Core.Path.{_≡_, refl, sym, ap, subst, _∙_}
-use mathlib.Core.Bool.{Bool, false, _||_}
-use mathlib.Core.List.{List, [], _∷_}
+use mathlib.Core.Path.{_≡_, refl}
+use mathlib.Core.Bool.{Bool, true, false, not, _||_}
 use mathlib.Core.Logic.{⊎-elim}
+use mathlib.Core.Option.{Option, none, some}
 use native.Mathlib.Nat.{eq-zero-or-pos}
 use native.Mathlib.Omega.{arith}
 use lib.Dec.{T, eqb, ltb}
 use lib.ListN.{getD, replicate, length-replicate}
 use borrow.Author.Tests.{eqb-false, le-ltb, ltb-false, ne-eqb}
-use Rattle.numbers.proofs.Tests.{by-bool}
+use Rattle.numbers.proofs.Tests.{by-bool, never}
+use Rattle.numbers.specs.declared.Refusal.the-variants.{NothingInProgress, OutOfRange, WrongCompletion}
 use Rattle.channels.specs.Channels.{setsInterlock}
 use Rattle.functions.proofs.Entries.{at, every}
-use Rattle.packets.specs.Before.{AllListed, AsBefore, all60, acceptBefore, answerBefore, completedBefore, completesBefore, decidedBefore, eventsBefore, finishedBefore, isFailure, runBefore, stepBefore}
-use Rattle.packets.specs.Demand.{Event, events}
-use Rattle.packets.specs.Rules.{Answered, Call, Complete, End, Mark, Start, Submit, Take, accept, answer, completed, completes, decided, finished, isTrouble, isWrong, leaving, refusal, returnIfDone, run, step}
-use Rattle.packets.specs.State.{State, motionOn, movingStatus}
-use Rattle.packets.specs.declared.Answer.the-variants.{Completed}
+use Rattle.packets.specs.Before.{AllListed, AsBefore, OnlyCompletions, all60, completedBefore, completesBefore, isCompletion, isFailure, withCodes}
+use Rattle.packets.specs.Picks.{find}
+use Rattle.packets.specs.Rules.{Call, Complete, End, Mark, Start, Submit, Take, accept, answer, begins, closed, completed, completes, first, isDone, isTrouble, isWrong, locked, refusal, siteOf, startable, started, submitted}
+use Rattle.packets.specs.State.{State, configured, isIdle, motionOn, movingStatus}
 use Rattle.packets.specs.declared.How.{How}
 use Rattle.packets.specs.declared.How.the-variants.{Cut, Failed, Full}
 use Rattle.packets.specs.declared.Motion.{Motion}
 use Rattle.packets.specs.declared.Motion.the-variants.{Busy, Idle}
+use Rattle.packets.specs.declared.Spot.{Spot}
 use Rattle.packets.specs.declared.Status.{Status}
-use Rattle.packets.specs.declared.Verdict.{Verdict}
-use Rattle.packets.specs.declared.Verdict.the-variants.{Denied, Granted}
+use Rattle.packets.specs.declared.Verdict.the-variants.{Granted}
 use Rattle.packets.proofs.Laws.{neither}
-use Rattle.packets.proofs.Stays.{Configured, step-has}
 use Rattle.packets.proofs.Told.{completes-on}
 
 -- a failure that is not refused has one of the 60 codes
@@ -45,48 +44,66 @@ a-failure codes all t (Failed k) e =
     above : (k : ℕ) → (k ≡ 0 → ⊥) → (k ≡ 1 → ⊥) → 2 ≤ k
     above k p q = ⊎-elim (λ z. absurd (p z)) (λ z. ⊎-elim (λ y. absurd (q (omega arith))) (λ y. omega arith) (eq-zero-or-pos (k - 1))) (eq-zero-or-pos k)
 
-module _ (s : State) (all : AllListed (s .codes)) where
-  finished-same : (c : ℕ) (how : How) (j p : ℕ) → isTrouble (s .codes) how ≡ isFailure how → finished s c how j p ≡ finishedBefore s c how j p
-  finished-same c how j p e = rw e
-
-  completed-same : (c : ℕ) (how : How) (m : Motion) → isTrouble (s .codes) how ≡ isFailure how → completed s c how m ≡ completedBefore s c how m
-  completed-same c how Idle e = refl
-  completed-same c how (Busy j p) e = ap (returnIfDone j) (finished-same c how j p e)
-
-  completes-same : (c : ℕ) (how : How) (m : Motion) → isTrouble (s .codes) how ≡ isFailure how → completes s c how m ≡ completesBefore s c how m
-  completes-same c how Idle e = refl
-  completes-same c how (Busy j p) e = ap (λ (t : State). Completed j p (leaving j t)) (finished-same c how j p e)
-
-  accepted : (x : Call) → refusal s x ≡ Granted → (accept s x ≡ acceptBefore s x) × (answer s x ≡ answerBefore s x)
-  unfolding accept acceptBefore answer answerBefore
-  accepted (Take j asg) r = (refl, refl)
-  accepted (Submit j p f c w) r = (refl, refl)
-  accepted (Start c) r = (refl, refl)
-  accepted (Complete c how) r =
-      let e = a-failure (s .codes) all (movingStatus s (motionOn s c)) how (completes-on s c how r .2) in
-      (completed-same c how (motionOn s c) e, completes-same c how (motionOn s c) e)
-  accepted (End j e) r = (refl, refl)
-  accepted (Mark c u m on) r = (refl, refl)
-
-  step-same : (x : Call) → step s x ≡ stepBefore s x
-  unfolding step stepBefore
-  step-same x = go (refusal s x) refl
-    where
-      go : (v : Verdict) → refusal s x ≡ v → decided s x v ≡ decidedBefore s x v
-      go Granted r = let e = accepted x r in rw (e .0, e .1)
-      go (Denied n) r = refl
-
 pub as-before : AsBefore
-unfolding run runBefore events eventsBefore
-as-before s all [] = (refl, refl)
-as-before s all (x ∷ l) =
-    let same : step s x .state .codes ≡ s .codes = ap (λ (z : Configured). z .codes) (step-has s x) in
-    let r = as-before (step s x .state) (subst AllListed (sym same) all) l in
-    let e = step-same s all x in (
-      r .0 ∙ ap (λ (a : Answered). runBefore (a .state) l) e,
-      ap (λ (es : List Event). record { call = x; answer = step s x .answer } ∷ es) (r .1)
-          ∙ ap (λ (a : Answered). record { call = x; answer = a .answer } ∷ eventsBefore (a .state) l) e,
-    )
+unfolding accept answer
+as-before s all c how r =
+    let e = a-failure (s .codes) all (movingStatus s (motionOn s c)) how (completes-on s c how r .2) in
+    (completed-same e (motionOn s c), completes-same e (motionOn s c))
+  where
+    completed-same : isTrouble (s .codes) how ≡ isFailure how → (m : Motion) → completed s c how m ≡ completedBefore s c how m
+    completed-same e Idle = refl
+    completed-same e (Busy j p) = rw e
+
+    completes-same : isTrouble (s .codes) how ≡ isFailure how → (m : Motion) → completes s c how m ≡ completesBefore s c how m
+    completes-same e Idle = refl
+    completes-same e (Busy j p) = rw e
+
+-- ---- the section matters to completions alone
+
+module _ (codes : ℕ) (s : State) where
+  no-refusal : (x : Call) → refusal (withCodes codes s) x ≡ refusal s x
+  unfolding refusal
+  no-refusal (Take j asg) = refl
+  no-refusal (Submit j p f c w) = refl
+  no-refusal (Start c) = refl
+  no-refusal (Complete c how) = by-motion (motionOn s c)
+    where
+      by-motion : (m : Motion) → first (not (configured (s .channels) c)) OutOfRange (first (isIdle m) NothingInProgress (first (isWrong (movingStatus (withCodes codes s) m) how) WrongCompletion Granted))
+          ≡ first (not (configured (s .channels) c)) OutOfRange (first (isIdle m) NothingInProgress (first (isWrong (movingStatus s m) how) WrongCompletion Granted))
+      by-motion Idle = refl
+      by-motion (Busy j p) = refl
+  no-refusal (End j e) = refl
+  no-refusal (Mark c u m on) = refl
+
+  submits-so : (j p f c : ℕ) (w : Spot) → submitted (withCodes codes s) j p f c w ≡ withCodes codes (submitted s j p f c w)
+  submits-so j p f c w =
+      by-bool (eqb f 0o07) (λ e. by-bool (locked s c (siteOf w)) (λ d. rw (e, d)) (λ d. rw (e, d)))
+      (λ e. by-bool (eqb f 0o23) (λ d. rw (e, d)) (λ d. rw (e, d)))
+
+  starts-so : (c : ℕ) (o : Option ℕ) → (started (withCodes codes s) c o ≡ withCodes codes (started s c o)) × (begins (withCodes codes s) o ≡ begins s o)
+  starts-so c none = (refl, refl)
+  starts-so c (some e) = (refl, refl)
+
+  leaves-so : (x : Call) → isCompletion x ≡ false → accept (withCodes codes s) x ≡ withCodes codes (accept s x)
+  unfolding accept
+  leaves-so (Take j asg) n = refl
+  leaves-so (Submit j p f c w) n = submits-so j p f c w
+  leaves-so (Start c) n = starts-so c (find (startable s c) (s .queue)) .0
+  leaves-so (Complete c how) n = never {b = true} refl n
+  leaves-so (End j e) n = by-bool (isDone (closed s j e) j) (λ d. rw d) (λ d. rw d)
+  leaves-so (Mark c u m on) n = refl
+
+  answers-so : (x : Call) → isCompletion x ≡ false → answer (withCodes codes s) x ≡ answer s x
+  unfolding answer
+  answers-so (Take j asg) n = refl
+  answers-so (Submit j p f c w) n = refl
+  answers-so (Start c) n = starts-so c (find (startable s c) (s .queue)) .1
+  answers-so (Complete c how) n = never {b = true} refl n
+  answers-so (End j e) n = refl
+  answers-so (Mark c u m on) n = refl
+
+pub only-completions : OnlyCompletions
+only-completions = record { refusals = no-refusal; leaves = leaves-so; answers = answers-so }
 
 -- ---- there is a section of all 60 codes: one test over 64 codes, carried to each
 
