@@ -13,17 +13,17 @@ use borrow.Author.Tests.{le-ltb, lt-ltb, eq-eqb, ne-eqb}
 use Rattle.numbers.proofs.Tests.{never}
 use Rattle.words.specs.Words.{value}
 use Rattle.cards_fields.specs.Fields.{malformed}
-use Rattle.cards.specs.Errors.{good, errorIf, orElse}
-use Rattle.cards.specs.Requests.{noFacilities}
-use Rattle.cards.proofs.ErrorLaws.{good-is, or-else-some, or-else-good}
+use Rattle.cards_request.specs.Errors.{good, errorIf, orElse}
+use Rattle.cards_request.specs.Requests.{noFacilities}
+use Rattle.cards_request.proofs.ErrorLaws.{good-is, or-else-some, or-else-good}
 use Rattle.cards_fac.specs.Fac.{numberText, slotOf, formError, nothing, entryAnswer, entryOf, entered, entriesError, allEntered, asksOf, askedAnswer, askedOf, coreError, entriesOf, asked, facError, facOf}
 use Rattle.cards_fac.proofs.EntryLaws.{small-number}
-use Rattle.cards.specs.declared.CardError.the-variants.{FacMalformed, WrongEntry, TooMuchCore, NoIb}
-use Rattle.cards.specs.declared.Verdict.{Verdict}
-use Rattle.cards.specs.declared.Verdict.the-variants.{Good, Wrong}
+use Rattle.cards_request.specs.declared.CardError.the-variants.{FacMalformed, WrongEntry, TooMuchCore, NoIb}
+use Rattle.cards_request.specs.declared.Verdict.{Verdict}
+use Rattle.cards_request.specs.declared.Verdict.the-variants.{Good, Wrong}
 use Rattle.cards_fac.specs.declared.Entry.{Entry}
 use Rattle.cards_fac.specs.declared.Asked.{Asked}
-use Rattle.cards.specs.declared.Facilities.{Facilities}
+use Rattle.cards_request.specs.declared.Facilities.{Facilities}
 
 answer-verdict : (v : Verdict) (k n : ℕ) → entryAnswer v k n .verdict ≡ v
 answer-verdict Good k n = refl

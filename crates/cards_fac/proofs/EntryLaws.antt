@@ -16,12 +16,12 @@ use Rattle.words.specs.Words.{every, value, leading, isnt}
 use Rattle.words.proofs.WordLaws.{leading-front, tens, value-below}
 use Rattle.cards_fields.specs.Fields.{padded}
 use Rattle.cards_fields.proofs.FieldLaws.{rest-is}
-use Rattle.cards.specs.Errors.{good, errorIf}
-use Rattle.cards.proofs.ErrorLaws.{not-good, or-else-none}
+use Rattle.cards_request.specs.Errors.{good, errorIf}
+use Rattle.cards_request.proofs.ErrorLaws.{not-good, or-else-none}
 use Rattle.cards_fac.specs.Fac.{codes, indexIn, codeText, channelText, slashAt, numberText, channelGood, most, numberGood, entryGood, slot, codeOf, slotOf, codeError, formError, entryAnswer, entryOf}
-use Rattle.cards.specs.declared.CardError.the-variants.{LongCode, UnknownCode, WrongEntry}
-use Rattle.cards.specs.declared.Verdict.{Verdict}
-use Rattle.cards.specs.declared.Verdict.the-variants.{Good, Wrong}
+use Rattle.cards_request.specs.declared.CardError.the-variants.{LongCode, UnknownCode, WrongEntry}
+use Rattle.cards_request.specs.declared.Verdict.{Verdict}
+use Rattle.cards_request.specs.declared.Verdict.the-variants.{Good, Wrong}
 use Rattle.cards_fac.specs.declared.Entry.{Entry}
 
 leading-padded : (p : ℕ → Bool) (w : ℕ) (t : List ℕ) → w ≤ length t → leading p (padded w t) ≡ take w (leading p t)

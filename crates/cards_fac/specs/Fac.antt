@@ -9,13 +9,13 @@ use Rattle.numbers.specs.Quoted.{byte, bytes}
 use Rattle.text.specs.Class.{isDigit, isLetter}
 use Rattle.words.specs.Words.{every, same, value, leading, isnt}
 use Rattle.cards_fields.specs.Fields.{field, fields, malformed}
-use Rattle.cards.specs.Errors.{errorIf, orElse, firstOf}
-use Rattle.cards.specs.Requests.{counts, noFacilities}
-use Rattle.cards.specs.declared.CardError.the-variants.{FacMalformed, LongCode, UnknownCode, WrongEntry, TooMuchCore, NoIb}
-use Rattle.cards.specs.declared.Verdict.{Verdict}
-use Rattle.cards.specs.declared.Verdict.the-variants.{Good, Wrong}
+use Rattle.cards_request.specs.Errors.{errorIf, orElse, firstOf}
+use Rattle.cards_request.specs.Requests.{counts, noFacilities}
+use Rattle.cards_request.specs.declared.CardError.the-variants.{FacMalformed, LongCode, UnknownCode, WrongEntry, TooMuchCore, NoIb}
+use Rattle.cards_request.specs.declared.Verdict.{Verdict}
+use Rattle.cards_request.specs.declared.Verdict.the-variants.{Good, Wrong}
 use Rattle.cards_fac.specs.declared.Entry.{Entry}
-use Rattle.cards.specs.declared.Facilities.{Facilities}
+use Rattle.cards_request.specs.declared.Facilities.{Facilities}
 use Rattle.cards_fac.specs.declared.Asked.{Asked}
 
 -- the codes in the order in which entries are written; those of the kinds of unit come last

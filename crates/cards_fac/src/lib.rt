@@ -1,20 +1,20 @@
 // The FAC card: its entries, what they ask for, and the card's errors.
-use cards::CardError;
-use cards::Facilities;
-use cards::Verdict;
 use cards_fields::card;
+use cards_request::CardError;
+use cards_request::Facilities;
+use cards_request::Verdict;
 use words::Class;
 ghost use mathlib.Core.Path.{_≡_};
 ghost use mathlib.Core.Bool.{false};
 ghost use Prim.Native.Nat.{_≤_, _<_};
 ghost use lib.ListN.{getD, drop, set};
 ghost use Rattle.cards_fields.specs.Fields.{field, fields};
-ghost use Rattle.cards.specs.Errors.{good};
+ghost use Rattle.cards_request.specs.Errors.{good};
 ghost use Rattle.cards_fac.specs.Fac.{codes, indexIn, channelGood, most, numberGood, slot, slots, codeError, coreError};
 ghost use Rattle.cards_fac.specs.Fac.{nothing, asksOf, entryAnswer, EntryRead, askedAnswer, askedOf, facOf};
 
 // How many numbers a FAC card can give: IB, DB, MD and the counts of units.
-pub const SLOTS: usize = 3 + cards::COUNTS;
+pub const SLOTS: usize = 3 + cards_request::COUNTS;
 
 // An entry of a FAC card: the slot that it fills and its number, both 0 beside an error.
 pub struct Entry {
@@ -164,13 +164,13 @@ fn entry_at(card: &[u8], k: usize) -> Entry
     if n <= 12 {
         let t = &bytes[..n];
         let e = code_error(t);
-        if !cards::is_good(e) {
+        if !cards_request::is_good(e) {
             return no_entry(e);
         }
         return known_entry(t);
     }
     let e = code_error(&bytes);
-    if !cards::is_good(e) {
+    if !cards_request::is_good(e) {
         return no_entry(e);
     }
     no_entry(Verdict::Wrong(CardError::WrongEntry))
@@ -181,7 +181,7 @@ fn none_asked(verdict: Verdict) -> Asked
     requires { ⌜ good verdict ≡ false ⌝ }
     ensures { λ r. ⌜ r ≡ askedAnswer verdict nothing ⌝ }
 {
-    let facilities = cards::no_facilities();
+    let facilities = cards_request::no_facilities();
     Asked {
         verdict,
         facilities,
@@ -232,13 +232,13 @@ fn facilities(card: &[u8]) -> Asked
     ensures { λ r. ⌜ r ≡ askedOf nothing (drop 2 (fields (now (card .entry)))) ⌝ }
 {
     let last = card::last_field(card);
-    let mut asks = cards::no_facilities();
+    let mut asks = cards_request::no_facilities();
     let mut k: usize = 1;
     while k < last {
         k += 1;
         let e = entry_at(card, k);
         let verdict = e.verdict;
-        if !cards::is_good(verdict) {
+        if !cards_request::is_good(verdict) {
             return none_asked(verdict);
         }
         let slot = e.slot;
@@ -279,12 +279,12 @@ pub fn read_fac(card: &[u8]) -> Asked
     }
     let f = facilities(card);
     let verdict = f.verdict;
-    if !cards::is_good(verdict) {
+    if !cards_request::is_good(verdict) {
         return f;
     }
     let facilities = f.facilities;
     let e = core_error(facilities);
-    if !cards::is_good(e) {
+    if !cards_request::is_good(e) {
         return none_asked(e);
     }
     f

@@ -46,7 +46,7 @@ pub lines-done : (s : List ℕ) (at : ℕ) → length s ≤ at → cardsOf (drop
 lines-done s at h = rw (drop-of-length-le s h)
 
 -- the card at an index
-no-card : (k : ℕ) → _≡_ {A = List ℕ} (getD [] k []) []
+pub no-card : (k : ℕ) → _≡_ {A = List ℕ} (getD [] k []) []
 no-card zero = refl
 no-card (suc k) = refl
 
@@ -64,6 +64,25 @@ module _ (s : List ℕ) (at left : ℕ) where
       later : (k : ℕ) → (k ≡ 0 → ⊥) → getD (c ∷ cardsOf (drop next s)) k [] ≡ getD (cardsOf (drop next s)) (k - 1) []
       later zero n = absurd (n refl)
       later (suc k) n = let p : suc k - 1 ≡ k = omega arith in rw p
+
+-- the cards in front, one card further: what they take
+module _ (s : List ℕ) (at left : ℕ) where
+  pub front-none : cardsOf (drop at s) ≡ [] → size (take left (cardsOf (drop at s))) ≡ 0
+  front-none e = rw e (none left)
+    where
+      none : (k : ℕ) → size (take k []) ≡ 0
+      none zero = refl
+      none (suc k) = refl
+
+  pub front-done : left ≡ 0 → size (take left (cardsOf (drop at s))) ≡ 0
+  front-done z = rw z
+
+  pub front-more : (c : List ℕ) (next : ℕ) → cardsOf (drop at s) ≡ c ∷ cardsOf (drop next s) → (left ≡ 0 → ⊥) → size (take left (cardsOf (drop at s))) ≡ length c + 1 + size (take (left - 1) (cardsOf (drop next s)))
+  front-more c next e n = rw e (more left n)
+    where
+      more : (k : ℕ) → (k ≡ 0 → ⊥) → size (take k (c ∷ cardsOf (drop next s))) ≡ length c + 1 + size (take (k - 1) (cardsOf (drop next s)))
+      more zero n = absurd (n refl)
+      more (suc k) n = let p : suc k - 1 ≡ k = omega arith in rw p
 
 -- the termination card, one card further
 module _ (s : List ℕ) (at : ℕ) (c : List ℕ) (next : ℕ) (e : cardsOf (drop at s) ≡ c ∷ cardsOf (drop next s)) where

@@ -14,7 +14,7 @@ use borrow.Author.Tests.{eq-eqb, ne-eqb, eqb-true, eqb-false, le-ltb, lt-ltb, le
 use Rattle.numbers.proofs.Tests.{by-bool}
 use Rattle.words.specs.Words.{same}
 use Rattle.words.proofs.WordLaws.{drop-step, and-false, same-long}
-use Rattle.cards_fields.specs.Fields.{fields, field, fieldIs, fieldOf, split, spaceless, upToPeriod, onto, padded, closed, cardByte, malformed}
+use Rattle.cards_fields.specs.Fields.{fields, field, fieldIs, fieldOf, pieces, spaceless, upToPeriod, onto, padded, closed, cardByte, malformed}
 use Rattle.cards_fields.specs.declared.Field.{Field}
 use Rattle.cards_fields.specs.FieldBytes.{added, pushed}
 
@@ -82,28 +82,26 @@ onto-first : (b : ℕ) (fs : List (List ℕ)) → getD (onto b fs) 0 [] ≡ b �
 onto-first b [] = refl
 onto-first b (f ∷ fs) = refl
 
-split-some : (s : List ℕ) → 1 ≤ length (split s)
-split-some [] = omega arith
-split-some (b ∷ s) = comma (eqb b 44)
+-- a text that is cut has a piece
+pub pieces-some : (cut : ℕ) (s : List ℕ) → 1 ≤ length (pieces cut s)
+pieces-some cut [] = omega arith
+pieces-some cut (b ∷ s) = cut-here (eqb b cut)
   where
     more : (fs : List (List ℕ)) → 1 ≤ length (onto b fs)
     more [] = omega arith
     more (f ∷ fs) = omega arith
 
-    comma : (t : Bool) → 1 ≤ length (cond t ([] ∷ split s) (onto b (split s)))
-    comma true = omega arith
-    comma false = more (split s)
+    cut-here : (t : Bool) → 1 ≤ length (cond t ([] ∷ pieces cut s) (onto b (pieces cut s)))
+    cut-here true = omega arith
+    cut-here false = more (pieces cut s)
 
 fields-some : (s : List ℕ) → 1 ≤ length (fields s)
 unfolding fields
-fields-some s = split-some (spaceless (upToPeriod s))
+fields-some s = pieces-some 44 (spaceless (upToPeriod s))
 
-onto-length : (b : ℕ) (s : List ℕ) → length (onto b (fields s)) ≡ length (fields s)
-onto-length b s = some (fields s) (fields-some s)
-  where
-    some : (fs : List (List ℕ)) → 1 ≤ length fs → length (onto b fs) ≡ length fs
-    some [] h = absurd (omega arith)
-    some (f ∷ fs) h = refl
+pub onto-length : (b : ℕ) (fs : List (List ℕ)) → 1 ≤ length fs → length (onto b fs) ≡ length fs
+onto-length b [] h = absurd (omega arith)
+onto-length b (f ∷ fs) h = refl
 
 space-or : (b : ℕ) → (b ≡ 32) ⊎ (b ≡ 32 → ⊥)
 space-or b = test (eqb b 32) refl
@@ -146,7 +144,7 @@ module _ (s : List ℕ) (i : ℕ) (h : i < length s) where
   pub count-other : (getD s i 0 ≡ 46 → ⊥) → (getD s i 0 ≡ 44 → ⊥) → length (fields (drop i s)) ≡ length (fields (drop (i + 1) s))
   count-other p c =
       ⊎-elim (λ e. rw (drop-step s i h, fields-space (drop (i + 1) s) e))
-      (λ q. rw (drop-step s i h, fields-other (drop (i + 1) s) p c q) (onto-length (getD s i 0) (drop (i + 1) s)))
+      (λ q. rw (drop-step s i h, fields-other (drop (i + 1) s) p c q) (onto-length (getD s i 0) (fields (drop (i + 1) s)) (fields-some (drop (i + 1) s))))
       (space-or (getD s i 0))
 
   pub closed-bad : (over : Bool) → cardByte (getD s i 0) ≡ false → closed over (drop i s) ≡ false

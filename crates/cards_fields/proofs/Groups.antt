@@ -10,6 +10,7 @@ use native.Mathlib.Nat.{eq-zero-or-pos}
 use native.Mathlib.Omega.{arith}
 use lib.Dec.{leb}
 use lib.ListN.{length, drop, take}
+use lib.ListN.{take-append-drop}
 use lib.Seq.{take-append-add, drop-append-add}
 use Rattle.numbers.proofs.Tests.{by-bool}
 use Rattle.numbers.specs.declared.Refusal.the-variants.{BadDeck}
@@ -90,3 +91,7 @@ deck-cards s n e =
     let k : size (before (cardsOf s)) ≡ n = cc in
     rw (← k) (cut (before (cardsOf s)) (drop (length (before (cardsOf s))) (cardsOf s)) s (before-front (cardsOf s)) .0))
     (λ t. let i : Refused BadDeck ≡ At n = rw t at e in let z : _≡_ {A = ℕ} 0 1 = cc in absurd (omega arith))
+
+-- THE CARDS BEHIND THE FIRST FEW
+pub behind-cards : (s : List ℕ) (k : ℕ) → cardsOf (drop (size (take k (cardsOf s))) s) ≡ drop k (cardsOf s)
+behind-cards s k = cut (take k (cardsOf s)) (drop k (cardsOf s)) s (sym (take-append-drop k (cardsOf s))) .1

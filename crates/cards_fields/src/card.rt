@@ -7,7 +7,7 @@ ghost use Rattle.cards_fields.specs.Fields.{field, fields, fieldIs, fiel
 ghost use Rattle.cards_fields.specs.FieldBytes.{pushed};
 
 // A field with one more byte; a space is dropped.
-fn with_byte(f: Field, b: u8) -> Field
+pub(crate) fn with_byte(f: Field, b: u8) -> Field
     requires { ⌜ f .len + 1 < 2 ^ 64 ⌝ }
     ensures { λ r. ⌜ r ≡ pushed f b ⌝ }
 {
@@ -89,7 +89,7 @@ pub fn field_is(card: &[u8], k: usize, word: &[u8]) -> bool
 }
 
 // Whether a byte may stand on a card.
-fn is_card_byte(b: u8) -> bool
+pub fn is_card_byte(b: u8) -> bool
     ensures { λ r. ⌜ r ≡ cardByte b ⌝ }
 {
     if text::is_alnum(b) {

@@ -5,12 +5,12 @@ use numbers::Refusal;
 ghost use mathlib.Core.Path.{_≡_};
 ghost use mathlib.Core.List.{[]};
 ghost use Prim.Native.Nat.{_≤_};
-ghost use lib.ListN.{length, getD, take};
+ghost use lib.ListN.{length, getD, take, drop};
 ghost use Rattle.words.specs.Lines.{lineOf};
-ghost use Rattle.cards_fields.specs.Deck.{cardsOf, isTermination, deckEnd, opens, groupSize};
+ghost use Rattle.cards_fields.specs.Deck.{cardsOf, isTermination, size, deckEnd, opens, groupSize};
 
 // The length of the first card of what is left of a deck, its LF not counted; the whole length where no LF is left.
-fn card_len(rest: &[u8]) -> usize
+pub fn card_len(rest: &[u8]) -> usize
     ensures { λ r. ⌜ r ≡ length (lineOf (now (rest .entry))) ⌝ }
 {
     words::until(rest, b'\n')
@@ -52,6 +52,27 @@ pub fn card_at(text: &[u8], k: usize) -> &[u8]
         at = end + 1;
     }
     &text[0..0]
+}
+
+// What is left of a text behind its first k cards, or behind all where there are fewer, as a part of it.
+pub fn behind(text: &[u8], k: usize) -> &[u8]
+    ensures { λ r. ⌜ now r ≡ drop (size (take k (cardsOf (now (text .entry))))) (now (text .entry)) ⌝ }
+{
+    let mut left = k;
+    let mut at: usize = 0;
+    while at < text.len() {
+        if left == 0 {
+            return &text[at..];
+        }
+        let len = card_len(&text[at..]);
+        let end = at + len;
+        if end == text.len() {
+            return &text[at..];
+        }
+        left -= 1;
+        at = end + 1;
+    }
+    &text[at..]
 }
 
 // Whether a card is the termination card.

@@ -1,6 +1,7 @@
-// Cards as lines of a deck, groups of cards as parts of it, and a card's fields.
+// Cards as lines of a deck, groups of cards as parts of it, a card's fields and the parts of these.
 pub mod card;
 pub mod deck;
+pub mod parts;
 
 use numbers::Refusal;
 

@@ -14,12 +14,12 @@ use lib.ListN.{length, getD, drop, List·getD-map, drop-of-length-le}
 use borrow.Author.Tests.{le-ltb, lt-ltb, leb-true}
 use Rattle.numbers.proofs.Tests.{both}
 use Rattle.cards_fields.specs.Fields.{fields, isPty, malformed}
-use Rattle.cards.specs.Errors.{good, errorIf, orElse}
-use Rattle.cards.proofs.ErrorLaws.{good-is, not-good, or-else-some, or-else-none, or-else-good}
+use Rattle.cards_request.specs.Errors.{good, errorIf, orElse}
+use Rattle.cards_request.proofs.ErrorLaws.{good-is, not-good, or-else-some, or-else-none, or-else-good}
 use Rattle.cards_pty.specs.Pty.{Rule, rules, noRule, ruleAt, lengthError, contentError, fieldError, fieldsFrom, fieldsError, ptyError}
-use Rattle.cards.specs.declared.CardError.the-variants.{NotPty, PtyMalformed}
-use Rattle.cards.specs.declared.Verdict.{Verdict}
-use Rattle.cards.specs.declared.Verdict.the-variants.{Good, Wrong}
+use Rattle.cards_request.specs.declared.CardError.the-variants.{NotPty, PtyMalformed}
+use Rattle.cards_request.specs.declared.Verdict.{Verdict}
+use Rattle.cards_request.specs.declared.Verdict.the-variants.{Good, Wrong}
 
 pub least-at : (k : ℕ) → getD (map (λ (r : Rule). r .least) rules) k 0 ≡ ruleAt k .least
 least-at k = List·getD-map (λ (r : Rule). r .least) rules k noRule

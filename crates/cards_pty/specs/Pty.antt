@@ -9,11 +9,11 @@ use Rattle.text.specs.Class.{isDigit, isLetter, isAlnum}
 use Rattle.words.specs.Words.{passes, every, has, same, value}
 use Rattle.words.specs.declared.Class.the-variants.{Hyphened}
 use Rattle.cards_fields.specs.Fields.{fields, isPty, malformed}
-use Rattle.cards.specs.Errors.{errorIf, orElse, firstOf}
-use Rattle.cards.specs.declared.CardError.{CardError}
-use Rattle.cards.specs.declared.CardError.the-variants.{NotPty, PtyMalformed, IdLength, WrongRush, WrongLength, WrongContent}
-use Rattle.cards.specs.declared.Verdict.{Verdict}
-use Rattle.cards.specs.declared.Verdict.the-variants.{Good, Wrong}
+use Rattle.cards_request.specs.Errors.{errorIf, orElse, firstOf}
+use Rattle.cards_request.specs.declared.CardError.{CardError}
+use Rattle.cards_request.specs.declared.CardError.the-variants.{NotPty, PtyMalformed, IdLength, WrongRush, WrongLength, WrongContent}
+use Rattle.cards_request.specs.declared.Verdict.{Verdict}
+use Rattle.cards_request.specs.declared.Verdict.the-variants.{Good, Wrong}
 use Rattle.cards_pty.specs.declared.Priority.{Priority}
 
 -- "letters, digits or hyphens, no hyphen first"

@@ -1,7 +1,7 @@
 // The PTY card: each field's length and content, the priority, and the card's errors.
-use cards::CardError;
-use cards::Verdict;
 use cards_fields::card;
+use cards_request::CardError;
+use cards_request::Verdict;
 use words::Class;
 ghost use mathlib.Core.Path.{_≡_};
 ghost use Prim.Native.Nat.{_≤_, _<_};
@@ -210,7 +210,7 @@ fn fields_error(card: &[u8]) -> Verdict
     let mut k: usize = 0;
     while k < 14 {
         let e = error_at(card, k);
-        if !cards::is_good(e) {
+        if !cards_request::is_good(e) {
             return e;
         }
         k += 1;

@@ -7,7 +7,7 @@ use borrow.Author.Tests.{not-true, not-false}
 use Rattle.cards_fields.specs.Fields.{field}
 use Rattle.cards_fields.proofs.FieldLaws.{whole, within}
 use Rattle.cards_fields.specs.declared.Field.{Field}
-use Rattle.cards.proofs.ErrorLaws.{good-is}
+use Rattle.cards_request.proofs.ErrorLaws.{good-is}
 use Rattle.cards_fac.specs.Fac.{codeError, entryOf}
 use Rattle.cards_fac.proofs.EntryLaws.{code-padded, entry-error, entry-long}
 use borrow.Author.Needs.{needs}

@@ -8,7 +8,7 @@ use borrow.Author.Tests.{not-true, not-false}
 use Rattle.cards_fields.specs.Fields.{fields}
 use Rattle.cards_fac.specs.Fac.{nothing, asksOf, askedOf}
 use Rattle.cards_fac.proofs.AskLaws.{entry-wrong, entry-twice, entry-next, entries-done}
-use Rattle.cards.specs.declared.Facilities.{Facilities}
+use Rattle.cards_request.specs.declared.Facilities.{Facilities}
 use borrow.Author.Needs.{needs}
 use Rattle.cards_fac.proofs.facilities.Statement.{statement}
 use Rattle.cards_fac.proofs.facilities.Tie as tie

@@ -1,9 +1,10 @@
-// What all cards share: the request, the card errors and their numbers, and the request for nothing.
+// What all cards share: the request, its further cards, the card errors and their numbers, and the request for nothing.
 ghost use mathlib.Core.Path.{_≡_};
-ghost use Rattle.cards.specs.Errors.{errorNumber, good};
-ghost use Rattle.cards.specs.Requests.{noFacilities, noRequest};
+ghost use Rattle.cards_request.specs.Errors.{errorNumber, good};
+ghost use Rattle.cards_request.specs.Requests.{noFacilities, noRequest, noCard, noFurther};
 
-// What is wrong with a group of cards, in the order of document 01; the last four are the schedule's to find.
+// What is wrong with a group of cards, in the order in which errors are looked for; the last four are the schedule's to
+// find.
 pub enum CardError {
     NotPty,
     PtyMalformed,
@@ -13,15 +14,23 @@ pub enum CardError {
     WrongContent,
     WrongCount,
     NoFac,
-    SecondFac,
-    OtherCard,
+    LaterFac,
+    UnknownCard,
     OtherId,
+    PmNumber,
+    PmWrong,
+    TalApart,
+    TrnApart,
     FacMalformed,
     LongCode,
     UnknownCode,
     WrongEntry,
     TooMuchCore,
     NoIb,
+    TalWrong,
+    TalLong,
+    TrnWrong,
+    TrnLong,
     InSchedule,
     SamePriority,
     SameSequence,
@@ -67,6 +76,32 @@ pub struct Request {
     pub facilities: Facilities,
 }
 
+// How many characters a further card has at most from its type on: a card has 80, and before the type stand an ID, of one
+// character at least, and a comma.
+pub const TEXT: usize = 78;
+
+// How many further cards a request has at most: 16 cards, less PTY and FAC.
+pub const FURTHER: usize = 14;
+
+// A further card in one form: its text from the type on, blanks behind it, and how long the text is. Spaces are dropped
+// but in PM text, numbers have no leading zeros, and the ID is said once, in the request.
+pub struct FurtherCard {
+    pub text: [u8; TEXT],
+    pub len: usize,
+}
+
+// A request's further cards in the order read, blank ones behind them, and how many they are.
+pub struct Further {
+    pub cards: [FurtherCard; FURTHER],
+    pub count: usize,
+}
+
+// A request with its further cards.
+pub struct FullRequest {
+    pub request: Request,
+    pub further: Further,
+}
+
 // A card error's number.
 pub fn number_of(error: CardError) -> u8
     ensures { λ r. ⌜ r ≡ errorNumber error ⌝ }
@@ -80,15 +115,23 @@ pub fn number_of(error: CardError) -> u8
         CardError::WrongContent => 17,
         CardError::WrongCount => 20,
         CardError::NoFac => 28,
-        CardError::SecondFac => 22,
-        CardError::OtherCard => 3,
+        CardError::LaterFac => 22,
+        CardError::UnknownCard => 3,
         CardError::OtherId => 25,
+        CardError::PmNumber => 30,
+        CardError::PmWrong => 4,
+        CardError::TalApart => 23,
+        CardError::TrnApart => 24,
         CardError::FacMalformed => 12,
         CardError::LongCode => 9,
         CardError::UnknownCode => 11,
         CardError::WrongEntry => 13,
         CardError::TooMuchCore => 14,
         CardError::NoIb => 27,
+        CardError::TalWrong => 5,
+        CardError::TalLong => 6,
+        CardError::TrnWrong => 7,
+        CardError::TrnLong => 8,
         CardError::InSchedule => 26,
         CardError::SamePriority => 31,
         CardError::SameSequence => 90,
@@ -139,5 +182,25 @@ pub fn no_request() -> Request
         store: b' ',
         library: [b' '; 6],
         facilities,
+    }
+}
+
+// The blank card.
+pub fn no_card() -> FurtherCard
+    ensures { λ r. ⌜ r ≡ noCard ⌝ }
+{
+    FurtherCard {
+        text: [b' '; TEXT],
+        len: 0,
+    }
+}
+
+// No further cards.
+pub fn no_further() -> Further
+    ensures { λ r. ⌜ r ≡ noFurther ⌝ }
+{
+    Further {
+        cards: [no_card(); FURTHER],
+        count: 0,
     }
 }

@@ -1,9 +1,9 @@
--- `cards::number_of` meets its contract: the error that the match found, put into the definition. Assumes nothing.
+-- `cards_request::number_of` meets its contract: the error that the match found, put into the definition. Assumes nothing.
 use mathlib.Core.Path.{sym, ap}
-use Rattle.cards.specs.Errors.{errorNumber}
+use Rattle.cards_request.specs.Errors.{errorNumber}
 use borrow.Author.Needs.{needs}
-use Rattle.cards.proofs.number_of.Statement.{statement}
-use Rattle.cards.proofs.number_of.Tie as tie
+use Rattle.cards_request.proofs.number_of.Statement.{statement}
+use Rattle.cards_request.proofs.number_of.Tie as tie
 
 enum-told : tie.Need-enum-told
 enum-told c = search needs
@@ -68,6 +68,30 @@ enum-told-20 c = search needs
 enum-told-21 : tie.Need-enum-told-21
 enum-told-21 c = search needs
 
+enum-told-22 : tie.Need-enum-told-22
+enum-told-22 c = search needs
+
+enum-told-23 : tie.Need-enum-told-23
+enum-told-23 c = search needs
+
+enum-told-24 : tie.Need-enum-told-24
+enum-told-24 c = search needs
+
+enum-told-25 : tie.Need-enum-told-25
+enum-told-25 c = search needs
+
+enum-told-26 : tie.Need-enum-told-26
+enum-told-26 c = search needs
+
+enum-told-27 : tie.Need-enum-told-27
+enum-told-27 c = search needs
+
+enum-told-28 : tie.Need-enum-told-28
+enum-told-28 c = search needs
+
+enum-told-29 : tie.Need-enum-told-29
+enum-told-29 c = search needs
+
 returns : tie.Need-returns
 returns c = sym (ap errorNumber (c .enum-told .given .1))
 
@@ -131,6 +155,30 @@ returns-20 c = sym (ap errorNumber (c .enum-told20 .given .1))
 returns-21 : tie.Need-returns-21
 returns-21 c = sym (ap errorNumber (c .enum-told21 .given .1))
 
+returns-22 : tie.Need-returns-22
+returns-22 c = sym (ap errorNumber (c .enum-told22 .given .1))
+
+returns-23 : tie.Need-returns-23
+returns-23 c = sym (ap errorNumber (c .enum-told23 .given .1))
+
+returns-24 : tie.Need-returns-24
+returns-24 c = sym (ap errorNumber (c .enum-told24 .given .1))
+
+returns-25 : tie.Need-returns-25
+returns-25 c = sym (ap errorNumber (c .enum-told25 .given .1))
+
+returns-26 : tie.Need-returns-26
+returns-26 c = sym (ap errorNumber (c .enum-told26 .given .1))
+
+returns-27 : tie.Need-returns-27
+returns-27 c = sym (ap errorNumber (c .enum-told27 .given .1))
+
+returns-28 : tie.Need-returns-28
+returns-28 c = sym (ap errorNumber (c .enum-told28 .given .1))
+
+returns-29 : tie.Need-returns-29
+returns-29 c = sym (ap errorNumber (c .enum-told29 .given .1))
+
 pub number-of-spec : {M : Type 1} → statement M
 number-of-spec =
     tie.close
@@ -156,6 +204,14 @@ number-of-spec =
     enum-told-19
     enum-told-20
     enum-told-21
+    enum-told-22
+    enum-told-23
+    enum-told-24
+    enum-told-25
+    enum-told-26
+    enum-told-27
+    enum-told-28
+    enum-told-29
     returns
     returns-2
     returns-3
@@ -176,4 +232,12 @@ number-of-spec =
     returns-18
     returns-19
     returns-20
-    returns-21)
+    returns-21
+    returns-22
+    returns-23
+    returns-24
+    returns-25
+    returns-26
+    returns-27
+    returns-28
+    returns-29)

@@ -1,9 +1,9 @@
--- Document 01's card errors: the number of each, and the first of several.
+-- The card errors, of document 01 and of the bulletin: the number of each, and the first of several.
 use Prim.Native.Nat.{ℕ}
 use mathlib.Core.Bool.{Bool, true, false, cond}
 use mathlib.Core.List.{List, [], _∷_}
-use Rattle.cards.specs.declared.CardError.{CardError}
-use Rattle.cards.specs.declared.CardError.the-variants.{
+use Rattle.cards_request.specs.declared.CardError.{CardError}
+use Rattle.cards_request.specs.declared.CardError.the-variants.{
   NotPty,
   PtyMalformed,
   IdLength,
@@ -12,22 +12,30 @@ use Rattle.cards.specs.declared.CardError.the-variants.{
   WrongContent,
   WrongCount,
   NoFac,
-  SecondFac,
-  OtherCard,
+  LaterFac,
+  UnknownCard,
   OtherId,
+  PmNumber,
+  PmWrong,
+  TalApart,
+  TrnApart,
   FacMalformed,
   LongCode,
   UnknownCode,
   WrongEntry,
   TooMuchCore,
   NoIb,
+  TalWrong,
+  TalLong,
+  TrnWrong,
+  TrnLong,
   InSchedule,
   SamePriority,
   SameSequence,
   ScheduleFull,
 }
-use Rattle.cards.specs.declared.Verdict.{Verdict}
-use Rattle.cards.specs.declared.Verdict.the-variants.{Good, Wrong}
+use Rattle.cards_request.specs.declared.Verdict.{Verdict}
+use Rattle.cards_request.specs.declared.Verdict.the-variants.{Good, Wrong}
 
 abbrev pub errorNumber : CardError → ℕ
 -- the group's first card isn't PTY
@@ -42,16 +50,24 @@ errorNumber WrongRush = 28
 errorNumber WrongLength = 18
 -- wrong content
 errorNumber WrongContent = 17
--- count differs from the cards in the group
+-- count differs from the cards in the group; over 16 cards
 errorNumber WrongCount = 20
 -- second card absent or not FAC
 errorNumber NoFac = 28
--- the third card is FAC
-errorNumber SecondFac = 22
--- the third card is anything else
-errorNumber OtherCard = 3
--- FAC's ID differs
+-- any later FAC
+errorNumber LaterFac = 22
+-- unknown types only
+errorNumber UnknownCard = 3
+-- any differing ID
 errorNumber OtherId = 25
+-- a PM card without a one-digit number
+errorNumber PmNumber = 30
+-- PM cards apart, malformed, digits not rising or text over 66
+errorNumber PmWrong = 4
+-- TAL cards apart
+errorNumber TalApart = 23
+-- TRN cards apart
+errorNumber TrnApart = 24
 -- FAC malformed
 errorNumber FacMalformed = 12
 -- a code of over two letters
@@ -64,6 +80,14 @@ errorNumber WrongEntry = 13
 errorNumber TooMuchCore = 14
 -- no IB
 errorNumber NoIb = 27
+-- any other fault on TAL
+errorNumber TalWrong = 5
+-- TAL number too long
+errorNumber TalLong = 6
+-- any other fault on TRN
+errorNumber TrnWrong = 7
+-- TRN field too long
+errorNumber TrnLong = 8
 -- ID in the schedule and not suspended
 errorNumber InSchedule = 26
 -- same priority and precedence as a request there, and no sequence

@@ -1,7 +1,7 @@
--- `cards::no_request` meets its contract: blanks, and nothing asked for. Assumes nothing.
+-- `cards_request::no_request` meets its contract: blanks, and nothing asked for. Assumes nothing.
 use borrow.Author.Needs.{needs}
-use Rattle.cards.proofs.no_request.Statement.{statement}
-use Rattle.cards.proofs.no_request.Tie as tie
+use Rattle.cards_request.proofs.no_request.Statement.{statement}
+use Rattle.cards_request.proofs.no_request.Tie as tie
 
 no-facilities-requires : tie.Need-no-facilities-requires
 no-facilities-requires c κs = search needs

@@ -1,13 +1,13 @@
 -- What the first of several errors is, by whether one before it is wrong. Assumes nothing.
 use Prim.Native.Nat.{ℕ}
 use mathlib.Core.Path.{_≡_, refl}
-use mathlib.Core.Bool.{true, false}
+use mathlib.Core.Bool.{Bool, true, false}
 use native.Mathlib.Omega.{arith}
 use Rattle.numbers.proofs.Tests.{never}
-use Rattle.cards.specs.Errors.{good, orElse}
-use Rattle.cards.specs.declared.CardError.{CardError}
-use Rattle.cards.specs.declared.Verdict.{Verdict}
-use Rattle.cards.specs.declared.Verdict.the-variants.{Good, Wrong}
+use Rattle.cards_request.specs.Errors.{good, errorIf, orElse}
+use Rattle.cards_request.specs.declared.CardError.{CardError}
+use Rattle.cards_request.specs.declared.Verdict.{Verdict}
+use Rattle.cards_request.specs.declared.Verdict.the-variants.{Good, Wrong}
 
 -- a good verdict is the one that there is
 pub good-is : (v : Verdict) → good v ≡ true → v ≡ Good
@@ -29,3 +29,8 @@ or-else-none (Wrong e) w h = not-good h
 pub or-else-good : (v : Verdict) → orElse v Good ≡ v
 or-else-good Good = refl
 or-else-good (Wrong e) = refl
+
+-- where a test gives no error it does not hold
+pub not-error : (b : Bool) (e : CardError) → errorIf b e ≡ Good → b ≡ false
+not-error true e h = not-good h
+not-error false e h = refl
