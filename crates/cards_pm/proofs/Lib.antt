@@ -1,0 +1,2 @@
+pub mod PmLaws
+pub mod PmRound

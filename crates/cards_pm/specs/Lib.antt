@@ -1,0 +1,2 @@
+pub mod Pm
+pub mod Sheets

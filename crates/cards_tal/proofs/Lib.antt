@@ -1,0 +1,2 @@
+pub mod TalLaws
+pub mod TalRound

@@ -1,0 +1,67 @@
+-- `cards_tal::entries_error` meets its contract. The loop's invariant: the entries up to index k are good, so the error
+-- of those after it is the error of all. Assumes nothing.
+use Prim.Native.Nat.{_+_, _-_, _≤_, ℕ}
+use mathlib.Core.Path.{_≡_, refl, sym, ap, _∙_}
+use native.Mathlib.Omega.{arith}
+use lib.ListN.{length, drop}
+use borrow.Author.Tests.{not-true, not-false}
+use mathlib.Core.List.{List}
+use Rattle.cards_fields.specs.Fields.{fields, spaceless}
+use Rattle.cards_tal.specs.Tal.{entryError, entriesError}
+use Rattle.cards_tal.proofs.TalLaws.{entry-wrong, entry-next, entries-done}
+use borrow.Author.Needs.{needs}
+use Rattle.cards_tal.proofs.entries_error.Statement.{statement}
+use Rattle.cards_tal.proofs.entries_error.Tie as tie
+
+abbrev Inv-loop : tie.InvT-loop
+Inv-loop card last k₀ k = ((1 ≤ k) × (last + 1 ≡ length (fields card))) × (entriesError (drop (k + 1) (fields card)) ≡ entriesError (drop 2 (fields card)))
+
+abbrev μ-loop : tie.MeasureT-loop
+μ-loop card last k₀ k = last - k
+
+last-field-requires : tie.Need-last-field-requires Inv-loop μ-loop
+last-field-requires c κs = search needs
+
+loop-holds : tie.Need-loop-holds Inv-loop μ-loop
+loop-holds c = ((omega arith, c .last-field .ensures), refl)
+
+add-k : tie.Need-add-k Inv-loop μ-loop
+add-k c = search needs
+
+raw-field-requires : tie.Need-raw-field-requires Inv-loop μ-loop
+raw-field-requires c κs = search needs
+
+entry-error-requires : tie.Need-entry-error-requires Inv-loop μ-loop
+entry-error-requires c κs = search needs
+
+is-good-requires : tie.Need-is-good-requires Inv-loop μ-loop
+is-good-requires c κs = search needs
+
+returns : tie.Need-returns Inv-loop μ-loop
+returns c = sym (entry-wrong (c .before .before .before .before .before .before .before .before .args .card .now) (c .before .before .before .before .before .loop .k) (omega arith) (c .before .before .entry-error .result) (c .before .before .entry-error .ensures ∙ ap (λ (s : List ℕ). entryError (spaceless s)) (c .before .before .before .raw-field .ensures)) (sym (c .before .is-good .ensures) ∙ not-true _ (c .if1 .taken))) ∙ c .before .before .before .before .before .loop .inv .1
+
+loop-less : tie.Need-loop-less Inv-loop μ-loop
+loop-less c = search needs
+
+loop-again : tie.Need-loop-again Inv-loop μ-loop
+loop-again c = ((omega arith, c .before .before .before .before .before .loop .inv .0 .1), sym (entry-next (c .before .before .before .before .before .before .before .before .args .card .now) (c .before .before .before .before .before .loop .k) (omega arith) (c .before .before .entry-error .result) (c .before .before .entry-error .ensures ∙ ap (λ (s : List ℕ). entryError (spaceless s)) (c .before .before .before .raw-field .ensures)) (sym (c .before .is-good .ensures) ∙ not-false _ (c .if1 .left))) ∙ c .before .before .before .before .before .loop .inv .1)
+
+returns-2 : tie.Need-returns-2 Inv-loop μ-loop
+returns-2 c = sym (entries-done (c .before .before .before .before .args .card .now) (c .before .loop .k) (omega arith)) ∙ c .before .loop .inv .1
+
+pub entries-error-spec : {M : Type 1} → statement M
+entries-error-spec =
+    tie.close
+    (tie.spec
+    Inv-loop
+    μ-loop
+    last-field-requires
+    loop-holds
+    add-k
+    raw-field-requires
+    entry-error-requires
+    is-good-requires
+    returns
+    loop-less
+    loop-again
+    returns-2)

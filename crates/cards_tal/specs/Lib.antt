@@ -1,0 +1,2 @@
+pub mod Tal
+pub mod Increments

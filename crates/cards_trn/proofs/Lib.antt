@@ -1,0 +1,2 @@
+pub mod TrnLaws
+pub mod TrnRound

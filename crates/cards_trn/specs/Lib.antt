@@ -1,0 +1,2 @@
+pub mod Trn
+pub mod Transfers
