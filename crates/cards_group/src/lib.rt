@@ -1,28 +1,37 @@
 // A group of cards: what it asks for, or its first error.
-use cards::CardError;
-use cards::Facilities;
-use cards::Request;
-use cards::Verdict;
 use cards_fields::card;
 use cards_fields::deck;
 use cards_pty::Priority;
+use cards_request::CardError;
+use cards_request::Facilities;
+use cards_request::FullRequest;
+use cards_request::Request;
+use cards_request::Verdict;
 ghost use mathlib.Core.Path.{_≡_};
-ghost use mathlib.Core.Bool.{false};
+ghost use mathlib.Core.Bool.{false, _||_};
 ghost use Prim.Native.Nat.{_≤_};
 ghost use lib.ListN.{length};
 ghost use Rattle.words.specs.Words.{same, value};
 ghost use Rattle.cards_fields.specs.Fields.{field, fields, padded};
 ghost use Rattle.cards_fields.specs.Deck.{cardsOf};
-ghost use Rattle.cards.specs.Errors.{good};
-ghost use Rattle.cards.specs.Requests.{noRequest};
+ghost use Rattle.cards_request.specs.Errors.{good};
+ghost use Rattle.cards_request.specs.Requests.{noRequest};
 ghost use Rattle.cards_pty.specs.Pty.{priorityOf, fieldsError};
 ghost use Rattle.cards_fac.specs.Fac.{asksOf};
-ghost use Rattle.cards_group.specs.Group.{mark, thirdError, frontError, requestOf, answer, readCards, readGroup};
+ghost use Rattle.cards_further.specs.Together.{any};
+ghost use Rattle.cards_group.specs.Steps.{frontError, orderError};
+ghost use Rattle.cards_group.specs.Group.{otherId, mark, requestOf, answer, readCards, readGroup, readFull};
 
 // What reading a group answers: the request, or blanks beside an error.
 pub struct Reading {
     pub verdict: Verdict,
     pub request: Request,
+}
+
+// The same with the further cards.
+pub struct FullReading {
+    pub verdict: Verdict,
+    pub full: FullRequest,
 }
 
 // The byte of a field that has at most one, or a blank.
@@ -99,48 +108,53 @@ fn request(card: &[u8], facilities: Facilities) -> Request
     }
 }
 
-// Whether the FAC card has the ID of a good PTY card.
-fn same_id(fac: &[u8], pty: &[u8]) -> bool
+// The ID of a good PTY card and those behind it: whether one of them differs.
+fn is_other_id(pty: &[u8], fac: &[u8], rest: &[u8]) -> bool
     requires { ⌜ length (field (now pty) 0) ≤ 12 ⌝ }
-    ensures { λ r. ⌜ r ≡ same (field (now (fac .entry)) 0) (field (now (pty .entry)) 0) ⌝ }
+    ensures { λ r. ⌜ r ≡ (otherId (now (pty .entry)) (now (fac .entry)) || any (otherId (now (pty .entry))) (cardsOf (now (rest .entry)))) ⌝ }
 {
     let f = card::field_at(pty, 0);
     let n = f.len;
     let bytes = f.bytes;
-    card::field_is(fac, 0, &bytes[..n])
-}
-
-// The error of a third card.
-fn third_error(third: &[u8]) -> Verdict
-    ensures { λ r. ⌜ r ≡ thirdError 3 (now (third .entry)) ⌝ }
-{
-    if card::field_is(third, 1, b"FAC") {
-        return Verdict::Wrong(CardError::SecondFac);
+    if card::field_is(fac, 0, &bytes[..n]) {
+        return cards_further::is_other_id(rest, &bytes[..n]);
     }
-    Verdict::Wrong(CardError::OtherCard)
+    true
 }
 
-// The errors of a group of n cards up to the ID of its FAC card.
-fn front_error(n: usize, pty: &[u8], fac: &[u8], third: &[u8]) -> Verdict
-    ensures { λ r. ⌜ r ≡ frontError n (now (pty .entry)) (now (fac .entry)) (now (third .entry)) ⌝ }
+// The errors of a group of n cards up to its second card's type.
+fn front_error(n: usize, pty: &[u8], fac: &[u8]) -> Verdict
+    ensures { λ r. ⌜ r ≡ frontError n (now (pty .entry)) (now (fac .entry)) ⌝ }
 {
     let e = cards_pty::pty_error(pty);
-    if !cards::is_good(e) {
+    if !cards_request::is_good(e) {
         return e;
+    }
+    if 16 < n {
+        return Verdict::Wrong(CardError::WrongCount);
     }
     if number_at(pty, 2) as usize != n {
         return Verdict::Wrong(CardError::WrongCount);
     }
-    if !card::field_is(fac, 1, b"FAC") {
-        return Verdict::Wrong(CardError::NoFac);
-    }
-    if 2 < n {
-        return third_error(third);
-    }
-    if same_id(fac, pty) {
+    if card::field_is(fac, 1, b"FAC") {
         return Verdict::Good;
     }
-    Verdict::Wrong(CardError::OtherId)
+    Verdict::Wrong(CardError::NoFac)
+}
+
+// The errors behind them that go by number over the whole group.
+fn order_error(pty: &[u8], fac: &[u8], rest: &[u8]) -> Verdict
+    requires { ⌜ length (field (now pty) 0) ≤ 12 ⌝ }
+    ensures { λ r. ⌜ r ≡ orderError (now (pty .entry)) (now (fac .entry)) (cardsOf (now (rest .entry))) ⌝ }
+{
+    let e = cards_further::types_error(rest);
+    if !cards_request::is_good(e) {
+        return e;
+    }
+    if is_other_id(pty, fac, rest) {
+        return Verdict::Wrong(CardError::OtherId);
+    }
+    cards_further::together_error(rest)
 }
 
 // An error alone.
@@ -148,22 +162,30 @@ fn no_reading(verdict: Verdict) -> Reading
     requires { ⌜ good verdict ≡ false ⌝ }
     ensures { λ r. ⌜ r ≡ answer verdict noRequest ⌝ }
 {
-    let request = cards::no_request();
+    let request = cards_request::no_request();
     Reading { verdict, request }
 }
 
-// What a group of n cards asks for, or its first error; a second or third card that is absent is empty.
-fn read_cards(n: usize, pty: &[u8], fac: &[u8], third: &[u8]) -> Reading
-    ensures { λ r. ⌜ r ≡ readCards n (now (pty .entry)) (now (fac .entry)) (now (third .entry)) ⌝ }
+// What a group of n cards asks for, or its first error: PTY, FAC and the rest; a card that is absent is empty.
+fn read_cards(n: usize, pty: &[u8], fac: &[u8], rest: &[u8]) -> Reading
+    ensures { λ r. ⌜ r ≡ readCards n (now (pty .entry)) (now (fac .entry)) (cardsOf (now (rest .entry))) ⌝ }
 {
-    let e = front_error(n, pty, fac, third);
-    if !cards::is_good(e) {
-        return no_reading(e);
+    let front = front_error(n, pty, fac);
+    if !cards_request::is_good(front) {
+        return no_reading(front);
+    }
+    let order = order_error(pty, fac, rest);
+    if !cards_request::is_good(order) {
+        return no_reading(order);
     }
     let f = cards_fac::read_fac(fac);
     let verdict = f.verdict;
-    if !cards::is_good(verdict) {
+    if !cards_request::is_good(verdict) {
         return no_reading(verdict);
+    }
+    let contents = cards_further::contents_error(rest);
+    if !cards_request::is_good(contents) {
+        return no_reading(contents);
     }
     let facilities = f.facilities;
     let request = request(pty, facilities);
@@ -173,13 +195,35 @@ fn read_cards(n: usize, pty: &[u8], fac: &[u8], third: &[u8]) -> Reading
     }
 }
 
-// What a group of cards, as a part of its deck, asks for, or its first error.
+// What a group of cards, as a part of its deck, asks for, or its first error. The further cards are looked at and not
+// held.
 pub fn read_group(group: &[u8]) -> Reading
     ensures { λ r. ⌜ r ≡ readGroup (cardsOf (now (group .entry))) ⌝ }
 {
     let n = deck::card_count(group);
     let pty = deck::card_at(group, 0);
     let fac = deck::card_at(group, 1);
-    let third = deck::card_at(group, 2);
-    read_cards(n, pty, fac, third)
+    let rest = deck::behind(group, 2);
+    read_cards(n, pty, fac, rest)
+}
+
+// The same with its further cards.
+pub fn read_full(group: &[u8]) -> FullReading
+    ensures { λ r. ⌜ r ≡ readFull (cardsOf (now (group .entry))) ⌝ }
+{
+    let reading = read_group(group);
+    let verdict = reading.verdict;
+    let request = reading.request;
+    if cards_request::is_good(verdict) {
+        let further = cards_further::held(deck::behind(group, 2));
+        return FullReading {
+            verdict,
+            full: FullRequest { request, further },
+        };
+    }
+    let further = cards_request::no_further();
+    FullReading {
+        verdict,
+        full: FullRequest { request, further },
+    }
 }

@@ -1,9 +1,15 @@
--- `cards_group::read_cards` meets its contract: the errors up to the FAC card's ID, then the FAC card's, then the
--- request. Assumes nothing.
+-- `cards_group::read_cards` meets its contract: the errors up to the second card's type, those that go by number, the FAC
+-- card's, the further cards', then the request. Assumes nothing.
+use Prim.Native.Nat.{_≤_}
 use mathlib.Core.Path.{sym, _∙_}
+use native.Mathlib.Omega.{arith}
+use lib.ListN.{length}
 use borrow.Author.Tests.{not-true, not-false}
-use Rattle.cards_pty.proofs.PtyLaws.{fields-good}
-use Rattle.cards_group.proofs.GroupLaws.{front-pty-good, read-front, read-wrong, read-good}
+use Rattle.cards_fields.specs.Fields.{field, fields}
+use Rattle.cards_fields.specs.Deck.{cardsOf}
+use Rattle.cards_pty.specs.Pty.{rules}
+use Rattle.cards_pty.proofs.PtyLaws.{not-longer, fields-good}
+use Rattle.cards_group.proofs.GroupLaws.{front-pty-good, read-front, read-order, read-wrong, read-contents, read-good}
 use borrow.Author.Needs.{needs}
 use Rattle.cards_group.proofs.read_cards.Statement.{statement}
 use Rattle.cards_group.proofs.read_cards.Tie as tie
@@ -18,10 +24,11 @@ no-reading-requires : tie.Need-no-reading-requires
 no-reading-requires c κs = sym (c .before .is-good .ensures) ∙ not-true _ (c .if1 .taken)
 
 returns : tie.Need-returns
-returns c = c .no-reading .ensures ∙ sym (read-front (c .before .before .before .before .before .before .before .args .n) (c .before .before .before .before .before .before .before .args .pty .now) (c .before .before .before .before .before .before .before .args .fac .now) (c .before .before .before .before .before .before .before .args .third .now) (c .before .before .before .front-error .result) (c .before .before .before .front-error .ensures) (sym (c .before .before .is-good .ensures) ∙ not-true _ (c .before .if1 .taken)))
+returns c = c .no-reading .ensures ∙ sym (read-front (c .before .before .before .before .before .before .before .args .n) (c .before .before .before .before .before .before .before .args .pty .now) (c .before .before .before .before .before .before .before .args .fac .now) (cardsOf (c .before .before .before .before .before .before .before .args .rest .now)) (c .before .before .before .front-error .result) (c .before .before .before .front-error .ensures) (sym (c .before .before .is-good .ensures) ∙ not-true _ (c .before .if1 .taken)))
 
-read-fac-requires : tie.Need-read-fac-requires
-read-fac-requires c κs = search needs
+order-error-requires : tie.Need-order-error-requires
+unfolding rules
+order-error-requires c κs = let h : length (field (c .before .before .before .before .before .before .args .pty .now) 0) ≤ 6 = not-longer (fields (c .before .before .before .before .before .before .args .pty .now)) (fields-good (c .before .before .before .before .before .before .args .pty .now) (front-pty-good (c .before .before .before .before .before .before .args .n) (c .before .before .before .before .before .before .args .pty .now) (c .before .before .before .before .before .before .args .fac .now) (cardsOf (c .before .before .before .before .before .before .args .rest .now)) (c .before .before .front-error .result) (c .before .before .front-error .ensures) (sym (c .before .is-good .ensures) ∙ not-false _ (c .if1 .left)))) 0 (omega arith) in omega arith
 
 is-good-requires-2 : tie.Need-is-good-requires-2
 is-good-requires-2 c κs = search needs
@@ -30,13 +37,37 @@ no-reading-requires-2 : tie.Need-no-reading-requires-2
 no-reading-requires-2 c κs = sym (c .before .is-good2 .ensures) ∙ not-true _ (c .if2 .taken)
 
 returns-2 : tie.Need-returns-2
-returns-2 c = c .no-reading2 .ensures ∙ sym (read-wrong (c .before .before .before .before .before .before .before .before .before .before .args .n) (c .before .before .before .before .before .before .before .before .before .before .args .pty .now) (c .before .before .before .before .before .before .before .before .before .before .args .fac .now) (c .before .before .before .before .before .before .before .before .before .before .args .third .now) (c .before .before .before .before .before .before .front-error .result) (c .before .before .before .before .before .before .front-error .ensures) (sym (c .before .before .before .before .before .is-good .ensures) ∙ not-false _ (c .before .before .before .before .if1 .left)) (c .before .before .before .read-fac .result) (c .before .before .before .read-fac .ensures) (sym (c .before .before .is-good2 .ensures) ∙ not-true _ (c .before .if2 .taken)))
+returns-2 c = c .no-reading2 .ensures ∙ sym (read-order (c .before .before .before .before .before .before .before .before .before .before .args .n) (c .before .before .before .before .before .before .before .before .before .before .args .pty .now) (c .before .before .before .before .before .before .before .before .before .before .args .fac .now) (cardsOf (c .before .before .before .before .before .before .before .before .before .before .args .rest .now)) (c .before .before .before .before .before .before .front-error .result) (c .before .before .before .before .before .before .front-error .ensures) (sym (c .before .before .before .before .before .is-good .ensures) ∙ not-false _ (c .before .before .before .before .if1 .left)) (c .before .before .before .order-error .result) (c .before .before .before .order-error .ensures) (sym (c .before .before .is-good2 .ensures) ∙ not-true _ (c .before .if2 .taken)))
 
-request-requires : tie.Need-request-requires
-request-requires c κs = fields-good (c .before .before .before .before .before .before .before .before .before .before .args .pty .now) (front-pty-good (c .before .before .before .before .before .before .before .before .before .before .args .n) (c .before .before .before .before .before .before .before .before .before .before .args .pty .now) (c .before .before .before .before .before .before .before .before .before .before .args .fac .now) (c .before .before .before .before .before .before .before .before .before .before .args .third .now) (c .before .before .before .before .before .before .front-error .result) (c .before .before .before .before .before .before .front-error .ensures) (sym (c .before .before .before .before .before .is-good .ensures) ∙ not-false _ (c .before .before .before .before .if1 .left)))
+read-fac-requires : tie.Need-read-fac-requires
+read-fac-requires c κs = search needs
+
+is-good-requires-3 : tie.Need-is-good-requires-3
+is-good-requires-3 c κs = search needs
+
+no-reading-requires-3 : tie.Need-no-reading-requires-3
+no-reading-requires-3 c κs = sym (c .before .is-good3 .ensures) ∙ not-true _ (c .if3 .taken)
 
 returns-3 : tie.Need-returns-3
-returns-3 c = read-good (c .before .before .before .before .before .before .before .before .before .before .before .args .n) (c .before .before .before .before .before .before .before .before .before .before .before .args .pty .now) (c .before .before .before .before .before .before .before .before .before .before .before .args .fac .now) (c .before .before .before .before .before .before .before .before .before .before .before .args .third .now) (c .before .before .before .before .before .before .before .front-error .result) (c .before .before .before .before .before .before .before .front-error .ensures) (sym (c .before .before .before .before .before .before .is-good .ensures) ∙ not-false _ (c .before .before .before .before .before .if1 .left)) (c .before .before .before .before .read-fac .result) (c .before .before .before .before .read-fac .ensures) (sym (c .before .before .before .is-good2 .ensures) ∙ not-false _ (c .before .before .if2 .left)) (c .request .result) (c .request .ensures)
+returns-3 c = c .no-reading3 .ensures ∙ sym (read-wrong (c .before .before .before .before .before .before .before .before .before .before .before .before .before .args .n) (c .before .before .before .before .before .before .before .before .before .before .before .before .before .args .pty .now) (c .before .before .before .before .before .before .before .before .before .before .before .before .before .args .fac .now) (cardsOf (c .before .before .before .before .before .before .before .before .before .before .before .before .before .args .rest .now)) (c .before .before .before .before .before .before .before .before .before .front-error .result) (c .before .before .before .before .before .before .before .before .before .front-error .ensures) (sym (c .before .before .before .before .before .before .before .before .is-good .ensures) ∙ not-false _ (c .before .before .before .before .before .before .before .if1 .left)) (c .before .before .before .before .before .before .order-error .result) (c .before .before .before .before .before .before .order-error .ensures) (sym (c .before .before .before .before .before .is-good2 .ensures) ∙ not-false _ (c .before .before .before .before .if2 .left)) (c .before .before .before .read-fac .result) (c .before .before .before .read-fac .ensures) (sym (c .before .before .is-good3 .ensures) ∙ not-true _ (c .before .if3 .taken)))
+
+contents-error-requires : tie.Need-contents-error-requires
+contents-error-requires c κs = search needs
+
+is-good-requires-4 : tie.Need-is-good-requires-4
+is-good-requires-4 c κs = search needs
+
+no-reading-requires-4 : tie.Need-no-reading-requires-4
+no-reading-requires-4 c κs = sym (c .before .is-good4 .ensures) ∙ not-true _ (c .if4 .taken)
+
+returns-4 : tie.Need-returns-4
+returns-4 c = c .no-reading4 .ensures ∙ sym (read-contents (c .before .before .before .before .before .before .before .before .before .before .before .before .before .before .before .before .args .n) (c .before .before .before .before .before .before .before .before .before .before .before .before .before .before .before .before .args .pty .now) (c .before .before .before .before .before .before .before .before .before .before .before .before .before .before .before .before .args .fac .now) (cardsOf (c .before .before .before .before .before .before .before .before .before .before .before .before .before .before .before .before .args .rest .now)) (c .before .before .before .before .before .before .before .before .before .before .before .before .front-error .result) (c .before .before .before .before .before .before .before .before .before .before .before .before .front-error .ensures) (sym (c .before .before .before .before .before .before .before .before .before .before .before .is-good .ensures) ∙ not-false _ (c .before .before .before .before .before .before .before .before .before .before .if1 .left)) (c .before .before .before .before .before .before .before .before .before .order-error .result) (c .before .before .before .before .before .before .before .before .before .order-error .ensures) (sym (c .before .before .before .before .before .before .before .before .is-good2 .ensures) ∙ not-false _ (c .before .before .before .before .before .before .before .if2 .left)) (c .before .before .before .before .before .before .read-fac .result) (c .before .before .before .before .before .before .read-fac .ensures) (sym (c .before .before .before .before .before .is-good3 .ensures) ∙ not-false _ (c .before .before .before .before .if3 .left)) (c .before .before .before .contents-error .result) (c .before .before .before .contents-error .ensures) (sym (c .before .before .is-good4 .ensures) ∙ not-true _ (c .before .if4 .taken)))
+
+request-requires : tie.Need-request-requires
+request-requires c κs = fields-good (c .before .before .before .before .before .before .before .before .before .before .before .before .before .before .before .before .args .pty .now) (front-pty-good (c .before .before .before .before .before .before .before .before .before .before .before .before .before .before .before .before .args .n) (c .before .before .before .before .before .before .before .before .before .before .before .before .before .before .before .before .args .pty .now) (c .before .before .before .before .before .before .before .before .before .before .before .before .before .before .before .before .args .fac .now) (cardsOf (c .before .before .before .before .before .before .before .before .before .before .before .before .before .before .before .before .args .rest .now)) (c .before .before .before .before .before .before .before .before .before .before .before .before .front-error .result) (c .before .before .before .before .before .before .before .before .before .before .before .before .front-error .ensures) (sym (c .before .before .before .before .before .before .before .before .before .before .before .is-good .ensures) ∙ not-false _ (c .before .before .before .before .before .before .before .before .before .before .if1 .left)))
+
+returns-5 : tie.Need-returns-5
+returns-5 c = read-good (c .before .before .before .before .before .before .before .before .before .before .before .before .before .before .before .before .before .args .n) (c .before .before .before .before .before .before .before .before .before .before .before .before .before .before .before .before .before .args .pty .now) (c .before .before .before .before .before .before .before .before .before .before .before .before .before .before .before .before .before .args .fac .now) (cardsOf (c .before .before .before .before .before .before .before .before .before .before .before .before .before .before .before .before .before .args .rest .now)) (c .before .before .before .before .before .before .before .before .before .before .before .before .before .front-error .result) (c .before .before .before .before .before .before .before .before .before .before .before .before .before .front-error .ensures) (sym (c .before .before .before .before .before .before .before .before .before .before .before .before .is-good .ensures) ∙ not-false _ (c .before .before .before .before .before .before .before .before .before .before .before .if1 .left)) (c .before .before .before .before .before .before .before .before .before .before .order-error .result) (c .before .before .before .before .before .before .before .before .before .before .order-error .ensures) (sym (c .before .before .before .before .before .before .before .before .before .is-good2 .ensures) ∙ not-false _ (c .before .before .before .before .before .before .before .before .if2 .left)) (c .before .before .before .before .before .before .before .read-fac .result) (c .before .before .before .before .before .before .before .read-fac .ensures) (sym (c .before .before .before .before .before .before .is-good3 .ensures) ∙ not-false _ (c .before .before .before .before .before .if3 .left)) (c .before .before .before .before .contents-error .result) (c .before .before .before .before .contents-error .ensures) (sym (c .before .before .before .is-good4 .ensures) ∙ not-false _ (c .before .before .if4 .left)) (c .request .result) (c .request .ensures)
 
 pub read-cards-spec : {M : Type 1} → statement M
 read-cards-spec =
@@ -46,9 +77,17 @@ read-cards-spec =
     is-good-requires
     no-reading-requires
     returns
-    read-fac-requires
+    order-error-requires
     is-good-requires-2
     no-reading-requires-2
     returns-2
+    read-fac-requires
+    is-good-requires-3
+    no-reading-requires-3
+    returns-3
+    contents-error-requires
+    is-good-requires-4
+    no-reading-requires-4
+    returns-4
     request-requires
-    returns-3)
+    returns-5)

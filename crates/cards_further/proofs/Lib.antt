@@ -1,0 +1,3 @@
+pub mod FurtherLaws
+pub mod Elements
+pub mod Fourteen

@@ -1,0 +1,41 @@
+-- `cards_group::order_error` meets its contract, one law for each way out. Assumes nothing.
+use mathlib.Core.Path.{sym, _∙_}
+use borrow.Author.Tests.{not-true, not-false}
+use Rattle.cards_fields.specs.Deck.{cardsOf}
+use Rattle.cards_group.proofs.GroupLaws.{order-types, order-ids, order-together}
+use borrow.Author.Needs.{needs}
+use Rattle.cards_group.proofs.order_error.Statement.{statement}
+use Rattle.cards_group.proofs.order_error.Tie as tie
+
+types-error-requires : tie.Need-types-error-requires
+types-error-requires c κs = search needs
+
+is-good-requires : tie.Need-is-good-requires
+is-good-requires c κs = search needs
+
+returns : tie.Need-returns
+returns c = order-types (c .before .before .before .before .before .before .args .pty .now) (c .before .before .before .before .before .before .args .fac .now) (cardsOf (c .before .before .before .before .before .before .args .rest .now)) (c .before .before .types-error .result) (c .before .before .types-error .ensures) (sym (c .before .is-good .ensures) ∙ not-true _ (c .if1 .taken))
+
+is-other-id-requires : tie.Need-is-other-id-requires
+is-other-id-requires c κs = c .before .before .before .before .before .before .pre
+
+returns-2 : tie.Need-returns-2
+returns-2 c = sym (order-ids (c .before .before .before .before .before .before .before .before .args .pty .now) (c .before .before .before .before .before .before .before .before .args .fac .now) (cardsOf (c .before .before .before .before .before .before .before .before .args .rest .now)) (c .before .before .before .before .types-error .result) (c .before .before .before .before .types-error .ensures) (sym (c .before .before .before .is-good .ensures) ∙ not-false _ (c .before .before .if1 .left)) (sym (c .before .is-other-id .ensures) ∙ c .if2 .taken))
+
+together-error-requires : tie.Need-together-error-requires
+together-error-requires c κs = search needs
+
+returns-3 : tie.Need-returns-3
+returns-3 c = c .together-error .ensures ∙ sym (order-together (c .before .before .before .before .before .before .before .before .before .args .pty .now) (c .before .before .before .before .before .before .before .before .before .args .fac .now) (cardsOf (c .before .before .before .before .before .before .before .before .before .args .rest .now)) (c .before .before .before .before .before .types-error .result) (c .before .before .before .before .before .types-error .ensures) (sym (c .before .before .before .before .is-good .ensures) ∙ not-false _ (c .before .before .before .if1 .left)) (sym (c .before .before .is-other-id .ensures) ∙ c .before .if2 .left))
+
+pub order-error-spec : {M : Type 1} → statement M
+order-error-spec =
+    tie.close
+    (tie.spec
+    types-error-requires
+    is-good-requires
+    returns
+    is-other-id-requires
+    returns-2
+    together-error-requires
+    returns-3)
