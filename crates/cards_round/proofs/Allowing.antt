@@ -2,39 +2,35 @@
 -- ways. Assumes nothing.
 use Prim.Native.Nat.{ℕ, zero, suc, _+_, _≤_, _<_}
 use mathlib.Core.Path.{_≡_, refl, sym, ap, subst, _∙_}
-use mathlib.Core.Bool.{Bool, true, false, cond, _&&_, _||_, not}
-use mathlib.Core.List.{List, [], _∷_, _++_}
+use mathlib.Core.Bool.{Bool, true, false, _&&_, not}
+use mathlib.Core.List.{List, [], _∷_}
 use native.Mathlib.Omega.{arith}
-use lib.Dec.{eqb, ltb, leb}
+use lib.Dec.{eqb, ltb}
 use lib.ListN.{length, getD}
 use borrow.Author.Tests.{eq-eqb, eqb-true, eqb-false, ne-eqb, lt-ltb, le-ltb, ltb-true, ltb-false}
-use Rattle.numbers.specs.Quoted.{byte, bytes}
+use Rattle.numbers.specs.Quoted.{bytes}
 use Rattle.numbers.proofs.Tests.{by-bool, never, both}
 use Rattle.text.specs.Class.{isAlnum, isDigit, isLetter}
-use Rattle.text.specs.Writing.{decimalText, twoText}
-use Rattle.text.proofs.Undo.{few-digits}
-use Rattle.words.specs.Words.{every, has, passes, value}
+use Rattle.text.specs.Writing.{decimalText}
+use Rattle.words.specs.Words.{every, has, passes}
 use Rattle.words.specs.declared.Class.the-variants.{Hyphened}
 use Rattle.words.proofs.WordLaws.{every-weaker, value-below}
 use Rattle.cards_fields.specs.Fields.{padded, spaceless}
-use Rattle.cards.specs.Errors.{errorIf, good, orElse}
-use Rattle.cards.proofs.ErrorLaws.{or-else-none}
-use Rattle.cards.specs.declared.CardError.the-variants.{NoIb, TooMuchCore}
-use Rattle.cards.specs.declared.Request.{Request}
-use Rattle.cards.specs.declared.Verdict.{Verdict}
-use Rattle.cards.specs.declared.Verdict.the-variants.{Good}
-use Rattle.cards_pty.specs.Pty.{fieldError, fieldsError, lastOfAll, oneOf, priorityOf, programName, ruleAt, rules}
+use Rattle.cards_request.specs.Errors.{errorIf, good}
+use Rattle.cards_request.proofs.ErrorLaws.{not-error, or-else-none}
+use Rattle.cards_request.specs.declared.CardError.the-variants.{NoIb, TooMuchCore}
+use Rattle.cards_request.specs.declared.Request.{Request}
+use Rattle.cards_request.specs.declared.Verdict.the-variants.{Good}
+use Rattle.cards_pty.specs.Pty.{fieldError, fieldsError, lastOfAll, oneOf, programName, ruleAt, rules}
 use Rattle.cards_pty.specs.declared.Priority.{Priority}
 use Rattle.cards_pty.proofs.PtyLaws.{good-field, right, right-at}
-use Rattle.cards_pty.proofs.PriorityLaws.{rank-good}
 use Rattle.cards_fac.specs.Fac.{asksOf, coreError, slots}
 use Rattle.cards_writing.specs.Writing.{formed, limit, markText, numbersFit, priorityText, ptyFields, takes}
-use Rattle.cards_writing.proofs.PutLaws.{number-some}
 use Rattle.cards_writing.proofs.Again.{fit-length}
-use Rattle.cards_writing.proofs.Back.{alnum-plain, hyphened-plain, name-back, number-back, number-digits, plain, priority-back, priority-ranked, two-back, two-digits}
-use Rattle.cards_writing.proofs.Kept.{formed-padded, good-priority, unpadded}
-use Rattle.cards_writing.proofs.Round.{Taken, taken}
-use Rattle.cards_round.proofs.Fits.{not-error}
+use Rattle.cards_fields.proofs.CardLaws.{alnum-plain, hyphened-plain, number-back, plain}
+use Rattle.cards_writing.proofs.Back.{name-back, priority-back}
+use Rattle.cards_full.proofs.Kept.{count-text, formed-padded, good-priority, minutes-text, more, priority-text, unpadded}
+use Rattle.cards_full.proofs.Round.{Taken, taken}
 use Rattle.cards_round.specs.Allowed.{Allowed, Name}
 
 -- ---- names
@@ -89,25 +85,9 @@ units-fit k (n ∷ ns) h f zero =
     omega (arith, ltb-true n 100 a)
 units-fit k (n ∷ ns) h f (suc i) = units-fit (suc k) ns (omega arith) (both (ltb n (limit k)) (numbersFit (suc k) ns) f .1) i
 
--- ---- the priority
-
-priority-right : (q l p : ℕ) → q < 64 → p < 64 → isLetter l ≡ true → lastOfAll l p ≡ false
-    → fieldError 9 (ruleAt 9) (cond (eqb q 0) [] (twoText q) ++ (l ∷ twoText p)) ≡ Good
-unfolding rules
-priority-right q l p hq hp hl z =
-    right 9 (ruleAt 9) (cond (eqb q 0) [] (twoText q) ++ (l ∷ twoText p)) (sizes .0) (sizes .1)
-    (ap (λ (x : Priority). x .good) (priority-ranked q l p hq hp hl ∙ rank-good q l (twoText p) hl (omega arith) (two-digits p (omega arith)) p (sym (two-back p)) (omega arith) z))
-  where
-    sizes : (1 ≤ length (cond (eqb q 0) [] (twoText q) ++ (l ∷ twoText p))) × (length (cond (eqb q 0) [] (twoText q) ++ (l ∷ twoText p)) ≤ 5)
-    sizes = by-bool (eqb q 0) (λ e. rw e (omega arith, omega arith)) (λ e. rw e (omega arith, omega arith))
-
--- a field more
-more : {v w : Verdict} → v ≡ Good → w ≡ Good → orElse v w ≡ Good
-more e g = rw e g
-
 -- ---- what is allowed is taken
 
-module _ (r : Request) (a : Allowed r) where
+module _ (n : ℕ) (few : n ≤ 99) (r : Request) (a : Allowed r) where
   -- a field that is this text
   is-right : (k : ℕ) (t s : List ℕ) → s ≡ t → ruleAt k .least ≤ length t → length t ≤ ruleAt k .most → ruleAt k .content t ≡ true → fieldError k (ruleAt k) s ≡ Good
   is-right k t s e l m c = ap (fieldError k (ruleAt k)) e ∙ right k (ruleAt k) t l m c
@@ -129,7 +109,7 @@ module _ (r : Request) (a : Allowed r) where
   unfolding programName
   program-right = rw (ne-eqb (getD (a .program .text) 0 0) 45 (λ e. a .first (sym text-first ∙ e))) (a .program .each)
 
-  fields-right : fieldsError (ptyFields r) ≡ Good
+  fields-right : fieldsError (ptyFields n r) ≡ Good
   unfolding ptyFields rules priorityText isAlnum isLetter isDigit
   fields-right =
       let rush = mark-listed (bytes "S") (r .rush) (a .rush) in
@@ -140,28 +120,28 @@ module _ (r : Request) (a : Allowed r) where
       let store = mark-listed (bytes "TACZ") (r .store) (a .store) in
       more (is-right 0 (a .id .text) (spaceless (r .id)) (name-text isAlnum alnum-plain 1 6 (r .id) (a .id)) (a .id .long .0) (a .id .long .1) (a .id .each))
       (more refl
-      (more refl
+      (more (count-text n few)
       (more (right 3 (ruleAt 3) (markText (r .rush)) (omega arith) (rush .0) (rush .1))
       (more (is-right 4 (a .program .text) (spaceless (r .program)) (name-text (passes Hyphened) hyphened-plain 1 12 (r .program) (a .program)) (a .program .long .0) (a .program .long .1) program-right)
       (more (right 5 (ruleAt 5) (markText (r .immediate)) (omega arith) (immediate .0) (immediate .1))
       (more (right 6 (ruleAt 6) (markText (r .device)) (omega arith) (device .0) (device .1))
       (more (is-right 7 (a .medium .text) (spaceless (r .medium)) (name-text isAlnum alnum-plain 1 6 (r .medium) (a .medium)) (a .medium .long .0) (a .medium .long .1) (a .medium .each))
       (more (right 8 (ruleAt 8) (markText (r .mode)) (omega (arith, mode .0)) (omega (arith, mode .0)) (mode .1))
-      (more (priority-right (r .sequence) (r .letter) (r .precedence) (omega (arith, a .sequence)) (omega (arith, a .precedence)) (a .letter) not-last)
+      (more (priority-text (r .sequence) (r .letter) (r .precedence) (omega (arith, a .sequence)) (omega (arith, a .precedence)) (a .letter) not-last)
       (more (right 10 (ruleAt 10) (markText (r .mix)) (omega (arith, mix .0)) (omega (arith, mix .0)) (mix .1))
-      (more (right 11 (ruleAt 11) (decimalText (r .minutes)) (omega (arith, number-some (r .minutes))) (few-digits 3 (r .minutes) (omega (arith, a .minutes))) (number-digits (r .minutes)))
+      (more (minutes-text (r .minutes) (omega (arith, a .minutes)))
       (more (right 12 (ruleAt 12) (markText (r .store)) (omega arith) (store .0) (store .1))
       (more (is-right 13 (a .library .text) (spaceless (r .library)) (name-text isAlnum alnum-plain 0 6 (r .library) (a .library)) (a .library .long .0) (a .library .long .1) (a .library .each))
       refl)))))))))))))
 
   -- NO RULE REFUSES IT
-  pub allowed-taken : takes r ≡ true
+  pub allowed-taken : takes n r ≡ true
   unfolding takes
   allowed-taken =
       let f = r .facilities in
       let core : coreError (asksOf f) ≡ Good =
       rw (le-ltb 28 (f .ib + f .db) (a .core), ne-eqb (f .ib) 0 (λ e. omega (arith, a .ib))) in
-      let n : numbersFit 0 (asksOf f) ≡ true =
+      let m : numbersFit 0 (asksOf f) ≡ true =
       rw (
         lt-ltb (f .ib) 100 (omega (arith, a .core)),
         lt-ltb (f .db) 100 (omega (arith, a .core)),
@@ -179,13 +159,13 @@ module _ (r : Request) (a : Allowed r) where
         lt-ltb (r .minutes) 10000 (omega (arith, a .minutes)),
         fields-right,
       )
-      (ap (λ (x : Bool). x && good (coreError (asksOf f))) n ∙ ap good core)
+      (ap (λ (x : Bool). x && good (coreError (asksOf f))) m ∙ ap good core)
 
 -- ---- what is taken is allowed
 
-module _ (r : Request) (t : Taken r) where
-  rule-of : (k : ℕ) → k < 14 → (ruleAt k .least ≤ length (getD (ptyFields r) k [])) × ((length (getD (ptyFields r) k []) ≤ ruleAt k .most) × (ruleAt k .content (getD (ptyFields r) k []) ≡ true))
-  rule-of k h = good-field k (ruleAt k) (getD (ptyFields r) k []) (right-at (ptyFields r) (t .fields) k h)
+module _ (n : ℕ) (r : Request) (t : Taken n r) where
+  rule-of : (k : ℕ) → k < 14 → (ruleAt k .least ≤ length (getD (ptyFields n r) k [])) × ((length (getD (ptyFields n r) k []) ≤ ruleAt k .most) × (ruleAt k .content (getD (ptyFields n r) k []) ≡ true))
+  rule-of k h = good-field k (ruleAt k) (getD (ptyFields n r) k []) (right-at (ptyFields n r) (t .fields) k h)
 
   a-name : (class : ℕ → Bool) (least most : ℕ) (s : List ℕ) → formed most s ≡ true → least ≤ length (spaceless s) → length (spaceless s) ≤ most → every class (spaceless s) ≡ true → Name class least most s
   a-name class least most s f l m e = record { text = spaceless s; long = (l, m); each = e; is = sym (name-back most s f) }
@@ -263,5 +243,5 @@ module _ (r : Request) (t : Taken r) where
       }
 
 -- NOTHING ELSE IS TAKEN
-pub taken-allowed : (r : Request) → takes r ≡ true → Allowed r
-taken-allowed r e = is-allowed r (taken r e)
+pub taken-allowed : (n : ℕ) (r : Request) → takes n r ≡ true → Allowed r
+taken-allowed n r e = is-allowed n r (taken n r e)

@@ -1,193 +1,234 @@
--- EVERY REQUEST READ FROM CARDS IS WRITTEN where the room has 162 bytes, and is read back as itself: neither 13 nor
--- 12 arises. The PTY card's fields have at most 50 characters, and the FAC card is no longer than the one that was
--- read. Assumes nothing.
-use Prim.Native.Nat.{ℕ, zero, suc, _+_, _≤_}
+-- EVERY REQUEST READ FROM CARDS IS WRITTEN where the room has 1,296 bytes, and is read back as itself: neither 13 nor 12
+-- arises. The PTY card has at most 64 characters, and each other card no more than the one that was read. Assumes
+-- nothing.
+use Prim.Native.Nat.{ℕ, suc, _≤_}
 use mathlib.Core.Path.{_≡_, refl, sym, ap, subst, _∙_}
-use mathlib.Core.Bool.{Bool, true, false, _&&_, not}
+use mathlib.Core.Bool.{true, false, _||_, not}
 use mathlib.Core.List.{List, [], _∷_, _++_}
 use native.Mathlib.Omega.{arith}
-use lib.Dec.{eqb, ltb, leb}
-use lib.ListN.{length, getD, drop, take, length-append, length-set}
-use borrow.Author.Tests.{le-leb}
+use lib.Dec.{eqb, ltb}
+use lib.ListN.{length, getD, drop, take, length-append}
+use borrow.Author.Tests.{le-leb, ltb-true, ltb-false, not-false}
 use Rattle.numbers.specs.Quoted.{bytes}
 use Rattle.numbers.proofs.Tests.{by-bool, never, both}
 use Rattle.words.specs.Words.{same, value}
+use Rattle.words.proofs.WordLaws.{same-equal}
 use Rattle.cards_fields.specs.Deck.{cardsOf}
-use Rattle.words.specs.Lines.{lf}
-use Rattle.cards_fields.specs.Fields.{field, fields, spaceless, padded, malformed}
-use Rattle.cards.specs.Errors.{good, errorIf, orElse}
-use Rattle.cards.proofs.ErrorLaws.{good-is, not-good, or-else-none}
-use Rattle.cards_pty.specs.Pty.{rules, ruleAt, fieldsError, ptyError}
-use Rattle.cards_pty.proofs.PtyLaws.{not-longer}
-use Rattle.cards_fac.specs.Fac.{nothing, slotOf, numberText, entered, allEntered, entriesError, coreError, asksOf, facilitiesOf, isFac, entriesOf, asked, facError}
-use Rattle.cards_group.specs.Group.{thirdError, frontError, orderedError, requestOf, answer, readCards, readGroup}
-use Rattle.cards.specs.declared.CardError.{CardError}
-use Rattle.cards.specs.declared.CardError.the-variants.{FacMalformed, NoFac, OtherId, WrongCount}
-use Rattle.cards_group.specs.declared.Reading.{Reading}
-use Rattle.cards.specs.declared.Request.{Request}
-use Rattle.cards.specs.declared.Verdict.{Verdict}
-use Rattle.cards.specs.declared.Verdict.the-variants.{Good}
-use Rattle.cards_writing.specs.Writing.{cardText, facText, fits, front, numbersFit, ptyFields, ptyText, rangesGood, namesFormed, tailText, takes, textOf, trimmed, writeAnswer, written, entryTexts}
-use Rattle.cards_writing.specs.declared.Wrote.the-variants.{Cards}
-use Rattle.cards_writing.proofs.Kept.{read-taken}
-use Rattle.cards_writing.proofs.Round.{room-read}
-use Rattle.cards_round.proofs.Short.{total, same-length, fields-short, entries-short}
+use Rattle.cards_fields.specs.Fields.{field, fields, spaceless, padded, malformed, cardText}
+use Rattle.cards_fields.proofs.FieldLaws.{too-long}
+use Rattle.cards_request.specs.Errors.{errorIf, orElse}
+use Rattle.cards_request.proofs.ErrorLaws.{not-good, or-else-none, not-error}
+use Rattle.cards_request.specs.declared.CardError.the-variants.{FacMalformed, NoFac, OtherId, WrongCount}
+use Rattle.cards_request.specs.declared.Request.{Request}
+use Rattle.cards_request.specs.declared.Further.{Further}
+use Rattle.cards_request.specs.declared.FullRequest.{FullRequest}
+use Rattle.cards_request.specs.declared.Verdict.{Verdict}
+use Rattle.cards_request.specs.declared.Verdict.the-variants.{Good}
+use Rattle.cards_pty.specs.Pty.{rules, ruleAt, ptyError}
+use Rattle.cards_pty.proofs.PtyLaws.{right-at, good-field, fields-good}
+use Rattle.cards_fac.specs.Fac.{nothing, entriesError, coreError, isFac, entriesOf, asked, facError}
+use Rattle.cards_further.specs.Together.{any}
+use Rattle.cards_further.specs.Further.{typesError, togetherError, contentsError, canonical, canonicals, held}
+use Rattle.cards_group.specs.Group.{wrongCount, otherId, orderedError, requestOf, answer, fullAnswer, readCards, readFull}
+use Rattle.cards_group.specs.declared.FullReading.{FullReading}
+use Rattle.cards_group.proofs.GroupLaws.{frontError, orderError, in-steps}
+use Rattle.cards_writing.specs.Writing.{facText, ptyText, takes, entryTexts}
+use Rattle.cards_full.specs.Full.{cardCount, behindId, cardsIn, textOf, short, takesFurther, takesFull, fits, writeAnswer, written}
+use Rattle.cards_full.specs.declared.Wrote.the-variants.{Cards}
+use Rattle.cards_full.proofs.Kept.{fit-all, asks-held, read-taken}
+use Rattle.cards_full.proofs.WriteLaws.{behind-many, lines-few}
+use Rattle.cards_round.specs.AllowedFurther.{AllowedFurther}
+use Rattle.cards_round.specs.NoLonger.{NoLonger}
+use Rattle.cards_round.proofs.FurtherRound.{AllFew, AllRoom, FurtherMeant, further-meant}
+use Rattle.cards_round.proofs.HeldLaws.{texts-back}
+use Rattle.cards_round.proofs.Taking.{further-taken}
+use Rattle.cards_round.proofs.FullRound.{room-read}
+use Rattle.cards_round.proofs.Lengths.{pty-short, fac-short, name-short}
+use Rattle.cards_fields.proofs.RoundLaws.{neither}
 
--- ---- a card by its fields
+-- ---- the further cards
 
-tail-total : (fs : List (List ℕ)) → length (tailText fs) ≡ total fs + 1
-tail-total [] = refl
-tail-total (f ∷ fs) = omega (arith, length-append f (tailText fs), tail-total fs)
+same-id : (pty c : List ℕ) → otherId pty c ≡ false → length (field c 0) ≡ length (field pty 0)
+same-id pty c h = ap length (same-equal (field c 0) (field pty 0) (not-false (same (field c 0) (field pty 0)) h))
 
-card-total : (fs : List (List ℕ)) → length (cardText fs) ≤ total fs + 1
-card-total [] = omega arith
-card-total (f ∷ fs) = omega (arith, length-append f (tailText fs), tail-total fs)
+-- behind an ID of at least one character a text has at most 78
+texts-few : (pty : List ℕ) → 1 ≤ length (field pty 0) → (cs : List (List ℕ)) → AllRoom cs → any (otherId pty) cs ≡ false → AllFew (canonicals cs)
+texts-few pty h [] r i = tt
+texts-few pty h (c ∷ cs) r i =
+    let q = neither (otherId pty c) (any (otherId pty) cs) i in
+    (omega (arith, r .0 .0, r .0 .1, same-id pty c (q .0)), texts-few pty h cs (r .1) (q .1))
 
-trimmed-total : (fs : List (List ℕ)) → total (trimmed fs) ≤ total fs
-trimmed-total [] = omega arith
-trimmed-total (f ∷ fs) = fronted f (trimmed fs) (trimmed-total fs)
-  where
-    fronted : (g : List ℕ) (gs : List (List ℕ)) → total gs ≤ total fs → total (front g gs) ≤ length g + 1 + total fs
-    fronted [] [] h = omega arith
-    fronted [] (x ∷ gs) h = omega arith
-    fronted (b ∷ g) gs h = omega arith
+further-shorter : (pty id : List ℕ) → length id ≤ length (field pty 0) → (cs : List (List ℕ)) → AllRoom cs → any (otherId pty) cs ≡ false
+    → NoLonger (behindId id (canonicals cs)) cs × (short (behindId id (canonicals cs)) ≡ true)
+further-shorter pty id h [] r i = (tt, refl)
+further-shorter pty id h (c ∷ cs) r i =
+    let q = neither (otherId pty c) (any (otherId pty) cs) i in
+    let rest = further-shorter pty id h cs (r .1) (q .1) in
+    let l : length (id ++ (44 ∷ canonical c)) ≤ length c = omega (arith, length-append id (44 ∷ canonical c), r .0 .0, same-id pty c (q .0)) in
+    ((l, rest .0), rw (le-leb (length (id ++ (44 ∷ canonical c))) 80 (omega (arith, r .0 .1))) (rest .1))
 
--- ---- the PTY card
+canonicals-many : (cs : List (List ℕ)) → length (canonicals cs) ≡ length cs
+canonicals-many [] = refl
+canonicals-many (c ∷ cs) = ap suc (canonicals-many cs)
 
-pty-total : (r : Request) → fieldsError (ptyFields r) ≡ Good → total (ptyFields r) ≤ 64
-unfolding ptyFields rules
-pty-total r e =
-    let a = not-longer (ptyFields r) e 0 (omega arith) in
-    let b = not-longer (ptyFields r) e 3 (omega arith) in
-    let c = not-longer (ptyFields r) e 4 (omega arith) in
-    let d = not-longer (ptyFields r) e 5 (omega arith) in
-    let f = not-longer (ptyFields r) e 6 (omega arith) in
-    let g = not-longer (ptyFields r) e 7 (omega arith) in
-    let h = not-longer (ptyFields r) e 8 (omega arith) in
-    let i = not-longer (ptyFields r) e 9 (omega arith) in
-    let j = not-longer (ptyFields r) e 10 (omega arith) in
-    let k = not-longer (ptyFields r) e 11 (omega arith) in
-    let l = not-longer (ptyFields r) e 12 (omega arith) in
-    let m = not-longer (ptyFields r) e 13 (omega arith) in
-    omega (arith, a, b, c, d, f, g, h, i, j, k, l, m)
+-- ---- a group without error
 
-pty-short : (r : Request) → fieldsError (ptyFields r) ≡ Good → length (ptyText r) ≤ 80
-unfolding ptyText
-pty-short r e = omega (arith, card-total (trimmed (ptyFields r)), trimmed-total (ptyFields r), pty-total r e)
+-- what is shown of a request and the group that it was read from
+record Again (group : List (List ℕ)) (v : FullRequest) : Type 0 where
+  pub takes : takesFull v ≡ true
+  pub first : length (getD (cardsIn v) 0 []) ≤ 64
+  pub others : NoLonger (drop 1 (cardsIn v)) (drop 1 group)
+  pub small : short (cardsIn v) ≡ true
+  pub many : length (cardsIn v) ≤ 16
+  pub divided : drop 2 (cardsIn v) ≡ behindId (spaceless (v .request .id)) (canonicals (drop 2 group))
 
--- ---- the FAC card
+taken-request : (v : FullRequest) → takesFull v ≡ true → takes (cardCount v) (v .request) ≡ true
+unfolding takesFull
+taken-request v t = both (takesFurther (v .further)) (takes (cardCount v) (v .request)) t .1
 
--- the first two fields and the others
-first-two : (fs : List (List ℕ)) → 1 ≤ length (getD fs 1 []) → total fs ≡ length (getD fs 0 []) + 1 + (length (getD fs 1 []) + 1 + total (drop 2 fs))
-first-two [] h = absurd (omega arith)
-first-two (f ∷ []) h = absurd (omega arith)
-first-two (f ∷ g ∷ fs) h = refl
+module _ (n : ℕ) (pty fac : List ℕ) (further : List (List ℕ)) (e : orderedError n pty fac further ≡ Good) where
+  pub steps : (frontError n pty fac ≡ Good) × ((orderError pty fac further ≡ Good) × ((facError fac ≡ Good) × (contentsError false further ≡ Good)))
+  steps =
+      let a = or-else-none (frontError n pty fac) (orElse (orderError pty fac further) (orElse (facError fac) (contentsError false further))) (sym (in-steps n pty fac further) ∙ e) in
+      let b = or-else-none (orderError pty fac further) (orElse (facError fac) (contentsError false further)) (a .1) in
+      (a .0, (b .0, or-else-none (facError fac) (contentsError false further) (b .1)))
 
--- the card with this ID that is written for what a good FAC card asks for
-fac-short : (id fac : List ℕ) → malformed fac ≡ false → isFac fac ≡ true → length id ≤ length (field fac 0) → entriesError nothing (entriesOf fac) ≡ Good
-    → length (cardText (id ∷ bytes "FAC" ∷ entryTexts 0 (asked fac))) ≤ 80
-fac-short id fac m i l e =
-    let three : length (field fac 1) ≡ 3 = same-length (field fac 1) (bytes "FAC") i in
-    omega (
-      arith,
-      length-append id (tailText (bytes "FAC" ∷ entryTexts 0 (asked fac))),
-      tail-total (bytes "FAC" ∷ entryTexts 0 (asked fac)),
-      first-two (fields fac) (omega arith),
-      fields-short fac m,
-      entries-short (entriesOf fac) e,
-    )
+  front-tests : (ptyError pty ≡ Good) × ((n ≤ 16) × (isFac fac ≡ true))
+  front-tests =
+      let last = orElse (errorIf (not (isFac fac)) NoFac) Good in
+      let a = or-else-none (ptyError pty) (orElse (errorIf (wrongCount n pty) WrongCount) last) (steps .0) in
+      let b = or-else-none (errorIf (wrongCount n pty) WrongCount) last (a .1) in
+      let c = or-else-none (errorIf (not (isFac fac)) NoFac) Good (b .1) in
+      let w = neither (ltb 16 n) (not (eqb (value (field pty 2)) n)) (not-error (wrongCount n pty) WrongCount (b .0)) in
+      (a .0, (ltb-false 16 n (w .0), not-false (isFac fac) (not-error (not (isFac fac)) NoFac (c .0))))
 
--- a name without the blanks that fill it
-name-short : (w : ℕ) (s : List ℕ) → length (spaceless (padded w s)) ≤ length s
-name-short zero s = omega arith
-name-short (suc w) [] = name-short w []
-name-short (suc w) (b ∷ s) = by-bool (eqb b 32) (λ e. rw e (omega (arith, name-short w s))) (λ e. rw e (omega (arith, name-short w s)))
-
--- what is asked for, as the request holds it
-asked-long : (asks : List ℕ) (ts : List (List ℕ)) → length (allEntered asks ts) ≡ length asks
-asked-long asks [] = refl
-asked-long asks (t ∷ ts) = asked-long (entered asks t) ts ∙ length-set asks (slotOf t) (value (numberText t))
-
-asks-again : (asks : List ℕ) → 3 ≤ length asks → asksOf (facilitiesOf asks) ≡ asks
-asks-again [] h = absurd (omega arith)
-asks-again (a ∷ []) h = absurd (omega arith)
-asks-again (a ∷ b ∷ []) h = absurd (omega arith)
-asks-again (a ∷ b ∷ c ∷ ns) h = refl
-
--- ---- the request
-
-pub not-error : (b : Bool) (e : CardError) → errorIf b e ≡ Good → b ≡ false
-not-error true e h = not-good h
-not-error false e h = refl
-
-not-false : (b : Bool) → not b ≡ false → b ≡ true
-not-false true e = refl
-not-false false e = never refl e
-
-pub answered : (v : Verdict) (q r : Request) → answer v q ≡ record { verdict = Good; request = r } → (v ≡ Good) × (q ≡ r)
-answered Good q r e = (refl, ap (λ (x : Reading). x .request) e)
-answered (Verdict.Wrong x) q r e = not-good (ap (λ (y : Reading). y .verdict) e)
-
--- the fields of a request that the writer takes are right
-fields-right : (r : Request) → takes r ≡ true → fieldsError (ptyFields r) ≡ Good
-unfolding takes
-fields-right r t =
-    let a = both (namesFormed r) _ t .1 in
-    let b = both (rangesGood r) _ a .1 in
-    good-is (fieldsError (ptyFields r)) (both (good (fieldsError (ptyFields r))) (numbersFit 0 (asksOf (r .facilities)) && good (coreError (asksOf (r .facilities)))) b .0)
-
-module _ (n : ℕ) (pty fac third : List ℕ) (e : orderedError n pty fac third ≡ Good) where
-  abbrev q : Request
-  q = requestOf pty (asked fac)
-
-  front-good : frontError n pty fac third ≡ Good
-  unfolding orderedError
-  front-good = or-else-none (frontError n pty fac third) (facError fac) e .0
-
-  fac-good : facError fac ≡ Good
-  unfolding orderedError
-  fac-good = or-else-none (frontError n pty fac third) (facError fac) e .1
-
-  fac-is : (isFac fac ≡ true) × (same (field fac 0) (field pty 0) ≡ true)
-  unfolding frontError
-  fac-is =
-      let last = errorIf (not (same (field fac 0) (field pty 0))) OtherId in
-      let a = or-else-none (ptyError pty) _ front-good .1 in
-      let b = or-else-none (errorIf (not (eqb (value (field pty 2)) n)) WrongCount) _ a .1 in
-      let c = or-else-none (errorIf (not (isFac fac)) NoFac) _ b in
-      let d = or-else-none (thirdError n third) (orElse last Good) (c .1) .1 in
-      let f = or-else-none last Good d .0 in
-      (not-false (isFac fac) (not-error (not (isFac fac)) NoFac (c .0)), not-false (same (field fac 0) (field pty 0)) (not-error (not (same (field fac 0) (field pty 0))) OtherId f))
+  order-tests : (typesError further ≡ Good) × ((otherId pty fac ≡ false) × ((any (otherId pty) further ≡ false) × (togetherError further ≡ Good)))
+  order-tests =
+      let ids = otherId pty fac || any (otherId pty) further in
+      let a = or-else-none (typesError further) (orElse (errorIf ids OtherId) (orElse (togetherError further) Good)) (steps .1 .0) in
+      let b = or-else-none (errorIf ids OtherId) (orElse (togetherError further) Good) (a .1) in
+      let c = or-else-none (togetherError further) Good (b .1) in
+      let w = neither (otherId pty fac) (any (otherId pty) further) (not-error ids OtherId (b .0)) in
+      (a .0, (w .0, (w .1, c .0)))
 
   pub entries-good : (malformed fac ≡ false) × (entriesError nothing (entriesOf fac) ≡ Good)
   unfolding facError
   entries-good =
-      let a = or-else-none (errorIf (malformed fac) FacMalformed) (orElse (entriesError nothing (entriesOf fac)) (orElse (coreError (asked fac)) Good)) fac-good in
+      let a = or-else-none (errorIf (malformed fac) FacMalformed) (orElse (entriesError nothing (entriesOf fac)) (orElse (coreError (asked fac)) Good)) (steps .1 .1 .0) in
       (not-error (malformed fac) FacMalformed (a .0), or-else-none (entriesError nothing (entriesOf fac)) (orElse (coreError (asked fac)) Good) (a .1) .0)
 
-  fac-fits : length (facText q) ≤ 80
+  meant : FurtherMeant further
+  meant = further-meant further (order-tests .0) (order-tests .1 .1 .1) (steps .1 .1 .1)
+
+  id-some : 1 ≤ length (field pty 0)
+  unfolding rules
+  id-some = good-field 0 (ruleAt 0) (field pty 0) (right-at (fields pty) (fields-good pty (front-tests .0)) 0 (omega arith)) .0
+
+  few-texts : AllFew (canonicals further)
+  few-texts = texts-few pty id-some further (meant .room) (order-tests .1 .1 .0)
+
+  abbrev v : FullRequest
+  v = record { request = requestOf pty (asked fac); further = held (canonicals further) }
+
+  abbrev id : List ℕ
+  id = spaceless (padded 6 (field pty 0))
+
+  fac-no-longer : length (facText (v .request)) ≤ length fac
   unfolding facText
-  fac-fits =
-      subst (λ (asks : List ℕ). length (cardText (spaceless (q .id) ∷ bytes "FAC" ∷ entryTexts 0 asks)) ≤ 80)
-      (sym (asks-again (asked fac) (omega (arith, asked-long nothing (entriesOf fac)))))
-      (fac-short (spaceless (q .id)) fac (entries-good .0) (fac-is .0)
-      (omega (arith, name-short 6 (field pty 0), same-length (field fac 0) (field pty 0) (fac-is .1))) (entries-good .1))
+  fac-no-longer =
+      subst (λ (asks : List ℕ). length (cardText (id ∷ bytes "FAC" ∷ entryTexts 0 asks)) ≤ length fac)
+      (sym (asks-held (asked fac) (fit-all nothing (entriesOf fac) refl (entries-good .1))))
+      (fac-short id fac (entries-good .0) (front-tests .1 .1) (omega (arith, name-short 6 (field pty 0), same-id pty fac (order-tests .1 .0))) (entries-good .1))
 
-text-length : (r : Request) → length (textOf r) ≡ length (ptyText r) + 1 + (length (facText r) + 1)
-unfolding textOf
-text-length r = omega (arith, length-append (ptyText r) (lf ∷ (facText r ++ (lf ∷ []))), length-append (facText r) (lf ∷ []))
+  fac-few : length fac ≤ 80
+  fac-few = by-bool (ltb 80 (length fac)) (λ t. never (too-long fac (ltb-true 80 (length fac) t)) (entries-good .0)) (λ t. ltb-false 80 (length fac) t)
 
--- 12 NEVER ARISES where the room has 162 bytes
-pub read-fits : (cards : List (List ℕ)) (r : Request) (room : ℕ) → readGroup cards ≡ record { verdict = Good; request = r } → 162 ≤ room → fits r room ≡ true
-unfolding readCards fits
-read-fits cards r room e h =
-    let a = answered (orderedError (length cards) (getD cards 0 []) (getD cards 1 []) (getD cards 2 [])) (requestOf (getD cards 0 []) (asked (getD cards 1 []))) r e in
-    let f : length (facText r) ≤ 80 = subst (λ (x : Request). length (facText x) ≤ 80) (a .1) (fac-fits (length cards) (getD cards 0 []) (getD cards 1 []) (getD cards 2 []) (a .0)) in
-    let p = pty-short r (fields-right r (read-taken cards r e)) in
-    rw (le-leb (length (ptyText r)) 80 p, le-leb (length (facText r)) 80 f, le-leb (length (textOf r)) room (omega (arith, text-length r)))
+  module _ (few : length further ≤ 14) where
+    count-few : cardCount v ≤ 99
+    unfolding held
+    count-few = omega arith
+
+    v-taken : takesFull v ≡ true
+    unfolding takesFull
+    v-taken =
+        let a : AllowedFurther (held (canonicals further)) = record { cards = meant .cards; kept = meant .kept few few-texts; is = ap held (meant .is) } in
+        rw (further-taken (held (canonicals further)) a, read-taken (cardCount v) count-few pty fac (front-tests .0) (steps .1 .1 .0))
+
+    cards-are : cardsIn v ≡ ptyText (cardCount v) (v .request) ∷ facText (v .request) ∷ behindId id (canonicals further)
+    unfolding cardsIn
+    cards-are =
+        ap (λ (ts : List (List ℕ)). ptyText (cardCount v) (v .request) ∷ facText (v .request) ∷ behindId id ts)
+        (texts-back (canonicals further) (omega (arith, canonicals-many further)) few-texts)
+
+    pty-few : length (ptyText (cardCount v) (v .request)) ≤ 64
+    pty-few = pty-short (cardCount v) (v .request) (taken-request v v-taken)
+
+    others : NoLonger (behindId id (canonicals further)) further × (short (behindId id (canonicals further)) ≡ true)
+    others = further-shorter pty id (name-short 6 (field pty 0)) further (meant .room) (order-tests .1 .1 .0)
+
+    read-again : Again (pty ∷ fac ∷ further) v
+    read-again = record {
+      takes = v-taken;
+      first = subst (λ (cs : List (List ℕ)). length (getD cs 0 []) ≤ 64) (sym cards-are) pty-few;
+      others = subst (λ (cs : List (List ℕ)). NoLonger (drop 1 cs) (fac ∷ further)) (sym cards-are) (fac-no-longer, others .0);
+      small =
+          ap short cards-are
+          ∙ rw (
+            le-leb (length (ptyText (cardCount v) (v .request))) 80 (omega (arith, pty-few)),
+            le-leb (length (facText (v .request))) 80 (omega (arith, fac-no-longer, fac-few)),
+            others .1,
+          );
+      divided = ap (λ (cs : List (List ℕ)). drop 2 cs) cards-are;
+      many = subst (λ (cs : List (List ℕ)). length cs ≤ 16) (sym cards-are) (omega (arith, behind-many id (canonicals further), canonicals-many further));
+    }
+
+-- ---- what was read
+
+full-answered : (w : Verdict) (q : Request) (f : Further) (v : FullRequest) → fullAnswer (answer w q .verdict) (answer w q .request) f ≡ record { verdict = Good; full = v }
+    → (w ≡ Good) × _≡_ {A = FullRequest} (record { request = q; further = f }) v
+full-answered Good q f v e = (refl, ap (λ (x : FullReading). x .full) e)
+full-answered (Verdict.Wrong x) q f v e = not-good (ap (λ (y : FullReading). y .verdict) e)
+
+-- a group that reads as a request has no error, and the request is what its cards say
+pub answered : (group : List (List ℕ)) (v : FullRequest) → readFull group ≡ record { verdict = Good; full = v }
+    → (orderedError (length group) (getD group 0 []) (getD group 1 []) (drop 2 group) ≡ Good)
+    × _≡_ {A = FullRequest} (record { request = requestOf (getD group 0 []) (asked (getD group 1 [])); further = held (canonicals (drop 2 group)) }) v
+unfolding readFull readCards
+answered group v e =
+    full-answered (orderedError (length group) (getD group 0 []) (getD group 1 []) (drop 2 group)) (requestOf (getD group 0 []) (asked (getD group 1 []))) (held (canonicals (drop 2 group))) v e
+
+no-fac : isFac [] ≡ false
+unfolding fields
+no-fac = refl
+
+again : (group : List (List ℕ)) (v : FullRequest) → readFull group ≡ record { verdict = Good; full = v } → Again group v
+again [] v e = never (front-tests 0 [] [] [] (answered [] v e .0) .1 .1) no-fac
+again (c ∷ []) v e = never (front-tests 1 c [] [] (answered (c ∷ []) v e .0) .1 .1) no-fac
+again (pty ∷ fac ∷ further) v e =
+    let a = answered (pty ∷ fac ∷ further) v e in
+    let n = front-tests (length (pty ∷ fac ∷ further)) pty fac further (a .0) .1 .0 in
+    subst (Again (pty ∷ fac ∷ further)) (a .1) (read-again (length (pty ∷ fac ∷ further)) pty fac further (a .0) (omega arith))
+
+-- 13 NEVER ARISES
+pub read-takes : (group : List (List ℕ)) (v : FullRequest) → readFull group ≡ record { verdict = Good; full = v } → takesFull v ≡ true
+read-takes group v e = again group v e .takes
+
+-- NOR 12 where the room has 1,296 bytes
+pub read-fits : (group : List (List ℕ)) (v : FullRequest) (room : ℕ) → readFull group ≡ record { verdict = Good; full = v } → 1296 ≤ room → fits v room ≡ true
+unfolding fits
+read-fits group v room e h =
+    let a = again group v e in
+    rw (a .small, le-leb (length (textOf v)) room (omega (arith, lines-few (cardsIn v) (a .small), a .many)))
 
 -- EVERY REQUEST READ FROM CARDS IS WRITTEN, and read back as itself
-pub always-written : (cards : List (List ℕ)) (r : Request) (room : List ℕ) → readGroup cards ≡ record { verdict = Good; request = r } → 162 ≤ length room
-    → (writeAnswer r (length room) ≡ Cards (length (textOf r)))
-    × (readGroup (cardsOf (take (length (textOf r)) (written r room))) ≡ record { verdict = Good; request = r })
-always-written cards r room e h = room-read r room (read-taken cards r e) (read-fits cards r (length room) e h)
+pub always-written : (group : List (List ℕ)) (v : FullRequest) (room : List ℕ) → readFull group ≡ record { verdict = Good; full = v } → 1296 ≤ length room
+    → (writeAnswer v (length room) ≡ Cards (length (textOf v)))
+    × (readFull (cardsOf (take (length (textOf v)) (written v room))) ≡ record { verdict = Good; full = v })
+always-written group v room e h = room-read v room (read-takes group v e) (read-fits group v (length room) e h)
+
+-- AND IN NO MORE CHARACTERS: its PTY card has at most 64, each other card at most as many as the one that was read; and
+-- each further card is what the one that was read is in canonical form
+pub no-longer : (group : List (List ℕ)) (v : FullRequest) → readFull group ≡ record { verdict = Good; full = v }
+    → (drop 2 (cardsIn v) ≡ behindId (spaceless (v .request .id)) (canonicals (drop 2 group)))
+    × ((length (getD (cardsIn v) 0 []) ≤ 64) × NoLonger (drop 1 (cardsIn v)) (drop 1 group))
+no-longer group v e = let a = again group v e in (a .divided, (a .first, a .others))

@@ -1,4 +1,12 @@
+pub mod Meaning
+pub mod FurtherRound
+pub mod HeldLaws
+pub mod Taking
+pub mod FullRound
+pub mod Allowing
+pub mod AllowingFull
 pub mod Short
+pub mod Lengths
 pub mod Fits
 pub mod Order
-pub mod Allowing
+pub mod TableRound

@@ -1,31 +1,33 @@
 -- EQUAL REQUESTS, ENTRY ORDER APART: two FAC cards whose entries are permutations of each other ask for the same,
 -- so that the groups read as the same request. Two neighbouring entries fill different slots, or the second of them
 -- would be wrong. Assumes nothing.
-use Prim.Native.Nat.{ℕ, zero, suc, _+_, _*_, _-_, _≤_, _<_}
+use Prim.Native.Nat.{ℕ, zero, suc, _≤_, _<_}
 use mathlib.Core.Path.{_≡_, refl, sym, ap, subst, _∙_}
-use mathlib.Core.Bool.{Bool, true, false, not, _&&_}
+use mathlib.Core.Bool.{false, _&&_}
 use mathlib.Core.List.{List, [], _∷_}
 use native.Mathlib.Omega.{arith}
-use lib.Dec.{eqb, ltb, leb}
+use lib.Dec.{ltb, leb}
 use lib.ListN.{length, getD, set, length-set, take}
 use lib.Seq.{getD-set-same, getD-set-other}
-use borrow.Author.Tests.{eqb-true, eqb-false, leb-true, ltb-true, ltb-false, le-ltb}
-use Rattle.numbers.proofs.Tests.{by-bool, never, both}
+use borrow.Author.Tests.{leb-true, ltb-false, le-ltb}
+use Rattle.numbers.proofs.Tests.{by-bool, both}
 use Rattle.text.specs.Class.{isDigit}
 use Rattle.words.specs.Words.{every, value}
-use Rattle.cards.specs.Errors.{errorIf, orElse}
-use Rattle.cards.proofs.ErrorLaws.{not-good, or-else-none}
+use Rattle.cards_request.specs.Errors.{errorIf, orElse}
+use Rattle.cards_request.proofs.ErrorLaws.{not-error, or-else-none}
 use Rattle.cards_fields.specs.Fields.{field, fields, malformed}
-use Rattle.cards_fac.specs.Fac.{coreError, facError, channelText, codeError, codeOf, entered, entriesError, entryError, entryGood, allEntered, formError, most, nothing, numberGood, numberText, slot, slotOf, slots, asked, entriesOf}
+use Rattle.cards_fac.specs.Fac.{coreError, facError, channelText, codeOf, entered, entriesError, entryError, allEntered, formError, most, nothing, numberText, slotOf, slots, asked, entriesOf}
 use Rattle.cards_fac.proofs.EntryLaws.{channel-low, code-low, good-number}
-use Rattle.cards_group.specs.Group.{frontError, orderedError, requestOf, readCards, readGroup}
-use Rattle.cards.specs.declared.CardError.the-variants.{FacMalformed, WrongEntry}
-use Rattle.cards.specs.declared.Request.{Request}
-use Rattle.cards.specs.declared.Verdict.{Verdict}
-use Rattle.cards.specs.declared.Verdict.the-variants.{Good}
+use Rattle.cards_further.specs.Further.{canonicals, held}
+use Rattle.cards_group.specs.Group.{orderedError, requestOf, readFull}
+use Rattle.cards_group.proofs.GroupLaws.{frontError, orderError, in-steps}
+use Rattle.cards_request.specs.declared.CardError.the-variants.{FacMalformed, WrongEntry}
+use Rattle.cards_request.specs.declared.FullRequest.{FullRequest}
+use Rattle.cards_request.specs.declared.Verdict.the-variants.{Good}
 use Rattle.cards_round.specs.Permuted.{Permuted}
 use Rattle.cards_round.proofs.Short.{channelled, known}
-use Rattle.cards_round.proofs.Fits.{answered, entries-good, not-error}
+use Rattle.cards_round.proofs.FullRound.{read-as}
+use Rattle.cards_round.proofs.Fits.{answered, entries-good, steps}
 
 -- two stores at different indices come to the same in either order
 set-swap : (l : List ℕ) (i j a b : ℕ) → (i ≡ j → ⊥) → set (set l i a) j b ≡ set (set l j b) i a
@@ -97,16 +99,18 @@ front-at (x ∷ []) (suc k) h = refl
 front-at (x ∷ y ∷ l) (suc zero) h = refl
 front-at (x ∷ y ∷ l) (suc (suc k)) h = absurd (omega arith)
 
--- EQUAL REQUESTS: where a group is read, one with the same PTY card and, on a FAC card that is not malformed, the same
--- ID and the same entries in any order is read as the same request
-module _ (pty fac other : List ℕ) (well : malformed other ≡ false) (front : take 2 (fields other) ≡ take 2 (fields fac))
+-- EQUAL REQUESTS: where a group is read, one with the same PTY card, the same further cards and, on a FAC card that is not
+-- malformed, the same ID and the same entries in any order is read as the same request
+module _ (pty fac other : List ℕ) (further : List (List ℕ)) (well : malformed other ≡ false) (front : take 2 (fields other) ≡ take 2 (fields fac))
     (p : Permuted (entriesOf fac) (entriesOf other)) where
   field-as : (k : ℕ) → k < 2 → field other k ≡ field fac k
   field-as k h = sym (front-at (fields other) k h) ∙ ap (λ (l : List (List ℕ)). getD l k []) front ∙ front-at (fields fac) k h
 
-  front-as : frontError 2 pty other [] ≡ frontError 2 pty fac []
-  unfolding frontError
-  front-as = rw (field-as 0 (omega arith), field-as 1 (omega arith)) refl
+  front-as : (n : ℕ) → frontError n pty other ≡ frontError n pty fac
+  front-as n = rw (field-as 1 (omega arith)) refl
+
+  order-as : orderError pty other further ≡ orderError pty fac further
+  order-as = rw (field-as 0 (omega arith)) refl
 
   fac-as : facError fac ≡ Good → entriesError nothing (entriesOf fac) ≡ Good → facError other ≡ Good
   unfolding facError
@@ -117,11 +121,13 @@ module _ (pty fac other : List ℕ) (well : malformed other ≡ false) (front : 
       (or-else-none (errorIf (malformed fac) FacMalformed) (orElse (entriesError nothing (entriesOf fac)) (orElse (coreError (asked fac)) Good)) g .1) .1) .0 in
       rw (well, q .0, ← q .1, core)
 
-  pub same-request : (r : Request) → readGroup (pty ∷ fac ∷ []) ≡ record { verdict = Good; request = r } → readGroup (pty ∷ other ∷ []) ≡ record { verdict = Good; request = r }
-  unfolding readCards orderedError
-  same-request r e =
-      let a = answered (orderedError 2 pty fac []) (requestOf pty (asked fac)) r e in
-      let b = or-else-none (frontError 2 pty fac []) (facError fac) (a .0) in
-      let g = entries-good 2 pty fac [] (a .0) .1 in
-      let v : orElse (frontError 2 pty other []) (facError other) ≡ Good = rw (front-as, b .0) (fac-as (b .1) g) in
-      rw v (ap (λ (q : Request). record { verdict = Good; request = q }) (ap (requestOf pty) (sym (permuted p nothing refl g .1)) ∙ a .1))
+  pub same-request : (v : FullRequest) → readFull (pty ∷ fac ∷ further) ≡ record { verdict = Good; full = v } → readFull (pty ∷ other ∷ further) ≡ record { verdict = Good; full = v }
+  same-request v e =
+      let n = length (pty ∷ fac ∷ further) in
+      let a = answered (pty ∷ fac ∷ further) v e in
+      let s = steps n pty fac further (a .0) in
+      let g = entries-good n pty fac further (a .0) .1 in
+      let w : orderedError n pty other further ≡ Good = in-steps n pty other further ∙ rw (front-as n, s .0, order-as, s .1 .0, fac-as (s .1 .1 .0) g) (s .1 .1 .1) in
+      let q : asked other ≡ asked fac = sym (permuted p nothing refl g .1) in
+      read-as pty other further w
+      ∙ ap (λ (x : FullRequest). record { verdict = Good; full = x }) (ap (λ (l : List ℕ). record { request = requestOf pty l; further = held (canonicals further) }) q ∙ a .1)

@@ -1,76 +1,29 @@
--- EVERY REQUEST READ FROM CARDS IS WRITTEN where the room has 162 bytes: the PTY card's fields have at most 50
--- characters, and each entry that was read is no longer when it is written again, so that the FAC card is no longer
--- than the one that was read. So 12 never arises, as 13 never does. Assumes nothing.
-use Prim.Native.Nat.{ℕ, zero, suc, _+_, _-_, _*_, _^_, _/_, _%_, _≤_, _<_}
-use mathlib.Core.Path.{_≡_, refl, sym, ap, subst, _∙_}
-use mathlib.Core.Bool.{Bool, true, false, cond, _&&_, _||_, not}
+-- THE WRITTEN ENTRIES OF A FAC CARD ARE NO LONGER than those that were read: each good entry is no longer when it is
+-- written again, and no two fill one slot. Assumes nothing.
+use Prim.Native.Nat.{ℕ, zero, suc, _+_, _-_, _*_, _≤_, _<_}
+use mathlib.Core.Path.{_≡_, refl, sym, ap}
+use mathlib.Core.Bool.{true, false, cond, _&&_, not}
 use mathlib.Core.List.{List, [], _∷_, _++_}
-use native.Mathlib.Nat.{pow-suc}
 use native.Mathlib.Omega.{arith}
 use lib.Dec.{eqb, ltb, leb}
-use lib.ListN.{length, getD, drop, set, length-append, length-drop}
-use borrow.Author.Tests.{eqb-true, le-leb, leb-true, lt-ltb, ltb-true, ltb-false}
+use lib.ListN.{length, getD, set, length-append, length-drop}
+use borrow.Author.Tests.{eqb-true, leb-true, lt-ltb, ltb-true, ltb-false}
 use Rattle.numbers.proofs.Tests.{by-bool, never, both}
 use Rattle.text.specs.Writing.{decimalText}
-use Rattle.text.proofs.Undo.{few-digits}
 use Rattle.text.specs.Class.{isDigit}
 use Rattle.words.specs.Words.{every, same, value}
-use Rattle.words.proofs.WordLaws.{value-below, tens}
-use Rattle.cards_fields.specs.Fields.{field, fields, split, onto, spaceless, upToPeriod, closed, cardByte, malformed}
-use Rattle.cards_fields.proofs.FieldLaws.{spaceless-short}
+use Rattle.words.proofs.WordLaws.{same-equal}
+use Rattle.cards_fields.proofs.RoundLaws.{total, digits-few}
 use Rattle.cards_fac.specs.Fac.{codes, codeText, codeOf, channelText, slashAt, numberText, channelGood, most, numberGood, entryGood, slot, slotOf, codeError, formError, entryError, entered, entriesError, allEntered, nothing}
 use Rattle.cards_fac.specs.Fac.{indexIn}
-use Rattle.cards.specs.Errors.{errorIf}
-use Rattle.cards.proofs.ErrorLaws.{or-else-none, not-good}
-use Rattle.cards.specs.declared.CardError.the-variants.{WrongEntry}
-use Rattle.cards.specs.declared.Verdict.the-variants.{Good}
+use Rattle.cards_request.specs.Errors.{errorIf}
+use Rattle.cards_request.proofs.ErrorLaws.{or-else-none, not-good}
+use Rattle.cards_request.specs.declared.CardError.the-variants.{WrongEntry}
+use Rattle.cards_request.specs.declared.Verdict.the-variants.{Good}
 use Rattle.cards_fac.proofs.EntryLaws.{code-low, channel-low}
-use Rattle.cards_writing.specs.Writing.{codeAt, channelAt, entryText, entryTexts, tailText, cardText, front, trimmed}
-
--- how many characters fields take, each with the comma or period behind it
-abbrev pub total : List (List ℕ) → ℕ
-total [] = 0
-total (f ∷ fs) = length f + 1 + total fs
-
--- ---- a card that is read
-
-split-total : (s : List ℕ) → total (split s) ≡ length s + 1
-split-total [] = refl
-split-total (b ∷ s) = by-bool (eqb b 44) (λ e. rw e (omega (arith, split-total s))) (λ e. rw e (fronted (split s) (split-total s)))
-  where
-    fronted : (fs : List (List ℕ)) → total fs ≡ length s + 1 → total (onto b fs) ≡ length (b ∷ s) + 1
-    fronted [] h = absurd (omega arith)
-    fronted (f ∷ fs) h = omega arith
-
--- a card that is closed has its period behind its fields
-closed-length : (s : List ℕ) → closed false s ≡ true → length (upToPeriod s) + 1 ≤ length s
-closed-length [] e = never e refl
-closed-length (b ∷ s) e =
-    let q = both (cardByte b) (closed (eqb b 46) s) e .1 in
-    by-bool (eqb b 46)
-    (λ t. rw t (omega arith))
-    (λ t. let r : closed false s ≡ true = rw t at q in rw t (omega (arith, closed-length s r)))
-
--- the fields of a card that is not malformed, with what stands behind each, fit into 80 characters
-pub fields-short : (s : List ℕ) → malformed s ≡ false → total (fields s) ≤ 80
-unfolding malformed fields
-fields-short s m =
-    by-bool (ltb 80 (length s))
-    (λ t. never refl (rw t at m))
-    (λ t. by-bool (closed false s)
-    (λ c. omega (arith, split-total (spaceless (upToPeriod s)), spaceless-short (upToPeriod s), closed-length s c, ltb-false 80 (length s) t))
-    (λ c. never refl (rw (t, c) at m)))
+use Rattle.cards_writing.specs.Writing.{codeAt, channelAt, entryText, entryTexts}
 
 -- ---- an entry, read and written again
-
--- a number has no more digits than the text that it was read from
-digits-few : (s : List ℕ) → every isDigit s ≡ true → 1 ≤ length s → length (decimalText (value s)) ≤ length s
-digits-few [] d h = absurd (omega arith)
-digits-few (b ∷ s) d h = few-digits (length s) (value (b ∷ s)) (subst (λ (n : ℕ). value (b ∷ s) < n) (tens-is (suc (length s))) (value-below (suc (length s)) (b ∷ s) d (omega arith)))
-  where
-    tens-is : (k : ℕ) → tens k ≡ 10 ^ k
-    tens-is zero = refl
-    tens-is (suc k) = omega (arith, pow-suc 10 k, tens-is k)
 
 -- the slot of a code and a logical channel gives both back
 code-again : (code channel : ℕ) → code ≤ 5 → channel ≤ 15 → codeAt (slot code channel) ≡ code
@@ -86,16 +39,10 @@ channel-again code channel l z =
     (λ t. rw t (by-bool (ltb (3 + (code - 3) * 16 + channel) 3) (λ u. absurd (omega (arith, ltb-true (3 + (code - 3) * 16 + channel) 3 u))) (λ u. rw u (omega arith))))
 
 -- a known code is as long as its text
-pub same-length : (s t : List ℕ) → same s t ≡ true → length s ≡ length t
-same-length [] [] e = refl
-same-length [] (y ∷ t) e = never e refl
-same-length (x ∷ s) [] e = never e refl
-same-length (x ∷ s) (y ∷ t) e = ap suc (same-length s t (both (eqb x y) (same s t) e .1))
-
 code-length : (ks : List (List ℕ)) (c : List ℕ) → indexIn ks c < length ks → length (getD ks (indexIn ks c) []) ≡ length c
 code-length [] c h = absurd (omega arith)
 code-length (k ∷ ks) c h =
-    by-bool (same k c) (λ t. rw t (same-length k c t)) (λ t. rw t (code-length ks c (less t)))
+    by-bool (same k c) (λ t. rw t (ap length (same-equal k c t))) (λ t. rw t (code-length ks c (less t)))
   where
     less : same k c ≡ false → indexIn ks c < length ks
     less t = let g : suc (indexIn ks c) < suc (length ks) = rw t at h in omega arith

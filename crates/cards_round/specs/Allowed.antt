@@ -10,7 +10,7 @@ use Rattle.text.specs.Class.{isAlnum, isLetter}
 use Rattle.words.specs.Words.{every, has, passes}
 use Rattle.words.specs.declared.Class.the-variants.{Hyphened}
 use Rattle.cards_fields.specs.Fields.{padded}
-use Rattle.cards.specs.declared.Request.{Request}
+use Rattle.cards_request.specs.declared.Request.{Request}
 
 -- a name of so many characters, each of a class, and blanks behind them
 pub record Name (class : ℕ → Bool) (least most : ℕ) (s : List ℕ) : Type 0 where

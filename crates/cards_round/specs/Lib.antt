@@ -1,2 +1,4 @@
 pub mod Permuted
 pub mod Allowed
+pub mod AllowedFurther
+pub mod NoLonger

@@ -19,9 +19,9 @@ use Rattle.words.specs.Words.{every, value, leading, isnt}
 use Rattle.words.proofs.WordLaws.{every-append, every-weaker}
 use Rattle.cards_fac.specs.Fac.{codes, indexIn, codeText, channelText, slashAt, numberText, channelGood, most, numberGood, slot, slots, codeOf, slotOf, formError, entriesError, allEntered, nothing}
 use Rattle.cards_fac.proofs.EntryLaws.{code-known}
-use Rattle.cards.specs.declared.Verdict.the-variants.{Good}
+use Rattle.cards_request.specs.declared.Verdict.the-variants.{Good}
 use Rattle.cards_writing.specs.Writing.{codeAt, channelAt, entryText, entryTexts, limit, numbersFit}
-use Rattle.cards_writing.proofs.Back.{plain, AllPlain, digit-plain, letter-plain, digit-no-letter, number-back, number-digits}
+use Rattle.cards_fields.proofs.CardLaws.{plain, AllPlain, digit-plain, letter-plain, digit-no-letter, number-back, number-digits}
 
 leading-all : (p : ℕ → Bool) (a s : List ℕ) (b : ℕ) → every p a ≡ true → p b ≡ false → leading p (a ++ (b ∷ s)) ≡ a
 leading-all p [] s b h e = rw e

@@ -1,4 +1,4 @@
--- What the writer takes and answers, by the tests that the code makes. Assumes nothing.
+-- What the writer takes, by the tests that the code makes. Assumes nothing.
 use Prim.Native.Nat.{ℕ, _+_, _-_, _≤_, _<_}
 use mathlib.Core.Path.{_≡_, refl, sym, ap, _∙_}
 use mathlib.Core.Bool.{Bool, true, false, _&&_}
@@ -8,22 +8,18 @@ use native.Mathlib.Nat.{eq-zero-or-pos}
 use native.Mathlib.Numerals.{add-one}
 use native.Mathlib.Omega.{arith}
 use lib.Dec.{eqb, ltb}
-use lib.ListN.{length, getD, take, drop, drop-of-length-le, length-append, replicate, length-replicate}
+use lib.ListN.{length, getD, take, drop, drop-of-length-le, replicate, length-replicate}
 use lib.Seq.{length-take-le}
-use borrow.Author.Tests.{eq-eqb, ne-eqb, lt-ltb, le-ltb, le-leb, lt-leb}
-use Rattle.numbers.specs.declared.Refusal.the-variants.{NoRoom, WrongRequest}
+use borrow.Author.Tests.{eq-eqb, ne-eqb, lt-ltb, le-ltb}
 use Rattle.text.specs.Room.{Written}
-use Rattle.text.proofs.RoomLaws.{andThen, fitted, same-room}
+use Rattle.text.proofs.RoomLaws.{same-room}
 use Rattle.words.proofs.WordLaws.{drop-step}
-use Rattle.words.specs.Lines.{lf}
-use Rattle.cards.specs.Errors.{good}
+use Rattle.cards_request.specs.Errors.{good}
 use Rattle.cards_fac.specs.Fac.{slots}
 use Rattle.cards_pty.specs.Pty.{ruleAt, fieldError}
 use Rattle.cards_pty.proofs.PtyLaws.{fromIndex, field-wrong, field-right, most-small, much-too-long}
-use Rattle.cards.specs.declared.Request.{Request}
-use Rattle.cards_writing.specs.Writing.{formedFrom, formed, limit, numbersFit, ptyText, facText, textOf, takes, fits, writeAnswer, written}
+use Rattle.cards_writing.specs.Writing.{formedFrom, formed, limit, numbersFit}
 use Rattle.cards_writing.proofs.PutLaws.{put-reached, put-whole}
-use Rattle.cards_writing.specs.declared.Wrote.the-variants.{Cards, Refused}
 
 -- a name from a position on, one byte further
 module _ (s : List ℕ) (i : ℕ) (h : i < length s) where
@@ -74,60 +70,3 @@ field-put k {p} {after} {next} w =
     (λ z. ap (fieldError k (ruleAt k)) (put-whole 13 w (omega arith) .1))
     (λ q. much-too-long k (ruleAt k) (take next after) (most-small k) (omega arith) ∙ sym (much-too-long k (ruleAt k) p (most-small k) (omega arith)))
     (eq-zero-or-pos (length p - 13))
-
--- what writing answers, and what the room then holds
-module _ (r : Request) (room : List ℕ) where
-  pub not-taken : takes r ≡ false → (Refused WrongRequest ≡ writeAnswer r (length room)) × (room ≡ written r room)
-  unfolding writeAnswer written
-  not-taken e = (rw e, rw e)
-
-  module _ (t : takes r ≡ true) where
-    not-fit : fits r (length room) ≡ false → (Refused NoRoom ≡ writeAnswer r (length room)) × (room ≡ written r room)
-    unfolding writeAnswer written
-    not-fit e = (rw (t, e), rw (t, e))
-
-    module _ {pty : List ℕ} {p : ℕ} (wp : Written (replicate 81 0) 0 (ptyText r) pty p) where
-      pub pty-long : 80 < p → (Refused NoRoom ≡ writeAnswer r (length room)) × (room ≡ written r room)
-      unfolding fits
-      pty-long h = let e = put-reached 81 wp in not-fit (rw (lt-leb (length (ptyText r)) 80 (omega arith)))
-
-      module _ (hp : p ≤ 80) {fac : List ℕ} {f : ℕ} (wf : Written (replicate 81 0) 0 (facText r) fac f) where
-        pty-is : length (ptyText r) ≤ 80
-        pty-is = let e = put-reached 81 wp in omega arith
-
-        pub fac-long : 80 < f → (Refused NoRoom ≡ writeAnswer r (length room)) × (room ≡ written r room)
-        unfolding fits
-        fac-long h = let e = put-reached 81 wf in not-fit (rw (le-leb (length (ptyText r)) 80 pty-is, lt-leb (length (facText r)) 80 (omega arith)))
-
-        module _ (hf : f ≤ 80) where
-          fac-is : length (facText r) ≤ 80
-          fac-is = let e = put-reached 81 wf in omega arith
-
-          text-long : length (textOf r) ≡ p + f + 2
-          unfolding textOf
-          text-long =
-              let a = put-whole 81 wp (omega (arith, pty-is)) .0 in
-              let b = put-whole 81 wf (omega (arith, fac-is)) .0 in
-              omega (arith, length-append (ptyText r) (lf ∷ (facText r ++ (lf ∷ []))), length-append (facText r) (lf ∷ []))
-
-          pub room-short : length room < p + f + 2 → (Refused NoRoom ≡ writeAnswer r (length room)) × (room ≡ written r room)
-          unfolding fits
-          room-short h =
-              not-fit (rw (le-leb (length (ptyText r)) 80 pty-is, le-leb (length (facText r)) 80 fac-is, lt-leb (length (textOf r)) (length room) (omega (arith, text-long))))
-
-          -- all four pieces
-          pub all-put : p + f + 2 ≤ length room → {a b c after : List ℕ} {i j k end : ℕ}
-              → Written room 0 (take p pty) a i → Written a i (lf ∷ []) b j → Written b j (take f fac) c k → Written c k (lf ∷ []) after end
-              → (Cards end ≡ writeAnswer r (length room)) × (after ≡ written r room)
-          unfolding writeAnswer written fits textOf
-          all-put h {a} {b} {c} {after} {i} {j} {k} {end} w₁ w₂ w₃ w₄ =
-              let x = put-whole 81 wp (omega (arith, pty-is)) .1 in
-              let y = put-whole 81 wf (omega (arith, fac-is)) .1 in
-              let w : Written room 0 (textOf r) after end = rw (x, y) at (andThen w₁ (andThen w₂ (andThen w₃ w₄))) in
-              let g = fitted w (omega (arith, text-long)) in
-              let e : end ≡ length (textOf r) = omega (arith, g .0) in
-              let z : 0 + length (textOf r) ≡ length (textOf r) = omega arith in
-              let s = le-leb (length (textOf r)) (length room) (omega (arith, text-long)) in (
-                rw (t, le-leb (length (ptyText r)) 80 pty-is, le-leb (length (facText r)) 80 fac-is, s) (ap Cards e),
-                g .1 ∙ rw (z, t, le-leb (length (ptyText r)) 80 pty-is, le-leb (length (facText r)) 80 fac-is, s) refl,
-              )

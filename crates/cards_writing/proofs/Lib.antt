@@ -2,5 +2,3 @@ pub mod PutLaws
 pub mod CheckLaws
 pub mod Back
 pub mod Again
-pub mod Round
-pub mod Kept

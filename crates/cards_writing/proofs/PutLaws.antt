@@ -17,21 +17,10 @@ use Rattle.text.proofs.RoomLaws.{Going, turn, fitted}
 use Rattle.text.specs.Writing.{decimalText}
 use Rattle.text.proofs.Tens.{one-digit, more-digits}
 use Rattle.words.proofs.WordLaws.{drop-step}
-use Rattle.cards_fields.specs.Fields.{spaceless}
+use Rattle.cards_fields.specs.Fields.{cardText, tailText}
 use Rattle.cards_fac.specs.Fac.{codes}
-use Rattle.cards.specs.declared.Request.{Request}
-use Rattle.cards_writing.specs.Writing.{priorityText, ptyFields, front, trimmed, entryText, entryTexts, tailText, cardText, ptyText}
-
--- a name without its blanks, one byte further
-module _ (s : List ℕ) (i : ℕ) (h : i < length s) where
-  pub name-byte : (getD s i 0 ≡ 32 → ⊥) → spaceless (drop i s) ≡ getD s i 0 ∷ spaceless (drop (i + 1) s)
-  name-byte n = rw (drop-step s i h, ne-eqb (getD s i 0) 32 n)
-
-  pub name-blank : getD s i 0 ≡ 32 → spaceless (drop i s) ≡ spaceless (drop (i + 1) s)
-  name-blank e = rw (drop-step s i h, eq-eqb (getD s i 0) 32 e)
-
-pub name-end : (s : List ℕ) (i : ℕ) → length s ≤ i → spaceless (drop i s) ≡ []
-name-end s i h = rw (drop-of-length-le s h)
+use Rattle.cards_request.specs.declared.Request.{Request}
+use Rattle.cards_writing.specs.Writing.{priorityText, ptyFields, front, trimmed, entryText, entryTexts, ptyText}
 
 -- a written number is never empty
 pub number-some : (n : ℕ) → 0 < length (decimalText n)
@@ -83,59 +72,59 @@ trimmed-at (f ∷ fs) (suc k) = later f (trimmed fs) k ∙ trimmed-at fs k
     later (b ∷ f) gs k = refl
 
 -- the fields of a PTY card up to the estimated minutes, and the two behind them
-module _ (r : Request) where
+module _ (n : ℕ) (r : Request) where
   abbrev store : List ℕ
-  store = getD (ptyFields r) 12 []
+  store = getD (ptyFields n r) 12 []
 
   abbrev library : List ℕ
-  library = getD (ptyFields r) 13 []
+  library = getD (ptyFields n r) 13 []
 
-  pub trimmed-pty : trimmed (ptyFields r) ≡ take 12 (ptyFields r) ++ trimmed (store ∷ library ∷ [])
+  pub trimmed-pty : trimmed (ptyFields n r) ≡ take 12 (ptyFields n r) ++ trimmed (store ∷ library ∷ [])
   unfolding ptyFields
-  trimmed-pty = trimmed-to (take 11 (ptyFields r)) (decimalText (r .minutes)) (store ∷ library ∷ []) (number-some (r .minutes))
+  trimmed-pty = trimmed-to (take 11 (ptyFields n r)) (decimalText (r .minutes)) (store ∷ library ∷ []) (number-some (r .minutes))
 
-  twelve : length (take 12 (ptyFields r)) ≡ 12
+  twelve : length (take 12 (ptyFields n r)) ≡ 12
   unfolding ptyFields
   twelve = refl
 
-  counted : length (trimmed (ptyFields r)) ≡ 12 + length (trimmed (store ∷ library ∷ []))
-  counted = ap (length {A = List ℕ}) trimmed-pty ∙ length-append (take 12 (ptyFields r)) (trimmed (store ∷ library ∷ [])) ∙ rw twelve
+  counted : length (trimmed (ptyFields n r)) ≡ 12 + length (trimmed (store ∷ library ∷ []))
+  counted = ap (length {A = List ℕ}) trimmed-pty ∙ length-append (take 12 (ptyFields n r)) (trimmed (store ∷ library ∷ [])) ∙ rw twelve
 
-  pub all-written : (length library ≡ 0 → ⊥) → length (trimmed (ptyFields r)) ≡ 14
+  pub all-written : (length library ≡ 0 → ⊥) → length (trimmed (ptyFields n r)) ≡ 14
   all-written n = counted ∙ rw (front-some library [] (omega arith), front-kept store library []) refl
 
-  pub library-left : length library ≡ 0 → (length store ≡ 0 → ⊥) → length (trimmed (ptyFields r)) ≡ 13
+  pub library-left : length library ≡ 0 → (length store ≡ 0 → ⊥) → length (trimmed (ptyFields n r)) ≡ 13
   library-left z n = counted ∙ rw (front-none library z, front-some store [] (omega arith)) refl
 
-  pub both-left : length library ≡ 0 → length store ≡ 0 → length (trimmed (ptyFields r)) ≡ 12
+  pub both-left : length library ≡ 0 → length store ≡ 0 → length (trimmed (ptyFields n r)) ≡ 12
   both-left z y = counted ∙ rw (front-none library z, front-none store y) refl
 
-  pub some-written : 0 < length (trimmed (ptyFields r))
+  pub some-written : 0 < length (trimmed (ptyFields n r))
   some-written = omega (arith, counted)
 
   -- the card starts with the first field
-  pub pty-first : ptyText r ≡ getD (ptyFields r) 0 [] ++ tailText (drop 1 (trimmed (ptyFields r)))
+  pub pty-first : ptyText n r ≡ getD (ptyFields n r) 0 [] ++ tailText (drop 1 (trimmed (ptyFields n r)))
   unfolding ptyText
-  pty-first = cards-first (trimmed (ptyFields r)) some-written ∙ ap (λ (f : List ℕ). f ++ tailText (drop 1 (trimmed (ptyFields r)))) (trimmed-at (ptyFields r) 0)
+  pty-first = cards-first (trimmed (ptyFields n r)) some-written ∙ ap (λ (f : List ℕ). f ++ tailText (drop 1 (trimmed (ptyFields n r)))) (trimmed-at (ptyFields n r) 0)
     where
       cards-first : (fs : List (List ℕ)) → 0 < length fs → cardText fs ≡ getD fs 0 [] ++ tailText (drop 1 fs)
       cards-first [] h = absurd (omega arith)
       cards-first (f ∷ fs) h = refl
 
   module _ {room₀ whole : List ℕ} {at₀ : ℕ} where
-    pub pty-turn : {room comma after : List ℕ} {at c next : ℕ} (k : ℕ) → k < length (trimmed (ptyFields r))
-        → Going room₀ at₀ whole room at (tailText (drop k (trimmed (ptyFields r))))
-        → Written room at (44 ∷ []) comma c → Written comma c (getD (ptyFields r) k []) after next
-        → Going room₀ at₀ whole after next (tailText (drop (k + 1) (trimmed (ptyFields r))))
+    pub pty-turn : {room comma after : List ℕ} {at c next : ℕ} (k : ℕ) → k < length (trimmed (ptyFields n r))
+        → Going room₀ at₀ whole room at (tailText (drop k (trimmed (ptyFields n r))))
+        → Written room at (44 ∷ []) comma c → Written comma c (getD (ptyFields n r) k []) after next
+        → Going room₀ at₀ whole after next (tailText (drop (k + 1) (trimmed (ptyFields n r))))
     pty-turn k h g v w =
-        let e : drop k (trimmed (ptyFields r)) ≡ getD (ptyFields r) k [] ∷ drop (k + 1) (trimmed (ptyFields r)) =
-        rw (add-one k) (drop-cons (trimmed (ptyFields r)) k [] h) ∙ ap (λ (f : List ℕ). f ∷ drop (k + 1) (trimmed (ptyFields r))) (trimmed-at (ptyFields r) k) in
+        let e : drop k (trimmed (ptyFields n r)) ≡ getD (ptyFields n r) k [] ∷ drop (k + 1) (trimmed (ptyFields n r)) =
+        rw (add-one k) (drop-cons (trimmed (ptyFields n r)) k [] h) ∙ ap (λ (f : List ℕ). f ∷ drop (k + 1) (trimmed (ptyFields n r))) (trimmed-at (ptyFields n r) k) in
         turn {whole = whole} (turn {whole = whole} (rw e at g) v) w
 
-    pub pty-end : {room after : List ℕ} {at next : ℕ} (k : ℕ) → length (trimmed (ptyFields r)) ≤ k
-        → Going room₀ at₀ whole room at (tailText (drop k (trimmed (ptyFields r))))
+    pub pty-end : {room after : List ℕ} {at next : ℕ} (k : ℕ) → length (trimmed (ptyFields n r)) ≤ k
+        → Going room₀ at₀ whole room at (tailText (drop k (trimmed (ptyFields n r))))
         → Written room at (46 ∷ []) after next → Written room₀ at₀ whole after next
-    pty-end {after = after} {next = next} k h g w = (rw (drop-of-length-le (trimmed (ptyFields r)) {i = k} h) at g) after next w
+    pty-end {after = after} {next = next} k h g w = (rw (drop-of-length-le (trimmed (ptyFields n r)) {i = k} h) at g) after next w
 
 -- the entries of a FAC card, one slot further
 module _ (asks : List ℕ) where
@@ -182,9 +171,9 @@ put-empty {p} {after} {next} w =
     (eq-zero-or-pos (length p))
 
 -- past the last field, and past the last code, there is none
-pub no-field : (r : Request) (k : ℕ) → 14 ≤ k → getD (ptyFields r) k [] ≡ []
+pub no-field : (n : ℕ) (r : Request) (k : ℕ) → 14 ≤ k → getD (ptyFields n r) k [] ≡ []
 unfolding ptyFields
-no-field r k h = List·getD-eq-default (ptyFields r) [] {n = k} h
+no-field n r k h = List·getD-eq-default (ptyFields n r) [] {n = k} h
 
 pub no-code : (k : ℕ) → 6 ≤ k → getD codes k [] ≡ []
 unfolding codes

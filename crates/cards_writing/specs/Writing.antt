@@ -1,21 +1,17 @@
--- A request as its two cards, and the requests that the writer takes.
+-- A request's PTY and FAC cards as they are written, and the requests that the writer takes.
 use Prim.Native.Nat.{ℕ, suc, _+_, _-_, _/_, _%_}
 use mathlib.Core.Bool.{Bool, true, false, cond, _&&_}
 use mathlib.Core.List.{List, [], _∷_, _++_}
-use lib.Dec.{eqb, ltb, leb}
-use lib.ListN.{length, getD, drop}
+use lib.Dec.{eqb, ltb}
+use lib.ListN.{length, getD}
 use Rattle.numbers.specs.Quoted.{byte, bytes}
-use Rattle.numbers.specs.declared.Refusal.the-variants.{NoRoom, WrongRequest}
 use Rattle.text.specs.Class.{isLetter}
 use Rattle.text.specs.Writing.{twoText, decimalText}
-use Rattle.cards_fields.specs.Fields.{spaceless}
-use Rattle.words.specs.Lines.{lf}
-use Rattle.cards.specs.Errors.{good}
+use Rattle.cards_fields.specs.Fields.{cardText, spaceless}
+use Rattle.cards_request.specs.Errors.{good}
 use Rattle.cards_pty.specs.Pty.{fieldsError}
 use Rattle.cards_fac.specs.Fac.{codes, slots, coreError, asksOf}
-use Rattle.cards.specs.declared.Request.{Request}
-use Rattle.cards_writing.specs.declared.Wrote.{Wrote}
-use Rattle.cards_writing.specs.declared.Wrote.the-variants.{Cards, Refused}
+use Rattle.cards_request.specs.declared.Request.{Request}
 
 -- "sequence two digits or absent, precedence always two digits"
 unfoldable pub priorityText : Request → List ℕ
@@ -25,12 +21,12 @@ priorityText r = cond (eqb (r .sequence) 0) [] (twoText (r .sequence)) ++ (r .le
 abbrev pub markText : ℕ → List ℕ
 markText b = spaceless (b ∷ [])
 
--- the fields of the PTY card; it is one of two cards; "numbers without leading zeros"
-unfoldable pub ptyFields : Request → List (List ℕ)
-ptyFields r =
+-- the fields of the PTY card of a request of n cards: "the count is the number of cards, no leading zero"
+unfoldable pub ptyFields : ℕ → Request → List (List ℕ)
+ptyFields n r =
     spaceless (r .id)
     ∷ bytes "PTY"
-    ∷ bytes "2"
+    ∷ decimalText n
     ∷ markText (r .rush)
     ∷ spaceless (r .program)
     ∷ markText (r .immediate)
@@ -76,27 +72,13 @@ entryTexts k (n ∷ ns) = cond (eqb n 0) (entryTexts (suc k) ns) (entryText k n 
 abbrev pub facFields : Request → List (List ℕ)
 facFields r = spaceless (r .id) ∷ bytes "FAC" ∷ entryTexts 0 (asksOf (r .facilities))
 
--- what follows a card's first field: a comma before each other, a period behind the last
-abbrev pub tailText : List (List ℕ) → List ℕ
-tailText [] = byte "." ∷ []
-tailText (f ∷ fs) = byte "," ∷ (f ++ tailText fs)
-
--- fields as a card
-abbrev pub cardText : List (List ℕ) → List ℕ
-cardText [] = byte "." ∷ []
-cardText (f ∷ fs) = f ++ tailText fs
-
 -- the PTY card
-unfoldable pub ptyText : Request → List ℕ
-ptyText r = cardText (trimmed (ptyFields r))
+unfoldable pub ptyText : ℕ → Request → List ℕ
+ptyText n r = cardText (trimmed (ptyFields n r))
 
 -- the FAC card
 unfoldable pub facText : Request → List ℕ
 facText r = cardText (facFields r)
-
--- THE TEXT OF A REQUEST: its two cards, each with its LF
-unfoldable pub textOf : Request → List ℕ
-textOf r = ptyText r ++ (lf ∷ (facText r ++ (lf ∷ [])))
 
 -- in the one form: blanks only behind a name; `over`: a blank was passed
 abbrev pub formedFrom : Bool → List ℕ → Bool
@@ -125,21 +107,9 @@ namesFormed r = formed 6 (r .id) && (formed 12 (r .program) && (formed 6 (r .med
 abbrev pub rangesGood : Request → Bool
 rangesGood r = isLetter (r .letter) && (ltb (r .sequence) 64 && (ltb (r .precedence) 64 && ltb (r .minutes) 10000))
 
--- 13: "request to write against a field, entry, 14 or 27 rule above"
-unfoldable pub takes : Request → Bool
-takes r =
+-- 13: "request to write against a field, entry, 14 or 27 rule above", of a request of n cards
+unfoldable pub takes : ℕ → Request → Bool
+takes n r =
     namesFormed r
     && (rangesGood r
-    && (good (fieldsError (ptyFields r)) && (numbersFit 0 (asksOf (r .facilities)) && good (coreError (asksOf (r .facilities))))))
-
--- 12: "card to write over 80 characters, or lent room too short"
-unfoldable pub fits : Request → ℕ → Bool
-fits r room = leb (length (ptyText r)) 80 && (leb (length (facText r)) 80 && leb (length (textOf r)) room)
-
--- WHAT WRITING ANSWERS: 13 before 12, else how many bytes the cards take
-unfoldable pub writeAnswer : Request → ℕ → Wrote
-writeAnswer r room = cond (takes r) (cond (fits r room) (Cards (length (textOf r))) (Refused NoRoom)) (Refused WrongRequest)
-
--- and what the lent room then holds: the cards, and behind them what was there; all of what was there on refusal
-unfoldable pub written : Request → List ℕ → List ℕ
-written r room = cond (takes r && fits r (length room)) (textOf r ++ drop (length (textOf r)) room) room
+    && (good (fieldsError (ptyFields n r)) && (numbersFit 0 (asksOf (r .facilities)) && good (coreError (asksOf (r .facilities))))))

@@ -1,13 +1,13 @@
 // Whether a request is one that a card can hold.
 use crate::put;
-use cards::Facilities;
-use cards::Request;
+use cards_request::Facilities;
+use cards_request::Request;
 ghost use mathlib.Core.Path.{_≡_};
 ghost use mathlib.Core.Bool.{false};
 ghost use mathlib.Core.List.{[]};
 ghost use Prim.Native.Nat.{_<_};
 ghost use lib.ListN.{getD};
-ghost use Rattle.cards.specs.Errors.{good};
+ghost use Rattle.cards_request.specs.Errors.{good};
 ghost use Rattle.cards_pty.specs.Pty.{ruleAt, fieldError, fieldsError};
 ghost use Rattle.cards_fac.specs.Fac.{asksOf};
 ghost use Rattle.cards_writing.specs.Writing.{ptyFields, formedFrom, limit, numbersFit, namesFormed, rangesGood, takes};
@@ -54,21 +54,21 @@ fn are_formed(r: Request) -> bool
 
 // Whether the text of a field is right; it is put into an array one byte longer than any may be, so that a longer one
 // shows.
-fn is_field(r: Request, k: usize) -> bool
-    ensures { λ b. ⌜ b ≡ good (fieldError k (ruleAt k) (getD (ptyFields r) k [])) ⌝ }
+fn is_field(r: Request, n: usize, k: usize) -> bool
+    ensures { λ b. ⌜ b ≡ good (fieldError k (ruleAt k) (getD (ptyFields n r) k [])) ⌝ }
 {
     let mut text = [0u8; 13];
-    let n = put::put_field(&mut text, 0, r, k);
-    cards::is_good(cards_pty::field_error(k, &text[..n]))
+    let len = put::put_field(&mut text, 0, r, n, k);
+    cards_request::is_good(cards_pty::field_error(k, &text[..len]))
 }
 
 // Whether the text of each field is right.
-fn are_fields(r: Request) -> bool
-    ensures { λ b. ⌜ b ≡ good (fieldsError (ptyFields r)) ⌝ }
+fn are_fields(r: Request, n: usize) -> bool
+    ensures { λ b. ⌜ b ≡ good (fieldsError (ptyFields n r)) ⌝ }
 {
     let mut k: usize = 0;
     while k < 14 {
-        if !is_field(r, k) {
+        if !is_field(r, n, k) {
             return false;
         }
         k += 1;
@@ -116,9 +116,9 @@ fn are_ranges(r: Request) -> bool
     r.minutes < 10000
 }
 
-// Whether the writer takes a request.
-pub fn is_taken(r: Request) -> bool
-    ensures { λ b. ⌜ b ≡ takes r ⌝ }
+// Whether the writer takes a request of n cards.
+pub fn is_taken(r: Request, n: usize) -> bool
+    ensures { λ b. ⌜ b ≡ takes n r ⌝ }
 {
     if !are_formed(r) {
         return false;
@@ -126,12 +126,12 @@ pub fn is_taken(r: Request) -> bool
     if !are_ranges(r) {
         return false;
     }
-    if !are_fields(r) {
+    if !are_fields(r, n) {
         return false;
     }
     let f = r.facilities;
     if !are_numbers(f) {
         return false;
     }
-    cards::is_good(cards_fac::core_error(f))
+    cards_request::is_good(cards_fac::core_error(f))
 }

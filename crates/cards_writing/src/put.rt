@@ -1,31 +1,16 @@
-// The pieces of the two cards, each put behind the one before it.
-use cards::Facilities;
-use cards::Request;
+// The pieces of the PTY and the FAC card, each put behind the one before it.
+use cards_fields::parts;
+use cards_request::Facilities;
+use cards_request::Request;
 ghost use mathlib.Core.Path.{_≡_};
 ghost use mathlib.Core.List.{[], _∷_};
 ghost use lib.Dec.{eqb};
 ghost use lib.ListN.{length, getD, drop};
 ghost use Rattle.text.specs.Room.{Written};
-ghost use Rattle.cards_fields.specs.Fields.{spaceless};
+ghost use Rattle.cards_fields.specs.Fields.{tailText};
 ghost use Rattle.cards_fac.specs.Fac.{codes, asksOf};
 ghost use Rattle.cards_writing.specs.Writing.{priorityText, markText, ptyFields, trimmed, ptyText};
-ghost use Rattle.cards_writing.specs.Writing.{codeAt, channelAt, entryText, entryTexts, tailText, facText};
-
-// Puts a name without its blanks.
-pub fn put_name(room: &mut [u8], at: usize, name: &[u8]) -> usize
-    ensures { λ r. ⌜ Written (now (room .entry)) at (spaceless (now (name .entry))) (now (room .exit)) r ⌝ }
-{
-    let mut next = at;
-    let mut i: usize = 0;
-    while i < name.len() {
-        let b = name[i];
-        i += 1;
-        if b != b' ' {
-            next = text::put_byte(room, next, b);
-        }
-    }
-    next
-}
+ghost use Rattle.cards_writing.specs.Writing.{codeAt, channelAt, entryText, entryTexts, facText};
 
 // Puts a mark, nothing for a blank.
 fn put_mark(room: &mut [u8], at: usize, mark: u8) -> usize
@@ -51,75 +36,75 @@ pub fn put_priority(room: &mut [u8], at: usize, r: Request) -> usize
     text::put_two(room, third, r.precedence)
 }
 
-// Puts the field at an index of the PTY card, nothing past the last.
-pub(crate) fn put_field(room: &mut [u8], at: usize, r: Request, k: usize) -> usize
-    ensures { λ next. ⌜ Written (now (room .entry)) at (getD (ptyFields r) k []) (now (room .exit)) next ⌝ }
+// Puts the field at an index of the PTY card of a request of n cards, nothing past the last.
+pub(crate) fn put_field(room: &mut [u8], at: usize, r: Request, n: usize, k: usize) -> usize
+    ensures { λ next. ⌜ Written (now (room .entry)) at (getD (ptyFields n r) k []) (now (room .exit)) next ⌝ }
 {
     let id = r.id;
     let program = r.program;
     let medium = r.medium;
     let library = r.library;
     match k {
-        0 => put_name(room, at, &id),
+        0 => parts::put_name(room, at, &id),
         1 => text::put_bytes(room, at, b"PTY"),
-        2 => text::put_bytes(room, at, b"2"),
+        2 => text::put_decimal(room, at, n as u64),
         3 => put_mark(room, at, r.rush),
-        4 => put_name(room, at, &program),
+        4 => parts::put_name(room, at, &program),
         5 => put_mark(room, at, r.immediate),
         6 => put_mark(room, at, r.device),
-        7 => put_name(room, at, &medium),
+        7 => parts::put_name(room, at, &medium),
         8 => put_mark(room, at, r.mode),
         9 => put_priority(room, at, r),
         10 => put_mark(room, at, r.mix),
         11 => text::put_decimal(room, at, r.minutes as u64),
         12 => put_mark(room, at, r.store),
-        13 => put_name(room, at, &library),
+        13 => parts::put_name(room, at, &library),
         _ => at,
     }
 }
 
 // Whether a field is empty: nothing of it is put.
-fn is_empty(r: Request, k: usize) -> bool
-    ensures { λ b. ⌜ b ≡ eqb (length (getD (ptyFields r) k [])) 0 ⌝ }
+fn is_empty(r: Request, n: usize, k: usize) -> bool
+    ensures { λ b. ⌜ b ≡ eqb (length (getD (ptyFields n r) k [])) 0 ⌝ }
 {
     let mut text = [0u8; 1];
-    put_field(&mut text, 0, r, k) == 0
+    put_field(&mut text, 0, r, n, k) == 0
 }
 
 // How many fields are written: all but the empty ones behind the estimated minutes, which are never empty.
-fn field_count(r: Request) -> usize
-    ensures { λ n. ⌜ n ≡ length (trimmed (ptyFields r)) ⌝ }
+fn field_count(r: Request, n: usize) -> usize
+    ensures { λ m. ⌜ m ≡ length (trimmed (ptyFields n r)) ⌝ }
 {
-    if !is_empty(r, 13) {
+    if !is_empty(r, n, 13) {
         return 14;
     }
-    if !is_empty(r, 12) {
+    if !is_empty(r, n, 12) {
         return 13;
     }
     12
 }
 
 // Puts what follows the PTY card's first field.
-fn put_fields(room: &mut [u8], at: usize, r: Request) -> usize
-    ensures { λ next. ⌜ Written (now (room .entry)) at (tailText (drop 1 (trimmed (ptyFields r)))) (now (room .exit)) next ⌝ }
+fn put_fields(room: &mut [u8], at: usize, r: Request, n: usize) -> usize
+    ensures { λ next. ⌜ Written (now (room .entry)) at (tailText (drop 1 (trimmed (ptyFields n r)))) (now (room .exit)) next ⌝ }
 {
-    let n = field_count(r);
+    let count = field_count(r, n);
     let mut next = at;
     let mut k: usize = 1;
-    while k < n {
+    while k < count {
         let comma = text::put_byte(room, next, b',');
-        next = put_field(room, comma, r, k);
+        next = put_field(room, comma, r, n, k);
         k += 1;
     }
     text::put_byte(room, next, b'.')
 }
 
-// Puts the PTY card.
-pub(crate) fn put_pty(room: &mut [u8], at: usize, r: Request) -> usize
-    ensures { λ next. ⌜ Written (now (room .entry)) at (ptyText r) (now (room .exit)) next ⌝ }
+// Puts the PTY card of a request of n cards.
+pub fn put_pty(room: &mut [u8], at: usize, r: Request, n: usize) -> usize
+    ensures { λ next. ⌜ Written (now (room .entry)) at (ptyText n r) (now (room .exit)) next ⌝ }
 {
-    let id = put_field(room, at, r, 0);
-    put_fields(room, id, r)
+    let id = put_field(room, at, r, n, 0);
+    put_fields(room, id, r, n)
 }
 
 // Puts the code of a slot.
@@ -191,10 +176,11 @@ fn put_entries(room: &mut [u8], at: usize, f: Facilities) -> usize
 }
 
 // Puts the FAC card.
-pub(crate) fn put_fac(room: &mut [u8], at: usize, r: Request) -> usize
+pub fn put_fac(room: &mut [u8], at: usize, r: Request) -> usize
     ensures { λ next. ⌜ Written (now (room .entry)) at (facText r) (now (room .exit)) next ⌝ }
 {
-    let id = put_field(room, at, r, 0);
-    let word = text::put_bytes(room, id, b",FAC");
+    let id = r.id;
+    let next = parts::put_name(room, at, &id);
+    let word = text::put_bytes(room, next, b",FAC");
     put_entries(room, word, r.facilities)
 }

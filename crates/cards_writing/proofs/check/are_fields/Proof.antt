@@ -4,7 +4,7 @@ use Prim.Native.Nat.{_-_, _≤_}
 use mathlib.Core.Path.{_≡_, refl, sym, ap, _∙_}
 use native.Mathlib.Omega.{arith}
 use borrow.Author.Tests.{not-true, not-false}
-use Rattle.cards.specs.Errors.{good}
+use Rattle.cards_request.specs.Errors.{good}
 use Rattle.cards_pty.specs.Pty.{fieldsError}
 use Rattle.cards_pty.proofs.PtyLaws.{fromIndex, fields-done}
 use Rattle.cards_writing.specs.Writing.{ptyFields}
@@ -14,10 +14,10 @@ use Rattle.cards_writing.proofs.check.are_fields.Statement.{statement}
 use Rattle.cards_writing.proofs.check.are_fields.Tie as tie
 
 abbrev Inv-loop : tie.InvT-loop
-Inv-loop r k₀ k = (k ≤ 14) × (good (fromIndex k (ptyFields r)) ≡ good (fieldsError (ptyFields r)))
+Inv-loop r n k₀ k = (k ≤ 14) × (good (fromIndex k (ptyFields n r)) ≡ good (fieldsError (ptyFields n r)))
 
 abbrev μ-loop : tie.MeasureT-loop
-μ-loop r k₀ k = 14 - k
+μ-loop r n k₀ k = 14 - k
 
 loop-holds : tie.Need-loop-holds Inv-loop μ-loop
 loop-holds c = (omega arith, refl)
@@ -26,7 +26,7 @@ is-field-requires : tie.Need-is-field-requires Inv-loop μ-loop
 is-field-requires c κs = search needs
 
 returns : tie.Need-returns Inv-loop μ-loop
-returns c = sym (fields-wrong (ptyFields (c .before .before .before .before .args .r)) (c .before .before .before .loop .k) (c .before .before .loop-test .taken) (c .before .is-field .result) (c .before .is-field .ensures) (not-true _ (c .if1 .taken))) ∙ c .before .before .before .loop .inv .1
+returns c = sym (fields-wrong (ptyFields (c .before .before .before .before .args .n) (c .before .before .before .before .args .r)) (c .before .before .before .loop .k) (c .before .before .loop-test .taken) (c .before .is-field .result) (c .before .is-field .ensures) (not-true _ (c .if1 .taken))) ∙ c .before .before .before .loop .inv .1
 
 add-k : tie.Need-add-k Inv-loop μ-loop
 add-k c = search needs
@@ -35,10 +35,10 @@ loop-less : tie.Need-loop-less Inv-loop μ-loop
 loop-less c = search needs
 
 loop-again : tie.Need-loop-again Inv-loop μ-loop
-loop-again c = (omega arith, sym (fields-right (ptyFields (c .before .before .before .before .args .r)) (c .before .before .before .loop .k) (c .before .before .loop-test .taken) (c .before .is-field .result) (c .before .is-field .ensures) (not-false _ (c .if1 .left))) ∙ c .before .before .before .loop .inv .1)
+loop-again c = (omega arith, sym (fields-right (ptyFields (c .before .before .before .before .args .n) (c .before .before .before .before .args .r)) (c .before .before .before .loop .k) (c .before .before .loop-test .taken) (c .before .is-field .result) (c .before .is-field .ensures) (not-false _ (c .if1 .left))) ∙ c .before .before .before .loop .inv .1)
 
 returns-2 : tie.Need-returns-2 Inv-loop μ-loop
-returns-2 c = sym (ap good (fields-done (ptyFields (c .before .before .args .r)) (c .before .loop .k) (c .loop-test .left))) ∙ c .before .loop .inv .1
+returns-2 c = sym (ap good (fields-done (ptyFields (c .before .before .args .n) (c .before .before .args .r)) (c .before .loop .k) (c .loop-test .left))) ∙ c .before .loop .inv .1
 
 pub are-fields-spec : {M : Type 1} → statement M
 are-fields-spec =

@@ -4,7 +4,7 @@ use Prim.Native.Nat.{_-_, _≤_}
 use mathlib.Core.Path.{_≡_, refl, sym, _∙_}
 use native.Mathlib.Omega.{arith}
 use lib.ListN.{length, drop}
-use Rattle.cards.specs.Requests.{counts}
+use Rattle.cards_request.specs.Requests.{counts}
 use Rattle.cards_fac.specs.Fac.{slots, asksOf}
 use Rattle.cards_writing.specs.Writing.{numbersFit}
 use Rattle.cards_writing.proofs.CheckLaws.{number-high, number-low, numbers-done}

@@ -1,7 +1,7 @@
 -- `cards_writing::check::is_field` meets its contract: a field of over twelve bytes shows as such. Assumes nothing.
 use mathlib.Core.Path.{ap, _∙_}
 use Rattle.text.proofs.RoomLaws.{written-length}
-use Rattle.cards.specs.Errors.{good}
+use Rattle.cards_request.specs.Errors.{good}
 use Rattle.cards_writing.proofs.CheckLaws.{field-put}
 use borrow.Author.Needs.{needs}
 use Rattle.cards_writing.proofs.check.is_field.Statement.{statement}

@@ -1,7 +1,7 @@
 -- `cards_writing::check::is_taken` meets its contract, test by test. Assumes nothing.
 use mathlib.Core.Path.{sym, ap, _∙_}
 use borrow.Author.Tests.{not-true, not-false}
-use Rattle.cards.specs.Errors.{good}
+use Rattle.cards_request.specs.Errors.{good}
 use Rattle.cards_writing.specs.Writing.{takes}
 use borrow.Author.Needs.{needs}
 use Rattle.cards_writing.proofs.check.is_taken.Statement.{statement}

@@ -5,9 +5,10 @@ use mathlib.Core.Path.{_≡_}
 use native.Mathlib.Omega.{arith}
 use lib.ListN.{length, drop}
 use Rattle.text.proofs.RoomLaws.{same-room, Going}
-use Rattle.cards.specs.Requests.{counts}
+use Rattle.cards_request.specs.Requests.{counts}
 use Rattle.cards_fac.specs.Fac.{slots, asksOf}
-use Rattle.cards_writing.specs.Writing.{entryTexts, tailText}
+use Rattle.cards_fields.specs.Fields.{tailText}
+use Rattle.cards_writing.specs.Writing.{entryTexts}
 use Rattle.cards_writing.proofs.PutLaws.{entry-skip, entry-turn, entry-end}
 use borrow.Author.Needs.{needs}
 use Rattle.cards_writing.proofs.put.put_entries.Statement.{statement}

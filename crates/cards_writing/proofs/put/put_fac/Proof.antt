@@ -1,12 +1,15 @@
 -- `cards_writing::put::put_fac` meets its contract: the ID, the word FAC, and the entries. Assumes nothing.
 use Rattle.text.proofs.RoomLaws.{andThen}
-use Rattle.cards_writing.specs.Writing.{facText, ptyFields}
+use Rattle.cards_writing.specs.Writing.{facText}
 use borrow.Author.Needs.{needs}
 use Rattle.cards_writing.proofs.put.put_fac.Statement.{statement}
 use Rattle.cards_writing.proofs.put.put_fac.Tie as tie
 
-put-field-requires : tie.Need-put-field-requires
-put-field-requires c κs = search needs
+slice-aggregate-put-name : tie.Need-slice-aggregate-put-name
+slice-aggregate-put-name c = search needs
+
+put-name-requires : tie.Need-put-name-requires
+put-name-requires c κs = search needs
 
 slice-aggregate-put-bytes : tie.Need-slice-aggregate-put-bytes
 slice-aggregate-put-bytes c = search needs
@@ -21,14 +24,15 @@ same-length : tie.Need-same-length
 same-length c = search needs
 
 returns : tie.Need-returns
-unfolding facText ptyFields
-returns c = andThen (c .before .before .before .before .before .before .before .before .before .before .before .put-field .ensures) (andThen (c .before .before .before .before .before .before .put-bytes .ensures) (c .before .before .put-entries .ensures))
+unfolding facText
+returns c = andThen (c .before .before .before .before .before .before .before .before .before .before .before .put-name .ensures) (andThen (c .before .before .before .before .before .before .put-bytes .ensures) (c .before .before .put-entries .ensures))
 
 pub put-fac-spec : {M : Type 1} → statement M
 put-fac-spec =
     tie.close
     (tie.spec
-    put-field-requires
+    slice-aggregate-put-name
+    put-name-requires
     slice-aggregate-put-bytes
     put-bytes-requires
     put-entries-requires

@@ -19,11 +19,8 @@ slice-aggregate-put-bytes c = search needs
 put-bytes-requires : tie.Need-put-bytes-requires
 put-bytes-requires c κs = search needs
 
-slice-aggregate-put-bytes-2 : tie.Need-slice-aggregate-put-bytes-2
-slice-aggregate-put-bytes-2 c = search needs
-
-put-bytes-requires-2 : tie.Need-put-bytes-requires-2
-put-bytes-requires-2 c κs = search needs
+put-decimal-requires : tie.Need-put-decimal-requires
+put-decimal-requires c κs = search needs
 
 put-mark-requires : tie.Need-put-mark-requires
 put-mark-requires c κs = search needs
@@ -58,8 +55,8 @@ put-mark-requires-5 c κs = search needs
 cast-put-decimal : tie.Need-cast-put-decimal
 cast-put-decimal c = search needs
 
-put-decimal-requires : tie.Need-put-decimal-requires
-put-decimal-requires c κs = search needs
+put-decimal-requires-2 : tie.Need-put-decimal-requires-2
+put-decimal-requires-2 c κs = search needs
 
 put-mark-requires-6 : tie.Need-put-mark-requires-6
 put-mark-requires-6 c κs = search needs
@@ -89,7 +86,7 @@ same-length-3 c = search needs
 
 returns-3 : tie.Need-returns-3
 unfolding ptyFields
-returns-3 c = rw (c .before .before .before .before .before .match .keys3) (c .before .before .put-bytes2 .ensures)
+returns-3 c = rw (c .before .before .before .before .match .keys3) (c .before .before .put-decimal .ensures)
 
 same-length-4 : tie.Need-same-length-4
 same-length-4 c = search needs
@@ -152,7 +149,7 @@ same-length-12 c = search needs
 
 returns-12 : tie.Need-returns-12
 unfolding ptyFields
-returns-12 c = rw (c .before .before .before .before .before .match .keys12) (c .before .before .put-decimal .ensures)
+returns-12 c = rw (c .before .before .before .before .before .match .keys12) (c .before .before .put-decimal2 .ensures)
 
 same-length-13 : tie.Need-same-length-13
 same-length-13 c = search needs
@@ -169,7 +166,7 @@ unfolding ptyFields
 returns-14 c = rw (c .before .before .before .before .before .match .keys14) (c .before .before .put-name4 .ensures)
 
 returns-15 : tie.Need-returns-15
-returns-15 c = rw (no-field (c .before .before .before .before .before .before .args .r) (c .before .before .before .before .before .before .args .k) (missed 14 (c .before .before .before .before .before .before .args .k) (c .match .rest))) (none (c .before .before .before .before .before .before .args .room .now) (c .before .before .before .before .before .before .args .at))
+returns-15 c = rw (no-field (c .before .before .before .before .before .before .args .n) (c .before .before .before .before .before .before .args .r) (c .before .before .before .before .before .before .args .k) (missed 14 (c .before .before .before .before .before .before .args .k) (c .match .rest))) (none (c .before .before .before .before .before .before .args .room .now) (c .before .before .before .before .before .before .args .at))
 
 pub put-field-spec : {M : Type 1} → statement M
 put-field-spec =
@@ -179,8 +176,7 @@ put-field-spec =
     put-name-requires
     slice-aggregate-put-bytes
     put-bytes-requires
-    slice-aggregate-put-bytes-2
-    put-bytes-requires-2
+    put-decimal-requires
     put-mark-requires
     slice-aggregate-put-name-2
     put-name-requires-2
@@ -192,7 +188,7 @@ put-field-spec =
     put-priority-requires
     put-mark-requires-5
     cast-put-decimal
-    put-decimal-requires
+    put-decimal-requires-2
     put-mark-requires-6
     slice-aggregate-put-name-4
     put-name-requires-4

@@ -2,7 +2,7 @@
 -- fields, so that their texts are right fields again, and each number that is asked for was a good entry's. Assumes
 -- nothing.
 use Prim.Native.Nat.{ℕ, zero, suc, _+_, _≤_, _<_}
-use mathlib.Core.Path.{_≡_, refl, sym, ap, subst, _∙_}
+use mathlib.Core.Path.{_≡_, refl, sym, ap, _∙_}
 use mathlib.Core.Bool.{Bool, true, false, cond, _&&_, _||_, not}
 use mathlib.Core.List.{List, [], _∷_, _++_}
 use native.Mathlib.Nat.{le-of-suc-le-suc}
@@ -19,25 +19,23 @@ use Rattle.words.specs.Words.{every, value}
 use Rattle.words.proofs.WordLaws.{every-weaker, tens, value-below}
 use Rattle.cards_fields.specs.Fields.{field, fields, spaceless, padded, malformed}
 use Rattle.cards_fields.proofs.FieldLaws.{padded-length}
-use Rattle.cards.specs.Errors.{good, errorIf, orElse}
-use Rattle.cards.proofs.ErrorLaws.{not-good, or-else-none}
+use Rattle.cards_request.specs.Errors.{good, errorIf, orElse}
+use Rattle.cards_request.proofs.ErrorLaws.{or-else-none}
 use Rattle.cards_pty.specs.Pty.{rules, ruleAt, sequenceText, letterOf, precedenceText, sequenceGood, precedence, precedenceGood, lastOfAll, ranked, priorityOf, fieldError, fieldsError, ptyError}
 use Rattle.cards_pty.proofs.PtyLaws.{right-at, good-field, right, fields-good}
 use Rattle.cards_pty.proofs.PriorityLaws.{rank-good}
 use Rattle.cards_fac.specs.Fac.{codeOf, slotOf, most, numberText, nothing, formError, entryError, entered, entriesError, allEntered, coreError, facilitiesOf, asksOf, facError, entriesOf, asked}
 use Rattle.cards_fac.proofs.EntryLaws.{good-number, number-below, small-number}
-use Rattle.cards_group.specs.Group.{mark, frontError, orderedError, requestOf, answer, readCards, readGroup}
-use Rattle.cards.specs.declared.CardError.the-variants.{WrongEntry, FacMalformed}
+use Rattle.cards_group.specs.Group.{mark, requestOf}
+use Rattle.cards_request.specs.declared.CardError.the-variants.{WrongEntry, FacMalformed}
 use Rattle.cards_pty.specs.declared.Priority.{Priority}
-use Rattle.cards.specs.declared.Request.{Request}
-use Rattle.cards_group.specs.declared.Reading.{Reading}
-use Rattle.cards.specs.declared.Verdict.{Verdict}
-use Rattle.cards.specs.declared.Verdict.the-variants.{Good, Wrong}
-use Rattle.cards_writing.specs.Writing.{priorityText, markText, ptyFields, formedFrom, formed, limit, numbersFit, takes, textOf, fits, writeAnswer}
-use Rattle.cards_writing.specs.declared.Wrote.the-variants.{Cards, Refused}
-use Rattle.numbers.specs.declared.Refusal.the-variants.{NoRoom, WrongRequest}
+use Rattle.cards_request.specs.declared.Request.{Request}
+use Rattle.cards_request.specs.declared.Verdict.{Verdict}
+use Rattle.cards_request.specs.declared.Verdict.the-variants.{Good}
+use Rattle.cards_writing.specs.Writing.{priorityText, markText, ptyFields, formedFrom, formed, limit, numbersFit, takes}
 use Rattle.cards_writing.proofs.PutLaws.{number-some}
-use Rattle.cards_writing.proofs.Back.{plain, clean, alnum-plain, listed, named, number-digits, two-digits, two-back, priority-ranked}
+use Rattle.cards_fields.proofs.CardLaws.{plain, clean, alnum-plain, number-digits}
+use Rattle.cards_writing.proofs.Back.{listed, named, two-digits, two-back, priority-ranked}
 
 -- a text without blanks in a fixed width
 module _ where
@@ -133,7 +131,7 @@ entry-limit t e =
     drum true h = h
     drum false h = omega arith
 
-fit-all : (asks : List ℕ) (ts : List (List ℕ)) → numbersFit 0 asks ≡ true → entriesError asks ts ≡ Good → numbersFit 0 (allEntered asks ts) ≡ true
+pub fit-all : (asks : List ℕ) (ts : List (List ℕ)) → numbersFit 0 asks ≡ true → entriesError asks ts ≡ Good → numbersFit 0 (allEntered asks ts) ≡ true
 fit-all asks [] f e = f
 fit-all asks (t ∷ ts) f e =
     let x = or-else-none (entryError asks t) (entriesError (entered asks t) ts) e in
@@ -142,18 +140,18 @@ fit-all asks (t ∷ ts) f e =
     fit-all (entered asks t) ts (fit-set 0 (slotOf t) (value (numberText t)) asks f (rw z (entry-limit t (y .0)))) (x .1)
 
 -- what is held gives what was asked for
-asks-held : (asks : List ℕ) → numbersFit 0 asks ≡ true → asksOf (facilitiesOf asks) ≡ asks
+pub asks-held : (asks : List ℕ) → numbersFit 0 asks ≡ true → asksOf (facilitiesOf asks) ≡ asks
 asks-held [] f = never f refl
 asks-held (a ∷ []) f = never (both (ltb a 100) false f .1) refl
 asks-held (a ∷ b ∷ []) f = never (both (ltb b 100) false (both (ltb a 100) (numbersFit 1 (b ∷ [])) f .1) .1) refl
 asks-held (a ∷ b ∷ c ∷ ns) f = refl
 
 -- one field more
-more : {v w : Verdict} → v ≡ Good → w ≡ Good → orElse v w ≡ Good
+pub more : {v w : Verdict} → v ≡ Good → w ≡ Good → orElse v w ≡ Good
 more e g = rw e g
 
 -- the text of a good priority is a good field
-priority-text : (q l p : ℕ) → q < 64 → p < 64 → isLetter l ≡ true → lastOfAll l p ≡ false → fieldError 9 (ruleAt 9) (cond (eqb q 0) [] (twoText q) ++ (l ∷ twoText p)) ≡ Good
+pub priority-text : (q l p : ℕ) → q < 64 → p < 64 → isLetter l ≡ true → lastOfAll l p ≡ false → fieldError 9 (ruleAt 9) (cond (eqb q 0) [] (twoText q) ++ (l ∷ twoText p)) ≡ Good
 unfolding rules
 priority-text q l p hq hp hl z =
     right 9 (ruleAt 9) (cond (eqb q 0) [] (twoText q) ++ (l ∷ twoText p)) (sizes .0) (sizes .1)
@@ -163,11 +161,16 @@ priority-text q l p hq hp hl z =
     sizes = by-bool (eqb q 0) (λ e. rw e (omega arith, omega arith)) (λ e. rw e (omega arith, omega arith))
 
 -- a number of at most four digits
-minutes-text : (n : ℕ) → n < 10000 → fieldError 11 (ruleAt 11) (decimalText n) ≡ Good
+pub minutes-text : (n : ℕ) → n < 10000 → fieldError 11 (ruleAt 11) (decimalText n) ≡ Good
 unfolding rules
 minutes-text n h = right 11 (ruleAt 11) (decimalText n) (omega (arith, number-some n)) (few-digits 3 n h) (number-digits n)
 
-module _ (pty asks : List ℕ) (e : fieldsError (fields pty) ≡ Good) (f : numbersFit 0 asks ≡ true) (c : coreError asks ≡ Good) where
+-- a count of at most two digits
+pub count-text : (n : ℕ) → n ≤ 99 → fieldError 2 (ruleAt 2) (decimalText n) ≡ Good
+unfolding rules
+count-text n h = right 2 (ruleAt 2) (decimalText n) (omega (arith, number-some n)) (few-digits 1 n (omega arith)) (number-digits n)
+
+module _ (n : ℕ) (few : n ≤ 99) (pty asks : List ℕ) (e : fieldsError (fields pty) ≡ Good) (f : numbersFit 0 asks ≡ true) (c : coreError asks ≡ Good) where
   -- what its rule says of each field
   rule-of : (k : ℕ) → k < 14 → (ruleAt k .least ≤ length (field pty k)) × ((length (field pty k) ≤ ruleAt k .most) × (ruleAt k .content (field pty k) ≡ true))
   rule-of k h = good-field k (ruleAt k) (field pty k) (right-at (fields pty) e k h)
@@ -203,12 +206,12 @@ module _ (pty asks : List ℕ) (e : fieldsError (fields pty) ≡ Good) (f : numb
   unfolding rules
   library-plain = every-weaker isAlnum plain alnum-plain (field pty 13) (rule-of 13 (omega arith) .1 .1)
 
-  fields-again : fieldsError (ptyFields r) ≡ Good
+  fields-again : fieldsError (ptyFields n r) ≡ Good
   unfolding ptyFields rules priorityText isAlnum isLetter isDigit
   fields-again =
       more (again 0 (omega arith) (spaceless (padded 6 (field pty 0))) (unpadded 6 (field pty 0) id-plain (rule-of 0 (omega arith) .1 .0)))
       (more refl
-      (more refl
+      (more (count-text n few)
       (more (again 3 (omega arith) (markText (mark (field pty 3))) (mark-again (field pty 3) (listed (bytes "S") (field pty 3) refl (rule-of 3 (omega arith) .1 .1)) (rule-of 3 (omega arith) .1 .0)))
       (more (again 4 (omega arith) (spaceless (padded 12 (field pty 4))) (unpadded 12 (field pty 4) program-plain (rule-of 4 (omega arith) .1 .0)))
       (more (again 5 (omega arith) (markText (mark (field pty 5))) (mark-again (field pty 5) (listed (bytes "I") (field pty 5) refl (rule-of 5 (omega arith) .1 .1)) (rule-of 5 (omega arith) .1 .0)))
@@ -222,7 +225,7 @@ module _ (pty asks : List ℕ) (e : fieldsError (fields pty) ≡ Good) (f : numb
       (more (again 13 (omega arith) (spaceless (padded 6 (field pty 13))) (unpadded 6 (field pty 13) library-plain (rule-of 13 (omega arith) .1 .0)))
       refl)))))))))))))
 
-  pub request-taken : takes r ≡ true
+  pub request-taken : takes n r ≡ true
   unfolding takes
   request-taken =
       let held = asks-held asks f in
@@ -241,32 +244,11 @@ module _ (pty asks : List ℕ) (e : fieldsError (fields pty) ≡ Good) (f : numb
       )
       (ap (λ (x : Bool). x && good (coreError (asksOf (r .facilities)))) g ∙ d)
 
--- an answer without error is the request
-answered : (v : Verdict) (q r : Request) → answer v q ≡ record { verdict = Good; request = r } → (v ≡ Good) × (q ≡ r)
-answered Good q r e = (refl, ap (λ (x : Reading). x .request) e)
-answered (Wrong x) q r e = not-good (ap (λ (y : Reading). y .verdict) e)
-
--- EVERY REQUEST READ FROM CARDS IS ONE THAT THE WRITER TAKES: 13 never arises
-pub read-taken : (cards : List (List ℕ)) (r : Request) → readGroup cards ≡ record { verdict = Good; request = r } → takes r ≡ true
-unfolding readCards orderedError frontError facError
-read-taken cards r e =
-    let n = length cards in
-    let pty = getD cards 0 [] in
-    let fac = getD cards 1 [] in
-    let third = getD cards 2 [] in
-    let a = answered (orderedError n pty fac third) (requestOf pty (asked fac)) r e in
-    let b = or-else-none (frontError n pty fac third) (facError fac) (a .0) in
-    let p = or-else-none (ptyError pty) _ (b .0) .0 in
-    let m = or-else-none (errorIf (malformed fac) FacMalformed) (orElse (entriesError nothing (entriesOf fac)) (orElse (coreError (asked fac)) Good)) (b .1) .1 in
+-- EVERY REQUEST READ FROM CARDS IS ONE THAT THE WRITER TAKES, whatever the number of its cards
+pub read-taken : (n : ℕ) → n ≤ 99 → (pty fac : List ℕ) → ptyError pty ≡ Good → facError fac ≡ Good → takes n (requestOf pty (asked fac)) ≡ true
+unfolding facError
+read-taken n few pty fac p f =
+    let m = or-else-none (errorIf (malformed fac) FacMalformed) (orElse (entriesError nothing (entriesOf fac)) (orElse (coreError (asked fac)) Good)) f .1 in
     let s = or-else-none (entriesError nothing (entriesOf fac)) (orElse (coreError (asked fac)) Good) m in
     let c = or-else-none (coreError (asked fac)) Good (s .1) .0 in
-    subst (λ (x : Request). takes x ≡ true) (a .1) (request-taken pty (asked fac) (fields-good pty p) (fit-all nothing (entriesOf fac) refl (s .0)) c)
-
--- whatever the room
-pub never-13 : (cards : List (List ℕ)) (r : Request) (room : ℕ) → readGroup cards ≡ record { verdict = Good; request = r } → writeAnswer r room ≡ Refused WrongRequest → ⊥
-unfolding writeAnswer
-never-13 cards r room e w =
-    let t = read-taken cards r e in
-    by-bool (fits r room)
-    (λ f. let n : Cards (length (textOf r)) ≡ Refused WrongRequest = rw (t, f) at w in let z : _≡_ {A = ℕ} 0 1 = cc in omega arith)
-    (λ f. let n : Refused NoRoom ≡ Refused WrongRequest = rw (t, f) at w in let z : _≡_ {A = ℕ} 0 1 = cc in omega arith)
+    request-taken n few pty (asked fac) (fields-good pty p) (fit-all nothing (entriesOf fac) refl (s .0)) c

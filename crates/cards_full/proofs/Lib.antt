@@ -1,0 +1,5 @@
+pub mod Round
+pub mod Kept
+pub mod WriteLaws
+pub mod FurtherPut
+pub mod FullHeld
