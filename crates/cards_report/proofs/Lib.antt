@@ -1,0 +1,4 @@
+pub mod TableLines
+pub mod Bounds
+pub mod Pieces
+pub mod Whole

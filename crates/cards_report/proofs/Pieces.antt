@@ -1,0 +1,172 @@
+-- A piece put is the piece to come: the first group of what is left of a deck is taken in turn. Assumes nothing.
+use Prim.Native.Nat.{ℕ, zero, suc, _+_, _-_, _≤_}
+use mathlib.Core.Path.{_≡_, refl, sym, ap, subst, _∙_}
+use mathlib.Core.Bool.{Bool, true, false, cond}
+use mathlib.Core.List.{List, [], _∷_}
+use native.Mathlib.Omega.{arith}
+use lib.Dec.{eqb}
+use lib.ListN.{length, getD, take, drop, length-take, length-drop, drop-of-length-le}
+use lib.Seq.{length-take-le, take-all}
+use Rattle.numbers.specs.declared.Refusal.{Refusal}
+use Rattle.text.specs.Room.{Written, Whole}
+use Rattle.text.proofs.RoomLaws.{none, entire}
+use Rattle.words.specs.Lines.{ontoLine}
+use Rattle.cards_fields.specs.Deck.{cardsOf, size, opens, ontoGroup, groupsOf, firstGroup, groupSize, deckEnd}
+use Rattle.cards_fields.proofs.Groups.{in-turn}
+use Rattle.cards_fields.specs.declared.DeckEnd.{DeckEnd}
+use Rattle.cards_fields.specs.declared.DeckEnd.the-variants as Ends
+use Rattle.cards_lines.specs.Shown.{shownBy, refusedText}
+use Rattle.cards_group.specs.Group.{readFull}
+use Rattle.cards_report.specs.Cards.{textBy, groupText, endText, beginBy, begin, left, pieceBy, piece, over, nextBy, after, Prints}
+use Rattle.cards_report.proofs.Bounds.{text-short, refused-short}
+use Rattle.cards_report.specs.declared.Phase.{Phase}
+use Rattle.cards_report.specs.declared.Phase.the-variants.{Groups, Refused, Over}
+use Rattle.cards_report.specs.declared.Printing.{Printing}
+
+-- ---- the first group of a text
+
+-- cards take no more bytes than the text has that they are read from
+pub size-cards : (s : List ℕ) → size (cardsOf s) ≤ length s
+size-cards [] = omega arith
+size-cards (b ∷ s) = by (eqb b 10) (size-cards s)
+  where
+    line : (cs : List (List ℕ)) → size (ontoLine b cs) ≤ suc (size cs)
+    line [] = omega arith
+    line (c ∷ cs) = omega arith
+
+    by : (x : Bool) → size (cardsOf s) ≤ length s → size (cond x ([] ∷ cardsOf s) (ontoLine b (cardsOf s))) ≤ suc (length s)
+    by true h = omega arith
+    by false h = omega (arith, line (cardsOf s))
+
+-- the first group is some of the cards, and has a byte at least
+first-size : (c : List ℕ) (cs : List (List ℕ)) → (1 ≤ size (firstGroup (c ∷ cs))) × (size (firstGroup (c ∷ cs)) ≤ size (c ∷ cs))
+first-size c [] = (omega arith, omega arith)
+first-size c (d ∷ ds) = by (opens (d ∷ ds)) (groupsOf (d ∷ ds)) (first-size d ds .1)
+  where
+    by : (b : Bool) (gs : List (List (List ℕ))) → size (getD gs 0 []) ≤ size (d ∷ ds) → (1 ≤ size (getD (ontoGroup c b gs) 0 [])) × (size (getD (ontoGroup c b gs) 0 []) ≤ length c + 1 + size (d ∷ ds))
+    by true gs h = (omega arith, omega arith)
+    by false [] h = (omega arith, omega arith)
+    by false (g ∷ gs) h = (omega arith, omega arith)
+
+-- a text without cards has no group; else its groups are the cards of its first bytes, and those of the rest
+pub record First (d : List ℕ) : Type 0 where
+  pub some : 1 ≤ groupSize d
+  pub within : groupSize d ≤ length d
+  pub sized : size (cardsOf (take (groupSize d) d)) ≡ groupSize d
+  pub next : groupsOf (cardsOf d) ≡ cardsOf (take (groupSize d) d) ∷ groupsOf (cardsOf (drop (groupSize d) d))
+
+first-of : (d c : List ℕ) (cs : List (List ℕ)) → cardsOf d ≡ c ∷ cs → First d
+first-of d c cs e =
+    let p : (1 ≤ size (firstGroup (cardsOf d))) × (size (firstGroup (cardsOf d)) ≤ size (cardsOf d)) =
+    subst (λ (l : List (List ℕ)). (1 ≤ size (firstGroup l)) × (size (firstGroup l) ≤ size l)) (sym e) (first-size c cs) in
+    let t = in-turn d c cs e in
+    record { some = p .0; within = omega (arith, p .1, size-cards d); sized = ap size (t .first); next = t .next }
+
+pub data Either (d : List ℕ) : Type 0 where
+  empty : groupsOf (cardsOf d) ≡ [] → groupSize d ≡ 0 → Either d
+  full : First d → Either d
+
+pub either : (d : List ℕ) → Either d
+either d = by (cardsOf d) refl
+  where
+    by : (cs : List (List ℕ)) → cardsOf d ≡ cs → Either d
+    by [] e = empty (rw e) (rw e)
+    by (c ∷ cs) e = full (first-of d c cs e)
+
+-- ---- what is left of a deck
+
+-- as the code takes it
+module _ (s : List ℕ) (from end : ℕ) where
+  pub part-past : length s ≤ from → [] ≡ take (end - from) (drop from s)
+  part-past h = sym (ap (take (end - from)) (drop-of-length-le s h) ∙ take-none (end - from))
+    where
+      take-none : (n : ℕ) → take {A = ℕ} n [] ≡ []
+      take-none zero = refl
+      take-none (suc n) = refl
+
+  pub part-none : end ≤ from → [] ≡ take (end - from) (drop from s)
+  part-none h = let e : end - from ≡ 0 = omega arith in rw e
+
+  pub part-long : length s ≤ end → take (length s - from) (drop from s) ≡ take (end - from) (drop from s)
+  part-long h =
+      take-all (length s - from) (drop from s) (omega (arith, length-drop from s))
+      ∙ sym (take-all (end - from) (drop from s) (omega (arith, length-drop from s)))
+
+-- ---- a piece
+
+-- groups are to come
+abbrev pub to : ℕ → ℕ → List ℕ → Printing
+to from end shown = record { phase = Groups; from = from; end = end; shown = shown }
+
+module _ (s : List ℕ) (p : Printing) where
+  module _ {room after· : List ℕ} (l : length room ≡ 2048) where
+    prints : (piece· : List ℕ) (next : Printing) → piece· ≡ piece s p → next ≡ after s p → length piece· ≤ 2048 → {at : ℕ} → Written room 0 piece· after· at
+        → Prints s p room after· (record { at = at; printing = next })
+    prints piece· next a b h {at} w = record {
+      text = subst (λ (x : List ℕ). Whole x room after· at) a (entire w (omega (arith, h, l)));
+      then = b;
+    }
+
+    pub refused-prints : (refusal : Refusal) → p .phase ≡ Refused refusal → {at : ℕ} → Written room 0 (refusedText refusal) after· at → {next : Printing} → next ≡ over p
+        → Prints s p room after· (record { at = at; printing = next })
+    refused-prints refusal e w {next} n =
+        prints (refusedText refusal) next
+        (ap (λ (x : Phase). pieceBy x (left s p) (p .shown)) (sym e))
+        (n ∙ ap (λ (x : Phase). nextBy x (left s p) p) (sym e))
+        (omega (arith, refused-short refusal)) w
+
+  module _ {d g : List ℕ} (r : d ≡ take (p .end - p .from) (drop (p .from) s)) (f : g ≡ take (groupSize d) d) where
+    by-left : p .phase ≡ Groups → (gs : List (List (List ℕ))) → groupsOf (cardsOf d) ≡ gs → (pieceBy Groups gs (p .shown) ≡ piece s p) × (nextBy Groups gs p ≡ after s p)
+    by-left e gs q =
+        let k : gs ≡ left s p = sym q ∙ ap (λ (x : List ℕ). groupsOf (cardsOf x)) r in (
+          ap (λ (x : List (List (List ℕ))). pieceBy Groups x (p .shown)) k ∙ ap (λ (x : Phase). pieceBy x (left s p) (p .shown)) (sym e),
+          ap (λ (x : List (List (List ℕ))). nextBy Groups x p) k ∙ ap (λ (x : Phase). nextBy x (left s p) p) (sym e),
+        )
+
+    pub end-prints : p .phase ≡ Groups → length g ≡ 0 → {room after· : List ℕ} → length room ≡ 2048 → {at : ℕ} → Written room 0 endText after· at → {next : Printing} → next ≡ over p
+        → Prints s p room after· (record { at = at; printing = next })
+    end-prints e z {room} {after·} l {at} w {next} n = by (either d)
+      where
+        by : Either d → Prints s p room after· (record { at = at; printing = next })
+        by (empty q k) = let x = by-left e [] q in prints l endText next (x .0) (n ∙ x .1) (omega arith) w
+        by (full x) = absurd (omega (arith, x .some, x .within, ap length f, length-take (groupSize d) d))
+
+    module _ (z : length g ≡ 0 → ⊥) where
+      found : First d
+      found = by (either d)
+        where
+          by : Either d → First d
+          by (empty q k) = absurd (z (omega (arith, k, ap length f, length-take (groupSize d) d)))
+          by (full x) = x
+
+      pub group-within : p .from + length g ≤ length s
+      group-within = omega (arith, found .some, found .within, ap length f, length-take (groupSize d) d, ap length r, length-take (p .end - p .from) (drop (p .from) s), length-drop (p .from) s)
+
+      pub group-prints : p .phase ≡ Groups → {card shown room after· : List ℕ} → length room ≡ 2048 → card ≡ getD (cardsOf g) 0 [] → shown ≡ shownBy card (p .shown) → length shown ≡ 6
+          → {at : ℕ} → Written room 0 (textBy (readFull (cardsOf g) .verdict) (readFull (cardsOf g) .full) shown) after· at
+          → Prints s p room after· (record { at = at; printing = record { phase = Groups; from = p .from + length g; end = p .end; shown = shown } })
+      unfolding groupText
+      group-prints e {card} {shown} l c h m w =
+          let q : groupsOf (cardsOf d) ≡ cardsOf g ∷ groupsOf (cardsOf (drop (groupSize d) d)) =
+          found .next ∙ ap (λ (x : List ℕ). cardsOf x ∷ groupsOf (cardsOf (drop (groupSize d) d))) (sym f) in
+          let x = by-left e (cardsOf g ∷ groupsOf (cardsOf (drop (groupSize d) d))) q in
+          let n : length g ≡ size (cardsOf g) = ap length f ∙ length-take-le (groupSize d) d (found .within) ∙ sym (found .sized) ∙ ap (λ (y : List ℕ). size (cardsOf y)) (sym f) in
+          let i : shown ≡ shownBy (getD (cardsOf g) 0 []) (p .shown) = h ∙ ap (λ (y : List ℕ). shownBy y (p .shown)) c in
+          let j : to (p .from + length g) (p .end) shown ≡ after s p = ap (λ (k : ℕ). to (p .from + k) (p .end) shown) n ∙ ap (λ (y : List ℕ). to (p .from + size (cardsOf g)) (p .end) y) i ∙ x .1 in
+          prints l (textBy (readFull (cardsOf g) .verdict) (readFull (cardsOf g) .full) shown)
+          (to (p .from + length g) (p .end) shown)
+          (ap (λ (y : List ℕ). textBy (readFull (cardsOf g) .verdict) (readFull (cardsOf g) .full) y) i ∙ x .0)
+          j
+          (text-short (readFull (cardsOf g) .verdict) (readFull (cardsOf g) .full) shown (omega (arith, m)))
+          w
+
+pub over-prints : (s : List ℕ) (p : Printing) (room : List ℕ) → p .phase ≡ Over → {next : Printing} → next ≡ over p → Prints s p room room (record { at = 0; printing = next })
+over-prints s p room e {next} n = record {
+  text = subst (λ (x : List ℕ). Whole x room room 0) (ap (λ (x : Phase). pieceBy x (left s p) (p .shown)) (sym e)) (entire (none room 0) (omega arith));
+  then = n ∙ ap (λ (x : Phase). nextBy x (left s p) p) (sym e);
+}
+
+-- ---- before the first piece
+module _ (s : List ℕ) {end : DeckEnd} (is : end ≡ deckEnd s) where
+  pub begins : {e : DeckEnd} → end ≡ e → beginBy e ≡ begin s
+  begins q = ap beginBy (sym q ∙ is)

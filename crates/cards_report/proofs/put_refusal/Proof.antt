@@ -1,0 +1,58 @@
+-- `cards_report::put_refusal` meets its contract. Assumes nothing.
+use Rattle.text.proofs.RoomLaws.{andThen}
+use borrow.Author.Needs.{needs}
+use Rattle.cards_report.proofs.put_refusal.Statement.{statement}
+use Rattle.cards_report.proofs.put_refusal.Tie as tie
+
+slice-aggregate-put-bytes : tie.Need-slice-aggregate-put-bytes
+slice-aggregate-put-bytes c = search needs
+
+put-bytes-requires : tie.Need-put-bytes-requires
+put-bytes-requires c κs = search needs
+
+slice-aggregate-put-name : tie.Need-slice-aggregate-put-name
+slice-aggregate-put-name c = search needs
+
+put-name-requires : tie.Need-put-name-requires
+put-name-requires c κs = search needs
+
+slice-aggregate-put-bytes-2 : tie.Need-slice-aggregate-put-bytes-2
+slice-aggregate-put-bytes-2 c = search needs
+
+put-bytes-requires-2 : tie.Need-put-bytes-requires-2
+put-bytes-requires-2 c κs = search needs
+
+number-of-requires : tie.Need-number-of-requires
+number-of-requires c κs = search needs
+
+cast-put-decimal : tie.Need-cast-put-decimal
+cast-put-decimal c = search needs
+
+put-decimal-requires : tie.Need-put-decimal-requires
+put-decimal-requires c κs = search needs
+
+put-byte-requires : tie.Need-put-byte-requires
+put-byte-requires c κs = search needs
+
+same-length : tie.Need-same-length
+same-length c = search needs
+
+returns : tie.Need-returns
+returns c = andThen (c .before .before .before .before .before .before .before .before .before .before .before .before .before .before .before .before .before .before .before .before .before .put-bytes .ensures) (andThen (c .before .before .before .before .before .before .before .before .before .before .before .before .before .before .before .before .put-name .ensures) (andThen (c .before .before .before .before .before .before .before .before .before .before .before .put-bytes2 .ensures) (andThen (rw (c .before .before .before .before .before .before .before .number-of .ensures) at (c .before .before .before .before .before .before .put-decimal .ensures)) (c .before .before .put-byte .ensures))))
+
+pub put-refusal-spec : {M : Type 1} → statement M
+put-refusal-spec =
+    tie.close
+    (tie.spec
+    slice-aggregate-put-bytes
+    put-bytes-requires
+    slice-aggregate-put-name
+    put-name-requires
+    slice-aggregate-put-bytes-2
+    put-bytes-requires-2
+    number-of-requires
+    cast-put-decimal
+    put-decimal-requires
+    put-byte-requires
+    same-length
+    returns)
