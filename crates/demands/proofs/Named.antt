@@ -22,13 +22,13 @@ use Rattle.words.proofs.WordLaws.{every-weaker, same-equal}
 use Rattle.line_words.specs.Forms.{idOf}
 use Rattle.channels.specs.declared.Configuration.{Configuration}
 use Rattle.cards_fields.specs.Fields.{padded, spaceless}
-use Rattle.cards_group.specs.Group.{readGroup}
-use Rattle.cards.specs.declared.Request.{Request}
-use Rattle.cards.specs.declared.Verdict.{Verdict}
-use Rattle.cards.specs.declared.Verdict.the-variants.{Good}
-use Rattle.cards_writing.proofs.Kept.{read-taken}
+use Rattle.cards_group.specs.Group.{readFull, readGroup}
+use Rattle.cards_request.specs.declared.Request.{Request}
+use Rattle.cards_request.specs.declared.Verdict.{Verdict}
+use Rattle.cards_request.specs.declared.Verdict.the-variants.{Good}
 use Rattle.cards_round.specs.Allowed.{Name}
-use Rattle.cards_round.proofs.Allowing.{taken-allowed}
+use Rattle.cards_round.proofs.AllowingFull.{full-allowed}
+use Rattle.cards_round.proofs.Fits.{read-takes}
 use Rattle.schedule_entries.specs.Entries.{active, blank, isNamed, suspended}
 use Rattle.schedule_entries.specs.declared.Entry.{Entry}
 use Rattle.schedule_entries.specs.declared.State.{State}
@@ -55,6 +55,7 @@ use Rattle.cell_history.proofs.MeantLaws.{Plain, by-meant}
 use Rattle.cell_history.specs.History.{Call, Complete, Deck, Delete, Does, End, Event, Key, Leads, Mark, Release, Reply, Select, Start, Status, Submit}
 use Rattle.cell_agreement.proofs.SoundProof.{sound-always}
 use Rattle.demands.proofs.Owning.{leads-more}
+use Rattle.demands.proofs.Texts.{groups-alike}
 
 -- ---- what holds of each request of a list, and of a schedule
 
@@ -158,9 +159,10 @@ NamedIn c = Each Formed (requests (inSchedule (c .schedule)))
 -- what is read from cards breaks no rule
 read-formed : (g : List (List ℕ)) → readGroup g .verdict ≡ Good → Formed (readGroup g .request)
 read-formed g e =
-    let q : Request = readGroup g .request in
-    let w : readGroup g ≡ record { verdict = Good; request = q } = ap (λ (v : Verdict). record { verdict = v; request = q }) e in
-    taken-allowed q (read-taken g q w) .id
+    let v = readFull g .full in
+    let a = groups-alike g in
+    let w : readFull g ≡ record { verdict = Good; full = v } = ap (λ (x : Verdict). record { verdict = x; full = v }) (a .0 ∙ e) in
+    subst Formed (a .1) (full-allowed v (read-takes g v w) .request .id)
 
 named-acts : (c d : Cell) (x : Rules.Call) → d ≡ acted c x .cell → NamedIn c → NamedIn d
 unfolding acted

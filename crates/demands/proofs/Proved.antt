@@ -18,13 +18,13 @@ use Rattle.configuration_form.proofs.Meaning.{meaning}
 use Rattle.configuration_form.proofs.Listed.{listed-exactly}
 use Rattle.configuration_form.proofs.Unique.{first-named, read-back}
 use Rattle.configuration_listing.specs.Listing.{counted}
-use Rattle.cards_writing.specs.Writing.{takes}
-use Rattle.cards.specs.declared.Request.{Request}
-use Rattle.cards_round.specs.Allowed.{Allowed}
-use Rattle.cards_round.proofs.Allowing.{allowed-taken, taken-allowed}
-use Rattle.cards_round.proofs.Fits.{always-written}
+use Rattle.cards_report.proofs.Whole.{all-printed}
+use Rattle.cards_round.proofs.AllowingFull.{allowed-no-room, allowed-written, full-taken, others-refused}
+use Rattle.cards_round.proofs.Fits.{always-written, no-longer}
+use Rattle.cards_round.proofs.FullRound.{room-read}
+use Rattle.cards_round.proofs.HeldLaws.{held-once}
 use Rattle.cards_round.proofs.Order.{same-request}
-use Rattle.cards_writing.proofs.Round.{room-read}
+use Rattle.cards_round.proofs.TableRound.{table-place, table-size}
 use Rattle.units.specs.State.{unitIn}
 use Rattle.packets.specs.Codes.{statusAfter}
 use Rattle.packets.proofs.CodesProof.{codes}
@@ -56,7 +56,7 @@ use Rattle.demands.proofs.Missing.{refused-so, missing-so, alone-so}
 use Rattle.demands.proofs.Places.{ended-so, marked-so, runs-on}
 use Rattle.demands.proofs.Requests.{closes-so, completes-so, starts-so, submits-so}
 use Rattle.demands.proofs.Typed.{faulty-so, mistyped-so, typed-so, unknown-so}
-use Rattle.demands.proofs.Texts.{counted-fresh, kept-room, listed, listed-bad, writes-12, writes-13, writes-so, written-so}
+use Rattle.demands.proofs.Texts.{counted-fresh, group-first, groups-alike, kept-room, listed, listed-bad, written-so}
 use Rattle.demands.specs.Refusing.{refusalIn}
 use Rattle.demands.proofs.Numbers.{numbers}
 use Rattle.demands.proofs.Standing.{deck-lent, stands}
@@ -77,9 +77,6 @@ use Rattle.packets.specs.Demand as Told
 
 -- ---- demand 1
 
-not-taken : (r : Request) → (Allowed r → ⊥) → takes r ≡ false
-not-taken r n = by-bool (takes r) (λ t. absurd (n (taken-allowed r t))) (λ t. t)
-
 pub demand-1 : Demand1
 demand-1 =
     record {
@@ -91,12 +88,15 @@ demand-1 =
       faulty = faulty-so;
       answered = λ c message room after r h. h .text;
       unknown = unknown-so;
-      wrong = λ r room n. writes-13 r room (not-taken r n);
-      short = λ r room a. writes-12 r room (allowed-taken r a);
+      wrong = others-refused;
+      short = allowed-no-room;
+      groups = groups-alike;
+      group = group-first;
       configuration = meaning;
       read = read-back;
       named = first-named;
       section = listed-exactly;
+      pieces = λ deck h. all-printed deck 65537 (omega arith) .whole;
       printed = listed-bad;
     }
 
@@ -156,10 +156,14 @@ runs-then c d s h =
 pub demand-2 : Demand2
 demand-2 =
     record {
-      bytes = λ r room a f. written-so r room (allowed-taken r a) f;
-      cards = λ r room a f. room-read r room (allowed-taken r a) f .1;
+      bytes = λ v room a f. written-so v room (full-taken v a) f;
+      cards = λ v room a f. room-read v room (full-taken v a) f .1;
       again = always-written;
-      wrote = λ r room a. writes-so r room (allowed-taken r a);
+      division = no-longer;
+      alike = held-once;
+      table = table-place;
+      rows = table-size;
+      wrote = allowed-written;
       same = same-request;
       entered = entered-so;
       noted = λ c deck room after r h. h .deck .text;

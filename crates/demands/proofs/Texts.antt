@@ -3,14 +3,13 @@
 use Prim.Native.Nat.{ℕ, zero, suc, _≤_}
 use mathlib.Core.Path.{_≡_, refl, sym, ap, _∙_}
 use mathlib.Core.Bool.{false, Bool, true, _&&_}
-use mathlib.Core.List.{List, _++_}
+use mathlib.Core.List.{List, [], _++_}
 use native.Mathlib.Omega.{arith}
-use lib.ListN.{length, take, drop}
+use lib.ListN.{length, getD, take, drop}
 use Rattle.numbers.proofs.Tests.{by-bool}
 use Rattle.numbers.specs.declared.ChannelNumber.{ChannelNumber}
 use Rattle.numbers.specs.declared.Outcome.the-variants.{Refused}
 use Rattle.numbers.specs.declared.Refusal.{Refusal}
-use Rattle.numbers.specs.declared.Refusal.the-variants.{NoRoom, WrongRequest}
 use Rattle.units.specs.State.{assignable, unitIn}
 use Rattle.units.specs.declared.Unit.{Unit as UnitState}
 use Rattle.channels.specs.Channels.{hasUnit}
@@ -21,46 +20,57 @@ use Rattle.configuration_units.specs.Fresh.{freshUnits}
 use Rattle.configuration_form.specs.Form.{InForm, FirstBad}
 use Rattle.configuration_form.proofs.Unique.{first-named, read-back}
 use Rattle.configuration_listing.specs.Listing.{Listed, answerText, assignableUnits, counted, linesFrom, errorText}
-use Rattle.cards.specs.declared.Request.{Request}
-use Rattle.cards_writing.specs.Writing.{fits, takes, writeAnswer, written, textOf}
+use Rattle.cards_fac.specs.Fac.{asked}
+use Rattle.cards_group.specs.Group.{answer, fullAnswer, furtherOf, orderedError, readCards, readFull, readGroup, requestOf}
+use Rattle.cards_request.specs.declared.FullRequest.{FullRequest}
+use Rattle.cards_request.specs.declared.Further.{Further}
+use Rattle.cards_request.specs.declared.Request.{Request}
+use Rattle.cards_request.specs.declared.Verdict.{Verdict}
+use Rattle.cards_request.specs.declared.Verdict.the-variants.{Good, Wrong}
+use Rattle.cards_full.specs.Full.{fits, takesFull, writeAnswer, written, textOf}
 use Rattle.assign_heads.specs.Sums.{howMany, sumTo}
 use Rattle.packets.specs.Demand.{fresh}
 use Rattle.packets.specs.State.{State}
 use Rattle.cell.specs.Calls.{freshCell}
 use Rattle.cell_history.specs.Heard.{inside}
 use Rattle.cell_history.proofs.FromFresh.{fresh-inside}
-use Rattle.cards_writing.specs.declared.Wrote.the-variants as Wrote′
+use Rattle.cards_full.specs.declared.Wrote.the-variants as Wrote′
 
 -- the writer keeps every byte where it refuses
-pub kept-room : (r : Request) (room : List ℕ) (n : Refusal) → writeAnswer r (length room) ≡ Wrote′.Refused n → written r room ≡ room
+pub kept-room : (r : FullRequest) (room : List ℕ) (n : Refusal) → writeAnswer r (length room) ≡ Wrote′.Refused n → written r room ≡ room
 unfolding writeAnswer written
 kept-room r room n e =
-    by-bool (takes r)
+    by-bool (takesFull r)
     (λ t. by-bool (fits r (length room)) (λ f. absurd (not-cards (rw (t, f) at e))) (λ f. rw (t, f) refl))
     (λ t. rw t refl)
   where
     not-cards : {k : ℕ} → Wrote′.Cards k ≡ Wrote′.Refused n → ⊥
     not-cards {k} q = let z : _≡_ {A = ℕ} 0 1 = cc in omega arith
 
+-- what is entered and what is read with the further cards are the same
+pub groups-alike : (group : List (List ℕ)) → (readFull group .verdict ≡ readGroup group .verdict) × (readFull group .full .request ≡ readGroup group .request)
+unfolding readFull readCards
+groups-alike group = by (orderedError (length group) (getD group 0 []) (getD group 1 []) (drop 2 group)) (requestOf (getD group 0 []) (asked (getD group 1 []))) (furtherOf group)
+  where
+    by : (v : Verdict) (q : Request) (f : Further) → (fullAnswer (answer v q .verdict) (answer v q .request) f .verdict ≡ answer v q .verdict) × (fullAnswer (answer v q .verdict) (answer v q .request) f .full .request ≡ answer v q .request)
+    by Good q f = (refl, refl)
+    by (Wrong e) q f = (refl, refl)
+
+pub group-first : (cards : List (List ℕ)) → readGroup cards .verdict ≡ orderedError (length cards) (getD cards 0 []) (getD cards 1 []) (drop 2 cards)
+unfolding readCards
+group-first cards = by (orderedError (length cards) (getD cards 0 []) (getD cards 1 []) (drop 2 cards)) (requestOf (getD cards 0 []) (asked (getD cards 1 [])))
+  where
+    by : (v : Verdict) (q : Request) → answer v q .verdict ≡ v
+    by Good q = refl
+    by (Wrong e) q = refl
+
 -- what a bad configuration is listed as
 pub listed-bad : (s room after : List ℕ) (r line : ℕ) → FirstBad s line → Listed s room after r → 96 ≤ length room → take r after ≡ errorText line
 listed-bad s room after r line f l h =
     l .whole h .0 ∙ ap (λ (a : Answer). answerText (a .verdict) (a .configuration)) (first-named s line f)
 
--- the writer's numbers
-pub writes-so : (r : Request) (n : ℕ) → takes r ≡ true → fits r n ≡ true → writeAnswer r n ≡ Wrote′.Cards (length (textOf r))
-unfolding writeAnswer
-writes-so r n t f = rw (t, f) refl
-
-pub writes-13 : (r : Request) (n : ℕ) → takes r ≡ false → writeAnswer r n ≡ Wrote′.Refused WrongRequest
-unfolding writeAnswer
-writes-13 r n t = rw t refl
-
-pub writes-12 : (r : Request) (n : ℕ) → takes r ≡ true → fits r n ≡ false → writeAnswer r n ≡ Wrote′.Refused NoRoom
-unfolding writeAnswer
-writes-12 r n t f = rw (t, f) refl
-
-pub written-so : (r : Request) (room : List ℕ) → takes r ≡ true → fits r (length room) ≡ true → written r room ≡ textOf r ++ drop (length (textOf r)) room
+-- and where it does not, holds the cards
+pub written-so : (r : FullRequest) (room : List ℕ) → takesFull r ≡ true → fits r (length room) ≡ true → written r room ≡ textOf r ++ drop (length (textOf r)) room
 unfolding written
 written-so r room t f = rw (t, f) refl
 

@@ -2,15 +2,15 @@
 -- proofs/Proved.antt, about any cell and call as the contracts of the public functions give them, and about any
 -- history of calls from a fresh cell. Keyboard messages are among the calls, and a history with them is one with the
 -- calls that they are (`spelled`): the demands read on unchanged. A reader has to believe this page.
-use Prim.Native.Nat.{ℕ, _≤_, _<_}
+use Prim.Native.Nat.{ℕ, _≤_, _<_, _*_, _/_, _%_}
 use mathlib.Core.Path.{_≡_}
 use mathlib.Core.Bool.{Bool, true, false, cond, _&&_, _||_}
 use mathlib.Core.List.{List, [], _∷_, _++_}
 use mathlib.Core.Logic.{_⊎_}
 use mathlib.Core.Option.{none, some}
 use lib.Dec.{eqb}
-use lib.ListN.{length, take, drop}
-use Rattle.numbers.specs.Quoted.{bytes}
+use lib.ListN.{length, getD, take, drop}
+use Rattle.numbers.specs.Quoted.{byte, bytes}
 use Rattle.numbers.specs.declared.ChannelNumber.{ChannelNumber}
 use Rattle.numbers.specs.declared.Outcome.{Outcome}
 use Rattle.numbers.specs.declared.Outcome.the-variants.{Done, Refused}
@@ -37,13 +37,18 @@ use Rattle.configuration_form.specs.Means.{Means}
 use Rattle.configuration_units.specs.Fresh.{freshUnits}
 use Rattle.configuration_listing.specs.Listing.{Listed, assignableUnits, errorText, linesFrom}
 use Rattle.cards_fields.specs.Deck.{cardsOf}
-use Rattle.cards_fields.specs.Fields.{fields, malformed}
+use Rattle.cards_fields.specs.Fields.{fields, malformed, spaceless}
 use Rattle.cards_fac.specs.Fac.{entriesOf}
-use Rattle.cards_group.specs.Group.{readGroup}
-use Rattle.cards.specs.declared.Request.{Request}
-use Rattle.cards.specs.declared.Verdict.the-variants.{Good}
-use Rattle.cards_writing.specs.Writing.{fits, textOf, writeAnswer, written}
-use Rattle.cards_round.specs.Allowed.{Allowed, Name}
+use Rattle.cards_further.specs.Further.{canonicals, held}
+use Rattle.cards_group.specs.Group.{orderedError, readFull, readGroup}
+use Rattle.cards_request.specs.declared.FullRequest.{FullRequest}
+use Rattle.cards_request.specs.declared.Verdict.the-variants.{Good}
+use Rattle.cards_full.specs.Full.{behindId, cardsIn, fits, textOf, writeAnswer, written}
+use Rattle.cards_report.specs.Cards.{begin, cardsText, turns}
+use Rattle.cards_table.specs.Table.{place, tableSize}
+use Rattle.cards_round.specs.Allowed.{Name}
+use Rattle.cards_round.specs.AllowedFurther.{AllowedFull, Card, Kept, sheetAt, sheetRows, textsOf}
+use Rattle.cards_round.specs.NoLonger.{NoLonger}
 use Rattle.cards_round.specs.Permuted.{Permuted}
 use Rattle.schedule_entries.specs.Entries.{isNamed, keyOf, precedes}
 use Rattle.schedule_list.specs.InSchedule.{entryAt, find, inSchedule}
@@ -109,7 +114,7 @@ use Rattle.demands.specs.Table.{RefusedBy, isSelect}
 use Rattle.packets.specs.declared.Assignment.{Assignment}
 use Rattle.packets.specs.declared.Status.the-variants.{Stopping}
 use Rattle.packets_given.specs.Given.{OnItsOwn, StillOwn, taking}
-use Rattle.cards_writing.specs.declared.Wrote.the-variants as Wrote′
+use Rattle.cards_full.specs.declared.Wrote.the-variants as Wrote′
 use Rattle.packets.specs.Rules as Rules
 
 -- "1. Every card, deck, configuration and call is answered, whatever is in it. Bad input gets document 01's number,
@@ -125,11 +130,16 @@ pub record Demand1 : Type 0 where
   pub lent : (c : Cell) (deck room after : List ℕ) (r : DeckAnswer) (n : Refusal) → Enters c deck room after r
       → r .outcome ≡ Refused n → after ≡ room
   -- and the room that was lent for cards to be written, after 13 and after 12
-  pub kept : (r : Request) (room : List ℕ) (n : Refusal) → writeAnswer r (length room) ≡ Wrote′.Refused n → written r room ≡ room
-  -- "13 comes before 12": 13 for a request against a rule, and else (`wrote`) for none; 12 for a "card to write over 80
-  -- characters, or lent room too short"
-  pub wrong : (r : Request) (room : ℕ) → (Allowed r → ⊥) → writeAnswer r room ≡ Wrote′.Refused WrongRequest
-  pub short : (r : Request) (room : ℕ) → Allowed r → fits r room ≡ false → writeAnswer r room ≡ Wrote′.Refused NoRoom
+  pub kept : (v : FullRequest) (room : List ℕ) (n : Refusal) → writeAnswer v (length room) ≡ Wrote′.Refused n → written v room ≡ room
+  -- "13 comes before 12": 13 for a request with its further cards against a rule, and else (`wrote`) for none; 12 for a
+  -- "card to write over 80 characters, or lent room too short"
+  pub wrong : (v : FullRequest) (room : ℕ) → (AllowedFull v → ⊥) → writeAnswer v room ≡ Wrote′.Refused WrongRequest
+  pub short : (v : FullRequest) (room : ℕ) → AllowedFull v → fits v room ≡ false → writeAnswer v room ≡ Wrote′.Refused NoRoom
+  -- Every group of any cards is answered, with its first error alone, or with its request; what a schedule enters of it and
+  -- what is read with the further cards are the same verdict and the same request
+  pub groups : (group : List (List ℕ)) → (readFull group .verdict ≡ readGroup group .verdict) × (readFull group .full .request ≡ readGroup group .request)
+  pub group : (cards : List (List ℕ))
+      → readGroup cards .verdict ≡ orderedError (length cards) (getD cards 0 []) (getD cards 1 []) (drop 2 cards)
   -- The room that was lent for a keyboard message's answer holds that answer, refused or not, whole at its start; every
   -- byte behind it stands as before
   pub answered : (c : Cell) (message room after : List ℕ) (r : KeyAnswer) → Keys c message room after r
@@ -151,6 +161,9 @@ pub record Demand1 : Type 0 where
   -- the third section is "the codes that set interlock": those that its lines list, and no other
   pub section : (s : List ℕ) (of : List Channel) (marks : List Bool) (word : ℕ) (form : InForm s of marks word) (code : ℕ)
       → setsInterlock word code ≡ listsCode (form .reads .items) code
+  -- The cards program prints its text, one piece behind the other: as many turns as its loop takes are enough for whatever
+  -- its buffer holds
+  pub pieces : (deck : List ℕ) → length deck ≤ 65536 → turns 65537 deck (begin deck) ≡ cardsText deck
   -- and the second program prints that line
   pub printed : (s room after : List ℕ) (r line : ℕ) → FirstBad s line → Listed s room after r → 96 ≤ length room
       → take r after ≡ errorText line
@@ -217,24 +230,36 @@ pub record Missing (c : Cell) (s : Selection) : Type 0 where
 -- those allowed to run, for which all facilities can be found; selection is refused exactly when no place is free
 -- or no such job exists; packets end with the stated codes."
 pub record Demand2 : Type 0 where
-  -- "cards written are read back as the same request": every request that breaks no rule is written where its cards
-  -- fit, and they are read as it,
-  pub wrote : (r : Request) (room : ℕ) → Allowed r → fits r room ≡ true → writeAnswer r room ≡ Wrote′.Cards (length (textOf r))
-  pub bytes : (r : Request) (room : List ℕ) → Allowed r → fits r (length room) ≡ true
-      → written r room ≡ textOf r ++ drop (length (textOf r)) room
-  pub cards : (r : Request) (room : List ℕ) → Allowed r → fits r (length room) ≡ true
-      → readGroup (cardsOf (take (length (textOf r)) (written r room))) ≡ record { verdict = Good; request = r }
-  -- and every request that was read from cards is written where the room has 162 bytes: neither 13 nor 12 arises
-  pub again : (group : List (List ℕ)) (r : Request) (room : List ℕ) → readGroup group ≡ record { verdict = Good; request = r }
-      → 162 ≤ length room
-      → (writeAnswer r (length room) ≡ Wrote′.Cards (length (textOf r)))
-      × (readGroup (cardsOf (take (length (textOf r)) (written r room))) ≡ record { verdict = Good; request = r })
+  -- "cards written are read back as the same request": every request with its further cards that breaks no rule is
+  -- written where its cards fit, and they are read as it,
+  pub wrote : (v : FullRequest) (room : ℕ) → AllowedFull v → fits v room ≡ true → writeAnswer v room ≡ Wrote′.Cards (length (textOf v))
+  pub bytes : (v : FullRequest) (room : List ℕ) → AllowedFull v → fits v (length room) ≡ true
+      → written v room ≡ textOf v ++ drop (length (textOf v)) room
+  pub cards : (v : FullRequest) (room : List ℕ) → AllowedFull v → fits v (length room) ≡ true
+      → readFull (cardsOf (take (length (textOf v)) (written v room))) ≡ record { verdict = Good; full = v }
+  -- and every request that was read from cards is written where the room has 1,296 bytes: neither 13 nor 12 arises
+  pub again : (group : List (List ℕ)) (v : FullRequest) (room : List ℕ) → readFull group ≡ record { verdict = Good; full = v }
+      → 1296 ≤ length room
+      → (writeAnswer v (length room) ≡ Wrote′.Cards (length (textOf v)))
+      × (readFull (cardsOf (take (length (textOf v)) (written v room))) ≡ record { verdict = Good; full = v })
+  -- "Written cards keep the division read": each further card is written as the one read, in canonical form and behind the
+  -- ID; PTY has at most 64 characters, and each other card is no longer than the one read
+  pub division : (group : List (List ℕ)) (v : FullRequest) → readFull group ≡ record { verdict = Good; full = v }
+      → (drop 2 (cardsIn v) ≡ behindId (spaceless (v .request .id)) (canonicals (drop 2 group)))
+      × ((length (getD (cardsIn v) 0 []) ≤ 64) × NoLonger (drop 1 (cardsIn v)) (drop 1 group))
   -- "equal requests, entry order apart": where one FAC card is good, another that is not malformed, of the same ID and
-  -- with the same entries in any order, is good, and the same request, so its cards are the same
-  pub same : (pty fac other : List ℕ) → malformed other ≡ false → take 2 (fields other) ≡ take 2 (fields fac)
-      → Permuted (entriesOf fac) (entriesOf other) → (r : Request)
-      → readGroup (pty ∷ fac ∷ []) ≡ record { verdict = Good; request = r }
-      → readGroup (pty ∷ other ∷ []) ≡ record { verdict = Good; request = r }
+  -- with the same entries in any order, is good with the same further cards, and the same request, so its cards are the
+  -- same; further cards that are held alike say the same, one by one in order
+  pub same : (pty fac other : List ℕ) (further : List (List ℕ)) → malformed other ≡ false → take 2 (fields other) ≡ take 2 (fields fac)
+      → Permuted (entriesOf fac) (entriesOf other) → (v : FullRequest)
+      → readFull (pty ∷ fac ∷ further) ≡ record { verdict = Good; full = v }
+      → readFull (pty ∷ other ∷ further) ≡ record { verdict = Good; full = v }
+  pub alike : (cards others : List Card) → Kept cards → Kept others → held (textsOf cards) ≡ held (textsOf others) → cards ≡ others
+  -- "With highest digit N the parameter table has 66 times (N+1) characters, blanks filling a short or omitted card's 66":
+  -- of cards that keep the rules, the character at place i is character i mod 66 of the PM text with digit i div 66, or a
+  -- blank
+  pub table : (cards : List Card) → Kept cards → (i : ℕ) → place (held (textsOf cards)) i ≡ getD (sheetAt (i / 66) cards) (i % 66) (byte " ")
+  pub rows : (cards : List Card) → Kept cards → tableSize (held (textsOf cards)) ≡ 66 * sheetRows cards
   -- "A card error bars only its own request": what a deck asks for is entered, group by group, or gets its card error;
   -- a released request waits, a deleted one is gone
   pub entered : (c : Cell) (deck room after : List ℕ) (r : DeckAnswer) → Enters c deck room after r

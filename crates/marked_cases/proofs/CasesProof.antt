@@ -12,15 +12,18 @@ use Rattle.cell.specs.Calls.{acted, freshCell}
 use Rattle.cell.specs.declared.Cell.{Cell}
 use Rattle.marked_cases.proofs.Computed.{cellAfter, does-computed, replyOf, sized}
 use Rattle.marked_cases.proofs.Moving.{k9}
-use Rattle.schedule_deck.specs.Report.{after, groupText, reportText, shownBy}
+use Rattle.cards_lines.specs.Shown.{shownBy}
+use Rattle.schedule_deck.specs.Report.{after, groupText, reportText}
 use Rattle.cards_writing.specs.Writing.{priorityText}
 use Rattle.cards_fac.specs.Fac.{askedOf, codeError, codes, entryOf, formError, facError, facOf}
 use Rattle.schedule.specs.Calls.{clashError, enterError, sameThere}
 use Rattle.schedule_candidates.specs.Candidates.{candidate}
-use Rattle.cards_fields.specs.Fields.{cardByte, fields, malformed}
+use Rattle.cards_fields.specs.Fields.{cardByte, fields, isName, malformed}
 use Rattle.cards_fields.specs.Deck.{deckEnd}
 use Rattle.text.specs.Writing.{digitsText}
-use Rattle.cards_group.specs.Group.{frontError, orderedError, readCards}
+use Rattle.cards_further.specs.Together.{apart}
+use Rattle.cards_further.specs.Further.{pmWrong}
+use Rattle.cards_group.specs.Group.{orderedError, readCards}
 use Rattle.cards_pty.specs.Pty.{ptyError, priorityOf, programName, ranked, rules}
 use Rattle.schedule_list.specs.InSchedule.{changedAt, inserted, removed, scheduleOf, setState as setStateIn, withState}
 use Rattle.numbers.specs.Quoted.{is2, bytes}
@@ -61,38 +64,38 @@ follows c (s ∷ ss) k = λ reply d h.
 -- ---- K1 and K3, from the cards' bytes
 
 k1 : Holds (Prints k1Deck (bytes "SP B7 ER 31\nD4 01A05\nA1 02A05\nD4 SCH ACK\n"))
-unfolding after askedOf cardByte clashError codeError codes deckEnd digitsText enterError entryOf facError facOf fields formError frontError groupText inserted is2 isAlnum isDigit isLetter kindOf lowerSequence malformed numberOfText orderedError precedes priorityOf priorityText programName ptyError ranked readCards reportText rules sameKey sameRank sameThere scheduleOf shownBy twoDigitsOf removed setStateIn
+unfolding after apart askedOf cardByte clashError codeError codes deckEnd digitsText enterError entryOf facError facOf fields formError groupText inserted is2 isAlnum isDigit isLetter isName kindOf lowerSequence malformed numberOfText orderedError pmWrong precedes priorityOf priorityText programName ptyError ranked readCards reportText rules sameKey sameRank sameThere scheduleOf shownBy twoDigitsOf removed setStateIn
 k1 = refl
 
 k3 : Holds (Errs (bytes "A1,PTY,2,,ECU,,T,PROG,P,A5,P,3." ∷ bytes "A1,FAC,IB/14,DB/15." ∷ []) 14)
-unfolding askedOf cardByte codeError codes digitsText entryOf facError facOf fields formError frontError is2 isAlnum isDigit isLetter kindOf malformed numberOfText orderedError priorityOf programName ptyError ranked readCards rules twoDigitsOf
+unfolding apart askedOf cardByte codeError codes digitsText entryOf facError facOf fields formError is2 isAlnum isDigit isLetter isName kindOf malformed numberOfText orderedError pmWrong priorityOf programName ptyError ranked readCards rules twoDigitsOf
 k3 = refl
 
 -- ---- K2 and K4 to K8, by the computed cell
 
 module _ (section : ℕ) where
   k2 : Holds (Plays (with· section noChannels) (alone (bytes "IB/28") (Given 0 2 0 0 0 0 0)))
-  unfolding after askedOf cardByte clashError codeError codes deckEnd digitsText enterError entryOf facError facOf fields formError frontError inserted is2 isAlnum isDigit isLetter kindOf lowerSequence malformed numberOfText orderedError precedes priorityOf programName ptyError ranked readCards rules sameKey sameRank sameThere scheduleOf shownBy twoDigitsOf assignOf kindsFrom searchOf runB fitsB startOf areaB drumLength serveOf serviceOf giveFrom chooseOf picks lowestFrom testsB ge sumTo isFreeOf unitIn unitSet assignable legalOf refusal accept answer fresh fittedOn drumOn configured packetIn stateIn put relist enlisted entryOf′ placeOf packetOf setState restatusAll takeAll releaseAll freshCell acted outcome candidate wordFrom freshUnits changedAt withState removed setStateIn
+  unfolding after apart askedOf cardByte clashError codeError codes deckEnd digitsText enterError entryOf facError facOf fields formError inserted is2 isAlnum isDigit isLetter isName kindOf lowerSequence malformed numberOfText orderedError pmWrong precedes priorityOf programName ptyError ranked readCards rules sameKey sameRank sameThere scheduleOf shownBy twoDigitsOf assignOf kindsFrom searchOf runB fitsB startOf areaB drumLength serveOf serviceOf giveFrom chooseOf picks lowestFrom testsB ge sumTo isFreeOf unitIn unitSet assignable legalOf refusal accept answer fresh fittedOn drumOn configured packetIn stateIn put relist enlisted entryOf′ placeOf packetOf setState restatusAll takeAll releaseAll freshCell acted outcome candidate wordFrom freshUnits changedAt withState removed setStateIn
   k2 = let k : Computes (freshCell (with· section noChannels)) (alone (bytes "IB/28") (Given 0 2 0 0 0 0 0)) = (refl, (refl, (refl, (refl, tt)))) in follows (freshCell (with· section noChannels)) (alone (bytes "IB/28") (Given 0 2 0 0 0 0 0)) k
 
   k4 : Holds (Plays (with· section noChannels) k4Steps)
-  unfolding after askedOf cardByte clashError codeError codes deckEnd digitsText enterError entryOf facError facOf fields formError frontError inserted is2 isAlnum isDigit isLetter kindOf lowerSequence malformed numberOfText orderedError precedes priorityOf programName ptyError ranked readCards rules sameKey sameRank sameThere scheduleOf shownBy twoDigitsOf assignOf kindsFrom searchOf runB fitsB startOf areaB drumLength serveOf serviceOf giveFrom chooseOf picks lowestFrom testsB ge sumTo isFreeOf unitIn unitSet assignable legalOf refusal accept answer fresh fittedOn drumOn configured packetIn stateIn put relist enlisted entryOf′ placeOf packetOf setState restatusAll takeAll releaseAll freshCell acted outcome candidate wordFrom freshUnits changedAt withState removed setStateIn
+  unfolding after apart askedOf cardByte clashError codeError codes deckEnd digitsText enterError entryOf facError facOf fields formError inserted is2 isAlnum isDigit isLetter isName kindOf lowerSequence malformed numberOfText orderedError pmWrong precedes priorityOf programName ptyError ranked readCards rules sameKey sameRank sameThere scheduleOf shownBy twoDigitsOf assignOf kindsFrom searchOf runB fitsB startOf areaB drumLength serveOf serviceOf giveFrom chooseOf picks lowestFrom testsB ge sumTo isFreeOf unitIn unitSet assignable legalOf refusal accept answer fresh fittedOn drumOn configured packetIn stateIn put relist enlisted entryOf′ placeOf packetOf setState restatusAll takeAll releaseAll freshCell acted outcome candidate wordFrom freshUnits changedAt withState removed setStateIn
   k4 = let k : Computes (freshCell (with· section noChannels)) k4Steps = (refl, (refl, (refl, (refl, (refl, (refl, (refl, (refl, (refl, (refl, (refl, (refl, (refl, (refl, (refl, (refl, tt)))))))))))))))) in follows (freshCell (with· section noChannels)) k4Steps k
 
   k5 : Holds (Plays (with· section mtChannels) (alone (bytes "IB/1,MT1/2,MT2/3") (Given 0 2 0 0 0 5 3)))
-  unfolding after askedOf cardByte clashError codeError codes deckEnd digitsText enterError entryOf facError facOf fields formError frontError inserted is2 isAlnum isDigit isLetter kindOf lowerSequence malformed numberOfText orderedError precedes priorityOf programName ptyError ranked readCards rules sameKey sameRank sameThere scheduleOf shownBy twoDigitsOf assignOf kindsFrom searchOf runB fitsB startOf areaB drumLength serveOf serviceOf giveFrom chooseOf picks lowestFrom testsB ge sumTo isFreeOf unitIn unitSet assignable legalOf refusal accept answer fresh fittedOn drumOn configured packetIn stateIn put relist enlisted entryOf′ placeOf packetOf setState restatusAll takeAll releaseAll freshCell acted outcome candidate wordFrom freshUnits changedAt withState removed setStateIn
+  unfolding after apart askedOf cardByte clashError codeError codes deckEnd digitsText enterError entryOf facError facOf fields formError inserted is2 isAlnum isDigit isLetter isName kindOf lowerSequence malformed numberOfText orderedError pmWrong precedes priorityOf programName ptyError ranked readCards rules sameKey sameRank sameThere scheduleOf shownBy twoDigitsOf assignOf kindsFrom searchOf runB fitsB startOf areaB drumLength serveOf serviceOf giveFrom chooseOf picks lowestFrom testsB ge sumTo isFreeOf unitIn unitSet assignable legalOf refusal accept answer fresh fittedOn drumOn configured packetIn stateIn put relist enlisted entryOf′ placeOf packetOf setState restatusAll takeAll releaseAll freshCell acted outcome candidate wordFrom freshUnits changedAt withState removed setStateIn
   k5 = let k : Computes (freshCell (with· section mtChannels)) (alone (bytes "IB/1,MT1/2,MT2/3") (Given 0 2 0 0 0 5 3)) = (refl, (refl, (refl, (refl, tt)))) in follows (freshCell (with· section mtChannels)) (alone (bytes "IB/1,MT1/2,MT2/3") (Given 0 2 0 0 0 5 3)) k
 
   k6 : Holds (Plays (with· section mtChannels) (alone (bytes "IB/1,MT1/2,MT/4") (Given 0 2 0 0 0 3 0)))
-  unfolding after askedOf cardByte clashError codeError codes deckEnd digitsText enterError entryOf facError facOf fields formError frontError inserted is2 isAlnum isDigit isLetter kindOf lowerSequence malformed numberOfText orderedError precedes priorityOf programName ptyError ranked readCards rules sameKey sameRank sameThere scheduleOf shownBy twoDigitsOf assignOf kindsFrom searchOf runB fitsB startOf areaB drumLength serveOf serviceOf giveFrom chooseOf picks lowestFrom testsB ge sumTo isFreeOf unitIn unitSet assignable legalOf refusal accept answer fresh fittedOn drumOn configured packetIn stateIn put relist enlisted entryOf′ placeOf packetOf setState restatusAll takeAll releaseAll freshCell acted outcome candidate wordFrom freshUnits changedAt withState removed setStateIn
+  unfolding after apart askedOf cardByte clashError codeError codes deckEnd digitsText enterError entryOf facError facOf fields formError inserted is2 isAlnum isDigit isLetter isName kindOf lowerSequence malformed numberOfText orderedError pmWrong precedes priorityOf programName ptyError ranked readCards rules sameKey sameRank sameThere scheduleOf shownBy twoDigitsOf assignOf kindsFrom searchOf runB fitsB startOf areaB drumLength serveOf serviceOf giveFrom chooseOf picks lowestFrom testsB ge sumTo isFreeOf unitIn unitSet assignable legalOf refusal accept answer fresh fittedOn drumOn configured packetIn stateIn put relist enlisted entryOf′ placeOf packetOf setState restatusAll takeAll releaseAll freshCell acted outcome candidate wordFrom freshUnits changedAt withState removed setStateIn
   k6 = let k : Computes (freshCell (with· section mtChannels)) (alone (bytes "IB/1,MT1/2,MT/4") (Given 0 2 0 0 0 3 0)) = (refl, (refl, (refl, (refl, tt)))) in follows (freshCell (with· section mtChannels)) (alone (bytes "IB/1,MT1/2,MT/4") (Given 0 2 0 0 0 3 0)) k
 
   k7 : Holds (Plays (with· section mtChannels) (alone (bytes "IB/1,MT1/2,MT/5") (Missing NoAssignment (bytes "A1    ") (Units Mt))))
-  unfolding after askedOf cardByte clashError codeError codes deckEnd digitsText enterError entryOf facError facOf fields formError frontError inserted is2 isAlnum isDigit isLetter kindOf lowerSequence malformed numberOfText orderedError precedes priorityOf programName ptyError ranked readCards rules sameKey sameRank sameThere scheduleOf shownBy twoDigitsOf assignOf kindsFrom searchOf runB fitsB startOf areaB drumLength serveOf serviceOf giveFrom chooseOf picks lowestFrom testsB ge sumTo isFreeOf unitIn unitSet assignable legalOf refusal accept answer fresh fittedOn drumOn configured packetIn stateIn put relist enlisted entryOf′ placeOf packetOf setState restatusAll takeAll releaseAll freshCell acted outcome candidate wordFrom freshUnits changedAt withState removed setStateIn
+  unfolding after apart askedOf cardByte clashError codeError codes deckEnd digitsText enterError entryOf facError facOf fields formError inserted is2 isAlnum isDigit isLetter isName kindOf lowerSequence malformed numberOfText orderedError pmWrong precedes priorityOf programName ptyError ranked readCards rules sameKey sameRank sameThere scheduleOf shownBy twoDigitsOf assignOf kindsFrom searchOf runB fitsB startOf areaB drumLength serveOf serviceOf giveFrom chooseOf picks lowestFrom testsB ge sumTo isFreeOf unitIn unitSet assignable legalOf refusal accept answer fresh fittedOn drumOn configured packetIn stateIn put relist enlisted entryOf′ placeOf packetOf setState restatusAll takeAll releaseAll freshCell acted outcome candidate wordFrom freshUnits changedAt withState removed setStateIn
   k7 = let k : Computes (freshCell (with· section mtChannels)) (alone (bytes "IB/1,MT1/2,MT/5") (Missing NoAssignment (bytes "A1    ") (Units Mt))) = (refl, (refl, (refl, (refl, tt)))) in follows (freshCell (with· section mtChannels)) (alone (bytes "IB/1,MT1/2,MT/5") (Missing NoAssignment (bytes "A1    ") (Units Mt))) k
 
   k8 : Holds (Plays (with· section drumChannels) (alone (bytes "IB/1,MD/1500") (Given 0 2 0 35329 36828 0 0)))
-  unfolding after askedOf cardByte clashError codeError codes deckEnd digitsText enterError entryOf facError facOf fields formError frontError inserted is2 isAlnum isDigit isLetter kindOf lowerSequence malformed numberOfText orderedError precedes priorityOf programName ptyError ranked readCards rules sameKey sameRank sameThere scheduleOf shownBy twoDigitsOf assignOf kindsFrom searchOf runB fitsB startOf areaB drumLength serveOf serviceOf giveFrom chooseOf picks lowestFrom testsB ge sumTo isFreeOf unitIn unitSet assignable legalOf refusal accept answer fresh fittedOn drumOn configured packetIn stateIn put relist enlisted entryOf′ placeOf packetOf setState restatusAll takeAll releaseAll freshCell acted outcome candidate wordFrom freshUnits changedAt withState removed setStateIn
+  unfolding after apart askedOf cardByte clashError codeError codes deckEnd digitsText enterError entryOf facError facOf fields formError inserted is2 isAlnum isDigit isLetter isName kindOf lowerSequence malformed numberOfText orderedError pmWrong precedes priorityOf programName ptyError ranked readCards rules sameKey sameRank sameThere scheduleOf shownBy twoDigitsOf assignOf kindsFrom searchOf runB fitsB startOf areaB drumLength serveOf serviceOf giveFrom chooseOf picks lowestFrom testsB ge sumTo isFreeOf unitIn unitSet assignable legalOf refusal accept answer fresh fittedOn drumOn configured packetIn stateIn put relist enlisted entryOf′ placeOf packetOf setState restatusAll takeAll releaseAll freshCell acted outcome candidate wordFrom freshUnits changedAt withState removed setStateIn
   k8 = let k : Computes (freshCell (with· section drumChannels)) (alone (bytes "IB/1,MD/1500") (Given 0 2 0 35329 36828 0 0)) = (refl, (refl, (refl, (refl, tt)))) in follows (freshCell (with· section drumChannels)) (alone (bytes "IB/1,MD/1500") (Given 0 2 0 35329 36828 0 0)) k
 
 -- K1 TO K9

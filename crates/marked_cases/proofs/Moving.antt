@@ -11,14 +11,17 @@ use Rattle.cell.specs.Calls.{acted, freshCell, cellOf}
 use Rattle.cell.specs.declared.Cell.{Cell}
 use Rattle.marked_cases.proofs.Computed.{cellAfter, does-computed, replyOf, sized, selectOf, selects}
 use Rattle.cell_history.specs.History.{Deck, Select}
-use Rattle.schedule_deck.specs.Report.{after, shownBy}
+use Rattle.cards_lines.specs.Shown.{shownBy}
+use Rattle.schedule_deck.specs.Report.{after}
 use Rattle.cards_fac.specs.Fac.{askedOf, codeError, codes, entryOf, formError, facError, facOf}
 use Rattle.schedule.specs.Calls.{clashError, enterError, sameThere, taken}
 use Rattle.schedule_candidates.specs.Candidates.{candidate}
-use Rattle.cards_fields.specs.Fields.{cardByte, fields, malformed}
+use Rattle.cards_fields.specs.Fields.{cardByte, fields, isName, malformed}
 use Rattle.cards_fields.specs.Deck.{deckEnd}
 use Rattle.text.specs.Writing.{digitsText}
-use Rattle.cards_group.specs.Group.{frontError, orderedError, readCards}
+use Rattle.cards_further.specs.Together.{apart}
+use Rattle.cards_further.specs.Further.{pmWrong}
+use Rattle.cards_group.specs.Group.{orderedError, readCards}
 use Rattle.cards_pty.specs.Pty.{ptyError, priorityOf, programName, ranked, rules}
 use Rattle.schedule_list.specs.InSchedule.{changedAt, inserted, removed, scheduleOf, setState as setStateIn, withState, inSchedule}
 use Rattle.numbers.specs.Quoted.{is2, bytes, byte}
@@ -55,9 +58,9 @@ use Rattle.assign_heads.proofs.GivingLaws.{to-given}
 use Rattle.assign_channels.specs.Choice.{on, want}
 use Rattle.assign.specs.Chosen.{Chosen}
 use Rattle.assign.specs.declared.Assigned.{Assigned}
-use Rattle.cards.specs.Requests.{noUnits}
-use Rattle.cards.specs.declared.Facilities.{Facilities}
-use Rattle.cards.specs.declared.Request.{Request}
+use Rattle.cards_request.specs.Requests.{noUnits}
+use Rattle.cards_request.specs.declared.Facilities.{Facilities}
+use Rattle.cards_request.specs.declared.Request.{Request}
 use Rattle.schedule_entries.specs.declared.State.the-variants.{Waiting}
 use Rattle.packets.specs.declared.Lists.{Lists}
 use Rattle.cell_selection.specs.Selecting.{isJob, isTaken, noId, seenIn, SelectsBy, leftBy, runOf}
@@ -125,7 +128,7 @@ module _ (section : ℕ) where
   c₁ = cellOf (scheduleOf (record { request = asks; state = Waiting } ∷ [])) lists₁
 
   entered : cellAfter (freshCell (with· section oneChannel)) (Deck k9Deck) ≡ c₁
-  unfolding after askedOf cardByte clashError codeError codes deckEnd digitsText enterError entryOf facError facOf fields formError freshCell frontError inserted is2 isAlnum isDigit isLetter kindOf lowerSequence malformed numberOfText orderedError precedes priorityOf programName ptyError ranked readCards removed rules sameKey sameRank sameThere scheduleOf shownBy twoDigitsOf
+  unfolding after apart askedOf cardByte clashError codeError codes deckEnd digitsText enterError entryOf facError facOf fields formError freshCell inserted is2 isAlnum isDigit isLetter isName kindOf lowerSequence malformed numberOfText orderedError pmWrong precedes priorityOf programName ptyError ranked readCards removed rules sameKey sameRank sameThere scheduleOf shownBy twoDigitsOf
   entered = refl
 
   -- ---- the unit that the selection gives: the lowest of channel 3
@@ -281,7 +284,7 @@ module _ (section : ℕ) where
   first-sized = refl
 
   first-seen : seen (replyOf (freshCell (with· section oneChannel)) (Deck k9Deck)) ≡ Accepted
-  unfolding after askedOf cardByte clashError codeError codes deckEnd digitsText enterError entryOf facError facOf fields formError freshCell frontError inserted is2 isAlnum isDigit isLetter kindOf lowerSequence malformed numberOfText orderedError precedes priorityOf programName ptyError ranked readCards removed rules sameKey sameRank sameThere scheduleOf shownBy twoDigitsOf
+  unfolding after apart askedOf cardByte clashError codeError codes deckEnd digitsText enterError entryOf facError facOf fields formError freshCell inserted is2 isAlnum isDigit isLetter isName kindOf lowerSequence malformed numberOfText orderedError pmWrong precedes priorityOf programName ptyError ranked readCards removed rules sameKey sameRank sameThere scheduleOf shownBy twoDigitsOf
   first-seen = refl
 
   first-free : unitIn (inside c₁ .units) 3 0 .holder ≡ Free

@@ -19,10 +19,10 @@ use Rattle.channels.specs.declared.Channel.{Channel}
 use Rattle.channels.specs.declared.Configuration.{Configuration}
 use Rattle.words.specs.Lines.{lf}
 use Rattle.cards_fields.specs.Deck.{termination}
-use Rattle.cards.specs.Errors.{errorNumber}
+use Rattle.cards_request.specs.Errors.{errorNumber}
 use Rattle.cards_group.specs.Group.{readGroup}
-use Rattle.cards.specs.declared.Verdict.{Verdict}
-use Rattle.cards.specs.declared.Verdict.the-variants.{Good, Wrong}
+use Rattle.cards_request.specs.declared.Verdict.{Verdict}
+use Rattle.cards_request.specs.declared.Verdict.the-variants.{Good, Wrong}
 use Rattle.schedule_deck.specs.Report.{deckText}
 use Rattle.assign_channels.specs.Choice.{on}
 use Rattle.assign.specs.Assignment.{channelsOf}
