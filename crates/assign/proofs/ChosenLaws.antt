@@ -30,7 +30,7 @@ use Rattle.assign_heads.specs.declared.Head.{Head}
 use Rattle.assign_heads.specs.Heads.{isGiven, Served}
 use Rattle.assign_heads.proofs.HeadsOne.{units-one}
 use Rattle.assign_heads.specs.Whose.{blank}
-use Rattle.cards.specs.declared.Facilities.{Facilities}
+use Rattle.cards_request.specs.declared.Facilities.{Facilities}
 use Rattle.assign.specs.declared.KindChannels.{KindChannels}
 use Rattle.assign.specs.declared.Kinds.{Kinds}
 use Rattle.assign.specs.declared.Assigned.{Assigned}

@@ -26,8 +26,8 @@ use Rattle.assign_heads.proofs.ServingLaws.{served-so, lacking-so}
 use Rattle.assign_heads.proofs.Computed.{serveOf, serve-answers}
 use Rattle.assign_free.specs.Assignable.{isFreeOf}
 use Rattle.assign_free.proofs.Computed.{marksOf, marks-answer}
-use Rattle.cards.specs.Requests.{counts}
-use Rattle.cards.specs.declared.Facilities.{Facilities}
+use Rattle.cards_request.specs.Requests.{counts}
+use Rattle.cards_request.specs.declared.Facilities.{Facilities}
 use Rattle.assign.specs.declared.KindChannels.{KindChannels}
 use Rattle.assign.specs.declared.Kinds.{Kinds}
 use Rattle.assign.specs.declared.Lacking.the-variants as Lacking

@@ -2,8 +2,8 @@
 -- where each has one, the assigner's answer is an assignment. Assumes nothing.
 use mathlib.Core.Path.{_≡_}
 use lib.ListN.{length}
-use Rattle.cards.specs.Requests.{counts}
-use Rattle.cards.specs.declared.Facilities.{Facilities}
+use Rattle.cards_request.specs.Requests.{counts}
+use Rattle.cards_request.specs.declared.Facilities.{Facilities}
 use Rattle.assign.specs.declared.Assigned.{Assigned}
 use Rattle.assign.specs.declared.Lacking.{Lacking}
 use Rattle.assign.specs.declared.Lacking.the-variants as Lacking

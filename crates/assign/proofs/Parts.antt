@@ -13,7 +13,7 @@ use Rattle.channels.specs.declared.Fitted.{Fitted}
 use Rattle.channels.specs.declared.Fitted.the-variants as F
 use Rattle.channels.specs.declared.Channel.{Channel}
 use Rattle.channels.specs.Channels.{noChannel}
-use Rattle.cards.specs.Requests.{counts}
+use Rattle.cards_request.specs.Requests.{counts}
 use Rattle.assign.specs.Assignment.{lengthIn, drumLength}
 
 module _ (channels : List Channel) (c : ℕ) (h : c < length channels) where

@@ -19,7 +19,7 @@ use Rattle.assign_heads.specs.declared.Given.the-variants.{Nothing}
 use Rattle.assign_heads.specs.Heads.{isGiven, Served}
 use Rattle.assign_heads.specs.Whose.{blank}
 use Rattle.assign_free.specs.Assignable.{isFreeOf}
-use Rattle.cards.specs.declared.Facilities.{Facilities}
+use Rattle.cards_request.specs.declared.Facilities.{Facilities}
 use Rattle.assign.specs.declared.KindChannels.{KindChannels}
 use Rattle.assign.specs.declared.Assigned.{Assigned}
 

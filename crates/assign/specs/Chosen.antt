@@ -6,8 +6,8 @@ use Rattle.assign_core.specs.Core.{Before}
 use Rattle.assign_channels.specs.Choice.{LexLe}
 use Rattle.assign_heads.specs.Heads.{Lowest}
 use Rattle.assign_heads.specs.Whose.{blank}
-use Rattle.cards.specs.Requests.{counts}
-use Rattle.cards.specs.declared.Facilities.{Facilities}
+use Rattle.cards_request.specs.Requests.{counts}
+use Rattle.cards_request.specs.declared.Facilities.{Facilities}
 use Rattle.assign.specs.declared.Assigned.{Assigned}
 use Rattle.assign.specs.declared.Lacking.{Lacking}
 use Rattle.assign.specs.declared.Lacking.the-variants.{Nothing, First}

@@ -11,7 +11,7 @@ use Rattle.assign_drum.specs.declared.Area.{Area}
 use Rattle.assign_channels.specs.Choice.{want}
 use Rattle.assign_heads.specs.declared.Given.{Given}
 use Rattle.assign_heads.specs.Heads.{Served}
-use Rattle.cards.specs.declared.Facilities.{Facilities}
+use Rattle.cards_request.specs.declared.Facilities.{Facilities}
 use Rattle.assign.specs.declared.Lacking.{Lacking}
 use Rattle.assign.specs.declared.Lacking.the-variants.{Nothing, First}
 use Rattle.assign.specs.declared.Part.{Part}

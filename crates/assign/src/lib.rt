@@ -4,8 +4,8 @@ use assign_drum::Area;
 use assign_drum::Start;
 use assign_heads::Given;
 use assign_heads::Head;
-use cards::Facilities;
-use cards::Request;
+use cards_request::Facilities;
+use cards_request::Request;
 use channels::Channel;
 use channels::Fitted;
 use numbers::ChannelNumber;
@@ -94,7 +94,7 @@ pub fn drum_length(channels: [Channel; 16]) -> u32
 }
 
 // What the entries of a kind ask for.
-fn wants_of(units: [u8; cards::COUNTS], row: usize) -> [u8; 16]
+fn wants_of(units: [u8; cards_request::COUNTS], row: usize) -> [u8; 16]
     requires { ⌜ row < 3 ⌝ }
     ensures { λ r. ⌜ r ≡ take 16 (drop (row * 16) units) ⌝ }
 {
@@ -121,7 +121,7 @@ fn unit_kind(row: usize) -> Kind
 }
 
 // Serves the kinds in the order of their rows, MA, MT, PR; the first that is lacking ends it.
-fn serve_kinds(units: Units, channels: [Channel; 16], asked: [u8; cards::COUNTS]) -> Kinds
+fn serve_kinds(units: Units, channels: [Channel; 16], asked: [u8; cards_request::COUNTS]) -> Kinds
     ensures { λ r. ⌜ ServesKinds (isFreeOf (units .of) channels) asked r ⌝ }
 {
     let none = [ChannelNumber(0); 16];

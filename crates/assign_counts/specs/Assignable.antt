@@ -5,7 +5,7 @@ use mathlib.Core.Bool.{_&&_}
 use mathlib.Core.List.{List}
 use lib.Dec.{ltb}
 use lib.ListN.{length, getD}
-use Rattle.cards.specs.Requests.{counts as many}
+use Rattle.cards_request.specs.Requests.{counts as many}
 use Rattle.numbers.specs.Kinds.{rowOf}
 use Rattle.units.specs.declared.Unit.{Unit}
 use Rattle.units.specs.State.{unitIn, assignable}

@@ -10,7 +10,7 @@ ghost use Rattle.assign_counts.specs.Assignable.{rowIn, AssignableOn, Co
 
 // The number of assignable units of the kinds MA, MT and PR on every channel, at kind * 16 + channel.
 pub struct Counts {
-    pub of: [u8; cards::COUNTS],
+    pub of: [u8; cards_request::COUNTS],
 }
 
 // The row of the kind that a channel has; 3, the drum's, where it has nothing.
@@ -48,7 +48,7 @@ pub fn count(units: Units, channels: [Channel; 16]) -> Counts
     ensures { λ r. ⌜ Counted (units .of) channels (r .of) ⌝ }
 {
     let grid = units::grid_of(units);
-    let mut of = [0u8; cards::COUNTS];
+    let mut of = [0u8; cards_request::COUNTS];
     let mut c: usize = 0;
     while c < 16 {
         let channel = channels[c];

@@ -10,7 +10,7 @@ use Rattle.units.specs.declared.Unit.{Unit}
 use Rattle.channels.specs.declared.Channel.{Channel}
 use Rattle.assign_drum.specs.declared.Area.{Area}
 use Rattle.assign_counts.specs.Assignable.{Counted}
-use Rattle.cards.specs.declared.Facilities.{Facilities}
+use Rattle.cards_request.specs.declared.Facilities.{Facilities}
 use Rattle.assign.specs.Assignment.{Cell, cellOf, drumLength, wantsOf}
 use Rattle.assign.specs.Parts.{kinds, parts, FirstOf, FirstLacking, Has, HasKind}
 use Rattle.assign.specs.declared.Lacking.{Lacking}

@@ -17,7 +17,7 @@ use Rattle.assign_drum.specs.declared.Start.the-variants as S
 use Rattle.assign_channels.specs.Choice.{total}
 use Rattle.assign_channels.specs.Greedy.{hallB}
 use Rattle.assign_channels.proofs.Loops.{too-many, not-served, found, lent}
-use Rattle.cards.specs.declared.Facilities.{Facilities}
+use Rattle.cards_request.specs.declared.Facilities.{Facilities}
 use Rattle.assign.specs.declared.Lacking.{Lacking}
 use Rattle.assign.specs.Parts.{parts, HasCore, HasDrum}
 use Rattle.assign.proofs.FirstLaws.{first-one}

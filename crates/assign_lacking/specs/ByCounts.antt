@@ -8,8 +8,8 @@ use Rattle.numbers.specs.Kinds.{rowOf}
 use Rattle.numbers.specs.declared.ChannelNumber.{ChannelNumber}
 use Rattle.assign_drum.specs.declared.Area.{Area}
 use Rattle.assign_channels.specs.Choice.{Placed}
-use Rattle.cards.specs.Requests.{counts as many}
-use Rattle.cards.specs.declared.Facilities.{Facilities}
+use Rattle.cards_request.specs.Requests.{counts as many}
+use Rattle.cards_request.specs.declared.Facilities.{Facilities}
 use Rattle.assign.specs.Assignment.{wantsOf}
 use Rattle.assign.specs.Parts.{HasCore, HasDrum, FirstOf, parts}
 use Rattle.assign.specs.declared.Lacking.{Lacking}

@@ -6,7 +6,7 @@ use assign_core::Found;
 use assign_counts::Counts;
 use assign_drum::Area;
 use assign_drum::Start;
-use cards::Facilities;
+use cards_request::Facilities;
 use numbers::Kind;
 ghost use mathlib.Core.Path.{_≡_};
 ghost use Prim.Native.Nat.{_<_};
@@ -16,7 +16,7 @@ ghost use Rattle.assign.specs.Parts.{FirstOf, kinds};
 ghost use Rattle.assign_lacking.specs.ByCounts.{Servable, HasUnits, Answers};
 
 // A kind's part of a table by kind and channel, or by kind and logical channel.
-fn row_at(table: [u8; cards::COUNTS], row: usize) -> [u8; 16]
+fn row_at(table: [u8; cards_request::COUNTS], row: usize) -> [u8; 16]
     requires { ⌜ row < 3 ⌝ }
     ensures { λ r. ⌜ r ≡ wantsOf table row ⌝ }
 {
@@ -41,7 +41,11 @@ fn is_servable(counts: [u8; 16], wants: [u8; 16]) -> bool
 }
 
 // The same of the kind of a row.
-fn has_units(counts: [u8; cards::COUNTS], asked: [u8; cards::COUNTS], row: usize) -> bool
+fn has_units(
+    counts: [u8; cards_request::COUNTS],
+    asked: [u8; cards_request::COUNTS],
+    row: usize,
+) -> bool
     requires { ⌜ row < 3 ⌝ }
     ensures { λ r. ⌜ Decides (Servable (wantsOf counts row) (wantsOf asked row)) r ⌝ }
 {
@@ -49,7 +53,7 @@ fn has_units(counts: [u8; cards::COUNTS], asked: [u8; cards::COUNTS], row: usize
 }
 
 // The first kind whose units are lacking.
-fn lacking_kind(counts: [u8; cards::COUNTS], asked: [u8; cards::COUNTS]) -> Lacking
+fn lacking_kind(counts: [u8; cards_request::COUNTS], asked: [u8; cards_request::COUNTS]) -> Lacking
     ensures { λ r. ⌜ FirstOf (HasUnits counts asked) kinds r ⌝ }
 {
     if !has_units(counts, asked, 0) {

@@ -16,7 +16,7 @@ use Rattle.cards_fields.specs.Fields.{spaceless}
 use Rattle.cards_fields.proofs.FieldLaws.{spaceless-short}
 use Rattle.cards_writing.specs.Writing.{priorityText}
 use Rattle.cards_writing.proofs.PutLaws.{priority-short}
-use Rattle.cards.specs.declared.Request.{Request}
+use Rattle.cards_request.specs.declared.Request.{Request}
 use Rattle.schedule_entries.specs.Entries.{blank, inPlace}
 use Rattle.schedule_entries.specs.declared.State.{State}
 use Rattle.schedule_entries.specs.declared.State.the-variants as S

@@ -9,8 +9,8 @@ use Rattle.numbers.specs.Quoted.{byte, bytes}
 use Rattle.numbers.specs.declared.Kind.the-variants.{Mt, Md}
 use Rattle.text.specs.Writing.{digitsText}
 use Rattle.cards_writing.specs.Writing.{priorityText}
-use Rattle.cards.specs.Requests.{noUnits}
-use Rattle.cards.specs.declared.Request.{Request}
+use Rattle.cards_request.specs.Requests.{noUnits}
+use Rattle.cards_request.specs.declared.Request.{Request}
 use Rattle.schedule_entries.specs.declared.State.the-variants as S
 use Rattle.schedule_list.specs.InSchedule.{scheduleOf}
 use Rattle.schedule_list.specs.declared.Schedule.{Schedule}

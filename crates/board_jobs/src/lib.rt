@@ -1,5 +1,5 @@
 // The board's lines of places and of core.
-use cards_writing::put;
+use cards_fields::parts;
 use packets::Blocks;
 use packets::Core;
 use packets::Job;
@@ -40,7 +40,7 @@ fn put_job(out: &mut [u8], at: usize, place: u8, id: [u8; 6], word: &[u8]) -> us
     let title = text::put_bytes(out, at, b"PLACE ");
     let number = text::put_decimal(out, title, place as u64);
     let space = text::put_byte(out, number, b' ');
-    let name = put::put_name(out, space, &id);
+    let name = parts::put_name(out, space, &id);
     text::put_bytes(out, name, word)
 }
 

@@ -14,13 +14,13 @@ use Rattle.numbers.proofs.Tests.{both, by-bool, never}
 use Rattle.cards_fields.specs.Deck.{deckEnd}
 use Rattle.cards_fields.specs.declared.DeckEnd.{DeckEnd}
 use Rattle.cards_fields.specs.declared.DeckEnd.the-variants.{At, Refused}
-use Rattle.cards.specs.Errors.{errorIf}
-use Rattle.cards.proofs.ErrorLaws.{not-good, or-else-none}
+use Rattle.cards_request.specs.Errors.{errorIf}
+use Rattle.cards_request.proofs.ErrorLaws.{not-good, or-else-none}
 use Rattle.cards_group.specs.Group.{readGroup}
-use Rattle.cards.specs.declared.CardError.the-variants.{InSchedule}
-use Rattle.cards.specs.declared.Verdict.{Verdict}
-use Rattle.cards.specs.declared.Verdict.the-variants.{Good, Wrong}
-use Rattle.cards.specs.declared.Request.{Request}
+use Rattle.cards_request.specs.declared.CardError.the-variants.{InSchedule}
+use Rattle.cards_request.specs.declared.Verdict.{Verdict}
+use Rattle.cards_request.specs.declared.Verdict.the-variants.{Good, Wrong}
+use Rattle.cards_request.specs.declared.Request.{Request}
 use Rattle.schedule_entries.specs.Entries.{active, blank, firstState, inPlace, isNamed, suspended, waiting}
 use Rattle.schedule_entries.specs.declared.Entry.{Entry}
 use Rattle.schedule_entries.specs.declared.State.{State}
@@ -34,7 +34,8 @@ use Rattle.schedule.specs.Calls.{barred, clashError, closing, deleted, enterErr
 use Rattle.schedule.specs.ByIndex.{barredAt, deletedAt, ofJob, ofName, releasedAt, returnedAt}
 use Rattle.schedule.specs.declared.Changed.{Changed}
 use Rattle.schedule.proofs.ByIndexLaws.{barred-at, closing-at, deleted-at, released-at, returned-at}
-use Rattle.schedule_deck.specs.Report.{after, begin, deckGroups, deckSchedule, endFrom, scheduleBy, triedBy}
+use Rattle.cards_lines.specs.Shown.{deckGroups}
+use Rattle.schedule_deck.specs.Report.{after, begin, deckSchedule, endFrom, scheduleBy, triedBy}
 use Rattle.schedule_deck.specs.declared.Progress.{Progress}
 use Rattle.cell_agreement.specs.Agreement.{statesIn}
 use Rattle.cell_agreement.proofs.StandingLaws.{changed-alone, changed-apart, changed-into, first-there, in-one, inserted-apart, without-alone, without-apart}

@@ -17,8 +17,8 @@ use Rattle.numbers.specs.Bits.{bit}
 use Rattle.assign_drum.specs.Drum.{In, noArea}
 use Rattle.assign_drum.specs.declared.Area.{Area}
 use Rattle.assign_heads.specs.Whose.{blank}
-use Rattle.cards.specs.declared.Facilities.{Facilities}
-use Rattle.cards.specs.declared.Request.{Request}
+use Rattle.cards_request.specs.declared.Facilities.{Facilities}
+use Rattle.cards_request.specs.declared.Request.{Request}
 use Rattle.schedule_entries.specs.declared.Entry.{Entry}
 use Rattle.assign.specs.Assignment.{IsAssignment}
 use Rattle.packets.specs.Apart.{Fits, inCore}

@@ -10,7 +10,7 @@ use borrow.Author.Tests.{eqb-false, eqb-true}
 use Rattle.numbers.proofs.Tests.{by-bool, never}
 use Rattle.units.specs.declared.Unit.{Unit}
 use Rattle.channels.specs.declared.Channel.{Channel}
-use Rattle.cards.specs.declared.Facilities.{Facilities}
+use Rattle.cards_request.specs.declared.Facilities.{Facilities}
 use Rattle.schedule_entries.specs.declared.Entry.{Entry}
 use Rattle.schedule_list.specs.InSchedule.{inSchedule, entryAt}
 use Rattle.schedule_list.proofs.InScheduleLaws.{schedule-at, schedule-few, schedule-sized}

@@ -8,11 +8,11 @@ use lib.Dec.{leb}
 use lib.ListN.{length, getD}
 use borrow.Author.Tests.{lt-ltb, le-ltb, le-leb, lt-leb}
 use Rattle.numbers.specs.declared.Refusal.the-variants.{NoSuchRequest, JobRuns}
-use Rattle.cards.specs.Errors.{errorIf, orElse}
-use Rattle.cards.proofs.ErrorLaws.{not-good}
-use Rattle.cards.specs.declared.CardError.the-variants.{SamePriority, SameSequence, ScheduleFull}
-use Rattle.cards.specs.declared.Verdict.the-variants.{Good}
-use Rattle.cards.specs.declared.Request.{Request}
+use Rattle.cards_request.specs.Errors.{errorIf, orElse}
+use Rattle.cards_request.proofs.ErrorLaws.{not-good}
+use Rattle.cards_request.specs.declared.CardError.the-variants.{SamePriority, SameSequence, ScheduleFull}
+use Rattle.cards_request.specs.declared.Verdict.the-variants.{Good}
+use Rattle.cards_request.specs.declared.Request.{Request}
 use Rattle.schedule_entries.specs.Entries.{keyOf, sameKey, suspended, active, blank}
 use Rattle.schedule_entries.specs.Questions.{answers}
 use Rattle.schedule_entries.specs.declared.State.{State}

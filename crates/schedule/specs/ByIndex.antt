@@ -5,9 +5,9 @@ use mathlib.Core.Bool.{Bool, cond, _&&_, not}
 use mathlib.Core.List.{List, [], _∷_}
 use lib.Dec.{eqb, leb}
 use Rattle.numbers.specs.declared.Refusal.the-variants.{NoSuchRequest, JobRuns}
-use Rattle.cards.specs.Errors.{errorIf, firstOf}
-use Rattle.cards.specs.declared.CardError.the-variants.{SamePriority, SameSequence, ScheduleFull}
-use Rattle.cards.specs.declared.Verdict.{Verdict}
+use Rattle.cards_request.specs.Errors.{errorIf, firstOf}
+use Rattle.cards_request.specs.declared.CardError.the-variants.{SamePriority, SameSequence, ScheduleFull}
+use Rattle.cards_request.specs.declared.Verdict.{Verdict}
 use Rattle.schedule_entries.specs.Entries.{isNamed, suspended, active}
 use Rattle.schedule_entries.specs.declared.State.the-variants.{Waiting, Suspended}
 use Rattle.schedule_entries.specs.declared.Entry.{Entry}

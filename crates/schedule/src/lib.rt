@@ -1,7 +1,7 @@
 // What the calls make of the schedule: what bars a request from entering, a request released or deleted; its job is
 // taken, closes, has returned.
-use cards::CardError;
-use cards::Verdict;
+use cards_request::CardError;
+use cards_request::Verdict;
 use numbers::Outcome;
 use numbers::Refusal;
 use schedule_entries::State;

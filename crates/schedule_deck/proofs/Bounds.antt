@@ -3,10 +3,10 @@
 -- nothing.
 use Prim.Native.Nat.{ℕ, _+_, _*_, _≤_, _<_}
 use mathlib.Core.Path.{_≡_, refl, sym, ap, subst, _∙_}
-use mathlib.Core.Bool.{Bool, true, false, cond, _&&_}
+use mathlib.Core.Bool.{_&&_}
 use mathlib.Core.List.{List, [], _∷_, _++_}
 use native.Mathlib.Omega.{arith}
-use lib.Dec.{eqb, leb}
+use lib.Dec.{leb}
 use lib.ListN.{length, getD, drop, length-append, length-drop}
 use lib.Seq.{sets-eq}
 use Rattle.numbers.proofs.Tests.{by-bool}
@@ -15,55 +15,32 @@ use Rattle.numbers.specs.declared.Refusal.{Refusal}
 use Rattle.numbers.specs.declared.Refusal.the-variants.{BadDeck}
 use Rattle.text.specs.Room.{Written, Whole}
 use Rattle.text.proofs.RoomLaws.{entire}
-use Rattle.text.specs.Writing.{twoText, decimalText}
+use Rattle.text.specs.Writing.{decimalText}
 use Rattle.text.proofs.Undo.{few-digits}
-use Rattle.cards_fields.specs.Fields.{field, isPty, spaceless, padded}
+use Rattle.cards_fields.specs.Fields.{field, spaceless}
 use Rattle.cards_fields.proofs.FieldLaws.{padded-length}
 use Rattle.cards_fields.specs.Deck.{cardsOf, before, terminated, size, deckEnd}
 use Rattle.cards_fields.specs.declared.DeckEnd.{DeckEnd}
 use Rattle.cards_fields.specs.declared.DeckEnd.the-variants.{At, Refused}
-use Rattle.cards.specs.Errors.{errorNumber}
 use Rattle.cards_fac.specs.Fac.{asked}
 use Rattle.cards_group.specs.Group.{readGroup, readCards, orderedError, requestOf, answer}
-use Rattle.cards.specs.declared.CardError.{CardError}
-use Rattle.cards.specs.declared.CardError.the-variants.{
-  NotPty,
-  PtyMalformed,
-  IdLength,
-  WrongRush,
-  WrongLength,
-  WrongContent,
-  WrongCount,
-  NoFac,
-  SecondFac,
-  OtherCard,
-  OtherId,
-  FacMalformed,
-  LongCode,
-  UnknownCode,
-  WrongEntry,
-  TooMuchCore,
-  NoIb,
-  InSchedule,
-  SamePriority,
-  SameSequence,
-  ScheduleFull,
-}
-use Rattle.cards.specs.declared.Verdict.{Verdict}
-use Rattle.cards.specs.declared.Verdict.the-variants.{Good, Wrong}
-use Rattle.cards.specs.declared.Request.{Request}
+use Rattle.cards_request.specs.declared.Verdict.{Verdict}
+use Rattle.cards_request.specs.declared.Verdict.the-variants.{Good, Wrong}
+use Rattle.cards_request.specs.declared.Request.{Request}
 use Rattle.cards_writing.specs.Writing.{priorityText}
 use Rattle.schedule_entries.specs.declared.Entry.{Entry}
 use Rattle.schedule_list.specs.InSchedule.{inSchedule, scheduleOf}
 use Rattle.schedule_list.specs.declared.Schedule.{Schedule}
 use Rattle.schedule_orderly.specs.Orderly.{Each, requests}
 use Rattle.schedule_orderly.proofs.Reachable.{sound-empty}
-use Rattle.schedule_deck.specs.Report.{shownBy, formed, errorLine, requestLine, scheduleText, lastLine, begin, lineBy, lastBy, shownAt, triedAt, groupText, after, errorsFrom, endFrom, closingText, reportText, refusedText, deckGroups, textBy, deckText, notesText, notesBy, deckNotes}
+use Rattle.schedule_deck.specs.Report.{requestLine, scheduleText, lastLine, begin, lineBy, lastBy, shownAt, triedAt, groupText, after, errorsFrom, endFrom, closingText, reportText, textBy, deckText, notesText, notesBy, deckNotes}
 use Rattle.schedule_deck.specs.Reading.{Reported}
 use Rattle.schedule_deck.proofs.DeckLaws.{sound-groups, each-groups}
 use Rattle.schedule_deck.specs.declared.Progress.{Progress}
 use Rattle.cards_fields.proofs.FieldLaws.{spaceless-short}
 use Rattle.cards_writing.proofs.PutLaws.{priority-short}
+use Rattle.cards_lines.specs.Shown.{deckGroups, refusedText}
+use Rattle.cards_lines.proofs.ShownLaws.{error-short, shown-few}
 use Rattle.schedule_deck.proofs.Few.{deck-few}
 
 -- the length of the lent room: 52 times 1,024 bytes
@@ -71,33 +48,6 @@ abbrev pub deckRoom : ℕ
 deckRoom = 53248
 
 -- the lines
-below-100 : (e : CardError) → errorNumber e < 100
-below-100 NotPty = omega arith
-below-100 PtyMalformed = omega arith
-below-100 IdLength = omega arith
-below-100 WrongRush = omega arith
-below-100 WrongLength = omega arith
-below-100 WrongContent = omega arith
-below-100 WrongCount = omega arith
-below-100 NoFac = omega arith
-below-100 SecondFac = omega arith
-below-100 OtherCard = omega arith
-below-100 OtherId = omega arith
-below-100 FacMalformed = omega arith
-below-100 LongCode = omega arith
-below-100 UnknownCode = omega arith
-below-100 WrongEntry = omega arith
-below-100 TooMuchCore = omega arith
-below-100 NoIb = omega arith
-below-100 InSchedule = omega arith
-below-100 SamePriority = omega arith
-below-100 SameSequence = omega arith
-below-100 ScheduleFull = omega arith
-
-error-short : (id : List ℕ) (e : CardError) → length id ≤ 6 → length (errorLine id e) ≤ 16
-error-short id e h =
-    omega (arith, length-append (spaceless id) (bytes " ER " ++ (decimalText (errorNumber e) ++ bytes "\n")), length-append (decimalText (errorNumber e)) (bytes "\n"), spaceless-short id, few-digits 1 (errorNumber e) (below-100 e))
-
 abbrev Short : Request → Type 0
 Short r = length (r .id) ≤ 6
 
@@ -115,7 +65,7 @@ last-short id h = omega (arith, length-append (spaceless id) (bytes " SCH ACK\n"
 -- the IDs shown and last have six bytes at most, as that of every request read
 read-short : (g : List (List ℕ)) → Short (readGroup g .request)
 unfolding readCards
-read-short g = by (orderedError (length g) (getD g 0 []) (getD g 1 []) (getD g 2 []))
+read-short g = by (orderedError (length g) (getD g 0 []) (getD g 1 []) (drop 2 g))
   where
     by : (v : Verdict) → Short (answer v (requestOf (getD g 0 []) (asked (getD g 1 []))) .request)
     by Good = omega (arith, padded-length 6 (field (getD g 0 []) 0))
@@ -125,17 +75,9 @@ record Ids (p : Progress) : Type 0 where
   shown : length (p .shown) ≤ 6
   last : length (p .last) ≤ 6
 
-shown-short : (card shown : List ℕ) → length shown ≤ 6 → length (shownBy card shown) ≤ 6
-unfolding shownBy
-shown-short card shown h = by (isPty card && formed (field card 0))
-  where
-    by : (b : Bool) → length (cond b (padded 6 (field card 0)) shown) ≤ 6
-    by true = omega (arith, padded-length 6 (field card 0))
-    by false = h
-
 ids-after : (p : Progress) (g : List (List ℕ)) → Ids p → Ids (after p g)
 unfolding after
-ids-after p g i = record { shown = shown-short (getD g 0 []) (p .shown) (i .shown); last = by (triedAt p g .verdict) }
+ids-after p g i = record { shown = shown-few (getD g 0 []) (p .shown) (i .shown); last = by (triedAt p g .verdict) }
   where
     by : (v : Verdict) → length (lastBy v (p .last) (readGroup g .request .id)) ≤ 6
     by Good = read-short g
@@ -154,7 +96,7 @@ group-short p g i = by (triedAt p g .verdict)
   where
     by : (v : Verdict) → length (lineBy v (shownAt p g)) ≤ 16
     by Good = omega arith
-    by (Wrong e) = error-short (shownAt p g) e (shown-short (getD g 0 []) (p .shown) (i .shown))
+    by (Wrong e) = error-short (shownAt p g) e (shown-few (getD g 0 []) (p .shown) (i .shown))
 
 errors-short : (p : Progress) (gs : List (List (List ℕ))) → Ids p → length (errorsFrom p gs) ≤ 16 * length gs
 errors-short p [] i = omega arith

@@ -9,14 +9,15 @@ use Rattle.cards_fields.specs.Deck.{deckEnd}
 use Rattle.cards_fields.specs.declared.DeckEnd.{DeckEnd}
 use Rattle.cards_fields.specs.declared.DeckEnd.the-variants.{At, Refused}
 use Rattle.cards_group.specs.Group.{readGroup}
-use Rattle.cards.specs.declared.Verdict.{Verdict}
-use Rattle.cards.specs.declared.Verdict.the-variants.{Good, Wrong}
-use Rattle.cards.specs.declared.Request.{Request}
+use Rattle.cards_request.specs.declared.Verdict.{Verdict}
+use Rattle.cards_request.specs.declared.Verdict.the-variants.{Good, Wrong}
+use Rattle.cards_request.specs.declared.Request.{Request}
 use Rattle.schedule_list.specs.InSchedule.{inSchedule}
 use Rattle.schedule_list.specs.declared.Schedule.{Schedule}
 use Rattle.schedule_orderly.specs.Orderly.{Each, requests, Sound}
 use Rattle.schedule_orderly.proofs.Reachable.{sound-enter, each-enter}
-use Rattle.schedule_deck.specs.Report.{begin, triedBy, after, endFrom, deckGroups, scheduleBy, deckSchedule}
+use Rattle.cards_lines.specs.Shown.{deckGroups}
+use Rattle.schedule_deck.specs.Report.{begin, triedBy, after, endFrom, scheduleBy, deckSchedule}
 use Rattle.schedule_deck.specs.declared.Progress.{Progress}
 
 sound-tried : (v : Verdict) (s : Schedule) (r : Request) → Sound s → Sound (triedBy v s r .schedule)

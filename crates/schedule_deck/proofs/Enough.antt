@@ -11,7 +11,8 @@ use lib.Seq.{take-all, length-take-le}
 use borrow.Author.Tests.{lt-leb}
 use Rattle.numbers.specs.declared.Refusal.the-variants.{BadDeck}
 use Rattle.cards_fields.specs.Deck.{deckEnd}
-use Rattle.schedule_deck.specs.Report.{refusedText, deckText}
+use Rattle.cards_lines.specs.Shown.{refusedText}
+use Rattle.schedule_deck.specs.Report.{deckText}
 
 -- a deck of over 16,384 bytes is refused
 pub too-long : (s : List ℕ) → 16384 < length s → deckText s ≡ refusedText BadDeck

@@ -17,7 +17,7 @@ use Rattle.cards_fields.proofs.FieldLaws.{spaceless-short}
 use Rattle.words.specs.Lines.{ontoLine}
 use Rattle.cards_fields.specs.declared.DeckEnd.the-variants.{At, Refused}
 use Rattle.words.proofs.WordLaws.{same-equal}
-use Rattle.schedule_deck.specs.Report.{deckGroups}
+use Rattle.cards_lines.specs.Shown.{deckGroups}
 
 -- A CARD THAT OPENS A GROUP has a comma and three letters at least
 first-field : (t : List ℕ) → length (getD (split t) 0 []) ≤ length t

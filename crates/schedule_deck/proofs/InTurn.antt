@@ -22,7 +22,8 @@ use Rattle.schedule_outline.specs.Outlines.{Outlines}
 use Rattle.schedule_outline.specs.declared.Outline.{Outline}
 use Rattle.numbers.specs.declared.Refusal.{Refusal}
 use Rattle.numbers.specs.declared.Outcome.the-variants as Outcomes
-use Rattle.schedule_deck.specs.Report.{scheduleText, begin, errorsFrom, endFrom, lastLine, closingText, reportText, refusedText, deckGroups, deckText, textBy, notesText, notesBy, scheduleBy, outcomeBy}
+use Rattle.cards_lines.specs.Shown.{deckGroups, refusedText}
+use Rattle.schedule_deck.specs.Report.{scheduleText, begin, errorsFrom, endFrom, lastLine, closingText, reportText, deckText, textBy, notesText, notesBy, scheduleBy, outcomeBy}
 use Rattle.schedule_deck.proofs.Few.{ends}
 use Rattle.schedule_deck.proofs.Pieces.{Read}
 use Rattle.schedule_deck.proofs.Bounds.{deckRoom, noted-whole}

@@ -1,34 +1,28 @@
--- The lines of the schedule, one group's answer, and the ID shown. Assumes nothing.
+-- The lines of the schedule, and one group's answer. Assumes nothing.
 use Prim.Native.Nat.{ℕ, _+_, _≤_, _<_}
 use mathlib.Core.Path.{_≡_, refl, sym, ap, subst, _∙_}
 use mathlib.Core.Bool.{Bool, true, false}
 use mathlib.Core.List.{List, [], _++_}
 use native.Mathlib.Numerals.{add-one}
-use native.Mathlib.Omega.{arith}
-use lib.ListN.{length, getD, take, drop, drop-of-length-le}
+use lib.ListN.{length, getD, drop, drop-of-length-le}
 use lib.Seq.{drop-cons}
-use borrow.Author.Tests.{le-leb, lt-leb}
 use Rattle.numbers.proofs.Tests.{never}
 use Rattle.text.specs.Room.{Written}
 use Rattle.text.proofs.RoomLaws.{Going, turn}
-use Rattle.text.specs.Class.{isAlnum}
-use Rattle.words.specs.Words.{every}
-use Rattle.cards_fields.specs.Fields.{field, isPty, padded, fieldOf}
-use Rattle.cards_fields.proofs.FieldLaws.{whole}
-use Rattle.cards_fields.specs.declared.Field.{Field}
-use Rattle.cards.specs.Errors.{good}
-use Rattle.cards.proofs.ErrorLaws.{good-is}
+use Rattle.cards_request.specs.Errors.{good}
+use Rattle.cards_request.proofs.ErrorLaws.{good-is}
 use Rattle.cards_group.specs.Group.{readGroup}
-use Rattle.cards.specs.declared.Verdict.{Verdict}
-use Rattle.cards.specs.declared.Verdict.the-variants.{Good, Wrong}
-use Rattle.cards.specs.declared.Request.{Request}
+use Rattle.cards_request.specs.declared.Verdict.{Verdict}
+use Rattle.cards_request.specs.declared.Verdict.the-variants.{Good, Wrong}
+use Rattle.cards_request.specs.declared.Request.{Request}
 use Rattle.cards_group.specs.declared.Reading.{Reading}
 use Rattle.schedule_entries.specs.Entries.{blank}
 use Rattle.schedule_entries.specs.declared.Entry.{Entry}
 use Rattle.schedule_list.specs.declared.Schedule.{Schedule}
 use Rattle.schedule.specs.Calls.{entering}
 use Rattle.schedule.specs.declared.Entering.{Entering}
-use Rattle.schedule_deck.specs.Report.{shownBy, requestLine, scheduleText, triedBy, tried, lineBy, lastBy, shownAt, triedAt, groupText, after}
+use Rattle.cards_lines.specs.Shown.{shownBy}
+use Rattle.schedule_deck.specs.Report.{requestLine, scheduleText, triedBy, tried, lineBy, lastBy, shownAt, triedAt, groupText, after}
 use Rattle.schedule_deck.specs.declared.Step.{Step}
 use Rattle.schedule_deck.specs.declared.Progress.{Progress}
 
@@ -79,34 +73,3 @@ group-read {room} {out} {at} {next} p cards {card} {shown} {last} {reading} {a} 
       text = subst (λ (x : List ℕ). Written room at x out next) (ap (λ (x : Verdict). lineBy x shown) v ∙ ap (λ (x : List ℕ). lineBy (triedAt p cards .verdict) x) s′) w;
       then = cc;
     }
-
--- the ID shown
-module _ (card shown : List ℕ) {b : Bool} (a : b ≡ isPty card) where
-  pub shown-none : b ≡ false → shown ≡ shownBy card shown
-  unfolding shownBy
-  shown-none e = rw (sym a ∙ e)
-
-  module _ (e : b ≡ true) {f : Field} (is : f ≡ fieldOf (field card 0)) where
-    long : f .len ≡ length (field card 0)
-    long = ap (λ (x : Field). x .len) is
-
-    pub shown-short : f .len < 1 → shown ≡ shownBy card shown
-    unfolding shownBy
-    shown-short h = rw (sym a ∙ e, lt-leb 1 (length (field card 0)) (omega (arith, long)))
-
-    module _ (h : 1 ≤ f .len) where
-      pub shown-long : 6 < f .len → shown ≡ shownBy card shown
-      unfolding shownBy
-      shown-long g = rw (sym a ∙ e, le-leb 1 (length (field card 0)) (omega (arith, long)), lt-leb (length (field card 0)) 6 (omega (arith, long)))
-
-      module _ (g : f .len ≤ 6) {t : Bool} (al : t ≡ every isAlnum (take (f .len) (f .bytes))) where
-        name-is : every isAlnum (field card 0) ≡ t
-        name-is = ap (λ (x : List ℕ). every isAlnum x) (sym (whole f (field card 0) is (omega arith))) ∙ sym al
-
-        pub shown-other : t ≡ false → shown ≡ shownBy card shown
-        unfolding shownBy
-        shown-other q = rw (sym a ∙ e, le-leb 1 (length (field card 0)) (omega (arith, long)), le-leb (length (field card 0)) 6 (omega (arith, long)), name-is ∙ q)
-
-        pub shown-formed : t ≡ true → {r : List ℕ} → r ≡ padded 6 (field card 0) → r ≡ shownBy card shown
-        unfolding shownBy
-        shown-formed q m = m ∙ rw (sym a ∙ e, le-leb 1 (length (field card 0)) (omega (arith, long)), le-leb (length (field card 0)) 6 (omega (arith, long)), name-is ∙ q)

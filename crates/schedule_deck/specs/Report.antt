@@ -1,27 +1,19 @@
 -- What the deck program prints, and what entering a deck into a schedule makes of the schedule and answers.
 use Prim.Native.Nat.{ℕ}
-use mathlib.Core.Bool.{Bool, cond, _&&_}
 use mathlib.Core.List.{List, [], _∷_, _++_}
-use lib.Dec.{leb}
-use lib.ListN.{length, getD}
+use lib.ListN.{getD}
 use Rattle.numbers.specs.Quoted.{bytes}
-use Rattle.numbers.specs.Refusals.{numberOf}
-use Rattle.numbers.specs.declared.Refusal.{Refusal}
 use Rattle.numbers.specs.declared.Outcome.{Outcome}
 use Rattle.numbers.specs.declared.Outcome.the-variants as Outcomes
-use Rattle.text.specs.Class.{isAlnum}
-use Rattle.text.specs.Writing.{decimalText}
-use Rattle.words.specs.Words.{every}
-use Rattle.cards_fields.specs.Fields.{field, isPty, padded, spaceless}
-use Rattle.cards_fields.specs.Deck.{cardsOf, before, deckEnd, groupsOf}
+use Rattle.cards_fields.specs.Fields.{spaceless}
+use Rattle.cards_fields.specs.Deck.{deckEnd}
 use Rattle.cards_fields.specs.declared.DeckEnd.{DeckEnd}
 use Rattle.cards_fields.specs.declared.DeckEnd.the-variants.{At, Refused}
-use Rattle.cards.specs.Errors.{errorNumber}
+use Rattle.cards_lines.specs.Shown.{shownBy, errorLine, refusedText, deckGroups}
 use Rattle.cards_group.specs.Group.{readGroup}
-use Rattle.cards.specs.declared.CardError.{CardError}
-use Rattle.cards.specs.declared.Verdict.{Verdict}
-use Rattle.cards.specs.declared.Verdict.the-variants.{Good, Wrong}
-use Rattle.cards.specs.declared.Request.{Request}
+use Rattle.cards_request.specs.declared.Verdict.{Verdict}
+use Rattle.cards_request.specs.declared.Verdict.the-variants.{Good, Wrong}
+use Rattle.cards_request.specs.declared.Request.{Request}
 use Rattle.cards_group.specs.declared.Reading.{Reading}
 use Rattle.cards_writing.specs.Writing.{priorityText}
 use Rattle.schedule_entries.specs.declared.Entry.{Entry}
@@ -30,19 +22,6 @@ use Rattle.schedule_list.specs.declared.Schedule.{Schedule}
 use Rattle.schedule.specs.Calls.{entering}
 use Rattle.schedule.specs.declared.Entering.{Entering}
 use Rattle.schedule_deck.specs.declared.Progress.{Progress}
-
--- an ID that is well formed: "1-6 letters or digits"
-abbrev pub formed : List ℕ → Bool
-formed id = leb 1 (length id) && (leb (length id) 6 && every isAlnum id)
-
--- "An error line shows the group's PTY ID if well formed, else the last such before it": the ID shown from a group
--- on, the first card its PTY card
-unfoldable pub shownBy : List ℕ → List ℕ → List ℕ
-shownBy card shown = cond (isPty card && formed (field card 0)) (padded 6 (field card 0)) shown
-
--- `SP id ER n`, "numbers unpadded"
-abbrev pub errorLine : List ℕ → CardError → List ℕ
-errorLine id e = bytes "SP " ++ (spaceless id ++ (bytes " ER " ++ (decimalText (errorNumber e) ++ bytes "\n")))
 
 -- a request of the schedule: its ID and its priority
 abbrev pub requestLine : Request → List ℕ
@@ -112,14 +91,6 @@ closingText p = scheduleText (inSchedule (p .schedule)) ++ lastLine (p .last)
 
 unfoldable pub reportText : List (List (List ℕ)) → List ℕ
 reportText gs = errorsFrom (begin (scheduleOf [])) gs ++ closingText (endFrom (begin (scheduleOf [])) gs)
-
--- "A refused deck gives the one line `SCH ER 11`"
-abbrev pub refusedText : Refusal → List ℕ
-refusedText refusal = bytes "SCH ER " ++ (decimalText (numberOf refusal) ++ bytes "\n")
-
--- the groups of a deck: those of the cards before its termination card
-abbrev pub deckGroups : List ℕ → List (List (List ℕ))
-deckGroups s = groupsOf (before (cardsOf s))
 
 abbrev pub textBy : DeckEnd → List ℕ → List ℕ
 textBy (At n) s = reportText (deckGroups s)

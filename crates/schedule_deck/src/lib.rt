@@ -1,21 +1,18 @@
 // The report of a deck, as text in lent room: the errors in deck order, the schedule, and the last good ID.
-use cards::CardError;
-use cards::Request;
-use cards::Verdict;
 use cards_fields::DeckEnd;
-use cards_fields::card;
 use cards_fields::deck;
+use cards_fields::parts;
+use cards_request::Request;
+use cards_request::Verdict;
 use cards_writing::put;
 use numbers::Outcome;
-use numbers::Refusal;
 use schedule_list::Schedule;
-use words::Class;
 ghost use mathlib.Core.Path.{_≡_};
 ghost use Rattle.text.specs.Room.{Written};
 ghost use Rattle.cards_fields.specs.Deck.{cardsOf, groupsOf};
 ghost use Rattle.schedule_list.specs.InSchedule.{inSchedule};
-ghost use Rattle.schedule_deck.specs.Report.{shownBy, errorLine, requestLine, scheduleText, lastLine, lineBy, lastBy};
-ghost use Rattle.schedule_deck.specs.Report.{begin, reportText, refusedText};
+ghost use Rattle.schedule_deck.specs.Report.{requestLine, scheduleText, lastLine, lineBy, lastBy};
+ghost use Rattle.schedule_deck.specs.Report.{begin, reportText};
 ghost use Rattle.schedule_deck.specs.Reading.{ReadAll, Noted, Reported, DeckEntered};
 
 // What has been read so far: the schedule, the ID that an error line shows, and the last good one.
@@ -39,45 +36,12 @@ pub struct Entered {
     pub at: usize,
 }
 
-// The ID of a group's PTY card if it is well formed, else the one before.
-fn shown_by(card: &[u8], shown: [u8; 6]) -> [u8; 6]
-    ensures { λ r. ⌜ r ≡ shownBy (now (card .entry)) shown ⌝ }
-{
-    if !card::field_is(card, 1, b"PTY") {
-        return shown;
-    }
-    let f = card::field_at(card, 0);
-    let n = f.len;
-    let b = f.bytes;
-    if n < 1 {
-        return shown;
-    }
-    if 6 < n {
-        return shown;
-    }
-    if words::all_of(Class::Alnum, &b[..n]) {
-        return [b[0], b[1], b[2], b[3], b[4], b[5]];
-    }
-    shown
-}
-
-// Puts the line of an error.
-fn put_error(out: &mut [u8], at: usize, id: [u8; 6], error: CardError) -> usize
-    ensures { λ r. ⌜ Written (now (out .entry)) at (errorLine id error) (now (out .exit)) r ⌝ }
-{
-    let a = text::put_bytes(out, at, b"SP ");
-    let b = put::put_name(out, a, &id);
-    let c = text::put_bytes(out, b, b" ER ");
-    let d = text::put_decimal(out, c, cards::number_of(error) as u64);
-    text::put_byte(out, d, b'\n')
-}
-
 // Puts the line of a request in the schedule.
 fn put_request(out: &mut [u8], at: usize, request: Request) -> usize
     ensures { λ r. ⌜ Written (now (out .entry)) at (requestLine request) (now (out .exit)) r ⌝ }
 {
     let id = request.id;
-    let a = put::put_name(out, at, &id);
+    let a = parts::put_name(out, at, &id);
     let b = text::put_byte(out, a, b' ');
     let c = put::put_priority(out, b, request);
     text::put_byte(out, c, b'\n')
@@ -104,7 +68,7 @@ fn put_schedule(out: &mut [u8], at: usize, schedule: Schedule) -> usize
 fn put_last(out: &mut [u8], at: usize, id: [u8; 6]) -> usize
     ensures { λ r. ⌜ Written (now (out .entry)) at (lastLine id) (now (out .exit)) r ⌝ }
 {
-    let a = put::put_name(out, at, &id);
+    let a = parts::put_name(out, at, &id);
     text::put_bytes(out, a, b" SCH ACK\n")
 }
 
@@ -114,7 +78,7 @@ fn put_verdict(out: &mut [u8], at: usize, shown: [u8; 6], verdict: Verdict) -> u
 {
     match verdict {
         Verdict::Good => at,
-        Verdict::Wrong(e) => put_error(out, at, shown, e),
+        Verdict::Wrong(e) => cards_lines::put_error(out, at, shown, e),
     }
 }
 
@@ -168,10 +132,10 @@ fn put_groups(out: &mut [u8], part: &[u8], start: Progress) -> Step
         if n == 0 {
             return step_to(at, schedule, shown, last);
         }
-        let own = shown_by(deck::card_at(group, 0), shown);
+        let own = cards_lines::shown_by(deck::card_at(group, 0), shown);
         let reading = cards_group::read_group(group);
         let verdict = reading.verdict;
-        if cards::is_good(verdict) {
+        if cards_request::is_good(verdict) {
             let request = reading.request;
             let judged = schedule_outline::judge(outline, request);
             let entered = judged.verdict;
@@ -179,7 +143,7 @@ fn put_groups(out: &mut [u8], part: &[u8], start: Progress) -> Step
             let id = request.id;
             let good = last_by(entered, last, id);
             last = good;
-            if cards::is_good(entered) {
+            if cards_request::is_good(entered) {
                 let next = schedule_outline::placed(schedule, request, judged.from, judged.at);
                 schedule = next.schedule;
                 outline = next.outline;
@@ -221,15 +185,6 @@ fn put_entered(out: &mut [u8], part: &[u8], schedule: Schedule) -> Entered
     }
 }
 
-// The line of a refused deck.
-fn put_refused(out: &mut [u8], refusal: Refusal) -> usize
-    ensures { λ r. ⌜ Written (now (out .entry)) 0 (refusedText refusal) (now (out .exit)) r ⌝ }
-{
-    let words = text::put_bytes(out, 0, b"SCH ER ");
-    let number = text::put_decimal(out, words, numbers::number_of(refusal) as u64);
-    text::put_byte(out, number, b'\n')
-}
-
 // Puts what the deck program prints into lent room and answers its length. The room holds every report, so nothing is
 // cut.
 pub fn report(deck: &[u8], out: &mut [u8; 53248]) -> usize
@@ -238,7 +193,7 @@ pub fn report(deck: &[u8], out: &mut [u8; 53248]) -> usize
     let end = deck::deck_end(deck);
     match end {
         DeckEnd::At(n) => put_report(out, &deck[..n]),
-        DeckEnd::Refused(refusal) => put_refused(out, refusal),
+        DeckEnd::Refused(refusal) => cards_lines::put_refused(out, 0, refusal),
     }
 }
 

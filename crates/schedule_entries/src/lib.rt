@@ -1,5 +1,5 @@
 // A request as it stands in the schedule: its state, its key, and what can be asked of it.
-use cards::Request;
+use cards_request::Request;
 ghost use mathlib.Core.Path.{_≡_};
 ghost use Rattle.schedule_entries.specs.Entries.{keyOf, sameRank, sameKey, lowerSequence, precedes};
 ghost use Rattle.schedule_entries.specs.Entries.{waiting, suspended, active, inPlace, serial, blank, firstState};
@@ -192,7 +192,7 @@ pub fn answer_to(query: Query, entry: Entry) -> bool
 pub fn blank() -> Entry
     ensures { λ r. ⌜ r ≡ blank ⌝ }
 {
-    let request = cards::no_request();
+    let request = cards_request::no_request();
     Entry {
         request,
         state: State::Waiting,

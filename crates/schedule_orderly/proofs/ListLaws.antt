@@ -11,7 +11,7 @@ use lib.Seq.{set-split, map-set-same}
 use Rattle.numbers.proofs.Tests.{never}
 use Rattle.words.specs.Words.{same}
 use Rattle.words.proofs.WordLaws.{same-equal, same-self}
-use Rattle.cards.specs.declared.Request.{Request}
+use Rattle.cards_request.specs.declared.Request.{Request}
 use Rattle.schedule_entries.specs.Entries.{keyOf, precedes, sameKey, isNamed, blank}
 use Rattle.schedule_entries.specs.declared.State.{State}
 use Rattle.schedule_entries.specs.declared.Entry.{Entry}

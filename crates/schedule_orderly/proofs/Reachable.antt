@@ -11,12 +11,12 @@ use lib.Dec.{leb}
 use lib.ListN.{length}
 use borrow.Author.Tests.{ltb-true, leb-false}
 use Rattle.numbers.proofs.Tests.{by-bool}
-use Rattle.cards.specs.Errors.{errorIf}
-use Rattle.cards.proofs.ErrorLaws.{or-else-none}
-use Rattle.cards.specs.declared.CardError.the-variants.{InSchedule}
-use Rattle.cards.specs.declared.Verdict.{Verdict}
-use Rattle.cards.specs.declared.Verdict.the-variants.{Good, Wrong}
-use Rattle.cards.specs.declared.Request.{Request}
+use Rattle.cards_request.specs.Errors.{errorIf}
+use Rattle.cards_request.proofs.ErrorLaws.{or-else-none}
+use Rattle.cards_request.specs.declared.CardError.the-variants.{InSchedule}
+use Rattle.cards_request.specs.declared.Verdict.{Verdict}
+use Rattle.cards_request.specs.declared.Verdict.the-variants.{Good, Wrong}
+use Rattle.cards_request.specs.declared.Request.{Request}
 use Rattle.schedule_entries.specs.Entries.{isNamed, suspended, active, firstState}
 use Rattle.schedule_entries.specs.declared.State.{State}
 use Rattle.schedule_entries.specs.declared.State.the-variants.{Waiting, Suspended, Running, Closing}

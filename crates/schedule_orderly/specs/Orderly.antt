@@ -4,7 +4,7 @@ use mathlib.Core.Path.{_≡_}
 use mathlib.Core.Bool.{Bool, true}
 use mathlib.Core.List.{List, [], _∷_, map}
 use lib.ListN.{length}
-use Rattle.cards.specs.declared.Request.{Request}
+use Rattle.cards_request.specs.declared.Request.{Request}
 use Rattle.schedule_entries.specs.Entries.{keyOf, precedes}
 use Rattle.schedule_entries.specs.declared.Entry.{Entry}
 use Rattle.schedule_list.specs.InSchedule.{most, inSchedule, scheduleOf}

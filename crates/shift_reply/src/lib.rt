@@ -1,5 +1,5 @@
 // What is answered to a line of the script, put into lent room, and the cell then.
-use cards_writing::put;
+use cards_fields::parts;
 use cell::Answered;
 use cell::Cell;
 use cell_selection::Choice;
@@ -57,7 +57,7 @@ fn put_lack(out: &mut [u8], at: usize, choice: Choice, id: [u8; 6]) -> usize
         Choice::NoCandidates => at,
         Choice::Lacks(part) => {
             let space = text::put_byte(out, at, b' ');
-            let name = put::put_name(out, space, &id);
+            let name = parts::put_name(out, space, &id);
             let next = text::put_byte(out, name, b' ');
             shift_selected::put_part(out, next, part)
         }

@@ -17,8 +17,8 @@ use Rattle.numbers.specs.declared.Kind.the-variants.{Ma, Md, Mt, Pr}
 use Rattle.numbers.proofs.Tests.{both, by-bool}
 use Rattle.text.specs.Writing.{decimalText}
 use Rattle.text.proofs.Undo.{few-digits}
-use Rattle.cards.specs.declared.Facilities.{Facilities}
-use Rattle.cards.specs.declared.Request.{Request}
+use Rattle.cards_request.specs.declared.Facilities.{Facilities}
+use Rattle.cards_request.specs.declared.Request.{Request}
 use Rattle.cards_fields.specs.Fields.{spaceless}
 use Rattle.cards_fields.proofs.FieldLaws.{spaceless-short}
 use Rattle.channels.specs.Channels.{noChannel}

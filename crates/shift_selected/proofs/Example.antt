@@ -6,8 +6,8 @@ use lib.ListN.{set, replicate}
 use Rattle.numbers.specs.Quoted.{byte, bytes}
 use Rattle.numbers.specs.declared.Kind.the-variants.{Mt}
 use Rattle.text.specs.Writing.{digitsText}
-use Rattle.cards.specs.Requests.{noUnits}
-use Rattle.cards.specs.declared.Request.{Request}
+use Rattle.cards_request.specs.Requests.{noUnits}
+use Rattle.cards_request.specs.declared.Request.{Request}
 use Rattle.channels.specs.Channels.{fitted, noChannels}
 use Rattle.channels.specs.declared.Channel.{Channel}
 use Rattle.assign_heads.specs.Whose.{logical, blank}

@@ -11,8 +11,8 @@ use Rattle.numbers.specs.declared.Kind.the-variants.{Ma, Mt, Pr}
 use Rattle.numbers.specs.declared.LogicalChannel.{LogicalChannel}
 use Rattle.text.specs.Writing.{decimalText}
 use Rattle.cards_fields.specs.Fields.{spaceless}
-use Rattle.cards.specs.declared.Facilities.{Facilities}
-use Rattle.cards.specs.declared.Request.{Request}
+use Rattle.cards_request.specs.declared.Facilities.{Facilities}
+use Rattle.cards_request.specs.declared.Request.{Request}
 use Rattle.channels.specs.Channels.{noChannel}
 use Rattle.channels.specs.declared.Fitted.{Fitted}
 use Rattle.channels.specs.declared.Fitted.the-variants as F

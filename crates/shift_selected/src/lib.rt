@@ -3,9 +3,9 @@ use assign::Assigned;
 use assign::Part;
 use assign_heads::Given;
 use assign_heads::Head;
-use cards::Facilities;
-use cards::Request;
-use cards_writing::put;
+use cards_fields::parts;
+use cards_request::Facilities;
+use cards_request::Request;
 use channels::Channel;
 use channels::Fitted;
 use numbers::ChannelNumber;
@@ -100,11 +100,11 @@ fn put_units(
 }
 
 // How many units an entry asks for.
-fn asked_for(units: [u8; cards::COUNTS], kind: Kind, logical: LogicalChannel) -> u8
+fn asked_for(units: [u8; cards_request::COUNTS], kind: Kind, logical: LogicalChannel) -> u8
     ensures { λ r. ⌜ r ≡ asked units kind logical ⌝ }
 {
     let slot = numbers::row_of(kind) * 16 + logical.0 as usize;
-    if slot < cards::COUNTS {
+    if slot < cards_request::COUNTS {
         return units[slot];
     }
     0
@@ -137,7 +137,7 @@ fn put_asked(
     at: usize,
     kind: Kind,
     logical: LogicalChannel,
-    units: [u8; cards::COUNTS],
+    units: [u8; cards_request::COUNTS],
     channels: [Channel; 16],
     heads: [Head; 256],
 ) -> usize
@@ -154,7 +154,7 @@ fn put_kind(
     out: &mut [u8],
     at: usize,
     kind: Kind,
-    units: [u8; cards::COUNTS],
+    units: [u8; cards_request::COUNTS],
     channels: [Channel; 16],
     heads: [Head; 256],
 ) -> usize
@@ -182,7 +182,7 @@ fn put_areas(out: &mut [u8], at: usize, wanted: Facilities, ib: u32, db: u32, dr
 fn put_kinds(
     out: &mut [u8],
     at: usize,
-    units: [u8; cards::COUNTS],
+    units: [u8; cards_request::COUNTS],
     channels: [Channel; 16],
     heads: [Head; 256],
 ) -> usize
@@ -208,7 +208,7 @@ pub fn put_selected(
     let number = text::put_decimal(out, word, place as u64);
     let space = text::put_byte(out, number, b' ');
     let id = request.id;
-    let name = put::put_name(out, space, &id);
+    let name = parts::put_name(out, space, &id);
     let wanted = request.facilities;
     let areas = put_areas(out, name, wanted, assigned.ib, assigned.db, assigned.drum);
     let units = wanted.units;

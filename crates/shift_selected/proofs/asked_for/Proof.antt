@@ -1,7 +1,7 @@
 -- `shift_selected::asked_for` meets its contract: what stands at the entry's slot, 0 past the last. Assumes nothing.
 use native.Mathlib.Omega.{arith}
 use lib.ListN.{length, List·getD-eq-default}
-use Rattle.cards.specs.Requests.{counts}
+use Rattle.cards_request.specs.Requests.{counts}
 use Rattle.shift_selected.specs.Selected.{asked}
 use mathlib.Core.Path.{_≡_, sym}
 use borrow.Author.Needs.{needs}
