@@ -1,13 +1,18 @@
 //! Random decks: good ones, ones with every card error, damaged ones, and ones at the limits.
 
+use std::collections::BTreeMap;
+
+use ordinary::fields::CardType;
+
+use crate::further::{self, Fields};
 use crate::random::{damage, Random, ODD_BYTES};
 
 const TERMINATION: &[u8] = b")))))))) +++++++++++++                                                  ))))))))\n";
 const DECK_LENGTH: usize = 16_384;
 
 const LETTERS: &str = "ABCDEFGHIJKLMNOPQRSTUVWXYZ";
-const LETTERS_AND_DIGITS: &str = "ABCDEFGHIJKLMNOPQRSTUVWXYZ0123456789";
-const CARD_CHARACTERS: &str = "ABCDEFGHIJKLMNOPQRSTUVWXYZ0123456789 -/*=:,.";
+pub const LETTERS_AND_DIGITS: &str = "ABCDEFGHIJKLMNOPQRSTUVWXYZ0123456789";
+pub const CARD_CHARACTERS: &str = "ABCDEFGHIJKLMNOPQRSTUVWXYZ0123456789 -/*=:,.";
 
 /// What the requests of a deck are like.
 #[derive(Clone, Copy)]
@@ -26,6 +31,10 @@ pub struct Style {
     pub serial: usize,
     /// Percent of requests that are spoilt.
     pub spoilt: usize,
+    /// Percent of requests that have TAL, TRN or PM cards.
+    pub further: usize,
+    /// How likely a fault is on PTY, on FAC, of the group as a whole and behind FAC.
+    pub faults: [usize; 4],
     /// Percent of entries that ask for much.
     pub large: usize,
     /// The most blocks that others ask for.
@@ -53,6 +62,8 @@ impl Style {
             suspended: *random.pick(&[0, 5, 30, 80]),
             serial: 10,
             spoilt: *random.pick(&[0, 10, 40, 90]),
+            further: *random.pick(&[0, 30, 70, 100]),
+            faults: FAULTS,
             large: 30,
             blocks: 3,
             units: 50,
@@ -61,23 +72,49 @@ impl Style {
     }
 }
 
-/// A group's two cards as fields, before periods and spaces come in.
+/// Faults of all sorts.
+pub const FAULTS: [usize; 4] = [40, 35, 20, 20];
+/// Faults of what came with TAL, TRN and PM cards, now and then with one of FAC beside.
+pub const FURTHER_FAULTS: [usize; 4] = [1, 8, 8, 83];
+
+/// A group's cards as fields, before periods and spaces come in.
 struct Group {
-    pty: Vec<String>,
-    fac: Vec<String>,
+    pty: Fields,
+    /// FAC and those behind it.
+    others: Vec<Fields>,
+    /// Is PTY's card count as it should be?
+    is_counted: bool,
 }
 
-/// A deck as it is handed to the deck program.
+/// How many cards of each type a deck has; one that is refused has none.
+pub fn card_types(deck: &[u8]) -> BTreeMap<String, u64> {
+    let mut types = BTreeMap::new();
+    for card in ordinary::deck::cards(deck).unwrap_or_default() {
+        let name = match CardType::of(card) {
+            CardType::Pty => "PTY",
+            CardType::Fac => "FAC",
+            CardType::Tal => "TAL",
+            CardType::Trn => "TRN",
+            CardType::Pm => "PM",
+            CardType::Unknown => "of no type",
+        };
+        *types.entry(format!("card {name}")).or_default() += 1;
+    }
+    types
+}
+
+/// A deck as it is handed to the programs that read one.
 pub fn deck(random: &mut Random) -> Vec<u8> {
     let style = Style::random(random);
-    match random.weighted(&[50, 8, 8, 8, 6, 4, 3]) {
+    match random.weighted(&[45, 8, 8, 8, 6, 4, 3, 25]) {
         0 => {
             let groups = random.within(0..=12);
             finished(random, style, groups)
         }
         // More requests than the schedule has room for.
         1 => {
-            let wide = Style { ids: 1_000_000, letters: 26, precedences: 64, sequences: 64, spoilt: 5, ..style };
+            let wide =
+                Style { ids: 1_000_000, letters: 26, precedences: 64, sequences: 64, spoilt: 5, further: 5, ..style };
             let groups = random.within(60..=90);
             finished(random, wide, groups)
         }
@@ -92,7 +129,12 @@ pub fn deck(random: &mut Random) -> Vec<u8> {
         }
         4 => bad_termination(random, style),
         5 => noise(random),
-        _ => long_cards(random, style),
+        6 => long_cards(random, style),
+        _ => {
+            let spoilt = *random.pick(&[0, 50, 100]);
+            let groups = random.within(1..=20);
+            finished(random, Style { further: 100, spoilt, faults: FURTHER_FAULTS, ..style }, groups)
+        }
     }
 }
 
@@ -174,7 +216,15 @@ fn at_the_limit(random: &mut Random, style: Style) -> Vec<u8> {
         }
         // As many groups as there can be.
         _ => {
-            const OPENERS: [&[u8]; 4] = [b",PTY\n", b"A,PTY.\n", b",PTY,\n", b"A,PTY,2,,P,,,M,P,A,P,1.\nA,FAC,IB/1.\n"];
+            const OPENERS: [&[u8]; 6] = [
+                b",PTY\n",
+                b"A,PTY.\n",
+                b",PTY,\n",
+                b"A,PTY,2,,P,,,M,P,A,P,1.\nA,FAC,IB/1.\n",
+                // The largest parameter tables, as many as there can be.
+                b"A,PTY,3,,P,,,M,P,A,P,1.\nA,FAC,IB/1.\nA,PM9,.\n",
+                b"B,PTY,3,,P,,,M,P,A1,P,1.\nB,FAC,IB/1.\nB,PM9, A.\n",
+            ];
             let opener = *random.pick(&OPENERS);
             while deck.len() + opener.len() + TERMINATION.len() <= length {
                 deck.extend(opener);
@@ -228,24 +278,29 @@ fn noise(random: &mut Random) -> Vec<u8> {
     deck
 }
 
-/// Cards of 78 to 83 characters, and far longer ones.
+/// Cards of 78 to 83 characters, and far longer ones: one among others, or all of a request.
 fn long_cards(random: &mut Random, style: Style) -> Vec<u8> {
     let mut deck = Vec::new();
     for _ in 0..random.within(1..=4) {
         let request = request(random, style, false);
-        for card in request.split(|&byte| byte == b'\n').filter(|card| !card.is_empty()) {
-            let mut card = card.to_vec();
-            let length = if random.percent(10) { random.within(200..=3000) } else { random.within(78..=83) };
-            let at = if random.percent(50) { card.len() } else { random.below(card.len()) };
-            while card.len() < length {
-                card.insert(at, b' ');
-            }
-            deck.extend(card);
+        let cards = request.split(|&byte| byte == b'\n').filter(|card| !card.is_empty());
+        let alone = random.percent(60).then(|| random.below(cards.clone().count().max(1)));
+        for (at, card) in cards.enumerate() {
+            let is_long = alone.is_none_or(|alone| alone == at);
+            deck.extend(if is_long { stretched(random, card) } else { card.to_vec() });
             deck.push(b'\n');
         }
     }
     deck.extend(TERMINATION);
     deck
+}
+
+/// The card with blanks within or behind, up to its length.
+fn stretched(random: &mut Random, card: &[u8]) -> Vec<u8> {
+    let length = if random.percent(10) { random.within(200..=3000) } else { random.within(78..=83) };
+    let at = if random.percent(50) { card.len() } else { random.below(card.len()) };
+    let blanks = vec![b' '; length.saturating_sub(card.len())];
+    [&card[..at], &blanks, &card[at..]].concat()
 }
 
 fn stray_card(random: &mut Random) -> Vec<u8> {
@@ -258,19 +313,32 @@ fn stray_card(random: &mut Random) -> Vec<u8> {
     card
 }
 
-/// The cards of one request.
+/// The cards of one request, with one fault or several if it is spoilt.
 fn request(random: &mut Random, style: Style, spoilt: bool) -> Vec<u8> {
     let mut group = good_group(random, style);
-    if spoilt {
-        match random.weighted(&[45, 35, 20]) {
-            0 => spoil_pty(random, &mut group.pty),
-            1 => spoil_fac(random, &mut group.fac),
-            _ => return spoil_structure(random, &group),
+    let faults = if spoilt { 1 + random.weighted(&[55, 30, 15]) } else { 0 };
+    let mut on_pty = 0;
+    for _ in 0..faults {
+        match random.weighted(&style.faults) {
+            0 => on_pty += 1,
+            1 => spoil_fac(random, &mut group),
+            2 => spoil_structure(random, &mut group),
+            _ => further::spoil(random, &group.pty[0], &mut group.others),
         }
     }
-    let mut cards = card(random, &group.pty);
-    cards.extend(card(random, &group.fac));
-    cards
+    if group.is_counted {
+        let count = 1 + group.others.len();
+        group.pty[2] = if random.percent(20) { format!("{count:02}") } else { count.to_string() };
+    }
+    for _ in 0..on_pty {
+        spoil_pty(random, &mut group.pty);
+    }
+    let cards = [vec![group.pty], group.others].concat();
+    // Of sixteen cards one would nearly always be damaged.
+    if random.percent(40) {
+        return cards.iter().map(|fields| fields.join(",") + ".\n").collect::<String>().into_bytes();
+    }
+    cards.iter().flat_map(|fields| card(random, fields)).collect()
 }
 
 fn good_group(random: &mut Random, style: Style) -> Group {
@@ -284,7 +352,8 @@ fn good_group(random: &mut Random, style: Style) -> Group {
     let pty = vec![
         id.clone(),
         "PTY".into(),
-        random.pick(&["2", "2", "2", "02"]).to_string(),
+        // The card count, which is known in the end.
+        String::new(),
         if random.percent(style.suspended) { "S" } else { "" }.into(),
         format!("{}{}", letters_digits(random, 8), random.pick(&["", "", "-", "-X", "--9", "-A-1"])),
         or_empty(random, "I"),
@@ -300,13 +369,16 @@ fn good_group(random: &mut Random, style: Style) -> Group {
         or_empty(random, "TACZ"),
         if random.percent(70) { String::new() } else { letters_digits(random, 6) },
     ];
-    let mut group = Group { pty, fac: vec![id, "FAC".into()] };
+    let fac = [vec![id.clone(), "FAC".into()], entries(random, style)].concat();
+    let mut group = Group { pty, others: vec![fac], is_counted: true };
     if random.percent(80) {
         while group.pty.last().is_some_and(String::is_empty) {
             group.pty.pop();
         }
     }
-    group.fac.extend(entries(random, style));
+    if random.percent(style.further) {
+        group.others.extend(further::good(random, &id));
+    }
     group
 }
 
@@ -458,7 +530,7 @@ fn spoil_pty(random: &mut Random, fields: &mut Vec<String>) {
     }
 }
 
-fn spoil_fac(random: &mut Random, fields: &mut Vec<String>) {
+fn spoil_fac(random: &mut Random, group: &mut Group) {
     const WRONG: &[&str] = &[
         "",
         "IB",
@@ -515,6 +587,11 @@ fn spoil_fac(random: &mut Random, fields: &mut Vec<String>) {
         "MT1A/1",
         "MT1/1A",
     ];
+    let Some(fields) = group.others.first_mut() else { return };
+    // An earlier fault may have left no entry.
+    while fields.len() < 3 {
+        fields.push("IB/1".into());
+    }
     match random.weighted(&[45, 15, 10, 10, 10, 10]) {
         0 => {
             let at = random.within(2..=fields.len());
@@ -549,36 +626,39 @@ fn spoil_fac(random: &mut Random, fields: &mut Vec<String>) {
     }
 }
 
-/// Cards too many, too few, in another order, or of another type.
-fn spoil_structure(random: &mut Random, group: &Group) -> Vec<u8> {
-    let mut pty = group.pty.clone();
-    let mut others = vec![group.fac.clone()];
-    match random.below(7) {
+/// Cards too many, too few, in another order, or of another type, or another number of them.
+fn spoil_structure(random: &mut Random, group: &mut Group) {
+    let Group { pty, others, is_counted } = group;
+    let id = &pty[0];
+    let count = others.len() + 1;
+    match random.below(9) {
         0 => others.clear(),
-        1 => others.push(group.fac.clone()),
-        2 => others.push(vec![group.pty[0].clone(), "TAL".into(), "X/1".into()]),
-        3 => others.insert(0, vec![group.pty[0].clone(), "TAL".into(), "X/1".into()]),
+        1 => others.extend(others.first().cloned()),
+        2 => others.push(vec![id.clone(), "TAL".into(), "X/1".into()]),
+        3 => others.insert(0, vec![id.clone(), random.pick(&["TAL", "PM0", "XYZ"]).to_string(), "X/1".into()]),
         4 => {
-            others[0][1] = random.pick(&["FA", "FACC", "", "fac", "TAL", "F-C", "PTY"]).to_string();
+            if let Some(fac) = others.first_mut().filter(|fac| fac.len() > 1) {
+                fac[1] = random.pick(&["FA", "FACC", "", "fac", "TAL", "F-C", "PTY"]).to_string();
+            }
         }
         5 => {
             for _ in 0..random.within(1..=100) {
                 others.push(vec![random.text(LETTERS, 1), random.pick(&["FAC", "TRN", "PM1", ""]).to_string()]);
             }
         }
-        _ => others.insert(random.below(2), vec![String::new()]),
-    }
-    if random.percent(70) {
-        let count = others.len() + 1;
-        if pty.len() > 2 {
-            pty[2] = count.to_string();
+        6 => others.insert(random.below(2).min(others.len()), vec![String::new()]),
+        // FAC elsewhere.
+        7 => others.rotate_left(count.min(2) - 1),
+        _ => {
+            pty[2] = random.pick(&[count - 1, count + 1, 0, 16, 17, 99]).to_string();
+            *is_counted = false;
         }
     }
-    let mut cards = card(random, &pty);
-    for other in &others {
-        cards.extend(card(random, other));
+    // Cards that came or went without being counted.
+    if *is_counted && random.percent(30) {
+        pty[2] = count.to_string();
+        *is_counted = false;
     }
-    cards
 }
 
 /// The fields as a card, mostly well formed.

@@ -1,6 +1,6 @@
 //! Compares the ordinary implementation with the proved programs on random input, to the byte.
 //!
-//! `compare deck|listing|shift [--seed N] [--count N] [--calls N] [--jobs N] [--save FOLDER] [--first] [--show] [-- COMMAND..]`
+//! `compare cards|deck|listing|shift [--seed N] [--count N] [--calls N] [--jobs N] [--save FOLDER] [--first] [--show] [-- COMMAND..]`
 //!
 //! Input number i of a run is made from seed N + i alone, so `--seed S --count 1` gives it again. For `shift`
 //! `--calls` is the length of a script, and every fiftieth script is short and handed over line by line, each line
@@ -8,6 +8,7 @@
 
 mod configurations;
 mod decks;
+mod further;
 mod lacks;
 mod messages;
 mod programs;
@@ -32,10 +33,11 @@ use random::Random;
 use scripts::Script;
 
 const USAGE: &str =
-    "usage: compare deck|listing|shift [--seed N] [--count N] [--calls N] [--jobs N] [--save FOLDER] [--first] [--show] [-- COMMAND..]";
+    "usage: compare cards|deck|listing|shift [--seed N] [--count N] [--calls N] [--jobs N] [--save FOLDER] [--first] [--show] [-- COMMAND..]";
 
 #[derive(Clone, Copy, PartialEq, Eq)]
 enum Subject {
+    Cards,
     Deck,
     Listing,
     Shift,
@@ -44,6 +46,7 @@ enum Subject {
 impl Subject {
     fn name(self) -> &'static str {
         match self {
+            Subject::Cards => "cards",
             Subject::Deck => "deck",
             Subject::Listing => "listing",
             Subject::Shift => "shift",
@@ -52,6 +55,7 @@ impl Subject {
 
     fn ordinary(self, input: &[u8]) -> Vec<u8> {
         match self {
+            Subject::Cards => ordinary::cards::report(input).into_bytes(),
             Subject::Deck => ordinary::deck::report(input).into_bytes(),
             Subject::Listing => ordinary::configuration::listing(input).into_bytes(),
             Subject::Shift => ordinary::shift::converse(input),
@@ -75,6 +79,7 @@ struct Options {
 fn options() -> Result<Options, String> {
     let mut words = std::env::args_os().skip(1);
     let subject = match words.next().as_ref().and_then(|word| word.to_str()) {
+        Some("cards") => Subject::Cards,
         Some("deck") => Subject::Deck,
         Some("listing") => Subject::Listing,
         Some("shift") => Subject::Shift,
@@ -122,9 +127,13 @@ fn options() -> Result<Options, String> {
 /// An input in pieces that may be left out one by one, with the number of calls in it.
 fn input(subject: Subject, seed: u64, calls: usize) -> Script {
     let mut random = Random::new(seed);
-    let one = |piece| Script { pieces: vec![piece], calls: 1, failures: BTreeMap::new() };
+    let one = |piece| Script { pieces: vec![piece], calls: 1, counts: BTreeMap::new() };
     match subject {
-        Subject::Deck => one(decks::deck(&mut random)),
+        Subject::Cards | Subject::Deck => {
+            let deck = decks::deck(&mut random);
+            let counts = decks::card_types(&deck);
+            Script { counts, ..one(deck) }
+        }
         Subject::Listing => one(configurations::configuration(&mut random)),
         Subject::Shift => scripts::script(&mut random, if is_talk(seed) { 100 } else { calls }),
     }
@@ -142,7 +151,7 @@ struct Tally {
     calls: u64,
     bytes: u64,
     differences: u64,
-    /// How often each sort of answer came, and which sorts of failures were reported.
+    /// How often each sort of answer came, which sorts of failures were reported, and which types of cards came.
     answers: BTreeMap<String, u64>,
 }
 
@@ -188,7 +197,15 @@ fn sort_of(subject: Subject, line: &[u8]) -> String {
     match (subject, &words[..]) {
         (_, ["SP", _, "ER", number]) => format!("card error {number:0>2}"),
         (_, [_, "SCH", "ACK"]) => "deck taken".into(),
-        (Subject::Deck, ["SCH", "ER", "11"]) => "deck refused".into(),
+        (Subject::Cards | Subject::Deck, ["SCH", "ER", "11"]) => "deck refused".into(),
+        (Subject::Cards, ["SP", _, "NO", number]) => format!("not written, refusal {number:0>2}"),
+        (Subject::Cards, ["PMT", length]) => format!("table of {length:0>3}"),
+        (Subject::Cards, ["END", "OF", "CARDS"]) => "deck read".into(),
+        (Subject::Cards, _) if line.starts_with('=') => "row of a table".into(),
+        (Subject::Cards, _) => {
+            let card_type = line.split(',').nth(1).unwrap_or("");
+            format!("written {}", card_type.trim_end_matches(|c: char| c.is_ascii_digit()))
+        }
         (Subject::Deck, _) => "request in the schedule".into(),
         (Subject::Listing | Subject::Shift, ["ER", "14", "LINE", number]) => match number.parse() {
             Ok(0..=19) => format!("bad line {number:0>2}"),
@@ -276,7 +293,7 @@ fn compare(options: Options) -> Result<u64, String> {
 
 fn one(options: &Options, program: &Program, seed: u64, tally: &Mutex<Tally>) {
     let subject = options.subject;
-    let Script { pieces, calls, failures } = input(subject, seed, options.calls);
+    let Script { pieces, calls, counts } = input(subject, seed, options.calls);
     let text = pieces.concat();
     let expected = subject.ordinary(&text);
     let answered = if subject == Subject::Shift && is_talk(seed) {
@@ -292,8 +309,8 @@ fn one(options: &Options, program: &Program, seed: u64, tally: &Mutex<Tally>) {
     }
     let mut tally = tally.lock().expect("no thread has failed");
     tally.add(subject, calls, &text, &expected);
-    for (failure, times) in failures {
-        *tally.answers.entry(failure).or_default() += times;
+    for (sort, times) in counts {
+        *tally.answers.entry(sort).or_default() += times;
     }
     tally.differences += u64::from(differs);
 }

@@ -21,8 +21,8 @@ pub struct Script {
     pub pieces: Vec<Vec<u8>>,
     /// How many of the pieces are calls.
     pub calls: usize,
-    /// How often packets failed in which way.
-    pub failures: BTreeMap<String, u64>,
+    /// How often packets failed in which way, and how many cards of which type came.
+    pub counts: BTreeMap<String, u64>,
 }
 
 /// The calls by sort, each as likely as its weight says; the weights differ from script to script.
@@ -81,7 +81,7 @@ struct Writer<'r> {
     shift: Shift,
     style: Style,
     pieces: Vec<Vec<u8>>,
-    failures: BTreeMap<String, u64>,
+    counts: BTreeMap<String, u64>,
 }
 
 /// A script with this many calls.
@@ -101,7 +101,7 @@ pub fn script(random: &mut Random, calls: usize) -> Script {
         if *random.pick(&[true, true, false]) {
             pieces.push(b"SELECT\nBOARD\n".to_vec());
         }
-        return Script { pieces, calls: 0, failures: BTreeMap::new() };
+        return Script { pieces, calls: 0, counts: BTreeMap::new() };
     };
     let kept = configuration.len() - lines.map(<[u8]>::len).sum::<usize>();
     let style = Style {
@@ -112,6 +112,8 @@ pub fn script(random: &mut Random, calls: usize) -> Script {
         suspended: *random.pick(&[0, 10, 40]),
         serial: *random.pick(&[0, 0, 5, 40]),
         spoilt: *random.pick(&[0, 10, 50]),
+        further: *random.pick(&[0, 10, 50]),
+        faults: *random.pick(&[decks::FAULTS, decks::FURTHER_FAULTS]),
         large: *random.pick(&[0, 0, 5, 30]),
         blocks: *random.pick(&[1, 1, 3]),
         units: *random.pick(&[10, 30, 50]),
@@ -119,7 +121,7 @@ pub fn script(random: &mut Random, calls: usize) -> Script {
     };
     let weights = *random.pick(WEIGHTS);
     let pieces = vec![configuration[..kept].to_vec()];
-    let mut writer = Writer { random, shift: Shift::new(read), style, pieces, failures: BTreeMap::new() };
+    let mut writer = Writer { random, shift: Shift::new(read), style, pieces, counts: BTreeMap::new() };
     writer.call(Sort::Deck);
     while writer.pieces.len() <= calls {
         let sort = writer.sort(&weights);
@@ -127,7 +129,7 @@ pub fn script(random: &mut Random, calls: usize) -> Script {
     }
     writer.last();
     let calls = writer.pieces.len() - 1;
-    Script { pieces: writer.pieces, calls, failures: writer.failures }
+    Script { pieces: writer.pieces, calls, counts: writer.counts }
 }
 
 /// The first two sections and a good third one.
@@ -349,11 +351,16 @@ impl Writer<'_> {
             },
             if behind { ", others listed there" } else { "" },
         ];
-        *self.failures.entry(format!("failed {}", words.concat())).or_default() += 1;
+        *self.counts.entry(format!("failed {}", words.concat())).or_default() += 1;
     }
 
     fn push(&mut self, piece: Vec<u8>) {
         self.count_failure(&piece);
+        if let Some(deck) = piece.strip_prefix(b"DECK\n") {
+            for (card_type, times) in decks::card_types(deck) {
+                *self.counts.entry(card_type).or_default() += times;
+            }
+        }
         for line in piece.split_inclusive(|&byte| byte == b'\n') {
             self.shift.answer_line(line.strip_suffix(b"\n").unwrap_or(line));
         }

@@ -64,7 +64,7 @@ fn listing() {
 #[test]
 fn deck() {
     let before: [u8; DECK_ROOM] = std::array::from_fn(|at| at as u8 ^ 0xa5);
-    for (path, input, output) in cases("cases_deck", 36) {
+    for (path, input, output) in cases("cases_deck", 45) {
         let mut room = before;
         let answered = controller::deck(&input, &mut room);
         same(&path, answered, &output);

@@ -4,10 +4,12 @@ use std::collections::BTreeSet;
 use std::fmt;
 use std::ops::RangeInclusive;
 
+use crate::fields::{is_id, is_letter_or_digit, loose_field, number, strict_fields, CardType, CARD_LENGTH};
+use crate::further::{self, FurtherCard, TypedCard};
 use crate::numbers::{Kind, LogicalChannel, Refusal};
 
-/// The most characters of a card, its LF not counted.
-pub const CARD_LENGTH: usize = 80;
+/// The most cards of a request, PTY and FAC among them.
+pub const MOST_CARDS: usize = 16;
 /// The number of assignable core blocks.
 pub const CORE_BLOCKS: u32 = 28;
 
@@ -200,6 +202,9 @@ pub struct Request {
     pub library_medium: Option<char>,
     pub library: Option<String>,
     pub entries: Vec<Entry>,
+    /// TAL, TRN and PM cards as they are divided and ordered. The table that PM cards fill may be equal where these are
+    /// not.
+    pub further: Vec<FurtherCard>,
 }
 
 impl Request {
@@ -221,19 +226,24 @@ impl Request {
             return Err(CardError(25));
         }
         let (mut request, count) = read_pty(pty)?;
-        if count as usize != cards.len() {
+        if cards.len() > MOST_CARDS || count as usize != cards.len() {
             return Err(CardError(20));
         }
-        let &[fac, ref others @ ..] = others else { return Err(CardError(28)) };
-        if !is_fac(fac) {
+        let &[fac, ref further @ ..] = others else { return Err(CardError(28)) };
+        if CardType::of(fac) != CardType::Fac {
             return Err(CardError(28));
         }
-        if let Some(third) = others.first() {
-            return Err(CardError(if is_fac(third) { 22 } else { 3 }));
+        let further: Vec<TypedCard> = further.iter().map(|card| (CardType::of(card), *card)).collect();
+        if further.iter().any(|(card_type, _)| *card_type == CardType::Fac) {
+            return Err(CardError(22));
         }
-        if loose_field(fac, 1).as_deref() != Some(request.id.as_bytes()) {
+        if !further.iter().all(|(card_type, _)| matches!(card_type, CardType::Tal | CardType::Trn | CardType::Pm)) {
+            return Err(CardError(3));
+        }
+        if others.iter().any(|card| loose_field(card, 1).as_deref() != Some(request.id.as_bytes())) {
             return Err(CardError(25));
         }
+        further::check_order(&further)?;
         request.entries = read_fac(fac)?;
         let core = request.asked(Code::Ib) + request.asked(Code::Db);
         if core > CORE_BLOCKS {
@@ -242,23 +252,30 @@ impl Request {
         if request.asked(Code::Ib) == 0 {
             return Err(CardError(27));
         }
+        request.further = further::read(&further)?;
         Ok(request)
     }
 
-    /// Writes both cards, each with its LF, into the front of `room` and answers their length. A refusal leaves `room`
+    /// Writes all cards, each with its LF, into the front of `room` and answers their length. A refusal leaves `room`
     /// as it was.
     pub fn write(&self, room: &mut [u8]) -> Result<usize, Refusal> {
         if !self.is_good() {
             return Err(Refusal::BadRequest);
         }
-        let cards = [self.pty_card(), self.fac_card()];
+        let further = self.further.iter().map(|card| card.text(&self.id));
+        let cards: Vec<String> = [self.pty_card(), self.fac_card()].into_iter().chain(further).collect();
         if cards.iter().any(|card| card.len() > CARD_LENGTH) {
             return Err(Refusal::NoRoom);
         }
-        let text = format!("{}\n{}\n", cards[0], cards[1]);
+        let text: String = cards.iter().map(|card| format!("{card}\n")).collect();
         let room = room.get_mut(..text.len()).ok_or(Refusal::NoRoom)?;
         room.copy_from_slice(text.as_bytes());
         Ok(text.len())
+    }
+
+    /// How many cards the request has.
+    fn card_count(&self) -> usize {
+        2 + self.further.len()
     }
 
     fn is_good(&self) -> bool {
@@ -276,6 +293,8 @@ impl Request {
             && different.len() == self.entries.len()
             && self.asked(Code::Ib) >= 1
             && self.asked(Code::Ib) + self.asked(Code::Db) <= CORE_BLOCKS
+            && self.card_count() <= MOST_CARDS
+            && further::are_good(&self.further)
     }
 
     fn pty_card(&self) -> String {
@@ -283,7 +302,7 @@ impl Request {
         let fields = [
             self.id.clone(),
             "PTY".into(),
-            "2".into(),
+            self.card_count().to_string(),
             if self.enters_suspended { "S" } else { "" }.into(),
             self.program.clone(),
             if self.run_now { "I" } else { "" }.into(),
@@ -321,11 +340,7 @@ impl Request {
 
 /// Does this card open a group?
 pub fn is_pty(card: &[u8]) -> bool {
-    loose_field(card, 2).as_deref() == Some(b"PTY")
-}
-
-fn is_fac(card: &[u8]) -> bool {
-    loose_field(card, 2).as_deref() == Some(b"FAC")
+    CardType::of(card) == CardType::Pty
 }
 
 /// The ID on a group's PTY card if it is well formed, whatever else is wrong with the card.
@@ -334,26 +349,7 @@ pub fn shown_id(card: &[u8]) -> Option<String> {
     (is_pty(card) && is_id(&id)).then_some(id)
 }
 
-/// A field, counted from 1, of any card, malformed ones too: spaces dropped, up to a comma; a period or the card's end
-/// ends all fields.
-fn loose_field(card: &[u8], number: usize) -> Option<Vec<u8>> {
-    let end = card.iter().position(|&byte| byte == b'.').unwrap_or(card.len());
-    let field = card[..end].split(|&byte| byte == b',').nth(number - 1)?;
-    Some(field.iter().copied().filter(|&byte| byte != b' ').collect())
-}
-
-/// The fields of a well-formed card, spaces dropped; `None` if it is malformed.
-fn strict_fields(card: &[u8]) -> Option<Vec<String>> {
-    let card = std::str::from_utf8(card).ok()?;
-    let is_legal = |c: char| c.is_ascii_uppercase() || c.is_ascii_digit() || " -/*=:,.".contains(c);
-    let (content, rest) = card.split_once('.')?;
-    if card.len() > CARD_LENGTH || !card.chars().all(is_legal) || rest.chars().any(|c| c != ' ') {
-        return None;
-    }
-    Some(content.replace(' ', "").split(',').map(String::from).collect())
-}
-
-/// The request on a PTY card, without entries yet, and its card count.
+/// The request on a PTY card, without what other cards say, and its card count.
 fn read_pty(card: &[u8]) -> Result<(Request, u32), CardError> {
     let fields = strict_fields(card).filter(|fields| fields.len() <= 14).ok_or(CardError(17))?;
     // A field of the right length; those left off are empty.
@@ -410,6 +406,7 @@ fn read_pty(card: &[u8]) -> Result<(Request, u32), CardError> {
         library_medium: library_medium.chars().next(),
         library: (!library.is_empty()).then(|| library.into()),
         entries: Vec::new(),
+        further: Vec::new(),
     };
     Ok((request, count))
 }
@@ -427,21 +424,6 @@ fn read_fac(card: &[u8]) -> Result<Vec<Entry>, CardError> {
     }
     entries.sort();
     Ok(entries)
-}
-
-/// Decimal digits, this many; leading zeros are allowed.
-fn number(text: &str, digits: RangeInclusive<usize>) -> Option<u32> {
-    let good = digits.contains(&text.len()) && text.bytes().all(|byte| byte.is_ascii_digit());
-    good.then(|| text.parse().ok()).flatten()
-}
-
-fn is_letter_or_digit(c: char) -> bool {
-    c.is_ascii_uppercase() || c.is_ascii_digit()
-}
-
-/// 1 to 6 letters or digits.
-fn is_id(text: &str) -> bool {
-    (1..=6).contains(&text.len()) && text.chars().all(is_letter_or_digit)
 }
 
 /// 1 to 12 letters, digits or hyphens, no hyphen first.

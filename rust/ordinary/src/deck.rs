@@ -10,6 +10,21 @@ pub const DECK_LENGTH: usize = 16_384;
 /// Shown where there is no ID.
 const NO_ID: &str = "------";
 
+/// The ID that a line shows.
+pub fn shown(id: Option<&str>) -> &str {
+    id.unwrap_or(NO_ID)
+}
+
+/// The line for a group that was not taken.
+pub fn error_line(id: Option<&str>, error: CardError) -> String {
+    format!("SP {} ER {}\n", shown(id), error.0)
+}
+
+/// What is printed for a deck that is refused, whoever reads it.
+pub fn refused_deck(refusal: Refusal) -> String {
+    format!("SCH ER {}\n", refusal.number())
+}
+
 /// Is this card, without its LF, the termination card? `)` in columns 1-8 and 73-80, `+` in 10-22, blanks elsewhere.
 pub fn is_termination(card: &[u8]) -> bool {
     let expected = |column| match column {
@@ -31,14 +46,11 @@ pub struct Outcome {
 
 impl Outcome {
     pub fn error_lines(&self) -> String {
-        let line = |(id, error): &(Option<String>, CardError)| {
-            format!("SP {} ER {}\n", id.as_deref().unwrap_or(NO_ID), error.0)
-        };
-        self.errors.iter().map(line).collect()
+        self.errors.iter().map(|(id, error)| error_line(id.as_deref(), *error)).collect()
     }
 
     pub fn acknowledgement(&self) -> String {
-        format!("{} SCH ACK\n", self.last_good.as_deref().unwrap_or(NO_ID))
+        format!("{} SCH ACK\n", shown(self.last_good.as_deref()))
     }
 }
 
@@ -62,7 +74,7 @@ pub fn enter(schedule: &mut Schedule, deck: &[u8]) -> Result<Outcome, Refusal> {
 }
 
 /// The cards before the termination card, without their LFs.
-fn cards(deck: &[u8]) -> Result<Vec<&[u8]>, Refusal> {
+pub fn cards(deck: &[u8]) -> Result<Vec<&[u8]>, Refusal> {
     if deck.len() > DECK_LENGTH {
         return Err(Refusal::BadDeck);
     }
@@ -78,7 +90,7 @@ fn cards(deck: &[u8]) -> Result<Vec<&[u8]>, Refusal> {
 }
 
 /// Splits cards before each PTY card; none of the groups is empty.
-fn groups<'c, 'd>(cards: &'c [&'d [u8]]) -> impl Iterator<Item = &'c [&'d [u8]]> {
+pub fn groups<'c, 'd>(cards: &'c [&'d [u8]]) -> impl Iterator<Item = &'c [&'d [u8]]> {
     let mut rest = cards;
     std::iter::from_fn(move || {
         let (_, others) = rest.split_first()?;
@@ -93,8 +105,9 @@ fn groups<'c, 'd>(cards: &'c [&'d [u8]]) -> impl Iterator<Item = &'c [&'d [u8]]>
 /// last good ID.
 pub fn report(deck: &[u8]) -> String {
     let mut schedule = Schedule::default();
-    let Ok(outcome) = enter(&mut schedule, deck) else {
-        return format!("SCH ER {}\n", Refusal::BadDeck.number());
+    let outcome = match enter(&mut schedule, deck) {
+        Ok(outcome) => outcome,
+        Err(refusal) => return refused_deck(refusal),
     };
     let line = |request: &Request| format!("{} {}\n", request.id, request.priority);
     let scheduled: String = schedule.requests().iter().map(|scheduled| line(&scheduled.request)).collect();

@@ -7,10 +7,13 @@
 
 pub mod assign;
 pub mod card;
+pub mod cards;
 pub mod cell;
 pub mod configuration;
 pub mod deck;
+pub mod fields;
 pub mod functions;
+pub mod further;
 pub mod keyboard;
 pub mod numbers;
 pub mod schedule;

@@ -27,7 +27,12 @@ fn check(folder: &str, at_least: usize, answer: impl Fn(&[u8]) -> Vec<u8>) {
 
 #[test]
 fn deck() {
-    check("../../crates/cases_deck/data", 36, |input| ordinary::deck::report(input).into_bytes());
+    check("../../crates/cases_deck/data", 45, |input| ordinary::deck::report(input).into_bytes());
+}
+
+#[test]
+fn cards() {
+    check("../../crates/cases_cards/data", 145, |input| ordinary::cards::report(input).into_bytes());
 }
 
 #[test]
@@ -37,5 +42,5 @@ fn listing() {
 
 #[test]
 fn shift() {
-    check("../../crates/cases_shift/data", 59, ordinary::shift::converse);
+    check("../../crates/cases_shift/data", 60, ordinary::shift::converse);
 }

@@ -2,7 +2,7 @@
 //! is then compared with the proved program, or with COMMAND: there must be a difference. The unchanged copy is compared
 //! first, and must have none: else a change that is found would say nothing.
 //!
-//! `mutants deck|listing|shift [--count N] [-- COMMAND..]`
+//! `mutants cards|deck|listing|shift [--count N] [-- COMMAND..]`
 //!
 //! A change is four lines: the subject and the file, the text to find (once), the text to put there, and an empty line.
 
@@ -44,7 +44,7 @@ fn copy(from: &Path, to: &Path) {
 
 fn main() -> ExitCode {
     let mut words = std::env::args().skip(1);
-    let subject = words.next().expect("usage: mutants deck|listing|shift [--count N] [-- COMMAND..]");
+    let subject = words.next().expect("usage: mutants cards|deck|listing|shift [--count N] [-- COMMAND..]");
     let rest: Vec<String> = words.collect();
     let here = Path::new(env!("CARGO_MANIFEST_DIR"));
     let top = here.join("..");
@@ -60,7 +60,11 @@ fn main() -> ExitCode {
     // Only what is compared is built there.
     fs::write(work.join("Cargo.toml"), "[workspace]\nresolver = \"2\"\nmembers = [\"ordinary\", \"compare\"]\n\n[workspace.package]\nversion = \"0.1.0\"\nedition = \"2021\"\npublish = false\n")
         .expect("a written file");
-    copy(&top.join("../target/bin"), &repository.join("target/bin"));
+    // Without proved programs there is another command to compare with.
+    let proved = top.join("../target/bin");
+    if proved.is_dir() {
+        copy(&proved, &repository.join("target/bin"));
+    }
 
     let text = fs::read_to_string(here.join("mutants.txt")).expect("mutants.txt");
     let changes = changes(&text, &subject);

@@ -11,6 +11,9 @@ mod configurations;
 #[path = "../../../compare/src/decks.rs"]
 mod decks;
 #[allow(dead_code)]
+#[path = "../../../compare/src/further.rs"]
+mod further;
+#[allow(dead_code)]
 #[path = "../../../compare/src/lacks.rs"]
 mod lacks;
 #[allow(dead_code)]
