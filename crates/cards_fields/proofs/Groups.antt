@@ -1,24 +1,37 @@
 -- THE GROUPS OF A DECK AS PARTS OF IT: the part up to the termination card has the cards before it, and cutting off
 -- the first group's part over and over gives the groups in order. A text is cut where a card ends, so that the
 -- cards of the two parts are the cards of the whole. Assumes nothing.
-use Prim.Native.Nat.{ℕ, suc, _+_, _-_}
+use Prim.Native.Nat.{ℕ, suc, _+_, _-_, _≤_}
 use mathlib.Core.Path.{_≡_, refl, sym, ap, subst, _∙_}
 use mathlib.Core.Bool.{Bool, true, false, cond, _&&_}
 use mathlib.Core.List.{List, [], _∷_, _++_}
 use mathlib.Core.Logic.{⊎-elim}
 use native.Mathlib.Nat.{eq-zero-or-pos}
 use native.Mathlib.Omega.{arith}
-use lib.Dec.{leb}
+use lib.Dec.{eqb, leb}
 use lib.ListN.{length, drop, take}
 use lib.ListN.{take-append-drop}
 use lib.Seq.{take-append-add, drop-append-add}
 use Rattle.numbers.proofs.Tests.{by-bool}
 use Rattle.numbers.specs.declared.Refusal.the-variants.{BadDeck}
-use Rattle.words.specs.Lines.{lineOf, lf}
+use Rattle.words.specs.Lines.{lineOf, lf, ontoLine}
 use Rattle.words.proofs.LineLaws.{NoLf, first-ended, no-line, first-line, line-split, line-clean}
 use Rattle.cards_fields.specs.Fields.{isPty}
 use Rattle.cards_fields.specs.Deck.{cardsOf, isTermination, terminated, before, size, deckEnd, groupsOf, firstGroup, groupSize}
 use Rattle.cards_fields.specs.declared.DeckEnd.the-variants.{At, Refused}
+
+-- cards take no more bytes than the text has that they are read from
+pub size-cards : (s : List ℕ) → size (cardsOf s) ≤ length s
+size-cards [] = omega arith
+size-cards (b ∷ s) = by (eqb b 10) (size-cards s)
+  where
+    line : (cs : List (List ℕ)) → size (ontoLine b cs) ≤ suc (size cs)
+    line [] = omega arith
+    line (c ∷ cs) = omega arith
+
+    by : (x : Bool) → size (cardsOf s) ≤ length s → size (cond x ([] ∷ cardsOf s) (ontoLine b (cardsOf s))) ≤ suc (length s)
+    by true h = omega arith
+    by false h = omega (arith, line (cardsOf s))
 
 -- one card further
 cut-one : (c r : List ℕ) (a b : List (List ℕ)) → NoLf c → (cardsOf (take (size a) r) ≡ a) × (cardsOf (drop (size a) r) ≡ b)

@@ -1,6 +1,5 @@
 -- PM cards written and read again: a written card is read as it was meant, a card that was read holds a digit and a
--- text
--- that can be written, no longer than it was, and what is written says what it was written from. Assumes nothing.
+-- text that can be written, no longer than it was, and what is written says what it was written from. Assumes nothing.
 use Prim.Native.Nat.{ℕ, zero, suc, _+_, _-_, _≤_, _<_}
 use mathlib.Core.Path.{_≡_, refl, sym, ap, _∙_}
 use mathlib.Core.Bool.{Bool, true, false, _&&_, not}
@@ -24,9 +23,19 @@ use Rattle.cards_fields.proofs.PartLaws.{pieces-more, pieces-last}
 use Rattle.cards_fields.proofs.SpaceLaws.{raw-spaceless}
 use Rattle.cards_fields.proofs.CardLaws.{plain, clean, digit-plain, letter-plain, in-front}
 use Rattle.cards_pm.specs.Pm.{isPm, numbered, digitOf, body, behindComma, letters, pmMalformed, pmFault, pmText}
-use Rattle.cards_pm.specs.Sheets.{Sheet, Proper, sheetOf, cardOf, sheetIn}
+use Rattle.cards_pm.specs.Sheets.{Sheet, Proper, sheetOf}
 use Rattle.cards_pm.proofs.PmLaws.{body-none, body-shorter, body-front}
 use Rattle.cards_fields.proofs.RoundLaws.{neither}
+
+-- ---- a card whole, and what one that was read holds
+
+-- the card whole: "`ID,PM` digit `,` text `.`"
+abbrev pub cardOf : List ℕ → Sheet → List ℕ
+cardOf id s = id ++ (byte "," ∷ sheetOf s)
+
+-- what a card that was read holds
+abbrev pub sheetIn : List ℕ → Sheet
+sheetIn card = record { digit = digitOf card - byte "0"; letters = letters card }
 
 -- ---- what is written says what it was written from
 

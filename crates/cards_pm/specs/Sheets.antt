@@ -1,5 +1,5 @@
 -- PM cards as a request holds them: a digit and a text, and how they are written.
-use Prim.Native.Nat.{ℕ, _+_, _-_, _≤_}
+use Prim.Native.Nat.{ℕ, _+_, _≤_}
 use mathlib.Core.Path.{_≡_}
 use mathlib.Core.Bool.{true}
 use mathlib.Core.List.{List, _∷_, _++_}
@@ -7,7 +7,6 @@ use lib.ListN.{length}
 use Rattle.numbers.specs.Quoted.{byte, bytes}
 use Rattle.words.specs.Words.{every}
 use Rattle.cards_fields.specs.Fields.{cardByte}
-use Rattle.cards_pm.specs.Pm as Pm
 
 -- "PM: a digit and a text"
 pub record Sheet : Type 0 where
@@ -23,11 +22,3 @@ pub record Proper (s : Sheet) : Type 0 where
 -- "`PM` digit `,` text `.`; the text as it stands, so an empty one gives `ID,PM3,.`"
 abbrev pub sheetOf : Sheet → List ℕ
 sheetOf s = bytes "PM" ++ ((byte "0" + s .digit) ∷ byte "," ∷ (s .letters ++ bytes "."))
-
--- the card whole: "`ID,PM` digit `,` text `.`"
-abbrev pub cardOf : List ℕ → Sheet → List ℕ
-cardOf id s = id ++ (byte "," ∷ sheetOf s)
-
--- what a card that was read holds
-abbrev pub sheetIn : List ℕ → Sheet
-sheetIn card = record { digit = Pm.digitOf card - byte "0"; letters = Pm.letters card }

@@ -4,15 +4,13 @@ use mathlib.Core.Path.{_≡_, refl, sym, ap, subst, _∙_}
 use mathlib.Core.Bool.{Bool, true, false, cond}
 use mathlib.Core.List.{List, [], _∷_}
 use native.Mathlib.Omega.{arith}
-use lib.Dec.{eqb}
 use lib.ListN.{length, getD, take, drop, length-take, length-drop, drop-of-length-le}
 use lib.Seq.{length-take-le, take-all}
 use Rattle.numbers.specs.declared.Refusal.{Refusal}
 use Rattle.text.specs.Room.{Written, Whole}
 use Rattle.text.proofs.RoomLaws.{none, entire}
-use Rattle.words.specs.Lines.{ontoLine}
 use Rattle.cards_fields.specs.Deck.{cardsOf, size, opens, ontoGroup, groupsOf, firstGroup, groupSize, deckEnd}
-use Rattle.cards_fields.proofs.Groups.{in-turn}
+use Rattle.cards_fields.proofs.Groups.{size-cards, in-turn}
 use Rattle.cards_fields.specs.declared.DeckEnd.{DeckEnd}
 use Rattle.cards_fields.specs.declared.DeckEnd.the-variants as Ends
 use Rattle.cards_lines.specs.Shown.{shownBy, refusedText}
@@ -24,19 +22,6 @@ use Rattle.cards_report.specs.declared.Phase.the-variants.{Groups, Refus
 use Rattle.cards_report.specs.declared.Printing.{Printing}
 
 -- ---- the first group of a text
-
--- cards take no more bytes than the text has that they are read from
-pub size-cards : (s : List ℕ) → size (cardsOf s) ≤ length s
-size-cards [] = omega arith
-size-cards (b ∷ s) = by (eqb b 10) (size-cards s)
-  where
-    line : (cs : List (List ℕ)) → size (ontoLine b cs) ≤ suc (size cs)
-    line [] = omega arith
-    line (c ∷ cs) = omega arith
-
-    by : (x : Bool) → size (cardsOf s) ≤ length s → size (cond x ([] ∷ cardsOf s) (ontoLine b (cardsOf s))) ≤ suc (length s)
-    by true h = omega arith
-    by false h = omega (arith, line (cardsOf s))
 
 -- the first group is some of the cards, and has a byte at least
 first-size : (c : List ℕ) (cs : List (List ℕ)) → (1 ≤ size (firstGroup (c ∷ cs))) × (size (firstGroup (c ∷ cs)) ≤ size (c ∷ cs))

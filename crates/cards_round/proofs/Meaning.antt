@@ -28,8 +28,7 @@ use Rattle.cards_trn.specs.Trn.{isTrn, hasCount, trnError}
 use Rattle.cards_trn.specs.Transfers.{isThere}
 use Rattle.cards_trn.proofs.TrnRound.{trn-written, trn-text, trn-proper, trn-short, trn-counts, trn-first, meantCount, meantTransfers}
 use Rattle.cards_pm.specs.Pm.{isPm, numbered, digitOf, pmFault, pmMalformed, rising}
-use Rattle.cards_pm.specs.Sheets.{sheetIn}
-use Rattle.cards_pm.proofs.PmRound.{read-back, held}
+use Rattle.cards_pm.proofs.PmRound.{sheetIn, read-back, held}
 use Rattle.cards_further.specs.Together.{any, past, apart}
 use Rattle.cards_further.specs.Further.{unknown, unnumbered, faulty, contentError, canonical}
 use Rattle.cards_round.specs.AllowedFurther.{Card, tal, trn, pm, textIn, Proper, ofTal, ofTrn, ofPm, digitsRise}

@@ -14,7 +14,7 @@ use Rattle.numbers.specs.declared.Refusal.the-variants.{BadDeck}
 use Rattle.cards_fields.specs.Fields.{upToPeriod, spaceless, onto, split, fields, field, isPty}
 use Rattle.cards_fields.specs.Deck.{cardsOf, termination, isTermination, before, terminated, size, ontoGroup, groupsOf, deckEnd}
 use Rattle.cards_fields.proofs.FieldLaws.{spaceless-short}
-use Rattle.words.specs.Lines.{ontoLine}
+use Rattle.cards_fields.proofs.Groups.{size-cards}
 use Rattle.cards_fields.specs.declared.DeckEnd.the-variants.{At, Refused}
 use Rattle.words.proofs.WordLaws.{same-equal}
 use Rattle.cards_lines.specs.Shown.{deckGroups}
@@ -73,19 +73,7 @@ groups-few (c ∷ cs) = omega (arith, few c cs, five (isPty c))
     five true = omega arith
     five false = omega arith
 
--- the cards of a deck take no more bytes than it has, and the termination card stands among them
-size-cards : (s : List ℕ) → size (cardsOf s) ≤ length s
-size-cards [] = omega arith
-size-cards (b ∷ s) = by (eqb b 10) (size-cards s)
-  where
-    line : (cs : List (List ℕ)) → size (ontoLine b cs) ≤ suc (size cs)
-    line [] = omega arith
-    line (c ∷ cs) = omega arith
-
-    by : (x : Bool) → size (cardsOf s) ≤ length s → size (cond x ([] ∷ cardsOf s) (ontoLine b (cardsOf s))) ≤ suc (length s)
-    by true h = omega arith
-    by false h = omega (arith, line (cardsOf s))
-
+-- the termination card stands among the cards of a deck that has one
 size-before : (cs : List (List ℕ)) → terminated cs ≡ true → size (before cs) + 81 ≤ size cs
 size-before [] t = never t refl
 size-before (c ∷ cs) t = by (isTermination c) refl t (size-before cs)
