@@ -10,30 +10,11 @@ use lib.ListN.{length, take, drop, replicate, length-append}
 use lib.Seq.{take-at}
 use borrow.Author.Tests.{leb-true}
 use Rattle.numbers.proofs.Tests.{by-bool, both}
+use Rattle.numbers.proofs.RefusalLaws.{two-digits}
 use Rattle.numbers.specs.Quoted.{bytes}
 use Rattle.numbers.specs.Refusals.{numberOf}
 use Rattle.numbers.specs.declared.Refusal.{Refusal}
-use Rattle.numbers.specs.declared.Refusal.the-variants.{
-  OutOfRange,
-  NoJob,
-  NotTheJobs,
-  NotLegal,
-  PacketInUse,
-  ChannelBusy,
-  NothingStartable,
-  NothingInProgress,
-  WrongCompletion,
-  BadDeck,
-  NoRoom,
-  WrongRequest,
-  BadConfiguration,
-  NoSuchRequest,
-  JobRuns,
-  UnknownMessage,
-  NoPlaceFree,
-  NoCandidates,
-  NoAssignment,
-}
+use Rattle.numbers.specs.declared.Refusal.the-variants.{NoRoom, WrongRequest}
 use Rattle.text.specs.Writing.{decimalText}
 use Rattle.text.specs.Room.{Written}
 use Rattle.text.proofs.RoomLaws.{andThen}
@@ -53,34 +34,12 @@ use Rattle.cards_full.specs.declared.Wrote.the-variants.{Cards, Refused}
 use Rattle.cards_report.specs.Cards.{tableText, refusalLine, goodText, textBy, cardsRoom}
 use Rattle.cards_report.proofs.TableLines.{table-short}
 
--- numbers of two digits
-below-100 : (r : Refusal) → numberOf r < 100
-below-100 OutOfRange = omega arith
-below-100 NoJob = omega arith
-below-100 NotTheJobs = omega arith
-below-100 NotLegal = omega arith
-below-100 PacketInUse = omega arith
-below-100 ChannelBusy = omega arith
-below-100 NothingStartable = omega arith
-below-100 NothingInProgress = omega arith
-below-100 WrongCompletion = omega arith
-below-100 BadDeck = omega arith
-below-100 NoRoom = omega arith
-below-100 WrongRequest = omega arith
-below-100 BadConfiguration = omega arith
-below-100 NoSuchRequest = omega arith
-below-100 JobRuns = omega arith
-below-100 UnknownMessage = omega arith
-below-100 NoPlaceFree = omega arith
-below-100 NoCandidates = omega arith
-below-100 NoAssignment = omega arith
-
 pub refused-short : (r : Refusal) → length (refusedText r) ≤ 10
-refused-short r = omega (arith, length-append (decimalText (numberOf r)) (bytes "\n"), few-digits 1 (numberOf r) (below-100 r))
+refused-short r = omega (arith, length-append (decimalText (numberOf r)) (bytes "\n"), few-digits 1 (numberOf r) (two-digits r))
 
 refusal-short : (id : List ℕ) (r : Refusal) → length id ≤ 6 → length (refusalLine id r) ≤ 16
 refusal-short id r h =
-    omega (arith, length-append (spaceless id) (bytes " NO " ++ (decimalText (numberOf r) ++ bytes "\n")), length-append (decimalText (numberOf r)) (bytes "\n"), spaceless-short id, few-digits 1 (numberOf r) (below-100 r))
+    omega (arith, length-append (spaceless id) (bytes " NO " ++ (decimalText (numberOf r) ++ bytes "\n")), length-append (decimalText (numberOf r)) (bytes "\n"), spaceless-short id, few-digits 1 (numberOf r) (two-digits r))
 
 -- WHAT WAS WRITTEN: the cards stand at the room's start, and take no more than it has
 pub record Stands (v : FullRequest) (n : ℕ) (room : List ℕ) : Type 0 where

@@ -8,30 +8,10 @@ use lib.Dec.{eqb}
 use lib.ListN.{length, length-append}
 use borrow.Author.Tests.{eq-eqb, ne-eqb}
 use Rattle.numbers.proofs.Tests.{by-bool}
+use Rattle.numbers.proofs.RefusalLaws.{two-digits}
 use Rattle.numbers.specs.Quoted.{bytes}
 use Rattle.numbers.specs.Refusals.{numberOf}
 use Rattle.numbers.specs.declared.Refusal.{Refusal}
-use Rattle.numbers.specs.declared.Refusal.the-variants.{
-  OutOfRange,
-  NoJob,
-  NotTheJobs,
-  NotLegal,
-  PacketInUse,
-  ChannelBusy,
-  NothingStartable,
-  NothingInProgress,
-  WrongCompletion,
-  BadDeck,
-  NoRoom,
-  WrongRequest,
-  BadConfiguration,
-  NoSuchRequest,
-  JobRuns,
-  UnknownMessage,
-  NoPlaceFree,
-  NoCandidates,
-  NoAssignment,
-}
 use Rattle.text.specs.Room.{Whole, Written}
 use Rattle.text.specs.Writing.{decimalText}
 use Rattle.text.proofs.RoomLaws.{entire}
@@ -62,31 +42,10 @@ module _ (refusal : Refusal) (n : ℕ) (is : n ≡ numberOf refusal) where
 
 -- ---- lengths
 
-number-few : (refusal : Refusal) → numberOf refusal < 100
-number-few OutOfRange = omega arith
-number-few NoJob = omega arith
-number-few NotTheJobs = omega arith
-number-few NotLegal = omega arith
-number-few PacketInUse = omega arith
-number-few ChannelBusy = omega arith
-number-few NothingStartable = omega arith
-number-few NothingInProgress = omega arith
-number-few WrongCompletion = omega arith
-number-few BadDeck = omega arith
-number-few NoRoom = omega arith
-number-few WrongRequest = omega arith
-number-few BadConfiguration = omega arith
-number-few NoSuchRequest = omega arith
-number-few JobRuns = omega arith
-number-few UnknownMessage = omega arith
-number-few NoPlaceFree = omega arith
-number-few NoCandidates = omega arith
-number-few NoAssignment = omega arith
-
 shown-few : (refusal : Refusal) → shownNumber refusal < 100
 unfolding shownNumber
 shown-few refusal =
-    by-bool (eqb (numberOf refusal) 1) (λ t. rw t (omega arith)) (λ t. rw t (number-few refusal))
+    by-bool (eqb (numberOf refusal) 1) (λ t. rw t (omega arith)) (λ t. rw t (two-digits refusal))
 
 fault-few : (fault : Fault) → faultNumber fault < 100
 fault-few NoLength = omega arith

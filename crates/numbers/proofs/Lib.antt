@@ -6,3 +6,4 @@ pub mod Stores
 pub mod Find
 pub mod ValuesLaws
 pub mod BitLaws
+pub mod RefusalLaws

@@ -21,6 +21,7 @@ use Rattle.numbers.specs.declared.Refusal.the-variants.{
   NoPlaceFree,
   NoCandidates,
   NoAssignment,
+  BeingReturned,
 }
 
 abbrev pub numberOf : Refusal → ℕ
@@ -62,3 +63,5 @@ numberOf NoPlaceFree = 18
 numberOf NoCandidates = 19
 -- selection: there are some, and none has an assignment (02, request 2)
 numberOf NoAssignment = 20
+-- submission to a unit being returned, and a second return of it (02, request 5)
+numberOf BeingReturned = 21

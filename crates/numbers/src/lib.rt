@@ -48,6 +48,7 @@ pub enum Refusal {
     NoPlaceFree,
     NoCandidates,
     NoAssignment,
+    BeingReturned,
 }
 
 // How a call that answers nothing else ends: it was done, or refused.
@@ -142,5 +143,6 @@ pub fn number_of(refusal: Refusal) -> u8
         Refusal::NoPlaceFree => 18,
         Refusal::NoCandidates => 19,
         Refusal::NoAssignment => 20,
+        Refusal::BeingReturned => 21,
     }
 }

@@ -12,14 +12,16 @@ use Rattle.packets.proofs.Inv.{Inv}
 use Rattle.packets.proofs.Laws.{and-left, and-right}
 use Rattle.packets.specs.Lone.{Lone, loneStart, loneStep, loneDoes, loneTakes, startBy}
 use Rattle.packets.specs.Picks.{find}
-use Rattle.packets.specs.Rules.{Call, Complete, End, Mark, Start, Submit, Take, accept, answer, siteOf, isWrong, refusal, startable}
+use Rattle.packets.specs.Rules.{Call, Complete, End, Mark, Return, Start, Submit, Take, accept, answer, siteOf, isWrong, refusal, startable}
 use Rattle.packets.proofs.Sim.{Sim}
 use Rattle.packets.proofs.SimEnd.{sim-assign-away, sim-complete, sim-complete-away, sim-end, sim-end-away, sim-mark, takes-complete, takes-end}
 use Rattle.packets.proofs.SimStart.{on-channel, same-start, sim-start, sim-start-away, takes-start}
 use Rattle.packets.proofs.SimSubmit.{eqb-flip, sim-submit, sim-submit-away, takes-submit}
 use Rattle.packets.specs.State.{State, motionOn, packetIn, packetOf, placeOf}
 use Rattle.packets.proofs.Steps.{busy-of, find-some}
-use Rattle.packets.proofs.Told.{assigns-to, completes-on, ends-of, starts-on, submits}
+use Rattle.packets.proofs.Told.{assigns-to, completes-on, ends-of, returns-of, starts-on, submits}
+use Rattle.packets.proofs.Handing.{unitSite}
+use Rattle.packets.proofs.SimReturn.{sim-returns, sim-returns-away, takes-return}
 use Rattle.packets.specs.declared.Answer.{Answer}
 use Rattle.packets.specs.declared.Answer.the-variants.{Closed, Completed, Done, Refused, Started}
 use Rattle.packets.specs.declared.Verdict.the-variants.{Granted}
@@ -40,17 +42,18 @@ actsNow h s (Submit j p f c w) = eqb j (h .place) && isThere h c (siteOf w)
 actsNow h s (Start c) = answersThere h s c (answer s (Start c))
 actsNow h s (Complete c how) = answersThere h s c (answer s (Complete c how))
 actsNow h s (End j e) = eqb j (h .place)
+actsNow h s (Return j c u) = eqb j (h .place) && isThere h c (unitSite u)
 actsNow h s (Mark c u m on) = false
 
 -- the call acts on the holding, and the lone unit takes it and makes the same step and the same start; or it
 -- doesn't, and the lone unit stands still
 pub record Acted (h : Holding) (s : State) (l : Lone) (x : Call) : Type 0 where
-  pub taken : loneTakes l x ≡ true
+  pub taken : loneTakes (h .drum) l x ≡ true
   pub sim : Sim h (accept s x) (loneStep (s .codes) (h .drum) l x)
-  pub start : loneStart (h .place) l x ≡ startIn (answer s x)
+  pub start : loneStart (h .drum) (h .place) l x ≡ startIn (answer s x)
 
 -- from a call that the lone unit takes
-acted-by : (h : Holding) (s : State) (l : Lone) (x : Call) → loneTakes l x ≡ true → Sim h (accept s x) (loneDoes (s .codes) (h .drum) l x)
+acted-by : (h : Holding) (s : State) (l : Lone) (x : Call) → loneTakes (h .drum) l x ≡ true → Sim h (accept s x) (loneDoes (s .codes) (h .drum) l x)
     → startBy (h .place) l x ≡ startIn (answer s x) → Acted h s l x
 unfolding loneStart loneStep
 acted-by h s l x t sim start =
@@ -97,6 +100,11 @@ sim-acts h s I H l S (Complete c how) r t =
 sim-acts h s I H l S (End j e) r t =
     let at-j : h .place ≡ j = sym (eqb-true j (h .place) t) in
     acted-by h s l (End j e) (takes-end h s I l S j e (ends-of s j e r) at-j) (sim-end h s I l S j e (ends-of s j e r) at-j) refl
+sim-acts h s I H l S (Return j c u) r t =
+    let k = returns-of s j c u r in
+    let at-j : h .place ≡ j = sym (eqb-true j (h .place) (and-left (eqb j (h .place)) _ t)) in
+    let y : isThere h c (unitSite u) ≡ true = and-right (eqb j (h .place)) _ t in
+    acted-by h s l (Return j c u) (takes-return h s I H l S j c u k at-j y) (sim-returns h s I H l S j c u k at-j y) refl
 sim-acts h s I H l S (Mark c u m on) r t = never {b = false} t refl
 
 pub sim-away : (h : Holding) (s : State) → Inv s → Holds s h → (l : Lone) → Sim h s l → (x : Call) → refusal s x ≡ Granted → actsNow h s x ≡ false → Sim h (accept s x) l
@@ -116,4 +124,5 @@ sim-away h s I H l S (Complete c how) r t =
     let t′ : eqb (o .0) (h .place) && there h (packetIn (s .jobs) (o .0) (o .1)) ≡ false = rw (o .2) at t in
     rw (o .2) (sim-complete-away h s I H l S c (k .0) (o .0) (o .1) (o .2) (rw (eqb-flip (h .place) (o .0)) t′) how)
 sim-away h s I H l S (End j e) r t = sim-end-away h s I l S j e (ends-of s j e r) (rw (eqb-flip (h .place) j) t)
+sim-away h s I H l S (Return j c u) r t = sim-returns-away h s I H l S j c u (returns-of s j c u r) (rw (eqb-flip j (h .place)) at t)
 sim-away h s I H l S (Mark c u m on) r t = sim-mark h s I l S c u m on

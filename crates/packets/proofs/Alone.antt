@@ -17,14 +17,15 @@ use Rattle.packets.proofs.InvJobs.{held-once, take-held}
 use Rattle.packets.proofs.InvStores.{mark-holder}
 use Rattle.packets.proofs.Laws.{find-holds}
 use Rattle.packets.specs.Picks.{find}
-use Rattle.packets.specs.Rules.{Call, Complete, End, Mark, Start, Submit, Take, accept, always, answer, siteOf, begins, begun, closing, completed, cut, decided, finished, isTrouble, locked, marked, packet, refusal, returnIfDone, startable, started, step, submitted}
+use Rattle.packets.specs.Rules.{Call, Complete, End, Mark, Return, Start, Submit, Take, accept, always, answer, siteOf, begins, begun, closing, completed, cut, decided, finished, isTrouble, locked, marked, packet, refusal, returnIfDone, startable, started, step, submitted}
 use Rattle.packets.proofs.SeenLaws.{SeenOk}
 use Rattle.packets.proofs.There.{is-there, unit-held}
 use Rattle.packets.specs.State.{State, anyMoves, close, heldBy, isBusy, isClosing, isUnit, motionOn, packetIn, packetOf, placeOf, stateIn, sweep}
 use Rattle.packets.proofs.Sites.{lock-holder}
 use Rattle.packets.proofs.Steps.{startable-on, step-inv}
 use Rattle.packets.proofs.Store.{unit-keep, unit-release}
-use Rattle.packets.proofs.Told.{assigns-to}
+use Rattle.packets.proofs.Told.{assigns-to, returns-of}
+use Rattle.packets.proofs.Handing.{back-held, handed-held}
 use Rattle.packets.specs.declared.Answer.the-variants.{Started}
 use Rattle.packets.specs.declared.Begun.{Begun}
 use Rattle.packets.specs.declared.How.{How}
@@ -81,8 +82,12 @@ accept-same s I (Complete c how) r = go (motionOn s c)
   where
     go : (m : Motion) → Same s (completed s c how m)
     go Idle = same-kept s s (λ c u. refl)
-    go (Busy j p) = return-keeps s (finished s c how j p) j (finish-keeps s c how j p)
+    go (Busy j p) =
+        λ d u i k a b. return-keeps s (finished s c how j p) j (finish-keeps s c how j p) d u i k a
+        (back-held (returnIfDone j (finished s c how j p) .units) c (packetIn (s .jobs) j p .at) d u k b)
 accept-same s I (End k e) r = return-keeps s (close (sweep s k always cut) k (closing e)) k (λ c u. refl)
+accept-same s I (Return k c u) r =
+    λ d w i j a b. held-once (unitIn (s .units) d w .holder) j i (handed-held s I k c u (returns-of s k c u r) d w j b) a
 accept-same s I (Mark c u m on) r =
     same-kept s (marked s c u m on) (λ e w. unit-keep (λ (v : UnitState). v .holder) (s .units) c u (markedUnit m on (unitIn (s .units) c u)) e w (mark-holder m on (unitIn (s .units) c u)))
 

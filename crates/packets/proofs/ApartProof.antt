@@ -17,7 +17,7 @@ use Rattle.packets.specs.Demand.{emptyPlace, fresh}
 use Rattle.packets.proofs.Inv.{Inv, running-alive}
 use Rattle.packets.proofs.Laws.{and-left, eqb-self, getD-set-keep}
 use Rattle.packets.specs.Picks.{find}
-use Rattle.packets.specs.Rules.{Call, Complete, End, Mark, Start, Submit, Take, accept, aimed, always, assigned, siteOf, isAt, begun, broken, closed, closing, codeFor, cut, decided, ended, enlist, failed, finished, freshJob, inArea, isDone, isTrouble, locked, marked, over, packet, refusal, returnIfDone, returned, run, startable, started, step, submitted}
+use Rattle.packets.specs.Rules.{Call, Complete, End, Mark, Return, Start, Submit, Take, accept, aimed, always, assigned, siteOf, isAt, begun, broken, closed, closing, codeFor, cut, decided, ended, enlist, failed, finished, freshJob, freeIfReturning, handedBack, inArea, isDone, isTrouble, locked, marked, over, packet, refusal, returnIfDone, returned, run, startable, started, step, submitted}
 use Rattle.packets.specs.State.{State, isClosing, isEmpty, isUnit, jobIn, lock, motionOn, move, noJob, packetIn, packetOf, placeOf, put, restatus, restatusAll, setState, stateIn, store, sweep, withPackets, withState, withStatus}
 use Rattle.packets.proofs.Steps.{busy-of, closing-alive, closing-not-running, fresh-inv, fresh-state, step-inv}
 use Rattle.packets.proofs.Store.{alive-in, state-fresh, state-put, state-restatus, state-state}
@@ -29,6 +29,7 @@ use Rattle.packets.specs.declared.JobState.{JobState}
 use Rattle.packets.specs.declared.JobState.the-variants.{Empty, Running}
 use Rattle.packets.specs.declared.Motion.the-variants.{Idle}
 use Rattle.packets.specs.declared.Packet.{Packet}
+use Rattle.packets.specs.declared.Site.the-variants.{AtUnit}
 use Rattle.packets.specs.declared.Spot.{Spot}
 use Rattle.packets.specs.declared.Status.{Status}
 use Rattle.packets.specs.declared.Status.the-variants.{Ended, InProgress, Listed}
@@ -143,7 +144,9 @@ module _ (part : Part) (L : Lasting part) where
       let m = completes-on s c how r in
       let o = busy-of (motionOn s c) (m .1) in
       let s₁ = finished s c how (o .0) (o .1) in
-      rw (o .2) (apart-same s (returnIfDone (o .0) s₁) (same-trans (same-finished s c how (o .0) (o .1)) (return-if s₁ (o .0))) A)
+      let s₂ = returnIfDone (o .0) s₁ in
+      let s₃ = freeIfReturning s₂ c (packetIn (s .jobs) (o .0) (o .1) .at) in
+      rw (o .2) (apart-same s s₃ (same-trans (same-finished s c how (o .0) (o .1)) (same-trans (return-if s₁ (o .0)) (same-jobs s₂ s₃ refl))) A)
     where
       return-if : (s₁ : State) (j : ℕ) → Held-on s₁ (returnIfDone j s₁)
       return-if s₁ j =
@@ -158,6 +161,10 @@ module _ (part : Part) (L : Lasting part) where
       let h₁ = alive-in (s₁ .jobs) j a₁ in
       let a₂ : isEmpty (stateIn (closed s j e .jobs) j) ≡ false = rw (state-state (s₁ .jobs) j (closing e) j h₁, eqb-self j) (closing-alive e) in
       apart-same s (ended s j e) (same-trans (same-sweep s j always cut) (same-trans (same-state s₁ (closed s j e) j (closing e) refl h₁ a₁) (same-return (closed s j e) j a₂))) A
+  accept-apart s I A (Return j c u) r k =
+      let s₁ = sweep s j (isAt c (AtUnit (record { 0 = u }))) cut in
+      let s₂ = handedBack s j c (AtUnit (record { 0 = u })) in
+      apart-same s s₂ (same-trans (same-sweep s j (isAt c (AtUnit (record { 0 = u }))) cut) (same-jobs s₁ s₂ refl)) A
   accept-apart s I A (Mark c u m on) r k = apart-same s (marked s c u m on) (same-jobs s (marked s c u m on) refl) A
 
   step-apart : (s : State) → Inv s → Apart part s → (x : Call) → Fits part s x → Apart part (step s x .state)

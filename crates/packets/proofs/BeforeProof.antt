@@ -16,12 +16,14 @@ use Rattle.channels.specs.Channels.{setsInterlock}
 use Rattle.functions.proofs.Entries.{at, every}
 use Rattle.packets.specs.Before.{AllListed, AsBefore, OnlyCompletions, all60, completedBefore, completesBefore, isCompletion, isFailure, withCodes}
 use Rattle.packets.specs.Picks.{find}
-use Rattle.packets.specs.Rules.{Call, Complete, End, Mark, Start, Submit, Take, accept, answer, begins, closed, completed, completes, first, isDone, isTrouble, isWrong, locked, refusal, siteOf, startable, started, submitted}
+use Rattle.packets.specs.Rules.{Call, Complete, End, Mark, Return, Start, Submit, Take, accept, answer, begins, closed, completed, completes, first, isDone, isTrouble, isWrong, locked, movesAt, refusal, siteOf, startable, started, submitted}
 use Rattle.packets.specs.State.{State, configured, isIdle, motionOn, movingStatus}
 use Rattle.packets.specs.declared.How.{How}
 use Rattle.packets.specs.declared.How.the-variants.{Cut, Failed, Full}
 use Rattle.packets.specs.declared.Motion.{Motion}
 use Rattle.packets.specs.declared.Motion.the-variants.{Busy, Idle}
+use Rattle.packets.specs.declared.Site.{Site}
+use Rattle.packets.specs.declared.Site.the-variants.{AtUnit}
 use Rattle.packets.specs.declared.Spot.{Spot}
 use Rattle.packets.specs.declared.Status.{Status}
 use Rattle.packets.specs.declared.Verdict.the-variants.{Granted}
@@ -73,6 +75,7 @@ module _ (codes : ℕ) (s : State) where
       by-motion Idle = refl
       by-motion (Busy j p) = refl
   no-refusal (End j e) = refl
+  no-refusal (Return j c u) = refl
   no-refusal (Mark c u m on) = refl
 
   submits-so : (j p f c : ℕ) (w : Spot) → submitted (withCodes codes s) j p f c w ≡ withCodes codes (submitted s j p f c w)
@@ -84,6 +87,10 @@ module _ (codes : ℕ) (s : State) where
   starts-so c none = (refl, refl)
   starts-so c (some e) = (refl, refl)
 
+  moves-so : (j c : ℕ) (a : Site) (m : Motion) → movesAt (withCodes codes s) j c a m ≡ movesAt s j c a m
+  moves-so j c a Idle = refl
+  moves-so j c a (Busy k p) = refl
+
   leaves-so : (x : Call) → isCompletion x ≡ false → accept (withCodes codes s) x ≡ withCodes codes (accept s x)
   unfolding accept
   leaves-so (Take j asg) n = refl
@@ -91,6 +98,7 @@ module _ (codes : ℕ) (s : State) where
   leaves-so (Start c) n = starts-so c (find (startable s c) (s .queue)) .0
   leaves-so (Complete c how) n = never {b = true} refl n
   leaves-so (End j e) n = by-bool (isDone (closed s j e) j) (λ d. rw d) (λ d. rw d)
+  leaves-so (Return j c u) n = rw (moves-so j c (AtUnit (record { 0 = u })) (motionOn s c))
   leaves-so (Mark c u m on) n = refl
 
   answers-so : (x : Call) → isCompletion x ≡ false → answer (withCodes codes s) x ≡ answer s x
@@ -100,6 +108,7 @@ module _ (codes : ℕ) (s : State) where
   answers-so (Start c) n = starts-so c (find (startable s c) (s .queue)) .1
   answers-so (Complete c how) n = never {b = true} refl n
   answers-so (End j e) n = refl
+  answers-so (Return j c u) n = refl
   answers-so (Mark c u m on) n = refl
 
 pub only-completions : OnlyCompletions

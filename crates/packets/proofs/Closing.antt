@@ -18,12 +18,13 @@ use Rattle.packets.specs.Demand.{emptyPlace, fresh}
 use Rattle.packets.proofs.Inv.{EntryOk, Inv}
 use Rattle.packets.proofs.Laws.{eqb-self, find-holds}
 use Rattle.packets.specs.Picks.{any, find}
-use Rattle.packets.specs.Rules.{Call, Complete, End, Mark, Start, Submit, Take, accept, isAt, closed, closing, completed, cut, decided, failed, finished, isDone, isTrouble, refusal, returnIfDone, returned, run, startable, started, step}
+use Rattle.packets.specs.Rules.{Call, Complete, End, Mark, Return, Start, Submit, Take, accept, isAt, closed, closing, completed, cut, decided, failed, finished, freeIfReturning, isDone, isTrouble, refusal, returnIfDone, returned, run, startable, started, step}
 use Rattle.packets.specs.State.{State, anyMoves, carrying, inMotion, isClosing, isPacket, isRunning, isUnit, motionOn, moves, packetIn, placeOf, stateIn}
-use Rattle.packets.proofs.States.{states-begun, states-closed, states-finished, states-returned, states-submit}
+use Rattle.packets.proofs.States.{states-begun, states-closed, states-finished, states-handed, states-returned, states-submit}
 use Rattle.packets.proofs.Steps.{busy-of, closing-not-running, ending-inv, find-some, finished-inv, fresh-state, step-inv}
 use Rattle.packets.proofs.Store.{state-fresh}
-use Rattle.packets.proofs.Told.{assigns-to, completes-on, ends-of, starts-on, submits}
+use Rattle.packets.proofs.Handing.{unitSite}
+use Rattle.packets.proofs.Told.{assigns-to, completes-on, ends-of, returns-of, starts-on, submits}
 use Rattle.packets.specs.declared.Carrier.{Carrier}
 use Rattle.packets.specs.declared.How.{How}
 use Rattle.packets.specs.declared.JobState.{JobState}
@@ -82,7 +83,7 @@ not-done c m e d = not-false m (rw e at d)
 
 -- ---- the two changes of status
 
-cut-halts : (x : Status) → inMotion (cut x) ≡ true → cut x ≡ Stopping
+pub cut-halts : (x : Status) → inMotion (cut x) ≡ true → cut x ≡ Stopping
 cut-halts Blank e = never {b = false} e refl
 cut-halts Listed e = never {b = false} e refl
 cut-halts InProgress e = refl
@@ -150,7 +151,9 @@ accept-halts s I H (Complete g how) r i c =
     by-bool (eqb i j)
     (λ d. let same : i ≡ j = eqb-true i j d in
     let c′ : isClosing (stateIn (returnIfDone j s₁ .jobs) j) ≡ true = rw (o .2, same) at c in
-    rw (o .2, same) (returns s₁ (finished-inv s I g (k .0) j p (o .2) how) j (λ n x. moved g how j p (k .0) (o .2) n (sym (ap isClosing (states-finished s g how j p j)) ∙ x)) c′))
+    rw (o .2, same)
+    (same-halts (returnIfDone j s₁) (freeIfReturning (returnIfDone j s₁) g (packetIn (s .jobs) j p .at)) j (λ n. refl)
+    (returns s₁ (finished-inv s I g (k .0) j p (o .2) how) j (λ n x. moved g how j p (k .0) (o .2) n (sym (ap isClosing (states-finished s g how j p j)) ∙ x)) c′)))
     (λ d. let e : stateIn (completed s g how (motionOn s g) .jobs) i ≡ stateIn (s .jobs) i = rw (o .2) (returns-other s₁ j i d ∙ states-finished s g how j p i) in
     elsewhere s I H (Complete g how) r i e (λ n. rw (o .2, d)) c)
   where
@@ -183,6 +186,11 @@ accept-halts s I H (End j b) r i c =
     cut-all n x m =
         let a : statusIn (closed s j b) j n ≡ cut (statusIn s j n) = closed-status s j b (ends-of s j b r) j n ∙ rw (eqb-self j) in
         a ∙ cut-halts (statusIn s j n) (sym (ap inMotion a) ∙ m)
+accept-halts s I H (Return j g u) r i c =
+    let e = states-handed s j g (unitSite u) i in
+    by-bool (eqb i j)
+    (λ d. absurd (running-closing (stateIn (s .jobs) j) (returns-of s j g u r .running) (rw (eqb-true i j d) at (sym (ap isClosing e) ∙ c))))
+    (λ d. elsewhere s I H (Return j g u) r i e (λ n. rw d) c)
 accept-halts s I H (Mark g u m on) r i c = elsewhere s I H (Mark g u m on) r i refl (λ n. refl) c
 
 step-halts : (s : State) → Inv s → Halts s → (x : Call) → Halts (step s x .state)

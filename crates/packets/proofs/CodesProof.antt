@@ -13,12 +13,13 @@ use Rattle.packets.proofs.InvStores.{sweep-inv}
 use Rattle.packets.proofs.Laws.{and-left, and-right, find-holds}
 use Rattle.packets.specs.Lone.{endsWith, stops}
 use Rattle.packets.specs.Picks.{find}
-use Rattle.packets.specs.Rules.{Call, Complete, End, Mark, Start, Submit, Take, accept, aimed, always, siteOf, isAt, closed, closing, codeFor, cut, decided, failed, finished, isDone, isTrouble, locked, over, packet, refusal, returnIfDone, run, startable, step, submitted}
+use Rattle.packets.specs.Rules.{Call, Complete, End, Mark, Return, Start, Submit, Take, accept, aimed, always, siteOf, isAt, closed, closing, codeFor, cut, decided, failed, finished, isDone, isTrouble, locked, over, packet, refusal, returnIfDone, run, startable, step, submitted}
 use Rattle.packets.specs.State.{isPacket, State, isRunning, isUnit, motionOn, packetIn, packetOf, placeOf, put, restatusAll, stateIn, sweep, withStatus}
 use Rattle.packets.proofs.SimSubmit.{cut-stops, failed-ends}
 use Rattle.packets.proofs.Steps.{Ready, busy-of, find-some, fresh-inv, over-fits, over-inside, ready-fits, ready-inside, ready-sweep, run-inv, start-fits, startable-on}
 use Rattle.packets.proofs.Store.{alive-in, packet-fresh, packet-put, packet-restatus, packet-state, sizeIn}
-use Rattle.packets.proofs.Told.{Submits, assigns-to, completes-on, cut-going, cut-idle, ends-of, failed-going, failed-idle, starts-on, submits}
+use Rattle.packets.proofs.Told.{Submits, assigns-to, completes-on, cut-going, cut-idle, ends-of, failed-going, failed-idle, returns-of, starts-on, submits}
+use Rattle.packets.proofs.Handing.{returns-inside, unitSite}
 use Rattle.packets.specs.declared.How.{How}
 use Rattle.packets.specs.declared.How.the-variants.{Cut, Failed, Full}
 use Rattle.packets.specs.declared.JobState.the-variants.{Empty}
@@ -131,6 +132,8 @@ status-after s I (Complete c how) r i n =
     rw (o .2) (returned-status (finished s c how (o .0) (o .1)) (o .0) i n ∙ finished-status s I c (k .0) how (o .0) (o .1) (o .2) i n)
 status-after s I (End j e) r i n =
     returned-status (closed s j e) j i n ∙ closed-status s j e (ends-of s j e r) i n ∙ rw (cut-stops (packetIn (s .jobs) i n .status))
+status-after s I (Return j c u) r i n =
+    swept-status s j (isAt c (unitSite u)) cut (λ x. stops (endsWith 0o16 x)) cut-stops (returns-inside s I j c u (returns-of s j c u r)) refl i n
 status-after s I (Mark c u m on) r i n = refl
 
 pub codes : Codes
@@ -174,6 +177,7 @@ keeps-code s I (Complete c how) r i n k e b =
     (by-bool (eqb i (o .0) && ((isTrouble (s .codes) how && isUnit (packetIn (s .jobs) (o .0) (o .1) .at)) && isAt c (packetIn (s .jobs) (o .0) (o .1) .at) (packetIn (s .jobs) i n)))
     (λ d. rw d) (λ d. rw d))))
 keeps-code s I (End j err) r i n k e b = rw e (by-bool (eqb i j) (λ d. rw d) (λ d. rw d))
+keeps-code s I (Return j c u) r i n k e b = rw e (by-bool (eqb i j && isAt c (unitSite u) (packetIn (s .jobs) i n)) (λ d. rw d) (λ d. rw d))
 keeps-code s I (Mark c u m on) r i n k e b = e
 
 pub kept : Kept

@@ -4,24 +4,26 @@ use Prim.Native.Nat.{ℕ, _<_}
 use mathlib.Core.Path.{_≡_, refl, sym, ap, subst, _∙_}
 use mathlib.Core.Bool.{Bool, true, false, not, cond, _&&_}
 use mathlib.Core.List.{List, [], _∷_, map}
-use mathlib.Core.Option.{none}
+use mathlib.Core.Option.{Option, none}
 use lib.Dec.{eqb}
 use borrow.Author.Tests.{eqb-true}
 use Rattle.units.specs.declared.Unit.{Unit as UnitState}
 use Rattle.numbers.proofs.Tests.{by-bool, never}
-use Rattle.units.specs.State.{assignable, unitIn}
+use Rattle.units.specs.State.{assignable, isReturning, unitIn}
 use Rattle.units.specs.declared.Holder.the-variants.{Held}
 use Rattle.packets.proofs.Acts.{Acted, sim-acts, sim-away}
-use Rattle.packets.proofs.Alone.{Quiet, own-motion, own-start, quiet-after, quiet-held}
-use Rattle.packets.specs.Demand.{Demand3, Holding, Holds, OwnStarts, Seen, Stretch, acting, acts, events, fresh, noneSeen, noted, seenAfter, startIn, startsIn}
+use Rattle.packets.proofs.Alone.{Quiet, mover, own-motion, own-start, quiet-after, quiet-held}
+use Rattle.packets.specs.Demand.{Demand3, Holding, Holds, OwnStarts, Seen, Stretch, acting, acts, events, fresh, itsUnit, noneSeen, noted, seenAfter, startIn, startsIn, there}
 use Rattle.packets.proofs.Inv.{EntryOk, Inv, running-alive}
-use Rattle.packets.proofs.Laws.{all-imp, eqb-self, keep-none}
-use Rattle.packets.specs.Lone.{Lone, Request, loneRun, loneStart, loneStarts, loneStep, newLone, loneTakes, loneTakesAll}
+use Rattle.packets.proofs.Laws.{all-imp, and-left, and-right, eqb-self, keep-none}
+use Rattle.packets.specs.Lone.{Lone, Request, isAtRest, loneRun, loneStart, loneStarts, loneStep, newLone, loneTakes, loneTakesAll}
 use Rattle.packets.specs.Rules.{Call, Take, accept, answer, assigned, decided, refusal, run, step}
 use Rattle.packets.proofs.SeenLaws.{SeenOk, accept-seen, acts-refused, acts-same, noted-refused}
-use Rattle.packets.proofs.Sim.{Sim, lockThere, movingThere, num, on}
+use Rattle.packets.proofs.Sim.{Sim, lockThere, movingThere, num, on, returnThere}
 use Rattle.packets.proofs.Stays.{Configured, run-has, step-has}
-use Rattle.packets.proofs.There.{unit-held}
+use Rattle.packets.proofs.There.{is-there, there-unit, unit-held}
+use Rattle.packets.proofs.InvJobs.{held-once}
+use Rattle.packets.proofs.Waiting.{Waits, fresh-waits, run-waits, step-waits}
 use Rattle.packets.specs.State.{State, blank, heldBy, isEmpty, isRunning, lock, motionOn, packetIn, placeOf, stateIn, takeAll, wanted}
 use Rattle.packets.proofs.Steps.{fresh-inv, run-inv, step-inv}
 use Rattle.packets.proofs.Store.{packet-fresh, state-fresh, unit-take}
@@ -44,7 +46,7 @@ step-accepted s x e = ap (decided s x) e
 
 -- one step of the cell, and of the lone unit if the call acted
 pub record Next (codes : ℕ) (h : Holding) (l : Lone) (t : Seen) (x : Call) (r : Answer) (s : State) : Type 0 where
-  pub acted : acts h t x r ≡ true → (loneStart (h .place) l x ≡ startIn r) × Sim h s (loneStep codes (h .drum) l x) × (loneTakes l x ≡ true)
+  pub acted : acts h t x r ≡ true → (loneStart (h .drum) (h .place) l x ≡ startIn r) × Sim h s (loneStep codes (h .drum) l x) × (loneTakes (h .drum) l x ≡ true)
   pub idled : acts h t x r ≡ false → Sim h s l
   pub seen : SeenOk h s (noted h t x r)
 
@@ -96,8 +98,8 @@ through codes h s same I l S t k q (x ∷ during) H =
 
 module _ (s : State) (I : Inv s) (j : ℕ) (asg : Assignment) (small : j < 16) (empty : isEmpty (stateIn (s .jobs) j) ≡ true)
     (h : Holding) (at-j : h .place ≡ j) where
-  after-assign : State
-  after-assign = assigned s j asg
+  abbrev takenUnit : UnitState → UnitState
+  takenUnit v = record { holder = Held j; down = v .down; reserved = v .reserved; interlock = false }
 
   not-j : (i : ℕ) → isEmpty (stateIn (s .jobs) i) ≡ false → eqb i (h .place) ≡ false
   not-j i a = by-bool (eqb i (h .place)) (λ e. never {b = isEmpty (stateIn (s .jobs) j)} empty (rw (eqb-true i (h .place) e ∙ at-j) at a)) (λ e. e)
@@ -113,6 +115,7 @@ module _ (s : State) (I : Inv s) (j : ℕ) (asg : Assignment) (small : j < 16) (
         lock = sym no-lock-yet;
         here = λ n u. never {b = false} u refl;
         over = sym (ap (λ (x : JobState). not (isRunning x)) running-now);
+        asked = λ e. sym not-asked-yet;
       }
     where
       running-now : stateIn (assigned s j asg .jobs) (h .place) ≡ Running
@@ -122,21 +125,25 @@ module _ (s : State) (I : Inv s) (j : ℕ) (asg : Assignment) (small : j < 16) (
       no-motion Idle e = refl
       no-motion (Busy i p) e = rw (not-j i (I .motion (h .channel) i p e .alive))
 
-      no-lock-yet : lockThere h (takeAll (s .units) j (wanted asg)) ≡ false
-      no-lock-yet =
-          by-bool (h .drum)
-          (λ d. rw d)
-          (λ d. let g : heldBy (unitIn (takeAll (s .units) j (wanted asg)) (h .channel) (h .unit) .holder) (h .place) ≡ true = unit-held h (assigned s j asg) H d in
+      -- the unit has just been taken
+      taken-there : h .drum ≡ false → unitIn (takeAll (s .units) j (wanted asg)) (h .channel) (h .unit) ≡ takenUnit (unitIn (s .units) (h .channel) (h .unit))
+      taken-there d =
+          let g : heldBy (unitIn (takeAll (s .units) j (wanted asg)) (h .channel) (h .unit) .holder) (h .place) ≡ true = unit-held h (assigned s j asg) H d in
           let m = unit-take (s .units) j (wanted asg) (h .channel) (h .unit) in
-          rw (d, m .1) (go (m .0 && assignable v) (rw (m .1) at g)))
+          m .1 ∙ go (m .0 && assignable v) (rw (m .1) at g)
         where
           v : UnitState
           v = unitIn (s .units) (h .channel) (h .unit)
 
-          go : (w : Bool) → heldBy ((cond w (record { holder = Held j; down = v .down; reserved = v .reserved; interlock = false }) v) .holder) (h .place) ≡ true
-              → (cond w (record { holder = Held j; down = v .down; reserved = v .reserved; interlock = false }) v) .interlock ≡ false
+          go : (w : Bool) → heldBy ((cond w (takenUnit v) v) .holder) (h .place) ≡ true → cond w (takenUnit v) v ≡ takenUnit v
           go true g = refl
           go false g = never {b = isEmpty (stateIn (s .jobs) j)} empty (rw at-j at (I .holders (h .channel) (h .unit) (h .place) g))
+
+      no-lock-yet : lockThere h (takeAll (s .units) j (wanted asg)) ≡ false
+      no-lock-yet = by-bool (h .drum) (λ d. rw d) (λ d. rw (d, taken-there d))
+
+      not-asked-yet : returnThere h (takeAll (s .units) j (wanted asg)) ≡ false
+      not-asked-yet = by-bool (h .drum) (λ d. rw d) (λ d. rw (d, taken-there d))
 
 pub assigned-sim : (s : State) → Inv s → (j : ℕ) (asg : Assignment) → refusal s (Take j asg) ≡ Granted → (h : Holding) → h .place ≡ j
     → Holds (step s (Take j asg) .state) h → Sim h (step s (Take j asg) .state) newLone
@@ -155,18 +162,49 @@ assigned-seen s I j asg r h at-j n =
     let z : packetIn (assigned s j asg .jobs) (h .place) n ≡ blank = packet-fresh (s .jobs) j asg (h .place) (rw (I .places) (k .0)) n ∙ rw (at-j, eqb-self j) in
     (λ x. never {b = false} x refl, λ b. never {b = false} (rw (e, z) at b) refl)
 
+-- ---- a unit whose return is asked for
+
+-- the job holds it exactly as long as a packet moves there
+returned-so : (h : Holding) (s : State) → Inv s → Waits s → (l : Lone) → Sim h s l → h .drum ≡ false → l .returning ≡ true
+    → heldBy (unitIn (s .units) (h .channel) (h .unit) .holder) (h .place) ≡ not (isAtRest (l .moving))
+returned-so h s I W l S d r =
+    by-bool (heldBy (unitIn (s .units) (h .channel) (h .unit) .holder) (h .place))
+    (λ t. let w = W (h .channel) (h .unit) (waits t) in
+    let x : w .place ≡ h .place = held-once (unitIn (s .units) (h .channel) (h .unit) .holder) (w .place) (h .place) (w .held) t in
+    let m : motionOn s (h .channel) ≡ Busy (h .place) (w .packet) = rw x at (w .moves) in
+    let u : packetIn (s .jobs) (h .place) (w .packet) .at ≡ itsUnit h = rw x at (w .at) in
+    let y : there h (packetIn (s .jobs) (h .place) (w .packet)) ≡ true = is-there h (packetIn (s .jobs) (h .place) (w .packet) .channel .0) (packetIn (s .jobs) (h .place) (w .packet) .at) d (I .motion (h .channel) (h .place) (w .packet) m .channel) u in
+    t ∙ sym (ap (λ (o : Option ℕ). not (isAtRest o)) (S .moving) ∙ rw (m, eqb-self (h .place), y)))
+    (λ t. t ∙ sym (ap (λ (o : Option ℕ). not (isAtRest o)) (S .moving ∙ rests t (motionOn s (h .channel)) refl)))
+  where
+    waits : heldBy (unitIn (s .units) (h .channel) (h .unit) .holder) (h .place) ≡ true → isReturning (unitIn (s .units) (h .channel) (h .unit) .holder) ≡ true
+    waits t = let e : l .returning ≡ returnThere h (s .units) = S .asked (rw d t) in let e′ : l .returning ≡ isReturning (unitIn (s .units) (h .channel) (h .unit) .holder) = rw d at e in sym e′ ∙ r
+
+    rests : heldBy (unitIn (s .units) (h .channel) (h .unit) .holder) (h .place) ≡ false → (m : Motion) → motionOn s (h .channel) ≡ m → movingThere h (s .jobs) m ≡ none
+    rests t Idle e = refl
+    rests t (Busy j p) e =
+        by-bool (eqb j (h .place) && there h (packetIn (s .jobs) (h .place) p))
+        (λ x. let z : j ≡ h .place = eqb-true j (h .place) (and-left (eqb j (h .place)) _ x) in
+        let e′ : motionOn s (h .channel) ≡ Busy (h .place) p = rw z at e in
+        let q = packetIn (s .jobs) (h .place) p in
+        never {b = heldBy (unitIn (s .units) (h .channel) (h .unit) .holder) (h .place)}
+        (mover h s I (h .place) p e′ (there-unit h (q .channel .0) (q .at) d (and-right (eqb j (h .place)) _ x))) t)
+        (λ x. rw x)
+
 pub demand3 : Demand3
 demand3 channels codes units free before j asg r h at-j H during stretch =
     let s₀ = run (fresh channels codes units) before in
     let I₀ : Inv s₀ = run-inv (fresh channels codes units) (fresh-inv channels codes units free) before in
     let s = step s₀ (Take j asg) .state in
     let I : Inv s = step-inv s₀ I₀ (Take j asg) in
+    let W : Waits s = step-waits s₀ I₀ (run-waits (fresh channels codes units) (fresh-inv channels codes units free) (fresh-waits channels codes units free) before) (Take j asg) in
     let same : s .codes ≡ codes = ap (λ (z : Configured). z .codes) (step-has s₀ (Take j asg) ∙ run-has (fresh channels codes units) before) ∙ (unfold fresh in refl) in
     let k = through codes h s same I newLone (assigned-sim s₀ I₀ j asg r h at-j H) noneSeen (assigned-seen s₀ I₀ j asg r h at-j) (quiet-held h s I H) during stretch in
     record {
       taken = k .taken;
       starts = k .starts;
       status = λ n t. ap (λ (q : Request). q .status) (k .sim .table n (k .seen n .0 t));
+      returned = λ d. returned-so h (run s during) (k .inv) (run-waits s I W during) (loneRun codes (h .drum) newLone (acting h noneSeen (events s during))) (k .sim) d;
       started = k .own;
       moves = λ d. own-motion h (run s during) (k .inv) d (seenAfter h noneSeen (events s during)) (k .seen) (k .quiet d);
     }

@@ -12,7 +12,7 @@ use Rattle.units.specs.State.{assignable, isFree, markedUnit, unitIn}
 use Rattle.units.specs.declared.Unit.{Unit as UnitState}
 use Rattle.packets.specs.Interlocks.{interlockAfter, isThat}
 use Rattle.packets.specs.Picks.{find}
-use Rattle.packets.specs.Rules.{Call, Complete, End, Mark, Start, Submit, Take, accept, assigned, closed, finished, isDone, isTrouble, locked, refusal, returnIfDone, siteOf, startable, started, submitted}
+use Rattle.packets.specs.Rules.{Call, Complete, End, Mark, Return, Start, Submit, Take, accept, assigned, closed, finished, isDone, isTrouble, locked, refusal, returnIfDone, siteOf, startable, started, submitted}
 use Rattle.packets.specs.State.{State, heldBy, isEmpty, isUnit, motionOn, packetIn, setLock, stateIn, unitAt, wanted, withLock}
 use Rattle.packets.specs.declared.Assignment.{Assignment}
 use Rattle.packets.specs.declared.How.{How}
@@ -27,7 +27,8 @@ use Rattle.packets.proofs.Laws.{and-left, and-right, eqb-self}
 use Rattle.packets.proofs.Sites.{mark-lock}
 use Rattle.packets.proofs.Steps.{busy-of}
 use Rattle.packets.proofs.Store.{unit-keep, unit-release, unit-set, unit-take}
-use Rattle.packets.proofs.Told.{Submits, assigns-to, completes-on, owns-unit, submits}
+use Rattle.packets.proofs.Told.{Submits, assigns-to, completes-on, owns-unit, returns-of, submits}
+use Rattle.packets.proofs.Handing.{back-interlock, hold-interlock, next}
 
 -- an interlock that is set or cleared where a job holds the unit
 lock-read : (units : List (List UnitState)) (d : ℕ) (a : Site) (b : Bool) → (isUnit a ≡ true → isFree (unitAt units d a .holder) ≡ false) → (c u : ℕ)
@@ -101,7 +102,11 @@ module _ (s : State) (I : Inv s) (c u : ℕ) where
   lock-after (Start d) r = started-lock s d (find (startable s d) (s .queue)) c u
   lock-after (Complete d how) r =
       let o = busy-of (motionOn s d) (completes-on s d how r .1) in
-      rw (o .2) (returned-lock (finished s d how (o .0) (o .1)) (o .0) c u ∙ finished-lock d how (o .0) (o .1) (o .2))
+      let s₁ = returnIfDone (o .0) (finished s d how (o .0) (o .1)) in
+      rw (o .2)
+      (back-interlock (s₁ .units) d (packetIn (s .jobs) (o .0) (o .1) .at) c u
+      ∙ returned-lock (finished s d how (o .0) (o .1)) (o .0) c u ∙ finished-lock d how (o .0) (o .1) (o .2))
   lock-after (End j e) r = returned-lock (closed s j e) j c u
+  lock-after (Return j d v) r = hold-interlock (s .units) d v (next s I j d v (returns-of s j d v r)) c u
   lock-after (Mark d v m on) r =
       unit-keep (λ (x : UnitState). x .interlock) (s .units) d v (markedUnit m on (unitIn (s .units) d v)) c u (mark-lock m on (unitIn (s .units) d v))

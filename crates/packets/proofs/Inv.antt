@@ -8,7 +8,7 @@ use lib.ListN.{length}
 use lib.Dec.{eqb}
 use borrow.Author.Tests.{eqb-true}
 use Rattle.numbers.proofs.Tests.{by-bool}
-use Rattle.units.specs.State.{unitIn}
+use Rattle.units.specs.State.{isReturning, unitIn}
 use Rattle.packets.specs.Picks.{All, Nodup, keep}
 use Rattle.packets.proofs.Laws.{all-imp, all-keep}
 use Rattle.packets.proofs.Once.{nodup-keep}
@@ -50,10 +50,15 @@ OwnedAt s j c a = (isUnit a ≡ not (drumOn (s .channels) c)) × (isUnit a ≡ t
 abbrev pub Owned : State → ℕ → Packet → Type 0
 Owned s j q = OwnedAt s j (q .channel .0) (q .at)
 
+-- the unit that a packet is at is not being returned
+abbrev pub Staying : State → Packet → Type 0
+Staying s q = isReturning (unitAt (s .units) (q .channel .0) (q .at) .holder) ≡ false
+
 pub record OkEntry (s : State) (j p : ℕ) : Type 0 where
   pub listed : isListed (packetIn (s .jobs) j p .status) ≡ true
   pub running : isRunning (stateIn (s .jobs) j) ≡ true
   pub owned : Owned s j (packetIn (s .jobs) j p)
+  pub staying : Staying s (packetIn (s .jobs) j p)
 
 pub record OkMotion (s : State) (c j p : ℕ) : Type 0 where
   pub going : inMotion (packetIn (s .jobs) j p .status) ≡ true

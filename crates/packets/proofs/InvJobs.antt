@@ -7,14 +7,14 @@ use lib.Dec.{eqb}
 use borrow.Author.Tests.{eqb-true, eqb-false}
 use Rattle.units.specs.declared.Unit.{Unit as UnitState}
 use Rattle.numbers.proofs.Tests.{by-bool, never}
-use Rattle.units.specs.State.{assignable, isFree, unitIn}
+use Rattle.units.specs.State.{assignable, isFree, isReturning, unitIn}
 use Rattle.units.specs.declared.Holder.{Holder}
-use Rattle.units.specs.declared.Holder.the-variants.{Free, Held}
+use Rattle.units.specs.declared.Holder.the-variants.{Free, Held, Returning}
 use Rattle.packets.proofs.Inv.{EntryOk, Inv, Owned, OwnedAt, running-alive}
 use Rattle.packets.specs.Picks.{All}
 use Rattle.packets.proofs.Laws.{all-both, all-imp}
 use Rattle.packets.specs.Rules.{assigned, freshJob, returned}
-use Rattle.packets.specs.State.{State, close, heldBy, isEmpty, motionOn, packetIn, packetOf, placeOf, releaseAll, setState, stateIn, takeAll, takeUnit, wanted}
+use Rattle.packets.specs.State.{State, close, heldBy, isEmpty, motionOn, packetIn, packetOf, placeOf, release, releaseAll, setState, stateIn, takeAll, takeUnit, unitAt, wanted}
 use Rattle.packets.proofs.Store.{length-state, packet-fresh, packet-state, size-fresh, size-state, sizeIn, state-fresh, state-state, unit-release, unit-take}
 use Rattle.packets.specs.declared.Assignment.{Assignment}
 use Rattle.packets.specs.declared.JobState.{JobState}
@@ -32,10 +32,20 @@ NotOf j e = eqb (placeOf e) j ≡ false
 pub held-once : (h : Holder) (i j : ℕ) → heldBy h i ≡ true → heldBy h j ≡ true → i ≡ j
 held-once Free i j a b = never {b = false} a refl
 held-once (Held k) i j a b = sym (eqb-true k i a) ∙ eqb-true k j b
+held-once (Returning k) i j a b = sym (eqb-true k i a) ∙ eqb-true k j b
 
 pub held-taken : (h : Holder) (i : ℕ) → heldBy h i ≡ true → isFree h ≡ false
 held-taken Free i a = never {b = false} a refl
 held-taken (Held k) i a = refl
+held-taken (Returning k) i a = refl
+
+-- a unit that is not being returned is not when its job has returned
+pub release-stays : (v : UnitState) (j : ℕ) → isReturning (v .holder) ≡ false → isReturning (release j v .holder) ≡ false
+release-stays v j e = by-bool (heldBy (v .holder) j) (λ t. rw t) (λ t. rw t e)
+
+-- nor when a job is taken
+pub take-stays : (j : ℕ) (w : Bool) (v : UnitState) → isReturning (v .holder) ≡ false → isReturning (takeUnit j w v .holder) ≡ false
+take-stays j w v e = by-bool (w && assignable v) (λ t. rw t) (λ t. rw t e)
 
 module _ (s : State) (I : Inv s) (j : ℕ) (inside : j < length (s .jobs)) (none-listed : All (NotOf j) (s .queue)) where
   pub close-inv : isEmpty (stateIn (s .jobs) j) ≡ false → (t : JobState) → isEmpty t ≡ false → Inv (close s j t)
@@ -65,6 +75,7 @@ module _ (s : State) (I : Inv s) (j : ℕ) (inside : j < length (s .jobs)) (none
             listed = rw (packet-state (s .jobs) j t (placeOf e) (packetOf e)) (k .0 .listed);
             running = rw (state-state (s .jobs) j t (placeOf e) inside, k .1) (k .0 .running);
             owned = rw (packet-state (s .jobs) j t (placeOf e) (packetOf e)) (k .0 .owned);
+            staying = rw (packet-state (s .jobs) j t (placeOf e) (packetOf e)) (k .0 .staying);
           }
 
       before : (i : ℕ) → isEmpty (stateIn (setState (s .jobs) j t) i) ≡ false → isEmpty (stateIn (s .jobs) i) ≡ false
@@ -114,12 +125,17 @@ module _ (s : State) (I : Inv s) (j : ℕ) (inside : j < length (s .jobs)) (none
       keeps : (i : ℕ) (q : Packet) → eqb i j ≡ false → Owned s i q → Owned (returned s j) i q
       keeps i q = keeps-at i (q .channel .0) (q .at)
 
+      stays : (c : ℕ) (a : Site) → isReturning (unitAt (s .units) c a .holder) ≡ false → isReturning (unitAt (releaseAll (s .units) j) c a .holder) ≡ false
+      stays c (AtUnit u) e = rw (unit-release (s .units) j c (u .0)) (release-stays (unitIn (s .units) c (u .0)) j e)
+      stays c (AtAddress x) e = e
+
       entry : (e : ℕ) → EntryOk s e × NotOf j e → EntryOk (returned s j) e
       entry e k =
           record {
             listed = rw (packet-state (s .jobs) j Empty (placeOf e) (packetOf e)) (k .0 .listed);
             running = rw (state-state (s .jobs) j Empty (placeOf e) inside, k .1) (k .0 .running);
             owned = rw (packet-state (s .jobs) j Empty (placeOf e) (packetOf e)) (keeps (placeOf e) (packetIn (s .jobs) (placeOf e) (packetOf e)) (k .1) (k .0 .owned));
+            staying = rw (packet-state (s .jobs) j Empty (placeOf e) (packetOf e)) (stays (packetIn (s .jobs) (placeOf e) (packetOf e) .channel .0) (packetIn (s .jobs) (placeOf e) (packetOf e) .at) (k .0 .staying));
           }
 
       holds : (c u i : ℕ) → heldBy (unitIn (releaseAll (s .units) j) c u .holder) i ≡ true → isEmpty (stateIn (setState (s .jobs) j Empty) i) ≡ false
@@ -193,6 +209,10 @@ module _ (s : State) (I : Inv s) (j : ℕ) (inside : j < 16) (empty : isEmpty (s
       keeps : (i : ℕ) (q : Packet) → Owned s i q → Owned (assigned s j asg) i q
       keeps i q = keeps-at i (q .channel .0) (q .at)
 
+      stays : (c : ℕ) (a : Site) → isReturning (unitAt (s .units) c a .holder) ≡ false → isReturning (unitAt (takeAll (s .units) j (wanted asg)) c a .holder) ≡ false
+      stays c (AtUnit u) e = let k = unit-take (s .units) j (wanted asg) c (u .0) in rw (k .1) (take-stays j (k .0) (unitIn (s .units) c (u .0)) e)
+      stays c (AtAddress x) e = e
+
       entry : (e : ℕ) → EntryOk s e → EntryOk (assigned s j asg) e
       entry e k =
           let d : eqb (placeOf e) j ≡ false = another (placeOf e) (running-alive (stateIn (s .jobs) (placeOf e)) (k .running)) in
@@ -200,4 +220,5 @@ module _ (s : State) (I : Inv s) (j : ℕ) (inside : j < 16) (empty : isEmpty (s
             listed = rw (packet-fresh (s .jobs) j asg (placeOf e) there-is (packetOf e), d) (k .listed);
             running = rw (state-fresh (s .jobs) j asg (placeOf e) there-is, d) (k .running);
             owned = rw (packet-fresh (s .jobs) j asg (placeOf e) there-is (packetOf e), d) (keeps (placeOf e) (packetIn (s .jobs) (placeOf e) (packetOf e)) (k .owned));
+            staying = rw (packet-fresh (s .jobs) j asg (placeOf e) there-is (packetOf e), d) (stays (packetIn (s .jobs) (placeOf e) (packetOf e) .channel .0) (packetIn (s .jobs) (placeOf e) (packetOf e) .at) (k .staying));
           }

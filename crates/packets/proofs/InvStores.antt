@@ -13,7 +13,7 @@ use Rattle.units.specs.declared.Mark.{Mark as UnitMark}
 use Rattle.units.specs.declared.Mark.the-variants.{Down, Reserved}
 use Rattle.numbers.proofs.Tests.{by-bool, never}
 use Rattle.units.specs.State.{unitIn, unitSet, markedUnit}
-use Rattle.packets.proofs.Inv.{Elsewhere, EntryOk, Inv, OkEntry, OkMotion, Owned, Spots, listed-busy, motion-busy, requeued, running-alive, single-relist}
+use Rattle.packets.proofs.Inv.{Elsewhere, EntryOk, Inv, OkEntry, OkMotion, Owned, Spots, Staying, listed-busy, motion-busy, requeued, running-alive, single-relist}
 use Rattle.packets.specs.State.{inMotion, State, enlisted, enqueue, entryOf, isBusy, isIdle, isListed, lock, motionOn, move, packetIn, packetOf, packetsIn, placeOf, put, restatusAll, setLock, stateIn, store, sweep}
 use Rattle.packets.specs.Picks.{All}
 use Rattle.packets.proofs.Laws.{all-append, all-imp, and-left, and-right}
@@ -84,6 +84,7 @@ module _ (s : State) (I : Inv s) (j p : ℕ) (q : Packet) (fits : p < sizeIn (s 
             listed = l;
             running = rw (state-put (s .jobs) j p q i) (k .running);
             owned = store-owned i n (listed-busy (packetIn (s .jobs) i n .status) (k .listed)) (k .owned);
+            staying = let x = store-spots i n (listed-busy (packetIn (s .jobs) i n .status) (k .listed)) in rw (x .0, x .1) (k .staying);
           }
 
 -- ---- a sweep
@@ -92,6 +93,10 @@ module _ (s : State) (I : Inv s) (j : ℕ) (t : Packet → Bool) (f : Status →
     (fb : f Blank ≡ Blank) (going : (x : Status) → inMotion x ≡ true → inMotion (f x) ≡ true) where
   sweep-owned : (i n : ℕ) → Owned s i (packetIn (s .jobs) i n) → Owned s i (packetIn (restatusAll (s .jobs) j t f) i n)
   sweep-owned i n o =
+      rw (packet-restatus (s .jobs) j t f i n inside fb) (by-bool (eqb i j) (λ e. rw e o) (λ e. rw e o))
+
+  sweep-staying : (i n : ℕ) → Staying s (packetIn (s .jobs) i n) → Staying s (packetIn (restatusAll (s .jobs) j t f) i n)
+  sweep-staying i n o =
       rw (packet-restatus (s .jobs) j t f i n inside fb) (by-bool (eqb i j) (λ e. rw e o) (λ e. rw e o))
 
   sweep-channel : (i n : ℕ) → packetIn (restatusAll (s .jobs) j t f) i n .channel .0 ≡ packetIn (s .jobs) i n .channel .0
@@ -124,7 +129,12 @@ module _ (s : State) (I : Inv s) (j : ℕ) (t : Packet → Bool) (f : Status →
     where
       entry : (i n : ℕ) → OkEntry s i n → isListed (packetIn (restatusAll (s .jobs) j t f) i n .status) ≡ true → OkEntry (sweep s j t f) i n
       entry i n k l =
-          record { listed = l; running = rw (state-restatus (s .jobs) j t f i) (k .running); owned = sweep-owned i n (k .owned) }
+          record {
+            listed = l;
+            running = rw (state-restatus (s .jobs) j t f i) (k .running);
+            owned = sweep-owned i n (k .owned);
+            staying = sweep-staying i n (k .staying);
+          }
 
 -- ---- a change of the units that keeps what is held
 
@@ -141,7 +151,7 @@ module _ (s : State) (I : Inv s) (units : List (List UnitState))
         channels = I .channels;
         single = I .single;
         queued = all-imp (EntryOk s) (EntryOk reunit)
-            (λ e k. record { listed = k .listed; running = k .running; owned = owned (placeOf e) (packetIn (s .jobs) (placeOf e) (packetOf e)) (k .owned) }) (s .queue) (I .queued);
+            (λ e k. record { listed = k .listed; running = k .running; owned = owned (placeOf e) (packetIn (s .jobs) (placeOf e) (packetOf e)) (k .owned); staying = staying (packetIn (s .jobs) (placeOf e) (packetOf e)) (k .staying) }) (s .queue) (I .queued);
         motion = λ c i n e. record {
           going = I .motion c i n e .going;
           channel = I .motion c i n e .channel;
@@ -153,6 +163,9 @@ module _ (s : State) (I : Inv s) (units : List (List UnitState))
     where
       owned : (i : ℕ) (q : Packet) → Owned s i q → Owned reunit i q
       owned i q o = (o .0, λ d. rw (holder-at units (s .units) same (q .channel .0) (q .at)) (o .1 d))
+
+      staying : (q : Packet) → Staying s q → Staying reunit q
+      staying q o = rw (holder-at units (s .units) same (q .channel .0) (q .at)) o
 
 pub lock-inv : (s : State) → Inv s → (c : ℕ) (a : Site) (b : Bool) → Inv (lock s c a b)
 lock-inv s I c a b = reunit-inv s I (setLock (s .units) c a b) (lock-holder (s .units) c a b)
@@ -221,7 +234,7 @@ enqueue-inv s I j p n =
       holders = I .holders;
       single = rw (enlisted-is s I j p n) (nodup-snoc eqb (s .queue) (entryOf j p) (I .single) (n .once));
       queued = subst (λ (q : List ℕ). All (EntryOk (enqueue s j p)) q) (sym (enlisted-is s I j p n))
-          (all-imp (EntryOk s) (EntryOk (enqueue s j p)) (λ e x. record { listed = x .listed; running = x .running; owned = x .owned })
+          (all-imp (EntryOk s) (EntryOk (enqueue s j p)) (λ e x. record { listed = x .listed; running = x .running; owned = x .owned; staying = x .staying })
           (s .queue ++ (entryOf j p ∷ []))
           (all-append (EntryOk s) (s .queue) (entryOf j p ∷ []) (I .queued) (rw (entry-place j p (n .small), entry-packet j p (n .small)) (n .ok), tt)));
       motion = λ c i n e. record { going = I .motion c i n e .going; channel = I .motion c i n e .channel; alive = I .motion c i n e .alive; owned = I .motion c i n e .owned };
@@ -244,7 +257,7 @@ remove s I moving len f =
       holders = I .holders;
       single = I .single;
       queued = all-imp (EntryOk s) (EntryOk (record { channels = s .channels; codes = s .codes; units = s .units; moving = moving; jobs = s .jobs; queue = s .queue }))
-          (λ e x. record { listed = x .listed; running = x .running; owned = x .owned }) (s .queue) (I .queued);
+          (λ e x. record { listed = x .listed; running = x .running; owned = x .owned; staying = x .staying }) (s .queue) (I .queued);
       motion = λ c i n e. record { going = f c i n e .going; channel = f c i n e .channel; alive = f c i n e .alive; owned = f c i n e .owned };
     }
 

@@ -15,12 +15,13 @@ use Rattle.packets.proofs.Inv.{EntryOk, Inv, listed-busy, motion-busy, 
 use Rattle.packets.proofs.InvStores.{lock-inv, sweep-inv}
 use Rattle.packets.proofs.Laws.{and-left, and-right, find-holds}
 use Rattle.packets.specs.Picks.{find}
-use Rattle.packets.specs.Rules.{Call, Complete, End, Mark, Start, Submit, Take, accept, aimed, always, answer, assigned, siteOf, isAt, begins, begun, broken, closing, codeFor, completes, cut, ended, failed, finished, isTrouble, locked, over, packet, refusal, returnIfDone, returned, startable, submitted, terminate, unlock}
+use Rattle.packets.specs.Rules.{Call, Complete, End, Mark, Return, Start, Submit, Take, accept, aimed, always, answer, assigned, siteOf, isAt, begins, begun, broken, closing, codeFor, completes, cut, ended, failed, finished, handedBack, isTrouble, locked, over, packet, refusal, returnIfDone, returned, startable, submitted, terminate, unlock}
 use Rattle.packets.proofs.SimSubmit.{eqb-flip, holder-alive}
 use Rattle.packets.specs.State.{State, anyMoves, close, isBusy, isClosing, isEmpty, isUnit, lock, motionOn, packetIn, packetOf, placeOf, put, restatus, restatusAll, stateIn, store, sweep, withStatus}
 use Rattle.packets.proofs.Steps.{Ready, busy-of, find-some, over-fits, over-inside, ready-fits, ready-inside, ready-sweep, start-fits, startable-on, stored-at}
 use Rattle.packets.proofs.Store.{alive-in, packet-fresh, packet-put, packet-restatus, packet-state, sizeIn}
-use Rattle.packets.proofs.Told.{Submits, assigns-to, completes-on, cut-going, cut-idle, ends-of, failed-going, failed-idle, starts-on, submits}
+use Rattle.packets.proofs.Told.{Submits, assigns-to, completes-on, cut-going, cut-idle, ends-of, failed-going, failed-idle, returns-of, starts-on, submits}
+use Rattle.packets.proofs.Handing.{returns-inside, unitSite}
 use Rattle.packets.specs.declared.Answer.the-variants.{Refused}
 use Rattle.packets.specs.declared.How.{How}
 use Rattle.packets.specs.declared.JobState.the-variants.{Empty}
@@ -193,6 +194,8 @@ accept-seen h s I H t k (End j e) r =
     λ n. seen-calm h s (ended s j e) (t n) n
     (calm-trans h s s₁ (ended s j e) n (calm-sweep h s j always cut inside refl cut-idle n)
     (calm-trans h s₁ s₂ (ended s j e) n (calm-same h s₁ s₂ n (packet-state (restatusAll (s .jobs) j always cut) j (closing e) (h .place) n)) (calm-return h s₂ j n))) (k n)
+accept-seen h s I H t k (Return j c u) r =
+    λ n. seen-calm h s (handedBack s j c (unitSite u)) (t n) n (calm-sweep h s j (isAt c (unitSite u)) cut (returns-inside s I j c u (returns-of s j c u r)) refl cut-idle n) (k n)
 accept-seen h s I H t k (Mark c u m on) r = k
 
 -- what is seen from outside to act on the holding does
@@ -215,6 +218,7 @@ acts-same h s I t k (Complete c how) = go (motionOn s c) refl
         rw (d, x) (k p .1 (motion-busy (packetIn (s .jobs) (h .place) p .status) (rw x at (I .motion c j p e .going)))))
         (λ d. rw d)
 acts-same h s I t k (End j e) = refl
+acts-same h s I t k (Return j c u) = refl
 acts-same h s I t k (Mark c u m on) = refl
 
 pub acts-refused : (h : Holding) (t : Seen) (x : Call) (n : Refusal) → acts h t x (Refused n) ≡ false
@@ -224,6 +228,7 @@ acts-refused h t (Submit j p f c w) n = refl
 acts-refused h t (Start c) n = refl
 acts-refused h t (Complete c how) n = refl
 acts-refused h t (End j e) n = refl
+acts-refused h t (Return j c u) n = refl
 acts-refused h t (Mark c u m on) n = refl
 
 pub noted-refused : (h : Holding) (t : Seen) (x : Call) (n : Refusal) → noted h t x (Refused n) ≡ t
@@ -233,4 +238,5 @@ noted-refused h t (Submit j p f c w) n = refl
 noted-refused h t (Start c) n = refl
 noted-refused h t (Complete c how) n = refl
 noted-refused h t (End j e) n = refl
+noted-refused h t (Return j c u) n = refl
 noted-refused h t (Mark c u m on) n = refl

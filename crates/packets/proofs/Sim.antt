@@ -9,14 +9,14 @@ use lib.Dec.{eqb}
 use borrow.Author.Tests.{eqb-true}
 use Rattle.units.specs.declared.Unit.{Unit as UnitState}
 use Rattle.numbers.proofs.Tests.{by-bool, never}
-use Rattle.units.specs.State.{unitIn}
+use Rattle.units.specs.State.{isReturning, unitIn}
 use Rattle.packets.specs.Demand.{Holding, there}
 use Rattle.packets.proofs.Inv.{Elsewhere, EntryOk, Inv, kept-still, listed-busy, motion-busy}
 use Rattle.packets.proofs.InvStores.{put-elsewhere, restatus-elsewhere}
 use Rattle.packets.specs.Picks.{All, keep}
 use Rattle.packets.proofs.Laws.{all-imp, all-keep, and-both, and-left, and-right, eqb-self, keep-all, settle-eq}
 use Rattle.packets.specs.Lone.{Lone, Request, settle, still, stores, waits, write, inUse}
-use Rattle.packets.specs.State.{State, isBusy, isKept, isListed, motionOn, packetIn, packetOf, packetsIn, placeOf, put, relist, restatus, restatusAll, store, sweep, isRunning, stateIn}
+use Rattle.packets.specs.State.{State, heldBy, isBusy, isKept, isListed, motionOn, packetIn, packetOf, packetsIn, placeOf, put, relist, restatus, restatusAll, store, sweep, isRunning, stateIn}
 use Rattle.packets.proofs.Store.{packet-put, packet-restatus, sizeIn, state-put, state-restatus}
 use Rattle.packets.specs.declared.Job.{Job}
 use Rattle.packets.specs.declared.Motion.{Motion}
@@ -43,6 +43,14 @@ movingThere h jobs (Busy j p) = cond (eqb j (h .place) && there h (packetIn jobs
 abbrev pub lockThere : Holding → List (List UnitState) → Bool
 lockThere h units = cond (h .drum) false (unitIn units (h .channel) (h .unit) .interlock)
 
+-- the unit is being returned
+abbrev pub returnThere : Holding → List (List UnitState) → Bool
+returnThere h units = cond (h .drum) false (isReturning (unitIn units (h .channel) (h .unit) .holder))
+
+-- it is a piece of drum, or the unit is still the job's
+abbrev pub isIts : Holding → List (List UnitState) → Bool
+isIts h units = cond (h .drum) true (heldBy (unitIn units (h .channel) (h .unit) .holder) (h .place))
+
 pub record Sim (h : Holding) (s : State) (l : Lone) : Type 0 where
   pub order : l .order ≡ map num (keep (on h (s .jobs)) (s .queue))
   pub table : (n : ℕ) → there h (packetIn (s .jobs) (h .place) n) ≡ true → l .packets n ≡ look (packetIn (s .jobs) (h .place) n)
@@ -51,6 +59,8 @@ pub record Sim (h : Holding) (s : State) (l : Lone) : Type 0 where
   -- what the lone unit has listed, in progress or stopping was last submitted there
   pub here : (n : ℕ) → inUse (l .packets n .status) ≡ true → there h (packetIn (s .jobs) (h .place) n) ≡ true
   pub over : l .jobOver ≡ not (isRunning (stateIn (s .jobs) (h .place)))
+  -- as long as the unit is the job's
+  pub asked : isIts h (s .units) ≡ true → l .returning ≡ returnThere h (s .units)
 
 pub use-busy : (t : Status) → inUse t ≡ isBusy t
 use-busy Blank = refl
@@ -126,6 +136,7 @@ module _ (h : Holding) (s : State) (I : Inv s) (l : Lone) (S : Sim h s l) where
           lock = S .lock;
           here = here;
           over = rw states (S .over);
+          asked = S .asked;
         }
       where
         same : (e : ℕ) → EntryOk s e → on h jobs e ≡ on h (s .jobs) e
@@ -150,6 +161,7 @@ module _ (h : Holding) (s : State) (I : Inv s) (l : Lone) (S : Sim h s l) where
           lock = S .lock;
           here = here;
           over = rw states (S .over);
+          asked = S .asked;
         }
       where
         here : (n : ℕ) → inUse (l .packets n .status) ≡ true → there h (packetIn jobs (h .place) n) ≡ true

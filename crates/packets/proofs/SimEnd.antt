@@ -14,19 +14,20 @@ use Rattle.channels.specs.Channels.{setsInterlock}
 use Rattle.packets.specs.Demand.{Holding, Holds, isThere, itsUnit, there}
 use Rattle.packets.proofs.Inv.{Inv, OwnedAt, running-alive}
 use Rattle.packets.proofs.InvJobs.{held-once, held-taken, take-held}
-use Rattle.packets.proofs.InvStores.{idle-inv, sweep-inv}
+use Rattle.packets.proofs.InvStores.{idle-inv, mark-holder, sweep-inv}
 use Rattle.packets.proofs.Laws.{and-left, and-right, eqb-self, neither}
 use Rattle.packets.proofs.LoneLaws.{in-section}
 use Rattle.packets.specs.Lone.{Lone, become, carries, completesAs, ends, endsWith, fails, halts, isIn, locks, stops, Request, closes, loneDoes, loneTakes, mayComplete, mayEnd}
-use Rattle.packets.specs.Rules.{Complete, End, always, assigned, isAt, broken, closing, codeFor, cut, ended, failed, finished, isTrouble, marked, over, returnIfDone, isWrong}
+use Rattle.packets.specs.Rules.{Complete, End, always, assigned, isAt, broken, closing, codeFor, completed, cut, ended, failed, finished, isTrouble, marked, over, returnIfDone, isWrong}
 use Rattle.packets.proofs.Sim.{Sim, lockThere, movingThere, sim-store, sim-store-away, sim-sweep, sim-sweep-away}
-use Rattle.packets.proofs.SimRest.{sim-move, sim-move-away, sim-same, sim-units, sim-units-away, sim-same-but}
+use Rattle.packets.proofs.SimRest.{sim-move, sim-move-away, sim-same, sim-units, sim-units-away, sim-same-but, stays-held, stays-locked}
+use Rattle.packets.proofs.SimReturn.{sim-back}
 use Rattle.packets.proofs.SimStart.{sim-return}
 use Rattle.packets.proofs.SimSubmit.{cut-stops, ends-use, fail-table, holder-alive, stops-use}
 use Rattle.packets.proofs.There.{is-there, lock-away, lock-here, there-channel, there-kind, there-unit, unit-held}
 use Rattle.packets.specs.State.{State, close, heldBy, isEmpty, isRunning, isStopping, isUnit, motionOn, move, packetIn, same, setLock, setState, stateIn, sweep, takeAll, unitAt, wanted, withStatus}
 use Rattle.packets.proofs.Sites.{mark-lock, same-is}
-use Rattle.packets.proofs.Steps.{ending-inv, finished-inv, over-fits, over-inside, over-inv}
+use Rattle.packets.proofs.Steps.{ending-inv, finished-inv, return-inv, over-fits, over-inside, over-inv}
 use Rattle.packets.proofs.Store.{alive-in, length-restatus, packet-fresh, packet-state, state-fresh, state-restatus, state-state, unit-keep}
 use Rattle.packets.proofs.Told.{cut-going, failed-going}
 use Rattle.packets.specs.declared.Assignment.{Assignment}
@@ -64,6 +65,13 @@ module _ (h : Holding) (s : State) (I : Inv s) (H : Holds s h) (l : Lone) (S : S
   its-channel : packetIn (s .jobs) j p .channel .0 ≡ c
   its-channel = I .motion c j p is .channel
 
+  -- from the packet that has ended to all that returns then
+  gives-back : (how : How) (l′ : Lone) → Sim h (finished s c how j p) l′ → Sim h (completed s c how (Busy j p)) l′
+  gives-back how l′ S′ =
+      let I₁ = finished-inv s I c small j p is how in
+      sim-back h (returnIfDone j (finished s c how j p)) (return-inv (finished s c how j p) I₁ j) l′
+      (sim-return h (finished s c how j p) I₁ l′ S′ j) c (packetIn (s .jobs) j p .at)
+
   module _ (at-j : h .place ≡ j) (t : there h (packetIn (s .jobs) j p) ≡ true) where
     channel-at : h .channel ≡ c
     channel-at = sym (there-channel h (packetIn (s .jobs) j p .channel .0) (packetIn (s .jobs) j p .at) t) ∙ its-channel
@@ -91,7 +99,7 @@ module _ (h : Holding) (s : State) (I : Inv s) (H : Holds s h) (l : Lone) (S : S
         sim-sweep h s₁ I₁ (ends l p k) (sim-over k) j (isAt c a) failed inside refl at-j (λ m. become (ends l p k .packets m) (endsWith 0o01 (ends l p k .packets m .status)))
         (fail-table h s₁ (ends l p k) (sim-over k) c a d (sym channel-at) u) (λ m. ends-use 0o01 (ends l p k .packets m .status)) in
         sim-units h (sweep s₁ j (isAt c a) failed) (sweep-inv s₁ I₁ j (isAt c a) failed inside refl failed-going) (fails (ends l p k)) S₂
-        (setLock (s .units) c a true) true
+        (setLock (s .units) c a true) true (stays-locked h (s .units) c a true)
         (ap (λ (x : Site). lockThere h (setLock (s .units) c x true)) u ∙ lock-here h s H c true d channel-at)
 
     sim-finished : (how : How) → Sim h (finished s c how j p) (completesAs (s .codes) (h .drum) l how (some p))
@@ -107,17 +115,17 @@ module _ (h : Holding) (s : State) (I : Inv s) (H : Holds s h) (l : Lone) (S : S
         (λ b. rw b (sim-over k)))
 
     -- the lone unit takes it: the packet moves there, and may end so
-    pub takes-complete : (how : How) → isWrong (packetIn (s .jobs) j p .status) how ≡ false → loneTakes l (Complete c how) ≡ true
+    pub takes-complete : (how : How) → isWrong (packetIn (s .jobs) j p .status) how ≡ false → loneTakes (h .drum) l (Complete c how) ≡ true
     unfolding loneTakes
     takes-complete how right =
         let e : l .packets p .status ≡ packetIn (s .jobs) j p .status = ap (λ (r : Request). r .status) (S .table p (rw at-j t)) ∙ rw at-j in
         ap (mayComplete l how) moving-is ∙ ap (λ (x : Status). mayEnd x how) e ∙ may-end (packetIn (s .jobs) j p .status) how right
 
-    pub sim-complete : (how : How) → Sim h (returnIfDone j (finished s c how j p)) (loneDoes (s .codes) (h .drum) l (Complete c how))
+    pub sim-complete : (how : How) → Sim h (completed s c how (Busy j p)) (loneDoes (s .codes) (h .drum) l (Complete c how))
     unfolding loneDoes
     sim-complete how =
-        subst (λ (x : Option ℕ). Sim h (returnIfDone j (finished s c how j p)) (completesAs (s .codes) (h .drum) l how x)) (sym moving-is)
-        (sim-return h (finished s c how j p) (finished-inv s I c small j p is how) (completesAs (s .codes) (h .drum) l how (some p)) (sim-finished how) j)
+        subst (λ (x : Option ℕ). Sim h (completed s c how (Busy j p)) (completesAs (s .codes) (h .drum) l how x)) (sym moving-is)
+        (gives-back how (completesAs (s .codes) (h .drum) l how (some p)) (sim-finished how))
 
   module _ (away : eqb (h .place) j && there h (packetIn (s .jobs) j p) ≡ false) where
     none-here : (h .place ≡ j → there h (packetIn (s .jobs) j p) ≡ false)
@@ -143,7 +151,7 @@ module _ (h : Holding) (s : State) (I : Inv s) (H : Holds s h) (l : Lone) (S : S
         let inside = over-inside s I c small j p is k in
         sim-units-away h (sweep s₁ j (isAt c a) failed) (sweep-inv s₁ I₁ j (isAt c a) failed inside refl failed-going) l
         (sim-sweep-away h s₁ I₁ l (sim-over-away k) j (isAt c a) failed inside refl miss)
-        (setLock (s .units) c a true) (lock-away h (s .units) c a true (held-taken (unitAt (s .units) c a .holder) j theirs) other)
+        (setLock (s .units) c a true) (stays-locked h (s .units) c a true) (lock-away h (s .units) c a true (held-taken (unitAt (s .units) c a .holder) j theirs) other)
       where
         theirs : heldBy (unitAt (s .units) c (packetIn (s .jobs) j p .at) .holder) j ≡ true
         theirs = let o : OwnedAt s j c (packetIn (s .jobs) j p .at) = rw its-channel at (I .motion c j p is .owned) in o .1 nd
@@ -164,13 +172,12 @@ module _ (h : Holding) (s : State) (I : Inv s) (H : Holds s h) (l : Lone) (S : S
             never {b = there h (packetIn (s .jobs) j p)} (rw its-channel y′) (none-here e))
             (λ z. z)
 
-    pub sim-complete-away : (how : How) → Sim h (returnIfDone j (finished s c how j p)) l
+    pub sim-complete-away : (how : How) → Sim h (completed s c how (Busy j p)) l
     sim-complete-away how =
-        sim-return h (finished s c how j p) (finished-inv s I c small j p is how) l
+        gives-back how l
         (by-bool (isTrouble (s .codes) how && isUnit (packetIn (s .jobs) j p .at))
         (λ e. rw e (sim-broken-away (codeFor how) (and-right (isTrouble (s .codes) how) _ e)))
         (λ e. rw e (sim-over-away (codeFor how))))
-        j
 
 -- ---- a job's end
 
@@ -194,7 +201,7 @@ module _ (h : Holding) (s : State) (I : Inv s) (l : Lone) (S : Sim h s l) (j : �
   sim-closes : h .place ≡ j → (l′ : Lone) → Sim h swept l′ → Sim h (close swept j (closing err)) (closes l′)
   sim-closes at-j l′ S′ =
       let e : stateIn (setState (swept .jobs) j (closing err)) (h .place) ≡ closing err = states (h .place) ∙ rw (at-j, eqb-self j) in
-      sim-same-but h swept swept-inv l′ S′ (s .units) (setState (swept .jobs) j (closing err)) refl
+      sim-same-but h swept swept-inv l′ S′ (s .units) (setState (swept .jobs) j (closing err)) (λ t. (t, refl)) refl
       (packet-state (swept .jobs) j (closing err) (h .place)) true
       (sym (ap (λ (t : JobState). not (isRunning t)) e ∙ over-closing err))
     where
@@ -202,7 +209,7 @@ module _ (h : Holding) (s : State) (I : Inv s) (l : Lone) (S : Sim h s l) (j : �
       over-closing true = refl
       over-closing false = refl
 
-  pub takes-end : h .place ≡ j → loneTakes l (End j err) ≡ true
+  pub takes-end : h .place ≡ j → loneTakes (h .drum) l (End j err) ≡ true
   unfolding loneTakes
   takes-end at-j =
       let x : isRunning (stateIn (s .jobs) (h .place)) ≡ true = rw at-j r in
@@ -223,7 +230,7 @@ module _ (h : Holding) (s : State) (I : Inv s) (l : Lone) (S : Sim h s l) (j : �
       sim-return h (close swept j (closing err)) (ending-inv s I j err r) l
       (sim-same h swept swept-inv l
       (sim-sweep-away h s I l S j always cut its-place refl (λ n e y. absurd (eqb-false (h .place) j away e)))
-      (s .units) (setState (swept .jobs) j (closing err)) refl
+      (s .units) (setState (swept .jobs) j (closing err)) (λ t. (t, refl)) refl
       (packet-state (swept .jobs) j (closing err) (h .place))
       (ap isRunning (states (h .place) ∙ same ∙ sym (state-restatus (s .jobs) j always cut (h .place)))))
       j
@@ -237,6 +244,7 @@ pub sim-assign-away : (h : Holding) (s : State) (I : Inv s) → Holds s h → (l
     → (asg : Assignment) → Sim h (assigned s j asg) l
 sim-assign-away h s I H l S j small empty asg =
     sim-same h s I l S (takeAll (s .units) j (wanted asg)) (assigned s j asg .jobs)
+    (stays-held h (takeAll (s .units) j (wanted asg)) (s .units) (λ d. rw (take-held s I j small empty asg (h .channel) (h .unit) (h .place) (unit-held h s H d))))
     (by-bool (h .drum) (λ d. rw d) (λ d. rw (d, take-held s I j small empty asg (h .channel) (h .unit) (h .place) (unit-held h s H d))))
     (λ n. rw (packet-fresh (s .jobs) j asg (h .place) (rw (I .places) small) n, other))
     (rw (state-fresh (s .jobs) j asg (h .place) (rw (I .places) small), other))
@@ -247,5 +255,7 @@ sim-assign-away h s I H l S j small empty asg =
 pub sim-mark : (h : Holding) (s : State) → Inv s → (l : Lone) → Sim h s l → (c u : ℕ) (m : UnitMark) (on : Bool) → Sim h (marked s c u m on) l
 sim-mark h s I l S c u m on =
     sim-units-away h s I l S (unitSet (s .units) c u (markedUnit m on (unitIn (s .units) c u)))
+    (stays-held h (unitSet (s .units) c u (markedUnit m on (unitIn (s .units) c u))) (s .units)
+    (λ d. unit-keep (λ (v : UnitState). v .holder) (s .units) c u (markedUnit m on (unitIn (s .units) c u)) (h .channel) (h .unit) (mark-holder m on (unitIn (s .units) c u))))
     (by-bool (h .drum) (λ e. rw e)
     (λ e. rw (e, unit-keep (λ (v : UnitState). v .interlock) (s .units) c u (markedUnit m on (unitIn (s .units) c u)) (h .channel) (h .unit) (mark-lock m on (unitIn (s .units) c u)))))

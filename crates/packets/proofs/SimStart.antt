@@ -6,7 +6,8 @@ use mathlib.Core.List.{List, _∷_, map}
 use mathlib.Core.Option.{Option, none, some}
 use lib.Dec.{eqb}
 use borrow.Author.Tests.{eqb-true, eq-eqb, not-true}
-use Rattle.numbers.proofs.Tests.{by-bool}
+use Rattle.numbers.proofs.Tests.{by-bool, never}
+use Rattle.units.specs.State.{unitIn}
 use Rattle.packets.specs.Demand.{Holding, Holds, isThere, startIn, there}
 use Rattle.packets.proofs.Inv.{EntryOk, Inv}
 use Rattle.packets.proofs.InvStores.{idle-is}
@@ -15,9 +16,9 @@ use Rattle.packets.specs.Lone.{Lone, become, carries, setsOff, startOf, 
 use Rattle.packets.specs.Picks.{find, keep}
 use Rattle.packets.specs.Rules.{Start, answer, begun, returnIfDone, startable}
 use Rattle.packets.proofs.Sim.{Sim, lockThere, movingThere, num, on, sim-store, sim-store-away}
-use Rattle.packets.proofs.SimRest.{sim-move, sim-move-away, sim-same}
+use Rattle.packets.proofs.SimRest.{Stays, sim-move, sim-move-away, sim-same, stays-free, stays-held}
 use Rattle.packets.proofs.There.{lock-is, there-channel}
-use Rattle.packets.specs.State.{State, anyMoves, isClosing, isIdle, isRunning, motionOn, packetIn, packetOf, placeOf, put, releaseAll, setState, stateIn, store, unitAt, withStatus}
+use Rattle.packets.specs.State.{State, anyMoves, heldBy, isClosing, isIdle, isRunning, motionOn, packetIn, packetOf, placeOf, put, release, releaseAll, setState, stateIn, store, unitAt, withStatus}
 use Rattle.packets.proofs.Steps.{closing-not-running, start-at, start-fits, start-store, startable-on}
 use Rattle.packets.proofs.Store.{alive-in, packet-state, state-state, unit-release}
 use Rattle.packets.specs.declared.Job.{Job}
@@ -30,11 +31,19 @@ use Rattle.packets.specs.declared.Status.the-variants.{InProgress}
 pub sim-return : (h : Holding) (s : State) → Inv s → (l : Lone) → Sim h s l → (j : ℕ) → Sim h (returnIfDone j s) l
 sim-return h s I l S j =
     by-bool (isClosing (stateIn (s .jobs) j) && not (anyMoves j (s .moving)))
-    (λ e. rw e (sim-same h s I l S (releaseAll (s .units) j) (setState (s .jobs) j Empty)
+    (λ e. rw e (sim-same h s I l S (releaseAll (s .units) j) (setState (s .jobs) j Empty) released
     (by-bool (h .drum) (λ d. rw d) (λ d. rw (d, unit-release (s .units) j (h .channel) (h .unit))))
     (packet-state (s .jobs) j Empty (h .place)) (still-over (and-left (isClosing (stateIn (s .jobs) j)) _ e))))
     (λ e. rw e S)
   where
+    released : Stays h (releaseAll (s .units) j) (s .units)
+    released =
+        let e : unitIn (releaseAll (s .units) j) (h .channel) (h .unit) ≡ release j (unitIn (s .units) (h .channel) (h .unit)) = unit-release (s .units) j (h .channel) (h .unit) in
+        by-bool (h .drum) (λ d. stays-held h (releaseAll (s .units) j) (s .units) (λ n. never {b = h .drum} d n))
+        (λ d. by-bool (heldBy (unitIn (s .units) (h .channel) (h .unit) .holder) j)
+        (λ t. stays-free h (releaseAll (s .units) j) (s .units) d (rw (e, t)))
+        (λ t. stays-held h (releaseAll (s .units) j) (s .units) (λ n. rw (e, t))))
+
     -- a closing job does not run, nor does an empty place
     still-over : isClosing (stateIn (s .jobs) j) ≡ true → isRunning (stateIn (setState (s .jobs) j Empty) (h .place)) ≡ isRunning (stateIn (s .jobs) (h .place))
     still-over c =
@@ -86,7 +95,7 @@ module _ (h : Holding) (s : State) (I : Inv s) (H : Holds s h) (l : Lone) (S : S
 
     -- the lone unit takes it: its job runs, nothing is in progress or stopping, no interlock is set, and something
     -- is listed
-    pub takes-start : loneTakes l (Start c) ≡ true
+    pub takes-start : loneTakes (h .drum) l (Start c) ≡ true
     unfolding loneTakes
     takes-start =
         let x : isRunning (stateIn (s .jobs) (h .place)) ≡ true = rw (← at-e) (entry-ok .running) in
@@ -99,7 +108,7 @@ module _ (h : Holding) (s : State) (I : Inv s) (H : Holds s h) (l : Lone) (S : S
       where
         takes : Bool → Option ℕ → Bool → List ℕ → Bool
         takes over moving interlock order =
-            loneTakes (record { packets = l .packets; order = order; moving = moving; interlock = interlock; jobOver = over }) (Start c)
+            loneTakes (h .drum) (record { packets = l .packets; order = order; moving = moving; interlock = interlock; jobOver = over; returning = l .returning }) (Start c)
 
     lone-start : loneDoes (s .codes) (h .drum) l (Start c) ≡ carries (stores l (packetOf e) (become (l .packets (packetOf e)) InProgress)) (some (packetOf e))
     unfolding loneDoes

@@ -14,9 +14,9 @@ use Rattle.packets.proofs.Laws.{and-both, and-left, and-right, bool-iff
 use Rattle.packets.specs.Lone.{Lone, become, endsWith, fails, halts, hears, lists, locks, meant, request, stops, stores, unlocks, inUse}
 use Rattle.packets.specs.Rules.{aimed, cut, enlist, failed, isAt, locked, packet, pass, siteOf, submitted, terminate, unlock}
 use Rattle.packets.proofs.Sim.{Sim, here-busy, lockThere, look, on, sim-store, sim-store-away, sim-sweep, sim-sweep-away}
-use Rattle.packets.proofs.SimRest.{sim-enqueue, sim-enqueue-away, sim-units, sim-units-away}
+use Rattle.packets.proofs.SimRest.{sim-enqueue, sim-enqueue-away, sim-units, sim-units-away, stays-locked}
 use Rattle.packets.specs.State.{State, entryOf, heldBy, isBusy, isEmpty, isRunning, jobIn, lock, packetIn, put, restatus, same, setLock, stateIn, store, sweep, unitAt}
-use Rattle.packets.proofs.There.{covers-meant, covers-there, goes-to, is-there, lock-away, lock-here, lock-is, there-channel, there-kind, there-unit, unit-held}
+use Rattle.packets.proofs.There.{covers-meant, covers-there, goes-to, is-there, its-own, lock-away, lock-here, lock-is, return-is, there-channel, there-kind, there-unit, unit-held}
 use Rattle.packets.proofs.Steps.{Ready, listed-new, ready-fits, ready-inside, ready-store, ready-sweep, stored-at}
 use Rattle.packets.proofs.Sites.{locked-unit, same-eq, same-is}
 use Rattle.packets.proofs.Told.{Submits, cut-going, cut-idle, failed-going, failed-idle, owns-unit}
@@ -115,7 +115,7 @@ module _ (h : Holding) (s : State) (I : Inv s) (H : Holds s h) (l : Lone) (S : S
         let r₁ : Ready s₁ j p = ready-sweep s j p (isAt c a) failed refl failed-idle ready in
         let S₁ : Sim h s₁ (fails l) = sim-sweep h s I l S j (isAt c a) failed inside refl at-j (λ m. become (l .packets m) (endsWith 0o01 (l .packets m .status))) (fail-table h s l S c a (drum-off d) (there-channel h c a t) (there-unit h c a (drum-off d) t)) (λ m. ends-use 0o01 (l .packets m .status)) in
         store-here (lock s₁ c a false) (lock-inv s₁ I₁ c a false) (locks (fails l) false)
-        (sim-units h s₁ I₁ (fails l) S₁ (setLock (s .units) c a false) false
+        (sim-units h s₁ I₁ (fails l) S₁ (setLock (s .units) c a false) false (stays-locked h (s .units) c a false)
         (ap (λ (x : Site). lockThere h (setLock (s .units) c x false)) (there-unit h c a (drum-off d) t)
         ∙ lock-here h s H c false (drum-off d) (sym (there-channel h c a t))))
         (record { small = r₁ .small; running = r₁ .running; idle = r₁ .idle }) at-j t (Ended 0o00)
@@ -159,14 +159,15 @@ module _ (h : Holding) (s : State) (I : Inv s) (H : Holds s h) (l : Lone) (S : S
     sim-seven true d = sim-unlock d
     sim-seven false d = store-here s I l S ready at-j t (Ended 0o00)
 
-    -- the lone unit takes it: its job runs, and the packet is not in use
-    pub takes-submit : not (l .jobOver) && not (inUse (l .packets p .status)) ≡ true
+    -- the lone unit takes it: its job runs, it is not being returned, and the packet is not in use
+    pub takes-submit : not (l .jobOver) && (not (l .returning) && not (inUse (l .packets p .status))) ≡ true
     takes-submit =
         let x : isRunning (stateIn (s .jobs) (h .place)) ≡ true = rw at-j (k .running) in
         let y : l .jobOver ≡ false = S .over ∙ rw x in
         let z : inUse (l .packets p .status) ≡ false =
         by-bool (inUse (l .packets p .status)) (λ u. never {b = (isBusy (packetIn (s .jobs) j p .status))} (rw at-j at (here-busy h s l S p u)) (k .idle)) (λ u. u) in
-        and-both _ _ (ap not y) (ap not z)
+        let v : l .returning ≡ false = S .asked (its-own h s H) ∙ sym (return-is h (s .units) c a t) ∙ k .staying in
+        and-both _ _ (ap not y) (and-both _ _ (ap not v) (ap not z))
 
     pub sim-submit : Sim h (submitted s j p f c w) (hears l p f w)
     sim-submit =
@@ -187,7 +188,7 @@ module _ (h : Holding) (s : State) (I : Inv s) (H : Holds s h) (l : Lone) (S : S
         let r₁ : Ready s₁ j p = ready-sweep s j p (isAt c a) failed refl failed-idle ready in
         let S₁ : Sim h s₁ l = sim-sweep-away h s I l S j (isAt c a) failed inside refl miss in
         store-gone (lock s₁ c a false) (lock-inv s₁ I₁ c a false)
-        (sim-units-away h s₁ I₁ l S₁ (setLock (s .units) c a false) (lock-away h (s .units) c a false (held-taken (unitAt (s .units) c a .holder) j theirs) other))
+        (sim-units-away h s₁ I₁ l S₁ (setLock (s .units) c a false) (stays-locked h (s .units) c a false) (lock-away h (s .units) c a false (held-taken (unitAt (s .units) c a .holder) j theirs) other))
         (record { small = r₁ .small; running = r₁ .running; idle = r₁ .idle }) away (Ended 0o00)
       where
         theirs : heldBy (unitAt (s .units) c a .holder) j ≡ true

@@ -13,15 +13,16 @@ use Rattle.numbers.proofs.Tests.{by-bool, never}
 use Rattle.channels.specs.declared.Channel.{Channel}
 use Rattle.packets.specs.Demand.{emptyPlace, fresh}
 use Rattle.packets.proofs.Inv.{EntryOk, Inv, running-alive}
-use Rattle.packets.specs.State.{inMotion, isPacket, State, blank, enqueue, entryOf, isIdle, isListed, isUnit, lock, motionOn, move, noJob, packetIn, packetOf, placeOf, releaseAll, setLock, stateIn, store, sweep, withStatus}
+use Rattle.packets.specs.State.{freedAt, inMotion, isPacket, State, blank, enqueue, entryOf, isIdle, isListed, isUnit, lock, motionOn, move, noJob, packetIn, packetOf, placeOf, releaseAll, setLock, stateIn, store, sweep, withStatus}
 use Rattle.packets.proofs.InvStores.{New, enlisted-is, idle-is, lock-inv, motion-move, sweep-inv}
 use Rattle.packets.proofs.Laws.{eqb-self, find-holds, getD-replicate-const}
 use Rattle.packets.specs.Picks.{any, find}
-use Rattle.packets.specs.Rules.{Call, Complete, End, Mark, Start, Submit, Take, accept, aimed, always, siteOf, isAt, begun, closed, closing, codeFor, cut, decided, enlist, failed, finished, isDone, isTrouble, locked, marked, over, packet, refusal, returnIfDone, run, startable, step, submitted}
+use Rattle.packets.specs.Rules.{Call, Complete, End, Mark, Return, Start, Submit, Take, accept, aimed, always, siteOf, isAt, begun, closed, closing, codeFor, cut, decided, enlist, failed, finished, handedBack, isDone, isTrouble, locked, marked, over, packet, refusal, returnIfDone, run, startable, step, submitted}
 use Rattle.packets.proofs.Sound.{Sound, assigned-sound, enqueue-sound, move-sound, noPacket, sound-but, sound-whole, state-sound, store-sound, sweep-sound, units-sound}
 use Rattle.packets.proofs.Steps.{Ready, busy-of, find-some, listed-new, over-fits, over-inside, ready-fits, ready-inside, ready-store, ready-sweep, start-at, start-fits, startable-on, step-inv, stored-at}
 use Rattle.packets.proofs.Store.{alive-in, packet-put, sizeIn}
-use Rattle.packets.proofs.Told.{Submits, assigns-to, completes-on, cut-going, cut-idle, cut-unlisted, ends-of, failed-going, failed-idle, starts-on, submits}
+use Rattle.packets.proofs.Told.{Submits, assigns-to, completes-on, cut-going, cut-idle, cut-unlisted, ends-of, failed-going, failed-idle, returns-of, starts-on, submits}
+use Rattle.packets.proofs.Handing.{returns-inside, unitSite}
 use Rattle.packets.specs.declared.How.{How}
 use Rattle.packets.specs.declared.Job.{Job}
 use Rattle.packets.specs.declared.JobState.the-variants.{Empty}
@@ -171,10 +172,14 @@ accept-sound s I S (Start c) r =
 accept-sound s I S (Complete c how) r =
     let k = completes-on s c how r in
     let o = busy-of (motionOn s c) (k .1) in
-    rw (o .2) (return-sound (finished s c how (o .0) (o .1)) (finished-sound s I S c (k .0) (o .0) (o .1) (o .2) how) (o .0))
+    let s₁ = returnIfDone (o .0) (finished s c how (o .0) (o .1)) in
+    rw (o .2) (units-sound s₁ noPacket (return-sound (finished s c how (o .0) (o .1)) (finished-sound s I S c (k .0) (o .0) (o .1) (o .2) how) (o .0)) (freedAt (s₁ .units) c (packetIn (s .jobs) (o .0) (o .1) .at)))
 accept-sound s I S (End j e) r =
     let h = alive-in (s .jobs) j (running-alive (stateIn (s .jobs) j) (ends-of s j e r)) in
     return-sound (closed s j e) (state-sound (sweep s j always cut) (sweep-sound s S j always cut h refl cut-moved cut-listed) j (closing e) (s .units)) j
+accept-sound s I S (Return j c u) r =
+    units-sound (sweep s j (isAt c (unitSite u)) cut) noPacket
+    (sweep-sound s S j (isAt c (unitSite u)) cut (returns-inside s I j c u (returns-of s j c u r)) refl cut-moved cut-listed) (handedBack s j c (unitSite u) .units)
 accept-sound s I S (Mark c u m on) r = units-sound s noPacket S (marked s c u m on .units)
 
 step-sound : (s : State) → Inv s → Sound s noPacket → (x : Call) → Sound (step s x .state) noPacket

@@ -1,5 +1,5 @@
--- What the calls do to the state of each place: a submission, a start and a completed packet nothing, a job's end
--- lets it close, a return empties the place. Assumes nothing.
+-- What the calls do to the state of each place: a submission, a start, a completed packet and a unit's return nothing,
+-- a job's end lets it close, and the return of all facilities empties the place. Assumes nothing.
 use Prim.Native.Nat.{ℕ, _<_}
 use mathlib.Core.Path.{_≡_, ap, _∙_}
 use mathlib.Core.Bool.{Bool, true, cond, _&&_}
@@ -8,7 +8,7 @@ use lib.ListN.{length}
 use Rattle.numbers.proofs.Tests.{by-bool}
 use Rattle.packets.proofs.Inv.{running-alive}
 use Rattle.packets.proofs.Laws.{and-left}
-use Rattle.packets.specs.Rules.{aimed, always, isAt, begun, closed, closing, codeFor, cut, failed, finished, isDone, isTrouble, locked, over, packet, returned, siteOf, submitted}
+use Rattle.packets.specs.Rules.{aimed, always, isAt, begun, closed, closing, codeFor, cut, failed, finished, handedBack, isDone, isTrouble, locked, over, packet, returned, siteOf, submitted}
 use Rattle.packets.specs.State.{State, isClosing, isRunning, isUnit, packetIn, packetOf, placeOf, put, restatusAll, stateIn, withStatus}
 use Rattle.packets.proofs.Steps.{closing-not-running}
 use Rattle.packets.proofs.Store.{alive-in, length-restatus, state-put, state-restatus, state-state}
@@ -16,6 +16,7 @@ use Rattle.packets.specs.declared.How.{How}
 use Rattle.packets.specs.declared.JobState.{JobState}
 use Rattle.packets.specs.declared.JobState.the-variants.{Empty}
 use Rattle.packets.specs.declared.Packet.{Packet}
+use Rattle.packets.specs.declared.Site.{Site}
 use Rattle.packets.specs.declared.Spot.{Spot}
 use Rattle.packets.specs.declared.Status.the-variants.{Ended, InProgress, Listed}
 
@@ -48,6 +49,9 @@ states-finished s c how j p i =
     by-bool (isTrouble (s .codes) how && isUnit (packetIn (s .jobs) j p .at))
     (λ e. rw e (state-restatus (over s c j p (codeFor how) .jobs) j (isAt c a) failed i ∙ o))
     (λ e. rw e o)
+
+pub states-handed : (s : State) (j c : ℕ) (a : Site) (i : ℕ) → stateIn (handedBack s j c a .jobs) i ≡ stateIn (s .jobs) i
+states-handed s j c a i = state-restatus (s .jobs) j (isAt c a) cut i
 
 -- ---- calls that change the state of one place
 

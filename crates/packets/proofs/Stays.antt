@@ -8,7 +8,7 @@ use lib.Dec.{eqb}
 use Rattle.numbers.proofs.Tests.{by-bool}
 use Rattle.channels.specs.declared.Channel.{Channel}
 use Rattle.packets.specs.Picks.{find}
-use Rattle.packets.specs.Rules.{Call, Complete, End, Mark, Start, Submit, Take, accept, closed, completed, decided, finished, isDone, isTrouble, locked, refusal, returnIfDone, run, siteOf, startable, started, step, submitted}
+use Rattle.packets.specs.Rules.{Call, Complete, End, Mark, Return, Start, Submit, Take, accept, closed, completed, decided, finished, isDone, isTrouble, locked, refusal, returnIfDone, run, siteOf, startable, started, step, submitted}
 use Rattle.packets.specs.State.{State, isUnit, motionOn, packetIn}
 use Rattle.packets.specs.declared.How.{How}
 use Rattle.packets.specs.declared.Motion.{Motion}
@@ -51,6 +51,7 @@ module _ (s : State) where
   accept-has (Start c) = starts-has c (find (startable s c) (s .queue))
   accept-has (Complete c how) = completed-has c how (motionOn s c)
   accept-has (End j e) = returns-has j (closed s j e) refl
+  accept-has (Return j c u) = refl
   accept-has (Mark c u m on) = refl
 
   pub step-has : (x : Call) → has (step s x .state) ≡ has s

@@ -20,9 +20,10 @@ use Rattle.packets.proofs.InvJobs.{NotOf, assigned-inv, close-inv, retu
 use Rattle.packets.proofs.InvStores.{New, busy-inv, enqueue-inv, entry-packet, entry-place, idle-inv, lock-inv, marked-inv, motion-move, store-inv, sweep-inv}
 use Rattle.packets.specs.Picks.{All, find, keep}
 use Rattle.packets.proofs.Laws.{all-imp, all-keep, and-left, and-right, any-none, eqb-self, find-holds, getD-replicate-const}
-use Rattle.packets.specs.Rules.{Call, Complete, End, Mark, Start, Submit, Take, accept, aimed, always, siteOf, isAt, begun, closing, codeFor, cut, decided, failed, finished, isTrouble, isNone, locked, over, packet, refusal, returnIfDone, run, startable, step, submitted}
+use Rattle.packets.specs.Rules.{Call, Complete, End, Mark, Return, Start, Submit, Take, accept, aimed, always, siteOf, isAt, begun, closing, codeFor, cut, decided, failed, finished, isTrouble, isNone, locked, over, packet, refusal, returnIfDone, run, startable, step, submitted}
 use Rattle.packets.proofs.Store.{alive-in, busy-in, packet-put, packet-restatus, sizeIn, state-put, state-restatus}
-use Rattle.packets.proofs.Told.{Submits, assigns-to, completes-on, cut-going, cut-idle, cut-unlisted, ends-of, failed-going, failed-idle, owns-unit, starts-on, submits}
+use Rattle.packets.proofs.Told.{Submits, assigns-to, completes-on, cut-going, cut-idle, cut-unlisted, ends-of, failed-going, failed-idle, owns-unit, returns-of, starts-on, submits}
+use Rattle.packets.proofs.Handing.{back-inv, completed-idle, handed-inv}
 use Rattle.packets.specs.declared.Carrier.{Carrier}
 use Rattle.channels.specs.declared.Channel.{Channel}
 use Rattle.packets.specs.declared.How.{How}
@@ -102,6 +103,7 @@ listed-new s I j p f c w k =
         listed = rw (stored-at s I j p (packet Listed f c (siteOf w)) r);
         running = rw (state-put (s .jobs) j p (packet Listed f c (siteOf w)) j) (k .running);
         owned = rw (stored-at s I j p (packet Listed f c (siteOf w)) r) (k .kind, owns-unit s j p f c w k);
+        staying = rw (stored-at s I j p (packet Listed f c (siteOf w)) r) (k .staying);
       };
       once = all-relist (λ (e : ℕ). eqb (entryOf j p) e ≡ false) j (packetsIn (put (s .jobs) j p (packet Listed f c (siteOf w))) j) (s .queue)
           (all-imp (EntryOk s) (λ (e : ℕ). eqb (entryOf j p) e ≡ false) (not-listed s j p (k .small) (k .idle)) (s .queue) (I .queued));
@@ -262,8 +264,12 @@ accept-inv s I (Start c) r =
 accept-inv s I (Complete c how) r =
     let k = completes-on s c how r in
     let o = busy-of (motionOn s c) (k .1) in
-    rw (o .2) (return-inv (finished s c how (o .0) (o .1)) (finished-inv s I c (k .0) (o .0) (o .1) (o .2) how) (o .0))
+    rw (o .2)
+    (back-inv (returnIfDone (o .0) (finished s c how (o .0) (o .1)))
+    (return-inv (finished s c how (o .0) (o .1)) (finished-inv s I c (k .0) (o .0) (o .1) (o .2) how) (o .0))
+    c (packetIn (s .jobs) (o .0) (o .1) .at) (completed-idle s I c (k .0) how (o .0) (o .1)))
 accept-inv s I (End j e) r = return-inv (close (sweep s j always cut) j (closing e)) (ending-inv s I j e (ends-of s j e r)) j
+accept-inv s I (Return j c u) r = handed-inv s I j c u (returns-of s j c u r)
 accept-inv s I (Mark c u m on) e = marked-inv s I c u m on
 
 pub decided-inv : (s : State) → Inv s → (x : Call) (n : Verdict) → refusal s x ≡ n → Inv (decided s x n .state)

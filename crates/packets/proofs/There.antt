@@ -7,13 +7,13 @@ use lib.Dec.{eqb}
 use borrow.Author.Tests.{eqb-true, not-true}
 use Rattle.units.specs.declared.Unit.{Unit as UnitState}
 use Rattle.numbers.proofs.Tests.{by-bool, never}
-use Rattle.units.specs.State.{isFree, unitIn}
+use Rattle.units.specs.State.{isFree, isReturning, unitIn}
 use Rattle.packets.specs.Demand.{Holding, Holds, isThere, itsUnit}
 use Rattle.packets.proofs.InvJobs.{held-taken}
 use Rattle.packets.proofs.Laws.{and-left, and-right, eqb-self}
 use Rattle.packets.specs.Lone.{goesTo, meant}
 use Rattle.packets.specs.Rules.{covers, siteOf}
-use Rattle.packets.proofs.Sim.{lockThere}
+use Rattle.packets.proofs.Sim.{isIts, lockThere, returnThere}
 use Rattle.packets.proofs.Sites.{same-eq, same-is}
 use Rattle.packets.proofs.Store.{unit-set}
 use Rattle.packets.specs.State.{State, heldBy, isUnit, setLock, unitAt, withLock}
@@ -77,6 +77,21 @@ lock-is h units c a t =
     on-drum : (a : Site) → isUnit a ≡ false → unitAt units c a .interlock ≡ false
     on-drum (AtUnit u) e = never {b = true} refl e
     on-drum (AtAddress x) e = refl
+
+-- whether what is there is being returned
+pub return-is : (h : Holding) (units : List (List UnitState)) (c : ℕ) (a : Site) → isThere h c a ≡ true → isReturning (unitAt units c a .holder) ≡ returnThere h units
+return-is h units c a t =
+    by-bool (h .drum)
+    (λ d. rw d (on-drum a (there-kind h c a t ∙ ap not d)))
+    (λ d. rw (d, there-channel h c a t) (ap (λ (x : Site). isReturning (unitAt units (h .channel) x .holder)) (there-unit h c a d t)))
+  where
+    on-drum : (a : Site) → isUnit a ≡ false → isReturning (unitAt units c a .holder) ≡ false
+    on-drum (AtUnit u) e = never {b = true} refl e
+    on-drum (AtAddress x) e = refl
+
+-- what is held is the job's
+pub its-own : (h : Holding) (s : State) → Holds s h → isIts h (s .units) ≡ true
+its-own h s H = by-bool (h .drum) (λ d. rw d) (λ d. rw d (unit-held h s H d))
 
 -- a lone unit reads where a submission goes as the rules do
 pub goes-to : (w : Spot) → goesTo w ≡ siteOf w

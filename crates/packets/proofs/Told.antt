@@ -4,14 +4,15 @@ use mathlib.Core.Path.{_≡_, refl, sym, ap}
 use mathlib.Core.Bool.{Bool, true, false, not, _&&_}
 use mathlib.Core.List.{List}
 use lib.Dec.{ltb}
-use borrow.Author.Tests.{ltb-true, not-false}
+use borrow.Author.Tests.{ltb-true, not-false, not-true}
 use Rattle.numbers.proofs.Tests.{never}
 use Rattle.numbers.specs.Kinds.{isDrum}
-use Rattle.numbers.specs.declared.Refusal.the-variants.{ChannelBusy, NoJob, NotLegal, NotTheJobs, NothingInProgress, NoPlaceFree, NothingStartable, OutOfRange, PacketInUse, WrongCompletion}
+use Rattle.numbers.specs.declared.Refusal.the-variants.{BeingReturned, ChannelBusy, NoJob, NotLegal, NotTheJobs, NothingInProgress, NoPlaceFree, NothingStartable, OutOfRange, PacketInUse, WrongCompletion}
+use Rattle.units.specs.State.{isReturning, unitIn}
 use Rattle.packets.specs.State.{inMotion, State, configured, drumOn, fittedOn, heldBy, isBusy, isDrumOf, isEmpty, isIdle, isListed, isRunning, jobIn, legalFor, motionOn, movingStatus, packetIn, stateIn, isUnit, unitAt}
 use Rattle.packets.proofs.Laws.{and-left, and-right, passes}
 use Rattle.packets.specs.Picks.{find}
-use Rattle.packets.specs.Rules.{Complete, End, Start, Submit, Take, cut, failed, inRange, isNone, isOwn, isWrong, reaches, refusal, siteOf, startable}
+use Rattle.packets.specs.Rules.{Complete, End, Return, Start, Submit, Take, cut, failed, inRange, isNone, isOwn, isWrong, reaches, refusal, siteOf, startable}
 use Rattle.packets.specs.declared.Assignment.{Assignment}
 use Rattle.channels.specs.declared.Channel.{Channel}
 use Rattle.channels.specs.declared.Fitted.{Fitted}
@@ -38,6 +39,7 @@ pub record Submits (s : State) (j p f c : ℕ) (w : Spot) : Type 0 where
   pub running : isRunning (stateIn (s .jobs) j) ≡ true
   pub kind : isUnit (siteOf w) ≡ not (drumOn (s .channels) c)
   pub owned : owns s j f c w ≡ true
+  pub staying : isReturning (unitAt (s .units) c (siteOf w) .holder) ≡ false
   pub idle : isBusy (packetIn (s .jobs) j p .status) ≡ false
 
 -- only the drum has addresses, and it has no units
@@ -52,15 +54,17 @@ submits s j p f c w e =
     let r₁ = passes (not (inRange (fittedOn (s .channels) c) j p f c w)) OutOfRange _ e in
     let r₂ = passes (not (isRunning (stateIn (s .jobs) j))) NoJob _ (r₁ .1) in
     let r₃ = passes (not (owns s j f c w)) NotTheJobs _ (r₂ .1) in
-    let r₄ = passes (not (legalFor (fittedOn (s .channels) c) f)) NotLegal _ (r₃ .1) in
-    let r₅ = passes (isBusy (packetIn (s .jobs) j p .status)) PacketInUse Granted (r₄ .1) in
+    let r₄ = passes (isReturning (unitAt (s .units) c (siteOf w) .holder)) BeingReturned _ (r₃ .1) in
+    let r₅ = passes (not (legalFor (fittedOn (s .channels) c) f)) NotLegal _ (r₄ .1) in
+    let r₆ = passes (isBusy (packetIn (s .jobs) j p .status)) PacketInUse Granted (r₅ .1) in
     let t₁ = and-right (ltb j 16) _ (not-false (inRange (fittedOn (s .channels) c) j p f c w) (r₁ .0)) in
     record {
       small = ltb-true p 16 (and-left (ltb p 16) _ t₁);
       running = not-false _ (r₂ .0);
       kind = reached (fittedOn (s .channels) c) w (and-right (ltb c 16) _ (and-right (ltb f 64) _ (and-right (ltb p 16) _ t₁)));
       owned = not-false _ (r₃ .0);
-      idle = r₅ .0;
+      staying = r₄ .0;
+      idle = r₆ .0;
     }
 
 -- the unit that is named is the job's
@@ -91,6 +95,31 @@ ends-of s j e r =
     let r₁ = passes (not (ltb j 16)) OutOfRange _ r in
     let r₂ = passes (not (isRunning (stateIn (s .jobs) j))) NoJob Granted (r₁ .1) in
     not-false _ (r₂ .0)
+
+-- the job runs and holds the unit, whose return it has not asked for
+pub record Returns (s : State) (j c u : ℕ) : Type 0 where
+  pub running : isRunning (stateIn (s .jobs) j) ≡ true
+  pub tape : drumOn (s .channels) c ≡ false
+  pub held : heldBy (unitIn (s .units) c u .holder) j ≡ true
+  pub staying : isReturning (unitIn (s .units) c u .holder) ≡ false
+
+pub returns-of : (s : State) (j c u : ℕ) → refusal s (Return j c u) ≡ Granted → Returns s j c u
+unfolding refusal drumOn
+returns-of s j c u e =
+    let w = OnUnit (record { 0 = u }) in
+    let has = fittedOn (s .channels) c in
+    let v = unitIn (s .units) c u in
+    let r₁ = passes (not (ltb j 16 && (ltb c 16 && reaches has w))) OutOfRange _ e in
+    let r₂ = passes (not (isRunning (stateIn (s .jobs) j))) NoJob _ (r₁ .1) in
+    let r₃ = passes (not (heldBy (v .holder) j)) NotTheJobs _ (r₂ .1) in
+    let r₄ = passes (isReturning (v .holder)) BeingReturned Granted (r₃ .1) in
+    let there = and-right (ltb c 16) _ (and-right (ltb j 16) _ (not-false _ (r₁ .0))) in
+    record {
+      running = not-false _ (r₂ .0);
+      tape = not-true _ (sym (reached has w there));
+      held = not-false _ (r₃ .0);
+      staying = r₄ .0;
+    }
 
 pub assigns-to : (s : State) (j : ℕ) (asg : Assignment) → refusal s (Take j asg) ≡ Granted → (j < 16) × (isEmpty (stateIn (s .jobs) j) ≡ true)
 unfolding refusal

@@ -6,7 +6,7 @@ use mathlib.Core.List.{List}
 use lib.Dec.{eqb}
 use Rattle.numbers.specs.declared.UnitNumber.{UnitNumber}
 use Rattle.units.specs.declared.Unit.{Unit as UnitState}
-use Rattle.units.specs.State.{unitIn}
+use Rattle.units.specs.State.{isReturning, unitIn}
 use Rattle.channels.specs.declared.Channel.{Channel}
 use Rattle.packets.specs.Demand.{NoneHeld, fresh}
 use Rattle.packets.specs.State.{
@@ -24,9 +24,10 @@ use Rattle.packets.specs.State.{
   motionOn,
   packetIn,
   stateIn,
+  unitAt,
 }
 use Rattle.packets.specs.Picks.{All, Nodup, any}
-use Rattle.packets.specs.Rules.{Call, run}
+use Rattle.packets.specs.Rules.{Call, isAt, run}
 use Rattle.packets.specs.declared.Motion.the-variants.{Busy}
 use Rattle.packets.specs.declared.Packet.{Packet}
 use Rattle.packets.specs.declared.Site.the-variants.{AtUnit}
@@ -52,10 +53,19 @@ pub record Always (s : State) : Type 0 where
       → heldBy (unitIn (s .units) (packetAt s j p .channel .0) (u .0) .holder) j ≡ true
   -- a job of which a packet is listed, in progress or stopping is still there
   pub live : (j p : ℕ) → isBusy (packetAt s j p .status) ≡ true → isEmpty (stateIn (s .jobs) j) ≡ false
+  -- what is in progress or stopping is at a unit without interlock, or on the drum, which has none
+  pub unlocked : (j p : ℕ) → inMotion (packetAt s j p .status) ≡ true
+      → unitAt (s .units) (packetAt s j p .channel .0) (packetAt s j p .at) .interlock ≡ false
   -- a closing job has a packet stopping, and what of it moves is
   pub closing : (j : ℕ) → isClosing (stateIn (s .jobs) j) ≡ true → (p : ℕ) × (packetAt s j p .status ≡ Stopping)
   pub stopping : (j p : ℕ) → isClosing (stateIn (s .jobs) j) ≡ true → inMotion (packetAt s j p .status) ≡ true
       → packetAt s j p .status ≡ Stopping
+  -- on a unit that is being returned a packet of the job that holds it is stopping, and no other of it is listed or moves
+  pub returning : (c u : ℕ) → isReturning (unitIn (s .units) c u .holder) ≡ true
+      → (j p : ℕ) × (heldBy (unitIn (s .units) c u .holder) j ≡ true) × (motionOn s c ≡ Busy j p)
+      × (packetAt s j p .at ≡ AtUnit (record { 0 = u })) × (packetAt s j p .status ≡ Stopping)
+  pub unlisted : (c u : ℕ) → isReturning (unitIn (s .units) c u .holder) ≡ true → (j p : ℕ)
+      → isListed (packetAt s j p .status) ≡ true → isAt c (AtUnit (record { 0 = u })) (packetAt s j p) ≡ false
 
 abbrev pub Invariants : Type 0
 Invariants = (channels : List Channel) (codes : ℕ) (units : List (List UnitState)) → NoneHeld units → (calls : List Call)

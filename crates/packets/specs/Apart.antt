@@ -7,7 +7,7 @@ use mathlib.Core.List.{List, [], _∷_}
 use Rattle.units.specs.declared.Unit.{Unit as UnitState}
 use Rattle.channels.specs.declared.Channel.{Channel}
 use Rattle.packets.specs.Demand.{NoneHeld, fresh}
-use Rattle.packets.specs.Rules.{Call, Complete, End, Mark, Start, Submit, Take, freshJob, inArea, run, step}
+use Rattle.packets.specs.Rules.{Call, Complete, End, Mark, Return, Start, Submit, Take, freshJob, inArea, run, step}
 use Rattle.packets.specs.State.{State, isEmpty, inRun, jobIn, stateIn}
 use Rattle.packets.specs.declared.Job.{Job}
 
@@ -33,6 +33,7 @@ Fits part s (Submit j p f c w) = Unit {0}
 Fits part s (Start c) = Unit {0}
 Fits part s (Complete c how) = Unit {0}
 Fits part s (End j e) = Unit {0}
+Fits part s (Return j c u) = Unit {0}
 Fits part s (Mark c u m on) = Unit {0}
 
 -- so is each taking of a history

@@ -1,6 +1,7 @@
 -- With all 60 codes in the section everything is as document 01 had it before the section came: "A failure on a unit
--- other than the drum sets its interlock and ends that unit's listed packets with 01", whatever its code. And the section
--- matters to completions alone. A reader has to believe this page.
+-- other than the drum sets its interlock and ends that unit's listed packets with 01", whatever its code (request 5, by
+-- which a completion may free its unit, is in both). And the section matters to completions alone. A reader has to
+-- believe this page.
 use Prim.Native.Nat.{ℕ, _+_, _-_, _^_, _≤_}
 use mathlib.Core.Path.{_≡_}
 use mathlib.Core.Bool.{Bool, true, false, cond, _&&_}
@@ -10,6 +11,7 @@ use Rattle.packets.specs.Rules.{
   Complete,
   End,
   Mark,
+  Return,
   Start,
   Submit,
   Take,
@@ -17,6 +19,7 @@ use Rattle.packets.specs.Rules.{
   answer,
   broken,
   codeFor,
+  freeIfReturning,
   leaving,
   over,
   refusal,
@@ -52,7 +55,7 @@ finishedBefore s c how j p =
 
 abbrev pub completedBefore : State → ℕ → How → Motion → State
 completedBefore s c how Idle = s
-completedBefore s c how (Busy j p) = returnIfDone j (finishedBefore s c how j p)
+completedBefore s c how (Busy j p) = freeIfReturning (returnIfDone j (finishedBefore s c how j p)) c (packetIn (s .jobs) j p .at)
 
 abbrev pub completesBefore : State → ℕ → How → Motion → Answer
 completesBefore s c how Idle = Done
@@ -75,6 +78,7 @@ isCompletion (Submit j p f c w) = false
 isCompletion (Start c) = false
 isCompletion (Complete c how) = true
 isCompletion (End j e) = false
+isCompletion (Return j c u) = false
 isCompletion (Mark c u m on) = false
 
 -- and nothing else goes by the section: no refusal does, and what any other call leaves and answers does not

@@ -16,6 +16,7 @@ use Rattle.packets.specs.Rules.{
   Complete,
   End,
   Mark,
+  Return,
   Start,
   Submit,
   Take,
@@ -35,6 +36,7 @@ use Rattle.packets.specs.declared.How.{How}
 use Rattle.packets.specs.declared.How.the-variants.{Cut, Failed, Full}
 use Rattle.packets.specs.declared.Motion.{Motion}
 use Rattle.packets.specs.declared.Motion.the-variants.{Busy, Idle}
+use Rattle.packets.specs.declared.Site.the-variants.{AtUnit}
 use Rattle.packets.specs.declared.Spot.{Spot}
 use Rattle.packets.specs.declared.Status.{Status}
 use Rattle.packets.specs.declared.Status.the-variants.{Blank, Ended, InProgress, Listed}
@@ -80,6 +82,10 @@ statusAfter s (Start c) i n = cond (takes (find (startable s c) (s .queue)) i n)
 statusAfter s (Complete c how) i n = afterComplete s c how (motionOn s c) i n
 statusAfter s (End j e) i n =
     cond (eqb i j) (stops (endsWith 0o16 (packetIn (s .jobs) i n .status))) (packetIn (s .jobs) i n .status)
+-- a return: what its job has listed on the unit ends with 16o, what is in progress there is stopping
+statusAfter s (Return j c u) i n =
+    let q = packetIn (s .jobs) i n in
+    cond (eqb i j && isAt c (AtUnit (record { 0 = u })) q) (stops (endsWith 0o16 (q .status))) (q .status)
 statusAfter s (Mark c u m on) i n = packetIn (s .jobs) i n .status
 
 -- over any history: before each accepted call s is a cell that calls led to
@@ -96,6 +102,7 @@ renews (Submit j p f c w) i n = isPacket j p i n
 renews (Start c) i n = false
 renews (Complete c how) i n = false
 renews (End j e) i n = false
+renews (Return j c u) i n = false
 renews (Mark c u m on) i n = false
 
 -- an ended packet keeps its code through every other call, accepted or refused

@@ -8,8 +8,8 @@ use lib.Dec.{ltb, eqb}
 use Rattle.units.specs.declared.Unit.{Unit as UnitState}
 use Rattle.units.specs.State.{unitIn}
 use Rattle.units.specs.declared.Holder.the-variants.{Free}
-use Rattle.packets.specs.Lone.{loneRun, loneStarts, loneTakesAll, newLone}
-use Rattle.packets.specs.Rules.{Call, Complete, End, Mark, Start, Submit, Take, siteOf, refusal, run, step}
+use Rattle.packets.specs.Lone.{isAtRest, loneRun, loneStarts, loneTakesAll, newLone}
+use Rattle.packets.specs.Rules.{Call, Complete, End, Mark, Return, Start, Submit, Take, siteOf, refusal, run, step}
 use Rattle.packets.specs.State.{State, blank, drumOn, heldBy, isEmpty, jobIn, motionOn, noCore, packetIn, stateIn}
 use Rattle.packets.specs.declared.Answer.{Answer}
 use Rattle.packets.specs.declared.Answer.the-variants.{Closed, Completed, Done, Refused, Started}
@@ -107,6 +107,7 @@ noted h t (Submit j p f c w) r n = cond (isAccepted r && eqb j (h .place) && eqb
 noted h t (Start c) r n = t n
 noted h t (Complete c how) r n = t n
 noted h t (End j e) r n = t n
+noted h t (Return j c u) r n = t n
 noted h t (Mark c u m on) r n = t n
 
 -- a start that took a packet there
@@ -126,13 +127,14 @@ endedThere h t (Closed r) = false
 endedThere h t (Refused n) = false
 
 -- the calls that act on a holding are its job's submissions there (07 and 23 too), starts that took a packet there,
--- completions of such packets, and the job's end
+-- completions of such packets, and the job's end; and "the release acts on the holding": its job's return of that unit
 unfoldable pub acts : Holding → Seen → Call → Answer → Bool
 acts h t (Take j asg) r = false
 acts h t (Submit j p f c w) r = isAccepted r && (eqb j (h .place) && isThere h c (siteOf w))
 acts h t (Start c) r = tookThere h c r
 acts h t (Complete c how) r = endedThere h t r
 acts h t (End j e) r = isAccepted r && eqb j (h .place)
+acts h t (Return j c u) r = isAccepted r && (eqb j (h .place) && isThere h c (AtUnit (record { 0 = u })))
 acts h t (Mark c u m on) r = false
 
 -- the calls of a stretch that acted on the holding
@@ -163,7 +165,8 @@ seenAfter h t (e ∷ l) = seenAfter h (noted h t (e .call) (e .answer)) l
 
 -- ---- the stretch, and what holds in it
 
--- before each call of the stretch the job holds it; the last call may return it
+-- before each call of the stretch the job holds it; the last call may return it: "the unit's own return", or with all
+-- facilities of the job
 abbrev pub Stretch : Holding → State → List Call → Type 0
 Stretch h s [] = Unit {0}
 Stretch h s (x ∷ l) = Holds s h × Stretch h (step s x .state) l
@@ -192,6 +195,10 @@ pub record Isolated (codes : ℕ) (h : Holding) (l : List Event) (end : State) :
   -- it leaves the same status in every packet last submitted there
   pub status : (n : ℕ) → seenAfter h noneSeen l n ≡ true
       → loneRun codes (h .drum) newLone (acting h noneSeen l) .packets n .status ≡ packetIn (end .jobs) (h .place) n .status
+  -- once its return is asked for, the job holds the unit exactly as long as a packet of it moves there
+  pub returned : h .drum ≡ false → loneRun codes (h .drum) newLone (acting h noneSeen l) .returning ≡ true
+      → heldBy (unitIn (end .units) (h .channel) (h .unit) .holder) (h .place)
+      ≡ not (isAtRest (loneRun codes (h .drum) newLone (acting h noneSeen l) .moving))
   -- on a unit that is not the drum nothing of another job starts or is still moving, nor of one that had the place
   -- before
   pub started : h .drum ≡ false → OwnStarts h noneSeen l

@@ -5,7 +5,7 @@ use Prim.Native.Nat.{ℕ}
 use mathlib.Core.Bool.{Bool, false, cond, _&&_, _||_}
 use lib.Dec.{eqb}
 use Rattle.units.specs.State.{unitIn}
-use Rattle.packets.specs.Rules.{Call, Complete, End, Mark, Start, Submit, Take, accept, isTrouble, siteOf}
+use Rattle.packets.specs.Rules.{Call, Complete, End, Mark, Return, Start, Submit, Take, accept, isTrouble, siteOf}
 use Rattle.packets.specs.State.{State, heldBy, motionOn, packetIn, same}
 use Rattle.packets.specs.declared.Motion.{Motion}
 use Rattle.packets.specs.declared.Motion.the-variants.{Busy, Idle}
@@ -17,9 +17,9 @@ abbrev pub isThat : ℕ → ℕ → ℕ → Site → Bool
 isThat c u d a = eqb c d && same (AtUnit (record { 0 = u })) a
 
 -- what moves on channel d is at unit u of channel c
-abbrev pub movesAt : State → ℕ → Motion → ℕ → ℕ → Bool
-movesAt s d Idle c u = false
-movesAt s d (Busy j p) c u = isThat c u d (packetIn (s .jobs) j p .at)
+abbrev pub carriedAt : State → ℕ → Motion → ℕ → ℕ → Bool
+carriedAt s d Idle c u = false
+carriedAt s d (Busy j p) c u = isThat c u d (packetIn (s .jobs) j p .at)
 
 -- whether unit u of channel c has interlock after an accepted call
 unfoldable pub interlockAfter : State → Call → ℕ → ℕ → Bool
@@ -30,6 +30,7 @@ interlockAfter s (Take j asg) c u =
 interlockAfter s (Submit j p f d w) c u = cond (eqb f 0o07 && isThat c u d (siteOf w)) false (unitIn (s .units) c u .interlock)
 interlockAfter s (Start d) c u = unitIn (s .units) c u .interlock
 -- "Any other failure code sets none", nor does any on the drum
-interlockAfter s (Complete d how) c u = (isTrouble (s .codes) how && movesAt s d (motionOn s d) c u) || unitIn (s .units) c u .interlock
+interlockAfter s (Complete d how) c u = (isTrouble (s .codes) how && carriedAt s d (motionOn s d) c u) || unitIn (s .units) c u .interlock
 interlockAfter s (End j e) c u = unitIn (s .units) c u .interlock
+interlockAfter s (Return j d v) c u = unitIn (s .units) c u .interlock
 interlockAfter s (Mark d v m on) c u = unitIn (s .units) c u .interlock

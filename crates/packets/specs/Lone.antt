@@ -1,13 +1,13 @@
 -- A lone unit, or a lone piece of drum, that one job has to itself: what it refuses and what it does, written from
--- document 01 and not from the rules of the cell. It knows nothing of channels, places or other units. A reader has
--- to believe this page. It shares with the rules only the calls, the statuses and the shape of a start. It takes the
--- section of the codes that set interlock as its own parameter.
+-- document 01 and requests 3 and 5 of document 02, and not from the rules of the cell. It knows nothing of channels,
+-- places or other units. A reader has to believe this page. It shares with the rules only the calls, the statuses and
+-- the shape of a start. It takes the section of the codes that set interlock as its own parameter.
 use Prim.Native.Nat.{ℕ, zero, suc, _/_, _%_}
 use mathlib.Core.Bool.{Bool, true, false, not, cond, _&&_}
 use mathlib.Core.List.{List, [], _∷_, _++_}
 use mathlib.Core.Option.{Option, none, some}
 use lib.Dec.{leb, eqb}
-use Rattle.packets.specs.Rules.{Call, Complete, End, Mark, Start, Submit, Take}
+use Rattle.packets.specs.Rules.{Call, Complete, End, Mark, Return, Start, Submit, Take}
 use Rattle.packets.specs.declared.Begun.{Begun}
 use Rattle.packets.specs.declared.How.{How}
 use Rattle.packets.specs.declared.How.the-variants.{Cut, Failed, Full}
@@ -34,12 +34,14 @@ pub record Lone : Type 0 where
   pub interlock : Bool
   -- the job has ended
   pub jobOver : Bool
+  -- the job has asked for its return; a piece of drum returns with the job alone
+  pub returning : Bool
 
 abbrev pub unused : Request
 unused = record { status = Blank; function = 0; at = AtUnit (record { 0 = 0 }) }
 
 abbrev pub newLone : Lone
-newLone = record { packets = λ n. unused; order = []; moving = none; interlock = false; jobOver = false }
+newLone = record { packets = λ n. unused; order = []; moving = none; interlock = false; jobOver = false; returning = false }
 
 -- a packet is listed
 abbrev pub waits : Status → Bool
@@ -78,21 +80,26 @@ still t (n ∷ l) = cond (waits (t n .status)) (n ∷ still t l) (still t l)
 
 -- the packets are now these; whoever is still listed keeps its turn
 abbrev pub settle : Lone → (ℕ → Request) → Lone
-settle l t = record { packets = t; order = still t (l .order); moving = l .moving; interlock = l .interlock; jobOver = l .jobOver }
+settle l t = record { packets = t; order = still t (l .order); moving = l .moving; interlock = l .interlock; jobOver = l .jobOver; returning = l .returning }
 
 abbrev pub locks : Lone → Bool → Lone
-locks l b = record { packets = l .packets; order = l .order; moving = l .moving; interlock = b; jobOver = l .jobOver }
+locks l b = record { packets = l .packets; order = l .order; moving = l .moving; interlock = b; jobOver = l .jobOver; returning = l .returning }
 
 abbrev pub carries : Lone → Option ℕ → Lone
-carries l m = record { packets = l .packets; order = l .order; moving = m; interlock = l .interlock; jobOver = l .jobOver }
+carries l m = record { packets = l .packets; order = l .order; moving = m; interlock = l .interlock; jobOver = l .jobOver; returning = l .returning }
 
 -- the job has ended
 abbrev pub closes : Lone → Lone
-closes l = record { packets = l .packets; order = l .order; moving = l .moving; interlock = l .interlock; jobOver = true }
+closes l = record { packets = l .packets; order = l .order; moving = l .moving; interlock = l .interlock; jobOver = true; returning = l .returning }
+
+-- the unit is being returned
+abbrev pub asksBack : Lone → Lone
+asksBack l =
+    record { packets = l .packets; order = l .order; moving = l .moving; interlock = l .interlock; jobOver = l .jobOver; returning = true }
 
 abbrev pub joins : Lone → ℕ → Lone
 joins l n =
-    record { packets = l .packets; order = l .order ++ (n ∷ []); moving = l .moving; interlock = l .interlock; jobOver = l .jobOver }
+    record { packets = l .packets; order = l .order ++ (n ∷ []); moving = l .moving; interlock = l .interlock; jobOver = l .jobOver; returning = l .returning }
 
 -- packet n is now this
 abbrev pub stores : Lone → ℕ → Request → Lone
@@ -203,16 +210,18 @@ abbrev pub mayComplete : Lone → How → Option ℕ → Bool
 mayComplete l how none = false
 mayComplete l how (some n) = mayEnd (l .packets n .status) how
 
--- the calls that it takes: a submission of a packet that is not listed, in progress or stopping; a start while
--- nothing is in progress or stopping, without interlock, of something listed; a completion of what moves; the job's
--- end, once; and after that end nothing but completions
-unfoldable pub loneTakes : Lone → Call → Bool
-loneTakes l (Take j asg) = false
-loneTakes l (Submit j n f c w) = not (l .jobOver) && not (inUse (l .packets n .status))
-loneTakes l (Start c) = not (l .jobOver) && (isAtRest (l .moving) && (not (l .interlock) && hasListed (l .order)))
-loneTakes l (Complete c how) = mayComplete l how (l .moving)
-loneTakes l (End j e) = not (l .jobOver)
-loneTakes l (Mark c u m on) = false
+-- the calls that it takes: a submission of a packet that is not listed, in progress or stopping, unless the unit is being
+-- returned (21); a start while nothing is in progress or stopping, without interlock, of something listed; a completion
+-- of what moves; the job's end, once, and after that end nothing but completions; its return, once (21), and of no piece
+-- of drum (1)
+unfoldable pub loneTakes : Bool → Lone → Call → Bool
+loneTakes drum l (Take j asg) = false
+loneTakes drum l (Submit j n f c w) = not (l .jobOver) && (not (l .returning) && not (inUse (l .packets n .status)))
+loneTakes drum l (Start c) = not (l .jobOver) && (isAtRest (l .moving) && (not (l .interlock) && hasListed (l .order)))
+loneTakes drum l (Complete c how) = mayComplete l how (l .moving)
+loneTakes drum l (End j e) = not (l .jobOver)
+loneTakes drum l (Return j c u) = not drum && (not (l .jobOver) && not (l .returning))
+loneTakes drum l (Mark c u m on) = false
 
 -- ---- what it does
 
@@ -223,11 +232,12 @@ loneDoes section drum l (Submit j n f c w) = hears l n f w
 loneDoes section drum l (Start c) = setsOff l (l .order)
 loneDoes section drum l (Complete c how) = completesAs section drum l how (l .moving)
 loneDoes section drum l (End j e) = closes (halts (λ x. true) l)
+loneDoes section drum l (Return j c u) = asksBack (halts (λ x. true) l)
 loneDoes section drum l (Mark c u m on) = l
 
 -- a refused call leaves it as it was
 unfoldable pub loneStep : ℕ → Bool → Lone → Call → Lone
-loneStep section drum l x = cond (loneTakes l x) (loneDoes section drum l x) l
+loneStep section drum l x = cond (loneTakes drum l x) (loneDoes section drum l x) l
 
 -- the start that a call makes, if it makes one; place is where the lone unit's job is
 abbrev pub startOf : ℕ → Lone → List ℕ → List Begun
@@ -240,11 +250,12 @@ startBy place l (Submit j n f c w) = []
 startBy place l (Start c) = startOf place l (l .order)
 startBy place l (Complete c how) = []
 startBy place l (End j e) = []
+startBy place l (Return j c u) = []
 startBy place l (Mark c u m on) = []
 
 -- a refused call starts nothing
-unfoldable pub loneStart : ℕ → Lone → Call → List Begun
-loneStart place l x = cond (loneTakes l x) (startBy place l x) []
+unfoldable pub loneStart : Bool → ℕ → Lone → Call → List Begun
+loneStart drum place l x = cond (loneTakes drum l x) (startBy place l x) []
 
 -- ---- calls one after the other
 
@@ -254,9 +265,9 @@ loneRun section drum l (x ∷ xs) = loneRun section drum (loneStep section drum 
 
 unfoldable pub loneStarts : ℕ → Bool → ℕ → Lone → List Call → List Begun
 loneStarts section drum place l [] = []
-loneStarts section drum place l (x ∷ xs) = loneStart place l x ++ loneStarts section drum place (loneStep section drum l x) xs
+loneStarts section drum place l (x ∷ xs) = loneStart drum place l x ++ loneStarts section drum place (loneStep section drum l x) xs
 
 -- it takes every one of them, each at the moment when it comes
 unfoldable pub loneTakesAll : ℕ → Bool → Lone → List Call → Bool
 loneTakesAll section drum l [] = true
-loneTakesAll section drum l (x ∷ xs) = loneTakes l x && loneTakesAll section drum (loneStep section drum l x) xs
+loneTakesAll section drum l (x ∷ xs) = loneTakes drum l x && loneTakesAll section drum (loneStep section drum l x) xs

@@ -1,5 +1,5 @@
--- Document 01, 'Packets and request lists' and 'Refused calls', as rules: what each call is refused for, what it
--- leaves, what it answers. A reader has to believe this page. Codes are octal.
+-- Document 01, 'Packets and request lists' and 'Refused calls', as rules, with requests 3 and 5 of document 02 in them:
+-- what each call is refused for, what it leaves, what it answers. A reader has to believe this page. Codes are octal.
 use Prim.Native.Nat.{ℕ, _+_}
 use mathlib.Core.Bool.{Bool, true, false, not, cond, _&&_, _||_}
 use mathlib.Core.List.{List, [], _∷_}
@@ -19,9 +19,11 @@ use Rattle.numbers.specs.declared.Refusal.the-variants.{
   NothingInProgress,
   WrongCompletion,
   NoPlaceFree,
+  BeingReturned,
 }
-use Rattle.units.specs.State.{unitIn, unitSet, markedUnit}
+use Rattle.units.specs.State.{unitIn, unitSet, isReturning, markedUnit}
 use Rattle.units.specs.declared.Holder.{Holder}
+use Rattle.units.specs.declared.Holder.the-variants.{Free, Returning}
 use Rattle.units.specs.declared.Unit.{Unit as UnitState}
 use Rattle.units.specs.declared.Mark.{Mark as UnitMark}
 use Rattle.channels.specs.Channels.{setsInterlock}
@@ -71,6 +73,7 @@ use Rattle.packets.specs.State.{
   isUnit,
   same,
   unitAt,
+  freedAt,
   releaseAll,
   takeAll,
   wanted,
@@ -82,6 +85,7 @@ use Rattle.packets.specs.State.{
   sweep,
   enqueue,
   lock,
+  hold,
   move,
   close,
 }
@@ -99,6 +103,8 @@ pub data Call : Type 0 where
   Complete : ℕ → How → Call
   -- the job in a place ends: true in error
   End : ℕ → Bool → Call
+  -- the job in a place gives unit u of channel c back (02, request 5)
+  Return : ℕ → ℕ → ℕ → Call
   -- a mark of unit u of channel c, down or reserved, is set (true) or cleared
   Mark : ℕ → ℕ → UnitMark → Bool → Call
 
@@ -156,7 +162,7 @@ pass s j p f c a = store s j p (packet (Ended 0o00) f c a)
 abbrev pub unlock : State → ℕ → ℕ → ℕ → ℕ → Site → State
 unlock s j p f c a = pass (lock (sweep s j (isAt c a) failed) c a false) j p f c a
 
--- what 23, or the job's end, does: a listed packet ends with 16o, one in progress is stopping
+-- what 23, a unit's return or the job's end does: a listed packet ends with 16o, one in progress is stopping
 abbrev pub cut : Status → Status
 cut Blank = Blank
 cut Listed = Ended 0o16
@@ -220,7 +226,7 @@ begins s (some e) =
 abbrev pub isDone : State → ℕ → Bool
 isDone s j = isClosing (stateIn (s .jobs) j) && not (anyMoves j (s .moving))
 
--- all facilities return together; the packets keep their statuses until the next job is taken there
+-- all facilities that it still has return together; the packets keep their statuses until the next job is taken there
 abbrev pub returned : State → ℕ → State
 returned s j =
     record {
@@ -274,9 +280,21 @@ finished s c how j p =
     let a = packetIn (s .jobs) j p .at in
     cond (isTrouble (s .codes) how && isUnit a) (broken (over s c j p (codeFor how)) c a j) (over s c j p (codeFor how))
 
+-- a unit that is being returned "is free when that completion comes"
+abbrev pub freeIfReturning : State → ℕ → Site → State
+freeIfReturning s c a =
+    record {
+      channels = s .channels;
+      codes = s .codes;
+      queue = s .queue;
+      moving = s .moving;
+      jobs = s .jobs;
+      units = freedAt (s .units) c a;
+    }
+
 abbrev pub completed : State → ℕ → How → Motion → State
 completed s c how Idle = s
-completed s c how (Busy j p) = returnIfDone j (finished s c how j p)
+completed s c how (Busy j p) = freeIfReturning (returnIfDone j (finished s c how j p)) c (packetIn (s .jobs) j p .at)
 
 -- a completion answers the place and number of the packet it ends, and whether the facilities returned
 abbrev pub completes : State → ℕ → How → Motion → Answer
@@ -297,9 +315,21 @@ always p = true
 abbrev pub closed : State → ℕ → Bool → State
 closed s j e = close (sweep s j always cut) j (closing e)
 
--- when none is left, at once or at the last completion, all facilities return together
+-- when none is left, at once or at the last completion, all facilities that it still has return together
 abbrev pub ended : State → ℕ → Bool → State
 ended s j e = returnIfDone j (closed s j e)
+
+-- ---- one head back early (02, request 5)
+
+-- a packet of the job in place j is in progress or stopping at a on channel c
+abbrev pub movesAt : State → ℕ → ℕ → Site → Motion → Bool
+movesAt s j c a Idle = false
+movesAt s j c a (Busy k p) = eqb k j && isAt c a (packetIn (s .jobs) j p)
+
+-- the return "ends that unit's listed packets with 16 octal and makes one in progress stopping"; the unit is being
+-- returned while that moves, and free "at once if nothing moves". It doesn't touch interlock
+abbrev pub handedBack : State → ℕ → ℕ → Site → State
+handedBack s j c a = hold (sweep s j (isAt c a) cut) c a (cond (movesAt s j c a (motionOn s c)) (Returning j) Free)
 
 -- ---- taking a job, and marks
 
@@ -331,7 +361,7 @@ marked s c u m on =
       units = unitSet (s .units) c u (markedUnit m on (unitIn (s .units) c u));
     }
 
--- ---- refused calls: the lowest number answers
+-- ---- refused calls: the lowest number answers, but 21 comes after 3
 
 -- refused with this if the test holds, else what the later tests say
 abbrev pub first : Bool → Refusal → Verdict → Verdict
@@ -359,9 +389,19 @@ submitRefusal has job unit j p f c w =
     first (not (inRange has j p f c w)) OutOfRange
     (first (not (isRunning (job .state))) NoJob
     (first (not (isOwn job (unit .holder) j f w)) NotTheJobs
+    (first (isReturning (unit .holder)) BeingReturned
     (first (not (legalFor has f)) NotLegal
     (first (isBusy (getD (job .packets) p blank .status)) PacketInUse
-    Granted))))
+    Granted)))))
+
+-- a return, by what the channel has, the job's state and the unit; the drum channel has no unit
+abbrev pub returnRefusal : Fitted → JobState → UnitState → ℕ → ℕ → ℕ → Verdict
+returnRefusal has state head j c u =
+    first (not (ltb j 16 && (ltb c 16 && reaches has (OnUnit (record { 0 = u }))))) OutOfRange
+    (first (not (isRunning state)) NoJob
+    (first (not (heldBy (head .holder) j)) NotTheJobs
+    (first (isReturning (head .holder)) BeingReturned
+    Granted)))
 
 unfoldable pub refusal : State → Call → Verdict
 -- a job is taken into a place that is free; 18 is for any other, which no selection names (it is shown of each)
@@ -381,6 +421,7 @@ refusal s (End j e) =
     first (not (ltb j 16)) OutOfRange
     (first (not (isRunning (stateIn (s .jobs) j))) NoJob
     Granted)
+refusal s (Return j c u) = returnRefusal (fittedOn (s .channels) c) (stateIn (s .jobs) j) (unitIn (s .units) c u) j c u
 refusal s (Mark c u m on) =
     first (not (ltb c 16 && reaches (fittedOn (s .channels) c) (OnUnit (record { 0 = u })))) OutOfRange Granted
 
@@ -392,6 +433,7 @@ accept s (Submit j p f c w) = submitted s j p f c w
 accept s (Start c) = started s c (find (startable s c) (s .queue))
 accept s (Complete c how) = completed s c how (motionOn s c)
 accept s (End j e) = ended s j e
+accept s (Return j c u) = handedBack s j c (AtUnit (record { 0 = u }))
 accept s (Mark c u m on) = marked s c u m on
 
 unfoldable pub answer : State → Call → Answer
@@ -400,6 +442,7 @@ answer s (Submit j p f c w) = Done
 answer s (Start c) = begins s (find (startable s c) (s .queue))
 answer s (Complete c how) = completes s c how (motionOn s c)
 answer s (End j e) = Closed (leaving j (closed s j e))
+answer s (Return j c u) = Done
 answer s (Mark c u m on) = Done
 
 -- ---- a step, a run

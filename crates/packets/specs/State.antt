@@ -6,9 +6,9 @@ use lib.ListN.{length, getD, set}
 use lib.Dec.{ltb, leb, eqb}
 use Rattle.numbers.specs.Kinds.{isDrum}
 use Rattle.functions.specs.Legal.{legalOf}
-use Rattle.units.specs.State.{unitIn, unitSet, assignable, freshUnit}
+use Rattle.units.specs.State.{unitIn, unitSet, isReturning, assignable, freshUnit}
 use Rattle.units.specs.declared.Holder.{Holder}
-use Rattle.units.specs.declared.Holder.the-variants.{Free, Held}
+use Rattle.units.specs.declared.Holder.the-variants.{Free, Held, Returning}
 use Rattle.units.specs.declared.Unit.{Unit as UnitState}
 use Rattle.channels.specs.declared.Fitted.{Fitted}
 use Rattle.channels.specs.declared.Fitted.the-variants.{Nothing, With}
@@ -217,14 +217,27 @@ abbrev pub setLock : List (List UnitState) → ℕ → Site → Bool → List (L
 setLock units c (AtUnit u) b = unitSet units c (u .0) (withLock (unitIn units c (u .0)) b)
 setLock units c (AtAddress x) b = units
 
+-- the job in place j holds it; one that is being returned is held until then
 abbrev pub heldBy : Holder → ℕ → Bool
 heldBy Free j = false
 heldBy (Held k) j = eqb k j
+heldBy (Returning k) j = eqb k j
+
+abbrev pub withHolder : UnitState → Holder → UnitState
+withHolder v h = record { holder = h; down = v .down; reserved = v .reserved; interlock = v .interlock }
+
+-- the unit at a on channel c has another holder; the drum has none
+abbrev pub setHolder : List (List UnitState) → ℕ → Site → Holder → List (List UnitState)
+setHolder units c (AtUnit u) h = unitSet units c (u .0) (withHolder (unitIn units c (u .0)) h)
+setHolder units c (AtAddress x) h = units
+
+-- it is free again if it is being returned
+abbrev pub freedAt : List (List UnitState) → ℕ → Site → List (List UnitState)
+freedAt units c a = cond (isReturning (unitAt units c a .holder)) (setHolder units c a Free) units
 
 -- a unit that the job in place j holds is free again
 abbrev pub release : ℕ → UnitState → UnitState
-release j v =
-    record { holder = cond (heldBy (v .holder) j) Free (v .holder); down = v .down; reserved = v .reserved; interlock = v .interlock }
+release j v = withHolder v (cond (heldBy (v .holder) j) Free (v .holder))
 
 unfoldable pub releaseAll : List (List UnitState) → ℕ → List (List UnitState)
 releaseAll units j = map (map (release j)) units
@@ -289,6 +302,10 @@ enqueue s j p =
 -- the interlock at a on channel c is set or cleared
 abbrev pub lock : State → ℕ → Site → Bool → State
 lock s c a b = record { channels = s .channels; codes = s .codes; units = setLock (s .units) c a b; moving = s .moving; jobs = s .jobs; queue = s .queue }
+
+-- who holds the unit at a on channel c
+abbrev pub hold : State → ℕ → Site → Holder → State
+hold s c a h = record { channels = s .channels; codes = s .codes; units = setHolder (s .units) c a h; moving = s .moving; jobs = s .jobs; queue = s .queue }
 
 -- what moves on channel c
 abbrev pub move : State → ℕ → Motion → State

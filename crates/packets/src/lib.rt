@@ -156,8 +156,8 @@ pub enum Found {
 }
 
 // A change of status that a call makes to several packets of one job. A failure that sets interlock, or 07, on a unit:
-// its listed packets end with 01. 23 on a unit or on words of the drum, and the job's end: listed packets end with 16
-// octal, those in progress are stopping.
+// its listed packets end with 01. 23 on a unit or on words of the drum, a unit's return, and the job's end: listed
+// packets end with 16 octal, those in progress are stopping.
 pub enum Aim {
     Failing(ChannelNumber, UnitNumber),
     Cutting(ChannelNumber, Spot),

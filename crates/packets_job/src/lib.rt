@@ -158,7 +158,7 @@ fn failed_status(status: Status) -> Status
     }
 }
 
-// What 23 or the job's end does: a listed packet ends with 16 octal, one in progress is stopping.
+// What 23, a unit's return or the job's end does: a listed packet ends with 16 octal, one in progress is stopping.
 fn cut_status(status: Status) -> Status
     ensures { λ r. ⌜ r ≡ cut status ⌝ }
 {
@@ -192,7 +192,7 @@ fn is_between(at: Site, l: u32, h: u32) -> bool
 }
 
 // Whether a packet was submitted to a unit of channel c.
-fn is_at(p: Packet, c: ChannelNumber, unit: UnitNumber) -> bool
+pub fn is_at(p: Packet, c: ChannelNumber, unit: UnitNumber) -> bool
     ensures { λ r. ⌜ r ≡ isAt (c .0) (AtUnit unit) p ⌝ }
 {
     if p.channel.0 != c.0 {
@@ -202,7 +202,7 @@ fn is_at(p: Packet, c: ChannelNumber, unit: UnitNumber) -> bool
     is_unit(at, unit)
 }
 
-// Whether a 23 to a unit, or on the drum to the addresses from L to H, is for a packet.
+// Whether a 23 to a unit or its return, or a 23 on the drum to the addresses from L to H, is for a packet.
 fn is_aimed(p: Packet, c: ChannelNumber, spot: Spot) -> bool
     ensures { λ r. ⌜ r ≡ aimed (c .0) spot p ⌝ }
 {

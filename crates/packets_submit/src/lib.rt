@@ -13,7 +13,7 @@ use units::Holder;
 use units::Unit;
 ghost use mathlib.Core.Path.{_≡_};
 ghost use mathlib.Core.Bool.{not, _&&_};
-ghost use Rattle.numbers.specs.declared.Refusal.the-variants.{OutOfRange, NoJob, NotTheJobs, NotLegal, PacketInUse};
+ghost use Rattle.numbers.specs.declared.Refusal.the-variants.{OutOfRange, NoJob, NotTheJobs, BeingReturned, NotLegal, PacketInUse};
 ghost use Rattle.packets.specs.declared.Verdict.the-variants.{Granted};
 ghost use Rattle.packets.specs.State.{isBusy, legalFor};
 ghost use Rattle.packets.specs.Rules.{siteOf, first, inRange, inArea, isOwn, submitRefusal};
@@ -96,10 +96,17 @@ fn is_busy(status: Status) -> bool
     }
 }
 
-// The lowest number answers.
-fn lowest(in_range: bool, running: bool, own: bool, legal: bool, busy: bool) -> Verdict
+// The lowest number answers, but 21, for a unit being returned, comes after 3.
+fn lowest(
+    in_range: bool,
+    running: bool,
+    own: bool,
+    returning: bool,
+    legal: bool,
+    busy: bool,
+) -> Verdict
     ensures { λ r. ⌜ r ≡ first (not in_range) OutOfRange (first (not running) NoJob (first (not own) NotTheJobs
-        (first (not legal) NotLegal (first busy PacketInUse Granted)))) ⌝ }
+        (first returning BeingReturned (first (not legal) NotLegal (first busy PacketInUse Granted))))) ⌝ }
 {
     if !in_range {
         return Verdict::Denied(Refusal::OutOfRange);
@@ -109,6 +116,9 @@ fn lowest(in_range: bool, running: bool, own: bool, legal: bool, busy: bool) -> 
     }
     if !own {
         return Verdict::Denied(Refusal::NotTheJobs);
+    }
+    if returning {
+        return Verdict::Denied(Refusal::BeingReturned);
     }
     if !legal {
         return Verdict::Denied(Refusal::NotLegal);
@@ -141,6 +151,7 @@ pub fn verdict(
         in_range(has, j, p, f, c, spot),
         packets_job::is_running(state),
         is_own(job, holder, j, f, spot),
+        units::is_returning(holder),
         is_legal(has, f),
         is_busy(status),
     )

@@ -1,61 +1,33 @@
-// Who holds the units: the interlock of one, and the units that a job is given and returns.
+// Who holds the units: the interlock and the holder of one, and the units that a job is given and returns.
 use numbers::ChannelNumber;
 use numbers::UnitNumber;
 use packets::Site;
-use packets::Spot;
 use units::Holder;
 use units::Unit;
 use units::Units;
 ghost use mathlib.Core.Path.{_≡_};
 ghost use mathlib.Core.Bool.{_&&_};
 ghost use Rattle.units.specs.State.{unitsFrom, assignable};
-ghost use Rattle.packets.specs.declared.Site.the-variants.{AtUnit};
-ghost use Rattle.packets.specs.State.{heldBy, unitAt, setLock, releaseAll, takeAll};
-ghost use Rattle.packets.specs.Rules.{siteOf};
-ghost use Rattle.packets_units.specs.Handed.{handedTo, wantedIn};
+ghost use Rattle.packets.specs.State.{heldBy, unitAt, setLock, setHolder, freedAt, releaseAll, takeAll};
+ghost use Rattle.packets_units.specs.Handed.{handedTo, stateSet, wantedIn};
 
-// The unit that a submission names; an address names none: a free one, without interlock.
-pub fn unit_of(units: Units, c: ChannelNumber, spot: Spot) -> Unit
-    ensures { λ r. ⌜ r ≡ unitAt (units .of) (c .0) (siteOf spot) ⌝ }
-{
-    match spot {
-        Spot::OnUnit(u) => units::unit_at(units, c, u),
-        Spot::OnDrum(_, _) => units::fresh_unit(false),
-    }
-}
-
-// The units with the interlock of one set or cleared.
-fn with_lock(units: Units, c: ChannelNumber, u: UnitNumber, on: bool) -> Units
-    ensures { λ r. ⌜ r ≡ unitsFrom (setLock (units .of) (c .0) (AtUnit u) on) ⌝ }
-{
-    let unit = units::unit_at(units, c, u);
-    let holder = unit.holder;
-    let state = Unit {
-        holder,
-        down: unit.down,
-        reserved: unit.reserved,
-        interlock: on,
-    };
-    units::with_unit(units, c, u, state)
-}
-
-// The units with the interlock set or cleared where a packet is; the drum has none.
-pub fn with_lock_at(units: Units, c: ChannelNumber, at: Site, on: bool) -> Units
-    ensures { λ r. ⌜ r ≡ unitsFrom (setLock (units .of) (c .0) at on) ⌝ }
+// The unit where a packet is; the drum has none: a free one, without interlock.
+pub fn unit_where(units: Units, c: ChannelNumber, at: Site) -> Unit
+    ensures { λ r. ⌜ r ≡ unitAt (units .of) (c .0) at ⌝ }
 {
     match at {
-        Site::AtUnit(u) => with_lock(units, c, u, on),
-        Site::AtAddress(_) => units,
+        Site::AtUnit(u) => units::unit_at(units, c, u),
+        Site::AtAddress(_) => units::fresh_unit(false),
     }
 }
 
-// Whether the job in place j holds it.
-pub fn is_held_by(holder: Holder, j: u8) -> bool
-    ensures { λ r. ⌜ r ≡ heldBy holder j ⌝ }
+// The units with another state where a packet is; the drum has none.
+fn with_state_at(units: Units, c: ChannelNumber, at: Site, state: Unit) -> Units
+    ensures { λ r. ⌜ r ≡ unitsFrom (stateSet (units .of) (c .0) at state) ⌝ }
 {
-    match holder {
-        Holder::Free => false,
-        Holder::Held(k) => k == j,
+    match at {
+        Site::AtUnit(u) => units::with_unit(units, c, u, state),
+        Site::AtAddress(_) => units,
     }
 }
 
@@ -68,6 +40,46 @@ fn handed(unit: Unit, holder: Holder, interlock: bool) -> Unit
         down: unit.down,
         reserved: unit.reserved,
         interlock,
+    }
+}
+
+// The units with the interlock set or cleared where a packet is.
+pub fn with_lock_at(units: Units, c: ChannelNumber, at: Site, on: bool) -> Units
+    ensures { λ r. ⌜ r ≡ unitsFrom (setLock (units .of) (c .0) at on) ⌝ }
+{
+    let unit = unit_where(units, c, at);
+    let holder = unit.holder;
+    with_state_at(units, c, at, handed(unit, holder, on))
+}
+
+// The units with another holder where a packet is, who finds the interlock as it was.
+pub fn with_holder_at(units: Units, c: ChannelNumber, at: Site, holder: Holder) -> Units
+    ensures { λ r. ⌜ r ≡ unitsFrom (setHolder (units .of) (c .0) at holder) ⌝ }
+{
+    let unit = unit_where(units, c, at);
+    with_state_at(units, c, at, handed(unit, holder, unit.interlock))
+}
+
+// The units with the one where a packet is free again if it is being returned.
+pub fn freed_at(units: Units, c: ChannelNumber, at: Site) -> Units
+    ensures { λ r. ⌜ r ≡ unitsFrom (freedAt (units .of) (c .0) at) ⌝ }
+{
+    let unit = unit_where(units, c, at);
+    let holder = unit.holder;
+    if units::is_returning(holder) {
+        return with_holder_at(units, c, at, Holder::Free);
+    }
+    units
+}
+
+// Whether the job in place j holds it; one that is being returned is held until then.
+pub fn is_held_by(holder: Holder, j: u8) -> bool
+    ensures { λ r. ⌜ r ≡ heldBy holder j ⌝ }
+{
+    match holder {
+        Holder::Free => false,
+        Holder::Held(k) => k == j,
+        Holder::Returning(k) => k == j,
     }
 }
 

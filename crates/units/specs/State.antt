@@ -5,7 +5,7 @@ use mathlib.Core.Bool.{Bool, true, false, not, _&&_}
 use mathlib.Core.List.{List, []}
 use lib.ListN.{length, getD, set, replicate}
 use Rattle.units.specs.declared.Holder.{Holder}
-use Rattle.units.specs.declared.Holder.the-variants.{Free, Held}
+use Rattle.units.specs.declared.Holder.the-variants.{Free, Held, Returning}
 use Rattle.units.specs.declared.Unit.{Unit}
 use Rattle.units.specs.declared.Mark.{Mark}
 use Rattle.units.specs.declared.Mark.the-variants.{Down, Reserved}
@@ -45,6 +45,13 @@ unitSet grid c u unit = set grid c (set (getD grid c []) u unit)
 abbrev pub isFree : Holder → Bool
 isFree Free = true
 isFree (Held place) = false
+isFree (Returning place) = false
+
+-- a unit that a job holds may be being returned; a free one never is (02, request 5)
+abbrev pub isReturning : Holder → Bool
+isReturning Free = false
+isReturning (Held place) = false
+isReturning (Returning place) = true
 
 -- a unit is assignable when free and unmarked
 unfoldable pub assignable : Unit → Bool

@@ -2,12 +2,13 @@
 use numbers::ChannelNumber;
 use numbers::UnitNumber;
 ghost use mathlib.Core.Path.{_≡_};
-ghost use Rattle.units.specs.State.{GridOf, unitsFrom, freshUnit, noneHeld, unitIn, unitSet, isFree, assignable, markedUnit};
+ghost use Rattle.units.specs.State.{GridOf, unitsFrom, freshUnit, noneHeld, unitIn, unitSet, isFree, isReturning, assignable, markedUnit};
 
-// A unit is free or held by the job in one place.
+// A unit is free or held by the job in one place; one that it holds may be being returned, and a free one is never.
 pub enum Holder {
     Free,
     Held(u8),
+    Returning(u8),
 }
 
 // A unit: who holds it, its two marks, and its interlock.
@@ -103,6 +104,18 @@ pub fn is_free(holder: Holder) -> bool
     match holder {
         Holder::Free => true,
         Holder::Held(_) => false,
+        Holder::Returning(_) => false,
+    }
+}
+
+// Whether a unit is being returned.
+pub fn is_returning(holder: Holder) -> bool
+    ensures { λ r. ⌜ r ≡ isReturning holder ⌝ }
+{
+    match holder {
+        Holder::Free => false,
+        Holder::Held(_) => false,
+        Holder::Returning(_) => true,
     }
 }
 

@@ -15,6 +15,9 @@ is-running-requires c κs = search needs
 is-own-requires : tie.Need-is-own-requires
 is-own-requires c κs = search needs
 
+is-returning-requires : tie.Need-is-returning-requires
+is-returning-requires c κs = search needs
+
 is-legal-requires : tie.Need-is-legal-requires
 is-legal-requires c κs = search needs
 
@@ -25,7 +28,7 @@ lowest-requires : tie.Need-lowest-requires
 lowest-requires c κs = search needs
 
 returns : tie.Need-returns
-returns c = rw (c .lowest .ensures, c .before .is-busy .ensures, c .before .before .is-legal .ensures, c .before .before .before .is-own .ensures, c .before .before .before .before .is-running .ensures, c .before .before .before .before .before .in-range .ensures, c .before .before .before .before .before .before .packet-in .ensures)
+returns c = rw (c .lowest .ensures, c .before .is-busy .ensures, c .before .before .is-legal .ensures, c .before .before .before .is-returning .ensures, c .before .before .before .before .is-own .ensures, c .before .before .before .before .before .is-running .ensures, c .before .before .before .before .before .before .in-range .ensures, c .before .before .before .before .before .before .before .packet-in .ensures)
 
 pub verdict-spec : {M : Type 1} → statement M
 verdict-spec =
@@ -35,6 +38,7 @@ verdict-spec =
     in-range-requires
     is-running-requires
     is-own-requires
+    is-returning-requires
     is-legal-requires
     is-busy-requires
     lowest-requires

@@ -1,23 +1,23 @@
--- `packets_units::with_lock_at` meets its contract: the drum has no interlock. Assumes nothing.
+-- `packets_units::with_lock_at` meets its contract: the unit is in the same hands. Assumes nothing.
+use mathlib.Core.Path.{ap}
+use Rattle.units.specs.State.{unitsFrom}
+use Rattle.packets_units.proofs.HandedLaws.{locked-as}
 use borrow.Author.Needs.{needs}
 use Rattle.packets_units.proofs.with_lock_at.Statement.{statement}
 use Rattle.packets_units.proofs.with_lock_at.Tie as tie
 
-enum-known-at : tie.Need-enum-known-at
-enum-known-at c = search needs
+unit-where-requires : tie.Need-unit-where-requires
+unit-where-requires c κs = search needs
 
-with-lock-requires : tie.Need-with-lock-requires
-with-lock-requires c κs = search needs
+handed-requires : tie.Need-handed-requires
+handed-requires c κs = search needs
 
-enum-told : tie.Need-enum-told
-enum-told c = search needs
+with-state-at-requires : tie.Need-with-state-at-requires
+with-state-at-requires c κs = search needs
 
 returns : tie.Need-returns
-returns c = rw (c .before .before .at .given .1) (c .with-lock .ensures)
-
-returns-2 : tie.Need-returns-2
-returns-2 c = rw (c .enum-told .given .1)
+returns c = rw (c .with-state-at .ensures, c .before .handed .ensures, c .before .before .unit-where .ensures) (ap unitsFrom (locked-as (c .before .before .before .args .units .of) (c .before .before .before .args .c .0) (c .before .before .before .args .at) (c .before .before .before .args .on)))
 
 pub with-lock-at-spec : {M : Type 1} → statement M
 with-lock-at-spec =
-    tie.close (tie.spec enum-known-at with-lock-requires enum-told returns returns-2)
+    tie.close (tie.spec unit-where-requires handed-requires with-state-at-requires returns)
