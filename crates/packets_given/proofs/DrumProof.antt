@@ -19,12 +19,13 @@ use Rattle.packets.proofs.Inv.{EntryOk, Inv, listed-busy, running-alive}
 use Rattle.packets.proofs.Laws.{and-left, and-right, eqb-self, find-holds, getD-set-keep}
 use Rattle.numbers.proofs.Stores.{getD-set}
 use Rattle.packets.specs.Picks.{find}
-use Rattle.packets.specs.Rules.{Call, Complete, End, Mark, Start, Submit, Take, accept, always, assigned, begun, closed, closing, completed, cut, decided, ended, finished, freshJob, inArea, isDone, isOwn, refusal, returnIfDone, run, startable, siteOf, started, step, submitted}
+use Rattle.packets.specs.Rules.{Call, Complete, End, Mark, Return, Start, Submit, Take, accept, always, assigned, begun, closed, closing, completed, cut, decided, ended, finished, freshJob, handedBack, inArea, isAt, isDone, isOwn, refusal, returnIfDone, run, startable, siteOf, started, step, submitted}
 use Rattle.packets.proofs.SeenLaws.{Calm, calm-finished, calm-return, calm-same, calm-status, calm-submit, calm-sweep, calm-trans, submitted-read}
 use Rattle.packets.specs.State.{State, isBusy, isEmpty, jobIn, motionOn, noJob, packetIn, packetOf, placeOf, restatusAll, setState, stateIn, sweep, unitAt, withState}
 use Rattle.packets.proofs.Steps.{busy-of, find-some, fresh-inv, fresh-state, start-fits, startable-on, step-inv}
 use Rattle.packets.proofs.Store.{alive-in, packet-fresh, packet-state}
-use Rattle.packets.proofs.Told.{assigns-to, completes-on, cut-idle, ends-of, starts-on, submits}
+use Rattle.packets.proofs.Told.{assigns-to, completes-on, cut-idle, ends-of, returns-of, starts-on, submits}
+use Rattle.packets.proofs.Handing.{returns-inside, unitSite}
 use Rattle.packets.specs.declared.Job.{Job}
 use Rattle.packets.specs.declared.JobState.the-variants.{Empty}
 use Rattle.packets.specs.declared.Packet.{Packet}
@@ -35,7 +36,7 @@ use Rattle.packets.specs.declared.Status.the-variants.{Ended, InProgress, Liste
 use Rattle.packets.specs.declared.Verdict.{Verdict}
 use Rattle.packets.specs.declared.Verdict.the-variants.{Denied, Granted}
 use Rattle.packets_given.specs.Given.{AtItsArea, OnItsOwnWords}
-use Rattle.packets_given.proofs.SameLaws.{Share, same-begun, same-closed, same-finished, same-submit, share}
+use Rattle.packets_given.proofs.SameLaws.{Share, same-begun, same-closed, same-finished, same-submit, same-swept, share}
 
 -- ---- one packet
 
@@ -143,6 +144,11 @@ accept-good s I K (End j e) r i n b x d =
     (calm-trans h s s₁ s₃ n (calm-sweep h s j always cut (alive-in (s .jobs) j a) refl cut-idle n)
     (calm-trans h s₁ s₂ s₃ n (calm-same h s₁ s₂ n (packet-state (restatusAll (s .jobs) j always cut) j (closing e) i n)) (calm-return h s₂ j n)))
     (return-share s₂ j i ∙ same-closed s j e a .shares i) (K i n) b x d
+accept-good s I K (Return j c u) r i n b x d =
+    let k = returns-of s j c u r in
+    good-calm s (handedBack s j c (unitSite u)) i n
+    (calm-sweep (its i) s j (isAt c (unitSite u)) cut (returns-inside s I j c u k) refl cut-idle n)
+    (same-swept s j (isAt c (unitSite u)) cut .shares i) (K i n) b x d
 accept-good s I K (Mark c u m on) r i n b x d = K i n b x d
 
 step-good : (s : State) → Inv s → AtItsArea s → (x : Call) → AtItsArea (step s x .state)

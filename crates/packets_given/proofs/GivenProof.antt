@@ -1,9 +1,10 @@
--- That a live job holds exactly what it was given is shown call by call: a taking gives place j what it wants and
--- touches no unit of another place, a return frees the units of place j alone, and every other call changes nothing
--- that a job holds. Assumes nothing.
+-- That a live job holds exactly what it was given less what it has returned is shown call by call: a taking gives place j
+-- what it wants and touches no unit of another place, a return of all facilities frees the units of place j alone, and
+-- of the other calls only a return of one unit and the completion that it waits for change what a job holds: that unit.
+-- Assumes nothing.
 use Prim.Native.Nat.{ℕ, _<_}
 use mathlib.Core.Path.{_≡_, refl, sym, ap, _∙_, subst}
-use mathlib.Core.Bool.{Bool, true, false, not, cond, _&&_}
+use mathlib.Core.Bool.{Bool, true, false, not, cond, _&&_, _||_}
 use mathlib.Core.List.{List, [], _∷_}
 use mathlib.Core.Option.{Option, none, some}
 use lib.ListN.{length}
@@ -12,67 +13,55 @@ use borrow.Author.Tests.{eqb-true, eqb-false, ne-eqb}
 use Rattle.numbers.proofs.Stores.{getD-set}
 use Rattle.numbers.proofs.Tests.{by-bool, never}
 use Rattle.numbers.specs.declared.Refusal.{Refusal}
-use Rattle.units.specs.State.{Square, assignable, isFree, unitIn}
+use Rattle.units.specs.State.{Square, assignable, isFree, isReturning, unitIn}
 use Rattle.units.specs.declared.Holder.{Holder}
-use Rattle.units.specs.declared.Holder.the-variants.{Free, Held}
+use Rattle.units.specs.declared.Holder.the-variants.{Free, Held, Returning}
 use Rattle.units.specs.declared.Unit.{Unit as UnitState}
 use Rattle.channels.specs.declared.Channel.{Channel}
 use Rattle.packets.specs.Demand.{emptyPlace, events, fresh, isAccepted}
+use Rattle.packets.proofs.Handing.{unitSite}
 use Rattle.packets.proofs.Inv.{Inv, running-alive}
 use Rattle.packets.proofs.InvJobs.{held-once}
 use Rattle.packets.proofs.Laws.{and-left, and-right, eqb-self, getD-set-keep}
 use Rattle.packets.specs.Picks.{find}
-use Rattle.packets.specs.Rules.{Call, Complete, End, Mark, Start, Submit, Take, accept, answer, assigned, begun, closed, decided, finished, freshJob, isDone, marked, refusal, returnIfDone, returned, run, startable, started, step, submitted}
-use Rattle.packets.specs.State.{State, heldBy, isClosing, isEmpty, jobIn, motionOn, noJob, setState, stateIn, takeUnit, wanted, withState}
+use Rattle.packets.specs.Rules.{Call, Complete, End, Mark, Return, Start, Submit, Take, accept, answer, assigned, begun, closed, decided, finished, freshJob, isDone, marked, refusal, returnIfDone, returned, run, startable, started, step, submitted}
+use Rattle.packets.specs.State.{State, heldBy, isClosing, isEmpty, jobIn, motionOn, noJob, packetIn, release, setState, stateIn, takeUnit, wanted, withState}
 use Rattle.packets.proofs.Steps.{busy-of, closing-not-running, fresh-inv, fresh-state, run-inv, step-inv}
 use Rattle.packets.proofs.Store.{alive-in, state-fresh, state-state, unit-release}
-use Rattle.packets.proofs.Told.{assigns-to, completes-on, ends-of}
+use Rattle.packets.proofs.Told.{assigns-to, completes-on, ends-of, returns-of}
+use Rattle.packets.proofs.UnitLaws.{release-square, take-read, take-square}
+use Rattle.packets.proofs.Waiting.{fresh-waits, run-waits}
 use Rattle.packets.specs.declared.Answer.the-variants.{Done, Refused}
 use Rattle.packets.specs.declared.Assignment.{Assignment}
 use Rattle.packets.specs.declared.JobState.the-variants.{Empty, Running}
 use Rattle.packets.specs.declared.Verdict.{Verdict}
 use Rattle.packets.specs.declared.Verdict.the-variants.{Denied, Granted}
-use Rattle.packets.proofs.UnitLaws.{release-square, take-read, take-square}
-use Rattle.packets_given.specs.Given.{HoldsWhatItWasGiven, HoldsExactly, Wanting, Wants, takenBy, takenIn}
+use Rattle.packets_given.specs.Given.{Heads, HoldsWhatItWasGiven, Wanting, Wants, askedBy, askedIn, noHeads, takenBy, takenIn}
+use Rattle.packets_given.proofs.HeadLaws.{Alike, Has, Kept, exactly, has-asked, has-on, kept-back, kept-handed}
 use Rattle.packets_given.proofs.SameLaws.{Same, Share, same-begun, same-closed, same-finished, same-marked, same-submit, share}
 
--- ---- what every call keeps
+-- ---- calls that leave what a job holds
 
--- the grid is 16 by 16, and each live job holds what its place was last given
-record Kept (given : ℕ → Option Assignment) (s : State) : Type 0 where
-  pub square : Square (s .units)
-  pub live : (i : ℕ) → isEmpty (stateIn (s .jobs) i) ≡ false → (asg : Assignment) × (given i ≡ some asg) × HoldsExactly s i asg
-
--- a job that keeps its drum area, its core and its units
-holds-on : (s s′ : State) (i : ℕ) (asg : Assignment) → share (jobIn (s′ .jobs) i) ≡ share (jobIn (s .jobs) i)
-    → ((c u : ℕ) → c < 16 → u < 16 → heldBy (unitIn (s′ .units) c u .holder) i ≡ heldBy (unitIn (s .units) c u .holder) i)
-    → HoldsExactly s i asg → HoldsExactly s′ i asg
-holds-on s s′ i asg v e J =
-    record {
-      from = ap (λ (x : Share). x .from) v ∙ J .from;
-      words = ap (λ (x : Share). x .words) v ∙ J .words;
-      core = ap (λ (x : Share). x .core) v ∙ J .core;
-      units = λ c u h l. e c u h l ∙ J .units c u h l;
-    }
-
-kept-same : (given : ℕ → Option Assignment) (s s′ : State) → Same s s′ → Kept given s → Kept given s′
-kept-same given s s′ S K =
+kept-same : (given : ℕ → Option Assignment) (asked : ℕ → Heads) (s s′ : State) → Same s s′ → Kept given asked s → Kept given asked s′
+kept-same given asked s s′ S K =
     record {
       square = S .square (K .square);
       live = λ i a. let k = K .live i (sym (S .empty i) ∙ a) in
-          (k .0, k .1, holds-on s s′ i (k .0) (S .shares i) (λ c u h l. ap (λ (x : Holder). heldBy x i) (S .holders c u)) (k .2));
+          (k .0, k .1, has-on s s′ i (k .0) (asked i) (S .shares i) (λ c u h l. (ap (λ (x : Holder). heldBy x i) (S .holders c u), λ x. ap isReturning (S .holders c u))) (k .2));
     }
 
--- a return frees the units of no other place
-released-other : (h : Holder) (i j : ℕ) → eqb i j ≡ false → heldBy (cond (heldBy h j) Free h) i ≡ heldBy h i
-released-other h i j d =
-    by-bool (heldBy h j)
-    (λ t. rw t (by-bool (heldBy h i) (λ b. absurd (eqb-false i j d (held-once h i j b t))) (λ b. sym b)))
-    (λ t. rw t)
+-- ---- a return of all facilities
 
-kept-returned : (given : ℕ → Option Assignment) (s : State) (j : ℕ) → j < length (s .jobs) → Kept given s → Kept given (returned s j)
+-- it frees the units of no other place
+released-other : (v : UnitState) (i j : ℕ) → eqb i j ≡ false → Alike (release j v .holder) (v .holder) i
+released-other v i j d =
+    by-bool (heldBy (v .holder) j)
+    (λ t. rw t (by-bool (heldBy (v .holder) i) (λ b. absurd (eqb-false i j d (held-once (v .holder) i j b t))) (λ b. (sym b, λ x. never {b = false} x refl))))
+    (λ t. rw t (refl, λ x. refl))
+
+kept-returned : (given : ℕ → Option Assignment) (asked : ℕ → Heads) (s : State) (j : ℕ) → j < length (s .jobs) → Kept given asked s → Kept given asked (returned s j)
 unfolding setState
-kept-returned given s j inside K =
+kept-returned given asked s j inside K =
     record {
       square = release-square (s .units) j (K .square);
       live = λ i a.
@@ -82,18 +71,18 @@ kept-returned given s j inside K =
           (λ d. let k = K .live i (rw d at b) in (
             k .0,
             k .1,
-            holds-on s (returned s j) i (k .0)
+            has-on s (returned s j) i (k .0) (asked i)
                 (getD-set-keep share (s .jobs) j (withState (jobIn (s .jobs) j) Empty) i noJob refl)
-                (λ c u h l. rw (unit-release (s .units) j c u) (released-other (unitIn (s .units) c u .holder) i j d))
+                (λ c u h l. rw (unit-release (s .units) j c u) (released-other (unitIn (s .units) c u) i j d))
                 (k .2),
           ));
     }
 
-kept-return : (given : ℕ → Option Assignment) (s : State) (j : ℕ) → Kept given s → Kept given (returnIfDone j s)
-kept-return given s j K =
+kept-return : (given : ℕ → Option Assignment) (asked : ℕ → Heads) (s : State) (j : ℕ) → Kept given asked s → Kept given asked (returnIfDone j s)
+kept-return given asked s j K =
     by-bool (isDone s j)
     (λ e. let a = closing-not-running (stateIn (s .jobs) j) (and-left (isClosing (stateIn (s .jobs) j)) _ e) .1 in
-    rw e (kept-returned given s j (alive-in (s .jobs) j a) K))
+    rw e (kept-returned given asked s j (alive-in (s .jobs) j a) K))
     (λ e. rw e K)
 
 -- ---- a taking
@@ -109,85 +98,90 @@ assignable-free v e = and-right (not (v .reserved)) _ (and-right (not (v .down))
 free-unheld : (h : Holder) (i : ℕ) → isFree h ≡ true → heldBy h i ≡ false
 free-unheld Free i e = refl
 free-unheld (Held k) i e = never {b = false} e refl
+free-unheld (Returning k) i e = never {b = false} e refl
 
 -- a unit that is not held by place j is held by it after the taking exactly when it is wanted, if all that is
--- wanted is assignable
-taken-own : (j : ℕ) (w : Bool) (v : UnitState) → (w ≡ true → assignable v ≡ true) → heldBy (v .holder) j ≡ false → heldBy (takeUnit j w v .holder) j ≡ w
-taken-own j true v f n = rw (f refl) (eqb-self j)
-taken-own j false v f n = n
+-- wanted is assignable; and it is not being returned
+taken-own : (j : ℕ) (w : Bool) (v : UnitState) → (w ≡ true → assignable v ≡ true) → heldBy (v .holder) j ≡ false
+    → (heldBy (takeUnit j w v .holder) j ≡ w) × (heldBy (takeUnit j w v .holder) j ≡ true → isReturning (takeUnit j w v .holder) ≡ false)
+taken-own j true v f n = rw (f refl) (eqb-self j, λ x. refl)
+taken-own j false v f n = (n, λ x. never {b = heldBy (v .holder) j} x n)
 
 -- a taking gives no unit to another place, and takes none from it
-taken-other : (i j : ℕ) → eqb i j ≡ false → (w : Bool) (v : UnitState) → heldBy (takeUnit j w v .holder) i ≡ heldBy (v .holder) i
+taken-other : (i j : ℕ) → eqb i j ≡ false → (w : Bool) (v : UnitState) → Alike (takeUnit j w v .holder) (v .holder) i
 taken-other i j d w v =
     by-bool (w && assignable v)
-    (λ e. rw e (ne-eqb j i (λ q. eqb-false i j d (sym q)) ∙ sym (free-unheld (v .holder) i (assignable-free v (and-right w (assignable v) e)))))
-    (λ e. rw e)
+    (λ e. let n = ne-eqb j i (λ q. eqb-false i j d (sym q)) in
+    rw e (n ∙ sym (free-unheld (v .holder) i (assignable-free v (and-right w (assignable v) e))), λ x. never {b = eqb j i} x n))
+    (λ e. rw e (refl, λ x. refl))
 
 -- a taking into another place is not this place's
 taken-elsewhere : (i j : ℕ) (last : Option Assignment) (asg : Assignment) → eqb i j ≡ false → takenBy i last (Take j asg) Done ≡ last
 unfolding takenBy
 taken-elsewhere i j last asg d = ap (λ (b : Bool). cond b (some asg) last) d
 
-module _ (given : ℕ → Option Assignment) (s : State) (I : Inv s) (j : ℕ) (asg : Assignment) (small : j < 16) (none-there : isEmpty (stateIn (s .jobs) j) ≡ true)
-    (wants : (c u : ℕ) → c < 16 → u < 16 → wanted asg c u ≡ true → assignable (unitIn (s .units) c u) ≡ true) (K : Kept given s) where
+module _ (given : ℕ → Option Assignment) (asked : ℕ → Heads) (s : State) (I : Inv s) (j : ℕ) (asg : Assignment) (small : j < 16) (none-there : isEmpty (stateIn (s .jobs) j) ≡ true)
+    (wants : (c u : ℕ) → c < 16 → u < 16 → wanted asg c u ≡ true → assignable (unitIn (s .units) c u) ≡ true) (K : Kept given asked s) where
   job-after : (i : ℕ) → jobIn (assigned s j asg .jobs) i ≡ cond (eqb i j) (freshJob asg) (jobIn (s .jobs) i)
   job-after i = getD-set (s .jobs) j (freshJob asg) i noJob (rw (I .places) small)
 
-  own : HoldsExactly (assigned s j asg) j asg
-  own =
-      let v : share (jobIn (assigned s j asg .jobs) j) ≡ share (freshJob asg) = rw (job-after j, eqb-self j) in
+  own : (heads : Heads) → ((c u : ℕ) → heads c u ≡ false) → Has (assigned s j asg) j asg heads
+  own heads none-asked =
       record {
-        from = ap (λ (x : Share). x .from) v;
-        words = ap (λ (x : Share). x .words) v;
-        core = ap (λ (x : Share). x .core) v;
-        units = λ c u h l. rw (take-read (s .units) j (wanted asg) (K .square) c u h l)
+        shared = rw (job-after j, eqb-self j);
+        unasked = λ c u h l e. rw (take-read (s .units) j (wanted asg) (K .square) c u h l)
             (taken-own j (wanted asg c u) (unitIn (s .units) c u) (wants c u h l) (none-held s I j none-there c u));
+        known = λ c u h l e. never {b = heads c u} e (none-asked c u);
       }
 
-  kept-taken : Kept (λ (i : ℕ). takenBy i (given i) (Take j asg) Done) (assigned s j asg)
-  unfolding takenBy
+  kept-taken : Kept (λ (i : ℕ). takenBy i (given i) (Take j asg) Done) (λ (i : ℕ). askedBy i (asked i) (Take j asg) Done) (assigned s j asg)
+  unfolding takenBy askedBy
   kept-taken =
       record {
         square = take-square (s .units) j (wanted asg) (K .square);
         live = λ i a.
             let b : isEmpty (cond (eqb i j) Running (stateIn (s .jobs) i)) ≡ false = rw (state-fresh (s .jobs) j asg i (rw (I .places) small)) at a in
             by-bool (eqb i j)
-            (λ d. (asg, rw d, subst (λ (n : ℕ). HoldsExactly (assigned s j asg) n asg) (sym (eqb-true i j d)) own))
+            (λ d. (asg, rw d, subst (λ (n : ℕ). Has (assigned s j asg) n asg (λ c u. cond (eqb i j) false (asked i c u))) (sym (eqb-true i j d)) (own (λ c u. cond (eqb i j) false (asked i c u)) (λ c u. rw d))))
             (λ d. let k = K .live i (rw d at b) in (
               k .0,
               taken-elsewhere i j (given i) asg d ∙ k .1,
-              holds-on s (assigned s j asg) i (k .0) (rw (job-after i, d))
+              has-asked (assigned s j asg) i (k .0) (asked i) (λ c u. cond (eqb i j) false (asked i c u)) (λ c u. rw d)
+                  (has-on s (assigned s j asg) i (k .0) (asked i) (rw (job-after i, d))
                   (λ c u h l. rw (take-read (s .units) j (wanted asg) (K .square) c u h l) (taken-other i j d (wanted asg c u) (unitIn (s .units) c u)))
-                  (k .2),
+                  (k .2)),
             ));
       }
 
 -- ---- every call
 
-accept-kept : (given : ℕ → Option Assignment) (s : State) → Inv s → (x : Call) → refusal s x ≡ Granted → Wants s x → Kept given s
-    → Kept (λ (i : ℕ). takenBy i (given i) x (answer s x)) (accept s x)
-unfolding accept answer takenBy
-accept-kept given s I (Take j asg) r f K =
-    kept-taken given s I j asg (assigns-to s j asg r .0) (assigns-to s j asg r .1) (f accepted) K
+accept-kept : (given : ℕ → Option Assignment) (asked : ℕ → Heads) (s : State) → Inv s → (x : Call) → refusal s x ≡ Granted → Wants s x → Kept given asked s
+    → Kept (λ (i : ℕ). takenBy i (given i) x (answer s x)) (λ (i : ℕ). askedBy i (asked i) x (answer s x)) (accept s x)
+unfolding accept answer takenBy askedBy
+accept-kept given asked s I (Take j asg) r f K =
+    kept-taken given asked s I j asg (assigns-to s j asg r .0) (assigns-to s j asg r .1) (f accepted) K
   where
     accepted : isAccepted (step s (Take j asg) .answer) ≡ true
     accepted = unfold step in rw r
-accept-kept given s I (Submit j p f c w) r k K = kept-same given s (submitted s j p f c w) (same-submit s j p f c w) K
-accept-kept given s I (Start c) r k K = go (find (startable s c) (s .queue))
+accept-kept given asked s I (Submit j p f c w) r k K = kept-same given asked s (submitted s j p f c w) (same-submit s j p f c w) K
+accept-kept given asked s I (Start c) r k K = go (find (startable s c) (s .queue))
   where
-    go : (o : Option ℕ) → Kept given (started s c o)
+    go : (o : Option ℕ) → Kept given asked (started s c o)
     go none = K
-    go (some e) = kept-same given s (begun s c e) (same-begun s c e) K
-accept-kept given s I (Complete c how) r k K =
+    go (some e) = kept-same given asked s (begun s c e) (same-begun s c e) K
+accept-kept given asked s I (Complete c how) r k K =
     let o = busy-of (motionOn s c) (completes-on s c how r .1) in
     let s₁ = finished s c how (o .0) (o .1) in
-    rw (o .2) (kept-return given s₁ (o .0) (kept-same given s s₁ (same-finished s c how (o .0) (o .1)) K))
-accept-kept given s I (End j e) r k K =
+    rw (o .2)
+    (kept-back given asked (returnIfDone (o .0) s₁) c (packetIn (s .jobs) (o .0) (o .1) .at)
+    (kept-return given asked s₁ (o .0) (kept-same given asked s s₁ (same-finished s c how (o .0) (o .1)) K)))
+accept-kept given asked s I (End j e) r k K =
     let a = running-alive (stateIn (s .jobs) j) (ends-of s j e r) in
-    kept-return given (closed s j e) j (kept-same given s (closed s j e) (same-closed s j e a) K)
-accept-kept given s I (Mark c u m on) r k K = kept-same given s (marked s c u m on) (same-marked s c u m on) K
+    kept-return given asked (closed s j e) j (kept-same given asked s (closed s j e) (same-closed s j e a) K)
+accept-kept given asked s I (Return j c u) r k K = kept-handed given asked s I j c u (returns-of s j c u r) K
+accept-kept given asked s I (Mark c u m on) r k K = kept-same given asked s (marked s c u m on) (same-marked s c u m on) K
 
--- a refused call gives nothing
+-- a refused call gives nothing, and asks for nothing
 refused-keeps : (j : ℕ) (last : Option Assignment) (x : Call) (n : Refusal) → takenBy j last x (Refused n) ≡ last
 unfolding takenBy
 refused-keeps j last (Take i asg) n = refl
@@ -195,24 +189,41 @@ refused-keeps j last (Submit i p f c w) n = refl
 refused-keeps j last (Start c) n = refl
 refused-keeps j last (Complete c how) n = refl
 refused-keeps j last (End i e) n = refl
+refused-keeps j last (Return i c u) n = refl
 refused-keeps j last (Mark c u m on) n = refl
 
-step-kept : (given : ℕ → Option Assignment) (s : State) → Inv s → (x : Call) → Wants s x → Kept given s
-    → Kept (λ (i : ℕ). takenBy i (given i) x (step s x .answer)) (step s x .state)
-step-kept given s I x f K = unfold step in go (refusal s x) refl
+refused-asks : (j : ℕ) (t : Heads) (x : Call) (n : Refusal) (c u : ℕ) → askedBy j t x (Refused n) c u ≡ t c u
+unfolding askedBy
+refused-asks j t (Take i asg) n c u = refl
+refused-asks j t (Submit i p f d w) n c u = refl
+refused-asks j t (Start d) n c u = refl
+refused-asks j t (Complete d how) n c u = refl
+refused-asks j t (End i e) n c u = refl
+refused-asks j t (Return i d v) n c u = refl
+refused-asks j t (Mark d v m on) n c u = refl
+
+step-kept : (given : ℕ → Option Assignment) (asked : ℕ → Heads) (s : State) → Inv s → (x : Call) → Wants s x → Kept given asked s
+    → Kept (λ (i : ℕ). takenBy i (given i) x (step s x .answer)) (λ (i : ℕ). askedBy i (asked i) x (step s x .answer)) (step s x .state)
+step-kept given asked s I x f K = unfold step in go (refusal s x) refl
   where
-    go : (v : Verdict) → refusal s x ≡ v → Kept (λ (i : ℕ). takenBy i (given i) x (decided s x v .answer)) (decided s x v .state)
-    go Granted r = accept-kept given s I x r f K
-    go (Denied n) r = record { square = K .square; live = λ i a. let k = K .live i a in (k .0, refused-keeps i (given i) x n ∙ k .1, k .2) }
+    go : (v : Verdict) → refusal s x ≡ v → Kept (λ (i : ℕ). takenBy i (given i) x (decided s x v .answer)) (λ (i : ℕ). askedBy i (asked i) x (decided s x v .answer)) (decided s x v .state)
+    go Granted r = accept-kept given asked s I x r f K
+    go (Denied n) r =
+        record {
+          square = K .square;
+          live = λ i a. let k = K .live i a in
+              (k .0, refused-keeps i (given i) x n ∙ k .1, has-asked s i (k .0) (asked i) (askedBy i (asked i) x (Refused n)) (refused-asks i (asked i) x n) (k .2));
+        }
 
-run-kept : (given : ℕ → Option Assignment) (s : State) → Inv s → (l : List Call) → Wanting s l → Kept given s
-    → Kept (λ (i : ℕ). takenIn i (given i) (events s l)) (run s l)
-unfolding run events takenIn
-run-kept given s I [] f K = K
-run-kept given s I (x ∷ l) f K =
-    run-kept (λ (i : ℕ). takenBy i (given i) x (step s x .answer)) (step s x .state) (step-inv s I x) l (f .1) (step-kept given s I x (f .0) K)
+run-kept : (given : ℕ → Option Assignment) (asked : ℕ → Heads) (s : State) → Inv s → (l : List Call) → Wanting s l → Kept given asked s
+    → Kept (λ (i : ℕ). takenIn i (given i) (events s l)) (λ (i : ℕ). askedIn i (asked i) (events s l)) (run s l)
+unfolding run events takenIn askedIn
+run-kept given asked s I [] f K = K
+run-kept given asked s I (x ∷ l) f K =
+    run-kept (λ (i : ℕ). takenBy i (given i) x (step s x .answer)) (λ (i : ℕ). askedBy i (asked i) x (step s x .answer)) (step s x .state) (step-inv s I x) l (f .1)
+    (step-kept given asked s I x (f .0) K)
 
-fresh-kept : (channels : List Channel) (codes : ℕ) (units : List (List UnitState)) → Square units → Kept (λ (i : ℕ). none) (fresh channels codes units)
+fresh-kept : (channels : List Channel) (codes : ℕ) (units : List (List UnitState)) → Square units → Kept (λ (i : ℕ). none) (λ (i : ℕ). noHeads) (fresh channels codes units)
 unfolding fresh
 fresh-kept channels codes units q =
     record {
@@ -223,9 +234,13 @@ fresh-kept channels codes units q =
 pub holds-what-it-was-given : HoldsWhatItWasGiven
 holds-what-it-was-given channels codes units free q calls f j =
     record {
-      live = λ a. run-kept (λ (i : ℕ). none) (fresh channels codes units) I calls f (fresh-kept channels codes units q) .live j a;
-      empty = λ a c u. none-held (run (fresh channels codes units) calls) (run-inv (fresh channels codes units) I calls) j a c u;
+      live = λ a. let k = run-kept (λ (i : ℕ). none) (λ (i : ℕ). noHeads) s₀ I calls f (fresh-kept channels codes units q) .live j a in
+          (k .0, k .1, exactly (run s₀ calls) (run-inv s₀ I calls) (run-waits s₀ I (fresh-waits channels codes units free) calls) j (k .0) (askedIn j noHeads (events s₀ calls)) (k .2));
+      empty = λ a c u. none-held (run s₀ calls) (run-inv s₀ I calls) j a c u;
     }
   where
-    I : Inv (fresh channels codes units)
+    s₀ : State
+    s₀ = fresh channels codes units
+
+    I : Inv s₀
     I = fresh-inv channels codes units free

@@ -1,4 +1,5 @@
 pub mod SameLaws
+pub mod HeadLaws
 pub mod GivenProof
 pub mod DrumProof
 pub mod OwnLaws

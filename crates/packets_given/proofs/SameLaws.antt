@@ -75,22 +75,25 @@ same-job s s′ j k e d t v =
     }
 
 -- one unit changed
+pub squared : (units : List (List UnitState)) (c u : ℕ) (v : UnitState) → Square units → Square (unitSet units c u v)
+squared units c u v q = elim (decLt c 16) [ yes k ↦ set-square units q c u v k | no k ↦ subst Square (sym (set-past units q c u v (omega arith))) q ]
+
 same-unit : (s s′ : State) (c u : ℕ) (v : UnitState) → s′ .jobs ≡ s .jobs → s′ .units ≡ unitSet (s .units) c u v → v .holder ≡ unitIn (s .units) c u .holder → Same s s′
 same-unit s s′ c u v e d h =
     record {
       empty = λ i. rw e;
       shares = λ i. rw e;
       holders = λ b w. rw d (unit-keep (λ (x : UnitState). x .holder) (s .units) c u v b w h);
-      square = λ q. rw d (elim (decLt c 16) [ yes k ↦ set-square (s .units) q c u v k | no k ↦ subst Square (sym (set-past (s .units) q c u v (omega arith))) q ]);
+      square = λ q. rw d (squared (s .units) c u v q);
     }
 
 same-store : (s : State) (j p : ℕ) (q : Packet) → Same s (store s j p q)
 unfolding put stateIn
 same-store s j p q = same-job s (store s j p q) j (withPackets (jobIn (s .jobs) j) (set (jobIn (s .jobs) j .packets) p q)) refl refl refl refl
 
-same-sweep : (s : State) (j : ℕ) (t : Packet → Bool) (f : Status → Status) → Same s (sweep s j t f)
+pub same-swept : (s : State) (j : ℕ) (t : Packet → Bool) (f : Status → Status) → Same s (sweep s j t f)
 unfolding restatusAll stateIn
-same-sweep s j t f = same-job s (sweep s j t f) j (withPackets (jobIn (s .jobs) j) (map (restatus t f) (jobIn (s .jobs) j .packets))) refl refl refl refl
+same-swept s j t f = same-job s (sweep s j t f) j (withPackets (jobIn (s .jobs) j) (map (restatus t f) (jobIn (s .jobs) j .packets))) refl refl refl refl
 
 -- a live job closes
 same-close : (s : State) (j : ℕ) (t : JobState) → isEmpty (stateIn (s .jobs) j) ≡ false → isEmpty t ≡ false → Same s (close s j t)
@@ -110,11 +113,11 @@ same-submit s j p f c w =
     let swept = sweep s j (isAt c a) failed in
     by-bool (eqb f 0o07)
     (λ e. rw e (by-bool (locked s c a)
-    (λ d. rw d (same-trans (same-sweep s j (isAt c a) failed) (same-trans (same-lock swept c a false) (same-store (lock swept c a false) j p done))))
+    (λ d. rw d (same-trans (same-swept s j (isAt c a) failed) (same-trans (same-lock swept c a false) (same-store (lock swept c a false) j p done))))
     (λ d. rw d (same-store s j p done))))
     (λ e. rw e (by-bool (eqb f 0o23)
     (λ d. let t = aimed c w in
-    rw d (same-trans (same-sweep s j t cut) (same-store (sweep s j t cut) j p done)))
+    rw d (same-trans (same-swept s j t cut) (same-store (sweep s j t cut) j p done)))
     (λ d. let listed = packet Listed f c a in
     rw d (same-trans (same-store s j p listed) (same-rest (store s j p listed) (enlist s j p f c a) refl refl)))))
 
@@ -130,12 +133,12 @@ same-finished s c how j p =
     let s₁ = over s c j p (codeFor how) in
     let o : Same s s₁ = same-trans (same-rest s (move s c Idle) refl refl) (same-store (move s c Idle) j p q) in
     by-bool (isTrouble (s .codes) how && isUnit a)
-    (λ e. rw e (same-trans o (same-trans (same-sweep s₁ j (isAt c a) failed) (same-lock (sweep s₁ j (isAt c a) failed) c a true))))
+    (λ e. rw e (same-trans o (same-trans (same-swept s₁ j (isAt c a) failed) (same-lock (sweep s₁ j (isAt c a) failed) c a true))))
     (λ e. rw e o)
 
 pub same-closed : (s : State) (j : ℕ) (e : Bool) → isEmpty (stateIn (s .jobs) j) ≡ false → Same s (closed s j e)
 same-closed s j e a =
-    same-trans (same-sweep s j always cut)
+    same-trans (same-swept s j always cut)
     (same-close (sweep s j always cut) j (closing e) (rw (state-restatus (s .jobs) j always cut j) a) (closing-alive e))
 
 pub same-marked : (s : State) (c u : ℕ) (m : UnitMark) (on : Bool) → Same s (marked s c u m on)

@@ -1,20 +1,20 @@
--- A live job holds exactly what it was given: its drum area, its core and its units are those of the last taking
--- into its place, until all facilities return together; an empty place holds no unit. What is listed or moves on
--- the drum is at an address of its job's area. A reader has to believe this page.
+-- A live job holds exactly what it was given less what it has returned: its drum area and its core are those of the last
+-- taking into its place, and its units are those but for the ones that it gave back early, until the rest returns
+-- together; an empty place holds no unit. What is listed or moves on the drum is at an address of its job's area. A reader
+-- has to believe this page.
 use Prim.Native.Nat.{ℕ, _<_}
 use mathlib.Core.Path.{_≡_}
-use mathlib.Core.Bool.{true, false, cond, _&&_}
+use mathlib.Core.Bool.{Bool, true, false, not, cond, _&&_, _||_}
 use mathlib.Core.List.{List, [], _∷_}
 use mathlib.Core.Option.{Option, none, some}
 use lib.Dec.{eqb}
-use Rattle.units.specs.State.{Square, assignable, unitIn}
-use Rattle.units.specs.declared.Holder.the-variants.{Held}
+use Rattle.units.specs.State.{Square, assignable, isReturning, unitIn}
 use Rattle.units.specs.declared.Unit.{Unit as UnitState}
 use Rattle.channels.specs.declared.Channel.{Channel}
 use Rattle.packets.specs.Apart.{inCore}
 use Rattle.packets.specs.Demand.{Event, NoneHeld, events, fresh, isAccepted}
-use Rattle.packets.specs.Rules.{Call, Complete, End, Mark, Start, Submit, Take, inArea, run, step}
-use Rattle.packets.specs.State.{State, heldBy, isBusy, isEmpty, jobIn, packetIn, stateIn, wanted}
+use Rattle.packets.specs.Rules.{Call, Complete, End, Mark, Return, Start, Submit, Take, inArea, movesAt, run, step}
+use Rattle.packets.specs.State.{State, heldBy, isBusy, isEmpty, jobIn, motionOn, packetIn, stateIn, wanted}
 use Rattle.packets.specs.declared.Answer.{Answer}
 use Rattle.packets.specs.declared.Assignment.{Assignment}
 use Rattle.packets.specs.declared.Packet.{Packet}
@@ -30,6 +30,7 @@ takenBy j last (Submit i p f c w) r = last
 takenBy j last (Start c) r = last
 takenBy j last (Complete c how) r = last
 takenBy j last (End i e) r = last
+takenBy j last (Return i c u) r = last
 takenBy j last (Mark c u m on) r = last
 
 unfoldable pub takenIn : ℕ → Option Assignment → List Event → Option Assignment
@@ -39,6 +40,33 @@ takenIn j last (e ∷ l) = takenIn j (takenBy j last (e .call) (e .answer)) l
 -- the assignment of the last accepted taking into place j, from a fresh cell on
 abbrev pub taking : List Event → ℕ → Option Assignment
 taking l j = takenIn j none l
+
+-- ---- what was asked back, by the calls and their answers alone
+
+-- some units, by channel and number
+abbrev pub Heads : Type 0
+Heads = ℕ → ℕ → Bool
+
+abbrev pub noHeads : Heads
+noHeads c u = false
+
+-- an accepted return of place j asks for its unit; a taking into place j begins with none
+unfoldable pub askedBy : ℕ → Heads → Call → Answer → Heads
+askedBy j t (Take i asg) r c u = cond (isAccepted r && eqb j i) false (t c u)
+askedBy j t (Submit i p f d w) r c u = t c u
+askedBy j t (Start d) r c u = t c u
+askedBy j t (Complete d how) r c u = t c u
+askedBy j t (End i e) r c u = t c u
+askedBy j t (Return i d v) r c u = (isAccepted r && (eqb j i && (eqb c d && eqb u v))) || t c u
+askedBy j t (Mark d v m on) r c u = t c u
+
+unfoldable pub askedIn : ℕ → Heads → List Event → Heads
+askedIn j t [] = t
+askedIn j t (e ∷ l) = askedIn j (askedBy j t (e .call) (e .answer)) l
+
+-- the units whose return the job in place j has asked for since it was taken, from a fresh cell on
+abbrev pub asking : List Event → ℕ → Heads
+asking l j = askedIn j noHeads l
 
 -- ---- what a taking may be given
 
@@ -51,6 +79,7 @@ Wants s (Submit j p f c w) = Unit {0}
 Wants s (Start c) = Unit {0}
 Wants s (Complete c how) = Unit {0}
 Wants s (End j e) = Unit {0}
+Wants s (Return j c u) = Unit {0}
 Wants s (Mark c u m on) = Unit {0}
 
 -- so it is with each taking of a history
@@ -60,19 +89,29 @@ Wanting s (x ∷ l) = Wants s x × Wanting (step s x .state) l
 
 -- ---- what a place holds
 
--- the job in place j holds what the assignment gives: that drum area, that core, and a unit exactly when the
--- assignment has it
-pub record HoldsExactly (s : State) (j : ℕ) (asg : Assignment) : Type 0 where
+-- what it has returned: a unit whose return it has asked for is "free when that completion comes, or at once if nothing
+-- moves"
+abbrev pub hasReturned : State → ℕ → Heads → Heads
+hasReturned s j asked c u = asked c u && not (movesAt s j c (AtUnit (record { 0 = u })) (motionOn s c))
+
+-- the job in place j holds what the assignment gave less what it has returned: that drum area, that core, and a unit
+-- exactly when the assignment has it and it has not returned it
+pub record HoldsExactly (s : State) (j : ℕ) (asg : Assignment) (asked : Heads) : Type 0 where
   pub from : jobIn (s .jobs) j .from ≡ asg .from
   pub words : jobIn (s .jobs) j .words ≡ asg .words
   pub core : jobIn (s .jobs) j .core ≡ asg .core
-  pub units : (c u : ℕ) → c < 16 → u < 16 → heldBy (unitIn (s .units) c u .holder) j ≡ wanted asg c u
+  pub units : (c u : ℕ) → c < 16 → u < 16 → heldBy (unitIn (s .units) c u .holder) j ≡ wanted asg c u && not (hasReturned s j asked c u)
+  -- of the units that it holds those are being returned whose return it has asked for
+  pub returning : (c u : ℕ) → c < 16 → u < 16 → heldBy (unitIn (s .units) c u .holder) j ≡ true
+      → isReturning (unitIn (s .units) c u .holder) ≡ asked c u
 
--- all that the assignment gave is still the job's own: the job is there, it holds exactly that, and no other job
--- holds a word of its drum area or a block of its core
-pub record StillOwn (s : State) (j : ℕ) (asg : Assignment) : Type 0 where
+-- all that the assignment gave and that it has not returned is still the job's own: the job is there, it holds exactly
+-- that, and no other job holds one of its units, a word of its drum area or a block of its core
+pub record StillOwn (s : State) (j : ℕ) (asg : Assignment) (asked : Heads) : Type 0 where
   pub there : isEmpty (stateIn (s .jobs) j) ≡ false
-  pub holds : HoldsExactly s j asg
+  pub holds : HoldsExactly s j asg asked
+  -- of units that is so by type: a unit has one holder
+  pub heads : (i c u : ℕ) → heldBy (unitIn (s .units) c u .holder) j ≡ true → heldBy (unitIn (s .units) c u .holder) i ≡ true → i ≡ j
   pub drum : (i x : ℕ) → isEmpty (stateIn (s .jobs) i) ≡ false
       → inArea (jobIn (s .jobs) j) x ≡ true → inArea (jobIn (s .jobs) i) x ≡ true → i ≡ j
   pub core : (i x : ℕ) → isEmpty (stateIn (s .jobs) i) ≡ false
@@ -80,15 +119,15 @@ pub record StillOwn (s : State) (j : ℕ) (asg : Assignment) : Type 0 where
 
 -- the unit that a packet is on is its job's, or, on the drum, its address is of its job's area
 abbrev pub IsOwn : State → ℕ → ℕ → Site → Type 0
-IsOwn s j c (AtUnit u) = unitIn (s .units) c (u .0) .holder ≡ Held j
+IsOwn s j c (AtUnit u) = heldBy (unitIn (s .units) c (u .0) .holder) j ≡ true
 IsOwn s j c (AtAddress x) = inArea (jobIn (s .jobs) j) x ≡ true
 
 abbrev pub OnItsOwn : State → ℕ → Packet → Type 0
 OnItsOwn s j q = IsOwn s j (q .channel .0) (q .at)
 
-pub record AsGiven (s : State) (j : ℕ) (last : Option Assignment) : Type 0 where
-  -- a job that runs or is closing was taken, and holds what it was given
-  pub live : isEmpty (stateIn (s .jobs) j) ≡ false → (asg : Assignment) × (last ≡ some asg) × HoldsExactly s j asg
+pub record AsGiven (s : State) (j : ℕ) (last : Option Assignment) (asked : Heads) : Type 0 where
+  -- a job that runs or is closing was taken, and holds what it was given less what it has returned
+  pub live : isEmpty (stateIn (s .jobs) j) ≡ false → (asg : Assignment) × (last ≡ some asg) × HoldsExactly s j asg asked
   -- no job is there, or its facilities have returned
   pub empty : isEmpty (stateIn (s .jobs) j) ≡ true → (c u : ℕ) → heldBy (unitIn (s .units) c u .holder) j ≡ false
 
@@ -98,6 +137,7 @@ HoldsWhatItWasGiven =
     (channels : List Channel) (codes : ℕ) (units : List (List UnitState)) → NoneHeld units → Square units → (calls : List Call)
     → Wanting (fresh channels codes units) calls
     → (j : ℕ) → AsGiven (run (fresh channels codes units) calls) j (taking (events (fresh channels codes units) calls) j)
+    (asking (events (fresh channels codes units) calls) j)
 
 -- a packet that is listed, in progress or stopping at an address is at one of its job's area
 abbrev pub AtItsArea : State → Type 0
