@@ -1,7 +1,7 @@
 -- A completion's outcome, from what its parts have computed. Assumes nothing.
 use Prim.Native.Nat.{ℕ, _%_, _<_}
 use mathlib.Core.Path.{_≡_, refl, sym, ap, _∙_}
-use mathlib.Core.Bool.{Bool, true, false, not, cond, _&&_}
+use mathlib.Core.Bool.{Bool, true, false, not, cond, _&&_, _||_}
 use mathlib.Core.List.{List, map}
 use native.Mathlib.Omega.{arith}
 use lib.ListN.{length, getD, set}
@@ -9,13 +9,14 @@ use lib.Dec.{ltb}
 use borrow.Author.Tests.{ltb-true, not-false}
 use Rattle.numbers.proofs.Tests.{by-bool, never}
 use Rattle.numbers.specs.declared.Refusal.the-variants.{NothingInProgress, OutOfRange, WrongCompletion}
-use Rattle.units.specs.State.{unitsFrom}
+use Rattle.units.specs.State.{isReturning, unitsFrom}
+use Rattle.units.specs.declared.Unit.{Unit as UnitState}
 use Rattle.units.specs.declared.Units.{Units}
 use Rattle.channels.specs.declared.Channel.{Channel}
 use Rattle.channels.specs.declared.Fitted.the-variants.{Nothing}
-use Rattle.packets.proofs.Laws.{and-left, and-right, passes}
-use Rattle.packets.specs.Rules.{Complete, accept, answer, isAt, broken, codeFor, completed, completes, failed, finished, first, isTrouble, isWrong, leaving, over, refusal, returnIfDone}
-use Rattle.packets.specs.State.{State, blank, carrying, configured, isIdle, isListed, isThereOf, isUnit, jobIn, lock, motionOn, movingStatus, move, noJob, packetIn, relist, restatus, setLock, store, sweep, withPackets, withStatus}
+use Rattle.packets.proofs.Laws.{and-left, and-right, neither, passes}
+use Rattle.packets.specs.Rules.{Complete, accept, answer, isAt, broken, codeFor, completed, completes, failed, finished, first, freeIfReturning, isTrouble, isWrong, leaving, over, refusal, returnIfDone}
+use Rattle.packets.specs.State.{State, blank, carrying, configured, isIdle, isListed, isThereOf, isUnit, jobIn, lock, motionOn, movingStatus, move, noJob, packetIn, relist, restatus, setLock, store, sweep, unitAt, withPackets, withStatus}
 use Rattle.packets.proofs.Told.{configured-in}
 use Rattle.packets.specs.declared.Acted.{Acted}
 use Rattle.packets.specs.declared.Answer.the-variants.{Completed}
@@ -156,13 +157,22 @@ module _ (r : Lists) (c : ℕ) (how : How) (m : Motion) (is : m ≡ getD (r .mov
           lists = record { channels = r .channels; codes = r .codes; jobs = set (r .jobs) (j % 16) (over .job); list = left; moving = set (r .moving) (c % 16) idle; units = units };
           answer = Completed j p (over .leaving);
         }) (outcome r (Complete c how))
-    unfolding accept answer
+    unfolding accept answer packetIn
     complete-is idle i b bi over o left l units u =
         let k : c % 16 ≡ c = (let h = told .0 in omega arith) in
         let n : j % 16 ≡ j = (let h = moves .1 in omega arith) in
         let h : j < length (r .jobs) = omega (arith, size, moves .1) in
         granted-is r (Complete c how) granted _ _
         (rw (l, u, o, bi, qi, i, k, n, ending-packets _ overs)
-        (sym (ap (λ (x : Motion). listsOf (completed (stateOf r) c how x)) (moves .0) ∙ ap listsOf (ap (returnIfDone j) whole ∙ focus-return shut j h overs kept))))
+        (sym (ap (λ (x : Motion). listsOf (completed (stateOf r) c how x)) (moves .0) ∙ ap (λ (z : State). listsOf (freeIfReturning z c site)) (ap (returnIfDone j) whole ∙ focus-return shut j h overs kept))))
         (rw (o, bi, qi, i, k, n)
         (sym (ap (completes (stateOf r) c how) (moves .0) ∙ ap (Completed j p) (ap (leaving j) whole ∙ focus-leaving shut j h overs kept))))
+
+-- nothing of the units changes where nothing broke, nothing is done and the unit is not being returned
+pub unchanged : (units : List (List UnitState)) (c j : ℕ) (a : Site) (unit : UnitState) → unit ≡ unitAt units c a
+    → (b d : Bool) → b || (d || isReturning (unit .holder)) ≡ false → units ≡ unitsAfter units c a b j d
+unchanged units c j a unit is b d e =
+    let x = neither b (d || isReturning (unit .holder)) e in
+    let y = neither d (isReturning (unit .holder)) (x .1) in
+    let z : isReturning (unitAt units c a .holder) ≡ false = rw (← is) (y .1) in
+    rw (x .0, y .0, z)

@@ -3,7 +3,7 @@
 use mathlib.Core.Path.{_≡_, refl, ap, _∙_}
 use mathlib.Core.List.{List, [], _∷_}
 use Rattle.packets.specs.Demand.{Event, events}
-use Rattle.packets.specs.Rules.{Call, Complete, End, Mark, Start, Submit, Take, accept, decided, refusal, run, step}
+use Rattle.packets.specs.Rules.{Call, Complete, End, Mark, Return, Start, Submit, Take, accept, decided, refusal, run, step}
 use Rattle.packets.specs.State.{State}
 use Rattle.packets.specs.declared.Answer.{Answer}
 use Rattle.packets.specs.declared.Lists.{Lists}
@@ -23,6 +23,7 @@ leaves-is r (Submit j p f c w) = state-of (accept (stateOf r) (Submit j p f c w)
 leaves-is r (Start c) = state-of (accept (stateOf r) (Start c))
 leaves-is r (Complete c how) = state-of (accept (stateOf r) (Complete c how))
 leaves-is r (End j e) = state-of (accept (stateOf r) (End j e))
+leaves-is r (Return j c u) = state-of (accept (stateOf r) (Return j c u))
 leaves-is r (Mark c u m on) = refl
 
 -- one call: the rules' answer, and the rules' state

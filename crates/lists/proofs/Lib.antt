@@ -7,3 +7,4 @@ pub mod Submits
 pub mod Search
 pub mod Starts
 pub mod Completes
+pub mod Returns

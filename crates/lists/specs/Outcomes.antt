@@ -5,7 +5,7 @@ use mathlib.Core.Bool.{cond, _&&_}
 use lib.Dec.{ltb}
 use Rattle.numbers.specs.declared.Refusal.the-variants.{OutOfRange}
 use Rattle.units.specs.State.{unitsFrom}
-use Rattle.packets.specs.Rules.{Call, Complete, End, Mark, Start, Submit, Take, accept, answer, refusal}
+use Rattle.packets.specs.Rules.{Call, Complete, End, Mark, Return, Start, Submit, Take, accept, answer, refusal}
 use Rattle.packets.specs.State.{State, packetIn}
 use Rattle.packets.specs.declared.Answer.the-variants.{Refused}
 use Rattle.packets.specs.declared.Lists.{Lists}
@@ -40,6 +40,7 @@ leaves r (Submit j p f c w) = listsOf (accept (stateOf r) (Submit j p f c w))
 leaves r (Start c) = listsOf (accept (stateOf r) (Start c))
 leaves r (Complete c how) = listsOf (accept (stateOf r) (Complete c how))
 leaves r (End j e) = listsOf (accept (stateOf r) (End j e))
+leaves r (Return j c u) = listsOf (accept (stateOf r) (Return j c u))
 leaves r (Mark c u m on) = keeping r (accept (stateOf r) (Mark c u m on))
 
 -- an accepted call leaves and answers what the rules say; a refused one returns the number alone, and the state keeps

@@ -1,17 +1,22 @@
 -- The parts of what the calls answer and leave. Nothing here has to be believed: Outcomes, and Rules of packets, say
 -- what comes out.
 use Prim.Native.Nat.{ℕ, _+_, _*_, _%_}
-use mathlib.Core.Bool.{Bool, true, false, cond}
-use mathlib.Core.List.{List}
+use mathlib.Core.Bool.{Bool, true, false, cond, _&&_}
+use mathlib.Core.List.{List, map}
 use mathlib.Core.Option.{Option, none, some}
+use lib.Dec.{eqb}
 use lib.ListN.{getD}
+use Rattle.units.specs.declared.Holder.{Holder}
+use Rattle.units.specs.declared.Holder.the-variants.{Free, Returning}
 use Rattle.units.specs.declared.Unit.{Unit as UnitState}
-use Rattle.packets.specs.State.{blank, enlisted, packetOf, placeOf, releaseAll, setLock}
+use Rattle.packets.specs.Rules.{cut, isAt}
+use Rattle.packets.specs.State.{freedAt, blank, enlisted, packetOf, placeOf, releaseAll, restatus, setLock, withPackets}
 use Rattle.packets_submit.specs.After.{isListing}
 use Rattle.packets.specs.declared.Answer.{Answer}
 use Rattle.packets.specs.declared.Answer.the-variants.{Started}
 use Rattle.packets.specs.declared.Found.{Found}
 use Rattle.packets.specs.declared.Found.the-variants.{At, Nowhere}
+use Rattle.packets.specs.declared.Job.{Job}
 use Rattle.packets.specs.declared.Motion.{Motion}
 use Rattle.packets.specs.declared.Motion.the-variants.{Busy, Idle}
 use Rattle.packets.specs.declared.Packet.{Packet}
@@ -60,4 +65,18 @@ startedAt ps e =
 abbrev pub unitsAfter : List (List UnitState) → ℕ → Site → Bool → ℕ → Bool → List (List UnitState)
 unitsAfter units c a breaking j done =
     let shut = cond breaking (setLock units c a true) units in
-    cond done (releaseAll shut j) shut
+    let left = cond done (releaseAll shut j) shut in
+    freedAt left c a
+
+-- the job whose packets at a on channel c are cut
+abbrev pub cutJob : Job → ℕ → Site → Job
+cutJob job c a = withPackets job (map (restatus (isAt c a) cut) (job .packets))
+
+-- what moves is one of these packets, of the job in place j, at a on channel c
+abbrev pub movesIn : List Packet → ℕ → ℕ → Site → Motion → Bool
+movesIn ps j c a Idle = false
+movesIn ps j c a (Busy k p) = eqb k j && isAt c a (getD ps p blank)
+
+-- who then holds a unit that the job has given back
+abbrev pub holderAfter : List Packet → ℕ → ℕ → Site → Motion → Holder
+holderAfter ps j c a m = cond (movesIn ps j c a m) (Returning j) Free

@@ -16,12 +16,13 @@ use packets::Found;
 use packets::How;
 use packets::Lists;
 use packets::Motion;
+use packets::Site;
 use packets::Spot;
 use packets::Status;
 use packets::Verdict;
 use units::Units;
 ghost use mathlib.Core.Path.{_≡_};
-ghost use Rattle.packets.specs.Rules.{Take, Submit, Start, Complete, End, Mark};
+ghost use Rattle.packets.specs.Rules.{Take, Submit, Start, Complete, End, Return, Mark};
 ghost use Rattle.packets.specs.Demand.{fresh};
 ghost use Rattle.lists.specs.Outcomes.{listsOf, outcome, statusIn};
 
@@ -62,7 +63,8 @@ pub fn submit(
     ensures { λ r. ⌜ r ≡ outcome lists (Submit place packet function (channel .0) spot) ⌝ }
 {
     let units = lists.units;
-    let unit = packets_units::unit_of(units, channel, spot);
+    let at = packets_submit::site_of(spot);
+    let unit = packets_units::unit_where(units, channel, at);
     let mut next = lists;
     let c = (channel.0 % 16) as usize;
     let on = next.channels[c];
@@ -80,7 +82,6 @@ pub fn submit(
             let left = after::list_of(gone, place, packet, function, &next.list.entries, count);
             next.list = left;
             if unlocking {
-                let at = packets_submit::site_of(spot);
                 let shut = next.units;
                 let open = packets_units::with_lock_at(shut, channel, at, false);
                 next.units = open;
@@ -171,8 +172,9 @@ pub fn complete(lists: Lists, channel: ChannelNumber, how: How) -> Acted
             next.list = left;
             let leaving = over.leaving;
             answer = Answer::Completed(j, p, leaving);
-            if breaking || over.done {
-                let units = next.units;
+            let units = next.units;
+            let unit = packets_units::unit_where(units, channel, at);
+            if after::is_changing(unit, breaking, over.done) {
                 let free = after::units_of(units, channel, at, breaking, j, over.done);
                 next.units = free;
             }
@@ -210,6 +212,42 @@ pub fn end(lists: Lists, place: u8, in_error: bool) -> Acted
                 let free = packets_units::released(units, place);
                 next.units = free;
             }
+        }
+    }
+    Acted {
+        lists: next,
+        answer,
+    }
+}
+
+// The job in a place gives a unit back while it goes on with the others: the unit's listed packets end, and it is free
+// at once, or when the packet that moves there completes.
+pub fn return_unit(lists: Lists, place: u8, channel: ChannelNumber, unit: UnitNumber) -> Acted
+    ensures { λ r. ⌜ r ≡ outcome lists (Return place (channel .0) (unit .0)) ⌝ }
+{
+    let units = lists.units;
+    let was = units::unit_at(units, channel, unit);
+    let mut next = lists;
+    let mut answer = Answer::Done;
+    let c = (channel.0 % 16) as usize;
+    let on = next.channels[c];
+    let has = on.has;
+    let i = (place % 16) as usize;
+    let job = next.jobs[i];
+    let state = job.state;
+    match verdicts::of_return(has, state, was, place, channel, unit) {
+        Verdict::Denied(refusal) => answer = Answer::Refused(refusal),
+        Verdict::Granted => {
+            let gone = after::cut_at(job, channel, unit);
+            next.jobs[i] = gone;
+            let count = next.list.count;
+            let left = packets_queue::relisted(gone, place, &next.list.entries, count);
+            next.list = left;
+            let carrier = next.moving[c];
+            let ps = job.packets;
+            let holder = after::holder_of(carrier, ps, place, channel, unit);
+            let back = packets_units::with_holder_at(units, channel, Site::AtUnit(unit), holder);
+            next.units = back;
         }
     }
     Acted {

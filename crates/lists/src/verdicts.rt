@@ -12,6 +12,7 @@ use packets::Motion;
 use packets::Packet;
 use packets::Spot;
 use packets::Verdict;
+use units::Unit;
 ghost use mathlib.Core.Path.{_≡_};
 ghost use mathlib.Core.Bool.{not, _&&_};
 ghost use lib.Dec.{ltb};
@@ -20,7 +21,7 @@ ghost use Rattle.numbers.specs.declared.Refusal.the-variants.{NothingStartable,
 ghost use Rattle.packets.specs.declared.Verdict.the-variants.{Granted};
 ghost use Rattle.packets.specs.declared.Spot.the-variants.{OnUnit};
 ghost use Rattle.packets.specs.State.{isThereOf, isIdle, isRunning, isEmpty};
-ghost use Rattle.packets.specs.Rules.{first, isWrong, reaches};
+ghost use Rattle.packets.specs.Rules.{first, isWrong, reaches, returnRefusal};
 ghost use Rattle.lists.specs.Parts.{isNowhere};
 
 // Whether nothing moves; what is no packet of the cell is nothing.
@@ -125,13 +126,50 @@ pub fn of_take(state: JobState, j: u8) -> Verdict
     Verdict::Granted
 }
 
+// Whether the cell has unit u of channel c, which has this if its number is below 16; the drum channel has no unit.
+fn has_unit(has: Fitted, c: ChannelNumber, u: UnitNumber) -> bool
+    ensures { λ r. ⌜ r ≡ (ltb (c .0) 16 && reaches has (OnUnit u)) ⌝ }
+{
+    if 15 < c.0 {
+        return false;
+    }
+    packets_channels::has_spot(has, Spot::OnUnit(u))
+}
+
+// Of a return, by what the channel has, the job's state and the unit.
+pub fn of_return(
+    has: Fitted,
+    state: JobState,
+    unit: Unit,
+    j: u8,
+    c: ChannelNumber,
+    u: UnitNumber,
+) -> Verdict
+    ensures { λ r. ⌜ r ≡ returnRefusal has state unit j (c .0) (u .0) ⌝ }
+{
+    let holder = unit.holder;
+    if 15 < j {
+        return Verdict::Denied(Refusal::OutOfRange);
+    }
+    if !has_unit(has, c, u) {
+        return Verdict::Denied(Refusal::OutOfRange);
+    }
+    if !packets_job::is_running(state) {
+        return Verdict::Denied(Refusal::NoJob);
+    }
+    if !packets_units::is_held_by(holder, j) {
+        return Verdict::Denied(Refusal::NotTheJobs);
+    }
+    if units::is_returning(holder) {
+        return Verdict::Denied(Refusal::BeingReturned);
+    }
+    Verdict::Granted
+}
+
 pub fn of_mark(has: Fitted, c: ChannelNumber, u: UnitNumber) -> Verdict
     ensures { λ r. ⌜ r ≡ first (not (ltb (c .0) 16 && reaches has (OnUnit u))) OutOfRange Granted ⌝ }
 {
-    if 15 < c.0 {
-        return Verdict::Denied(Refusal::OutOfRange);
-    }
-    if !packets_channels::has_spot(has, Spot::OnUnit(u)) {
+    if !has_unit(has, c, u) {
         return Verdict::Denied(Refusal::OutOfRange);
     }
     Verdict::Granted

@@ -1,9 +1,10 @@
 -- `lists::complete` meets its contract: the rules' outcome of a completion. Assumes nothing.
-use mathlib.Core.Path.{refl, _∙_}
+use mathlib.Core.Path.{refl, sym, ap, _∙_}
+use Rattle.units.specs.State.{unitsFrom}
 use Rattle.packets.specs.Rules.{Complete}
 use Rattle.lists.proofs.Calls.{relisted-is, refused-is}
 use Rattle.lists.proofs.Full.{entries, places}
-use Rattle.lists.proofs.Completes.{complete-verdict, complete-is}
+use Rattle.lists.proofs.Completes.{complete-verdict, complete-is, unchanged}
 use borrow.Author.Needs.{needs}
 use Rattle.lists.proofs.complete.Statement.{statement}
 use Rattle.lists.proofs.complete.Tie as tie
@@ -74,6 +75,12 @@ element-set-from-gone c = search needs
 relisted-requires : tie.Need-relisted-requires
 relisted-requires c κs = search needs
 
+unit-where-requires : tie.Need-unit-where-requires
+unit-where-requires c κs = search needs
+
+is-changing-requires : tie.Need-is-changing-requires
+is-changing-requires c κs = search needs
+
 units-of-requires : tie.Need-units-of-requires
 units-of-requires c κs = search needs
 
@@ -83,18 +90,19 @@ returns c = let a = c .before .before .before .before .before .before .before .b
     (complete-verdict (a .lists) (a .channel .0) (a .how) _ refl (c .before .before .before .before .before .before .before .before .place-of .result) (c .before .before .before .before .before .before .before .packet-of .result) (c .before .before .before .before .before .before .before .before .place-of .ensures) (c .before .before .before .before .before .before .before .packet-of .ensures) (c .before .before .before .before .packet-in .result) (c .before .before .before .before .packet-in .ensures) _ refl (c .before .before .before .of-complete .result) (c .before .before .before .of-complete .ensures) ∙ c .before .refusal .given .1)
 
 returns-2 : tie.Need-returns-2
-returns-2 c = let a = c .before .before .before .before .before .before .before .before .before .before .before .before .before .before .before .before .before .before .before .before .before .before .before .args in
-    let full = entries (a .lists) _ (c .before .before .before .before .before .before .before .before .before .before .before .before .before .before .before .before .before .before .before .before .before .before .before .good .0) in
-    complete-is (a .lists) (a .channel .0) (a .how) _ refl (c .before .before .before .before .before .before .before .before .before .before .before .before .before .before .before .before .before .before .before .place-of .result) (c .before .before .before .before .before .before .before .before .before .before .before .before .before .before .before .before .before .before .packet-of .result) (c .before .before .before .before .before .before .before .before .before .before .before .before .before .before .before .before .before .before .before .place-of .ensures) (c .before .before .before .before .before .before .before .before .before .before .before .before .before .before .before .before .before .before .packet-of .ensures) (c .before .before .before .before .before .before .before .before .before .before .before .before .before .before .before .packet-in .result) (c .before .before .before .before .before .before .before .before .before .before .before .before .before .before .before .packet-in .ensures) (places (a .lists) _ (c .before .before .before .before .before .before .before .before .before .before .before .before .before .before .before .before .before .before .before .before .before .before .before .good .0))
-    (complete-verdict (a .lists) (a .channel .0) (a .how) _ refl (c .before .before .before .before .before .before .before .before .before .before .before .before .before .before .before .before .before .before .before .place-of .result) (c .before .before .before .before .before .before .before .before .before .before .before .before .before .before .before .before .before .before .packet-of .result) (c .before .before .before .before .before .before .before .before .before .before .before .before .before .before .before .before .before .before .before .place-of .ensures) (c .before .before .before .before .before .before .before .before .before .before .before .before .before .before .before .before .before .before .packet-of .ensures) (c .before .before .before .before .before .before .before .before .before .before .before .before .before .before .before .packet-in .result) (c .before .before .before .before .before .before .before .before .before .before .before .before .before .before .before .packet-in .ensures) _ refl (c .before .before .before .before .before .before .before .before .before .before .before .before .before .before .of-complete .result) (c .before .before .before .before .before .before .before .before .before .before .before .before .before .before .of-complete .ensures) ∙ c .before .before .before .before .before .before .before .before .before .before .before .before .enum-told .given .1)
-    (c .before .before .before .before .before .before .before .before .before .before .before .idle .result) (c .before .before .before .before .before .before .before .before .before .before .before .idle .ensures) (c .before .before .before .before .before .before .before .before .before .is-breaking .result) (c .before .before .before .before .before .before .before .before .before .is-breaking .ensures) (c .before .before .before .before .before .before .before .before .over .result) (c .before .before .before .before .before .before .before .before .over .ensures) (c .before .before .before .relisted .result) (relisted-is (a .lists) full _ _ _ (c .before .before .before .relisted .ensures)) (c .units-of .result) (c .units-of .ensures)
+returns-2 c = let a = c .before .before .before .before .before .before .before .before .before .before .before .before .before .before .before .before .before .before .before .before .before .before .before .before .before .args in
+    let full = entries (a .lists) _ (c .before .before .before .before .before .before .before .before .before .before .before .before .before .before .before .before .before .before .before .before .before .before .before .before .before .good .0) in
+    complete-is (a .lists) (a .channel .0) (a .how) _ refl (c .before .before .before .before .before .before .before .before .before .before .before .before .before .before .before .before .before .before .before .before .before .place-of .result) (c .before .before .before .before .before .before .before .before .before .before .before .before .before .before .before .before .before .before .before .before .packet-of .result) (c .before .before .before .before .before .before .before .before .before .before .before .before .before .before .before .before .before .before .before .before .before .place-of .ensures) (c .before .before .before .before .before .before .before .before .before .before .before .before .before .before .before .before .before .before .before .before .packet-of .ensures) (c .before .before .before .before .before .before .before .before .before .before .before .before .before .before .before .before .before .packet-in .result) (c .before .before .before .before .before .before .before .before .before .before .before .before .before .before .before .before .before .packet-in .ensures) (places (a .lists) _ (c .before .before .before .before .before .before .before .before .before .before .before .before .before .before .before .before .before .before .before .before .before .before .before .before .before .good .0))
+    (complete-verdict (a .lists) (a .channel .0) (a .how) _ refl (c .before .before .before .before .before .before .before .before .before .before .before .before .before .before .before .before .before .before .before .before .before .place-of .result) (c .before .before .before .before .before .before .before .before .before .before .before .before .before .before .before .before .before .before .before .before .packet-of .result) (c .before .before .before .before .before .before .before .before .before .before .before .before .before .before .before .before .before .before .before .before .before .place-of .ensures) (c .before .before .before .before .before .before .before .before .before .before .before .before .before .before .before .before .before .before .before .before .packet-of .ensures) (c .before .before .before .before .before .before .before .before .before .before .before .before .before .before .before .before .before .packet-in .result) (c .before .before .before .before .before .before .before .before .before .before .before .before .before .before .before .before .before .packet-in .ensures) _ refl (c .before .before .before .before .before .before .before .before .before .before .before .before .before .before .before .before .of-complete .result) (c .before .before .before .before .before .before .before .before .before .before .before .before .before .before .before .before .of-complete .ensures) ∙ c .before .before .before .before .before .before .before .before .before .before .before .before .before .before .enum-told .given .1)
+    (c .before .before .before .before .before .before .before .before .before .before .before .before .before .idle .result) (c .before .before .before .before .before .before .before .before .before .before .before .before .before .idle .ensures) (c .before .before .before .before .before .before .before .before .before .before .before .is-breaking .result) (c .before .before .before .before .before .before .before .before .before .before .before .is-breaking .ensures) (c .before .before .before .before .before .before .before .before .before .before .over .result) (c .before .before .before .before .before .before .before .before .before .before .over .ensures) (c .before .before .before .before .before .relisted .result) (relisted-is (a .lists) full _ _ _ (c .before .before .before .before .before .relisted .ensures)) (c .units-of .result) (c .units-of .ensures)
 
 returns-3 : tie.Need-returns-3
-returns-3 c = let a = c .before .before .before .before .before .before .before .before .before .before .before .before .before .before .before .before .before .before .before .before .before .before .args in
-    let full = entries (a .lists) _ (c .before .before .before .before .before .before .before .before .before .before .before .before .before .before .before .before .before .before .before .before .before .before .good .0) in
-    complete-is (a .lists) (a .channel .0) (a .how) _ refl (c .before .before .before .before .before .before .before .before .before .before .before .before .before .before .before .before .before .before .place-of .result) (c .before .before .before .before .before .before .before .before .before .before .before .before .before .before .before .before .before .packet-of .result) (c .before .before .before .before .before .before .before .before .before .before .before .before .before .before .before .before .before .before .place-of .ensures) (c .before .before .before .before .before .before .before .before .before .before .before .before .before .before .before .before .before .packet-of .ensures) (c .before .before .before .before .before .before .before .before .before .before .before .before .before .before .packet-in .result) (c .before .before .before .before .before .before .before .before .before .before .before .before .before .before .packet-in .ensures) (places (a .lists) _ (c .before .before .before .before .before .before .before .before .before .before .before .before .before .before .before .before .before .before .before .before .before .before .good .0))
-    (complete-verdict (a .lists) (a .channel .0) (a .how) _ refl (c .before .before .before .before .before .before .before .before .before .before .before .before .before .before .before .before .before .before .place-of .result) (c .before .before .before .before .before .before .before .before .before .before .before .before .before .before .before .before .before .packet-of .result) (c .before .before .before .before .before .before .before .before .before .before .before .before .before .before .before .before .before .before .place-of .ensures) (c .before .before .before .before .before .before .before .before .before .before .before .before .before .before .before .before .before .packet-of .ensures) (c .before .before .before .before .before .before .before .before .before .before .before .before .before .before .packet-in .result) (c .before .before .before .before .before .before .before .before .before .before .before .before .before .before .packet-in .ensures) _ refl (c .before .before .before .before .before .before .before .before .before .before .before .before .before .of-complete .result) (c .before .before .before .before .before .before .before .before .before .before .before .before .before .of-complete .ensures) ∙ c .before .before .before .before .before .before .before .before .before .before .before .enum-told .given .1)
-    (c .before .before .before .before .before .before .before .before .before .before .idle .result) (c .before .before .before .before .before .before .before .before .before .before .idle .ensures) (c .before .before .before .before .before .before .before .before .is-breaking .result) (c .before .before .before .before .before .before .before .before .is-breaking .ensures) (c .before .before .before .before .before .before .before .over .result) (c .before .before .before .before .before .before .before .over .ensures) (c .before .before .relisted .result) (relisted-is (a .lists) full _ _ _ (c .before .before .relisted .ensures)) (a .lists .units) (rw (c .before .if1 .left, c .if2 .left) refl)
+returns-3 c = let a = c .before .before .before .before .before .before .before .before .before .before .before .before .before .before .before .before .before .before .before .before .before .before .before .before .args in
+    let full = entries (a .lists) _ (c .before .before .before .before .before .before .before .before .before .before .before .before .before .before .before .before .before .before .before .before .before .before .before .before .good .0) in
+    complete-is (a .lists) (a .channel .0) (a .how) _ refl (c .before .before .before .before .before .before .before .before .before .before .before .before .before .before .before .before .before .before .before .before .place-of .result) (c .before .before .before .before .before .before .before .before .before .before .before .before .before .before .before .before .before .before .before .packet-of .result) (c .before .before .before .before .before .before .before .before .before .before .before .before .before .before .before .before .before .before .before .before .place-of .ensures) (c .before .before .before .before .before .before .before .before .before .before .before .before .before .before .before .before .before .before .before .packet-of .ensures) (c .before .before .before .before .before .before .before .before .before .before .before .before .before .before .before .before .packet-in .result) (c .before .before .before .before .before .before .before .before .before .before .before .before .before .before .before .before .packet-in .ensures) (places (a .lists) _ (c .before .before .before .before .before .before .before .before .before .before .before .before .before .before .before .before .before .before .before .before .before .before .before .before .good .0))
+    (complete-verdict (a .lists) (a .channel .0) (a .how) _ refl (c .before .before .before .before .before .before .before .before .before .before .before .before .before .before .before .before .before .before .before .before .place-of .result) (c .before .before .before .before .before .before .before .before .before .before .before .before .before .before .before .before .before .before .before .packet-of .result) (c .before .before .before .before .before .before .before .before .before .before .before .before .before .before .before .before .before .before .before .before .place-of .ensures) (c .before .before .before .before .before .before .before .before .before .before .before .before .before .before .before .before .before .before .before .packet-of .ensures) (c .before .before .before .before .before .before .before .before .before .before .before .before .before .before .before .before .packet-in .result) (c .before .before .before .before .before .before .before .before .before .before .before .before .before .before .before .before .packet-in .ensures) _ refl (c .before .before .before .before .before .before .before .before .before .before .before .before .before .before .before .of-complete .result) (c .before .before .before .before .before .before .before .before .before .before .before .before .before .before .before .of-complete .ensures) ∙ c .before .before .before .before .before .before .before .before .before .before .before .before .before .enum-told .given .1)
+    (c .before .before .before .before .before .before .before .before .before .before .before .before .idle .result) (c .before .before .before .before .before .before .before .before .before .before .before .before .idle .ensures) (c .before .before .before .before .before .before .before .before .before .before .is-breaking .result) (c .before .before .before .before .before .before .before .before .before .before .is-breaking .ensures) (c .before .before .before .before .before .before .before .before .before .over .result) (c .before .before .before .before .before .before .before .before .before .over .ensures) (c .before .before .before .before .relisted .result) (relisted-is (a .lists) full _ _ _ (c .before .before .before .before .relisted .ensures)) (a .lists .units)
+    (ap unitsFrom (unchanged (a .lists .units .of) (a .channel .0) (c .before .before .before .before .before .before .before .before .before .before .before .before .before .before .before .before .before .before .before .before .place-of .result) (c .before .before .before .before .before .before .before .before .before .before .before .before .before .before .before .before .packet-in .result .at) (c .before .before .unit-where .result) (c .before .before .unit-where .ensures) (c .before .before .before .before .before .before .before .before .before .before .is-breaking .result) (c .before .before .before .before .before .before .before .before .before .over .result .done) (sym (c .before .is-changing .ensures) ∙ c .if1 .left)))
 
 pub complete-spec : {M : Type 1} → statement M
 complete-spec =
@@ -122,6 +130,8 @@ complete-spec =
     mul-gone
     element-set-from-gone
     relisted-requires
+    unit-where-requires
+    is-changing-requires
     units-of-requires
     returns
     returns-2

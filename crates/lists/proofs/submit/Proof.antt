@@ -9,8 +9,11 @@ use borrow.Author.Needs.{needs}
 use Rattle.lists.proofs.submit.Statement.{statement}
 use Rattle.lists.proofs.submit.Tie as tie
 
-unit-of-requires : tie.Need-unit-of-requires
-unit-of-requires c κs = search needs
+site-of-requires : tie.Need-site-of-requires
+site-of-requires c κs = search needs
+
+unit-where-requires : tie.Need-unit-where-requires
+unit-where-requires c κs = search needs
 
 cast-c : tie.Need-cast-c
 cast-c c = search needs
@@ -54,36 +57,34 @@ element-set-from-gone c = search needs
 list-of-requires : tie.Need-list-of-requires
 list-of-requires c κs = search needs
 
-site-of-requires : tie.Need-site-of-requires
-site-of-requires c κs = search needs
-
 with-lock-at-requires : tie.Need-with-lock-at-requires
 with-lock-at-requires c κs = search needs
 
 returns : tie.Need-returns
-returns c = let a = c .before .before .before .before .before .before .before .before .before .args in
+returns c = let a = c .before .before .before .before .before .before .before .before .before .before .args in
     refused-is (a .lists) (Submit (a .place) (a .packet) (a .function) (a .channel .0) (a .spot)) _
-    (submit-verdict (a .lists) (a .place) (a .packet) (a .function) (a .channel .0) (a .spot) _ refl (c .before .before .before .before .before .before .before .unit-of .result) (c .before .before .before .before .before .before .before .unit-of .ensures) (c .before .before .before .verdict .result) (c .before .before .before .verdict .ensures) ∙ c .before .refusal .given .1)
+    (submit-verdict (a .lists) (a .place) (a .packet) (a .function) (a .channel .0) (a .spot) _ refl (c .before .before .before .before .before .before .before .unit-where .result) (rw (← c .before .before .before .before .before .before .before .before .site-of .ensures) (c .before .before .before .before .before .before .before .unit-where .ensures)) (c .before .before .before .verdict .result) (c .before .before .before .verdict .ensures) ∙ c .before .refusal .given .1)
 
 returns-2 : tie.Need-returns-2
 returns-2 c = let a = c .before .before .before .before .before .before .before .before .before .before .before .before .before .before .before .before .before .before .args in
     let full = entries (a .lists) _ (c .before .before .before .before .before .before .before .before .before .before .before .before .before .before .before .before .before .before .good .0) in
-    submit-is (a .lists) (a .place) (a .packet) (a .function) (a .channel .0) (a .spot) _ refl (c .before .before .before .before .before .before .before .before .before .before .before .before .before .before .before .before .unit-of .result) (c .before .before .before .before .before .before .before .before .before .before .before .before .before .before .before .before .unit-of .ensures) (places (a .lists) _ (c .before .before .before .before .before .before .before .before .before .before .before .before .before .before .before .before .before .before .good .0))
-    (submit-verdict (a .lists) (a .place) (a .packet) (a .function) (a .channel .0) (a .spot) _ refl (c .before .before .before .before .before .before .before .before .before .before .before .before .before .before .before .before .unit-of .result) (c .before .before .before .before .before .before .before .before .before .before .before .before .before .before .before .before .unit-of .ensures) (c .before .before .before .before .before .before .before .before .before .before .before .before .verdict .result) (c .before .before .before .before .before .before .before .before .before .before .before .before .verdict .ensures) ∙ c .before .before .before .before .before .before .before .before .before .before .enum-told .given .1)
-    (c .before .before .before .before .before .before .before .before .before .is-unlocking .result) (c .before .before .before .before .before .before .before .before .before .is-unlocking .ensures) (c .before .before .before .before .before .before .before .before .job-after .result) (c .before .before .before .before .before .before .before .before .job-after .ensures) (c .before .before .before .before .list-of .result) (c .before .before .before .before .list-of .ensures (omega (arith, full))) (c .with-lock-at .result) (rw (c .before .before .before .if1 .taken, ← c .before .before .site-of .ensures) (c .with-lock-at .ensures))
+    submit-is (a .lists) (a .place) (a .packet) (a .function) (a .channel .0) (a .spot) _ refl (c .before .before .before .before .before .before .before .before .before .before .before .before .before .before .before .unit-where .result) (rw (← c .before .before .before .before .before .before .before .before .before .before .before .before .before .before .before .before .site-of .ensures) (c .before .before .before .before .before .before .before .before .before .before .before .before .before .before .before .unit-where .ensures)) (places (a .lists) _ (c .before .before .before .before .before .before .before .before .before .before .before .before .before .before .before .before .before .before .good .0))
+    (submit-verdict (a .lists) (a .place) (a .packet) (a .function) (a .channel .0) (a .spot) _ refl (c .before .before .before .before .before .before .before .before .before .before .before .before .before .before .before .unit-where .result) (rw (← c .before .before .before .before .before .before .before .before .before .before .before .before .before .before .before .before .site-of .ensures) (c .before .before .before .before .before .before .before .before .before .before .before .before .before .before .before .unit-where .ensures)) (c .before .before .before .before .before .before .before .before .before .before .before .verdict .result) (c .before .before .before .before .before .before .before .before .before .before .before .verdict .ensures) ∙ c .before .before .before .before .before .before .before .before .before .enum-told .given .1)
+    (c .before .before .before .before .before .before .before .before .is-unlocking .result) (c .before .before .before .before .before .before .before .before .is-unlocking .ensures) (c .before .before .before .before .before .before .before .job-after .result) (c .before .before .before .before .before .before .before .job-after .ensures) (c .before .before .before .list-of .result) (c .before .before .before .list-of .ensures (omega (arith, full))) (c .with-lock-at .result) (rw (c .before .before .if1 .taken, ← c .before .before .before .before .before .before .before .before .before .before .before .before .before .before .before .before .site-of .ensures) (c .with-lock-at .ensures))
 
 returns-3 : tie.Need-returns-3
-returns-3 c = let a = c .before .before .before .before .before .before .before .before .before .before .before .before .before .before .before .args in
-    let full = entries (a .lists) _ (c .before .before .before .before .before .before .before .before .before .before .before .before .before .before .before .good .0) in
-    submit-is (a .lists) (a .place) (a .packet) (a .function) (a .channel .0) (a .spot) _ refl (c .before .before .before .before .before .before .before .before .before .before .before .before .before .unit-of .result) (c .before .before .before .before .before .before .before .before .before .before .before .before .before .unit-of .ensures) (places (a .lists) _ (c .before .before .before .before .before .before .before .before .before .before .before .before .before .before .before .good .0))
-    (submit-verdict (a .lists) (a .place) (a .packet) (a .function) (a .channel .0) (a .spot) _ refl (c .before .before .before .before .before .before .before .before .before .before .before .before .before .unit-of .result) (c .before .before .before .before .before .before .before .before .before .before .before .before .before .unit-of .ensures) (c .before .before .before .before .before .before .before .before .before .verdict .result) (c .before .before .before .before .before .before .before .before .before .verdict .ensures) ∙ c .before .before .before .before .before .before .before .enum-told .given .1)
+returns-3 c = let a = c .before .before .before .before .before .before .before .before .before .before .before .before .before .before .before .before .args in
+    let full = entries (a .lists) _ (c .before .before .before .before .before .before .before .before .before .before .before .before .before .before .before .before .good .0) in
+    submit-is (a .lists) (a .place) (a .packet) (a .function) (a .channel .0) (a .spot) _ refl (c .before .before .before .before .before .before .before .before .before .before .before .before .before .unit-where .result) (rw (← c .before .before .before .before .before .before .before .before .before .before .before .before .before .before .site-of .ensures) (c .before .before .before .before .before .before .before .before .before .before .before .before .before .unit-where .ensures)) (places (a .lists) _ (c .before .before .before .before .before .before .before .before .before .before .before .before .before .before .before .before .good .0))
+    (submit-verdict (a .lists) (a .place) (a .packet) (a .function) (a .channel .0) (a .spot) _ refl (c .before .before .before .before .before .before .before .before .before .before .before .before .before .unit-where .result) (rw (← c .before .before .before .before .before .before .before .before .before .before .before .before .before .before .site-of .ensures) (c .before .before .before .before .before .before .before .before .before .before .before .before .before .unit-where .ensures)) (c .before .before .before .before .before .before .before .before .before .verdict .result) (c .before .before .before .before .before .before .before .before .before .verdict .ensures) ∙ c .before .before .before .before .before .before .before .enum-told .given .1)
     (c .before .before .before .before .before .before .is-unlocking .result) (c .before .before .before .before .before .before .is-unlocking .ensures) (c .before .before .before .before .before .job-after .result) (c .before .before .before .before .before .job-after .ensures) (c .before .list-of .result) (c .before .list-of .ensures (omega (arith, full))) (a .lists .units) (rw (c .if1 .left) refl)
 
 pub submit-spec : {M : Type 1} → statement M
 submit-spec =
     tie.close
     (tie.spec
-    unit-of-requires
+    site-of-requires
+    unit-where-requires
     cast-c
     mul-on
     element-copy-out-on
@@ -98,7 +99,6 @@ submit-spec =
     mul-gone
     element-set-from-gone
     list-of-requires
-    site-of-requires
     with-lock-at-requires
     returns
     returns-2

@@ -1,22 +1,18 @@
--- `lists::verdicts::of_mark` meets its contract, by the tests that led there. Assumes nothing.
+-- `lists::verdicts::of_mark` meets its contract, by the test that led there. Assumes nothing.
 use mathlib.Core.Path.{sym, _∙_}
-use native.Mathlib.Omega.{arith}
-use borrow.Author.Tests.{lt-ltb, le-ltb, not-false, not-true}
+use borrow.Author.Tests.{not-false, not-true}
 use borrow.Author.Needs.{needs}
 use Rattle.lists.proofs.verdicts.of_mark.Statement.{statement}
 use Rattle.lists.proofs.verdicts.of_mark.Tie as tie
 
-returns : tie.Need-returns
-returns c = rw (le-ltb (c .before .before .args .c .0) 16 (c .if1 .taken))
+has-unit-requires : tie.Need-has-unit-requires
+has-unit-requires c κs = search needs
 
-has-spot-requires : tie.Need-has-spot-requires
-has-spot-requires c κs = search needs
+returns : tie.Need-returns
+returns c = rw (sym (c .before .has-unit .ensures) ∙ not-true _ (c .if1 .taken))
 
 returns-2 : tie.Need-returns-2
-returns-2 c = rw (lt-ltb (c .before .before .before .before .args .c .0) 16 (omega (arith, c .before .before .if1 .left)), sym (c .before .has-spot .ensures) ∙ not-true _ (c .if2 .taken))
-
-returns-3 : tie.Need-returns-3
-returns-3 c = rw (lt-ltb (c .before .before .before .before .args .c .0) 16 (omega (arith, c .before .before .if1 .left)), sym (c .before .has-spot .ensures) ∙ not-false _ (c .if2 .left))
+returns-2 c = rw (sym (c .before .has-unit .ensures) ∙ not-false _ (c .if1 .left))
 
 pub of-mark-spec : {M : Type 1} → statement M
-of-mark-spec = tie.close (tie.spec returns has-spot-requires returns-2 returns-3)
+of-mark-spec = tie.close (tie.spec has-unit-requires returns returns-2)

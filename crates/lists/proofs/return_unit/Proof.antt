@@ -1,0 +1,98 @@
+-- `lists::return_unit` meets its contract: the rules' outcome of a return. Assumes nothing.
+use mathlib.Core.Path.{refl, _∙_}
+use Rattle.packets.specs.Rules.{Return}
+use Rattle.lists.proofs.Calls.{relisted-is, refused-is}
+use Rattle.lists.proofs.Full.{entries, places}
+use Rattle.lists.proofs.Returns.{return-verdict, return-is}
+use borrow.Author.Needs.{needs}
+use Rattle.lists.proofs.return_unit.Statement.{statement}
+use Rattle.lists.proofs.return_unit.Tie as tie
+
+unit-at-requires : tie.Need-unit-at-requires
+unit-at-requires c κs = search needs
+
+cast-c : tie.Need-cast-c
+cast-c c = search needs
+
+mul-on : tie.Need-mul-on
+mul-on c = search needs
+
+element-copy-out-on : tie.Need-element-copy-out-on
+element-copy-out-on c = search needs
+
+cast-i : tie.Need-cast-i
+cast-i c = search needs
+
+mul-job : tie.Need-mul-job
+mul-job c = search needs
+
+element-copy-out-job : tie.Need-element-copy-out-job
+element-copy-out-job c = search needs
+
+of-return-requires : tie.Need-of-return-requires
+of-return-requires c κs = search needs
+
+enum-known-refusal : tie.Need-enum-known-refusal
+enum-known-refusal c = search needs
+
+enum-told : tie.Need-enum-told
+enum-told c = search needs
+
+cut-at-requires : tie.Need-cut-at-requires
+cut-at-requires c κs = search needs
+
+mul-gone : tie.Need-mul-gone
+mul-gone c = search needs
+
+element-set-from-gone : tie.Need-element-set-from-gone
+element-set-from-gone c = search needs
+
+relisted-requires : tie.Need-relisted-requires
+relisted-requires c κs = search needs
+
+mul-carrier : tie.Need-mul-carrier
+mul-carrier c = search needs
+
+element-copy-out-carrier : tie.Need-element-copy-out-carrier
+element-copy-out-carrier c = search needs
+
+holder-of-requires : tie.Need-holder-of-requires
+holder-of-requires c κs = search needs
+
+with-holder-at-requires : tie.Need-with-holder-at-requires
+with-holder-at-requires c κs = search needs
+
+returns : tie.Need-returns
+returns c = let a = c .before .before .before .before .before .before .before .before .before .args in
+    refused-is (a .lists) (Return (a .place) (a .channel .0) (a .unit .0)) _ (return-verdict (a .lists) (a .place) (a .channel .0) (a .unit .0) _ refl (c .before .before .before .before .before .before .before .unit-at .result) (c .before .before .before .before .before .before .before .unit-at .ensures) (c .before .before .before .of-return .result) (c .before .before .before .of-return .ensures) ∙ c .before .refusal .given .1)
+
+returns-2 : tie.Need-returns-2
+returns-2 c = let a = c .before .before .before .before .before .before .before .before .before .before .before .before .before .before .before .before .before .args in
+    let full = entries (a .lists) _ (c .before .before .before .before .before .before .before .before .before .before .before .before .before .before .before .before .before .good .0) in
+    return-is (a .lists) (a .place) (a .channel .0) (a .unit .0) (places (a .lists) _ (c .before .before .before .before .before .before .before .before .before .before .before .before .before .before .before .before .before .good .0)) (return-verdict (a .lists) (a .place) (a .channel .0) (a .unit .0) _ refl (c .before .before .before .before .before .before .before .before .before .before .before .before .before .before .before .unit-at .result) (c .before .before .before .before .before .before .before .before .before .before .before .before .before .before .before .unit-at .ensures) (c .before .before .before .before .before .before .before .before .before .before .before .of-return .result) (c .before .before .before .before .before .before .before .before .before .before .before .of-return .ensures) ∙ c .before .before .before .before .before .before .before .before .before .enum-told .given .1)
+    (c .before .before .before .before .before .before .before .before .cut-at .result) (c .before .before .before .before .before .before .before .before .cut-at .ensures) (c .before .before .before .before .relisted .result) (relisted-is (a .lists) full _ _ _ (c .before .before .before .before .relisted .ensures)) (c .before .holder-of .result) (c .before .holder-of .ensures) (c .with-holder-at .result) (c .with-holder-at .ensures)
+
+pub return-unit-spec : {M : Type 1} → statement M
+return-unit-spec =
+    tie.close
+    (tie.spec
+    unit-at-requires
+    cast-c
+    mul-on
+    element-copy-out-on
+    cast-i
+    mul-job
+    element-copy-out-job
+    of-return-requires
+    enum-known-refusal
+    enum-told
+    cut-at-requires
+    mul-gone
+    element-set-from-gone
+    relisted-requires
+    mul-carrier
+    element-copy-out-carrier
+    holder-of-requires
+    with-holder-at-requires
+    returns
+    returns-2)

@@ -1,0 +1,52 @@
+-- `lists::verdicts::of_return` meets its contract, by the tests that led there. Assumes nothing.
+use mathlib.Core.Path.{sym, _∙_}
+use native.Mathlib.Omega.{arith}
+use borrow.Author.Tests.{lt-ltb, le-ltb, not-false, not-true}
+use borrow.Author.Needs.{needs}
+use Rattle.lists.proofs.verdicts.of_return.Statement.{statement}
+use Rattle.lists.proofs.verdicts.of_return.Tie as tie
+
+returns : tie.Need-returns
+returns c = rw (le-ltb (c .before .args .j) 16 (c .if1 .taken))
+
+has-unit-requires : tie.Need-has-unit-requires
+has-unit-requires c κs = search needs
+
+returns-2 : tie.Need-returns-2
+returns-2 c = rw (lt-ltb (c .before .before .before .args .j) 16 (omega (arith, c .before .before .if1 .left)), sym (c .before .has-unit .ensures) ∙ not-true _ (c .if2 .taken))
+
+is-running-requires : tie.Need-is-running-requires
+is-running-requires c κs = search needs
+
+returns-3 : tie.Need-returns-3
+returns-3 c = rw (lt-ltb (c .before .before .before .before .before .args .j) 16 (omega (arith, c .before .before .before .before .if1 .left)), sym (c .before .before .before .has-unit .ensures) ∙ not-false _ (c .before .before .if2 .left), sym (c .before .is-running .ensures) ∙ not-true _ (c .if3 .taken))
+
+is-held-by-requires : tie.Need-is-held-by-requires
+is-held-by-requires c κs = search needs
+
+returns-4 : tie.Need-returns-4
+returns-4 c = rw (lt-ltb (c .before .before .before .before .before .before .before .args .j) 16 (omega (arith, c .before .before .before .before .before .before .if1 .left)), sym (c .before .before .before .before .before .has-unit .ensures) ∙ not-false _ (c .before .before .before .before .if2 .left), sym (c .before .before .before .is-running .ensures) ∙ not-false _ (c .before .before .if3 .left), sym (c .before .is-held-by .ensures) ∙ not-true _ (c .if4 .taken))
+
+is-returning-requires : tie.Need-is-returning-requires
+is-returning-requires c κs = search needs
+
+returns-5 : tie.Need-returns-5
+returns-5 c = rw (lt-ltb (c .before .before .before .before .before .before .before .before .before .args .j) 16 (omega (arith, c .before .before .before .before .before .before .before .before .if1 .left)), sym (c .before .before .before .before .before .before .before .has-unit .ensures) ∙ not-false _ (c .before .before .before .before .before .before .if2 .left), sym (c .before .before .before .before .before .is-running .ensures) ∙ not-false _ (c .before .before .before .before .if3 .left), sym (c .before .before .before .is-held-by .ensures) ∙ not-false _ (c .before .before .if4 .left), sym (c .before .is-returning .ensures) ∙ c .if5 .taken)
+
+returns-6 : tie.Need-returns-6
+returns-6 c = rw (lt-ltb (c .before .before .before .before .before .before .before .before .before .args .j) 16 (omega (arith, c .before .before .before .before .before .before .before .before .if1 .left)), sym (c .before .before .before .before .before .before .before .has-unit .ensures) ∙ not-false _ (c .before .before .before .before .before .before .if2 .left), sym (c .before .before .before .before .before .is-running .ensures) ∙ not-false _ (c .before .before .before .before .if3 .left), sym (c .before .before .before .is-held-by .ensures) ∙ not-false _ (c .before .before .if4 .left), sym (c .before .is-returning .ensures) ∙ c .if5 .left)
+
+pub of-return-spec : {M : Type 1} → statement M
+of-return-spec =
+    tie.close
+    (tie.spec
+    returns
+    has-unit-requires
+    returns-2
+    is-running-requires
+    returns-3
+    is-held-by-requires
+    returns-4
+    is-returning-requires
+    returns-5
+    returns-6)
