@@ -17,7 +17,7 @@ use Rattle.schedule.specs.Calls.{closing, deleted, released, returned}
 use Rattle.schedule.specs.declared.Changed.{Changed}
 use Rattle.schedule_deck.specs.Reading.{DeckEntered}
 use Rattle.packets.specs.Demand.{fresh}
-use Rattle.packets.specs.Rules.{Call, Complete, End, Mark, Start, Submit, Take}
+use Rattle.packets.specs.Rules.{Call, Complete, End, Mark, Return, Start, Submit, Take}
 use Rattle.packets.specs.declared.Answer.{Answer}
 use Rattle.packets.specs.declared.Answer.the-variants.{Closed, Completed, Done, Refused, Started}
 use Rattle.packets.specs.declared.Leaving.{Leaving}
@@ -81,9 +81,10 @@ follows s (Submit j p f c w) a = s
 follows s (Start c) a = s
 follows s (Complete c how) a = afterCompletion s a
 follows s (End j e) a = afterEnd s j a
+follows s (Return j c u) a = s
 follows s (Mark c u m on) a = s
 
--- SUBMIT, START, COMPLETE, END, MARK
+-- SUBMIT, START, COMPLETE, END, RETURN, MARK
 unfoldable pub acted : Cell → Call → Answered
 acted cell x =
     record {

@@ -18,7 +18,7 @@ use packets::Lists;
 use packets::Spot;
 use schedule_list::Schedule;
 ghost use mathlib.Core.Path.{_≡_};
-ghost use Rattle.packets.specs.Rules.{Submit, Start, Complete, End, Mark};
+ghost use Rattle.packets.specs.Rules.{Submit, Start, Complete, End, Return, Mark};
 ghost use Rattle.cell.specs.Calls.{freshCell, acted, leftBy, afterCompletion, afterEnd, releasing};
 ghost use Rattle.cell.specs.Calls.{deleting, answerOf, outcomeOf, statusOf, Enters, SelectsIn, called, heeded, Keys};
 
@@ -226,6 +226,17 @@ pub fn end(cell: Cell, place: u8, in_error: bool) -> Answered
     let acted = lists::end(lists, place, in_error);
     let answer = acted.answer;
     with_schedule(acted, after_end(schedule, place, answer))
+}
+
+// The job in a place gives a unit back early and goes on.
+pub fn return_unit(cell: Cell, place: u8, channel: ChannelNumber, unit: UnitNumber) -> Answered
+    ensures { λ r. ⌜ r ≡ acted cell (Return place (channel .0) (unit .0)) ⌝ }
+{
+    let lists = cell.lists;
+    with_schedule(
+        lists::return_unit(lists, place, channel, unit),
+        cell.schedule,
+    )
 }
 
 // A mark of a unit is set or cleared.

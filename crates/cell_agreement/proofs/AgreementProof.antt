@@ -46,12 +46,12 @@ use Rattle.cell.specs.declared.Cell.{Cell}
 use Rattle.cell_history.proofs.MeantLaws.{Plain, by-meant}
 use Rattle.cell_history.proofs.HeardLaws.{does-heard}
 use Rattle.cell_history.specs.Heard.{heardOf, inside}
-use Rattle.cell_history.specs.History.{Call, Complete, Deck, Delete, Does, End, Event, Key, Leads, Mark, Release, Reply, Select, Start, Status, Submit}
+use Rattle.cell_history.specs.History.{Call, Complete, Deck, Delete, Does, End, Event, Key, Leads, Mark, Release, Reply, Return, Select, Start, Status, Submit}
 use Rattle.cell_agreement.specs.Agreement.{AgreesAlways, HasItsJob, standing}
 use Rattle.cell_agreement.proofs.PlaceLaws.{fresh-cell-inv, states-beyond}
 use Rattle.cell_agreement.proofs.ScheduleLaws.{kept-deck, kept-deleted, kept-released, put-taken, seen}
 use Rattle.cell_agreement.proofs.StandingLaws.{is-alone, not-none}
-use Rattle.cell_agreement.proofs.StepLaws.{Agree, agree-complete, agree-end, agree-kept, agree-mark, agree-put, agree-start, agree-step, agree-submit, stands-empty}
+use Rattle.cell_agreement.proofs.StepLaws.{Agree, agree-complete, agree-end, agree-kept, agree-mark, agree-put, agree-return, agree-start, agree-step, agree-submit, stands-empty}
 
 -- ---- a selection
 
@@ -111,6 +111,8 @@ plain-agree c d (Complete channel how) reply p h I A =
     agree-acts c d (Rules.Complete channel how) (h .1) (λ n. refl) (agree-complete (c .schedule) (inside c) A channel how) A
 plain-agree c d (End place inError) reply p h I A =
     agree-acts c d (Rules.End place inError) (h .1) (λ n. refl) (agree-end (c .schedule) (inside c) A place inError) A
+plain-agree c d (Return place channel unit) reply p h I A =
+    agree-acts c d (Rules.Return place channel unit) (h .1) (λ n. refl) (λ r. agree-return (c .schedule) (inside c) A place channel unit) A
 plain-agree c d (Mark channel unit mark on) reply p h I A =
     agree-acts c d (Rules.Mark channel unit mark on) (h .1) (λ n. refl)
     (λ r. agree-mark (c .schedule) (inside c) A (Rules.Mark channel unit mark on) (unfold accept in refl)) A

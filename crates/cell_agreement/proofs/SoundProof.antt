@@ -22,7 +22,7 @@ use Rattle.cell_selection.specs.declared.Selection.{Selection}
 use Rattle.cell.specs.Calls.{acted, afterCompletion, afterEnd, follows, freshCell, leftBy}
 use Rattle.cell.specs.declared.Cell.{Cell}
 use Rattle.cell_history.proofs.MeantLaws.{Plain, by-meant}
-use Rattle.cell_history.specs.History.{Call, Complete, Deck, Delete, Does, End, Event, Key, Leads, Mark, Release, Reply, Select, Start, Status, Submit}
+use Rattle.cell_history.specs.History.{Call, Complete, Deck, Delete, Does, End, Event, Key, Leads, Mark, Release, Reply, Return, Select, Start, Status, Submit}
 use Rattle.cell_agreement.specs.Agreement.{SoundAlways}
 
 -- ---- the calls on a schedule
@@ -70,6 +70,7 @@ module _ (s : Schedule) (d : Sound s) where
   sound-follows (Rules.Start c) a = d
   sound-follows (Rules.Complete c how) a = sound-completion a
   sound-follows (Rules.End j e) a = sound-end j a
+  sound-follows (Rules.Return j c u) a = d
   sound-follows (Rules.Mark c u m on) a = d
 
   -- a selection
@@ -98,6 +99,7 @@ plain-sound c d (Submit place packet function channel spot) reply p h s = sound-
 plain-sound c d (Start channel) reply p h s = sound-acts c d (Rules.Start channel) (h .1) s
 plain-sound c d (Complete channel how) reply p h s = sound-acts c d (Rules.Complete channel how) (h .1) s
 plain-sound c d (End place inError) reply p h s = sound-acts c d (Rules.End place inError) (h .1) s
+plain-sound c d (Return place channel unit) reply p h s = sound-acts c d (Rules.Return place channel unit) (h .1) s
 plain-sound c d (Mark channel unit mark on) reply p h s = sound-acts c d (Rules.Mark channel unit mark on) (h .1) s
 plain-sound c d (Release id) reply p h s = subst SoundIn (sym (h .1)) (sound-released (c .schedule) s id)
 plain-sound c d (Delete id) reply p h s = subst SoundIn (sym (h .1)) (sound-deleted (c .schedule) s id)

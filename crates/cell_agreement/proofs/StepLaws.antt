@@ -24,12 +24,13 @@ use Rattle.packets.specs.declared.Answer.the-variants.{Refused}
 use Rattle.packets.specs.declared.How.{How}
 use Rattle.packets.specs.declared.JobState.{JobState}
 use Rattle.packets.specs.declared.JobState.the-variants.{ClosingError, ClosingNormal, Empty, Running}
+use Rattle.packets.specs.declared.Site.the-variants.{AtUnit}
 use Rattle.packets.specs.declared.Spot.{Spot}
 use Rattle.packets.specs.declared.Verdict.{Verdict}
 use Rattle.packets.specs.declared.Verdict.the-variants.{Denied, Granted}
 use Rattle.cell.specs.Calls.{follows, leftBy}
 use Rattle.cell_agreement.specs.Agreement.{standing}
-use Rattle.packets.proofs.States.{states-begun, states-closed, states-finished, states-returned, states-submit}
+use Rattle.packets.proofs.States.{states-begun, states-closed, states-finished, states-handed, states-returned, states-submit}
 use Rattle.cell_agreement.proofs.ScheduleLaws.{Put, put-closing, put-returned, seen}
 
 -- ---- what stands in a place, by its state
@@ -137,6 +138,12 @@ module _ (s : Schedule) (st : State) (A : Agree s st) where
       (λ d. agree-left s (Schedules.closing s j) (closed st j e) j (Request.Running j) one d
       (λ i q. A i ∙ ap (λ (x : JobState). standing x i) (sym (rw q at (states-closed st j e run i)))))
       (λ d. rw d B)
+
+  pub agree-return : (j c u : ℕ) → Agree s (accept st (Rules.Return j c u))
+  unfolding accept
+  agree-return j c u =
+      let a = AtUnit (record { 0 = u }) in
+      agree-kept s s st (Rules.handedBack st j c a) (λ i. refl) (states-handed st j c a) A
 
   pub agree-mark : (x : Rules.Call) → accept st x .jobs ≡ st .jobs → Agree s (accept st x)
   agree-mark x e = agree-kept s s st (accept st x) (λ i. refl) (λ i. rw e) A

@@ -15,7 +15,7 @@ use Rattle.cell_selection.specs.declared.Selection.{Selection}
 use Rattle.cell.specs.Calls.{acted}
 use Rattle.cell.specs.declared.Cell.{Cell}
 use Rattle.cell_history.proofs.MeantLaws.{Plain, by-meant}
-use Rattle.cell_history.specs.History.{Call, Complete, Deck, Delete, Does, End, Event, Key, Leads, Mark, Release, Reply, Select, Start, Status, Submit}
+use Rattle.cell_history.specs.History.{Call, Complete, Deck, Delete, Does, End, Event, Key, Leads, Mark, Release, Reply, Return, Select, Start, Status, Submit}
 use Rattle.cell_history.specs.Heard.{heard, heardAs, heardBy, heardOf, inside}
 
 -- ---- one call
@@ -43,6 +43,7 @@ plain-heard c d (Submit place packet function channel spot) reply p h = acts-hea
 plain-heard c d (Start channel) reply p h = acts-heard c d (Rules.Start channel) (h .1)
 plain-heard c d (Complete channel how) reply p h = acts-heard c d (Rules.Complete channel how) (h .1)
 plain-heard c d (End place inError) reply p h = acts-heard c d (Rules.End place inError) (h .1)
+plain-heard c d (Return place channel unit) reply p h = acts-heard c d (Rules.Return place channel unit) (h .1)
 plain-heard c d (Mark channel unit mark on) reply p h = acts-heard c d (Rules.Mark channel unit mark on) (h .1)
 plain-heard c d (Release id) reply p h = ap inside (h .1)
 plain-heard c d (Delete id) reply p h = ap inside (h .1)

@@ -11,7 +11,7 @@ use Rattle.keyboard.specs.declared.Asked.the-variants as Asked′
 use Rattle.cell.specs.Calls.{heeded}
 use Rattle.cell.specs.declared.Cell.{Cell}
 use Rattle.cell.specs.declared.Heeded.{Heeded}
-use Rattle.cell_history.specs.History.{Call, Complete, Deck, Delete, Does, End, Key, Mark, Release, Reply, Select, Start, Status, Submit, callOf, meant, replyOf}
+use Rattle.cell_history.specs.History.{Call, Complete, Deck, Delete, Does, End, Key, Mark, Release, Reply, Return, Select, Start, Status, Submit, callOf, meant, replyOf}
 
 -- a call that is no message
 abbrev pub Plain : Call → Type 0
@@ -21,6 +21,7 @@ Plain (Submit place packet function channel spot) = Unit {0}
 Plain (Start channel) = Unit {0}
 Plain (Complete channel how) = Unit {0}
 Plain (End place inError) = Unit {0}
+Plain (Return place channel unit) = Unit {0}
 Plain (Mark channel unit mark on) = Unit {0}
 Plain (Release id) = Unit {0}
 Plain (Delete id) = Unit {0}
@@ -45,6 +46,7 @@ module _ (P : Option Call → Type 0) (c d : Cell) (reply : Reply) (nothing : d 
   by-meant (Start channel) h = plain (Start channel) tt h
   by-meant (Complete channel how) h = plain (Complete channel how) tt h
   by-meant (End place inError) h = plain (End place inError) tt h
+  by-meant (Return place channel unit) h = plain (Return place channel unit) tt h
   by-meant (Mark channel unit mark on) h = plain (Mark channel unit mark on) tt h
   by-meant (Release id) h = plain (Release id) tt h
   by-meant (Delete id) h = plain (Delete id) tt h

@@ -17,7 +17,7 @@ use Rattle.cell.specs.declared.DeckAnswer.{DeckAnswer}
 use Rattle.cell.specs.declared.Heeded.{Heeded}
 use Rattle.cell.specs.declared.KeyAnswer.{KeyAnswer}
 use Rattle.cell.specs.declared.SelectAnswer.{SelectAnswer}
-use Rattle.cell_history.specs.History.{Call, Chosen, Complete, Deck, Delete, Does, End, Entered, Key, Mark, Release, Reply, Select, Start, Status, Submit, replyOf}
+use Rattle.cell_history.specs.History.{Call, Chosen, Complete, Deck, Delete, Does, End, Entered, Key, Mark, Release, Reply, Return, Select, Start, Status, Submit, replyOf}
 
 -- two answers to one deck, whatever room was lent: the same outcome and the same cell
 pub enters-one : (c : Cell) (bytes room after room₁ after₁ : List ℕ) (r s : DeckAnswer) → Enters c bytes room after r → Enters c bytes room₁ after₁ s
@@ -64,6 +64,7 @@ does-one c (Submit j p f k w) r s d e a b = (a .0 ∙ sym (b .0), a .1 ∙ sym (
 does-one c (Start k) r s d e a b = (a .0 ∙ sym (b .0), a .1 ∙ sym (b .1))
 does-one c (Complete k how) r s d e a b = (a .0 ∙ sym (b .0), a .1 ∙ sym (b .1))
 does-one c (End j x) r s d e a b = (a .0 ∙ sym (b .0), a .1 ∙ sym (b .1))
+does-one c (Return j k u) r s d e a b = (a .0 ∙ sym (b .0), a .1 ∙ sym (b .1))
 does-one c (Mark k u m on) r s d e a b = (a .0 ∙ sym (b .0), a .1 ∙ sym (b .1))
 does-one c (Release id) r s d e a b = (a .0 ∙ sym (b .0), a .1 ∙ sym (b .1))
 does-one c (Delete id) r s d e a b = (a .0 ∙ sym (b .0), a .1 ∙ sym (b .1))

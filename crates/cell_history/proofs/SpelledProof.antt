@@ -8,7 +8,7 @@ use Rattle.packets.specs.Rules as Rules
 use Rattle.cell.specs.declared.Cell.{Cell}
 use Rattle.cell_history.proofs.MeantLaws.{Plain, by-meant}
 use Rattle.cell_history.specs.Heard.{heard, heardBy, heardOf, told, toldBy, toldOf}
-use Rattle.cell_history.specs.History.{Call, Complete, Deck, Delete, Does, End, Event, Key, Leads, Mark, Release, Reply, Select, Start, Status, Submit, meant}
+use Rattle.cell_history.specs.History.{Call, Complete, Deck, Delete, Does, End, Event, Key, Leads, Mark, Release, Reply, Return, Select, Start, Status, Submit, meant}
 use Rattle.cell_history.specs.Spelled.{NoMessages, SpelledAlways, eventOf, spelled}
 
 -- a call that is no message means itself
@@ -19,6 +19,7 @@ plain-meant (Submit place packet function channel spot) p = refl
 plain-meant (Start channel) p = refl
 plain-meant (Complete channel how) p = refl
 plain-meant (End place inError) p = refl
+plain-meant (Return place channel unit) p = refl
 plain-meant (Mark channel unit mark on) p = refl
 plain-meant (Release id) p = refl
 plain-meant (Delete id) p = refl

@@ -26,7 +26,7 @@ use Rattle.cell.specs.declared.Cell.{Cell}
 use Rattle.cell_history.proofs.HeardLaws.{does-heard}
 use Rattle.cell_history.proofs.MeantLaws.{Plain, by-meant}
 use Rattle.cell_history.specs.Heard.{doneAs, heard, heardAs, heardBy, heardOf, inside, said, told, toldAs, toldBy, toldOf}
-use Rattle.cell_history.specs.History.{Call, Complete, Deck, Delete, Does, End, Event, Key, Leads, Mark, Release, Reply, Said, Select, Start, Status, Submit}
+use Rattle.cell_history.specs.History.{Call, Complete, Deck, Delete, Does, End, Event, Key, Leads, Mark, Release, Reply, Return, Said, Select, Start, Status, Submit}
 
 -- ---- one call
 
@@ -71,6 +71,7 @@ plain-told c d (Submit place packet function channel spot) reply p h = acts-told
 plain-told c d (Start channel) reply p h = acts-told c (Rules.Start channel) reply (h .0)
 plain-told c d (Complete channel how) reply p h = acts-told c (Rules.Complete channel how) reply (h .0)
 plain-told c d (End place inError) reply p h = acts-told c (Rules.End place inError) reply (h .0)
+plain-told c d (Return place channel unit) reply p h = acts-told c (Rules.Return place channel unit) reply (h .0)
 plain-told c d (Mark channel unit mark on) reply p h = acts-told c (Rules.Mark channel unit mark on) reply (h .0)
 plain-told c d (Release id) reply p h = refl
 plain-told c d (Delete id) reply p h = refl

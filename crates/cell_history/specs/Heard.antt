@@ -28,6 +28,7 @@ use Rattle.cell_history.specs.History.{
   Mistyped,
   Release,
   Reply,
+  Return,
   Said,
   Select,
   Shown,
@@ -53,6 +54,7 @@ heardAs (Submit place packet function channel spot) reply = Rules.Submit place p
 heardAs (Start channel) reply = Rules.Start channel ∷ []
 heardAs (Complete channel how) reply = Rules.Complete channel how ∷ []
 heardAs (End place inError) reply = Rules.End place inError ∷ []
+heardAs (Return place channel unit) reply = Rules.Return place channel unit ∷ []
 heardAs (Mark channel unit mark on) reply = Rules.Mark channel unit mark on ∷ []
 heardAs (Release id) reply = []
 heardAs (Delete id) reply = []
@@ -103,6 +105,7 @@ toldAs (Submit place packet function channel spot) reply = said (Rules.Submit pl
 toldAs (Start channel) reply = said (Rules.Start channel) reply
 toldAs (Complete channel how) reply = said (Rules.Complete channel how) reply
 toldAs (End place inError) reply = said (Rules.End place inError) reply
+toldAs (Return place channel unit) reply = said (Rules.Return place channel unit) reply
 toldAs (Mark channel unit mark on) reply = said (Rules.Mark channel unit mark on) reply
 toldAs (Release id) reply = []
 toldAs (Delete id) reply = []
@@ -118,7 +121,7 @@ toldBy (some x) reply = toldAs x reply
 abbrev pub toldOf : Call → Reply → List Told.Event
 toldOf x reply = toldBy (meant x) reply
 
--- the calls on packets, jobs and marks, and the selections, of a history, with the replies that it records
+-- the calls on packets, jobs, units and marks, and the selections, of a history, with the replies that it records
 abbrev pub told : List Event → List Told.Event
 told [] = []
 told (e ∷ es) = toldOf (e .call) (e .reply) ++ told es

@@ -35,13 +35,14 @@ pub data Call : Type 0 where
   Start : ℕ → Call
   Complete : ℕ → How → Call
   End : ℕ → Bool → Call
+  Return : ℕ → ℕ → ℕ → Call
   Mark : ℕ → ℕ → UnitMark → Bool → Call
   Release : List ℕ → Call
   Delete : List ℕ → Call
   Status : ℕ → ℕ → Call
   Key : List ℕ → Call
 
--- what they answer: how a deck ended; what was selected, or why nothing was; the answer of a packet, job, mark or
+-- what they answer: how a deck ended; what was selected, or why nothing was; the answer of a packet, job, unit, mark or
 -- schedule call, typed or not; a packet's status; the fault of a keyboard message
 pub data Reply : Type 0 where
   Entered : Outcome → Reply
@@ -55,7 +56,7 @@ abbrev pub replyOf : Told → Reply
 replyOf (Told′.Said answer) = Said answer
 replyOf (Told′.Mistyped fault) = Mistyped fault
 
--- a call on packets, jobs or marks
+-- a call on packets, jobs, units or marks
 abbrev pub Acts : Cell → Lists.Call → Reply → Cell → Type 0
 Acts c x reply d = (reply ≡ Said (acted c x .answer)) × (d ≡ acted c x .cell)
 
@@ -68,6 +69,7 @@ Does c (Submit place packet function channel spot) reply d = Acts c (Lists.Submi
 Does c (Start channel) reply d = Acts c (Lists.Start channel) reply d
 Does c (Complete channel how) reply d = Acts c (Lists.Complete channel how) reply d
 Does c (End place inError) reply d = Acts c (Lists.End place inError) reply d
+Does c (Return place channel unit) reply d = Acts c (Lists.Return place channel unit) reply d
 Does c (Mark channel unit mark on) reply d = Acts c (Lists.Mark channel unit mark on) reply d
 Does c (Release id) reply d = (reply ≡ Said (releasing c id .answer)) × (d ≡ releasing c id .cell)
 Does c (Delete id) reply d = (reply ≡ Said (deleting c id .answer)) × (d ≡ deleting c id .cell)
@@ -103,6 +105,7 @@ meant (Submit place packet function channel spot) = some (Submit place packet fu
 meant (Start channel) = some (Start channel)
 meant (Complete channel how) = some (Complete channel how)
 meant (End place inError) = some (End place inError)
+meant (Return place channel unit) = some (Return place channel unit)
 meant (Mark channel unit mark on) = some (Mark channel unit mark on)
 meant (Release id) = some (Release id)
 meant (Delete id) = some (Delete id)

@@ -19,7 +19,7 @@ use Rattle.packets.specs.State.{State}
 use Rattle.packets.specs.declared.How.{How}
 use Rattle.packets.specs.declared.Spot.{Spot}
 use Rattle.units.specs.declared.Mark.{Mark as UnitMark}
-use Rattle.packets_given.specs.Given.{AsGiven, AtItsArea, Wanting, Wants, taking}
+use Rattle.packets_given.specs.Given.{AsGiven, AtItsArea, Wanting, Wants, asking, taking}
 use Rattle.packets_given.proofs.DrumProof.{on-its-own-words}
 use Rattle.packets_given.proofs.GivenProof.{holds-what-it-was-given}
 use Rattle.cell_selection.specs.Selecting.{Selected, SelectsBy, isJob, takingOf}
@@ -32,7 +32,7 @@ use Rattle.cell_history.proofs.MeantLaws.{Plain, by-meant}
 use Rattle.cell_history.proofs.HeardLaws.{does-heard}
 use Rattle.cell_history.proofs.ToldLaws.{leads-told}
 use Rattle.cell_history.specs.Heard.{heard, heardAs, heardBy, heardOf, inside, told}
-use Rattle.cell_history.specs.History.{Call, Complete, Deck, Delete, Does, End, Event, Key, Leads, Mark, Release, Reply, Select, Start, Status, Submit}
+use Rattle.cell_history.specs.History.{Call, Complete, Deck, Delete, Does, End, Event, Key, Leads, Mark, Release, Reply, Return, Select, Start, Status, Submit}
 use Rattle.cell_reached.proofs.Fitting.{area-fits, core-fits, units-fit}
 use Rattle.cell_reached.specs.Reached.{Invariants}
 
@@ -52,6 +52,7 @@ pub record OfTakings (P : State → Rules.Call → Type 0) : Type 0 where
   pub start : (s : State) (c : ℕ) → P s (Rules.Start c)
   pub complete : (s : State) (c : ℕ) (how : How) → P s (Rules.Complete c how)
   pub end : (s : State) (j : ℕ) (e : Bool) → P s (Rules.End j e)
+  pub return : (s : State) (j c u : ℕ) → P s (Rules.Return j c u)
   pub mark : (s : State) (c u : ℕ) (m : UnitMark) (on : Bool) → P s (Rules.Mark c u m on)
   pub selection : (c : Cell) (s : Selection) → Selected (inSchedule (c .schedule)) (c .lists) s → P (inside c) (takingOf s)
 
@@ -71,6 +72,7 @@ module _ (P : State → Rules.Call → Type 0) (T : OfTakings P) where
   plain-each c d (Start k) reply p h = (T .start (inside c) k, tt)
   plain-each c d (Complete k how) reply p h = (T .complete (inside c) k how, tt)
   plain-each c d (End j e) reply p h = (T .end (inside c) j e, tt)
+  plain-each c d (Return j k u) reply p h = (T .return (inside c) j k u, tt)
   plain-each c d (Mark k u m on) reply p h = (T .mark (inside c) k u m on, tt)
   plain-each c d (Release id) reply p h = tt
   plain-each c d (Delete id) reply p h = tt
@@ -107,6 +109,7 @@ area-takings =
       start = λ s c. tt;
       complete = λ s c how. tt;
       end = λ s j e. tt;
+      return = λ s j c u. tt;
       mark = λ s c u m on. tt;
       selection = λ c s d. area-fits (inSchedule (c .schedule)) (c .lists) s d;
     }
@@ -118,6 +121,7 @@ core-takings =
       start = λ s c. tt;
       complete = λ s c how. tt;
       end = λ s j e. tt;
+      return = λ s j c u. tt;
       mark = λ s c u m on. tt;
       selection = λ c s d. core-fits (inSchedule (c .schedule)) (c .lists) s d;
     }
@@ -129,6 +133,7 @@ unit-takings =
       start = λ s c. tt;
       complete = λ s c how. tt;
       end = λ s j e. tt;
+      return = λ s j c u. tt;
       mark = λ s c u m on. tt;
       selection = λ c s d a k u h l w. units-fit (inSchedule (c .schedule)) (c .lists) s d k u h l w;
     }
@@ -147,8 +152,8 @@ every-cell configuration es c h =
       drum = subst (Apart Rules.inArea) (sym is) (apart .0 (fits-each Rules.inArea (fresh channels codes units) (heard es) (from-fresh (Fits Rules.inArea) area-takings)));
       core = subst (Apart inCore) (sym is) (apart .1 (fits-each inCore (fresh channels codes units) (heard es) (from-fresh (Fits inCore) core-takings)));
       addresses = subst AtItsArea (sym is) (on-its-own-words channels codes units free (heard es));
-      given = λ place. subst (λ (s : State). AsGiven s place (taking (told es) place)) (sym is)
-          (subst (λ (l : List Told.Event). AsGiven (Rules.run (fresh channels codes units) (heard es)) place (taking l place)) (sym answers)
+      given = λ place. subst (λ (s : State). AsGiven s place (taking (told es) place) (asking (told es) place)) (sym is)
+          (subst (λ (l : List Told.Event). AsGiven (Rules.run (fresh channels codes units) (heard es)) place (taking l place) (asking l place)) (sym answers)
           (holds-what-it-was-given channels codes units free (fresh-square (configuration .down)) (heard es) (wants-each (fresh channels codes units) (heard es) (from-fresh Wants unit-takings)) place));
     }
   where

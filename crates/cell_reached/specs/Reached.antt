@@ -1,13 +1,14 @@
 -- WHAT HOLDS OF EVERY CELL that a history leads to from a fresh one: packets, request list and motions are in
 -- order; no two jobs hold the same words of drum or blocks of core; a running or closing job holds exactly what it
--- was given at its selection, and an empty place holds no unit. A reader has to believe this page.
+-- was given at its selection less what it has returned, and an empty place holds no unit. A reader has to believe this
+-- page.
 use Prim.Native.Nat.{ℕ}
 use mathlib.Core.List.{List}
 use Rattle.channels.specs.declared.Configuration.{Configuration}
 use Rattle.packets.specs.Always.{Always}
 use Rattle.packets.specs.Apart.{Apart, inCore}
 use Rattle.packets.specs.Rules.{inArea}
-use Rattle.packets_given.specs.Given.{AsGiven, AtItsArea, taking}
+use Rattle.packets_given.specs.Given.{AsGiven, AtItsArea, asking, taking}
 use Rattle.cell.specs.Calls.{freshCell}
 use Rattle.cell.specs.declared.Cell.{Cell}
 use Rattle.cell_history.specs.Heard.{inside, told}
@@ -22,8 +23,8 @@ pub record Reached (es : List Event) (c : Cell) : Type 0 where
   pub core : Apart inCore (inside c)
   -- a packet that is listed or moves on the drum is at an address of its job's area
   pub addresses : AtItsArea (inside c)
-  -- what was given, by the reply to the last selection into each place
-  pub given : (place : ℕ) → AsGiven (inside c) place (taking (told es) place)
+  -- what was given, by the reply to the last selection into each place, and asked back, by the replies since then
+  pub given : (place : ℕ) → AsGiven (inside c) place (taking (told es) place) (asking (told es) place)
 
 abbrev pub Invariants : Type 0
 Invariants = (configuration : Configuration) (es : List Event) (c : Cell) → Leads (freshCell configuration) es c → Reached es c

@@ -54,6 +54,7 @@ plain-granted c d (Call.Submit j p f k w) reply n h e y q = alone c y (Rules.Sub
 plain-granted c d (Call.Start k) reply n h e y q = alone c y (Rules.Start k) reply (h .0) e q
 plain-granted c d (Call.Complete k how) reply n h e y q = alone c y (Rules.Complete k how) reply (h .0) e q
 plain-granted c d (Call.End j b) reply n h e y q = alone c y (Rules.End j b) reply (h .0) e q
+plain-granted c d (Call.Return j k u) reply n h e y q = alone c y (Rules.Return j k u) reply (h .0) e q
 plain-granted c d (Call.Mark k u m on) reply n h e y q = alone c y (Rules.Mark k u m on) reply (h .0) e q
 plain-granted c d (Call.Release id) reply n h e y q = absurd (not-cons c y q)
 plain-granted c d (Call.Delete id) reply n h e y q = absurd (not-cons c y q)

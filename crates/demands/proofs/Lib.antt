@@ -11,4 +11,5 @@ pub mod Typed
 pub mod Oldest
 pub mod Owning
 pub mod Named
+pub mod Returning
 pub mod Proved

@@ -11,7 +11,9 @@ use lib.Dec.{eqb}
 use Rattle.numbers.proofs.Tests.{by-bool}
 use Rattle.numbers.specs.declared.Outcome.{Outcome}
 use Rattle.numbers.specs.declared.Outcome.the-variants as Outcomes
-use Rattle.units.specs.State.{assignable, unitIn}
+use Rattle.units.specs.State.{assignable, isReturning, unitIn}
+use Rattle.units.specs.declared.Holder.{Holder}
+use Rattle.units.specs.declared.Holder.the-variants.{Free}
 use Rattle.units.specs.declared.Mark.{Mark as UnitMark}
 use Rattle.units.specs.declared.Unit.{Unit as UnitState}
 use Rattle.channels.specs.declared.Configuration.{Configuration}
@@ -21,7 +23,7 @@ use Rattle.packets.specs.Demand.{fresh}
 use Rattle.packets.specs.Picks.{All, find}
 use Rattle.packets.specs.Rules as Rules
 use Rattle.packets.specs.Rules.{accept, closed, completed, finished, isDone, isTrouble, locked, returnIfDone, siteOf, startable, started, submitted}
-use Rattle.packets.specs.State.{State, isUnit, motionOn, packetIn, release, setLock, takeUnit, wanted, withLock}
+use Rattle.packets.specs.State.{State, isUnit, motionOn, packetIn, release, setLock, takeUnit, wanted, withLock, freedAt, setHolder, unitAt, withHolder}
 use Rattle.packets.specs.declared.Answer.{Answer}
 use Rattle.packets.specs.declared.Answer.the-variants as Answers
 use Rattle.packets.specs.declared.How.{How}
@@ -42,7 +44,7 @@ use Rattle.cell_history.proofs.FromFresh.{reached}
 use Rattle.cell_history.proofs.MeantLaws.{Plain, by-meant}
 use Rattle.cell_history.proofs.HeardLaws.{does-heard}
 use Rattle.cell_history.specs.Heard.{heard, heardAs, heardBy, heardOf, inside, taken}
-use Rattle.cell_history.specs.History.{Call, Chosen, Complete, Deck, Delete, Does, End, Entered, Event, Key, Leads, Mark, Mistyped, Release, Reply, Said, Select, Shown, Start, Status, Submit, meant}
+use Rattle.cell_history.specs.History.{Call, Chosen, Complete, Deck, Delete, Does, End, Entered, Event, Key, Leads, Mark, Mistyped, Release, Reply, Return, Said, Select, Shown, Start, Status, Submit, meant}
 use Rattle.demands.specs.Demands.{SameMarks}
 use Rattle.demands.specs.Refusing.{refusalIn}
 use Rattle.demands.proofs.Accepted.{heard-granted}
@@ -68,17 +70,25 @@ Unmarking (Rules.Submit j p f c w) = Unit {0}
 Unmarking (Rules.Start c) = Unit {0}
 Unmarking (Rules.Complete c how) = Unit {0}
 Unmarking (Rules.End j e) = Unit {0}
+Unmarking (Rules.Return j c u) = Unit {0}
 Unmarking (Rules.Mark c u m on) = ⊥
 
--- for anything that is read of a unit and that locks, returns and takings leave alone
-module _ (f : UnitState → Bool) (locks : (v : UnitState) (b : Bool) → f (withLock v b) ≡ f v) (frees : (j : ℕ) (v : UnitState) → f (release j v) ≡ f v)
-    (takes : (j : ℕ) (w : Bool) (v : UnitState) → f (takeUnit j w v) ≡ f v) (d w : ℕ) where
+-- for anything that is read of a unit and that locks, new holders, returns and takings leave alone
+module _ (f : UnitState → Bool) (locks : (v : UnitState) (b : Bool) → f (withLock v b) ≡ f v) (holds : (v : UnitState) (h : Holder) → f (withHolder v h) ≡ f v)
+    (frees : (j : ℕ) (v : UnitState) → f (release j v) ≡ f v) (takes : (j : ℕ) (w : Bool) (v : UnitState) → f (takeUnit j w v) ≡ f v) (d w : ℕ) where
   abbrev read : State → Bool
   read s = f (unitIn (s .units) d w)
 
   lock-keeps : (units : List (List UnitState)) (c : ℕ) (a : Site) (b : Bool) → f (unitIn (setLock units c a b) d w) ≡ f (unitIn units d w)
   lock-keeps units c (AtUnit u) b = unit-keep f units c (u .0) (withLock (unitIn units c (u .0)) b) d w (locks (unitIn units c (u .0)) b)
   lock-keeps units c (AtAddress x) b = refl
+
+  hold-keeps : (units : List (List UnitState)) (c : ℕ) (a : Site) (h : Holder) → f (unitIn (setHolder units c a h) d w) ≡ f (unitIn units d w)
+  hold-keeps units c (AtUnit u) h = unit-keep f units c (u .0) (withHolder (unitIn units c (u .0)) h) d w (holds (unitIn units c (u .0)) h)
+  hold-keeps units c (AtAddress x) h = refl
+
+  back-keeps : (units : List (List UnitState)) (c : ℕ) (a : Site) → f (unitIn (freedAt units c a) d w) ≡ f (unitIn units d w)
+  back-keeps units c a = by-bool (isReturning (unitAt units c a .holder)) (λ t. rw t (hold-keeps units c a Free)) (λ t. rw t refl)
 
   returns-keep : (j : ℕ) (t : State) → read (returnIfDone j t) ≡ read t
   returns-keep j t = by-bool (isDone t j) (λ e. rw e (ap f (unit-release (t .units) j d w) ∙ frees j (unitIn (t .units) d w))) (λ e. rw e refl)
@@ -91,7 +101,8 @@ module _ (f : UnitState → Bool) (locks : (v : UnitState) (b : Bool) → f (wit
     completed-keeps : (c : ℕ) (how : How) (m : Motion) → read (completed s c how m) ≡ read s
     completed-keeps c how Idle = refl
     completed-keeps c how (Busy j p) =
-        returns-keep j (finished s c how j p)
+        back-keeps (returnIfDone j (finished s c how j p) .units) c (packetIn (s .jobs) j p .at)
+        ∙ returns-keep j (finished s c how j p)
         ∙ by-bool (isTrouble (s .codes) how && isUnit (packetIn (s .jobs) j p .at))
         (λ e. rw e (lock-keeps (s .units) c (packetIn (s .jobs) j p .at) true)) (λ e. rw e refl)
 
@@ -108,6 +119,7 @@ module _ (f : UnitState → Bool) (locks : (v : UnitState) (b : Bool) → f (wit
     accept-keeps (Rules.Start c) n = starts-keep c (find (startable s c) (s .queue))
     accept-keeps (Rules.Complete c how) n = completed-keeps c how (motionOn s c)
     accept-keeps (Rules.End j e) n = returns-keep j (closed s j e)
+    accept-keeps (Rules.Return j c u) n = hold-keeps (s .units) c (AtUnit (record { 0 = u })) _
     accept-keeps (Rules.Mark c u m on) n = absurd n
 
     step-keeps : (x : Rules.Call) → Unmarking x → read (Rules.step s x .state) ≡ read s
@@ -138,6 +150,7 @@ heard-unmarking (some (Submit j p f c w)) reply n = (tt, tt)
 heard-unmarking (some (Start c)) reply n = (tt, tt)
 heard-unmarking (some (Complete c how)) reply n = (tt, tt)
 heard-unmarking (some (End j e)) reply n = (tt, tt)
+heard-unmarking (some (Return j c u)) reply n = (tt, tt)
 heard-unmarking (some (Mark k u m on)) reply n = absurd (n k u m on refl)
 heard-unmarking (some (Release id)) reply n = tt
 heard-unmarking (some (Delete id)) reply n = tt
@@ -150,9 +163,9 @@ marks-stay c d x reply h n k u =
     let l = heard-unmarking (meant x) reply n in
     let is = does-heard c d x reply h in (
       ap (λ (s : State). unitIn (s .units) k u .down) is
-          ∙ run-keeps (λ v. v .down) (λ v b. refl) (λ j v. refl) (λ j w v. by-bool (w && assignable v) (λ t. rw t refl) (λ t. rw t refl)) k u (inside c) (heardOf x reply) l,
+          ∙ run-keeps (λ v. v .down) (λ v b. refl) (λ v h. refl) (λ j v. refl) (λ j w v. by-bool (w && assignable v) (λ t. rw t refl) (λ t. rw t refl)) k u (inside c) (heardOf x reply) l,
       ap (λ (s : State). unitIn (s .units) k u .reserved) is
-          ∙ run-keeps (λ v. v .reserved) (λ v b. refl) (λ j v. refl) (λ j w v. by-bool (w && assignable v) (λ t. rw t refl) (λ t. rw t refl)) k u (inside c) (heardOf x reply) l,
+          ∙ run-keeps (λ v. v .reserved) (λ v b. refl) (λ v h. refl) (λ j v. refl) (λ j w v. by-bool (w && assignable v) (λ t. rw t refl) (λ t. rw t refl)) k u (inside c) (heardOf x reply) l,
     )
 
 -- ---- the answers
@@ -186,6 +199,7 @@ answers-so c d x a h e y q =
     go (Start k) n h q g = acts-answer c (Rules.Start k) y a (h .0) q g
     go (Complete k how) n h q g = acts-answer c (Rules.Complete k how) y a (h .0) q g
     go (End j b) n h q g = acts-answer c (Rules.End j b) y a (h .0) q g
+    go (Return j k u) n h q g = acts-answer c (Rules.Return j k u) y a (h .0) q g
     go (Mark k u m on) n h q g = acts-answer c (Rules.Mark k u m on) y a (h .0) q g
     go (Release id) n h q g = absurd (not-one y q)
     go (Delete id) n h q g = absurd (not-one y q)

@@ -52,7 +52,7 @@ use Rattle.cell_selection.specs.declared.Selection.{Selection}
 use Rattle.cell.specs.Calls.{acted, afterCompletion, afterEnd, follows, freshCell, leftBy}
 use Rattle.cell.specs.declared.Cell.{Cell}
 use Rattle.cell_history.proofs.MeantLaws.{Plain, by-meant}
-use Rattle.cell_history.specs.History.{Call, Complete, Deck, Delete, Does, End, Event, Key, Leads, Mark, Release, Reply, Select, Start, Status, Submit}
+use Rattle.cell_history.specs.History.{Call, Complete, Deck, Delete, Does, End, Event, Key, Leads, Mark, Release, Reply, Return, Select, Start, Status, Submit}
 use Rattle.cell_agreement.proofs.SoundProof.{sound-always}
 use Rattle.demands.proofs.Owning.{leads-more}
 use Rattle.demands.proofs.Texts.{groups-alike}
@@ -142,6 +142,7 @@ module _ (P : Request → Type 0) where
     each-follows (Rules.Start c) a = h
     each-follows (Rules.Complete c how) a = each-completion a
     each-follows (Rules.End j e) a = each-end j a
+    each-follows (Rules.Return j c u) a = h
     each-follows (Rules.Mark c u m on) a = h
 
     each-select : (found : Bool) (lists : Lists) (selection : Selection) → EachIn (Selecting.leftBy found s lists selection .0)
@@ -180,6 +181,7 @@ plain-named c d (Submit place packet function channel spot) reply p h s n = name
 plain-named c d (Start channel) reply p h s n = named-acts c d (Rules.Start channel) (h .1) n
 plain-named c d (Complete channel how) reply p h s n = named-acts c d (Rules.Complete channel how) (h .1) n
 plain-named c d (End place inError) reply p h s n = named-acts c d (Rules.End place inError) (h .1) n
+plain-named c d (Return place channel unit) reply p h s n = named-acts c d (Rules.Return place channel unit) (h .1) n
 plain-named c d (Mark channel unit mark on) reply p h s n = named-acts c d (Rules.Mark channel unit mark on) (h .1) n
 plain-named c d (Release id) reply p h s n = subst NamedIn (sym (h .1)) (each-released Formed (c .schedule) n (find (isNamed id) (inSchedule (c .schedule))) id)
 plain-named c d (Delete id) reply p h s n = subst NamedIn (sym (h .1)) (each-deleted Formed (c .schedule) n (find (isNamed id) (inSchedule (c .schedule))) id)

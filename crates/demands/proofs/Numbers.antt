@@ -11,6 +11,7 @@ use lib.ListN.{length}
 use Rattle.numbers.proofs.Tests.{by-bool}
 use Rattle.numbers.specs.declared.Refusal.{Refusal}
 use Rattle.numbers.specs.declared.Refusal.the-variants.{BadDeck, ChannelBusy, JobRuns, NoSuchRequest, NothingStartable, OutOfRange, UnknownMessage}
+use Rattle.units.specs.State.{unitIn}
 use Rattle.units.specs.declared.Mark.{Mark as Mark′}
 use Rattle.units.specs.declared.Mark.the-variants as Mark″
 use Rattle.keyboard.proofs.ReadBack.{isKnown, known-by}
@@ -53,9 +54,9 @@ use Rattle.cell.specs.declared.Cell.{Cell}
 use Rattle.cell.specs.declared.Heeded.{Heeded}
 use Rattle.cell_history.proofs.MeantLaws.{Plain}
 use Rattle.cell_history.specs.Heard.{inside}
-use Rattle.cell_history.specs.History.{Call, Complete, Deck, Delete, Does, End, Key, Mark, Release, Reply, Select, Start, Status, Submit, callOf, replyOf}
+use Rattle.cell_history.specs.History.{Call, Complete, Deck, Delete, Does, End, Key, Mark, Release, Reply, Return, Select, Start, Status, Submit, callOf, replyOf}
 use Rattle.demands.specs.Refusing.{ofAnswer, ofOutcome, ofStatus, refusalIn}
-use Rattle.demands.specs.Table.{RefusedBy, Row, SelectRefused, canStart, has, isActive, isOpen, isSelect, isSuspended, isThere, lowest, meantRows, row, rows, rowsIn, submitRows}
+use Rattle.demands.specs.Table.{RefusedBy, Row, SelectRefused, canStart, has, isActive, isOpen, isSelect, isSuspended, isThere, lowest, meantRows, returnRows, row, rows, rowsIn, submitRows}
 
 -- a verdict as a refusal, if it is one
 abbrev pub ofVerdict : Verdict → Option Refusal
@@ -88,6 +89,7 @@ accepted-none s (Rules.Submit j p f c w) = refl
 accepted-none s (Rules.Start c) = begins-none s (find (Rules.startable s c) (s .queue))
 accepted-none s (Rules.Complete c how) = completes-none s c how (motionOn s c)
 accepted-none s (Rules.End j b) = refl
+accepted-none s (Rules.Return j c u) = refl
 accepted-none s (Rules.Mark c u m on) = refl
 
 -- what is answered is what the rules say
@@ -145,6 +147,15 @@ end-rows : (s : State) (es : List Entry) (j : ℕ) (e : Bool) → ofVerdict (Rul
 unfolding Rules.refusal
 end-rows s es j e = chained (rowsIn s es (End j e))
 
+-- a return, by what the channel has
+return-is : (s : State) (on : Fitted) (j k u : ℕ) → Rules.returnRefusal on (stateIn (s .jobs) j) (unitIn (s .units) k u) j k u ≡ chain (returnRows s on j k u)
+return-is s Nothing j k u = refl
+return-is s (With kind n) j k u = refl
+
+return-rows : (s : State) (es : List Entry) (j k u : ℕ) → ofVerdict (Rules.refusal s (Rules.Return j k u)) ≡ lowest (rowsIn s es (Return j k u))
+unfolding Rules.refusal
+return-rows s es j k u = ap ofVerdict (return-is s (fittedOn (s .channels) k) j k u) ∙ chained (rowsIn s es (Return j k u))
+
 mark-rows : (s : State) (es : List Entry) (k u : ℕ) (m : Mark′) (on : Bool) → ofVerdict (Rules.refusal s (Rules.Mark k u m on)) ≡ lowest (rowsIn s es (Mark k u m on))
 unfolding Rules.refusal
 mark-rows s es k u m on = go (fittedOn (s .channels) k)
@@ -194,6 +205,7 @@ plain-numbers c d (Submit j p f k w) reply z h = ap refusalIn (h .0) ∙ answers
 plain-numbers c d (Start k) reply z h = ap refusalIn (h .0) ∙ answers-by c (Rules.Start k) ∙ start-rows (inside c) (inSchedule (c .schedule)) k
 plain-numbers c d (Complete k how) reply z h = ap refusalIn (h .0) ∙ answers-by c (Rules.Complete k how) ∙ complete-rows (inside c) (inSchedule (c .schedule)) k how
 plain-numbers c d (End j e) reply z h = ap refusalIn (h .0) ∙ answers-by c (Rules.End j e) ∙ end-rows (inside c) (inSchedule (c .schedule)) j e
+plain-numbers c d (Return j k u) reply z h = ap refusalIn (h .0) ∙ answers-by c (Rules.Return j k u) ∙ return-rows (inside c) (inSchedule (c .schedule)) j k u
 plain-numbers c d (Mark k u m on) reply z h = ap refusalIn (h .0) ∙ answers-by c (Rules.Mark k u m on) ∙ mark-rows (inside c) (inSchedule (c .schedule)) k u m on
 plain-numbers c d (Release id) reply z h = ap refusalIn (h .0) ∙ release-rows (findNamed (isNamed id) (inSchedule (c .schedule))) (c .schedule) id
 plain-numbers c d (Delete id) reply z h = ap refusalIn (h .0) ∙ delete-rows (findNamed (isNamed id) (inSchedule (c .schedule))) (c .schedule) id
@@ -223,6 +235,7 @@ numbers c d (Submit j p f k w) reply h = plain-numbers c d (Submit j p f k w) re
 numbers c d (Start k) reply h = plain-numbers c d (Start k) reply tt h
 numbers c d (Complete k how) reply h = plain-numbers c d (Complete k how) reply tt h
 numbers c d (End j e) reply h = plain-numbers c d (End j e) reply tt h
+numbers c d (Return j k u) reply h = plain-numbers c d (Return j k u) reply tt h
 numbers c d (Mark k u m on) reply h = plain-numbers c d (Mark k u m on) reply tt h
 numbers c d (Release id) reply h = plain-numbers c d (Release id) reply tt h
 numbers c d (Delete id) reply h = plain-numbers c d (Delete id) reply tt h

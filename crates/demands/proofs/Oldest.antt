@@ -20,6 +20,7 @@ use Rattle.packets.specs.declared.JobState.the-variants.{Empty}
 use Rattle.packets.specs.declared.Motion.the-variants.{Busy}
 use Rattle.packets.specs.declared.Packet.{Packet}
 use Rattle.packets.specs.declared.Site.{Site}
+use Rattle.packets.specs.declared.Site.the-variants.{AtUnit}
 use Rattle.packets.specs.declared.Spot.{Spot}
 use Rattle.packets.specs.declared.Status.{Status}
 use Rattle.packets.specs.declared.Status.the-variants.{Blank, Ended, InProgress, Listed, Stopping}
@@ -29,7 +30,8 @@ use Rattle.packets.proofs.InvStores.{enlisted-is, put-elsewhere, restatus-elsew
 use Rattle.packets.proofs.Laws.{all-imp, find-holds, keep-all, keep-same}
 use Rattle.packets.proofs.Steps.{Ready, busy-of, find-some, listed-new, over-fits, over-inside, ready-fits, ready-inside, ready-store, start-fits, startable-on}
 use Rattle.packets.proofs.Store.{alive-in, size-restatus, packet-fresh, packet-put, packet-restatus, packet-state, sizeIn}
-use Rattle.packets.proofs.Told.{Submits, assigns-to, completes-on, cut-unlisted, ends-of, starts-on, submits}
+use Rattle.packets.proofs.Told.{Submits, assigns-to, completes-on, cut-unlisted, ends-of, returns-of, starts-on, submits}
+use Rattle.packets.proofs.Handing.{returns-inside}
 use Rattle.demands.specs.Demands.{joins}
 
 -- ---- thinning: what is still listed stays, in its order
@@ -224,4 +226,7 @@ ordered s I (Rules.End j e) r =
     let s₂ = closed s j e in
     let t₂ : Thins s s₂ = thins-on s s₁ s₂ t (thins-same s₁ s₂ refl (λ i n. packet-state (restatusAll (s .jobs) j always cut) j (closing e) i n) (thins-still s s₁ t)) in
     thinned s (returnIfDone j s₂) (thins-on s s₂ (returnIfDone j s₂) t₂ (thins-returned s₂ j (thins-still s s₂ t₂)))
+ordered s I (Rules.Return j c u) r =
+    let a = AtUnit (record { 0 = u }) in
+    thinned s (sweep s j (isAt c a) cut) (thins-sweep s j (isAt c a) cut (returns-inside s I j c u (returns-of s j c u r)) refl cut-less (still-all s I))
 ordered s I (Rules.Mark c u m on) r = thinned s (Rules.marked s c u m on) (thins-same s (Rules.marked s c u m on) refl (λ i n. refl) (still-all s I))

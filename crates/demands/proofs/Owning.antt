@@ -16,10 +16,11 @@ use Rattle.packets.specs.declared.Assignment.{Assignment}
 use Rattle.packets.specs.declared.JobState.the-variants.{Running}
 use Rattle.packets.specs.declared.Verdict.{Verdict}
 use Rattle.packets.proofs.Inv.{Inv, motion-busy}
+use Rattle.packets.proofs.InvJobs.{held-once}
 use Rattle.packets.proofs.Laws.{eqb-self}
 use Rattle.packets.proofs.Store.{state-fresh}
 use Rattle.packets.proofs.Steps.{run-inv}
-use Rattle.packets_given.specs.Given.{OnItsOwn, StillOwn, takenBy, takenIn, taking}
+use Rattle.packets_given.specs.Given.{Heads, OnItsOwn, StillOwn, askedBy, askedIn, asking, noHeads, takenBy, takenIn, taking}
 use Rattle.packets_given.proofs.OwnLaws.{is-own}
 use Rattle.cell_taken.specs.Taken.{areaOf, coreOf}
 use Rattle.cell_selection.specs.Selecting.{assignmentOf, takingOf}
@@ -42,13 +43,13 @@ module _ (configuration : Configuration) (es : List Event) (c : Cell) (l : Leads
   still-there place packet m = every-cell configuration es c l .always .live place packet (motion-busy (packetIn (inside c .jobs) place packet .status) m)
 
   pub still-own : (place : ℕ) → isEmpty (stateIn (inside c .jobs) place) ≡ false
-      → (given : Assignment) × (taking (told es) place ≡ some given) × StillOwn (inside c) place given
+      → (given : Assignment) × (taking (told es) place ≡ some given) × StillOwn (inside c) place given (asking (told es) place)
   still-own place alive =
       let r = every-cell configuration es c l in
       let g = r .given place .live alive in (
         g .0,
         g .1,
-        record { there = alive; holds = g .2; drum = λ i x a p q. r .drum i place x a alive q p; core = λ i x a p q. r .core i place x a alive q p },
+        record { there = alive; holds = g .2; heads = λ i k u p q. held-once (unitIn (inside c .units) k u .holder) i place q p; drum = λ i x a p q. r .drum i place x a alive q p; core = λ i x a p q. r .core i place x a alive q p },
       )
 
   pub free-place : (place : ℕ) → isEmpty (stateIn (inside c .jobs) place) ≡ true
@@ -83,6 +84,28 @@ unfolding takenIn
 taken-more j last [] t = refl
 taken-more j last (y ∷ es) t = taken-more j (takenBy j last (y .call) (y .answer)) es t
 
+asked-more : (j : ℕ) (t : Heads) (es : List Told.Event) (e : Told.Event) → askedIn j t (es ++ (e ∷ [])) ≡ askedBy j (askedIn j t es) (e .call) (e .answer)
+unfolding askedIn
+asked-more j t [] e = refl
+asked-more j t (y ∷ es) e = asked-more j (askedBy j t (y .call) (y .answer)) es e
+
+-- the same units asked for
+own-asked : (s : State) (j : ℕ) (asg : Assignment) (asked asked′ : Heads) → ((c u : ℕ) → asked c u ≡ asked′ c u) → StillOwn s j asg asked → StillOwn s j asg asked′
+own-asked s j asg asked asked′ e o =
+    record {
+      there = o .there;
+      holds = record {
+        from = o .holds .from;
+        words = o .holds .words;
+        core = o .holds .core;
+        units = λ c u h l. rw (← e c u) (o .holds .units c u h l);
+        returning = λ c u h l x. o .holds .returning c u h l x ∙ e c u;
+      };
+      heads = o .heads;
+      drum = o .drum;
+      core = o .core;
+    }
+
 -- WHAT WAS ASSIGNED the job holds after its selection
 module _ (configuration : Configuration) (es : List Event) (c : Cell) (l : Leads (freshCell configuration) es c) (d : Cell) (s : Selection) (k : Does c Select (Chosen Done s) d) where
   abbrev event : Event
@@ -106,9 +129,18 @@ module _ (configuration : Configuration) (es : List Event) (c : Cell) (l : Leads
       ∙ taken-more (s .place) none (told es) _
       ∙ rw (eqb-self (s .place)) refl
 
-  pub holds-then : StillOwn (inside d) (s .place) assigned
+  -- and it has asked for nothing back yet
+  none-asked : (k u : ℕ) → asking (told (es ++ (event ∷ []))) (s .place) k u ≡ false
+  unfolding askedBy
+  none-asked k u =
+      ap (λ (m : List Told.Event). asking m (s .place) k u) (told-more es event _ refl)
+      ∙ ap (λ (f : Heads). f k u) (asked-more (s .place) noHeads (told es) _)
+      ∙ rw (eqb-self (s .place)) refl
+
+  pub holds-then : StillOwn (inside d) (s .place) assigned noHeads
   holds-then =
       let g = still-own configuration (es ++ (event ∷ [])) d (leads-more (freshCell configuration) c d es event l k) (s .place) (ap isEmpty runs-there) in
       let e : some (g .0) ≡ some assigned = sym (g .1) ∙ given-then in
       let i : g .0 ≡ assigned = cc in
-      subst (StillOwn (inside d) (s .place)) i (g .2)
+      own-asked (inside d) (s .place) assigned (asking (told (es ++ (event ∷ []))) (s .place)) noHeads none-asked
+      (subst (λ (a : Assignment). StillOwn (inside d) (s .place) a (asking (told (es ++ (event ∷ []))) (s .place))) i (g .2))

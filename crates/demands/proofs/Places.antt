@@ -29,10 +29,12 @@ use Rattle.packets.specs.declared.Job.{Job}
 use Rattle.packets.specs.declared.JobState.{JobState}
 use Rattle.packets.specs.declared.JobState.the-variants.{Empty, Running}
 use Rattle.packets.specs.declared.Motion.{Motion}
+use Rattle.packets.specs.declared.Motion.the-variants.{Busy}
+use Rattle.packets.specs.declared.Site.the-variants.{AtUnit}
 use Rattle.packets.specs.declared.Verdict.{Verdict}
 use Rattle.packets.specs.declared.Verdict.the-variants.{Granted}
 use Rattle.packets.proofs.Laws.{eqb-self}
-use Rattle.packets.proofs.States.{states-begun, states-closed, states-finished, states-returned, states-submit}
+use Rattle.packets.proofs.States.{states-begun, states-closed, states-finished, states-handed, states-returned, states-submit}
 use Rattle.packets.proofs.Steps.{busy-of}
 use Rattle.packets.proofs.Told.{assigns-to, completes-on, ends-of}
 use Rattle.lists.proofs.History.{outcome-is}
@@ -48,7 +50,7 @@ use Rattle.keyboard.specs.declared.Asked.the-variants as Asked′
 use Rattle.cell_history.proofs.MeantLaws.{Plain, by-meant}
 use Rattle.cell_history.proofs.HeardLaws.{does-heard}
 use Rattle.cell_history.specs.Heard.{inside}
-use Rattle.cell_history.specs.History.{Call, Complete, Deck, Delete, Does, End, Key, Mark, Release, Reply, Select, Start, Status, Submit, callOf, meant}
+use Rattle.cell_history.specs.History.{Call, Complete, Deck, Delete, Does, End, Key, Mark, Release, Reply, Return, Select, Start, Status, Submit, callOf, meant}
 use Rattle.demands.specs.Demands.{Ends, withUnits}
 use Rattle.demands.specs.Refusing.{refusalIn}
 use Rattle.demands.proofs.Accepted.{accepted-is}
@@ -102,6 +104,7 @@ Other (Submit j p f k w) = Unit {0}
 Other (Start k) = Unit {0}
 Other (Complete k how) = ⊥
 Other (End j e) = ⊥
+Other (Return j k u) = Unit {0}
 Other (Mark k u m on) = Unit {0}
 Other (Release id) = Unit {0}
 Other (Delete id) = Unit {0}
@@ -140,6 +143,9 @@ module _ (c d : Cell) (i : ℕ) (alive : isEmpty (stateIn (inside c .jobs) i) �
   plain-keep (Start k) reply z h o = acted-same (Start k) reply h (Rules.Start k) (λ n. accepted-is c d (Start k) reply h n (Rules.Start k) refl .1) (states-started (inside c) k i)
   plain-keep (Complete k how) reply z h o = absurd o
   plain-keep (End j e) reply z h o = absurd o
+  plain-keep (Return j k u) reply z h o =
+      let y = Rules.Return j k u in
+      acted-same (Return j k u) reply h y (λ n. accepted-is c d (Return j k u) reply h n y refl .1) (states-handed (inside c) j k (AtUnit (record { 0 = u })) i)
   plain-keep (Mark k u m on) reply z h o =
       let y = Rules.Mark k u m on in
       acted-same (Mark k u m on) reply h y (λ n. accepted-is c d (Mark k u m on) reply h n y refl .1) refl
@@ -197,7 +203,7 @@ module _ (c d : Cell) (reply : Reply) (ok : refusalIn reply ≡ none) (place : �
       let o = busy-of (motionOn s k) (completes-on s k how (a .0) .1) in
       let j = o .0 in
       let s₁ = finished s k how j (o .1) in
-      let i : inside d ≡ returnIfDone j s₁ = a .1 ∙ ap (Rules.completed s k how) (o .2) in
+      let i : inside d ≡ Rules.completed s k how (Busy j (o .1)) = a .1 ∙ ap (Rules.completed s k how) (o .2) in
       let g : d .schedule ≡ leftBy (leaving j s₁) (c .schedule) j (c .schedule) =
       schedule-after c d (Rules.Complete k how) (h .1) (a .0) ∙ ap (λ (m : Motion). follows (c .schedule) (Rules.Complete k how) (Rules.completes s k how m)) (o .2) in
       by-bool (eqb place j)
@@ -240,6 +246,7 @@ module _ (c d : Cell) (reply : Reply) (ok : refusalIn reply ≡ none) (place : �
   ended-so (Start k) h en = ended-kept (Start k) h tt (λ q. let z : _≡_ {A = ℕ} 0 1 = cc in omega arith) en
   ended-so (Complete k how) h en = ⊎-elim (λ q. absurd (let z : _≡_ {A = ℕ} 0 1 = cc in omega arith)) (λ e. ended-complete k how h e) en
   ended-so (End j b) h en = ended-end j b h en
+  ended-so (Return j k u) h en = ended-kept (Return j k u) h tt (λ q. let z : _≡_ {A = ℕ} 0 1 = cc in omega arith) en
   ended-so (Mark k u m on) h en = ended-kept (Mark k u m on) h tt (λ q. let z : _≡_ {A = ℕ} 0 1 = cc in omega arith) en
   ended-so (Release id) h en = ended-kept (Release id) h tt (λ q. let z : _≡_ {A = ℕ} 0 1 = cc in omega arith) en
   ended-so (Delete id) h en = ended-kept (Delete id) h tt (λ q. let z : _≡_ {A = ℕ} 0 1 = cc in omega arith) en
@@ -270,7 +277,7 @@ module _ (c d : Cell) (reply : Reply) (place : ℕ) (e : stateIn (inside c .jobs
       let a = accepted-is c d (Complete k how) reply h ok (Rules.Complete k how) refl in
       let o = busy-of (motionOn s k) (completes-on s k how (a .0) .1) in
       let s₁ = finished s k how (o .0) (o .1) in
-      let i : inside d ≡ returnIfDone (o .0) s₁ = a .1 ∙ ap (Rules.completed s k how) (o .2) in
+      let i : inside d ≡ Rules.completed s k how (Busy (o .0) (o .1)) = a .1 ∙ ap (Rules.completed s k how) (o .2) in
       let v : stateIn (s₁ .jobs) place ≡ Running = states-finished s k how (o .0) (o .1) place ∙ e in
       ap (λ (x : State). stateIn (x .jobs) place) i ∙ runs-left s₁ (o .0) v)
 
@@ -290,6 +297,7 @@ module _ (c d : Cell) (reply : Reply) (place : ℕ) (e : stateIn (inside c .jobs
   runs-on (Start k) h n = kept (Start k) h tt
   runs-on (Complete k how) h n = runs-complete k how h
   runs-on (End j b) h n = runs-end j b h (n b)
+  runs-on (Return j k u) h n = kept (Return j k u) h tt
   runs-on (Mark k u m on) h n = kept (Mark k u m on) h tt
   runs-on (Release id) h n = kept (Release id) h tt
   runs-on (Delete id) h n = kept (Delete id) h tt

@@ -44,7 +44,7 @@ use Rattle.cell.specs.declared.Cell.{Cell}
 use Rattle.lists.specs.declared.StatusAnswer.the-variants.{Is}
 use Rattle.cell_history.proofs.HeardLaws.{does-heard, leads-heard}
 use Rattle.cell_history.specs.Heard.{heard, heardBy, heardOf, inside, taken, told}
-use Rattle.cell_history.specs.History.{Call, Chosen, Does, Event, Leads, Reply, Said, Select, Shown, Complete, Deck, Delete, End, Mark, Release, Start, Submit, meant}
+use Rattle.cell_history.specs.History.{Call, Chosen, Does, Event, Leads, Reply, Return, Said, Select, Shown, Complete, Deck, Delete, End, Mark, Release, Start, Submit, meant}
 use Rattle.demands.specs.Demands.{Demand1, Demand2, Demand3, WhileHeld, joins}
 use Rattle.demands.proofs.Accepted.{accepted-is, heard-granted}
 use Rattle.demands.proofs.InOrder.{first-in-order}
@@ -54,7 +54,8 @@ use Rattle.demands.proofs.Owning.{free-place, holds-then, on-its-own, r
 use Rattle.demands.proofs.Marks.{answers-so, changes-so, channels-stay, codes-stay, marks-stay}
 use Rattle.demands.proofs.Missing.{refused-so, missing-so, alone-so}
 use Rattle.demands.proofs.Places.{ended-so, marked-so, runs-on}
-use Rattle.demands.proofs.Requests.{closes-so, completes-so, starts-so, submits-so}
+use Rattle.demands.proofs.Requests.{closes-so, completes-so, returns-so, starts-so, submits-so}
+use Rattle.demands.proofs.Returning.{back-so, frees-so, until-so}
 use Rattle.demands.proofs.Typed.{faulty-so, mistyped-so, typed-so, unknown-so}
 use Rattle.demands.proofs.Texts.{counted-fresh, group-first, groups-alike, kept-room, listed, listed-bad, written-so}
 use Rattle.demands.specs.Refusing.{refusalIn}
@@ -177,6 +178,7 @@ demand-2 =
       ended = λ c d x reply h ok place inError. ended-so c d reply ok place inError x h;
       closes = closes-so;
       submits = submits-so;
+      returns = returns-so;
       starts = starts-so;
       completes = completes-so;
       runsOn = λ c d x reply h place e. runs-on c d reply place e x h;
@@ -239,6 +241,7 @@ heard-stretch h s (some (Submit place packet function channel spot)) reply H = (
 heard-stretch h s (some (Start channel)) reply H = (H, tt)
 heard-stretch h s (some (Complete channel how)) reply H = (H, tt)
 heard-stretch h s (some (End place inError)) reply H = (H, tt)
+heard-stretch h s (some (Return place channel unit)) reply H = (H, tt)
 heard-stretch h s (some (Mark channel unit mark on)) reply H = (H, tt)
 heard-stretch h s (some (Release id)) reply H = tt
 heard-stretch h s (some (Delete id)) reply H = tt
@@ -285,5 +288,9 @@ demand-3 =
       own = still-own;
       free = free-place;
       head = on-its-own;
+      back = back-so;
+      waits = λ configuration es c l. every-cell configuration es c l .always .returning;
+      frees = frees-so;
+      until = until-so;
       closing = λ configuration es c l. every-cell configuration es c l .always .closing;
     }

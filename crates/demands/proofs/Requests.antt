@@ -14,6 +14,7 @@ use Rattle.packets.specs.declared.How.{How}
 use Rattle.packets.specs.declared.JobState.the-variants.{Empty}
 use Rattle.packets.specs.declared.Leaving.the-variants.{Stays}
 use Rattle.packets.specs.declared.Motion.{Motion}
+use Rattle.packets.specs.declared.Motion.the-variants.{Busy}
 use Rattle.packets.specs.declared.Spot.{Spot}
 use Rattle.packets.proofs.Laws.{eqb-self}
 use Rattle.packets.proofs.States.{states-finished, states-returned}
@@ -22,7 +23,7 @@ use Rattle.packets.proofs.Told.{completes-on}
 use Rattle.cell.specs.Calls.{acted, follows, leftBy}
 use Rattle.cell.specs.declared.Cell.{Cell}
 use Rattle.cell_history.specs.Heard.{inside}
-use Rattle.cell_history.specs.History.{Complete, Does, End, Reply, Start, Submit}
+use Rattle.cell_history.specs.History.{Complete, Does, End, Reply, Return, Start, Submit}
 use Rattle.demands.specs.Refusing.{refusalIn}
 use Rattle.demands.proofs.Accepted.{accepted-is}
 use Rattle.demands.proofs.Places.{by-refusal, closing-live, schedule-after}
@@ -54,6 +55,10 @@ pub starts-so : (c d : Cell) (k : ℕ) (reply : Reply) → Does c (Start k) repl
 unfolding acted
 starts-so c d k reply h = ap (λ (x : Cell). x .schedule) (h .1)
 
+pub returns-so : (c d : Cell) (j k u : ℕ) (reply : Reply) → Does c (Return j k u) reply d → d .schedule ≡ c .schedule
+unfolding acted
+returns-so c d j k u reply h = ap (λ (x : Cell). x .schedule) (h .1)
+
 -- a place that is done was closing, and is empty when it has returned
 left-alone : (s : State) (j : ℕ) → isEmpty (stateIn (returnIfDone j s .jobs) j) ≡ isEmpty (stateIn (s .jobs) j) → isDone s j ≡ false
 left-alone s j e =
@@ -74,7 +79,7 @@ completes-so c d k how reply h same =
     let o = busy-of (motionOn s k) (completes-on s k how (a .0) .1) in
     let j = o .0 in
     let s₁ = finished s k how j (o .1) in
-    let i : inside d ≡ returnIfDone j s₁ = a .1 ∙ ap (Rules.completed s k how) (o .2) in
+    let i : inside d ≡ Rules.completed s k how (Busy j (o .1)) = a .1 ∙ ap (Rules.completed s k how) (o .2) in
     let n : isDone s₁ j ≡ false =
     left-alone s₁ j (sym (ap (λ (x : State). isEmpty (stateIn (x .jobs) j)) i) ∙ same j ∙ ap isEmpty (sym (states-finished s k how j (o .1) j))) in
     schedule-after c d (Rules.Complete k how) (h .1) (a .0)

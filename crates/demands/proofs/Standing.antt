@@ -39,7 +39,7 @@ use Rattle.cell.specs.declared.Cell.{Cell}
 use Rattle.cell.specs.declared.DeckAnswer.{DeckAnswer}
 use Rattle.cell.specs.declared.SelectAnswer.{SelectAnswer}
 use Rattle.cell_history.proofs.MeantLaws.{Plain, by-meant}
-use Rattle.cell_history.specs.History.{Call, Complete, Deck, Delete, Does, End, Key, Mark, Release, Reply, Select, Start, Status, Submit}
+use Rattle.cell_history.specs.History.{Call, Complete, Deck, Delete, Does, End, Key, Mark, Release, Reply, Return, Select, Start, Status, Submit}
 use Rattle.demands.specs.Refusing.{ofAnswer, ofOutcome, refusalIn}
 
 -- an option is not both
@@ -67,6 +67,7 @@ accepted s (Rules.Submit j p f c w) n e = not-some e
 accepted s (Rules.Start c) n e = begins-some s (find (Rules.startable s c) (s .queue)) n e
 accepted s (Rules.Complete c how) n e = completes-some s c how (motionOn s c) n e
 accepted s (Rules.End j b) n e = not-some e
+accepted s (Rules.Return j c u) n e = not-some e
 accepted s (Rules.Mark c u m on) n e = not-some e
 
 -- a refusal moves the schedule nowhere
@@ -76,6 +77,7 @@ follows-refused s (Rules.Submit j p f c w) n = refl
 follows-refused s (Rules.Start c) n = refl
 follows-refused s (Rules.Complete c how) n = refl
 follows-refused s (Rules.End j b) n = refl
+follows-refused s (Rules.Return j c u) n = refl
 follows-refused s (Rules.Mark c u m on) n = refl
 
 acts-stand : (c : Cell) (x : Rules.Call) (n : Refusal) → ofAnswer (acted c x .answer) ≡ some n → acted c x .cell ≡ c
@@ -147,6 +149,7 @@ plain-stands c d (Submit j p f k w) reply n z h e = h .1 ∙ acts-stand c (Rules
 plain-stands c d (Start k) reply n z h e = h .1 ∙ acts-stand c (Rules.Start k) n (sym (ap refusalIn (h .0)) ∙ e)
 plain-stands c d (Complete k how) reply n z h e = h .1 ∙ acts-stand c (Rules.Complete k how) n (sym (ap refusalIn (h .0)) ∙ e)
 plain-stands c d (End j b) reply n z h e = h .1 ∙ acts-stand c (Rules.End j b) n (sym (ap refusalIn (h .0)) ∙ e)
+plain-stands c d (Return j k u) reply n z h e = h .1 ∙ acts-stand c (Rules.Return j k u) n (sym (ap refusalIn (h .0)) ∙ e)
 plain-stands c d (Mark k u m on) reply n z h e = h .1 ∙ acts-stand c (Rules.Mark k u m on) n (sym (ap refusalIn (h .0)) ∙ e)
 plain-stands c d (Release id) reply n z h e = h .1 ∙ release-stands c id n (findRequest (isNamed id) (inSchedule (c .schedule))) (sym (ap refusalIn (h .0)) ∙ e)
 plain-stands c d (Delete id) reply n z h e = h .1 ∙ delete-stands c id n (findRequest (isNamed id) (inSchedule (c .schedule))) (sym (ap refusalIn (h .0)) ∙ e)

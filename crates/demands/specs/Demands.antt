@@ -19,7 +19,8 @@ use Rattle.numbers.specs.declared.Refusal.the-variants.{NoAssignment, NoCandida
 use Rattle.text.specs.Class.{isAlnum}
 use Rattle.words.specs.Words.{every}
 use Rattle.line_words.specs.Forms.{IsWord, idOf}
-use Rattle.units.specs.State.{assignable, markedUnit, unitIn, unitSet, unitsFrom}
+use Rattle.units.specs.State.{assignable, isReturning, markedUnit, unitIn, unitSet, unitsFrom}
+use Rattle.units.specs.declared.Holder.the-variants.{Free, Returning}
 use Rattle.units.specs.declared.Mark.{Mark as UnitMark}
 use Rattle.units.specs.declared.Unit.{Unit as UnitState}
 use Rattle.channels.specs.Channels.{hasUnit, setsInterlock}
@@ -64,12 +65,13 @@ use Rattle.packets.specs.Demand.{Holding, Holds, Isolated}
 use Rattle.packets.specs.Interlocks.{interlockAfter}
 use Rattle.packets.specs.Picks.{keep}
 use Rattle.packets.specs.State.{entryOf, heldBy, inMotion, isClosing, isEmpty, isStill, jobIn, motionOn, noCore, packetIn, stateIn}
-use Rattle.packets.specs.Rules.{closing}
+use Rattle.packets.specs.Rules.{closing, isAt}
 use Rattle.packets.specs.declared.Answer.{Answer}
 use Rattle.packets.specs.declared.Answer.the-variants as Answers
 use Rattle.packets.specs.declared.How.{How}
 use Rattle.packets.specs.declared.JobState.the-variants.{Empty, Running}
 use Rattle.packets.specs.declared.Motion.the-variants.{Busy}
+use Rattle.packets.specs.declared.Site.the-variants.{AtUnit}
 use Rattle.packets.specs.declared.Spot.{Spot}
 use Rattle.packets.specs.declared.Status.{Status}
 use Rattle.cell_taken.specs.Taken.{areaOf, coreOf}
@@ -101,6 +103,7 @@ use Rattle.cell_history.specs.History.{
   Mistyped,
   Release,
   Reply,
+  Return,
   Said,
   Select,
   Shown,
@@ -113,7 +116,7 @@ use Rattle.demands.specs.Refusing.{refusalIn}
 use Rattle.demands.specs.Table.{RefusedBy, isSelect}
 use Rattle.packets.specs.declared.Assignment.{Assignment}
 use Rattle.packets.specs.declared.Status.the-variants.{Stopping}
-use Rattle.packets_given.specs.Given.{OnItsOwn, StillOwn, taking}
+use Rattle.packets_given.specs.Given.{OnItsOwn, StillOwn, asking, noHeads, taking}
 use Rattle.cards_full.specs.declared.Wrote.the-variants as Wrote′
 use Rattle.packets.specs.Rules as Rules
 
@@ -121,8 +124,8 @@ use Rattle.packets.specs.Rules as Rules
 -- and after a refused call everything stands, byte for byte, as before." That each is answered is what the check
 -- says of the public functions: none has a condition on its input, and each ends.
 pub record Demand1 : Type 0 where
-  -- "Bad input gets document 01's number": a call is refused with the lowest number of the table whose sentence
-  -- holds, and only then
+  -- "Bad input gets document 01's number": a call is refused with the first number, in the table's order, whose sentence
+  -- holds, and only then: the lowest, but that 17 comes before all and 21 after 3
   pub numbers : (c d : Cell) (x : Call) (reply : Reply) → Does c x reply d → RefusedBy (isSelect x) c x (refusalIn reply)
   -- "after a refused call everything stands, byte for byte, as before": the cell,
   pub stands : (c d : Cell) (x : Call) (reply : Reply) (n : Refusal) → Does c x reply d → refusalIn reply ≡ some n → d ≡ c
@@ -196,6 +199,7 @@ joins (Rules.Submit place packet function channel spot) = cond (eqb function 0o0
 joins (Rules.Start channel) = []
 joins (Rules.Complete channel how) = []
 joins (Rules.End place inError) = []
+joins (Rules.Return place channel unit) = []
 joins (Rules.Mark channel unit mark on) = []
 
 -- a fact holds exactly when another does
@@ -293,10 +297,10 @@ pub record Demand2 : Type 0 where
       → precedes (keyOf (entryAt (inSchedule (c .schedule)) i .request)) (keyOf (s .request)) ≡ true
       → HasNone (seenIn (c .lists)) (entryAt (inSchedule (c .schedule)) i .request)
   -- "taken into the lowest free place": what was assigned it then holds, exactly those units, that drum area and that
-  -- core, and no other job has any of it
+  -- core, none of it being returned, and no other job has any of it
   pub holds : (configuration : Configuration) (es : List Event) (c : Cell) → Leads (freshCell configuration) es c
       → (d : Cell) (s : Selection) → Does c Select (Chosen Done s) d
-      → StillOwn (inside d) (s .place) (assignmentOf (s .request .facilities) (s .assigned))
+      → StillOwn (inside d) (s .place) (assignmentOf (s .request .facilities) (s .assigned)) noHeads
   -- "selection is refused exactly when no place is free or no such job exists", with 18, 19 or 20;
   pub refused : (c d : Cell) (o : Outcome) (s : Selection) → Does c Select (Chosen o s) d → RefusedSo c o
   -- 20 says what was missing, and something is missing exactly when there is no assignment;
@@ -328,12 +332,13 @@ pub record Demand2 : Type 0 where
       → (stateIn (inside d .jobs) place ≡ closing inError)
       ⊎ ((stateIn (inside d .jobs) place ≡ Empty) × (d .schedule ≡ Schedule.returned (c .schedule) place inError))
   -- while it is closing its request is, and nothing else in the schedule changes; nor does anything there change by a
-  -- submission, a start, or a completion that empties no place
+  -- submission, a start, a unit's return, or a completion that empties no place
   pub closes : (c d : Cell) (place : ℕ) (inError : Bool) (reply : Reply) → Does c (End place inError) reply d
       → stateIn (inside d .jobs) place ≡ closing inError → refusalIn reply ≡ none → d .schedule ≡ Schedule.closing (c .schedule) place
   pub submits : (c d : Cell) (place packet function channel : ℕ) (spot : Spot) (reply : Reply)
       → Does c (Submit place packet function channel spot) reply d → d .schedule ≡ c .schedule
   pub starts : (c d : Cell) (channel : ℕ) (reply : Reply) → Does c (Start channel) reply d → d .schedule ≡ c .schedule
+  pub returns : (c d : Cell) (place channel unit : ℕ) (reply : Reply) → Does c (Return place channel unit) reply d → d .schedule ≡ c .schedule
   pub completes : (c d : Cell) (channel : ℕ) (how : How) (reply : Reply) → Does c (Complete channel how) reply d
       → ((place : ℕ) → isEmpty (stateIn (inside d .jobs) place) ≡ isEmpty (stateIn (inside c .jobs) place)) → d .schedule ≡ c .schedule
   -- a job runs until its end is called,
@@ -369,7 +374,7 @@ pub record Demand2 : Type 0 where
   pub before : AllListed all60 × AsBefore
   pub elsewhere : OnlyCompletions
   -- what an accepted call answers: "a completion answers the place and number of the packet it ends", and like an end
-  -- whether the job's facilities returned; a start what begins; a submission and a mark are done,
+  -- whether the job's facilities returned; a start what begins; a submission, a unit's return and a mark are done,
   pub answers : (c d : Cell) (x : Call) (a : Answer) → Does c x (Said a) d → refusalIn (Said a) ≡ none
       → (y : Rules.Call) → heardOf x (Said a) ≡ y ∷ [] → a ≡ Rules.answer (inside c) y
   -- and so are a release and a deletion
@@ -395,6 +400,12 @@ pub record Demand2 : Type 0 where
       ≡ howMany 16 (λ u. hasUnit configuration channel (record { 0 = u })
       && assignable (unitIn (inside (freshCell configuration) .units) (channel .0) u))
 
+-- a packet of the job in a place is in progress or stopping on a unit
+abbrev pub MovesThere : Cell → ℕ → ℕ → ℕ → Type 0
+MovesThere c place channel unit =
+    (packet : ℕ) × (inMotion (packetIn (inside c .jobs) place packet .status) ≡ true)
+    × (isAt channel (AtUnit (record { 0 = unit })) (packetIn (inside c .jobs) place packet) ≡ true)
+
 -- calls one after the other, as `Leads` has them, before each of which the job has the holding; the last may return it
 abbrev pub WhileHeld : Holding → Cell → List Event → Cell → Type 0
 WhileHeld h c [] d = d ≡ c
@@ -413,27 +424,53 @@ pub record Demand3 : Type 0 where
       → (d : Cell) (job : Selection) → Does c Select (Chosen Done job) d
       -- one holding of it: a unit, or its piece of the drum
       → (h : Holding) → h .place ≡ job .place → Holds (inside d) h
-      -- and any calls while it has it, up to its return or any earlier moment
+      -- and any calls while it has it, up to its return, "the unit's own" or with the rest of the job's facilities, or any
+      -- earlier moment
       → (during : List Event) (e : Cell) → WhileHeld h d during e
       -- by what the caller was told: the lone unit, which "takes the same section", takes every call that acted, makes
       -- the same starts in the same order and leaves the same statuses; what starts or moves on a unit this job has
-      -- submitted there since its selection, so that it is of no other job, nor of one that had the same place before
+      -- submitted there since its selection, so that it is of no other job, nor of one that had the same place before; and a
+      -- unit whose return was asked for is the job's exactly as long as the lone unit moves
       → Isolated (configuration .codes) h (told during) (inside e)
   -- "the head is handed on at once" cannot happen: while a packet of a job is in progress or stopping, on whatever
   -- channel, the job is in its place,
   pub moving : (configuration : Configuration) (es : List Event) (c : Cell) → Leads (freshCell configuration) es c
       → (place packet : ℕ) → inMotion (packetIn (inside c .jobs) place packet .status) ≡ true
       → isEmpty (stateIn (inside c .jobs) place) ≡ false
-  -- and as long as it is, everything that its selection gave it (units, drum area, core) is its own, and nothing else:
-  -- "all facilities return together"
+  -- and as long as it is, everything that its selection gave it (units, drum area, core) less what it has returned is its
+  -- own, and nothing else: the rest "return together". It has returned a unit when it asked for that and nothing moves there
   pub own : (configuration : Configuration) (es : List Event) (c : Cell) → Leads (freshCell configuration) es c
       → (place : ℕ) → isEmpty (stateIn (inside c .jobs) place) ≡ false
-      → (given : Assignment) × (taking (told es) place ≡ some given) × StillOwn (inside c) place given
+      → (given : Assignment) × (taking (told es) place ≡ some given) × StillOwn (inside c) place given (asking (told es) place)
   -- among it the unit, or on the drum the address, that the packet is on
   pub head : (configuration : Configuration) (es : List Event) (c : Cell) → Leads (freshCell configuration) es c
       → (place packet : ℕ) → inMotion (packetIn (inside c .jobs) place packet .status) ≡ true
       → OnItsOwn (inside c) place (packetIn (inside c .jobs) place packet)
-  -- and a closing job always has a packet stopping, so that nothing of it is handed on before the last completion
+  -- With one head back early: its return leaves a unit being returned while a packet of the job is in progress or stopping
+  -- there, and frees it "at once if nothing moves",
+  pub back : (configuration : Configuration) (es : List Event) (c : Cell) → Leads (freshCell configuration) es c
+      → (d : Cell) (place channel unit : ℕ) (reply : Reply) → Does c (Return place channel unit) reply d → refusalIn reply ≡ none
+      → (MovesThere c place channel unit → unitIn (inside d .units) channel unit .holder ≡ Returning place)
+      × ((MovesThere c place channel unit → ⊥) → unitIn (inside d .units) channel unit .holder ≡ Free)
+  -- on a unit that is being returned a packet of the job that holds it is stopping,
+  pub waits : (configuration : Configuration) (es : List Event) (c : Cell) → Leads (freshCell configuration) es c
+      → (channel unit : ℕ) → isReturning (unitIn (inside c .units) channel unit .holder) ≡ true
+      → (place packet : ℕ) × (heldBy (unitIn (inside c .units) channel unit .holder) place ≡ true)
+      × (motionOn (inside c) channel ≡ Busy place packet)
+      × (packetIn (inside c .jobs) place packet .at ≡ AtUnit (record { 0 = unit }))
+      × (packetIn (inside c .jobs) place packet .status ≡ Stopping)
+  -- "the unit is free when that completion comes", full, cut or failed,
+  pub frees : (configuration : Configuration) (es : List Event) (c : Cell) → Leads (freshCell configuration) es c
+      → (d : Cell) (channel unit : ℕ) (how : How) (reply : Reply) → Does c (Complete channel how) reply d → refusalIn reply ≡ none
+      → isReturning (unitIn (inside c .units) channel unit .holder) ≡ true → unitIn (inside d .units) channel unit .holder ≡ Free
+  -- and no other call, the job's end among them, changes who holds it
+  pub until : (configuration : Configuration) (es : List Event) (c : Cell) → Leads (freshCell configuration) es c
+      → (d : Cell) (x : Call) (reply : Reply) → Does c x reply d
+      → (channel unit : ℕ) → isReturning (unitIn (inside c .units) channel unit .holder) ≡ true
+      → ((how : How) → x ≡ Complete channel how → ⊥)
+      → unitIn (inside d .units) channel unit .holder ≡ unitIn (inside c .units) channel unit .holder
+  -- and a closing job always has a packet stopping, so that nothing of it, a unit given back early apart, is handed on
+  -- before the last completion
   pub closing : (configuration : Configuration) (es : List Event) (c : Cell) → Leads (freshCell configuration) es c
       → (place : ℕ) → isClosing (stateIn (inside c .jobs) place) ≡ true
       → (packet : ℕ) × (packetIn (inside c .jobs) place packet .status ≡ Stopping)

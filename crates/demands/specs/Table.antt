@@ -1,6 +1,6 @@
 -- THE TABLE OF REFUSED CALLS: for each call the sentences that may refuse it, in the order of their numbers, and
 -- whether each of them holds. The lowest answers; 17, "checked before everything else", comes first, and where it holds
--- there is no other sentence. A reader has to believe this page.
+-- there is no other sentence; 21 comes "after 3". A reader has to believe this page.
 use Prim.Native.Nat.{ℕ, _+_}
 use mathlib.Core.Path.{_≡_}
 use mathlib.Core.Bool.{Bool, true, false, not, cond, _&&_, _||_}
@@ -28,8 +28,9 @@ use Rattle.numbers.specs.declared.Refusal.the-variants.{
   NoPlaceFree,
   NoCandidates,
   NoAssignment,
+  BeingReturned,
 }
-use Rattle.units.specs.State.{unitIn}
+use Rattle.units.specs.State.{isReturning, unitIn}
 use Rattle.channels.specs.declared.Fitted.{Fitted}
 use Rattle.channels.specs.declared.Fitted.the-variants.{Nothing, With}
 use Rattle.keyboard.specs.Messages.{messageWords}
@@ -68,7 +69,7 @@ use Rattle.packets.specs.declared.Status.{Status as PacketStatus}
 use Rattle.cell_selection.specs.Selecting.{AllHeld, NoCandidate, NoFit, seenIn}
 use Rattle.cell.specs.declared.Cell.{Cell}
 use Rattle.cell_history.specs.Heard.{inside}
-use Rattle.cell_history.specs.History.{Call, Complete, Deck, Delete, End, Key, Mark, Release, Select, Start, Status, Submit, meant}
+use Rattle.cell_history.specs.History.{Call, Complete, Deck, Delete, End, Key, Mark, Release, Return, Select, Start, Status, Submit, meant}
 
 -- a sentence of the table: its refusal, and whether it holds
 pub record Row : Type 0 where
@@ -78,7 +79,7 @@ pub record Row : Type 0 where
 abbrev pub row : Refusal → Bool → Row
 row refusal holds = record { refusal = refusal; holds = holds }
 
--- "The lowest number answers": of rows in the order of their numbers the first that holds
+-- "The lowest number answers": of rows in the order of their numbers, 21 behind 3, the first that holds
 abbrev pub lowest : List Row → Option Refusal
 lowest [] = none
 lowest (r ∷ rs) = cond (r .holds) (some (r .refusal)) (lowest rs)
@@ -96,7 +97,12 @@ isTheJobs s j f k (OnDrum x h) =
     let job = jobIn (s .jobs) j in
     cond (eqb f 0o23) (ltb 0 (job .words)) (leb (job .from) x && ltb x (job .from + job .words))
 
--- a submission, by what the channel has: 1, 2, 3, 4, 5
+-- a unit is being returned; a piece of drum never is
+abbrev pub isOnItsWay : State → ℕ → Spot → Bool
+isOnItsWay s k (OnUnit u) = isReturning (unitIn (s .units) k (u .0) .holder)
+isOnItsWay s k (OnDrum x h) = false
+
+-- a submission, by what the channel has: 1, 2, 3, 21, 4, 5
 abbrev pub submitRows : State → Fitted → ℕ → ℕ → ℕ → ℕ → Spot → List Row
 submitRows s on j p f k w =
     -- place, channel, unit, packet or function number out of range, or channel or unit not configured
@@ -105,10 +111,25 @@ submitRows s on j p f k w =
     ∷ row NoJob (not (isRunning (stateIn (s .jobs) j)))
     -- unit or drum address not the job's
     ∷ row NotTheJobs (not (isTheJobs s j f k w))
+    -- unit being returned
+    ∷ row BeingReturned (isOnItsWay s k w)
     -- function not legal for the kind
     ∷ row NotLegal (not (legalFor on f))
     -- packet listed, in progress or stopping
     ∷ row PacketInUse (isBusy (getD (jobIn (s .jobs) j .packets) p blank .status))
+    ∷ []
+
+-- a unit's return, by what the channel has: 1, on the drum channel too, 2, 3, 21
+abbrev pub returnRows : State → Fitted → ℕ → ℕ → ℕ → List Row
+returnRows s on j k u =
+    -- place, channel or unit number out of range, or channel or unit not configured: "a release on the drum channel gets 1"
+    row OutOfRange (not (ltb j 16 && (ltb k 16 && has on (OnUnit (record { 0 = u })))))
+    -- no job in that place, or it is closing
+    ∷ row NoJob (not (isRunning (stateIn (s .jobs) j)))
+    -- unit not the job's
+    ∷ row NotTheJobs (not (heldBy (unitIn (s .units) k u .holder) j))
+    -- unit being returned
+    ∷ row BeingReturned (isReturning (unitIn (s .units) k u .holder))
     ∷ []
 
 -- what a packet is at has no interlock; a word of the drum never has one
@@ -163,6 +184,7 @@ rowsIn s es (Complete k how) =
     ∷ []
 -- 1; 2: no job in that place, or it is closing
 rowsIn s es (End j inError) = row OutOfRange (not (ltb j 16)) ∷ row NoJob (not (isRunning (stateIn (s .jobs) j))) ∷ []
+rowsIn s es (Return j k u) = returnRows s (fittedOn (s .channels) k) j k u
 -- 1, on the drum channel too
 rowsIn s es (Mark k u mark on) = row OutOfRange (not (ltb k 16 && has (fittedOn (s .channels) k) (OnUnit (record { 0 = u })))) ∷ []
 -- 15: no such ID, or not suspended
@@ -187,6 +209,7 @@ unknownRows (Submit j p f k w) = []
 unknownRows (Start k) = []
 unknownRows (Complete k how) = []
 unknownRows (End j inError) = []
+unknownRows (Return j k u) = []
 unknownRows (Mark k u mark on) = []
 unknownRows (Release id) = []
 unknownRows (Delete id) = []
@@ -205,6 +228,7 @@ isSelect (Submit j p f k w) = false
 isSelect (Start k) = false
 isSelect (Complete k how) = false
 isSelect (End j inError) = false
+isSelect (Return j k u) = false
 isSelect (Mark k u mark on) = false
 isSelect (Release id) = false
 isSelect (Delete id) = false
@@ -224,7 +248,7 @@ SelectRefused c =
     (orElse NoAssignment (NoFit (inSchedule (c .schedule)) (seenIn (c .lists)))
     (λ o. o ≡ none)))
 
--- WHICH REFUSAL ANSWERS, if any: the lowest of the call's sentences that hold
+-- WHICH REFUSAL ANSWERS, if any: the first of the call's sentences that hold
 abbrev pub RefusedBy : Bool → Cell → Call → Option Refusal → Type 0
 RefusedBy true c x o = SelectRefused c o
 RefusedBy false c x o = o ≡ lowest (rows c x)

@@ -45,7 +45,7 @@ use Rattle.cell.specs.declared.Cell.{Cell}
 use Rattle.cell.specs.declared.Heeded.{Heeded}
 use Rattle.cell.specs.declared.SelectAnswer.{SelectAnswer}
 use Rattle.cell_history.proofs.One.{selects-in-one}
-use Rattle.cell_history.specs.History.{Call, Chosen, Complete, Deck, Delete, Does, End, Entered, Key, Mark, Release, Reply, Said, Select, Shown, Start, Status, Submit, replyOf as toldReply}
+use Rattle.cell_history.specs.History.{Call, Chosen, Complete, Deck, Delete, Does, End, Entered, Key, Mark, Release, Reply, Return, Said, Select, Shown, Start, Status, Submit, replyOf as toldReply}
 
 -- ---- the first candidate with an assignment, or what the first of all lacks, of n from index k on
 
@@ -177,6 +177,7 @@ replyOf c (Submit j p f k w) = Said (acted c (Rules.Submit j p f k w) .answer)
 replyOf c (Start k) = Said (acted c (Rules.Start k) .answer)
 replyOf c (Complete k how) = Said (acted c (Rules.Complete k how) .answer)
 replyOf c (End j e) = Said (acted c (Rules.End j e) .answer)
+replyOf c (Return j k u) = Said (acted c (Rules.Return j k u) .answer)
 replyOf c (Mark k u m on) = Said (acted c (Rules.Mark k u m on) .answer)
 replyOf c (Release id) = Said (releasing c id .answer)
 replyOf c (Delete id) = Said (deleting c id .answer)
@@ -190,6 +191,7 @@ cellAfter c (Submit j p f k w) = acted c (Rules.Submit j p f k w) .cell
 cellAfter c (Start k) = acted c (Rules.Start k) .cell
 cellAfter c (Complete k how) = acted c (Rules.Complete k how) .cell
 cellAfter c (End j e) = acted c (Rules.End j e) .cell
+cellAfter c (Return j k u) = acted c (Rules.Return j k u) .cell
 cellAfter c (Mark k u m on) = acted c (Rules.Mark k u m on) .cell
 cellAfter c (Release id) = releasing c id .cell
 cellAfter c (Delete id) = deleting c id .cell
@@ -210,6 +212,7 @@ does-computed c d (Submit j p f k w) reply s h = h
 does-computed c d (Start k) reply s h = h
 does-computed c d (Complete k how) reply s h = h
 does-computed c d (End j e) reply s h = h
+does-computed c d (Return j k u) reply s h = h
 does-computed c d (Mark k u m on) reply s h = h
 does-computed c d (Release id) reply s h = h
 does-computed c d (Delete id) reply s h = h
