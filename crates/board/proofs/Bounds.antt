@@ -1,4 +1,4 @@
--- How long a board is at most: 17,235 bytes, if its numbers and names are what their types let them be. Assumes
+-- How long a board is at most: 19,795 bytes, if its numbers and names are what their types let them be. Assumes
 -- nothing.
 use Prim.Native.Nat.{ℕ, zero, suc, _+_, _*_, _-_, _/_, _%_, _^_, _≤_, _<_, min}
 use mathlib.Core.Path.{_≡_, refl}
@@ -23,9 +23,9 @@ use Rattle.schedule_entries.specs.declared.State.the-variants as S
 use Rattle.schedule_entries.specs.declared.Entry.{Entry}
 use Rattle.schedule_list.specs.InSchedule.{inSchedule}
 use Rattle.schedule_list.specs.declared.Schedule.{Schedule}
-use Rattle.units.specs.State.{unitIn, assignable}
+use Rattle.units.specs.State.{unitIn, isReturning, assignable}
 use Rattle.units.specs.declared.Holder.{Holder}
-use Rattle.units.specs.declared.Holder.the-variants.{Free, Held}
+use Rattle.units.specs.declared.Holder.the-variants.{Free, Held, Returning}
 use Rattle.units.specs.declared.Unit.{Unit as UnitState}
 use Rattle.channels.specs.Channels.{noChannel, unitsOf}
 use Rattle.channels.specs.declared.Channel.{Channel}
@@ -52,6 +52,7 @@ use Rattle.board.specs.Board.{queueOf, boardText, most}
 abbrev pub ByteHolder : Holder → Type 0
 ByteHolder Free = Unit {0}
 ByteHolder (Held p) = p < 256
+ByteHolder (Returning p) = p < 256
 
 abbrev pub ByteMotion : Motion → Type 0
 ByteMotion Idle = Unit {0}
@@ -91,10 +92,12 @@ place-few p id J.ClosingError h k = job-few p id (bytes " CLOSES\n") h k
 holder-few : (h : Holder) → ByteHolder h → length (holderText h) ≤ 9
 holder-few Free b = omega arith
 holder-few (Held p) b = omega (arith, few-digits 2 p (omega arith))
+holder-few (Returning p) b = omega (arith, few-digits 2 p (omega arith))
 
-state-few : (c u : ℕ) (unit : UnitState) → ByteHolder (unit .holder) → length (stateText c u unit) ≤ 41
+state-few : (c u : ℕ) (unit : UnitState) → ByteHolder (unit .holder) → length (stateText c u unit) ≤ 51
 unfolding stateText
 state-few c u unit b =
+    let v = word-few (isReturning (unit .holder)) (bytes " RETURNING") in
     let w = word-few (unit .down) (bytes " DOWN") in
     let x = word-few (unit .reserved) (bytes " RESERVED") in
     let y = word-few (isLocked unit) (bytes " LOCKED") in
@@ -102,22 +105,24 @@ state-few c u unit b =
     let l = wordText (isLocked unit) (bytes " LOCKED") ++ bytes "\n" in
     let r = wordText (unit .reserved) (bytes " RESERVED") ++ l in
     let d = wordText (unit .down) (bytes " DOWN") ++ r in
+    let back = wordText (isReturning (unit .holder)) (bytes " RETURNING") ++ d in
     omega (
       arith,
-      length-append (holderText (unit .holder)) d,
+      length-append (holderText (unit .holder)) back,
+      length-append (wordText (isReturning (unit .holder)) (bytes " RETURNING")) d,
       length-append (wordText (unit .down) (bytes " DOWN")) r,
       length-append (wordText (unit .reserved) (bytes " RESERVED")) l,
       length-append (wordText (isLocked unit) (bytes " LOCKED")) (bytes "\n"),
     )
 
-line-few : (c u : ℕ) (unit : UnitState) → ByteHolder (unit .holder) → length (unitLine c u unit) ≤ 41
+line-few : (c u : ℕ) (unit : UnitState) → ByteHolder (unit .holder) → length (unitLine c u unit) ≤ 51
 unfolding unitLine
 line-few c u unit b = by-bool (assignable unit) (λ t. rw t (omega arith)) (λ f. rw f (state-few c u unit b))
 
-channel-few : (grid : List (List UnitState)) (c : ℕ) (channel : Channel) → ((u : ℕ) → ByteHolder (unitIn grid c u .holder)) → length (channelText grid c channel) ≤ 656
+channel-few : (grid : List (List UnitState)) (c : ℕ) (channel : Channel) → ((u : ℕ) → ByteHolder (unitIn grid c u .holder)) → length (channelText grid c channel) ≤ 816
 unfolding channelText
 channel-few grid c channel h =
-    omega (arith, each-bound (λ u. unitLine c u (unitIn grid c u)) 41 (min (unitsOf channel) 16) 0 (λ u a b. line-few c u (unitIn grid c u) (h u)))
+    omega (arith, each-bound (λ u. unitLine c u (unitIn grid c u)) 51 (min (unitsOf channel) 16) 0 (λ u a b. line-few c u (unitIn grid c u) (h u)))
 
 -- ---- core
 core-few : (jobs : List Job) → length (coreText jobs) ≤ 38
@@ -212,8 +217,8 @@ module _ (lists : Lists) (schedule : Schedule) (t : InTypes lists schedule) wher
   places-few : length (placesText (lists .jobs) (inSchedule schedule)) ≤ 368
   places-few = each-bound (λ p. placeText p (idIn (inSchedule schedule) p) (jobIn (lists .jobs) p .state)) 23 16 0 (λ p a b. place-few p (idIn (inSchedule schedule) p) (jobIn (lists .jobs) p .state) b (id-few (inSchedule schedule) p ids-few))
 
-  units-few : length (unitsText (lists .channels) (lists .units .of)) ≤ 10496
-  units-few = each-bound (λ c. channelText (lists .units .of) c (getD (lists .channels) c noChannel)) 656 16 0 (λ c a b. channel-few (lists .units .of) c (getD (lists .channels) c noChannel) (t .holders c))
+  units-few : length (unitsText (lists .channels) (lists .units .of)) ≤ 13056
+  units-few = each-bound (λ c. channelText (lists .units .of) c (getD (lists .channels) c noChannel)) 816 16 0 (λ c a b. channel-few (lists .units .of) c (getD (lists .channels) c noChannel) (t .holders c))
 
   moves-few : length (movesText (lists .moving)) ≤ 272
   moves-few = each-bound (λ c. motionText c (getD (lists .moving) c idle .motion)) 17 16 0 (λ c a b. motion-few c (getD (lists .moving) c idle .motion) (t .motions c))

@@ -1,5 +1,5 @@
--- One board, computed: A1 runs in place 0 with two units, one of them with interlock, and a drum area; one of its
--- packets moves, one is listed; a unit is down; B2 waits. Assumes nothing.
+-- One board, computed: A1 runs in place 0 with three units, one of them being returned and down, one with interlock,
+-- and a drum area; its packet on the first is stopping, one is listed; a unit is down; B2 waits. Assumes nothing.
 use Prim.Native.Nat.{ℕ}
 use mathlib.Core.Path.{_≡_, refl}
 use mathlib.Core.Bool.{Bool, true, false}
@@ -15,13 +15,14 @@ use Rattle.schedule_entries.specs.declared.State.the-variants as S
 use Rattle.schedule_list.specs.InSchedule.{scheduleOf}
 use Rattle.schedule_list.specs.declared.Schedule.{Schedule}
 use Rattle.units.specs.State.{freshUnit, noneHeld, unitIn, unitSet, assignable}
-use Rattle.units.specs.declared.Holder.the-variants.{Held}
+use Rattle.units.specs.declared.Holder.{Holder}
+use Rattle.units.specs.declared.Holder.the-variants.{Held, Returning}
 use Rattle.units.specs.declared.Unit as U
 use Rattle.channels.specs.Channels.{fitted, noChannels}
 use Rattle.packets.specs.State.{placeOf, packetOf, blank, noJob}
 use Rattle.packets.specs.declared.Packet.{Packet}
 use Rattle.packets.specs.declared.Site.the-variants.{AtUnit}
-use Rattle.packets.specs.declared.Status.the-variants.{InProgress, Listed}
+use Rattle.packets.specs.declared.Status.the-variants.{Listed, Stopping}
 use Rattle.packets.specs.declared.JobState.the-variants.{Running}
 use Rattle.packets.specs.declared.Job.{Job}
 use Rattle.packets.specs.declared.Motion.the-variants.{Busy}
@@ -57,11 +58,11 @@ request id sequence precedence =
 unfoldable pub schedule : Schedule
 schedule = scheduleOf (record { request = request (bytes "A1    ") 2 5; state = S.Running 0 } ∷ record { request = request (bytes "B2    ") 0 7; state = S.Waiting } ∷ [])
 
-unfoldable pub unit : Bool → U.Unit
-unit lock = record { holder = Held 0; down = false; reserved = false; interlock = lock }
+unfoldable pub unit : Holder → Bool → Bool → U.Unit
+unit holder down lock = record { holder = holder; down = down; reserved = false; interlock = lock }
 
 unfoldable pub moving : Packet
-moving = record { status = InProgress; function = 2; channel = record { 0 = 3 }; at = AtUnit (record { 0 = 0 }) }
+moving = record { status = Stopping; function = 2; channel = record { 0 = 3 }; at = AtUnit (record { 0 = 0 }) }
 
 unfoldable pub listed : Packet
 listed = record { status = Listed; function = 2; channel = record { 0 = 3 }; at = AtUnit (record { 0 = 1 }) }
@@ -84,17 +85,21 @@ lists =
       jobs = job ∷ replicate 15 noJob;
       list = record { entries = 1 ∷ replicate 255 0; count = 1 };
       moving = set (replicate 16 idle) 3 (record { motion = Busy 0 0 });
-      units = record { of = unitSet (unitSet (unitSet noneHeld 3 0 (unit false)) 3 1 (unit true)) 3 3 (freshUnit true) };
+      units =
+          record {
+            of = unitSet (unitSet (unitSet (unitSet noneHeld 3 0 (unit (Returning 0) true false)) 3 1 (unit (Held 0) false true)) 3 2 (unit (Held 0) false false)) 3 3 (freshUnit true);
+          };
     }
 
 pub board-of-a1 : boardText lists schedule
     ≡ bytes "PLACE 0 A1 RUNS\n"
-    ++ (bytes "UNIT 03/00 HELD 0\n"
+    ++ (bytes "UNIT 03/00 HELD 0 RETURNING DOWN\n"
     ++ (bytes "UNIT 03/01 HELD 0 LOCKED\n"
+    ++ (bytes "UNIT 03/02 HELD 0\n"
     ++ (bytes "UNIT 03/03 DOWN\n"
     ++ (bytes "CORE XX00..........................XX\n"
     ++ (bytes "DRUM 35329-36828 0\n"
     ++ (bytes "MOVES 03 0 0\n"
-    ++ (bytes "LISTED 03 0 1\n" ++ (bytes "A1 02A05 RUNS\n" ++ (bytes "B2 A07 WAITS\n" ++ bytes "END OF BOARD\n")))))))))
+    ++ (bytes "LISTED 03 0 1\n" ++ (bytes "A1 02A05 RUNS\n" ++ (bytes "B2 A07 WAITS\n" ++ bytes "END OF BOARD\n"))))))))))
 unfolding request schedule unit moving listed job lists scheduleOf unitIn unitSet assignable placeOf packetOf digitsText priorityText eachFrom eachOf idIn holdsBlock holderIn blockByte stateText unitLine channelText holds holders inserted ascending entryText requestText
 board-of-a1 = refl

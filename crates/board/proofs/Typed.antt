@@ -14,7 +14,7 @@ use Rattle.schedule_list.specs.declared.Schedule.{Schedule}
 use Rattle.schedule_list.proofs.Schedule as Schedule′
 use Rattle.units.specs.State.{freshUnit, unitIn}
 use Rattle.units.specs.declared.Holder.{Holder}
-use Rattle.units.specs.declared.Holder.the-variants.{Free, Held}
+use Rattle.units.specs.declared.Holder.the-variants.{Free, Held, Returning}
 use Rattle.units.specs.declared.Unit.{Unit as UnitState}
 use Rattle.units.specs.declared.Units.{Units}
 use Rattle.units.proofs.Holder as Holder′
@@ -39,6 +39,7 @@ use Rattle.board.proofs.Bounds.{ByteHolder, ByteMotion, InTypes, board-
 holder-byte : (h : Holder) → Some Holder′.the-field h → ByteHolder h
 holder-byte Free s = tt
 holder-byte (Held p) s = s .1 .1 .1 .1 .1 .0 .1
+holder-byte (Returning p) s = s .1 .1 .1 .1 .1 .0 .1
 
 motion-bytes : (m : Motion) → Some Motion′.the-field m → ByteMotion m
 motion-bytes Idle s = tt

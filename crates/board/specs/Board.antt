@@ -31,7 +31,7 @@ boardText lists schedule =
 
 -- how many bytes hold every board
 abbrev pub most : ℕ
-most = 17235
+most = 19795
 
 -- what the board leaves in lent room: its text from a position on, cut at the room's end; where there are that many
 -- bytes, all of it, and the rest of the room is kept

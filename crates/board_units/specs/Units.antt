@@ -1,24 +1,30 @@
 -- The board's lines of units: "for each configured channel but the drum's and each unit, ascending, that isn't free
 -- and unmarked: `UNIT cc/uu` and then, of these words, those that hold: `HELD p`, `DOWN`, `RESERVED`, `LOCKED`
--- (interlock, shown only while held)".
+-- (interlock, shown only while held)"; "a unit being returned shows the word `RETURNING` directly behind `HELD p`"
+-- (02, request 5).
 use Prim.Native.Nat.{ℕ, min}
 use mathlib.Core.Bool.{Bool, false, cond}
 use mathlib.Core.List.{List, [], _++_}
 use lib.ListN.{getD}
 use Rattle.numbers.specs.Quoted.{bytes}
 use Rattle.text.specs.Writing.{decimalText}
-use Rattle.units.specs.State.{unitIn, isFree, assignable}
+use Rattle.units.specs.State.{unitIn, isFree, isReturning, assignable}
 use Rattle.units.specs.declared.Holder.{Holder}
-use Rattle.units.specs.declared.Holder.the-variants.{Free, Held}
+use Rattle.units.specs.declared.Holder.the-variants.{Free, Held, Returning}
 use Rattle.units.specs.declared.Unit.{Unit}
 use Rattle.channels.specs.Channels.{noChannel, unitsOf}
 use Rattle.channels.specs.declared.Channel.{Channel}
 use Rattle.shift_pieces.specs.Pieces.{unitText, wordText, each}
 
 -- ` HELD p`
+abbrev pub heldText : ℕ → List ℕ
+heldText place = bytes " HELD " ++ decimalText place
+
+-- who holds a unit; one that is being returned is held until then
 abbrev pub holderText : Holder → List ℕ
 holderText Free = []
-holderText (Held place) = bytes " HELD " ++ decimalText place
+holderText (Held place) = heldText place
+holderText (Returning place) = heldText place
 
 -- interlock, shown only while held
 abbrev pub isLocked : Unit → Bool
@@ -30,8 +36,9 @@ stateText c u unit =
     bytes "UNIT "
     ++ (unitText c u
     ++ (holderText (unit .holder)
+    ++ (wordText (isReturning (unit .holder)) (bytes " RETURNING")
     ++ (wordText (unit .down) (bytes " DOWN")
-    ++ (wordText (unit .reserved) (bytes " RESERVED") ++ (wordText (isLocked unit) (bytes " LOCKED") ++ bytes "\n")))))
+    ++ (wordText (unit .reserved) (bytes " RESERVED") ++ (wordText (isLocked unit) (bytes " LOCKED") ++ bytes "\n"))))))
 
 -- the line of a unit that isn't free and unmarked
 unfoldable pub unitLine : ℕ → ℕ → Unit → List ℕ

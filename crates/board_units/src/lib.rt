@@ -9,18 +9,24 @@ ghost use mathlib.Core.Path.{_≡_};
 ghost use Prim.Native.Nat.{min};
 ghost use Rattle.channels.specs.Channels.{unitsOf};
 ghost use Rattle.text.specs.Room.{Written};
-ghost use Rattle.board_units.specs.Units.{holderText, isLocked, stateText, unitLine, channelText, unitsText};
+ghost use Rattle.board_units.specs.Units.{heldText, holderText, isLocked, stateText, unitLine, channelText, unitsText};
 
-// Puts who holds a unit, nothing where it is free.
+// Puts that the job in a place holds a unit.
+fn put_held(out: &mut [u8], at: usize, place: u8) -> usize
+    ensures { λ r. ⌜ Written (now (out .entry)) at (heldText place) (now (out .exit)) r ⌝ }
+{
+    let word = text::put_bytes(out, at, b" HELD ");
+    text::put_decimal(out, word, place as u64)
+}
+
+// Puts who holds a unit, nothing where it is free; one that is being returned is held until then.
 fn put_holder(out: &mut [u8], at: usize, holder: Holder) -> usize
     ensures { λ r. ⌜ Written (now (out .entry)) at (holderText holder) (now (out .exit)) r ⌝ }
 {
     match holder {
         Holder::Free => at,
-        Holder::Held(place) => {
-            let word = text::put_bytes(out, at, b" HELD ");
-            text::put_decimal(out, word, place as u64)
-        }
+        Holder::Held(place) => put_held(out, at, place),
+        Holder::Returning(place) => put_held(out, at, place),
     }
 }
 
@@ -49,7 +55,9 @@ fn put_state(
     let named = shift_pieces::put_unit(out, word, channel, number);
     let holder = unit.holder;
     let held = put_holder(out, named, holder);
-    let down = shift_pieces::put_word(out, held, unit.down, b" DOWN");
+    let returning = units::is_returning(holder);
+    let back = shift_pieces::put_word(out, held, returning, b" RETURNING");
+    let down = shift_pieces::put_word(out, back, unit.down, b" DOWN");
     let reserved = shift_pieces::put_word(out, down, unit.reserved, b" RESERVED");
     let locked = shift_pieces::put_word(out, reserved, is_locked(unit), b" LOCKED");
     text::put_byte(out, locked, b'\n')

@@ -92,6 +92,7 @@ talks-on (Line′.Submit s) e = refl
 talks-on (Line′.Start c) e = refl
 talks-on (Line′.Complete c h) e = refl
 talks-on (Line′.End p n) e = refl
+talks-on (Line′.Return p c u) e = refl
 talks-on (Line′.Mark c u m o) e = refl
 talks-on Line′.Release e = refl
 talks-on Line′.Delete e = refl

@@ -61,6 +61,7 @@ handles-one lists (Line′.Submit s) room a b r q x y = tells-one x y
 handles-one lists (Line′.Start c) room a b r q x y = tells-one x y
 handles-one lists (Line′.Complete c h) room a b r q x y = tells-one x y
 handles-one lists (Line′.End p e) room a b r q x y = tells-one x y
+handles-one lists (Line′.Return p c u) room a b r q x y = tells-one x y
 handles-one lists (Line′.Mark c u m o) room a b r q x y = tells-one x y
 handles-one lists Line′.Release room a b r q x y = tells-one x y
 handles-one lists Line′.Delete room a b r q x y = tells-one x y

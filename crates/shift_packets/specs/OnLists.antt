@@ -32,6 +32,7 @@ isForLists (Line′.Submit s) = true
 isForLists (Line′.Start channel) = true
 isForLists (Line′.Complete channel how) = true
 isForLists (Line′.End place inError) = false
+isForLists (Line′.Return place channel unit) = true
 isForLists (Line′.Mark channel unit mark on) = true
 isForLists Line′.Release = false
 isForLists Line′.Delete = false
@@ -69,6 +70,8 @@ Handles lists (Line′.Submit s) room after r = Gives (submittingIn lists s) roo
 Handles lists (Line′.Start channel) room after r = Gives (outcome lists (Rules.Start (channel .0))) room after r
 Handles lists (Line′.Complete channel how) room after r = Gives (outcome lists (Rules.Complete (channel .0) how)) room after r
 Handles lists (Line′.End place inError) room after r = NotHere lists room after r
+Handles lists (Line′.Return place channel unit) room after r =
+    Gives (outcome lists (Rules.Return place (channel .0) (unit .0))) room after r
 Handles lists (Line′.Mark channel unit mark on) room after r =
     Gives (outcome lists (Rules.Mark (channel .0) (unit .0) mark on)) room after r
 Handles lists Line′.Release room after r = NotHere lists room after r

@@ -1,6 +1,6 @@
-// A line of the script that is a call on the request lists alone: a submission, a start, a completion, a mark, or a
-// packet's status. It is handed the request lists and not the cell, so that the schedule is not copied for it. The line
-// of an answer is put here for all calls.
+// A line of the script that is a call on the request lists alone: a submission, a start, a completion, a unit's return,
+// a mark, or a packet's status. It is handed the request lists and not the cell, so that the schedule is not copied for
+// it. The line of an answer is put here for all calls.
 use channels::Channel;
 use lists::StatusAnswer;
 use numbers::UnitNumber;
@@ -38,6 +38,7 @@ pub fn is_for_lists(call: Line) -> bool
         Line::Start(_) => true,
         Line::Complete(_, _) => true,
         Line::End(_, _) => false,
+        Line::Return(_, _, _) => true,
         Line::Mark(_, _, _, _) => true,
         Line::Release => false,
         Line::Delete => false,
@@ -140,6 +141,9 @@ pub fn reply(lists: Lists, call: Line, out: &mut [u8]) -> Handled
         Line::Start(channel) => with_answer(out, lists::start(lists, channel)),
         Line::Complete(channel, how) => with_answer(out, lists::complete(lists, channel, how)),
         Line::End(_, _) => unchanged(lists, 0),
+        Line::Return(place, channel, unit) => {
+            with_answer(out, lists::return_unit(lists, place, channel, unit))
+        }
         Line::Mark(channel, unit, mark, on) => {
             with_answer(out, lists::mark(lists, channel, unit, mark, on))
         }

@@ -68,6 +68,8 @@ followed-replies cell (Line′.Start c) id line room after h e g =
     given cell (Rules.Start (c .0)) room after h g (start-keeps (cell .lists) (c .0) (cell .schedule))
 followed-replies cell (Line′.Complete c how) id line room after h e g = given cell (Rules.Complete (c .0) how) room after h g refl
 followed-replies cell (Line′.End p n) id line room after h e g = absurd (false≢true e)
+followed-replies cell (Line′.Return p c u) id line room after h e g =
+    let x = Rules.Return p (c .0) (u .0) in given cell x room after h g (outcome-keeps (cell .lists) x (unfold answer in λ t. refl) (cell .schedule))
 followed-replies cell (Line′.Mark c u m on) id line room after h e g =
     let x = Rules.Mark (c .0) (u .0) m on in given cell x room after h g (outcome-keeps (cell .lists) x (unfold answer in λ t. refl) (cell .schedule))
 followed-replies cell Line′.Release id line room after h e g = absurd (false≢true e)

@@ -54,6 +54,7 @@ replies-one cell (Line′.Submit s) id line room a b r q x y = shows-one x y
 replies-one cell (Line′.Start c) id line room a b r q x y = shows-one x y
 replies-one cell (Line′.Complete c h) id line room a b r q x y = shows-one x y
 replies-one cell (Line′.End p e) id line room a b r q x y = shows-one x y
+replies-one cell (Line′.Return p c u) id line room a b r q x y = shows-one x y
 replies-one cell (Line′.Mark c u m o) id line room a b r q x y = shows-one x y
 replies-one cell Line′.Release id line room a b r q x y = shows-one x y
 replies-one cell Line′.Delete id line room a b r q x y = shows-one x y

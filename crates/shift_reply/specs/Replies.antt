@@ -111,6 +111,8 @@ Replies cell (Line′.Submit s) id line room after r = Gives (submitting cell s)
 Replies cell (Line′.Start channel) id line room after r = Gives (acted cell (Rules.Start (channel .0))) room after r
 Replies cell (Line′.Complete channel how) id line room after r = Gives (acted cell (Rules.Complete (channel .0) how)) room after r
 Replies cell (Line′.End place inError) id line room after r = Gives (acted cell (Rules.End place inError)) room after r
+Replies cell (Line′.Return place channel unit) id line room after r =
+    Gives (acted cell (Rules.Return place (channel .0) (unit .0))) room after r
 Replies cell (Line′.Mark channel unit mark on) id line room after r =
     Gives (acted cell (Rules.Mark (channel .0) (unit .0) mark on)) room after r
 Replies cell Line′.Release id line room after r = Gives (releasing cell id) room after r

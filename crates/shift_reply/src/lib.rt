@@ -188,6 +188,7 @@ pub fn reply_line(cell: Cell, said: Said, line: &[u8], out: &mut [u8]) -> Replie
         Line::Start(_) => on_lists(cell, call, out),
         Line::Complete(_, _) => on_lists(cell, call, out),
         Line::End(place, in_error) => with_answer(out, cell::end(cell, place, in_error)),
+        Line::Return(_, _, _) => on_lists(cell, call, out),
         Line::Mark(_, _, _, _) => on_lists(cell, call, out),
         Line::Release => with_answer(out, cell::release(cell, id)),
         Line::Delete => with_answer(out, cell::delete(cell, id)),

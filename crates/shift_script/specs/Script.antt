@@ -1,4 +1,5 @@
--- The script: what a line says. The table is the script's own, in its order: what a line has, and which call it is.
+-- The script: what a line says. The table is the script's own, in its order, and at its end the line of 02, request 5:
+-- what a line has, and which call it is.
 use Prim.Native.Nat.{ℕ, min}
 use Prim.Native.String.{String}
 use mathlib.Core.Bool.{Bool, true, false, cond, _||_}
@@ -16,7 +17,7 @@ use Rattle.line_words.specs.Forms.{wordsOf, numberIn, fitting, idOf}
 use Rattle.shift_script.specs.declared.Submission.{Submission}
 use Rattle.shift_script.specs.declared.Line.{Line}
 use Rattle.shift_script.specs.declared.Line.the-variants.{NoCall, Echo, Deck, Select, Board, Submit, Start, Complete}
-use Rattle.shift_script.specs.declared.Line.the-variants.{End, Mark, Release, Delete, Status, Key}
+use Rattle.shift_script.specs.declared.Line.the-variants.{End, Return, Mark, Release, Delete, Status, Key}
 use Rattle.shift_script.specs.declared.Said.{Said}
 
 -- the number that word k writes, the line's first word at 0
@@ -84,6 +85,7 @@ table =
     ∷ row "DELETE id" (λ w. named Delete w)
     ∷ row "STATUS p k" (λ w. said (Status (smallAt 1 w) (smallAt 2 w)))
     ∷ row "BOARD" (λ w. said Board)
+    ∷ row "RETURN p cc uu" (λ w. said (Return (smallAt 1 w) (channelAt 2 w) (unitAt 3 w)))
     ∷ []
 
 -- "A line that has not exactly the words below, or a number that is no such number, is no call"

@@ -22,8 +22,9 @@ pub struct Submission {
     pub to: u32,
 }
 
-// What a line says: no call, an echo, or one of the calls. End: the place, and whether in error; Mark: whether it is
-// set; the ID of a release or a deletion stands beside it. Key: a keyboard message, which stands in the line.
+// What a line says: no call, an echo, or one of the calls. End: the place, and whether in error; Return: the place, and
+// the unit that its job gives back; Mark: whether it is set; the ID of a release or a deletion stands beside it. Key: a
+// keyboard message, which stands in the line.
 pub enum Line {
     NoCall,
     Echo,
@@ -34,6 +35,7 @@ pub enum Line {
     Start(ChannelNumber),
     Complete(ChannelNumber, How),
     End(u8, bool),
+    Return(u8, ChannelNumber, UnitNumber),
     Mark(ChannelNumber, UnitNumber, Mark, bool),
     Release,
     Delete,
@@ -135,6 +137,11 @@ fn on_requests(line: &[u8]) -> Said
     }
     if line_words::fits(line, b"BOARD") {
         return plain(Line::Board);
+    }
+    if line_words::fits(line, b"RETURN p cc uu") {
+        let channel = ChannelNumber(small_at(line, 2));
+        let unit = UnitNumber(small_at(line, 3));
+        return plain(Line::Return(small_at(line, 1), channel, unit));
     }
     plain(Line::NoCall)
 }

@@ -46,6 +46,7 @@ isMessage (Line′.Submit s) = false
 isMessage (Line′.Start c) = false
 isMessage (Line′.Complete c h) = false
 isMessage (Line′.End p e) = false
+isMessage (Line′.Return p c u) = false
 isMessage (Line′.Mark c u m o) = false
 isMessage Line′.Release = false
 isMessage Line′.Delete = false

@@ -20,7 +20,7 @@ use Rattle.line_words.specs.declared.Base.the-variants.{Decimal, Octal}
 use Rattle.line_words.specs.Forms.{IsWord, wordsOf, idOf}
 use Rattle.line_words.proofs.FormLaws.{id-long, id-short}
 use Rattle.shift_script.specs.declared.Line.{Line}
-use Rattle.shift_script.specs.declared.Line.the-variants.{NoCall, Echo, Deck, Select, Board, Submit, Start, Complete, End, Mark, Release, Delete, Status, Key}
+use Rattle.shift_script.specs.declared.Line.the-variants.{NoCall, Echo, Deck, Select, Board, Submit, Start, Complete, End, Return, Mark, Release, Delete, Status, Key}
 use Rattle.shift_script.specs.declared.Said.{Said}
 use Rattle.shift_script.specs.Script.{said, table, sayBy, isEcho, isKey, lineSays}
 use Rattle.shift_script_form.specs.Written.{spaced, decimal, octal, lineFor, Sayable}
@@ -42,6 +42,7 @@ use Rattle.shift_script_form.proofs.RowLaws.{
   reserve-row,
   unreserve-row,
   status-row,
+  return-row,
   fail-row,
   release-row,
   delete-row,
@@ -104,6 +105,11 @@ read-back (End place false) id h =
 read-back (End place true) id h =
     let a = byte (h .1) in
     rw (h .0) (said-by 65 (bytes "BORT") (decimal place ∷ []) (said (End place true)) refl refl refl (a .plain, tt) (omega (arith, a .short)) (abort-row a (h .1)))
+read-back (Return place channel unit) id h =
+    let a = byte (h .1) in
+    let b = byte (h .2) in
+    let d = byte (h .3) in
+    rw (h .0) (said-by 82 (bytes "ETURN") (decimal place ∷ decimal (channel .0) ∷ decimal (unit .0) ∷ []) (said (Return place channel unit)) refl refl refl (a .plain, (b .plain, (d .plain, tt))) (omega (arith, a .short, b .short, d .short)) (return-row a (h .1) b (h .2) d (h .3)))
 read-back (Mark channel unit Mark′.Down true) id h =
     let a = byte (h .1) in
     let b = byte (h .2) in

@@ -14,7 +14,7 @@ use Rattle.packets.specs.declared.How.the-variants.{Full, Cut, Failed}
 use Rattle.line_words.specs.declared.Base.the-variants.{Decimal, Octal}
 use Rattle.line_words.specs.Forms.{wordsOf, wordFits, fitting, idOf}
 use Rattle.shift_script.specs.declared.Submission.{Submission}
-use Rattle.shift_script.specs.declared.Line.the-variants.{Deck, Select, Board, Submit, Start, Complete, End, Mark, Release, Delete, Status}
+use Rattle.shift_script.specs.declared.Line.the-variants.{Deck, Select, Board, Submit, Start, Complete, End, Return, Mark, Release, Delete, Status}
 use Rattle.shift_script.specs.declared.Said.{Said}
 use Rattle.shift_script.specs.Script.{said, table, sayBy}
 use Rattle.shift_script_form.proofs.NumberLaws.{Writes}
@@ -75,6 +75,10 @@ module _ {a : List ℕ} {m : ℕ} (v : Writes Decimal m a) (h : m ≤ 255) where
     pub status-row : sayBy table (bytes "STATUS" ∷ a ∷ c ∷ []) ≡ said (Status m n)
     unfolding sayBy table fitting wordFits wordsOf isLetter
     status-row = rw (v .number, v .value, w .number, w .value, small m h, small n k)
+
+    pub return-row : {d : List ℕ} {i : ℕ} → Writes Decimal i d → i ≤ 255 → sayBy table (bytes "RETURN" ∷ a ∷ c ∷ d ∷ []) ≡ said (Return m (record { 0 = n }) (record { 0 = i }))
+    unfolding sayBy table fitting wordFits wordsOf isLetter
+    return-row {i = i} x l = rw (v .number, v .value, w .number, w .value, x .number, x .value, small m h, small n k, small i l)
 
   pub fail-row : {c : List ℕ} {n : ℕ} → Writes Octal n c → n ≤ 255 → sayBy table (bytes "FAIL" ∷ a ∷ c ∷ []) ≡ said (Complete (record { 0 = m }) (Failed n))
   unfolding sayBy table fitting wordFits wordsOf isLetter

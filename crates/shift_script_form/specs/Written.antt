@@ -13,7 +13,7 @@ use Rattle.line_words.specs.declared.Base.the-variants.{Decimal, Octal}
 use Rattle.line_words.specs.Forms.{IsWord, baseOf}
 use Rattle.shift_script.specs.declared.Line.{Line}
 use Rattle.shift_script.specs.declared.Line.the-variants.{NoCall, Echo, Deck, Select, Board, Submit, Start, Complete}
-use Rattle.shift_script.specs.declared.Line.the-variants.{End, Mark, Release, Delete, Status, Key}
+use Rattle.shift_script.specs.declared.Line.the-variants.{End, Return, Mark, Release, Delete, Status, Key}
 
 -- words with single spaces between them
 abbrev pub spaced : List (List ℕ) → List ℕ
@@ -51,6 +51,7 @@ callWords (Complete channel Cut) id = bytes "CUT" ∷ decimal (channel .0) ∷ [
 callWords (Complete channel (Failed code)) id = bytes "FAIL" ∷ decimal (channel .0) ∷ octal code ∷ []
 callWords (End place false) id = bytes "END" ∷ decimal place ∷ []
 callWords (End place true) id = bytes "ABORT" ∷ decimal place ∷ []
+callWords (Return place channel unit) id = bytes "RETURN" ∷ decimal place ∷ decimal (channel .0) ∷ decimal (unit .0) ∷ []
 callWords (Mark channel unit Mark′.Down true) id = bytes "DOWN" ∷ decimal (channel .0) ∷ decimal (unit .0) ∷ []
 callWords (Mark channel unit Mark′.Down false) id = bytes "UP" ∷ decimal (channel .0) ∷ decimal (unit .0) ∷ []
 callWords (Mark channel unit Mark′.Reserved true) id = bytes "RESERVE" ∷ decimal (channel .0) ∷ decimal (unit .0) ∷ []
@@ -83,6 +84,7 @@ Sayable (Complete channel Full) id = (id ≡ []) × (channel .0 ≤ 255)
 Sayable (Complete channel Cut) id = (id ≡ []) × (channel .0 ≤ 255)
 Sayable (Complete channel (Failed code)) id = (id ≡ []) × (channel .0 ≤ 255) × (code ≤ 255)
 Sayable (End place inError) id = (id ≡ []) × (place ≤ 255)
+Sayable (Return place channel unit) id = (id ≡ []) × (place ≤ 255) × (channel .0 ≤ 255) × (unit .0 ≤ 255)
 Sayable (Mark channel unit mark on) id = (id ≡ []) × (channel .0 ≤ 255) × (unit .0 ≤ 255)
 Sayable Release id = IsWord id × (length id ≤ 247)
 Sayable Delete id = IsWord id × (length id ≤ 247)

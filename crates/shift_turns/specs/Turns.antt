@@ -73,6 +73,7 @@ afterLine (Line′.Submit s) = Phase′.Talks
 afterLine (Line′.Start channel) = Phase′.Talks
 afterLine (Line′.Complete channel how) = Phase′.Talks
 afterLine (Line′.End place inError) = Phase′.Talks
+afterLine (Line′.Return place channel unit) = Phase′.Talks
 afterLine (Line′.Mark channel unit mark on) = Phase′.Talks
 afterLine Line′.Release = Phase′.Talks
 afterLine Line′.Delete = Phase′.Talks

@@ -103,6 +103,7 @@ fn after_line(call: Line) -> Phase
         Line::Start(_) => Phase::Talks,
         Line::Complete(_, _) => Phase::Talks,
         Line::End(_, _) => Phase::Talks,
+        Line::Return(_, _, _) => Phase::Talks,
         Line::Mark(_, _, _, _) => Phase::Talks,
         Line::Release => Phase::Talks,
         Line::Delete => Phase::Talks,

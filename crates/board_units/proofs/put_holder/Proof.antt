@@ -1,5 +1,5 @@
 -- `board_units::put_holder` meets its contract, by cases on who holds the unit. Assumes nothing.
-use Rattle.text.proofs.RoomLaws.{none, andThen}
+use Rattle.text.proofs.RoomLaws.{none}
 use borrow.Author.Needs.{needs}
 use Rattle.board_units.proofs.put_holder.Statement.{statement}
 use Rattle.board_units.proofs.put_holder.Tie as tie
@@ -10,17 +10,14 @@ enum-told c = search needs
 enum-known-holder : tie.Need-enum-known-holder
 enum-known-holder c = search needs
 
-slice-aggregate-put-bytes : tie.Need-slice-aggregate-put-bytes
-slice-aggregate-put-bytes c = search needs
+put-held-requires : tie.Need-put-held-requires
+put-held-requires c κs = search needs
 
-put-bytes-requires : tie.Need-put-bytes-requires
-put-bytes-requires c κs = search needs
+enum-known-holder-2 : tie.Need-enum-known-holder-2
+enum-known-holder-2 c = search needs
 
-cast-put-decimal : tie.Need-cast-put-decimal
-cast-put-decimal c = search needs
-
-put-decimal-requires : tie.Need-put-decimal-requires
-put-decimal-requires c κs = search needs
+put-held-requires-2 : tie.Need-put-held-requires-2
+put-held-requires-2 c κs = search needs
 
 returns : tie.Need-returns
 returns c = rw (c .enum-told .given .1) (none (c .before .before .before .args .out .now) (c .before .before .before .args .at))
@@ -29,7 +26,13 @@ same-length : tie.Need-same-length
 same-length c = search needs
 
 returns-2 : tie.Need-returns-2
-returns-2 c = rw (c .before .before .before .before .before .before .before .before .before .before .holder .given .1) (andThen (c .before .before .before .before .before .before .put-bytes .ensures) (c .before .before .put-decimal .ensures))
+returns-2 c = rw (c .before .before .before .before .before .holder .given .1) (c .before .before .put-held .ensures)
+
+same-length-2 : tie.Need-same-length-2
+same-length-2 c = search needs
+
+returns-3 : tie.Need-returns-3
+returns-3 c = rw (c .before .before .before .before .before .holder2 .given .1) (c .before .before .put-held2 .ensures)
 
 pub put-holder-spec : {M : Type 1} → statement M
 put-holder-spec =
@@ -37,10 +40,11 @@ put-holder-spec =
     (tie.spec
     enum-told
     enum-known-holder
-    slice-aggregate-put-bytes
-    put-bytes-requires
-    cast-put-decimal
-    put-decimal-requires
+    put-held-requires
+    enum-known-holder-2
+    put-held-requires-2
     returns
     same-length
-    returns-2)
+    returns-2
+    same-length-2
+    returns-3)

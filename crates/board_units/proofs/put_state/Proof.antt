@@ -1,9 +1,20 @@
 -- `board_units::put_state` meets its contract: one piece after the other. Assumes nothing.
-use Rattle.text.proofs.RoomLaws.{andThen}
+use Prim.Native.Nat.{ℕ}
+use mathlib.Core.Path.{_≡_, subst}
+use mathlib.Core.Bool.{Bool}
+use mathlib.Core.List.{List}
+use Rattle.numbers.specs.Quoted.{bytes}
+use Rattle.text.specs.Room.{Written}
+use Rattle.text.proofs.RoomLaws.{andThen, same-room}
+use Rattle.shift_pieces.specs.Pieces.{wordText}
 use Rattle.board_units.specs.Units.{stateText}
 use borrow.Author.Needs.{needs}
 use Rattle.board_units.proofs.put_state.Statement.{statement}
 use Rattle.board_units.proofs.put_state.Tie as tie
+
+-- a word that is put by what a function answered, by what it promises
+worded : {b d : Bool} {room after : List ℕ} {at n : ℕ} (word : List ℕ) → b ≡ d → Written room at (wordText b word) after n → Written room at (wordText d word) after n
+worded {room = room} {after = after} {at = at} {n = n} word e h = subst (λ (x : Bool). Written room at (wordText x word) after n) e h
 
 slice-aggregate-put-bytes : tie.Need-slice-aggregate-put-bytes
 slice-aggregate-put-bytes c = search needs
@@ -17,6 +28,9 @@ put-unit-requires c κs = search needs
 put-holder-requires : tie.Need-put-holder-requires
 put-holder-requires c κs = search needs
 
+is-returning-requires : tie.Need-is-returning-requires
+is-returning-requires c κs = search needs
+
 slice-aggregate-put-word : tie.Need-slice-aggregate-put-word
 slice-aggregate-put-word c = search needs
 
@@ -29,24 +43,30 @@ slice-aggregate-put-word-2 c = search needs
 put-word-requires-2 : tie.Need-put-word-requires-2
 put-word-requires-2 c κs = search needs
 
-is-locked-requires : tie.Need-is-locked-requires
-is-locked-requires c κs = search needs
-
 slice-aggregate-put-word-3 : tie.Need-slice-aggregate-put-word-3
 slice-aggregate-put-word-3 c = search needs
 
 put-word-requires-3 : tie.Need-put-word-requires-3
 put-word-requires-3 c κs = search needs
 
+is-locked-requires : tie.Need-is-locked-requires
+is-locked-requires c κs = search needs
+
+slice-aggregate-put-word-4 : tie.Need-slice-aggregate-put-word-4
+slice-aggregate-put-word-4 c = search needs
+
+put-word-requires-4 : tie.Need-put-word-requires-4
+put-word-requires-4 c κs = search needs
+
 put-byte-requires : tie.Need-put-byte-requires
 put-byte-requires c κs = search needs
 
 same-length : tie.Need-same-length
-same-length c = search needs
+same-length c = same-room (andThen (c .before .before .before .before .before .before .before .before .before .before .before .before .before .before .before .before .before .before .before .before .before .before .before .before .before .before .before .before .before .before .before .before .before .before .before .before .put-bytes .ensures) (andThen (c .before .before .before .before .before .before .before .before .before .before .before .before .before .before .before .before .before .before .before .before .before .before .before .before .before .before .before .before .before .before .before .before .put-unit .ensures) (andThen (c .before .before .before .before .before .before .before .before .before .before .before .before .before .before .before .before .before .before .before .before .before .before .before .before .before .before .before .before .put-holder .ensures) (andThen (c .before .before .before .before .before .before .before .before .before .before .before .before .before .before .before .before .before .before .before .before .before .before .put-word .ensures) (andThen (c .before .before .before .before .before .before .before .before .before .before .before .before .before .before .before .before .before .put-word2 .ensures) (andThen (c .before .before .before .before .before .before .before .before .before .before .before .before .put-word3 .ensures) (andThen (c .before .before .before .before .before .before .put-word4 .ensures) (c .before .before .put-byte .ensures))))))))
 
 returns : tie.Need-returns
 unfolding stateText
-returns c = andThen (c .before .before .before .before .before .before .before .before .before .before .before .before .before .before .before .before .before .before .before .before .before .before .before .before .before .before .before .before .before .before .put-bytes .ensures) (andThen (c .before .before .before .before .before .before .before .before .before .before .before .before .before .before .before .before .before .before .before .before .before .before .before .before .before .before .put-unit .ensures) (andThen (c .before .before .before .before .before .before .before .before .before .before .before .before .before .before .before .before .before .before .before .before .before .before .put-holder .ensures) (andThen (c .before .before .before .before .before .before .before .before .before .before .before .before .before .before .before .before .before .put-word .ensures) (andThen (c .before .before .before .before .before .before .before .before .before .before .before .before .put-word2 .ensures) (andThen (rw (c .before .before .before .before .before .before .before .before .is-locked .ensures) at (c .before .before .before .before .before .before .put-word3 .ensures)) (c .before .before .put-byte .ensures))))))
+returns c = andThen (c .before .before .before .before .before .before .before .before .before .before .before .before .before .before .before .before .before .before .before .before .before .before .before .before .before .before .before .before .before .before .before .before .before .before .before .before .put-bytes .ensures) (andThen (c .before .before .before .before .before .before .before .before .before .before .before .before .before .before .before .before .before .before .before .before .before .before .before .before .before .before .before .before .before .before .before .before .put-unit .ensures) (andThen (c .before .before .before .before .before .before .before .before .before .before .before .before .before .before .before .before .before .before .before .before .before .before .before .before .before .before .before .before .put-holder .ensures) (andThen (worded (bytes " RETURNING") (c .before .before .before .before .before .before .before .before .before .before .before .before .before .before .before .before .before .before .before .before .before .before .before .before .before .is-returning .ensures) (c .before .before .before .before .before .before .before .before .before .before .before .before .before .before .before .before .before .before .before .before .before .before .put-word .ensures)) (andThen (c .before .before .before .before .before .before .before .before .before .before .before .before .before .before .before .before .before .put-word2 .ensures) (andThen (c .before .before .before .before .before .before .before .before .before .before .before .before .put-word3 .ensures) (andThen (worded (bytes " LOCKED") (c .before .before .before .before .before .before .before .before .is-locked .ensures) (c .before .before .before .before .before .before .put-word4 .ensures)) (c .before .before .put-byte .ensures)))))))
 
 pub put-state-spec : {M : Type 1} → statement M
 put-state-spec =
@@ -56,13 +76,16 @@ put-state-spec =
     put-bytes-requires
     put-unit-requires
     put-holder-requires
+    is-returning-requires
     slice-aggregate-put-word
     put-word-requires
     slice-aggregate-put-word-2
     put-word-requires-2
-    is-locked-requires
     slice-aggregate-put-word-3
     put-word-requires-3
+    is-locked-requires
+    slice-aggregate-put-word-4
+    put-word-requires-4
     put-byte-requires
     same-length
     returns)

@@ -71,11 +71,20 @@ unchanged-requires-6 c κs = search needs
 enum-known-call-4 : tie.Need-enum-known-call-4
 enum-known-call-4 c = search needs
 
-mark-requires : tie.Need-mark-requires
-mark-requires c κs = search needs
+return-unit-requires : tie.Need-return-unit-requires
+return-unit-requires c κs = search needs
 
 with-answer-requires-4 : tie.Need-with-answer-requires-4
 with-answer-requires-4 c κs = search needs
+
+enum-known-call-5 : tie.Need-enum-known-call-5
+enum-known-call-5 c = search needs
+
+mark-requires : tie.Need-mark-requires
+mark-requires c κs = search needs
+
+with-answer-requires-5 : tie.Need-with-answer-requires-5
+with-answer-requires-5 c κs = search needs
 
 enum-told-7 : tie.Need-enum-told-7
 enum-told-7 c = search needs
@@ -89,8 +98,8 @@ enum-told-8 c = search needs
 unchanged-requires-8 : tie.Need-unchanged-requires-8
 unchanged-requires-8 c κs = search needs
 
-enum-known-call-5 : tie.Need-enum-known-call-5
-enum-known-call-5 c = search needs
+enum-known-call-6 : tie.Need-enum-known-call-6
+enum-known-call-6 c = search needs
 
 status-requires : tie.Need-status-requires
 status-requires c κs = search needs
@@ -147,22 +156,28 @@ same-length-4 : tie.Need-same-length-4
 same-length-4 c = search needs
 
 returns-10 : tie.Need-returns-10
-returns-10 c = rw (c .before .before .before .before .before .before .call4 .given .1) (gives-as (c .before .before .before .mark .ensures) (c .before .before .with-answer4 .ensures))
-
-returns-11 : tie.Need-returns-11
-returns-11 c = rw (c .before .enum-told7 .given .1) (told (c .unchanged7 .ensures) (none (c .before .before .before .before .args .out .now) 0))
-
-returns-12 : tie.Need-returns-12
-returns-12 c = rw (c .before .enum-told8 .given .1) (told (c .unchanged8 .ensures) (none (c .before .before .before .before .args .out .now) 0))
+returns-10 c = rw (c .before .before .before .before .before .before .call4 .given .1) (gives-as (c .before .before .before .return-unit .ensures) (c .before .before .with-answer4 .ensures))
 
 same-length-5 : tie.Need-same-length-5
 same-length-5 c = search needs
 
+returns-11 : tie.Need-returns-11
+returns-11 c = rw (c .before .before .before .before .before .before .call5 .given .1) (gives-as (c .before .before .before .mark .ensures) (c .before .before .with-answer5 .ensures))
+
+returns-12 : tie.Need-returns-12
+returns-12 c = rw (c .before .enum-told7 .given .1) (told (c .unchanged7 .ensures) (none (c .before .before .before .before .args .out .now) 0))
+
 returns-13 : tie.Need-returns-13
-returns-13 c = rw (c .before .before .before .before .before .before .before .call5 .given .1) (told (c .unchanged9 .ensures) (rw (← c .before .before .before .before .status .ensures) (c .before .before .before .put-status .ensures)))
+returns-13 c = rw (c .before .enum-told8 .given .1) (told (c .unchanged8 .ensures) (none (c .before .before .before .before .args .out .now) 0))
+
+same-length-6 : tie.Need-same-length-6
+same-length-6 c = search needs
 
 returns-14 : tie.Need-returns-14
-returns-14 c = rw (c .before .enum-told9 .given .1) (told (c .unchanged10 .ensures) (none (c .before .before .before .before .args .out .now) 0))
+returns-14 c = rw (c .before .before .before .before .before .before .before .call6 .given .1) (told (c .unchanged9 .ensures) (rw (← c .before .before .before .before .status .ensures) (c .before .before .before .put-status .ensures)))
+
+returns-15 : tie.Need-returns-15
+returns-15 c = rw (c .before .enum-told9 .given .1) (told (c .unchanged10 .ensures) (none (c .before .before .before .before .args .out .now) 0))
 
 pub reply-spec : {M : Type 1} → statement M
 reply-spec =
@@ -190,13 +205,16 @@ reply-spec =
     enum-told-6
     unchanged-requires-6
     enum-known-call-4
-    mark-requires
+    return-unit-requires
     with-answer-requires-4
+    enum-known-call-5
+    mark-requires
+    with-answer-requires-5
     enum-told-7
     unchanged-requires-7
     enum-told-8
     unchanged-requires-8
-    enum-known-call-5
+    enum-known-call-6
     status-requires
     put-status-requires
     unchanged-requires-9
@@ -216,8 +234,10 @@ reply-spec =
     returns-9
     same-length-4
     returns-10
+    same-length-5
     returns-11
     returns-12
-    same-length-5
     returns-13
-    returns-14)
+    same-length-6
+    returns-14
+    returns-15)

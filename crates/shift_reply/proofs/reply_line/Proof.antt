@@ -79,14 +79,20 @@ on-lists-requires-4 c κs = search needs
 enum-told-10 : tie.Need-enum-told-10
 enum-told-10 c = search needs
 
+on-lists-requires-5 : tie.Need-on-lists-requires-5
+on-lists-requires-5 c κs = search needs
+
+enum-told-11 : tie.Need-enum-told-11
+enum-told-11 c = search needs
+
 release-requires : tie.Need-release-requires
 release-requires c κs = search needs
 
 with-answer-requires-2 : tie.Need-with-answer-requires-2
 with-answer-requires-2 c κs = search needs
 
-enum-told-11 : tie.Need-enum-told-11
-enum-told-11 c = search needs
+enum-told-12 : tie.Need-enum-told-12
+enum-told-12 c = search needs
 
 delete-requires : tie.Need-delete-requires
 delete-requires c κs = search needs
@@ -94,14 +100,14 @@ delete-requires c κs = search needs
 with-answer-requires-3 : tie.Need-with-answer-requires-3
 with-answer-requires-3 c κs = search needs
 
-enum-told-12 : tie.Need-enum-told-12
-enum-told-12 c = search needs
-
-on-lists-requires-5 : tie.Need-on-lists-requires-5
-on-lists-requires-5 c κs = search needs
-
 enum-told-13 : tie.Need-enum-told-13
 enum-told-13 c = search needs
+
+on-lists-requires-6 : tie.Need-on-lists-requires-6
+on-lists-requires-6 c κs = search needs
+
+enum-told-14 : tie.Need-enum-told-14
+enum-told-14 c = search needs
 
 message-in-requires : tie.Need-message-in-requires
 message-in-requires c κs = search needs
@@ -170,25 +176,31 @@ same-length-10 : tie.Need-same-length-10
 same-length-10 c = search needs
 
 returns-11 : tie.Need-returns-11
-returns-11 c = rw (c .before .before .before .before .before .enum-told10 .given .1) (gives-as (c .before .before .before .release .ensures) (c .before .before .with-answer2 .ensures))
+returns-11 c = replies-followed (c .before .before .before .before .before .before .before .before .before .args .cell) (c .before .before .before .before .before .before .before .before .before .args .said .line) (c .before .before .before .before .before .before .before .before .before .args .said .id) (c .before .before .before .before .before .before .before .before .before .args .line .now) (c .before .before .before .before .before .before .before .before .before .args .out .now) _ _ (rw (c .before .before .before .before .enum-told10 .given .1) refl) (c .before .before .on-lists5 .ensures)
 
 same-length-11 : tie.Need-same-length-11
 same-length-11 c = search needs
 
 returns-12 : tie.Need-returns-12
-returns-12 c = rw (c .before .before .before .before .before .enum-told11 .given .1) (gives-as (c .before .before .before .delete .ensures) (c .before .before .with-answer3 .ensures))
+returns-12 c = rw (c .before .before .before .before .before .enum-told11 .given .1) (gives-as (c .before .before .before .release .ensures) (c .before .before .with-answer2 .ensures))
 
 same-length-12 : tie.Need-same-length-12
 same-length-12 c = search needs
 
 returns-13 : tie.Need-returns-13
-returns-13 c = replies-followed (c .before .before .before .before .before .before .before .before .before .args .cell) (c .before .before .before .before .before .before .before .before .before .args .said .line) (c .before .before .before .before .before .before .before .before .before .args .said .id) (c .before .before .before .before .before .before .before .before .before .args .line .now) (c .before .before .before .before .before .before .before .before .before .args .out .now) _ _ (rw (c .before .before .before .before .enum-told12 .given .1) refl) (c .before .before .on-lists5 .ensures)
+returns-13 c = rw (c .before .before .before .before .before .enum-told12 .given .1) (gives-as (c .before .before .before .delete .ensures) (c .before .before .with-answer3 .ensures))
 
 same-length-13 : tie.Need-same-length-13
 same-length-13 c = search needs
 
 returns-14 : tie.Need-returns-14
-returns-14 c = rw (c .before .before .before .before .before .enum-told13 .given .1) (keys-as (c .before .before .before .before .before .before .before .before .before .before .args .cell) (c .before .before .before .before .message-in .ensures) (c .before .before .key .ensures))
+returns-14 c = replies-followed (c .before .before .before .before .before .before .before .before .before .args .cell) (c .before .before .before .before .before .before .before .before .before .args .said .line) (c .before .before .before .before .before .before .before .before .before .args .said .id) (c .before .before .before .before .before .before .before .before .before .args .line .now) (c .before .before .before .before .before .before .before .before .before .args .out .now) _ _ (rw (c .before .before .before .before .enum-told13 .given .1) refl) (c .before .before .on-lists6 .ensures)
+
+same-length-14 : tie.Need-same-length-14
+same-length-14 c = search needs
+
+returns-15 : tie.Need-returns-15
+returns-15 c = rw (c .before .before .before .before .before .enum-told14 .given .1) (keys-as (c .before .before .before .before .before .before .before .before .before .before .args .cell) (c .before .before .before .before .message-in .ensures) (c .before .before .key .ensures))
 
 pub reply-line-spec : {M : Type 1} → statement M
 reply-line-spec =
@@ -218,14 +230,16 @@ reply-line-spec =
     enum-told-9
     on-lists-requires-4
     enum-told-10
+    on-lists-requires-5
+    enum-told-11
     release-requires
     with-answer-requires-2
-    enum-told-11
+    enum-told-12
     delete-requires
     with-answer-requires-3
-    enum-told-12
-    on-lists-requires-5
     enum-told-13
+    on-lists-requires-6
+    enum-told-14
     message-in-requires
     key-requires
     same-length
@@ -254,4 +268,6 @@ reply-line-spec =
     same-length-12
     returns-13
     same-length-13
-    returns-14)
+    returns-14
+    same-length-14
+    returns-15)

@@ -1,12 +1,15 @@
 -- `shift_script::on_requests` meets its contract: each answer by the rows that did not fit and the one that did.
 -- Assumes nothing.
 use Prim.Native.Nat.{ℕ}
-use mathlib.Core.Path.{sym, _∙_, ap₂}
+use mathlib.Core.Path.{_≡_, sym, _∙_, ap₂}
 use Rattle.shift_script.specs.Script.{said, sayBy, table}
-use Rattle.shift_script.specs.declared.Line.the-variants.{Status}
+use Rattle.shift_script.specs.declared.Line.the-variants.{Return, Status}
 use borrow.Author.Needs.{needs}
 use Rattle.shift_script.proofs.on_requests.Statement.{statement}
 use Rattle.shift_script.proofs.on_requests.Tie as tie
+
+returning : {p q c d u v : ℕ} → p ≡ q → c ≡ d → u ≡ v → said (Return p (record { 0 = c }) (record { 0 = u })) ≡ said (Return q (record { 0 = d }) (record { 0 = v }))
+returning e f g = rw (e, f, g)
 
 slice-aggregate-fits : tie.Need-slice-aggregate-fits
 slice-aggregate-fits c = search needs
@@ -66,12 +69,34 @@ returns-4 : tie.Need-returns-4
 unfolding sayBy table
 returns-4 c = c .plain2 .ensures ∙ rw (sym (c .before .before .before .before .before .before .before .before .before .before .before .fits2 .ensures) ∙ c .before .before .before .before .before .before .before .before .before .before .if1 .left, sym (c .before .before .before .before .before .before .before .before .fits3 .ensures) ∙ c .before .before .before .before .before .before .before .if2 .left, sym (c .before .before .before .before .before .fits4 .ensures) ∙ c .before .before .before .before .if3 .left, sym (c .before .before .fits5 .ensures) ∙ c .before .if4 .taken)
 
+slice-aggregate-fits-5 : tie.Need-slice-aggregate-fits-5
+slice-aggregate-fits-5 c = search needs
+
+fits-requires-5 : tie.Need-fits-requires-5
+fits-requires-5 c κs = search needs
+
+small-at-requires-3 : tie.Need-small-at-requires-3
+small-at-requires-3 c κs = search needs
+
+small-at-requires-4 : tie.Need-small-at-requires-4
+small-at-requires-4 c κs = search needs
+
+small-at-requires-5 : tie.Need-small-at-requires-5
+small-at-requires-5 c κs = search needs
+
 plain-requires-3 : tie.Need-plain-requires-3
 plain-requires-3 c κs = search needs
 
 returns-5 : tie.Need-returns-5
 unfolding sayBy table
-returns-5 c = c .plain3 .ensures ∙ rw (sym (c .before .before .before .before .before .before .before .before .before .before .before .fits2 .ensures) ∙ c .before .before .before .before .before .before .before .before .before .before .if1 .left, sym (c .before .before .before .before .before .before .before .before .fits3 .ensures) ∙ c .before .before .before .before .before .before .before .if2 .left, sym (c .before .before .before .before .before .fits4 .ensures) ∙ c .before .before .before .before .if3 .left, sym (c .before .before .fits5 .ensures) ∙ c .before .if4 .left)
+returns-5 c = c .plain3 .ensures ∙ returning (c .before .small-at5 .ensures) (c .before .before .before .small-at3 .ensures) (c .before .before .small-at4 .ensures) ∙ rw (sym (c .before .before .before .before .before .before .before .before .before .before .before .before .before .before .before .before .before .fits2 .ensures) ∙ c .before .before .before .before .before .before .before .before .before .before .before .before .before .before .before .before .if1 .left, sym (c .before .before .before .before .before .before .before .before .before .before .before .before .before .before .fits3 .ensures) ∙ c .before .before .before .before .before .before .before .before .before .before .before .before .before .if2 .left, sym (c .before .before .before .before .before .before .before .before .before .before .before .fits4 .ensures) ∙ c .before .before .before .before .before .before .before .before .before .before .if3 .left, sym (c .before .before .before .before .before .before .before .before .fits5 .ensures) ∙ c .before .before .before .before .before .before .before .if4 .left, sym (c .before .before .before .before .before .fits6 .ensures) ∙ c .before .before .before .before .if5 .taken)
+
+plain-requires-4 : tie.Need-plain-requires-4
+plain-requires-4 c κs = search needs
+
+returns-6 : tie.Need-returns-6
+unfolding sayBy table
+returns-6 c = c .plain4 .ensures ∙ rw (sym (c .before .before .before .before .before .before .before .before .before .before .before .before .before .before .fits2 .ensures) ∙ c .before .before .before .before .before .before .before .before .before .before .before .before .before .if1 .left, sym (c .before .before .before .before .before .before .before .before .before .before .before .fits3 .ensures) ∙ c .before .before .before .before .before .before .before .before .before .before .if2 .left, sym (c .before .before .before .before .before .before .before .before .fits4 .ensures) ∙ c .before .before .before .before .before .before .before .if3 .left, sym (c .before .before .before .before .before .fits5 .ensures) ∙ c .before .before .before .before .if4 .left, sym (c .before .before .fits6 .ensures) ∙ c .before .if5 .left)
 
 pub on-requests-spec : {M : Type 1} → statement M
 on-requests-spec =
@@ -95,5 +120,12 @@ on-requests-spec =
     fits-requires-4
     plain-requires-2
     returns-4
+    slice-aggregate-fits-5
+    fits-requires-5
+    small-at-requires-3
+    small-at-requires-4
+    small-at-requires-5
     plain-requires-3
-    returns-5)
+    returns-5
+    plain-requires-4
+    returns-6)
