@@ -87,6 +87,19 @@ pub fn turns() {
     }
 }
 
+/// A unit of channel 1 given back with nothing on it, while packets are listed elsewhere: one of sixteen that the job in
+/// place 0 gives back. The proved call is not timed yet.
+pub fn returns() {
+    let configuration = "2\n00 MT 16\n01 MT 16\n0\n0\n";
+    let deck = request(0, "IB/1,MT1/1,MT2/16") + &deck(1..16, "IB/1,MT1/1");
+    for listed in [0, 1, 64, 255] {
+        let cell = loaded(configuration, &deck, listed);
+        let all = time_from(&cell, |cell| (0..16).for_each(|unit| cell.give_back(0, 1, unit).expect("accepted")));
+        let others = if listed == 1 { "other" } else { "others" };
+        show(&format!("a unit given back, {listed} {others} listed"), all / 16.0, None);
+    }
+}
+
 /// One further request entered.
 pub fn entries() {
     const ENTRIES: &str = "IB/2,DB/1,MD/1500,MA/1,MT1/2,MT2/3,PR/1";

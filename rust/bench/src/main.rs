@@ -63,10 +63,11 @@ fn show(what: &str, ordinary: f64, proved: Option<f64>) {
 }
 
 /// What is timed, by the name that asks for it alone.
-const PARTS: [(&str, fn()); 6] = [
+const PARTS: [(&str, fn()); 7] = [
     ("decks", decks),
     ("configurations", configurations),
     ("turns", calls::turns),
+    ("returns", calls::returns),
     ("entries", calls::entries),
     ("selections", calls::selections),
     ("late-selections", calls::late_selections),

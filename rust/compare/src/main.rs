@@ -14,6 +14,7 @@ mod messages;
 mod programs;
 mod random;
 mod reduce;
+mod returns;
 mod scripts;
 
 use std::collections::BTreeMap;
@@ -151,7 +152,8 @@ struct Tally {
     calls: u64,
     bytes: u64,
     differences: u64,
-    /// How often each sort of answer came, which sorts of failures were reported, and which types of cards came.
+    /// How often each sort of answer came, which sorts of failures were reported, what was met of heads that are given
+    /// back, and which types of cards came.
     answers: BTreeMap<String, u64>,
 }
 
@@ -220,6 +222,9 @@ fn sort_of(subject: Subject, line: &[u8]) -> String {
         (Subject::Shift, ["ACK", _, _]) => "completed".into(),
         (Subject::Shift, ["ACK", _, _, "IB", ..]) => "selected".into(),
         (Subject::Shift, ["ACK", _, _, _, _]) => "started".into(),
+        (Subject::Shift, ["UNIT", _, "HELD", _, "RETURNING", marks @ ..]) => {
+            format!("board UNIT RETURNING{}", if marks.is_empty() { "" } else { " with a mark" })
+        }
         (Subject::Shift, [word @ ("PLACE" | "UNIT" | "CORE" | "DRUM" | "MOVES" | "LISTED"), ..]) => {
             format!("board {word}")
         }

@@ -2,7 +2,6 @@
 //! none.
 
 use ordinary::cell::Cell;
-use ordinary::numbers::UnitNumber;
 use ordinary::schedule::{Scheduled, State};
 
 use crate::random::{damage, Random};
@@ -114,10 +113,7 @@ fn unit_fields(random: &mut Random, cell: &Cell, word: &str) -> [Vec<u8>; 2] {
 
 /// A unit, mostly one of the cell; for `AVL` often one with a mark.
 fn unit(random: &mut Random, cell: &Cell, word: &str) -> (u8, u8) {
-    let all = || {
-        let channels = cell.configuration().channels();
-        channels.flat_map(|(number, channel)| (0..channel.unit_count()).map(move |unit| (number, UnitNumber(unit))))
-    };
+    let all = || cell.configuration().units();
     let marked = |state: ordinary::cell::Unit| state.down || state.reserved;
     let mut units: Vec<_> = all().filter(|&(channel, unit)| marked(cell.unit(channel, unit))).collect();
     if units.is_empty() || word == "DWN" || random.percent(50) {

@@ -3,10 +3,10 @@
 
 use std::collections::BTreeMap;
 
-use ordinary::cell::{Job, PacketName, Status, PLACES};
+use ordinary::cell::{Cell, Job, PacketName, Status, PLACES};
 use ordinary::configuration::{Channel, Configuration, DRUM_START};
 use ordinary::functions::{self, REMOVE_INTERLOCK, TERMINATE};
-use ordinary::numbers::{ChannelNumber, Kind};
+use ordinary::numbers::{ChannelNumber, Kind, UnitNumber};
 use ordinary::schedule::State;
 use ordinary::shift::Shift;
 
@@ -15,13 +15,15 @@ use crate::decks::{self, Reach, Style};
 use crate::lacks;
 use crate::messages;
 use crate::random::{damage, Random, ODD_BYTES};
+use crate::returns;
 
 /// A configuration, and calls with their line ends; a deck is one call with its cards.
 pub struct Script {
     pub pieces: Vec<Vec<u8>>,
     /// How many of the pieces are calls.
     pub calls: usize,
-    /// How often packets failed in which way, and how many cards of which type came.
+    /// How often packets failed in which way, what was met of heads that are given back, and how many cards of which
+    /// type came.
     pub counts: BTreeMap<String, u64>,
 }
 
@@ -44,9 +46,11 @@ enum Sort {
     More,
     /// A packet that fails with others listed around it, and what comes of them.
     Failure,
+    /// A unit that is given back, and what comes of it.
+    Return,
 }
 
-const SORTS: [Sort; 14] = [
+const SORTS: [Sort; 15] = [
     Sort::Deck,
     Sort::Select,
     Sort::Submit,
@@ -61,19 +65,20 @@ const SORTS: [Sort; 14] = [
     Sort::Noise,
     Sort::More,
     Sort::Failure,
+    Sort::Return,
 ];
 
-const WEIGHTS: &[[usize; 14]] = &[
+const WEIGHTS: &[[usize; 15]] = &[
     // An ordinary day.
-    [3, 10, 35, 18, 17, 4, 3, 3, 6, 4, 2, 1, 2, 2],
+    [3, 10, 35, 18, 17, 4, 3, 3, 6, 4, 2, 1, 2, 2, 4],
     // Long request lists.
-    [2, 6, 80, 3, 3, 1, 1, 1, 3, 2, 1, 0, 1, 1],
+    [2, 6, 80, 3, 3, 1, 1, 1, 3, 2, 1, 0, 1, 1, 2],
     // Many short jobs.
-    [8, 25, 15, 10, 10, 18, 4, 5, 6, 3, 2, 0, 3, 2],
+    [8, 25, 15, 10, 10, 18, 4, 5, 6, 3, 2, 0, 3, 2, 4],
     // A full schedule and full places.
-    [15, 20, 20, 8, 8, 1, 6, 8, 7, 4, 2, 1, 3, 1],
+    [15, 20, 20, 8, 8, 1, 6, 8, 7, 4, 2, 1, 3, 1, 3],
     // Failures and marks.
-    [3, 10, 30, 20, 22, 4, 8, 1, 6, 1, 2, 0, 2, 8],
+    [3, 10, 30, 20, 22, 4, 8, 1, 6, 1, 2, 0, 2, 8, 6],
 ];
 
 struct Writer<'r> {
@@ -159,9 +164,22 @@ fn reach(configuration: &Configuration) -> Reach {
     Reach { units: [Kind::Ma, Kind::Mt, Kind::Pr].map(most), words: words as usize }
 }
 
-/// Has the job units or a drum area?
-fn has_something(job: &Job) -> bool {
-    !job.assignment.units.is_empty() || !job.assignment.drum.is_empty()
+/// The units that the job in a place holds now.
+fn holdings(cell: &Cell, place: usize) -> Vec<(ChannelNumber, u32)> {
+    let units = cell.configuration().units();
+    let held = units.filter(|&(channel, unit)| cell.unit(channel, unit).holder == Some(place));
+    held.map(|(channel, unit)| (channel, u32::from(unit.0))).collect()
+}
+
+/// Has the job in a place units or a drum area?
+fn has_something(cell: &Cell, (place, job): (usize, &Job)) -> bool {
+    !job.assignment.drum.is_empty() || !holdings(cell, place).is_empty()
+}
+
+/// The place into which a selection with this answer took a job.
+fn taken(answer: &[u8]) -> Option<usize> {
+    let answer = std::str::from_utf8(answer).ok()?;
+    answer.strip_prefix("ACK ")?.split(' ').next()?.parse().ok()
 }
 
 impl Writer<'_> {
@@ -171,7 +189,8 @@ impl Writer<'_> {
         for _ in 0..12 {
             let cell = self.shift.cell();
             let sensible = match sort {
-                Sort::Submit => cell.jobs().any(|(_, job)| has_something(job)),
+                Sort::Submit => cell.jobs().any(|job| has_something(cell, job)),
+                Sort::Return => cell.jobs().any(|(place, _)| !holdings(cell, place).is_empty()),
                 Sort::End => cell.jobs().any(|(_, job)| job.end.is_none()),
                 Sort::Start => cell.listed().any(|(channel, _)| cell.moving(channel).is_none()),
                 Sort::Complete | Sort::Failure => ChannelNumber::all().any(|channel| cell.moving(channel).is_some()),
@@ -214,6 +233,7 @@ impl Writer<'_> {
             Sort::Noise => self.noise(),
             Sort::More => return self.ask_for_more(),
             Sort::Failure => return self.failure(),
+            Sort::Return => return self.give_back(),
         };
         self.push(piece);
     }
@@ -306,6 +326,263 @@ impl Writer<'_> {
         self.push(format!("SUBMIT {place} {packet} {function:02o} {} {target}{h}\n", channel.0).into_bytes());
     }
 
+    /// A unit is given back as it stands, or with packets listed there, in progress or stopping, or under interlock,
+    /// perhaps beside others that move. Then it is looked at, submitted to, given back once more and asked for by
+    /// others, marks change, the job ends, and what moves completes.
+    fn give_back(&mut self) {
+        let Some((place, channel, unit)) = self.held_unit().filter(|_| !self.random.percent(15)) else {
+            let odd = self.odd_return();
+            return self.push(odd);
+        };
+        match self.random.below(8) {
+            0 | 1 => self.list(place, channel, unit),
+            2 | 3 => self.let_move(place, channel, unit),
+            4 => {
+                self.let_move(place, channel, unit);
+                self.submit_to(place, channel, unit, Some(TERMINATE));
+                self.list(place, channel, unit);
+            }
+            5 => {
+                self.let_lock(place, channel, unit);
+                self.list(place, channel, unit);
+            }
+            6 => self.let_another_move(channel, unit),
+            _ => {}
+        }
+        if self.random.percent(40) {
+            self.let_move_elsewhere(place, channel);
+        }
+        if self.random.percent(30) {
+            self.list(place, channel, unit);
+        }
+        if self.random.percent(20) {
+            self.mark_unit(channel, unit);
+        }
+        if self.random.percent(5) {
+            self.end_job(place);
+        }
+        self.return_unit(place, channel, unit);
+        for _ in 0..self.random.below(9) {
+            self.after_return(place, channel, unit);
+        }
+    }
+
+    /// A unit that a running job holds and is not giving back, and its place.
+    fn held_unit(&mut self) -> Option<(usize, ChannelNumber, u32)> {
+        let cell = self.shift.cell();
+        let running = cell.jobs().filter(|(_, job)| job.end.is_none());
+        let held = running.flat_map(|(place, _)| holdings(cell, place).into_iter().map(move |held| (place, held)));
+        let held = held.filter(|(_, (channel, unit))| !cell.unit(*channel, UnitNumber(*unit as u8)).returning);
+        let held: Vec<_> = held.map(|(place, (channel, unit))| (place, channel, unit)).collect();
+        (!held.is_empty()).then(|| *self.random.pick(&held))
+    }
+
+    /// Some packets for a unit.
+    fn list(&mut self, place: usize, channel: ChannelNumber, unit: u32) {
+        for _ in 0..self.random.below(4) {
+            self.submit_to(place, channel, unit, None);
+        }
+    }
+
+    /// Does a packet move for this unit or address?
+    fn moves_at(&self, channel: ChannelNumber, target: u32) -> bool {
+        let cell = self.shift.cell();
+        cell.moving(channel).is_some_and(|name| cell.packet(name).target == target)
+    }
+
+    /// Lets a block move on a unit or at an address, if some calls are enough for that.
+    fn let_move(&mut self, place: usize, channel: ChannelNumber, target: u32) {
+        for _ in 0..6 {
+            let cell = self.shift.cell();
+            if self.moves_at(channel, target) {
+                return;
+            }
+            if cell.moving(channel).is_some() {
+                self.push(format!("DONE {}\n", channel.0).into_bytes());
+                continue;
+            }
+            let is_drum = cell.configuration().channel(channel).is_some_and(|channel| channel.kind() == Kind::Md);
+            if !is_drum && cell.unit(channel, UnitNumber(target as u8)).interlock {
+                self.submit_to(place, channel, target, Some(REMOVE_INTERLOCK));
+            }
+            let cell = self.shift.cell();
+            if !cell.listed().any(|(at, name)| at == channel && cell.packet(name).target == target) {
+                self.submit_to(place, channel, target, None);
+            }
+            self.push(format!("START {}\n", channel.0).into_bytes());
+        }
+    }
+
+    /// Lets a block fail on a unit with a code that sets interlock, if there is one.
+    fn let_lock(&mut self, place: usize, channel: ChannelNumber, unit: u32) {
+        let codes = self.shift.cell().configuration().codes().to_vec();
+        self.let_move(place, channel, unit);
+        if self.moves_at(channel, unit) && !codes.is_empty() {
+            let code = *self.random.pick(&codes);
+            self.push(format!("FAIL {} {code:02o}\n", channel.0).into_bytes());
+        }
+    }
+
+    /// Lets a block move on another unit of the channel, of any job.
+    fn let_another_move(&mut self, channel: ChannelNumber, unit: u32) {
+        let cell = self.shift.cell();
+        let held = cell.jobs().flat_map(|(place, _)| holdings(cell, place).into_iter().map(move |held| (place, held)));
+        let others: Vec<_> = held.filter(|(_, (at, other))| *at == channel && *other != unit).collect();
+        if !others.is_empty() {
+            let (place, (_, other)) = *self.random.pick(&others);
+            self.let_move(place, channel, other);
+        }
+    }
+
+    /// Lets a block of the job move on another channel, the drum too.
+    fn let_move_elsewhere(&mut self, place: usize, channel: ChannelNumber) {
+        let cell = self.shift.cell();
+        let mut elsewhere = holdings(cell, place);
+        elsewhere.retain(|(at, _)| *at != channel);
+        let area = cell.drum_areas().into_iter().find(|(_, holder)| *holder == place);
+        let drum = cell.configuration().channels().find(|(_, channel)| channel.kind() == Kind::Md);
+        if let (Some((area, _)), Some((drum, _))) = (area, drum) {
+            elsewhere.push((drum, area.start));
+        }
+        if !elsewhere.is_empty() {
+            let (at, target) = *self.random.pick(&elsewhere);
+            self.let_move(place, at, target);
+        }
+    }
+
+    fn mark_unit(&mut self, channel: ChannelNumber, unit: u32) {
+        let word = *self.random.pick(&["DOWN", "UP", "UP", "RESERVE", "UNRESERVE", "UNRESERVE"]);
+        self.push(format!("{word} {} {unit}\n", channel.0).into_bytes());
+    }
+
+    fn end_job(&mut self, place: usize) {
+        let word = *self.random.pick(&["END", "END", "ABORT"]);
+        self.push(format!("{word} {place}\n").into_bytes());
+    }
+
+    fn return_unit(&mut self, place: usize, channel: ChannelNumber, unit: u32) {
+        let numbers = [place as u32, channel.0.into(), unit].map(|number| self.number(number));
+        self.push(format!("RETURN {}\n", numbers.join(" ")).into_bytes());
+    }
+
+    /// One of the calls that show what has become of a unit that was given back.
+    fn after_return(&mut self, place: usize, channel: ChannelNumber, unit: u32) {
+        match self.random.weighted(&[14, 12, 16, 10, 6, 6, 10, 6, 12, 10, 4]) {
+            0 => self.push(b"BOARD\n".to_vec()),
+            1 => {
+                let cell = self.shift.cell();
+                let is_used = |packet: &u32| cell.status(place as u32, *packet) != Ok(Status::Blank);
+                let used: Vec<u32> = (0..16).filter(is_used).collect();
+                let packet = if used.is_empty() { 0 } else { *self.random.pick(&used) };
+                self.push(format!("STATUS {place} {packet}\n").into_bytes());
+            }
+            2 => self.submit_after_return(place, channel, unit),
+            3 => {
+                let by = if self.random.percent(70) { place } else { self.random.below(16) };
+                self.return_unit(by, channel, unit);
+            }
+            4 => {
+                let others = holdings(self.shift.cell(), place);
+                if !others.is_empty() {
+                    let (at, other) = *self.random.pick(&others);
+                    self.return_unit(place, at, other);
+                }
+            }
+            5 => self.mark_unit(channel, unit),
+            6 => self.ask_for_units(channel),
+            7 => self.end_job(place),
+            8 => self.complete_on(channel),
+            9 => {
+                let cell = self.shift.cell();
+                let of_job = |at: &ChannelNumber| cell.moving(*at).is_some_and(|name| name.place == place);
+                let moving: Vec<ChannelNumber> = ChannelNumber::all().filter(of_job).collect();
+                if !moving.is_empty() {
+                    let at = *self.random.pick(&moving);
+                    self.complete_on(at);
+                }
+            }
+            _ => self.push(format!("START {}\n", channel.0).into_bytes()),
+        }
+    }
+
+    /// A submission to a unit that was given back: of any function, with any packet, and by others too.
+    fn submit_after_return(&mut self, place: usize, channel: ChannelNumber, unit: u32) {
+        let kind = self.shift.cell().configuration().channel(channel).map_or(Kind::Ma, Channel::kind);
+        let is_illegal = |function: &u8| !functions::is_legal(kind, *function);
+        let illegal: Vec<u8> = (0..=functions::LAST).filter(is_illegal).collect();
+        let function = match self.random.below(6) {
+            0 | 1 => self.function(kind),
+            2 => REMOVE_INTERLOCK,
+            3 => TERMINATE,
+            4 => *self.random.pick(&illegal),
+            _ => 0o02,
+        };
+        let by = if self.random.percent(88) { place } else { self.random.below(16) };
+        // That which moves is no free one.
+        let moving = self.shift.cell().moving(channel).filter(|name| name.place == by && self.random.percent(30));
+        let packet = moving.map_or_else(|| self.packet(by), |name| name.packet as u32);
+        self.push(format!("SUBMIT {by} {packet} {function:02o} {} {unit}\n", channel.0).into_bytes());
+    }
+
+    /// A completion of what moves on a channel.
+    fn complete_on(&mut self, channel: ChannelNumber) {
+        let how = match self.random.below(5) {
+            0 | 1 => format!("DONE {}", channel.0),
+            2 | 3 => format!("CUT {}", channel.0),
+            _ => format!("FAIL {} {}", channel.0, self.code()),
+        };
+        self.push(format!("{how}\n").into_bytes());
+    }
+
+    /// A request for all units of the channel's kind that are free, or for one more, and a selection.
+    fn ask_for_units(&mut self, channel: ChannelNumber) {
+        let cell = self.shift.cell();
+        let kind_of = |channel| cell.configuration().channel(channel).map_or(Kind::Ma, Channel::kind);
+        let kind = kind_of(channel);
+        let units = cell.configuration().units().filter(|(at, _)| kind_of(*at) == kind);
+        let free = units.filter(|&(at, unit)| cell.unit(at, unit).is_assignable()).count();
+        let asked = (free + self.random.below(2)).clamp(1, 99);
+        let id = *self.random.pick(&["NEXT", "TAKES", "R"]);
+        let priority = format!("A{}", self.random.below(20));
+        let cards = format!("{id},PTY,2,,P,,,M,P,{priority},P,1.\n{id},FAC,IB/1,{}/{asked}.\n", kind.letters());
+        self.push([b"DECK\n", &decks::terminated(cards.as_bytes())[..]].concat());
+        self.push(b"SELECT\n".to_vec());
+        if self.random.percent(60) {
+            self.push(format!("DELETE {id}\n").into_bytes());
+        }
+    }
+
+    /// A return that is mostly refused: numbers that are too large, the drum channel, a unit that is another job's or
+    /// nobody's, a place without a job.
+    fn odd_return(&mut self) -> Vec<u8> {
+        let (mut place, mut channel) = (self.place(), self.any_channel());
+        let mut unit = self.random.within(0..=17).to_string();
+        let held = self.held_unit();
+        let drum = self.shift.cell().configuration().channels().find(|(_, channel)| channel.kind() == Kind::Md);
+        match (self.random.below(6), held, drum) {
+            (0, _, Some((drum, _))) => {
+                channel = self.number(drum.0.into());
+                unit = self.random.pick(&["0", "1", "15", "16", "35329", "35330", "999999999"]).to_string();
+                if let Some((holder, _)) = self.random_job() {
+                    place = self.number(holder as u32);
+                }
+            }
+            // Another's unit, or of a place without a job.
+            (1 | 2, Some((_, at, other)), _) => (channel, unit) = (self.number(at.0.into()), self.number(other)),
+            (3, Some((holder, at, _)), _) => (place, channel) = (self.number(holder as u32), self.number(at.0.into())),
+            // Numbers that are too large, some of them small again where 8 or 16 bits run over.
+            (4 | 5, Some((holder, at, other)), _) => {
+                let over = *self.random.pick(&[16, 32, 256, 65_536, 999_999_984]);
+                let over = [0, 1, 2].map(|number| if number == self.random.below(3) { over } else { 0 });
+                place = self.number(holder as u32 + over[0]);
+                channel = self.number(u32::from(at.0) + over[1]);
+                unit = self.number(other + over[2]);
+            }
+            _ => {}
+        }
+        self.line(&["RETURN", &place, &channel, &unit])
+    }
+
     /// A code to fail with: one of the section, one that is not there, a neighbour of one, any, or none.
     fn code(&mut self) -> String {
         let codes = self.shift.cell().configuration().codes().to_vec();
@@ -351,20 +628,31 @@ impl Writer<'_> {
             },
             if behind { ", others listed there" } else { "" },
         ];
-        *self.counts.entry(format!("failed {}", words.concat())).or_default() += 1;
+        self.count(Some(format!("failed {}", words.concat())));
     }
 
     fn push(&mut self, piece: Vec<u8>) {
         self.count_failure(&piece);
+        self.count(returns::met(self.shift.cell(), &piece));
         if let Some(deck) = piece.strip_prefix(b"DECK\n") {
             for (card_type, times) in decks::card_types(deck) {
                 *self.counts.entry(card_type).or_default() += times;
             }
         }
+        let mut answer = Vec::new();
         for line in piece.split_inclusive(|&byte| byte == b'\n') {
-            self.shift.answer_line(line.strip_suffix(b"\n").unwrap_or(line));
+            answer = self.shift.answer_line(line.strip_suffix(b"\n").unwrap_or(line));
+        }
+        if piece == b"SELECT\n" {
+            self.count(taken(&answer).and_then(|place| returns::selected(self.shift.cell(), place)));
         }
         self.pieces.push(piece);
+    }
+
+    fn count(&mut self, what: Option<String>) {
+        if let Some(what) = what {
+            *self.counts.entry(what).or_default() += 1;
+        }
     }
 
     /// The state in full at the end, and now and then an end in the middle of something.
@@ -409,9 +697,11 @@ impl Writer<'_> {
         if self.random.percent(8) {
             return self.random_submission();
         }
-        let mut holdings: Vec<(ChannelNumber, u32)> = Vec::new();
-        for (channel, unit) in job.assignment.units.iter().flat_map(|(_, units)| units) {
-            holdings.push((*channel, u32::from(unit.0)));
+        let mut holdings = holdings(self.shift.cell(), place);
+        // Now and then to what it has given back.
+        if self.random.percent(10) {
+            let given = job.assignment.units.iter().flat_map(|(_, units)| units);
+            holdings = given.map(|(channel, unit)| (*channel, u32::from(unit.0))).collect();
         }
         let area = job.assignment.drum.clone();
         let drum = self.shift.cell().configuration().channels().find(|(_, channel)| channel.kind() == Kind::Md);
@@ -560,6 +850,8 @@ impl Writer<'_> {
                     "SUBMIT 0 0 02 3 0",
                     "CUT 3",
                     "FAIL 3 2",
+                    "RETURN 0 3",
+                    "RETURN 0 3 0",
                 ];
                 let extra = ["", " ", "  ", " 0", " 0 0", "\r", "\t", "."];
                 let before = if self.random.percent(10) { " " } else { "" };
@@ -594,6 +886,7 @@ impl Writer<'_> {
                     "DOWN 3",
                     "FAIL 3",
                     "SUBMIT 0 0 02 3",
+                    "RETURN 0 3",
                 ];
                 format!("{} {}", self.random.pick(&words), self.random.pick(&numbers)).into_bytes()
             }
@@ -643,8 +936,9 @@ impl Writer<'_> {
     fn random_job(&mut self) -> Option<(usize, Job)> {
         let mut jobs: Vec<(usize, &Job)> = self.shift.cell().jobs().collect();
         // Mostly one that has something to submit to.
-        if jobs.iter().any(|(_, job)| has_something(job)) && self.random.percent(90) {
-            jobs.retain(|(_, job)| has_something(job));
+        let cell = self.shift.cell();
+        if jobs.iter().any(|job| has_something(cell, *job)) && self.random.percent(90) {
+            jobs.retain(|job| has_something(cell, *job));
         }
         if jobs.is_empty() {
             return None;

@@ -19,10 +19,20 @@ pub type HeadName = (u32, u32);
 pub struct Head {
     /// The place of the job that holds it.
     pub holder: Option<usize>,
+    /// The job has given it back, and holds it until what moves there completes.
+    pub returning: bool,
     /// Shown only while it is held: the next job is given the head without it.
     pub interlock: bool,
     pub down: bool,
     pub reserved: bool,
+}
+
+impl Head {
+    /// No job holds it any more.
+    fn free(&mut self) {
+        self.holder = None;
+        self.returning = false;
+    }
 }
 
 #[derive(Clone, Debug, PartialEq, Eq)]
@@ -146,6 +156,9 @@ impl Heads {
             ["START", channel] => self.started(number(channel)?, said),
             ["DONE" | "CUT", channel] => self.completed(number(channel)?, None),
             ["FAIL", channel, code] => self.completed(number(channel)?, Some(octal(code)?)),
+            ["RETURN", place, channel, unit] => {
+                self.given_back(number(place)? as usize, (number(channel)?, number(unit)?))
+            }
             ["END" | "ABORT", place] => self.ended(number(place)? as usize),
             ["DOWN", channel, unit] => self.head(number(channel)?, number(unit)?).map(|head| head.down = true),
             ["UP", channel, unit] => self.head(number(channel)?, number(unit)?).map(|head| head.down = false),
@@ -181,6 +194,7 @@ impl Heads {
         for (channel, unit) in said.iter().skip(2).filter_map(|word| word.split_once('/')) {
             let head = self.head(number(channel)?, number(unit)?)?;
             head.holder = Some(place);
+            head.returning = false;
             head.interlock = false;
         }
         Some(())
@@ -208,14 +222,33 @@ impl Heads {
         Some(())
     }
 
-    /// A failure has a code; off the drum those of the configuration set interlock, and no others.
+    /// A failure has a code; off the drum those of the configuration set interlock, and no others. A head that is being
+    /// returned is free then.
     fn completed(&mut self, channel: u32, failure: Option<u32>) -> Option<()> {
         let moving = self.moving.get_mut(channel as usize)?.take()?;
         let locks = failure.is_some_and(|code| self.codes.contains(&code));
-        if locks && self.drum != Some(channel) {
-            self.head(channel, moving.target)?.interlock = true;
+        if self.drum != Some(channel) {
+            let head = self.head(channel, moving.target)?;
+            head.interlock |= locks;
+            if head.returning {
+                head.free();
+            }
         }
         self.return_if_closed(moving.place)
+    }
+
+    /// The job in a place gives a head back: it is free at once, or when that completes which still moves there.
+    fn given_back(&mut self, place: usize, (channel, unit): HeadName) -> Option<()> {
+        self.head(channel, unit).filter(|head| head.holder == Some(place))?;
+        let moving = self.moving.get_mut(channel as usize)?.as_mut().filter(|moving| moving.target == unit);
+        let waits = moving.map(|moving| moving.stopping = true).is_some();
+        let head = self.head(channel, unit)?;
+        if waits {
+            head.returning = true;
+        } else {
+            head.free();
+        }
+        Some(())
     }
 
     fn ended(&mut self, place: usize) -> Option<()> {
@@ -233,9 +266,7 @@ impl Heads {
             return None;
         }
         self.jobs[place] = None;
-        for head in self.heads.values_mut().filter(|head| head.holder == Some(place)) {
-            head.holder = None;
-        }
+        self.heads.values_mut().filter(|head| head.holder == Some(place)).for_each(Head::free);
         Some(())
     }
 }
@@ -299,6 +330,65 @@ mod tests {
             assert_eq!(locked("03", "ACK 0 0 42 1", code), [], "{code}");
             assert_eq!(locked("07", "ACK 0 0 42 35329", code), [], "{code} on the drum");
         }
+    }
+
+    #[test]
+    fn a_head_that_is_given_back_is_free_at_once_or_at_its_completion() {
+        let taken = (&b"SELECT"[..], "ACK 0 A1 IB 2-3 MD 35329-35330 MT1 03/00 03/01");
+        let given_back = (&b"RETURN 0 3 1"[..], "ACK");
+        let moves = (&b"START 3"[..], "ACK 0 0 42 1");
+        let free = Head::default();
+        let held = Head { holder: Some(0), ..free };
+        let state = |calls: &[_]| after(calls).heads[&(3, 1)];
+        assert_eq!(state(&[taken, given_back]), free);
+        // What moves on another head of the channel does not count, nor what moves on the drum.
+        assert_eq!(state(&[taken, (b"START 3", "ACK 0 0 42 0"), given_back]), free);
+        assert_eq!(state(&[taken, (b"START 7", "ACK 0 0 42 35329"), given_back]), free);
+        let stopping = [taken, moves, given_back];
+        assert_eq!(state(&stopping), Head { returning: true, ..held });
+        assert!(after(&stopping).moving(3).is_some_and(|moving| moving.stopping));
+        let locked = Head { interlock: true, ..free };
+        for (call, then) in [
+            ((&b"DONE 3"[..], "ACK 0 0"), free),
+            ((b"CUT 3", "ACK 0 0"), free),
+            ((b"FAIL 3 12", "ACK 0 0"), free),
+            // Shown only while it is held.
+            ((b"FAIL 3 11", "ACK 0 0"), locked),
+            ((b"DONE 7", "NO 8"), Head { returning: true, ..held }),
+            ((b"RETURN 0 3 1", "NO 21"), Head { returning: true, ..held }),
+        ] {
+            let heads = after(&[taken, moves, given_back, call]);
+            assert_eq!(heads.heads[&(3, 1)], then, "{call:?}");
+            assert_eq!(heads.heads[&(3, 0)], held, "{call:?}");
+            assert_eq!(heads.job(0).map(|job| job.closing), Some(false), "{call:?}");
+        }
+        // One that is refused, or that a journal made by hand has accepted, gives nothing back.
+        for call in [(&b"RETURN 0 3 1"[..], "NO 3"), (b"RETURN 1 3 1", "ACK"), (b"RETURN 0 7 0", "ACK")] {
+            assert_eq!(state(&[taken, call]), held, "{call:?}");
+        }
+    }
+
+    #[test]
+    fn a_job_that_closes_returns_such_a_head_by_itself() {
+        let calls = [
+            (&b"SELECT"[..], "ACK 0 A1 IB 2-3 MD 35329-35330 MT1 03/00 03/01"),
+            (b"START 3", "ACK 0 0 42 1"),
+            (b"START 7", "ACK 0 1 42 35329"),
+            (b"RETURN 0 3 1", "ACK"),
+            (b"END 0", "ACK"),
+            (b"CUT 3", "ACK 0 0"),
+            (b"SELECT", "ACK 1 B IB 4-4 MT 03/01"),
+            (b"CUT 7", "ACK 0 1"),
+        ];
+        let holders = |count: usize| [0, 1].map(|unit| after(&calls[..count]).heads[&(3, unit)].holder);
+        assert_eq!(holders(5), [Some(0), Some(0)]);
+        assert_eq!(holders(6), [Some(0), None]);
+        assert_eq!(holders(7), [Some(0), Some(1)]);
+        assert_eq!(holders(8), [None, Some(1)]);
+        // The drum may be through first: one completion then returns all.
+        let [.., cut, _, last] = calls;
+        let heads = after(&[&calls[..5], &[last, cut]].concat());
+        assert!(heads.heads.values().all(|head| *head == Head::default()) && heads.job(0).is_none());
     }
 
     #[test]

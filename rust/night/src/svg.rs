@@ -16,6 +16,7 @@ const STYLE: &str = r##"<defs>
 <style>
 text { font-family: "DejaVu Sans Mono", "Liberation Mono", monospace; fill: black }
 .held { fill: #dce8f4; stroke: black; stroke-width: 0.2 }
+.returning { fill: white; stroke: black; stroke-width: 0.2 }
 .moving { fill: #203040 }
 .stopping { fill: url(#stopping); stroke: black; stroke-width: 0.15 }
 .interlock { fill: url(#interlock); stroke: #b00020; stroke-width: 0.15 }
@@ -71,7 +72,7 @@ pub fn picture(tracks: &Tracks, words: &[String], chosen: Option<usize>) -> Resu
 fn size(sheets: &[Sheet]) -> (f64, f64) {
     let [sheet] = sheets else { return (WIDTH, HEIGHT) };
     let width = sheet.edge(sheet.calls.end) + RIGHT;
-    (width.max(200.0), TOP + sheet.rows.len() as f64 * ROW + BOTTOM)
+    (width.max(220.0), TOP + sheet.rows.len() as f64 * ROW + BOTTOM)
 }
 
 impl Drawing {
@@ -148,6 +149,8 @@ impl Drawing {
         self.text(8.0, y + 3.9, &row.name);
         let top = y + 0.95;
         on_sheet(sheet, &row.holdings).for_each(|span| self.holding(sheet, row, span, top));
+        on_sheet(sheet, &row.returning).for_each(|span| self.returning(sheet, row, span, top));
+        on_sheet(sheet, &row.holdings).for_each(|span| self.label(sheet, span, top));
         let lower = top + BAR - LOWER;
         on_sheet(sheet, &row.interlock).for_each(|span| self.lower(sheet, row, span, "interlock", "interlock", lower));
         on_sheet(sheet, &row.moves).for_each(|span| {
@@ -167,12 +170,23 @@ impl Drawing {
         self.area(class, between(sheet, span), y, LOWER, &said);
     }
 
-    /// The bar of a holding, with the job's ID.
+    /// The bar of a holding.
     fn holding(&mut self, sheet: &Sheet, row: &Row, span: &Span<Holding>, top: f64) {
-        let x = between(sheet, span);
-        let Holding { place, id, area } = &span.what;
+        let Holding { place, id, .. } = &span.what;
         let said = format!("{}: held by {id} in place {place} from call {} to {}", row.name, span.from, span.to);
-        self.area("held", x, top, BAR, &said);
+        self.area("held", between(sheet, span), top, BAR, &said);
+    }
+
+    /// The end of a bar, while the head is being returned.
+    fn returning(&mut self, sheet: &Sheet, row: &Row, span: &Span<()>, top: f64) {
+        let said = format!("{}: being returned from call {} to {}", row.name, span.from, span.to);
+        self.area("returning", between(sheet, span), top, BAR, &said);
+    }
+
+    /// The ID of a bar's job.
+    fn label(&mut self, sheet: &Sheet, span: &Span<Holding>, top: f64) {
+        let x = between(sheet, span);
+        let Holding { id, area, .. } = &span.what;
         let with_area = area.map(|(first, last)| format!("{id} {first}-{last}"));
         let fits = |text: &&String| label_width(text) <= x.1 - x.0 + 0.01;
         // What goes on and is too narrow here has its ID on the next sheet.
@@ -192,6 +206,7 @@ impl Drawing {
         let mut x = 8.0;
         for (class, said) in [
             ("held", "held by a job, its ID"),
+            ("returning", "being returned"),
             ("moving", "block moves"),
             ("stopping", "stopping"),
             ("interlock", "interlock"),
@@ -200,7 +215,7 @@ impl Drawing {
         ] {
             match class {
                 "down" | "reserved" => self.stroke(class, (x, y - 1.0), (x + 6.0, y - 1.0)),
-                "held" => self.area(class, (x, x + 6.0), y - 2.6, 3.2, said),
+                "held" | "returning" => self.area(class, (x, x + 6.0), y - 2.6, 3.2, said),
                 _ => self.area(class, (x, x + 6.0), y - 1.8, LOWER, said),
             }
             self.text(x + 7.2, y, said);

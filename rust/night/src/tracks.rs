@@ -52,6 +52,8 @@ pub struct Move {
 pub struct Row {
     pub name: String,
     pub holdings: Track<Holding>,
+    /// Given back, and held until what moves there completes.
+    pub returning: Track<()>,
     pub moves: Track<Move>,
     pub interlock: Track<()>,
     pub down: Track<()>,
@@ -138,6 +140,7 @@ impl Row {
         let Some(head) = heads.heads.get(&name) else { return };
         let holder = head.holder;
         self.holdings.note(call, holder.and_then(|place| holding(heads, place, None)));
+        self.returning.note(call, head.returning.then_some(()));
         let moving = heads.moving_at(name).filter(|_| holder.is_some());
         self.moves.note(call, moving.map(|moving| Move { packet: moving.packet, stopping: moving.stopping }));
         self.interlock.note(call, (head.interlock && holder.is_some()).then_some(()));
@@ -149,7 +152,7 @@ impl Row {
     pub fn changes(&self) -> impl Iterator<Item = usize> + '_ {
         let held = self.holdings.0.iter().flat_map(|span| [span.from, span.to]);
         let moved = self.moves.0.iter().flat_map(|span| [span.from, span.to]);
-        let marks = [&self.interlock, &self.down, &self.reserved];
-        held.chain(moved).chain(marks.into_iter().flat_map(|track| &track.0).flat_map(|span| [span.from, span.to]))
+        let others = [&self.returning, &self.interlock, &self.down, &self.reserved];
+        held.chain(moved).chain(others.into_iter().flat_map(|track| &track.0).flat_map(|span| [span.from, span.to]))
     }
 }

@@ -29,10 +29,14 @@ fn on_head(heads: &Heads, channel: u32, unit: u32) -> Result<String, String> {
         said += &moves(heads.moving_at((channel, unit)));
     }
     let locked = head.interlock && head.holder.is_some();
-    for (holds, word) in [(locked, "interlock"), (head.down, "marked down"), (head.reserved, "marked reserved")] {
-        if holds {
-            said += &format!("; {word}");
-        }
+    let words = [
+        (head.returning, "being returned"),
+        (locked, "interlock"),
+        (head.down, "marked down"),
+        (head.reserved, "marked reserved"),
+    ];
+    for (_, word) in words.into_iter().filter(|(holds, _)| *holds) {
+        said += &format!("; {word}");
     }
     Ok(said)
 }

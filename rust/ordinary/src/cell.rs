@@ -25,6 +25,8 @@ pub const CUT: u8 = 0o17;
 pub struct Unit {
     /// The place of the job that holds it.
     pub holder: Option<usize>,
+    /// The job has given it back, and holds it until what moves there completes.
+    pub returning: bool,
     pub down: bool,
     pub reserved: bool,
     pub interlock: bool,
@@ -33,6 +35,12 @@ pub struct Unit {
 impl Unit {
     pub fn is_assignable(self) -> bool {
         self.holder.is_none() && !self.down && !self.reserved
+    }
+
+    /// No job holds it any more. Marks stay, and the interlock goes when a job is given the unit.
+    fn free(&mut self) {
+        self.holder = None;
+        self.returning = false;
     }
 }
 
@@ -210,11 +218,7 @@ impl Cell {
 
     /// Sets or clears a mark. The two marks are independent, and the drum has none.
     pub fn mark(&mut self, channel: u32, unit: u32, mark: Mark, on: bool) -> Result<(), Refusal> {
-        let (number, channel) = self.configured(channel)?;
-        if unit >= u32::from(channel.unit_count()) {
-            return Err(Refusal::OutOfRange);
-        }
-        let unit = &mut self.units[number][unit as usize];
+        let unit = self.configured_unit(channel, unit)?;
         match mark {
             Mark::Down => unit.down = on,
             Mark::Reserved => unit.reserved = on,
@@ -323,6 +327,9 @@ impl Cell {
         if !is_the_jobs {
             return Err(Refusal::NotTheJobs);
         }
+        if !on_drum && self.units[number][x as usize].returning {
+            return Err(Refusal::BeingReturned);
+        }
         if !functions::is_legal(channel.kind(), function) {
             return Err(Refusal::IllegalFunction);
         }
@@ -390,8 +397,38 @@ impl Cell {
             self.units[number][target as usize].interlock = true;
             self.end_listed(INTERLOCKED, |_, other| other.is_on(number, target..=target));
         }
+        if channel.kind() != Kind::Md && self.units[number][target as usize].returning {
+            self.units[number][target as usize].free();
+        }
         self.return_if_closed(name.place);
         Ok(name)
+    }
+
+    /// The job in a place gives a unit back and goes on with the others. The unit is free at once if nothing moves
+    /// there, else at that completion, and until then it is held. The drum returns with its job alone.
+    pub fn give_back(&mut self, place: u32, channel: u32, unit: u32) -> Result<(), Refusal> {
+        if place as usize >= PLACES {
+            return Err(Refusal::OutOfRange);
+        }
+        let Unit { holder, returning, .. } = *self.configured_unit(channel, unit)?;
+        self.running_job(place as usize)?;
+        if holder != Some(place as usize) {
+            return Err(Refusal::NotTheJobs);
+        }
+        if returning {
+            return Err(Refusal::BeingReturned);
+        }
+
+        let (channel, target) = (channel as usize, unit);
+        self.stop(|_, packet| packet.is_on(channel, target..=target));
+        let moves = self.moving[channel].is_some_and(|name| self.packet(name).target == target);
+        let unit = &mut self.units[channel][target as usize];
+        if moves {
+            unit.returning = true;
+        } else {
+            unit.free();
+        }
+        Ok(())
     }
 
     /// Ends the job in a place. It closes until nothing of it moves.
@@ -422,6 +459,15 @@ impl Cell {
         let number = u8::try_from(channel).map_err(|_| Refusal::OutOfRange)?;
         let configured = self.configuration.channel(ChannelNumber(number)).ok_or(Refusal::OutOfRange)?;
         Ok((usize::from(number), configured))
+    }
+
+    /// A configured unit; the drum channel has none.
+    fn configured_unit(&mut self, channel: u32, unit: u32) -> Result<&mut Unit, Refusal> {
+        let (number, channel) = self.configured(channel)?;
+        if unit >= u32::from(channel.unit_count()) {
+            return Err(Refusal::OutOfRange);
+        }
+        Ok(&mut self.units[number][unit as usize])
     }
 
     fn running_job(&self, place: usize) -> Result<&Job, Refusal> {
@@ -468,7 +514,7 @@ impl Cell {
         self.places[place].job = None;
         for unit in self.units.iter_mut().flatten() {
             if unit.holder == Some(place) {
-                unit.holder = None;
+                unit.free();
             }
         }
         self.schedule.finish(place, end == End::InError);

@@ -134,6 +134,12 @@ impl Configuration {
         ChannelNumber::all().filter_map(|number| Some((number, self.channel(number)?)))
     }
 
+    /// The configured units, ascending; the drum has none.
+    pub fn units(&self) -> impl Iterator<Item = (ChannelNumber, UnitNumber)> + '_ {
+        let numbers = |count: u8| (0..count).map(UnitNumber);
+        self.channels().flat_map(move |(number, channel)| numbers(channel.unit_count()).map(move |unit| (number, unit)))
+    }
+
     /// The units that are down from the start, ascending.
     pub fn down(&self) -> &[(ChannelNumber, UnitNumber)] {
         &self.down

@@ -103,6 +103,8 @@ pub enum Refusal {
     NoCandidate = 19,
     /// A selection with candidates, none of which has an assignment.
     Lacking = 20,
+    /// The unit is being returned.
+    BeingReturned = 21,
 }
 
 impl Refusal {

@@ -20,6 +20,7 @@ enum Call {
     Submit(Submission),
     Start(u32),
     Complete(u32, Completion),
+    Return { place: u32, channel: u32, unit: u32 },
     End(u32, End),
     Mark { channel: u32, unit: u32, mark: Mark, on: bool },
     Release(String),
@@ -57,6 +58,9 @@ impl Call {
             [b"DONE", channel] => Call::Complete(n(channel)?, Completion::Full),
             [b"CUT", channel] => Call::Complete(n(channel)?, Completion::Cut),
             [b"FAIL", channel, code] => Call::Complete(n(channel)?, Completion::Failed(octal(code)?)),
+            [b"RETURN", place, channel, unit] => {
+                Call::Return { place: n(place)?, channel: n(channel)?, unit: n(unit)? }
+            }
             [b"END", place] => Call::End(n(place)?, End::Normal),
             [b"ABORT", place] => Call::End(n(place)?, End::InError),
             [b"DOWN", channel, unit] => mark(channel, unit, Mark::Down, true)?,
@@ -176,6 +180,7 @@ impl Shift {
                 let name = cell.complete(channel, completion)?;
                 Ok(format!("ACK {} {}\n", name.place, name.packet))
             }
+            Call::Return { place, channel, unit } => cell.give_back(place, channel, unit).map(done),
             Call::End(place, end) => cell.end(place, end).map(done),
             Call::Mark { channel, unit, mark, on } => cell.mark(channel, unit, mark, on).map(done),
             Call::Release(id) => cell.release(&id).map(done),
@@ -276,10 +281,14 @@ fn write_board(cell: &Cell, board: &mut String) -> std::fmt::Result {
                 write!(board, " HELD {place}")?;
             }
             let locked = state.interlock && state.holder.is_some();
-            for (holds, word) in [(state.down, "DOWN"), (state.reserved, "RESERVED"), (locked, "LOCKED")] {
-                if holds {
-                    write!(board, " {word}")?;
-                }
+            let words = [
+                (state.returning, "RETURNING"),
+                (state.down, "DOWN"),
+                (state.reserved, "RESERVED"),
+                (locked, "LOCKED"),
+            ];
+            for (_, word) in words.into_iter().filter(|(holds, _)| *holds) {
+                write!(board, " {word}")?;
             }
             writeln!(board)?;
         }

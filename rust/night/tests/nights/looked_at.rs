@@ -37,7 +37,7 @@ fn is_stopping(cell: &Cell, channel: ChannelNumber) -> Option<(usize, usize, boo
 fn compare_heads(heads: &Heads, cell: &Cell) {
     for (&(channel, unit), head) in &heads.heads {
         let ordinary = cell.unit(ChannelNumber(channel as u8), UnitNumber(unit as u8));
-        assert_eq!(head.holder, ordinary.holder);
+        assert_eq!((head.holder, head.returning), (ordinary.holder, ordinary.returning), "{channel}/{unit}");
         assert_eq!((head.down, head.reserved), (ordinary.down, ordinary.reserved));
         let locked = |interlock: bool| interlock && head.holder.is_some();
         assert_eq!(locked(head.interlock), locked(ordinary.interlock), "interlock of {channel}/{unit}");
@@ -66,7 +66,7 @@ fn compare_jobs(heads: &Heads, cell: &Cell) {
 
 #[test]
 fn the_heads_are_those_of_the_ordinary_cell_after_each_call() {
-    let mut calls = 0;
+    let (mut calls, mut being_returned) = (0, 0);
     for seed in 0..60 {
         let script = script(seed, 400);
         let mut heads = Heads::fresh(&script.configuration).unwrap();
@@ -76,10 +76,11 @@ fn the_heads_are_those_of_the_ordinary_cell_after_each_call() {
             compare_heads(&heads, step.after.cell());
             compare_jobs(&heads, step.after.cell());
             calls += 1;
+            being_returned += usize::from(heads.heads.values().any(|head| head.returning));
         }
     }
-    println!("{calls} calls compared");
-    assert!(calls > 20_000);
+    println!("{calls} calls compared, after {being_returned} of them a head was being returned");
+    assert!(calls > 20_000 && being_returned > 500);
 }
 
 /// What a track has after a call.
@@ -91,6 +92,7 @@ fn compare_row(row: &Row, name: (u32, u32), heads: &Heads, call: usize) {
     let head = heads.heads[&name];
     let holding = after(&row.holdings, call).map(|holding| (holding.place, holding.id));
     assert_eq!(holding, head.holder.map(|place| (place, heads.job(place).unwrap().id.clone())));
+    assert_eq!(after(&row.returning, call).is_some(), head.returning);
     let moving = heads.moving_at(name).map(|moving| (moving.packet, moving.stopping));
     assert_eq!(after(&row.moves, call).map(|moved| (moved.packet, moved.stopping)), moving);
     assert_eq!(after(&row.interlock, call).is_some(), head.interlock && head.holder.is_some());
@@ -165,6 +167,58 @@ fn messages_are_calls_and_their_marks_are_seen() {
 }
 
 #[test]
+fn a_head_that_is_given_back_is_looked_up_and_shown() {
+    const CONFIGURATION: &[u8] = b"1\n03 MT 3\n0\n1\n11\n";
+    let group = |id: &str, entries: &str| format!("{id},PTY,2,,P,,,M,P,A{},P,1.\n{id},FAC,{entries}.\n", &id[1..]);
+    let deck = group("J0", "IB/1,MT/3") + &group("J1", "IB/1,MT/1") + &group("J2", "IB/1,MT/1");
+    let lines = "SELECT\nSUBMIT 0 0 42 3 1\nSTART 3\nRETURN 0 3 1\nSUBMIT 0 1 07 3 1\nRETURN 0 03 01\nRETURN 0 3 2\n\
+                 SELECT\nSELECT\nDOWN 3 1\nUP 3 1\nFAIL 3 11\nSELECT\nEND 0\n";
+    let input = format!("DECK\n{deck}{TERMINATION}{lines}");
+    let place = Place::new("given-back", CONFIGURATION);
+    assert_eq!(place.answers(input.as_bytes()), converse(&[CONFIGURATION, input.as_bytes()].concat())[..]);
+    let stopping = "held by J0 (place 0); packet 0 is stopping (function 42); being returned";
+    for (unit, call, due) in [
+        ("01", "4", "held by J0 (place 0); packet 0 moves (function 42)"),
+        ("01", "5", stopping),
+        // Submissions and a second return are refused, and another head is free at once.
+        ("01", "7", stopping),
+        ("02", "7", "held by J0 (place 0); no packet moves"),
+        ("02", "8", "free"),
+        ("02", "9", "held by J1 (place 1); no packet moves"),
+        // Nobody else gets it before its own completion.
+        ("01", "10", stopping),
+        ("01", "11", &format!("{stopping}; marked down")),
+        ("01", "12", stopping),
+        ("01", "13", "free"),
+        ("00", "13", "held by J0 (place 0); no packet moves"),
+        ("01", "14", "held by J2 (place 2); no packet moves"),
+        // The first job's end takes nothing from the others.
+        ("00", "15", "free"),
+        ("01", "15", "held by J2 (place 2); no packet moves"),
+        ("02", "15", "held by J1 (place 1); no packet moves"),
+    ] {
+        let said = night(&["who", "03", unit, call], &place);
+        assert!(said.ends_with(&format!(": {due}\n")), "{said}");
+    }
+    let shown = night(&["show"], &place);
+    for said in [
+        "03/01: held by J0 in place 0 from call 2 to 13",
+        "03/01: being returned from call 5 to 13",
+        "03/01: packet 0 is stopping from call 5 to 13",
+        "03/01: held by J2 in place 2 from call 14 to 16",
+        "03/02: held by J0 in place 0 from call 2 to 8",
+        "03/02: held by J1 in place 1 from call 9 to 16",
+        "03/00: held by J0 in place 0 from call 2 to 15",
+    ] {
+        assert!(shown.contains(&format!("<title>{said}</title>")), "{said}");
+    }
+    assert_eq!(shown.matches(": being returned from").count(), 1);
+    assert!(!shown.contains("interlock from"));
+    // They are played back: the board is that of the cell.
+    assert!(place.answers(b"BOARD\n").starts_with(b"PLACE 1 J1 RUNS\nPLACE 2 J2 RUNS\nUNIT 03/01 HELD 2\n"));
+}
+
+#[test]
 fn the_journal_says_why_nothing_was_selected() {
     const CONFIGURATION: &[u8] = b"1\n03 MT 4\n0\n2\n03\n11\n";
     let group = |id: &str, entries: &str| format!("{id},PTY,2,,P,,,M,P,A{},P,1.\n{id},FAC,{entries}.\n", &id[1..]);
@@ -205,5 +259,21 @@ fn the_night_of_the_readme_is_shown_and_looked_up() {
         ("22", "03/00 after call 22 (FAIL 03 13): held by C3 (place 0); no packet moves; interlock\n"),
     ] {
         assert_eq!(night(&["who", "03", "00", call], &place), due);
+    }
+    // A head that is given back is its job's until the block that moves there completes.
+    for (call, due) in [
+        ("25", "03/02 after call 25 (START 03): held by C3 (place 0); packet 2 moves (function 42)\n"),
+        (
+            "26",
+            "03/02 after call 26 (RETURN 0 03 02): held by C3 (place 0); packet 2 is stopping (function 42); being returned\n",
+        ),
+        (
+            "28",
+            "03/02 after call 28 (SELECT): held by C3 (place 0); packet 2 is stopping (function 42); being returned\n",
+        ),
+        ("30", "03/02 after call 30 (CUT 03): free\n"),
+        ("31", "03/02 after call 31 (SELECT): held by E5 (place 1); no packet moves\n"),
+    ] {
+        assert_eq!(night(&["who", "03", "02", call], &place), due);
     }
 }

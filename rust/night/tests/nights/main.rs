@@ -23,6 +23,9 @@ mod messages;
 #[path = "../../../compare/src/random.rs"]
 mod random;
 #[allow(dead_code)]
+#[path = "../../../compare/src/returns.rs"]
+mod returns;
+#[allow(dead_code)]
 #[path = "../../../compare/src/scripts.rs"]
 mod scripts;
 
