@@ -9,15 +9,18 @@ use mathlib.Core.Logic.{⊎-elim}
 use native.Mathlib.Nat.{eq-zero-or-pos}
 use native.Mathlib.Omega.{arith}
 use lib.Dec.{eqb, leb}
-use lib.ListN.{length, drop, take}
+use lib.ListN.{length, getD, drop, take}
 use lib.ListN.{take-append-drop}
 use lib.Seq.{take-append-add, drop-append-add}
-use Rattle.numbers.proofs.Tests.{by-bool}
+use borrow.Author.Tests.{leb-true}
+use Rattle.numbers.proofs.Tests.{by-bool, both, never}
+use Rattle.numbers.specs.declared.Refusal.{Refusal}
 use Rattle.numbers.specs.declared.Refusal.the-variants.{BadDeck}
 use Rattle.words.specs.Lines.{lineOf, lf, ontoLine}
+use Rattle.words.proofs.WordLaws.{same-equal}
 use Rattle.words.proofs.LineLaws.{NoLf, first-ended, no-line, first-line, line-split, line-clean}
 use Rattle.cards_fields.specs.Fields.{isPty}
-use Rattle.cards_fields.specs.Deck.{cardsOf, isTermination, terminated, before, size, deckEnd, groupsOf, firstGroup, groupSize}
+use Rattle.cards_fields.specs.Deck.{cardsOf, termination, isTermination, terminated, before, size, deckEnd, opens, ontoGroup, groupsOf, firstGroup, groupSize}
 use Rattle.cards_fields.specs.declared.DeckEnd.the-variants.{At, Refused}
 
 -- cards take no more bytes than the text has that they are read from
@@ -87,6 +90,41 @@ in-turn s c cs e =
 pub no-turn : (s : List ℕ) → cardsOf s ≡ [] → groupsOf (cardsOf s) ≡ []
 no-turn s e = rw e
 
+-- the first group is some of the cards, and has a byte at least
+first-size : (c : List ℕ) (cs : List (List ℕ)) → (1 ≤ size (firstGroup (c ∷ cs))) × (size (firstGroup (c ∷ cs)) ≤ size (c ∷ cs))
+first-size c [] = (omega arith, omega arith)
+first-size c (d ∷ ds) = by (opens (d ∷ ds)) (groupsOf (d ∷ ds)) (first-size d ds .1)
+  where
+    by : (b : Bool) (gs : List (List (List ℕ))) → size (getD gs 0 []) ≤ size (d ∷ ds) → (1 ≤ size (getD (ontoGroup c b gs) 0 [])) × (size (getD (ontoGroup c b gs) 0 []) ≤ length c + 1 + size (d ∷ ds))
+    by true gs h = (omega arith, omega arith)
+    by false [] h = (omega arith, omega arith)
+    by false (g ∷ gs) h = (omega arith, omega arith)
+
+-- a text without cards has no group; else its groups are the cards of its first bytes, and those of the rest
+pub record First (d : List ℕ) : Type 0 where
+  pub some : 1 ≤ groupSize d
+  pub within : groupSize d ≤ length d
+  pub sized : size (cardsOf (take (groupSize d) d)) ≡ groupSize d
+  pub next : groupsOf (cardsOf d) ≡ cardsOf (take (groupSize d) d) ∷ groupsOf (cardsOf (drop (groupSize d) d))
+
+first-of : (d c : List ℕ) (cs : List (List ℕ)) → cardsOf d ≡ c ∷ cs → First d
+first-of d c cs e =
+    let p : (1 ≤ size (firstGroup (cardsOf d))) × (size (firstGroup (cardsOf d)) ≤ size (cardsOf d)) =
+    subst (λ (l : List (List ℕ)). (1 ≤ size (firstGroup l)) × (size (firstGroup l) ≤ size l)) (sym e) (first-size c cs) in
+    let t = in-turn d c cs e in
+    record { some = p .0; within = omega (arith, p .1, size-cards d); sized = ap size (t .first); next = t .next }
+
+pub data Either (d : List ℕ) : Type 0 where
+  empty : groupsOf (cardsOf d) ≡ [] → groupSize d ≡ 0 → Either d
+  full : First d → Either d
+
+pub either : (d : List ℕ) → Either d
+either d = by (cardsOf d) refl
+  where
+    by : (cs : List (List ℕ)) → cardsOf d ≡ cs → Either d
+    by [] e = empty (rw e) (rw e)
+    by (c ∷ cs) e = full (first-of d c cs e)
+
 before-front : (cs : List (List ℕ)) → cs ≡ before cs ++ drop (length (before cs)) cs
 before-front [] = refl
 before-front (c ∷ cs) = test (isTermination c) (before-front cs)
@@ -95,15 +133,43 @@ before-front (c ∷ cs) = test (isTermination c) (before-front cs)
     test true ih = refl
     test false ih = ap (λ (l : List (List ℕ)). c ∷ l) ih
 
--- THE PART OF A DECK UP TO ITS TERMINATION CARD HAS THE CARDS BEFORE IT
-pub deck-cards : (s : List ℕ) (n : ℕ) → deckEnd s ≡ At n → cardsOf (take n s) ≡ before (cardsOf s)
+-- the termination card stands among the cards of a deck that has one
+size-before : (cs : List (List ℕ)) → terminated cs ≡ true → size (before cs) + 81 ≤ size cs
+size-before [] t = never t refl
+size-before (c ∷ cs) t = by (isTermination c) refl t (size-before cs)
+  where
+    by : (x : Bool) → isTermination c ≡ x → cond x true (terminated cs) ≡ true → (terminated cs ≡ true → size (before cs) + 81 ≤ size cs) → size (cond x [] (c ∷ before cs)) + 81 ≤ length c + 1 + size cs
+    by true e t h = let l : length c ≡ 80 = ap length (same-equal c termination e) in omega arith
+    by false e t h = omega (arith, h t)
+
+-- WHERE A DECK ENDS that is read
+pub record Ends (s : List ℕ) (n : ℕ) : Type 0 where
+  pub is : n ≡ size (before (cardsOf s))
+  pub within : n + 81 ≤ length s
+  pub most : length s ≤ 16384
+
+pub ends : (s : List ℕ) (n : ℕ) → deckEnd s ≡ At n → Ends s n
 unfolding deckEnd
-deck-cards s n e =
+ends s n e =
     by-bool (leb (length s) 16384 && terminated (cardsOf s))
     (λ t. let i : At (size (before (cardsOf s))) ≡ At n = rw t at e in
     let k : size (before (cardsOf s)) ≡ n = cc in
-    rw (← k) (cut (before (cardsOf s)) (drop (length (before (cardsOf s))) (cardsOf s)) s (before-front (cardsOf s)) .0))
+    let p = both (leb (length s) 16384) (terminated (cardsOf s)) t in
+    record { is = cc; within = omega (arith, size-before (cardsOf s) (p .1), size-cards s); most = leb-true (length s) 16384 (p .0) })
     (λ t. let i : Refused BadDeck ≡ At n = rw t at e in let z : _≡_ {A = ℕ} 0 1 = cc in absurd (omega arith))
+
+-- and one that is not has one refusal
+pub refused-bad : (s : List ℕ) (refusal : Refusal) → deckEnd s ≡ Refused refusal → refusal ≡ BadDeck
+unfolding deckEnd
+refused-bad s refusal e =
+    by-bool (leb (length s) 16384 && terminated (cardsOf s))
+    (λ t. let i : At (size (before (cardsOf s))) ≡ Refused refusal = rw t at e in let z : _≡_ {A = ℕ} 0 1 = cc in absurd (omega arith))
+    (λ t. let i : Refused BadDeck ≡ Refused refusal = rw t at e in cc)
+
+-- THE PART OF A DECK UP TO ITS TERMINATION CARD HAS THE CARDS BEFORE IT
+pub deck-cards : (s : List ℕ) (n : ℕ) → deckEnd s ≡ At n → cardsOf (take n s) ≡ before (cardsOf s)
+deck-cards s n e =
+    rw (ends s n e .is) (cut (before (cardsOf s)) (drop (length (before (cardsOf s))) (cardsOf s)) s (before-front (cardsOf s)) .0)
 
 -- THE CARDS BEHIND THE FIRST FEW
 pub behind-cards : (s : List ℕ) (k : ℕ) → cardsOf (drop (size (take k (cardsOf s))) s) ≡ drop k (cardsOf s)

@@ -56,6 +56,10 @@ abbrev pub groupsOf : List (List ℕ) → List (List (List ℕ))
 groupsOf [] = []
 groupsOf (c ∷ cs) = ontoGroup c (opens cs) (groupsOf cs)
 
+-- the groups of a deck: those of the cards before its termination card
+abbrev pub deckGroups : List ℕ → List (List (List ℕ))
+deckGroups s = groupsOf (before (cardsOf s))
+
 -- the first of the groups, none where there is no card
 abbrev pub firstGroup : List (List ℕ) → List (List ℕ)
 firstGroup cs = getD (groupsOf cs) 0 []

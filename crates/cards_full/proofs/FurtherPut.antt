@@ -14,7 +14,7 @@ use Rattle.numbers.specs.Quoted.{byte}
 use Rattle.text.specs.Room.{Written}
 use Rattle.text.proofs.RoomLaws.{Going, andThen, same-room, turn}
 use Rattle.words.specs.Words.{same}
-use Rattle.words.specs.Lines.{lineText}
+use Rattle.words.specs.Lines.{lineText, linesText}
 use Rattle.cards_fields.specs.Fields.{spaceless, fieldOf}
 use Rattle.cards_fields.specs.declared.Field.{Field}
 use Rattle.cards_fields.proofs.FieldLaws.{spaceless-short}
@@ -26,7 +26,7 @@ use Rattle.cards_fields.specs.Deck.{cardsOf}
 use Rattle.cards_request.specs.Errors.{good}
 use Rattle.cards_further.specs.Further.{canonicals, held}
 use Rattle.cards_writing.proofs.PutLaws.{put-whole}
-use Rattle.cards_full.specs.Full.{bare, behindId, furtherError, linesText, sameCards, short, takesFurther}
+use Rattle.cards_full.specs.Full.{bare, behindId, furtherError, sameCards, short, takesFurther}
 use Rattle.cards_full.proofs.WriteLaws.{texts-many}
 
 -- the cards that a value says it has

@@ -11,14 +11,14 @@ use Rattle.numbers.proofs.Tests.{both}
 use Rattle.numbers.specs.declared.Refusal.the-variants.{NoRoom, WrongRequest}
 use Rattle.text.specs.Room.{Written}
 use Rattle.text.proofs.RoomLaws.{andThen, fitted}
-use Rattle.words.specs.Lines.{lf, lineText}
+use Rattle.words.specs.Lines.{lf, lineText, linesText}
 use Rattle.cards_fields.specs.Fields.{spaceless}
 use Rattle.cards_request.specs.Requests.{texts, textsIn}
 use Rattle.cards_request.specs.declared.FurtherCard.{FurtherCard}
 use Rattle.cards_request.specs.declared.FullRequest.{FullRequest}
 use Rattle.cards_writing.specs.Writing.{ptyText, facText, takes}
 use Rattle.cards_writing.proofs.PutLaws.{put-reached, put-whole}
-use Rattle.cards_full.specs.Full.{cardCount, behindId, cardsIn, linesText, textOf, short, takesFull, takesFurther, fits, writeAnswer, written}
+use Rattle.cards_full.specs.Full.{cardCount, behindId, cardsIn, textOf, short, takesFull, takesFurther, fits, writeAnswer, written}
 use Rattle.cards_full.specs.declared.Wrote.the-variants.{Cards, Refused}
 
 -- cards of at most 80 characters, each with its LF

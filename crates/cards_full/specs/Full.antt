@@ -7,7 +7,7 @@ use lib.ListN.{length, drop}
 use Rattle.numbers.specs.Quoted.{byte}
 use Rattle.numbers.specs.declared.Refusal.the-variants.{NoRoom, WrongRequest}
 use Rattle.words.specs.Words.{same}
-use Rattle.words.specs.Lines.{lf, lineText}
+use Rattle.words.specs.Lines.{linesText}
 use Rattle.cards_fields.specs.Fields.{spaceless}
 use Rattle.cards_fields.specs.Deck.{cardsOf}
 use Rattle.cards_request.specs.Errors.{good, firstOf}
@@ -33,11 +33,6 @@ behindId id (t ∷ ts) = (id ++ (byte "," ∷ t)) ∷ behindId id ts
 -- THE CARDS OF A REQUEST, in order: "PTY, FAC, then further card i as card i was read"
 unfoldable pub cardsIn : FullRequest → List (List ℕ)
 cardsIn v = ptyText (cardCount v) (v .request) ∷ facText (v .request) ∷ behindId (spaceless (v .request .id)) (texts (v .further))
-
--- "Each ends with LF"
-abbrev pub linesText : List (List ℕ) → List ℕ
-linesText [] = []
-linesText (c ∷ cs) = lineText c ++ linesText cs
 
 -- THE TEXT OF A REQUEST: its cards, each with its LF
 abbrev pub textOf : FullRequest → List ℕ

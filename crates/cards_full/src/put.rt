@@ -7,11 +7,11 @@ ghost use Prim.Native.Nat.{ℕ, _+_, _≤_};
 ghost use mathlib.Core.List.{List, _∷_, _++_};
 ghost use lib.ListN.{length, take};
 ghost use Rattle.numbers.specs.Quoted.{byte};
-ghost use Rattle.words.specs.Lines.{lineText};
+ghost use Rattle.words.specs.Lines.{lineText, linesText};
 ghost use Rattle.text.specs.Room.{Written};
 ghost use Rattle.cards_fields.specs.Fields.{spaceless};
 ghost use Rattle.cards_request.specs.Requests.{texts};
-ghost use Rattle.cards_full.specs.Full.{behindId, linesText, short};
+ghost use Rattle.cards_full.specs.Full.{behindId, short};
 
 // Puts a card behind an ID: a comma, its text from the type on, and LF.
 fn put_card(room: &mut [u8], at: usize, id: &[u8], card: FurtherCard) -> usize

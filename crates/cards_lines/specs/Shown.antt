@@ -1,4 +1,4 @@
--- What the programs that read decks share: a deck's groups, the line of a card error, and that of a refused deck.
+-- What the deck and cards programs share: the line of a card error, and that of a refused deck.
 use Prim.Native.Nat.{ℕ}
 use mathlib.Core.Bool.{cond, _&&_}
 use mathlib.Core.List.{List, _++_}
@@ -7,13 +7,8 @@ use Rattle.numbers.specs.Refusals.{numberOf}
 use Rattle.numbers.specs.declared.Refusal.{Refusal}
 use Rattle.text.specs.Writing.{decimalText}
 use Rattle.cards_fields.specs.Fields.{field, isName, isPty, padded, spaceless}
-use Rattle.cards_fields.specs.Deck.{before, cardsOf, groupsOf}
 use Rattle.cards_request.specs.Errors.{errorNumber}
 use Rattle.cards_request.specs.declared.CardError.{CardError}
-
--- the groups of a deck: those of the cards before its termination card
-abbrev pub deckGroups : List ℕ → List (List (List ℕ))
-deckGroups s = groupsOf (before (cardsOf s))
 
 -- "An error line shows the group's PTY ID if well formed, else the last such before it": the ID shown from a group
 -- on, the first card its PTY card; an ID is well formed if it is a name

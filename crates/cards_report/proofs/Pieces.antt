@@ -1,7 +1,6 @@
 -- A piece put is the piece to come: the first group of what is left of a deck is taken in turn. Assumes nothing.
 use Prim.Native.Nat.{ℕ, zero, suc, _+_, _-_, _≤_}
 use mathlib.Core.Path.{_≡_, refl, sym, ap, subst, _∙_}
-use mathlib.Core.Bool.{Bool, true, false, cond}
 use mathlib.Core.List.{List, [], _∷_}
 use native.Mathlib.Omega.{arith}
 use lib.ListN.{length, getD, take, drop, length-take, length-drop, drop-of-length-le}
@@ -9,8 +8,8 @@ use lib.Seq.{length-take-le, take-all}
 use Rattle.numbers.specs.declared.Refusal.{Refusal}
 use Rattle.text.specs.Room.{Written, Whole}
 use Rattle.text.proofs.RoomLaws.{none, entire}
-use Rattle.cards_fields.specs.Deck.{cardsOf, size, opens, ontoGroup, groupsOf, firstGroup, groupSize, deckEnd}
-use Rattle.cards_fields.proofs.Groups.{size-cards, in-turn}
+use Rattle.cards_fields.specs.Deck.{cardsOf, size, groupsOf, groupSize, deckEnd}
+use Rattle.cards_fields.proofs.Groups.{First, Either, empty, full, either}
 use Rattle.cards_fields.specs.declared.DeckEnd.{DeckEnd}
 use Rattle.cards_fields.specs.declared.DeckEnd.the-variants as Ends
 use Rattle.cards_lines.specs.Shown.{shownBy, refusedText}
@@ -20,43 +19,6 @@ use Rattle.cards_report.proofs.Bounds.{text-short, refused-short}
 use Rattle.cards_report.specs.declared.Phase.{Phase}
 use Rattle.cards_report.specs.declared.Phase.the-variants.{Groups, Refused, Over}
 use Rattle.cards_report.specs.declared.Printing.{Printing}
-
--- ---- the first group of a text
-
--- the first group is some of the cards, and has a byte at least
-first-size : (c : List ℕ) (cs : List (List ℕ)) → (1 ≤ size (firstGroup (c ∷ cs))) × (size (firstGroup (c ∷ cs)) ≤ size (c ∷ cs))
-first-size c [] = (omega arith, omega arith)
-first-size c (d ∷ ds) = by (opens (d ∷ ds)) (groupsOf (d ∷ ds)) (first-size d ds .1)
-  where
-    by : (b : Bool) (gs : List (List (List ℕ))) → size (getD gs 0 []) ≤ size (d ∷ ds) → (1 ≤ size (getD (ontoGroup c b gs) 0 [])) × (size (getD (ontoGroup c b gs) 0 []) ≤ length c + 1 + size (d ∷ ds))
-    by true gs h = (omega arith, omega arith)
-    by false [] h = (omega arith, omega arith)
-    by false (g ∷ gs) h = (omega arith, omega arith)
-
--- a text without cards has no group; else its groups are the cards of its first bytes, and those of the rest
-pub record First (d : List ℕ) : Type 0 where
-  pub some : 1 ≤ groupSize d
-  pub within : groupSize d ≤ length d
-  pub sized : size (cardsOf (take (groupSize d) d)) ≡ groupSize d
-  pub next : groupsOf (cardsOf d) ≡ cardsOf (take (groupSize d) d) ∷ groupsOf (cardsOf (drop (groupSize d) d))
-
-first-of : (d c : List ℕ) (cs : List (List ℕ)) → cardsOf d ≡ c ∷ cs → First d
-first-of d c cs e =
-    let p : (1 ≤ size (firstGroup (cardsOf d))) × (size (firstGroup (cardsOf d)) ≤ size (cardsOf d)) =
-    subst (λ (l : List (List ℕ)). (1 ≤ size (firstGroup l)) × (size (firstGroup l) ≤ size l)) (sym e) (first-size c cs) in
-    let t = in-turn d c cs e in
-    record { some = p .0; within = omega (arith, p .1, size-cards d); sized = ap size (t .first); next = t .next }
-
-pub data Either (d : List ℕ) : Type 0 where
-  empty : groupsOf (cardsOf d) ≡ [] → groupSize d ≡ 0 → Either d
-  full : First d → Either d
-
-pub either : (d : List ℕ) → Either d
-either d = by (cardsOf d) refl
-  where
-    by : (cs : List (List ℕ)) → cardsOf d ≡ cs → Either d
-    by [] e = empty (rw e) (rw e)
-    by (c ∷ cs) e = full (first-of d c cs e)
 
 -- ---- what is left of a deck
 

@@ -8,13 +8,13 @@ use native.Mathlib.Omega.{arith}
 use lib.ListN.{length, getD, take, drop, length-take}
 use lib.Seq.{drop-drop}
 use Rattle.numbers.specs.Quoted.{bytes}
-use Rattle.cards_fields.specs.Deck.{cardsOf, size, opens, ontoGroup, groupsOf, groupSize, deckEnd}
-use Rattle.cards_fields.proofs.Groups.{size-cards, deck-cards}
+use Rattle.cards_fields.specs.Deck.{cardsOf, size, opens, ontoGroup, groupsOf, groupSize, deckEnd, deckGroups}
+use Rattle.cards_fields.proofs.Groups.{size-cards, deck-cards, Either, empty, full, either}
 use Rattle.cards_fields.specs.declared.DeckEnd.{DeckEnd}
 use Rattle.cards_fields.specs.declared.DeckEnd.the-variants as Ends
-use Rattle.cards_lines.specs.Shown.{shownBy, deckGroups, refusedText}
+use Rattle.cards_lines.specs.Shown.{shownBy, refusedText}
 use Rattle.cards_report.specs.Cards.{groupText, groupsText, endText, cardsBy, cardsText, beginBy, begin, left, pieceBy, over, nextBy, after, turns}
-use Rattle.cards_report.proofs.Pieces.{Either, empty, full, either, to}
+use Rattle.cards_report.proofs.Pieces.{to}
 use Rattle.cards_report.specs.declared.Phase.{Phase}
 use Rattle.cards_report.specs.declared.Phase.the-variants.{Groups, Refused, Over}
 use Rattle.cards_report.specs.declared.Printing.{Printing}

@@ -12,10 +12,10 @@ use Rattle.text.specs.Room.{Whole}
 use Rattle.text.specs.Writing.{decimalText}
 use Rattle.words.specs.Lines.{lineText, size}
 use Rattle.cards_fields.specs.Fields.{spaceless}
-use Rattle.cards_fields.specs.Deck.{cardsOf, deckEnd, groupsOf}
+use Rattle.cards_fields.specs.Deck.{cardsOf, deckEnd, groupsOf, deckGroups}
 use Rattle.cards_fields.specs.declared.DeckEnd.{DeckEnd}
 use Rattle.cards_fields.specs.declared.DeckEnd.the-variants as Ends
-use Rattle.cards_lines.specs.Shown.{shownBy, errorLine, refusedText, deckGroups}
+use Rattle.cards_lines.specs.Shown.{shownBy, errorLine, refusedText}
 use Rattle.cards_group.specs.Group.{readFull}
 use Rattle.cards_table.specs.Table.{place, tableSize}
 use Rattle.cards_full.specs.Full.{textOf, writeAnswer}

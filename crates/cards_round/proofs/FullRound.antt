@@ -24,7 +24,8 @@ use Rattle.cards_further.specs.Further.{canonicals, held}
 use Rattle.cards_group.specs.Group.{otherId, orderedError, requestOf, readCards, readFull}
 use Rattle.cards_group.proofs.GroupLaws.{frontError, orderError, in-steps}
 use Rattle.cards_writing.specs.Writing.{ptyFields, ptyText, facText, takes}
-use Rattle.cards_full.specs.Full.{cardCount, behindId, cardsIn, linesText, textOf, short, takesFurther, takesFull, fits, writeAnswer, written}
+use Rattle.words.specs.Lines.{linesText}
+use Rattle.cards_full.specs.Full.{cardCount, behindId, cardsIn, textOf, short, takesFurther, takesFull, fits, writeAnswer, written}
 use Rattle.cards_full.specs.declared.Wrote.the-variants.{Cards}
 use Rattle.cards_full.proofs.Round.{Taken, taken, at, pty-right, is-fac, fac-right, same-ids, count-is, request-back, pty-line, fac-line, id-plain}
 use Rattle.cards_full.proofs.WriteLaws.{behind-many}

@@ -12,7 +12,7 @@ use lib.ListN.{length}
 use borrow.Author.Tests.{leb-true}
 use Rattle.numbers.proofs.Tests.{by-bool, never, both}
 use Rattle.words.specs.Words.{every}
-use Rattle.words.specs.Lines.{lf}
+use Rattle.words.specs.Lines.{lf, linesText}
 use Rattle.words.proofs.WordLaws.{same-self}
 use Rattle.words.proofs.LineLaws.{NoLf, first-ended}
 use Rattle.cards_fields.specs.Deck.{cardsOf}
@@ -29,7 +29,7 @@ use Rattle.cards_pm.specs.Pm.{isPm, rising}
 use Rattle.cards_further.specs.Together.{any, apart}
 use Rattle.cards_further.specs.Further.{unknown, unnumbered, faulty, typesError, pmWrong, togetherError, contentError, contentsError, canonical, canonicals}
 use Rattle.cards_group.specs.Group.{otherId}
-use Rattle.cards_full.specs.Full.{behindId, linesText, short}
+use Rattle.cards_full.specs.Full.{behindId, short}
 use Rattle.cards_round.specs.AllowedFurther.{Card, tal, trn, pm, textIn, textsOf, Proper, AllProper, counts, Kept}
 use Rattle.cards_round.proofs.Meaning.{Stands, AllStand, counted, none-of, tals-as, trns-as, pms-as, rises-as, written-stands, written-content, written-id, written-line, Meant, meant}
 use Rattle.cards_fields.proofs.RoundLaws.{neither}

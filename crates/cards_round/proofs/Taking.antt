@@ -21,7 +21,8 @@ use Rattle.cards_request.specs.declared.FurtherCard.{FurtherCard}
 use Rattle.cards_request.specs.declared.Further.{Further}
 use Rattle.cards_request.specs.declared.Verdict.the-variants.{Good}
 use Rattle.cards_further.specs.Further.{typesError, togetherError, contentsError, canonicals, heldIn, held}
-use Rattle.cards_full.specs.Full.{behindId, linesText, short, furtherError, bare, sameCards, takesFurther}
+use Rattle.words.specs.Lines.{linesText}
+use Rattle.cards_full.specs.Full.{behindId, short, furtherError, bare, sameCards, takesFurther}
 use Rattle.cards_full.proofs.WriteLaws.{behind-many}
 use Rattle.cards_round.specs.AllowedFurther.{Card, textsOf, Kept, AllowedFurther}
 use Rattle.cards_round.proofs.FurtherRound.{AllLines, AllFew, AllRoom, cards-back, written-lines, written-types, written-together, written-content-all, written-again, FurtherMeant, further-meant}

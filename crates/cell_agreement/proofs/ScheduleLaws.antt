@@ -11,7 +11,7 @@ use borrow.Author.Tests.{eqb-true, eqb-false, ltb-true, ltb-false, lt-ltb, ne-eq
 use Rattle.packets.proofs.Laws.{eqb-self}
 use Rattle.numbers.specs.Quoted.{byte}
 use Rattle.numbers.proofs.Tests.{both, by-bool, never}
-use Rattle.cards_fields.specs.Deck.{deckEnd}
+use Rattle.cards_fields.specs.Deck.{deckEnd, deckGroups}
 use Rattle.cards_fields.specs.declared.DeckEnd.{DeckEnd}
 use Rattle.cards_fields.specs.declared.DeckEnd.the-variants.{At, Refused}
 use Rattle.cards_request.specs.Errors.{errorIf}
@@ -34,7 +34,6 @@ use Rattle.schedule.specs.Calls.{barred, clashError, closing, deleted, enterErr
 use Rattle.schedule.specs.ByIndex.{barredAt, deletedAt, ofJob, ofName, releasedAt, returnedAt}
 use Rattle.schedule.specs.declared.Changed.{Changed}
 use Rattle.schedule.proofs.ByIndexLaws.{barred-at, closing-at, deleted-at, released-at, returned-at}
-use Rattle.cards_lines.specs.Shown.{deckGroups}
 use Rattle.schedule_deck.specs.Report.{after, begin, deckSchedule, endFrom, scheduleBy, triedBy}
 use Rattle.schedule_deck.specs.declared.Progress.{Progress}
 use Rattle.cell_agreement.specs.Agreement.{statesIn}

@@ -3,23 +3,20 @@
 -- nothing.
 use Prim.Native.Nat.{ℕ, _+_, _*_, _≤_, _<_}
 use mathlib.Core.Path.{_≡_, refl, sym, ap, subst, _∙_}
-use mathlib.Core.Bool.{_&&_}
 use mathlib.Core.List.{List, [], _∷_, _++_}
 use native.Mathlib.Omega.{arith}
-use lib.Dec.{leb}
 use lib.ListN.{length, getD, drop, length-append, length-drop}
 use lib.Seq.{sets-eq}
-use Rattle.numbers.proofs.Tests.{by-bool}
 use Rattle.numbers.specs.Quoted.{bytes}
 use Rattle.numbers.specs.declared.Refusal.{Refusal}
-use Rattle.numbers.specs.declared.Refusal.the-variants.{BadDeck}
 use Rattle.text.specs.Room.{Written, Whole}
 use Rattle.text.proofs.RoomLaws.{entire}
 use Rattle.text.specs.Writing.{decimalText}
 use Rattle.text.proofs.Undo.{few-digits}
 use Rattle.cards_fields.specs.Fields.{field, spaceless}
 use Rattle.cards_fields.proofs.FieldLaws.{padded-length}
-use Rattle.cards_fields.specs.Deck.{cardsOf, before, terminated, size, deckEnd}
+use Rattle.cards_fields.specs.Deck.{deckEnd, deckGroups}
+use Rattle.cards_fields.proofs.Groups.{refused-bad}
 use Rattle.cards_fields.specs.declared.DeckEnd.{DeckEnd}
 use Rattle.cards_fields.specs.declared.DeckEnd.the-variants.{At, Refused}
 use Rattle.cards_fac.specs.Fac.{asked}
@@ -39,7 +36,7 @@ use Rattle.schedule_deck.proofs.DeckLaws.{sound-groups, each-groups}
 use Rattle.schedule_deck.specs.declared.Progress.{Progress}
 use Rattle.cards_fields.proofs.FieldLaws.{spaceless-short}
 use Rattle.cards_writing.proofs.PutLaws.{priority-short}
-use Rattle.cards_lines.specs.Shown.{deckGroups, refusedText}
+use Rattle.cards_lines.specs.Shown.{refusedText}
 use Rattle.cards_lines.proofs.ShownLaws.{error-short, shown-few}
 use Rattle.schedule_deck.proofs.Few.{deck-few}
 
@@ -122,13 +119,9 @@ report-short gs h =
     omega (arith, length-append (errorsFrom p gs) (closingText q), length-append (scheduleText (inSchedule (q .schedule))) (lastLine (q .last)), errors-short p gs (ids-begin (scheduleOf [])), lines-short (inSchedule (q .schedule)) short, few, last-short (q .last) (ids-end p gs (ids-begin (scheduleOf [])) .last))
 
 refused-short : (s : List ℕ) (refusal : Refusal) → deckEnd s ≡ Refused refusal → length (refusedText refusal) ≤ deckRoom
-unfolding deckEnd
 refused-short s refusal e =
-    by-bool (leb (length s) 16384 && terminated (cardsOf s))
-    (λ t. let i : At (size (before (cardsOf s))) ≡ Refused refusal = rw t at e in let z : _≡_ {A = ℕ} 0 1 = cc in absurd (omega arith))
-    (λ t. let i : Refused BadDeck ≡ Refused refusal = rw t at e in
-    let k : BadDeck ≡ refusal = cc in
-    subst (λ (x : Refusal). length (refusedText x) ≤ deckRoom) k (omega (arith, length-append (decimalText 11) (bytes "\n"), few-digits 1 11 (omega arith))))
+    subst (λ (x : Refusal). length (refusedText x) ≤ deckRoom) (sym (refused-bad s refusal e))
+    (omega (arith, length-append (decimalText 11) (bytes "\n"), few-digits 1 11 (omega arith)))
 
 text-short : (s : List ℕ) → length (deckText s) ≤ deckRoom
 text-short s = by (deckEnd s) refl

@@ -5,7 +5,7 @@
 use Prim.Native.Nat.{ℕ}
 use mathlib.Core.Path.{_≡_, refl}
 use mathlib.Core.List.{List, [], _∷_}
-use Rattle.cards_fields.specs.Deck.{deckEnd}
+use Rattle.cards_fields.specs.Deck.{deckEnd, deckGroups}
 use Rattle.cards_fields.specs.declared.DeckEnd.{DeckEnd}
 use Rattle.cards_fields.specs.declared.DeckEnd.the-variants.{At, Refused}
 use Rattle.cards_group.specs.Group.{readGroup}
@@ -16,7 +16,6 @@ use Rattle.schedule_list.specs.InSchedule.{inSchedule}
 use Rattle.schedule_list.specs.declared.Schedule.{Schedule}
 use Rattle.schedule_orderly.specs.Orderly.{Each, requests, Sound}
 use Rattle.schedule_orderly.proofs.Reachable.{sound-enter, each-enter}
-use Rattle.cards_lines.specs.Shown.{deckGroups}
 use Rattle.schedule_deck.specs.Report.{begin, triedBy, after, endFrom, scheduleBy, deckSchedule}
 use Rattle.schedule_deck.specs.declared.Progress.{Progress}
 

@@ -1,23 +1,20 @@
--- Where a deck ends, and how many groups it has: 3,261 at most, since each but the first is opened by a card of four
--- bytes at least and its LF, and 81 bytes are the termination card's. Assumes nothing.
+-- How many groups a deck has: 3,261 at most, since each but the first is opened by a card of four bytes at least and
+-- its LF, and 81 bytes are the termination card's. Assumes nothing.
 use Prim.Native.Nat.{ℕ, suc, _+_, _-_, _*_, _≤_}
-use mathlib.Core.Path.{_≡_, refl, ap}
-use mathlib.Core.Bool.{Bool, true, false, cond, _&&_}
+use mathlib.Core.Path.{_≡_, ap}
+use mathlib.Core.Bool.{Bool, true, false, cond}
 use mathlib.Core.List.{List, [], _∷_}
 use native.Mathlib.Omega.{arith}
-use lib.Dec.{eqb, leb}
+use lib.Dec.{eqb}
 use lib.ListN.{length, getD}
-use borrow.Author.Tests.{leb-true}
-use Rattle.numbers.proofs.Tests.{by-bool, never, both}
+use Rattle.numbers.proofs.Tests.{by-bool}
 use Rattle.numbers.specs.Quoted.{bytes}
-use Rattle.numbers.specs.declared.Refusal.the-variants.{BadDeck}
 use Rattle.cards_fields.specs.Fields.{upToPeriod, spaceless, onto, split, fields, field, isPty}
-use Rattle.cards_fields.specs.Deck.{cardsOf, termination, isTermination, before, terminated, size, ontoGroup, groupsOf, deckEnd}
+use Rattle.cards_fields.specs.Deck.{cardsOf, before, size, ontoGroup, groupsOf, deckEnd, deckGroups}
+use Rattle.cards_fields.proofs.Groups.{ends}
 use Rattle.cards_fields.proofs.FieldLaws.{spaceless-short}
-use Rattle.cards_fields.proofs.Groups.{size-cards}
-use Rattle.cards_fields.specs.declared.DeckEnd.the-variants.{At, Refused}
+use Rattle.cards_fields.specs.declared.DeckEnd.the-variants.{At}
 use Rattle.words.proofs.WordLaws.{same-equal}
-use Rattle.cards_lines.specs.Shown.{deckGroups}
 
 -- A CARD THAT OPENS A GROUP has a comma and three letters at least
 first-field : (t : List ℕ) → length (getD (split t) 0 []) ≤ length t
@@ -73,30 +70,6 @@ groups-few (c ∷ cs) = omega (arith, few c cs, five (isPty c))
     five true = omega arith
     five false = omega arith
 
--- the termination card stands among the cards of a deck that has one
-size-before : (cs : List (List ℕ)) → terminated cs ≡ true → size (before cs) + 81 ≤ size cs
-size-before [] t = never t refl
-size-before (c ∷ cs) t = by (isTermination c) refl t (size-before cs)
-  where
-    by : (x : Bool) → isTermination c ≡ x → cond x true (terminated cs) ≡ true → (terminated cs ≡ true → size (before cs) + 81 ≤ size cs) → size (cond x [] (c ∷ before cs)) + 81 ≤ length c + 1 + size cs
-    by true e t h = let l : length c ≡ 80 = ap length (same-equal c termination e) in omega arith
-    by false e t h = omega (arith, h t)
-
--- WHERE A DECK ENDS
-pub record Ends (s : List ℕ) (n : ℕ) : Type 0 where
-  pub is : n ≡ size (before (cardsOf s))
-  pub within : n + 81 ≤ length s
-  pub most : length s ≤ 16384
-
-pub ends : (s : List ℕ) (n : ℕ) → deckEnd s ≡ At n → Ends s n
-unfolding deckEnd
-ends s n e =
-    by-bool (leb (length s) 16384 && terminated (cardsOf s))
-    (λ t. let i : At (size (before (cardsOf s))) ≡ At n = rw t at e in
-    let k : size (before (cardsOf s)) ≡ n = cc in
-    let p = both (leb (length s) 16384) (terminated (cardsOf s)) t in
-    record { is = cc; within = omega (arith, size-before (cardsOf s) (p .1), size-cards s); most = leb-true (length s) 16384 (p .0) })
-    (λ t. let i : Refused BadDeck ≡ At n = rw t at e in let z : _≡_ {A = ℕ} 0 1 = cc in absurd (omega arith))
-
+-- HOW MANY GROUPS A DECK HAS that is read
 pub deck-few : (s : List ℕ) (n : ℕ) → deckEnd s ≡ At n → length (deckGroups s) ≤ 3261
 deck-few s n e = let z = ends s n e in omega (arith, groups-few (before (cardsOf s)))

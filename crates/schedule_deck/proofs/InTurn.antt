@@ -2,18 +2,15 @@
 -- groups. Then the lines of the schedule, and one group's answer. Assumes nothing.
 use Prim.Native.Nat.{ℕ, _+_, _-_, _≤_, _<_}
 use mathlib.Core.Path.{_≡_, refl, sym, ap, subst, _∙_}
-use mathlib.Core.Bool.{Bool, true, false}
 use mathlib.Core.List.{List, [], _∷_, _++_}
-use mathlib.Core.Logic.{⊎-elim}
-use native.Mathlib.Nat.{eq-zero-or-pos}
 use native.Mathlib.Omega.{arith}
-use lib.ListN.{length, getD, take, drop, length-take, length-drop, drop-of-length-le}
+use lib.ListN.{length, take, drop, length-take, length-drop, drop-of-length-le}
 use lib.Seq.{drop-drop, length-take-le}
 use Rattle.text.specs.Room.{Written, Whole}
 use Rattle.text.proofs.RoomLaws.{Going, start, turn, end, none, andThen, entire}
 use Rattle.cards_fields.proofs.FieldLaws.{rest-is}
-use Rattle.cards_fields.specs.Deck.{cardsOf, size, opens, ontoGroup, groupsOf, groupSize, deckEnd}
-use Rattle.cards_fields.proofs.Groups.{in-turn, deck-cards}
+use Rattle.cards_fields.specs.Deck.{cardsOf, groupsOf, groupSize, deckEnd, deckGroups}
+use Rattle.cards_fields.proofs.Groups.{Either, empty, full, either, ends, deck-cards}
 use Rattle.cards_fields.specs.declared.DeckEnd.{DeckEnd}
 use Rattle.cards_fields.specs.declared.DeckEnd.the-variants.{At, Refused}
 use Rattle.schedule_list.specs.InSchedule.{inSchedule, scheduleOf}
@@ -22,9 +19,8 @@ use Rattle.schedule_outline.specs.Outlines.{Outlines}
 use Rattle.schedule_outline.specs.declared.Outline.{Outline}
 use Rattle.numbers.specs.declared.Refusal.{Refusal}
 use Rattle.numbers.specs.declared.Outcome.the-variants as Outcomes
-use Rattle.cards_lines.specs.Shown.{deckGroups, refusedText}
+use Rattle.cards_lines.specs.Shown.{refusedText}
 use Rattle.schedule_deck.specs.Report.{scheduleText, begin, errorsFrom, endFrom, lastLine, closingText, reportText, deckText, textBy, notesText, notesBy, scheduleBy, outcomeBy}
-use Rattle.schedule_deck.proofs.Few.{ends}
 use Rattle.schedule_deck.proofs.Pieces.{Read}
 use Rattle.schedule_deck.proofs.Bounds.{deckRoom, noted-whole}
 use Rattle.schedule_deck.specs.Reading.{ReadAll, Noted, DeckEntered}
@@ -32,40 +28,21 @@ use Rattle.schedule_deck.specs.declared.Progress.{Progress}
 use Rattle.schedule_deck.specs.declared.Step.{Step}
 use Rattle.schedule_deck.specs.declared.Entered.{Entered}
 
--- a card's group has a byte at least
-first-pos : (c : List ℕ) (b : Bool) (gs : List (List (List ℕ))) → 1 ≤ size (getD (ontoGroup c b gs) 0 [])
-first-pos c true gs = omega arith
-first-pos c false [] = omega arith
-first-pos c false (g ∷ gs) = omega arith
-
-no-cards : (d : List ℕ) → length (take (groupSize d) d) ≡ 0 → cardsOf d ≡ []
-no-cards d h = by (cardsOf d) refl
+-- what the code found: no group where it has no byte, else the first group, and the others are those of the rest
+no-groups : (d : List ℕ) → length (take (groupSize d) d) ≡ 0 → groupsOf (cardsOf d) ≡ []
+no-groups d h = by (either d)
   where
-    by : (cs : List (List ℕ)) → cardsOf d ≡ cs → cardsOf d ≡ []
-    by [] e = e
-    by (c ∷ cs) e =
-        let p : 1 ≤ groupSize d = rw e (first-pos c (opens cs) (groupsOf cs)) in
-        let l : length d ≡ 0 = omega (arith, length-take (groupSize d) d) in
-        none d l
-      where
-        none : (d : List ℕ) → length d ≡ 0 → cardsOf d ≡ []
-        none [] l = refl
-        none (b ∷ d) l = absurd (omega arith)
-
-drop-part : (n : ℕ) (l : List ℕ) → drop (length (take n l)) l ≡ drop n l
-drop-part n l =
-    ⊎-elim
-    (λ z. let e : length (take n l) ≡ n = omega (arith, length-take n l) in ap (λ (k : ℕ). drop k l) e)
-    (λ p. drop-of-length-le l {i = length (take n l)} (omega (arith, length-take n l)) ∙ sym (drop-of-length-le l {i = n} (omega arith)))
-    (eq-zero-or-pos (n - length l))
+    by : Either d → groupsOf (cardsOf d) ≡ []
+    by (empty e z) = e
+    by (full f) = absurd (omega (arith, f .some, f .within, length-take (groupSize d) d))
 
 next-group : (d : List ℕ) → (length (take (groupSize d) d) ≡ 0 → ⊥)
     → groupsOf (cardsOf d) ≡ cardsOf (take (groupSize d) d) ∷ groupsOf (cardsOf (drop (length (take (groupSize d) d)) d))
-next-group d n = rw (drop-part (groupSize d) d) (by (cardsOf d) refl)
+next-group d n = by (either d)
   where
-    by : (cs : List (List ℕ)) → cardsOf d ≡ cs → groupsOf (cardsOf d) ≡ cardsOf (take (groupSize d) d) ∷ groupsOf (cardsOf (drop (groupSize d) d))
-    by [] e = absurd (n (rw e))
-    by (c ∷ cs) e = in-turn d c cs e .next
+    by : Either d → groupsOf (cardsOf d) ≡ cardsOf (take (groupSize d) d) ∷ groupsOf (cardsOf (drop (length (take (groupSize d) d)) d))
+    by (empty e z) = absurd (n (rw z))
+    by (full f) = rw (length-take-le (groupSize d) d (f .within)) (f .next)
 
 pub record AtGroups (part room : List ℕ) (first : Progress) (out : List ℕ) (p : Progress) (at from : ℕ) : Type 0 where
   pub within : from ≤ length part
@@ -91,7 +68,7 @@ module _ {part room out : List ℕ} {first p : Progress} {at from : ℕ} (w : At
     group-is = is ∙ ap (λ (l : List ℕ). take (groupSize l) l) (rest-is part from)
 
     pub groups-over : length g ≡ 0 → {r : Step} → r ≡ record { at = at; progress = p } → ReadAll room first (groupsOf (cardsOf part)) out r
-    groups-over h = all-read (rw (no-cards (drop from part) (ap length (sym group-is) ∙ h)))
+    groups-over h = all-read (no-groups (drop from part) (ap length (sym group-is) ∙ h))
 
     pub group-within : from < length part → from + length g ≤ length part
     group-within h = omega (arith, ap length group-is, length-take (groupSize (drop from part)) (drop from part), length-drop from part)

@@ -6,10 +6,10 @@ use Rattle.numbers.specs.Quoted.{bytes}
 use Rattle.numbers.specs.declared.Outcome.{Outcome}
 use Rattle.numbers.specs.declared.Outcome.the-variants as Outcomes
 use Rattle.cards_fields.specs.Fields.{spaceless}
-use Rattle.cards_fields.specs.Deck.{deckEnd}
+use Rattle.cards_fields.specs.Deck.{deckEnd, deckGroups}
 use Rattle.cards_fields.specs.declared.DeckEnd.{DeckEnd}
 use Rattle.cards_fields.specs.declared.DeckEnd.the-variants.{At, Refused}
-use Rattle.cards_lines.specs.Shown.{shownBy, errorLine, refusedText, deckGroups}
+use Rattle.cards_lines.specs.Shown.{shownBy, errorLine, refusedText}
 use Rattle.cards_group.specs.Group.{readGroup}
 use Rattle.cards_request.specs.declared.Verdict.{Verdict}
 use Rattle.cards_request.specs.declared.Verdict.the-variants.{Good, Wrong}

@@ -17,7 +17,7 @@ sets-sets s at (x ∷ p) q =
     ap (λ (k : ℕ). sets (sets (set s at x) (suc at) p) k q) e ∙ sets-sets (set s at x) (suc at) p q
 
 -- past the end nothing is stored
-sets-out : (s : List ℕ) (at : ℕ) (p : List ℕ) → length s ≤ at → sets s at p ≡ s
+pub sets-out : (s : List ℕ) (at : ℕ) (p : List ℕ) → length s ≤ at → sets s at p ≡ s
 sets-out s at [] h = refl
 sets-out s at (x ∷ p) h = rw (set-out s at x h) (sets-out s (suc at) p (omega arith))
 

@@ -1,17 +1,17 @@
 -- The lines of a text: without an LF it has none; with one it is its first line, the LF and what follows, whose
 -- lines are the others. Assumes nothing.
-use Prim.Native.Nat.{ℕ, suc, _≤_, _<_}
-use mathlib.Core.Path.{_≡_, refl, ap}
+use Prim.Native.Nat.{ℕ, suc, _+_, _≤_, _<_}
+use mathlib.Core.Path.{_≡_, refl, ap, _∙_}
 use mathlib.Core.Bool.{Bool, true, false, cond, not}
-use mathlib.Core.List.{List, [], _∷_, _++_}
+use mathlib.Core.List.{List, [], _∷_, _++_, append-assoc}
 use native.Mathlib.Nat.{le-of-suc-le-suc}
 use native.Mathlib.Omega.{arith}
 use lib.Dec.{eqb, ltb}
-use lib.ListN.{length, drop}
+use lib.ListN.{length, take, drop}
 use borrow.Author.Tests.{eqb-true, eqb-false, ne-eqb, not-true, ltb-true, ltb-false}
 use Rattle.numbers.proofs.Tests.{by-bool, both}
 use Rattle.words.specs.Words.{every, isnt}
-use Rattle.words.specs.Lines.{lf, lineOf, ontoLine, linesOf}
+use Rattle.words.specs.Lines.{lf, lineOf, ontoLine, linesOf, linesText, size}
 
 -- no LF in a text
 abbrev pub NoLf : List ℕ → Type 0
@@ -76,3 +76,36 @@ line-clean (b ∷ s) = test (eqb b 10) refl (line-clean s)
     test : (x : Bool) → eqb b 10 ≡ x → NoLf (lineOf s) → NoLf (cond (not x) (b ∷ lineOf s) [])
     test true e n = tt
     test false e n = (eqb-false b 10 e, n)
+
+-- LINES AS THEY STAND IN THEIR TEXT are its first bytes
+pub lines-text : (s : List ℕ) → linesText (linesOf s) ≡ take (size (linesOf s)) s
+lines-text [] = refl
+lines-text (b ∷ s) = by-bool (eqb b 10) (λ e. ended e (eqb-true b 10 e) (lines-text s)) (λ e. rw e (onto (linesOf s) (lines-text s)))
+  where
+    ended : eqb b 10 ≡ true → b ≡ 10 → linesText (linesOf s) ≡ take (size (linesOf s)) s → linesText (linesOf (b ∷ s)) ≡ take (size (linesOf (b ∷ s))) (b ∷ s)
+    ended e i h =
+        let k : 0 + 1 + size (linesOf s) ≡ suc (size (linesOf s)) = omega arith in
+        rw (e, k, i) (ap (λ (t : List ℕ). 10 ∷ t) h)
+
+    onto : (ls : List (List ℕ)) → linesText ls ≡ take (size ls) s → linesText (ontoLine b ls) ≡ take (size (ontoLine b ls)) (b ∷ s)
+    onto [] h = refl
+    onto (l ∷ ls) h = let k : suc (length l) + 1 + size ls ≡ suc (length l + 1 + size ls) = omega arith in rw k (ap (λ (t : List ℕ). b ∷ t) h)
+
+-- lines without LF in them, as those of a text are, are the lines of what they stand as
+abbrev pub Clean : List (List ℕ) → Type 0
+Clean [] = Unit {0}
+Clean (l ∷ ls) = NoLf l × Clean ls
+
+pub lines-clean : (s : List ℕ) → Clean (linesOf s)
+lines-clean [] = tt
+lines-clean (b ∷ s) = test (eqb b 10) refl (linesOf s) (lines-clean s)
+  where
+    test : (x : Bool) → eqb b 10 ≡ x → (ls : List (List ℕ)) → Clean ls → Clean (cond x ([] ∷ ls) (ontoLine b ls))
+    test true e ls c = (tt, c)
+    test false e [] c = tt
+    test false e (l ∷ ls) c = ((eqb-false b 10 e, c .0), c .1)
+
+pub lines-again : (ls : List (List ℕ)) → Clean ls → linesOf (linesText ls) ≡ ls
+lines-again [] c = refl
+lines-again (l ∷ ls) c =
+    ap linesOf (append-assoc l (lf ∷ []) (linesText ls)) ∙ first-ended l (linesText ls) (c .0) ∙ ap (λ (t : List (List ℕ)). l ∷ t) (lines-again ls (c .1))

@@ -28,6 +28,11 @@ linesOf (b ∷ s) = cond (eqb b lf) ([] ∷ linesOf s) (ontoLine b (linesOf s))
 abbrev pub lineText : List ℕ → List ℕ
 lineText line = line ++ (lf ∷ [])
 
+-- lines as they stand in a text, one behind the other, each with its LF
+abbrev pub linesText : List (List ℕ) → List ℕ
+linesText [] = []
+linesText (l ∷ ls) = lineText l ++ linesText ls
+
 -- how many bytes lines take, each with its LF
 abbrev pub size : List (List ℕ) → ℕ
 size [] = 0

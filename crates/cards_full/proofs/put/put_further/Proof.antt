@@ -10,7 +10,8 @@ use Rattle.text.proofs.RoomLaws.{same-room, Going, end}
 use Rattle.cards_fields.specs.Fields.{spaceless}
 use Rattle.cards_request.specs.Requests.{textsIn}
 use Rattle.cards_further.proofs.Fourteen.{fourteen}
-use Rattle.cards_full.specs.Full.{behindId, linesText}
+use Rattle.words.specs.Lines.{linesText}
+use Rattle.cards_full.specs.Full.{behindId}
 use Rattle.cards_full.proofs.FurtherPut.{within-cards, the-texts, lines-turn, lines-end}
 use borrow.Author.Needs.{needs}
 use Rattle.cards_full.proofs.put.put_further.Statement.{statement}
