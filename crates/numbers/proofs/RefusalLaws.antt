@@ -24,6 +24,7 @@ use Rattle.numbers.specs.declared.Refusal.the-variants.{
   NoCandidates,
   NoAssignment,
   BeingReturned,
+  NoGroup,
 }
 
 pub two-digits : (refusal : Refusal) → numberOf refusal < 100
@@ -47,3 +48,4 @@ two-digits NoPlaceFree = omega arith
 two-digits NoCandidates = omega arith
 two-digits NoAssignment = omega arith
 two-digits BeingReturned = omega arith
+two-digits NoGroup = omega arith

@@ -22,6 +22,7 @@ use Rattle.numbers.specs.declared.Refusal.the-variants.{
   NoCandidates,
   NoAssignment,
   BeingReturned,
+  NoGroup,
 }
 
 abbrev pub numberOf : Refusal → ℕ
@@ -65,3 +66,5 @@ numberOf NoCandidates = 19
 numberOf NoAssignment = 20
 -- submission to a unit being returned, and a second return of it (02, request 5)
 numberOf BeingReturned = 21
+-- no group with that ID in either deck (02, request 6)
+numberOf NoGroup = 22

@@ -49,6 +49,7 @@ pub enum Refusal {
     NoCandidates,
     NoAssignment,
     BeingReturned,
+    NoGroup,
 }
 
 // How a call that answers nothing else ends: it was done, or refused.
@@ -144,5 +145,6 @@ pub fn number_of(refusal: Refusal) -> u8
         Refusal::NoCandidates => 19,
         Refusal::NoAssignment => 20,
         Refusal::BeingReturned => 21,
+        Refusal::NoGroup => 22,
     }
 }
