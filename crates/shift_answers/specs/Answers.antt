@@ -2,8 +2,6 @@
 use mathlib.Core.List.{List, _++_}
 use Prim.Native.Nat.{ℕ}
 use Rattle.numbers.specs.Quoted.{bytes}
-use Rattle.numbers.specs.Refusals.{numberOf}
-use Rattle.numbers.specs.declared.Refusal.{Refusal}
 use Rattle.text.specs.Writing.{decimalText, octalText}
 use Rattle.packets.specs.declared.Begun.{Begun}
 use Rattle.packets.specs.declared.Site.{Site}
@@ -11,14 +9,6 @@ use Rattle.packets.specs.declared.Site.the-variants.{AtAddress, AtUnit}
 use Rattle.packets.specs.declared.Status.{Status}
 use Rattle.packets.specs.declared.Status.the-variants.{Blank, Listed, InProgress, Stopping, Ended}
 use Rattle.shift_pieces.specs.Pieces.{packetText}
-
--- `NO n`, n the refusal's number
-abbrev pub noText : Refusal → List ℕ
-noText refusal = bytes "NO " ++ decimalText (numberOf refusal)
-
--- a refused call: that, and nothing else
-abbrev pub refusedText : Refusal → List ℕ
-refusedText refusal = noText refusal ++ bytes "\n"
 
 -- a call that answers nothing else: `ACK`
 abbrev pub doneText : List ℕ

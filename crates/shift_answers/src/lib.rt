@@ -1,29 +1,12 @@
 // What a call answers, as one line of text in lent room.
 
-use numbers::Refusal;
 use packets::Begun;
 use packets::Site;
 use packets::Status;
 ghost use mathlib.Core.Path.{_≡_};
 ghost use Rattle.text.specs.Room.{Written};
-ghost use Rattle.shift_answers.specs.Answers.{noText, refusedText, doneText, numberAt, startedText, completedText};
+ghost use Rattle.shift_answers.specs.Answers.{doneText, numberAt, startedText, completedText};
 ghost use Rattle.shift_answers.specs.Answers.{statusWord, statusText, noCallText};
-
-// The number of a refusal, behind its word.
-pub fn put_no(out: &mut [u8], at: usize, refusal: Refusal) -> usize
-    ensures { λ r. ⌜ Written (now (out .entry)) at (noText refusal) (now (out .exit)) r ⌝ }
-{
-    let word = text::put_bytes(out, at, b"NO ");
-    text::put_decimal(out, word, numbers::number_of(refusal) as u64)
-}
-
-// A refused call.
-pub fn put_refused(out: &mut [u8], at: usize, refusal: Refusal) -> usize
-    ensures { λ r. ⌜ Written (now (out .entry)) at (refusedText refusal) (now (out .exit)) r ⌝ }
-{
-    let number = put_no(out, at, refusal);
-    text::put_byte(out, number, b'\n')
-}
 
 // A call that answers nothing else.
 pub fn put_done(out: &mut [u8], at: usize) -> usize

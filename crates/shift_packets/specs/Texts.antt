@@ -12,7 +12,8 @@ use Rattle.packets.specs.declared.Spot.{Spot}
 use Rattle.packets.specs.declared.Spot.the-variants.{OnUnit, OnDrum}
 use Rattle.lists.specs.declared.StatusAnswer.{StatusAnswer}
 use Rattle.lists.specs.declared.StatusAnswer.the-variants as Status′
-use Rattle.shift_answers.specs.Answers.{refusedText, doneText, startedText, completedText, statusText}
+use Rattle.shift_pieces.specs.Pieces.{noLine}
+use Rattle.shift_answers.specs.Answers.{doneText, startedText, completedText, statusText}
 use Rattle.shift_script.specs.declared.Submission.{Submission}
 
 -- the line of an answer
@@ -21,12 +22,12 @@ answerText Answer′.Done = doneText
 answerText (Answer′.Started begun) = startedText begun
 answerText (Answer′.Completed place packet leaving) = completedText place packet
 answerText (Answer′.Closed leaving) = doneText
-answerText (Answer′.Refused refusal) = refusedText refusal
+answerText (Answer′.Refused refusal) = noLine refusal
 
 -- "`STATUS p k`: a packet's status"
 abbrev pub statusAnswerText : StatusAnswer → List ℕ
 statusAnswerText (Status′.Is status) = statusText status
-statusAnswerText (Status′.Refused refusal) = refusedText refusal
+statusAnswerText (Status′.Refused refusal) = noLine refusal
 
 -- "x the unit, or on the drum channel the address, or for 23 there L, with h as H"; a unit number over 255 is out of
 -- range as 255 is

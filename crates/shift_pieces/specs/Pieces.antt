@@ -1,9 +1,11 @@
--- The pieces of text that the answers and the board share, and texts that are made of a piece for each of some
--- numbers or things.
+-- The pieces of text that the answers and the board share, the line `NO n`, which the desk program prints too, and texts
+-- that are made of a piece for each of some numbers or things.
 use Prim.Native.Nat.{ℕ, zero, suc, _+_, _-_}
 use mathlib.Core.Bool.{Bool, cond}
 use mathlib.Core.List.{List, [], _∷_, _++_}
 use Rattle.numbers.specs.Quoted.{bytes}
+use Rattle.numbers.specs.Refusals.{numberOf}
+use Rattle.numbers.specs.declared.Refusal.{Refusal}
 use Rattle.text.specs.Writing.{twoText, decimalText}
 
 -- `cc/uu`: a unit by its channel and its number there
@@ -21,6 +23,14 @@ lastOf first count = first + (count - 1)
 -- `a-b`: the first and the last of `count` numbers from `first` on
 abbrev pub spanText : ℕ → ℕ → List ℕ
 spanText first count = decimalText first ++ (bytes "-" ++ decimalText (lastOf first count))
+
+-- `NO n`, n the refusal's number
+abbrev pub noText : Refusal → List ℕ
+noText refusal = bytes "NO " ++ decimalText (numberOf refusal)
+
+-- the line of a refused call: that, and nothing else
+abbrev pub noLine : Refusal → List ℕ
+noLine refusal = noText refusal ++ bytes "\n"
 
 -- a word that is printed where it holds
 abbrev pub wordText : Bool → List ℕ → List ℕ

@@ -1,10 +1,13 @@
-// Pieces of text that the answers and the board of the shift program share.
+// Pieces of text that the answers and the board of the shift program share, and the line of a refused call, which the
+// desk program prints too.
 use numbers::ChannelNumber;
+use numbers::Refusal;
 use numbers::UnitNumber;
 ghost use mathlib.Core.Path.{_≡_};
 ghost use Rattle.text.specs.Room.{Written};
 ghost use Rattle.text.specs.Writing.{octalText};
 ghost use Rattle.shift_pieces.specs.Pieces.{unitText, packetText, lastOf, spanText, wordText};
+ghost use Rattle.shift_pieces.specs.Pieces.{noText, noLine};
 
 // Puts a number as two octal digits.
 pub fn put_octal(room: &mut [u8], at: usize, n: u8) -> usize
@@ -59,4 +62,20 @@ pub fn put_word(room: &mut [u8], at: usize, holds: bool, word: &[u8]) -> usize
         return text::put_bytes(room, at, word);
     }
     at
+}
+
+// The number of a refusal, behind its word.
+pub fn put_no(out: &mut [u8], at: usize, refusal: Refusal) -> usize
+    ensures { λ r. ⌜ Written (now (out .entry)) at (noText refusal) (now (out .exit)) r ⌝ }
+{
+    let word = text::put_bytes(out, at, b"NO ");
+    text::put_decimal(out, word, numbers::number_of(refusal) as u64)
+}
+
+// A refused call.
+pub fn put_refused(out: &mut [u8], at: usize, refusal: Refusal) -> usize
+    ensures { λ r. ⌜ Written (now (out .entry)) at (noLine refusal) (now (out .exit)) r ⌝ }
+{
+    let number = put_no(out, at, refusal);
+    text::put_byte(out, number, b'\n')
 }

@@ -20,7 +20,8 @@ use Rattle.cell.specs.declared.Answered.{Answered}
 use Rattle.cell.specs.declared.Cell.{Cell}
 use Rattle.cell.specs.declared.Heeded.{Heeded}
 use Rattle.cell.specs.declared.SelectAnswer.{SelectAnswer}
-use Rattle.shift_answers.specs.Answers.{noText, refusedText, noCallText}
+use Rattle.shift_pieces.specs.Pieces.{noText, noLine}
+use Rattle.shift_answers.specs.Answers.{noCallText}
 use Rattle.shift_packets.specs.Texts.{answerText, statusAnswerText, submission}
 use Rattle.shift_selected.specs.Selected.{selectedText, partText}
 use Rattle.board.specs.Board.{boardText}
@@ -35,7 +36,7 @@ use Rattle.shift_reply.specs.declared.Replied.{Replied}
 -- `NO n` for a refused call, nothing else
 abbrev pub refusalText : Outcome → List ℕ
 refusalText Outcome′.Done = []
-refusalText (Outcome′.Refused refusal) = refusedText refusal
+refusalText (Outcome′.Refused refusal) = noLine refusal
 
 -- what stands behind the number where nothing is selected: nothing in "`NO 18`: no place is free" and "`NO 19`: a place
 -- is free, but there is no candidate"; the first candidate's ID and the first part that is lacking for it in

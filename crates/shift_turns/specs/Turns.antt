@@ -16,7 +16,7 @@ use Rattle.shift_opening.specs.declared.Opening.{Opening}
 use Rattle.shift_deck.specs.Gathering.{Adds}
 use Rattle.shift_deck.specs.declared.Gathered.{Gathered}
 use Rattle.shift_deck.specs.declared.Gathered.the-variants as Gathered′
-use Rattle.shift_answers.specs.Answers.{refusedText}
+use Rattle.shift_pieces.specs.Pieces.{noLine}
 use Rattle.cell.specs.Calls.{freshCell}
 use Rattle.cell.specs.declared.Cell.{Cell}
 use Rattle.shift_script.specs.Script.{lineSays}
@@ -95,7 +95,7 @@ pub record Talks (cell : Cell) (line out after : List ℕ) (t : Turn) : Type 0 w
 -- a card of a deck that is too long: "the answer is `NO 11`; .. reading goes on after the termination card, wherever
 -- that comes"
 abbrev pub PassSays : Bool → Cell → List ℕ → List ℕ → Turn → Type 0
-PassSays true cell out after t = Says (refusedText BadDeck) (shiftOf Phase′.Talks cell) out after t
+PassSays true cell out after t = Says (noLine BadDeck) (shiftOf Phase′.Talks cell) out after t
 PassSays false cell out after t = Says [] (shiftOf Phase′.Passes cell) out after t
 
 -- a deck that is complete: it is entered
@@ -128,8 +128,8 @@ Turns Phase′.Over cell line room room′ out after t = (room′ ≡ room) × S
 abbrev pub endText : Phase → List ℕ
 endText (Phase′.Begins kept) = []
 endText Phase′.Talks = []
-endText (Phase′.Gathers kept) = refusedText BadDeck
-endText Phase′.Passes = refusedText BadDeck
+endText (Phase′.Gathers kept) = noLine BadDeck
+endText Phase′.Passes = noLine BadDeck
 endText Phase′.Over = []
 
 -- "a last line without LF is taken as if it had one"; no line where nothing is left
