@@ -1,0 +1,102 @@
+-- WHAT A CALL LEAVES AND ANSWERS, by whether the line's LF has come and by what the line belongs to; and what the end of
+-- the input answers. Assumes nothing.
+use Prim.Native.Nat.{ℕ, _+_, _-_, _≤_, _<_}
+use mathlib.Core.Path.{_≡_, refl, sym, ap, subst, _∙_}
+use mathlib.Core.Bool.{Bool, true, false, cond}
+use mathlib.Core.List.{List, []}
+use native.Mathlib.Omega.{arith}
+use lib.ListN.{length, take, drop}
+use borrow.Author.Tests.{eq-eqb, ne-eqb}
+use Rattle.numbers.specs.declared.Refusal.the-variants.{BadDeck}
+use Rattle.text.specs.Room.{Written, Whole}
+use Rattle.words.specs.Lines.{lineText}
+use Rattle.cards_fields.specs.Deck.{isTermination}
+use Rattle.shift_lines.specs.Lines.{TakesUp}
+use Rattle.shift_lines.specs.declared.Cut.{Cut}
+use Rattle.shift_lines.proofs.LineLaws.{taken-within as lines-within}
+use Rattle.shift_pieces.specs.Pieces.{noLine}
+use Rattle.desk_hearing.specs.Printing.{Says}
+use Rattle.desk_hearing.specs.Hearing.{deskOf, Standing, standing, lineIn, repairIn, dayIn, Turns, TurnsIf, Heard, Answered, EndsIf, Ends, Ended}
+use Rattle.desk_hearing.specs.declared.Phase.{Phase}
+use Rattle.desk_hearing.specs.declared.Phase.the-variants.{GathersRepair, GathersDay, Asks}
+use Rattle.desk_hearing.specs.declared.Desk.{Desk}
+use Rattle.desk_hearing.proofs.AnswerLaws.{nothing-put, refused-put}
+
+-- an answer goes by the bytes of the ID and of the decks
+pub answered-for : {id id′ repair repair′ day day′ out after· : List ℕ} {at : ℕ} → id ≡ id′ → repair ≡ repair′ → day ≡ day′
+    → Answered id repair day out after· at → Answered id′ repair′ day′ out after· at
+answered-for {id} {id′} {repair} {repair′} {day} {day′} {out} {after·} {at} i r d w =
+    subst (λ (x : List ℕ). Answered x repair′ day′ out after· at) i
+    (subst (λ (x : List ℕ). Answered id x day′ out after· at) r (subst (λ (x : List ℕ). Answered id repair x out after· at) d w))
+
+-- ---- one call
+module _ (s : Standing) {piece line′ : List ℕ} {cut : Cut} (k : TakesUp (s .line) (s .desk .line) piece line′ cut) where
+  heard : {t : Standing} {text out after· : List ℕ} {at : ℕ} → TakesUp (s .line) (s .desk .line) piece (t .line) cut
+      → (b : Bool) → cut .whole ≡ b → TurnsIf b (cut .kept) s t text → Whole text out after· at → Heard s piece t (cut .taken) out after· at
+  heard {t} {text} j b e turns put = record {
+    text = text;
+    hears = record { cut = cut; takes = j; took = refl; turns = subst (λ (x : Bool). TurnsIf x (cut .kept) s t text) (sym e) turns };
+    put = put;
+  }
+
+  pub waits : cut .whole ≡ false → {d : Desk} → d ≡ deskOf (s .desk .phase) (s .desk .repair) (s .desk .day) (cut .kept) → (out : List ℕ)
+      → Heard s piece (standing d line′ (s .repair) (s .day)) (cut .taken) out out 0
+  waits f {d} e out = heard {t = standing d line′ (s .repair) (s .day)} k false f (e, refl, refl, refl) (nothing-put out)
+
+  module _ (w : cut .whole ≡ true) {card : List ℕ} (c : card ≡ take (cut .kept) line′) where
+    whole : {t : Standing} {text out after· : List ℕ} {at : ℕ} → TakesUp (s .line) (s .desk .line) piece (t .line) cut → t .line ≡ line′ → (phase : Phase)
+        → s .desk .phase ≡ phase → Turns phase card s t text → t .desk .line ≡ 0 → Whole text out after· at → Heard s piece t (cut .taken) out after· at
+    whole {t} {text} j l phase e turns z put =
+        heard {t = t} j true w (
+          subst (λ (p : Phase). Turns p (take (cut .kept) (t .line)) s t text) (sym e)
+              (subst (λ (x : List ℕ). Turns phase x s t text) (c ∙ ap (take (cut .kept)) (sym l)) turns),
+          z,
+        ) put
+
+    pub of-repair : s .desk .phase ≡ GathersRepair → {room : List ℕ} {n : ℕ} → Written (s .repair) (s .desk .repair) (lineText card) room n
+        → {p : Phase} → p ≡ cond (isTermination card) GathersDay GathersRepair → {d : Desk} → d ≡ deskOf p n (s .desk .day) 0 → (out : List ℕ)
+        → Heard s piece (standing d line′ room (s .day)) (cut .taken) out out 0
+    of-repair e {room} {n} put {p} next {d} is out =
+        subst (λ (x : Desk). Heard s piece (standing x line′ room (s .day)) (cut .taken) out out 0) (sym is)
+        (whole {t = standing (deskOf p n (s .desk .day) 0) line′ room (s .day)} k refl GathersRepair e (put, next, (refl, refl), refl) refl (nothing-put out))
+
+    pub of-day : s .desk .phase ≡ GathersDay → {room : List ℕ} {n : ℕ} → Written (s .day) (s .desk .day) (lineText card) room n
+        → {p : Phase} → p ≡ cond (isTermination card) Asks GathersDay → {d : Desk} → d ≡ deskOf p (s .desk .repair) n 0 → (out : List ℕ)
+        → Heard s piece (standing d line′ (s .repair) room) (cut .taken) out out 0
+    of-day e {room} {n} put {p} next {d} is out =
+        subst (λ (x : Desk). Heard s piece (standing x line′ (s .repair) room) (cut .taken) out out 0) (sym is)
+        (whole {t = standing (deskOf p (s .desk .repair) n 0) line′ (s .repair) room} k refl GathersDay e (put, next, (refl, refl), refl) refl (nothing-put out))
+
+    pub of-asks : s .desk .phase ≡ Asks → {out after· : List ℕ} {at : ℕ} → Answered card (repairIn s) (dayIn s) out after· at
+        → {d : Desk} → d ≡ deskOf Asks (s .desk .repair) (s .desk .day) 0
+        → Heard s piece (standing d line′ (s .repair) (s .day)) (cut .taken) out after· at
+    of-asks e {out} {after·} {at} a {d} is =
+        subst (λ (x : Desk). Heard s piece (standing x line′ (s .repair) (s .day)) (cut .taken) out after· at) (sym is)
+        (whole {t = standing (deskOf Asks (s .desk .repair) (s .desk .day) 0) line′ (s .repair) (s .day)} k refl Asks e
+        (a .says, refl, (refl, refl), (refl, refl)) refl (a .put))
+
+-- ---- the end of the input
+module _ (s : Standing) where
+  ended : {text out after· : List ℕ} {at : ℕ} → (phase : Phase) → s .desk .phase ≡ phase → Ends phase s text → Whole text out after· at → Ended s out after· at
+  ended {text} phase e w put = record { text = text; ends = subst (λ (p : Phase). Ends p s text) (sym e) w; put = put }
+
+  module _ {out after· : List ℕ} {at : ℕ} (l : length out ≡ 16396) (put : Written out 0 (noLine BadDeck) after· at) where
+    pub no-repair : s .desk .phase ≡ GathersRepair → Ended s out after· at
+    no-repair e = ended GathersRepair e refl (refused-put l put)
+
+    pub no-day : s .desk .phase ≡ GathersDay → Ended s out after· at
+    no-day e = ended GathersDay e refl (refused-put l put)
+
+  pub no-line : s .desk .phase ≡ Asks → s .desk .line ≡ 0 → (out : List ℕ) → Ended s out out 0
+  no-line e z out = ended Asks e (subst (λ (b : Bool). EndsIf b s []) (sym (eq-eqb (s .desk .line) 0 z)) refl) (nothing-put out)
+
+  pub last-line : s .desk .phase ≡ Asks → (s .desk .line ≡ 0 → ⊥) → {out after· : List ℕ} {at : ℕ} → Answered (lineIn s) (repairIn s) (dayIn s) out after· at
+      → Ended s out after· at
+  last-line e n a = ended Asks e (subst (λ (b : Bool). EndsIf b s (a .text)) (sym (ne-eqb (s .desk .line) 0 n)) (a .says)) (a .put)
+
+-- ---- what is left of a piece grows shorter
+pub taken-within : {s t : Standing} {out after· : List ℕ} {taken end : ℕ} (piece : List ℕ) (at : ℕ) → at < length piece
+    → Heard s (take (length piece - at) (drop at piece)) t taken out after· end → (at + taken ≤ length piece) × (0 < taken)
+taken-within {taken = taken} piece at h w =
+    let q = lines-within piece at h (w .hears .takes) in
+    (omega (arith, q .0, w .hears .took), omega (arith, q .1, w .hears .took))
