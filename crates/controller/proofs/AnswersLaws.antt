@@ -1,5 +1,5 @@
 -- What the definitions of Answers mean: 0 is the answer for a configuration and for nothing else, any other number is
--- that of the first bad or missing line, and `Placed` leaves one outcome. Assumes nothing.
+-- that of the first bad or missing line, and `Placed` and `Located` leave one outcome. Assumes nothing.
 use Prim.Native.Nat.{ℕ, _≤_}
 use mathlib.Core.Path.{_≡_, refl, sym, ap, subst, _∙_}
 use mathlib.Core.Bool.{Bool, true, false}
@@ -15,7 +15,11 @@ use Rattle.configuration_form.specs.Form.{InForm, FirstBad}
 use Rattle.configuration_form.specs.Means.{Said}
 use Rattle.configuration_form.proofs.Meaning.{meaning}
 use Rattle.configuration_form.proofs.Unique.{read-back, first-named}
-use Rattle.controller.specs.Answers.{badLineOf, Placed}
+use Rattle.desk_show.specs.Showing.{partOf, Shows}
+use Rattle.desk_show.specs.declared.Extent.{Extent}
+use Rattle.desk_show.specs.declared.Which.{Which}
+use Rattle.desk_show.proofs.Unique.{shows-one}
+use Rattle.controller.specs.Answers.{badLineOf, Placed, refusalOf, deckOr, putOr, Located}
 
 -- one answer of the reader has one line
 same-line : {a b : Answer} → a ≡ b → badLineOf (a .verdict) ≡ badLineOf (b .verdict)
@@ -77,3 +81,29 @@ placed-one {taken} {ib} {db} {a = a} {b = b} {x = x} {y = y} true true p q =
 placed-one {a = a} {b = b} true false p q = absurd (q .none refl .0 a b (p .found refl .0))
 placed-one {x = x} {y = y} false true p q = absurd (p .none refl .0 x y (q .found refl .0))
 placed-one false false p q = (refl, p .none refl .1 ∙ sym (q .none refl .1), p .none refl .2 ∙ sym (q .none refl .2))
+
+-- ---- two decks
+module _ {id repair day : List ℕ} {deck from length deck′ from′ length′ r : ℕ} where
+  -- what is put, by the deck that has the group
+  pub located : (found : Extent) → Shows id repair day found (partOf found repair day) → (w : Which) → found .which ≡ w → r ≡ refusalOf w
+      → deck′ ≡ deckOr deck w → from′ ≡ putOr from (found .from) w → length′ ≡ putOr length (found .len) w
+      → Located id repair day deck from length deck′ from′ length′ r
+  located found s w e n d a b = record {
+    found = found;
+    shows = s;
+    number = n ∙ ap refusalOf (sym e);
+    which = d ∙ ap (deckOr deck) (sym e);
+    start = a ∙ ap (putOr from (found .from)) (sym e);
+    long = b ∙ ap (putOr length (found .len)) (sym e);
+  }
+
+  -- and `Located` leaves one outcome
+  pub located-one : {deck″ from″ length″ q : ℕ} → Located id repair day deck from length deck′ from′ length′ r → Located id repair day deck from length deck″ from″ length″ q
+      → (r ≡ q) × (deck′ ≡ deck″) × (from′ ≡ from″) × (length′ ≡ length″)
+  located-one v w =
+      let f : v .found ≡ w .found = shows-one (v .shows) (w .shows) .0 in (
+        v .number ∙ ap (λ (x : Extent). refusalOf (x .which)) f ∙ sym (w .number),
+        v .which ∙ ap (λ (x : Extent). deckOr deck (x .which)) f ∙ sym (w .which),
+        v .start ∙ ap (λ (x : Extent). putOr from (x .from) (x .which)) f ∙ sym (w .start),
+        v .long ∙ ap (λ (x : Extent). putOr length (x .len) (x .which)) f ∙ sym (w .long),
+      )

@@ -3,13 +3,14 @@
 // no contract can ask of a caller in another language is in docs/LINKING.md.
 use assign_core::Found;
 use configuration::Verdict;
+use desk_show::Which;
 use numbers::Coded;
 ghost use mathlib.Core.Path.{_≡_};
 ghost use Rattle.configuration_listing.specs.Listing.{Listed};
 ghost use Rattle.schedule_deck.specs.Reading.{Reported};
 ghost use Rattle.numbers.specs.Kinds.{kindOf};
 ghost use Rattle.configuration.specs.Configured.{configurationOf};
-ghost use Rattle.controller.specs.Answers.{badLineOf, legalBy, Placed};
+ghost use Rattle.controller.specs.Answers.{badLineOf, legalBy, Placed, Located};
 
 // Puts the listing of a configuration into lent room and answers its length. 96 bytes are enough; a smaller room gets
 // what fits.
@@ -75,5 +76,38 @@ pub extern "C" fn luffgravel_core(taken: u32, ib: u32, db: u32, i: &mut u32, j: 
             true
         }
         Found::Nothing => false,
+    }
+}
+
+// Which of two decks has the first group of an ID, put into deck, 1 the repair deck and 2 the day's, and where its cards
+// stand there, put into from and length; or the refusal, 11 or 22, and all three are kept.
+#[no_mangle]
+pub extern "C" fn luffgravel_desk(
+    id: &[u8],
+    repair: &[u8],
+    day: &[u8],
+    deck: &mut u8,
+    from: &mut usize,
+    length: &mut usize,
+) -> u8
+    ensures { λ r. ⌜ Located (now (id .entry)) (now (repair .entry)) (now (day .entry))
+        (now (deck .entry)) (now (from .entry)) (now (length .entry)) (now (deck .exit)) (now (from .exit)) (now (length .exit)) r ⌝ }
+{
+    let found = desk_show::find(id, repair, day);
+    let which = found.which;
+    match which {
+        Which::Repair => {
+            *deck = 1;
+            *from = found.from;
+            *length = found.len;
+            0
+        }
+        Which::Day => {
+            *deck = 2;
+            *from = found.from;
+            *length = found.len;
+            0
+        }
+        Which::Refused(refusal) => numbers::number_of(refusal),
     }
 }

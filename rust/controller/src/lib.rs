@@ -17,6 +17,17 @@ mod exported {
     extern "C" {
         pub fn luffgravel_listing(config: *const u8, length: usize, out: *mut u8, room: usize) -> usize;
         pub fn luffgravel_deck(deck: *const u8, length: usize, out: *mut [u8; super::DECK_ROOM]) -> usize;
+        pub fn luffgravel_desk(
+            id: *const u8,
+            id_length: usize,
+            repair: *const u8,
+            repair_length: usize,
+            day: *const u8,
+            day_length: usize,
+            deck: *mut u8,
+            from: *mut usize,
+            length: *mut usize,
+        ) -> u8;
         pub fn luffgravel_bad_line(config: *const u8, length: usize) -> usize;
         pub fn luffgravel_is_legal(first: u8, second: u8, function: u8) -> bool;
         pub fn luffgravel_core(taken: u32, ib: u32, db: u32, i: *mut u32, j: *mut u32) -> bool;
@@ -43,6 +54,47 @@ pub fn listing<'a>(config: &[u8], room: &'a mut [u8; LISTING_ROOM]) -> &'a [u8] 
 pub fn deck<'a>(deck: &[u8], room: &'a mut [u8; DECK_ROOM]) -> &'a [u8] {
     let length = unsafe { exported::luffgravel_deck(deck.as_ptr(), deck.len(), room) };
     &room[..length]
+}
+
+/// The deck that has a request's cards.
+#[derive(Clone, Copy, Debug, PartialEq, Eq)]
+pub enum Deck {
+    Repair,
+    Day,
+}
+
+/// A request's own cards in the deck that has them.
+#[derive(Clone, Copy, Debug, PartialEq, Eq)]
+pub struct Shown<'a> {
+    pub deck: Deck,
+    /// The byte of that deck where they begin.
+    pub from: usize,
+    /// The cards themselves, the last one's LF included: that part of the deck, not a copy.
+    pub cards: &'a [u8],
+}
+
+/// The cards of the first group with that ID, from the repair deck if it has one, else from the day's deck; or the
+/// refusal, 11 for a bad deck, whichever it is, and 22 if there is no such group.
+pub fn desk<'a>(id: &[u8], repair: &'a [u8], day: &'a [u8]) -> Result<Shown<'a>, u8> {
+    let (mut deck, mut from, mut length) = (0, 0, 0);
+    let refusal = unsafe {
+        exported::luffgravel_desk(
+            id.as_ptr(),
+            id.len(),
+            repair.as_ptr(),
+            repair.len(),
+            day.as_ptr(),
+            day.len(),
+            &mut deck,
+            &mut from,
+            &mut length,
+        )
+    };
+    match (refusal, deck) {
+        (0, 1) => Ok(Shown { deck: Deck::Repair, from, cards: &repair[from..][..length] }),
+        (0, _) => Ok(Shown { deck: Deck::Day, from, cards: &day[from..][..length] }),
+        _ => Err(refusal),
+    }
 }
 
 /// The first bad or missing line of a text, counted from 1; none if the text is a configuration.

@@ -5,10 +5,11 @@ use std::fs;
 use std::num::NonZeroUsize;
 use std::path::{Path, PathBuf};
 
-use controller::{Starts, DECK_ROOM, LISTING_ROOM};
+use controller::{Deck, Shown, Starts, DECK_ROOM, LISTING_ROOM};
 use ordinary::assign::{assign, Free};
 use ordinary::card::{Code, Entry, Request};
 use ordinary::configuration::Configuration;
+use ordinary::deck::is_termination;
 use ordinary::numbers::{Kind, LogicalChannel};
 
 /// The public cases of a program: each input, and what is to be answered.
@@ -72,6 +73,60 @@ fn deck() {
         // Every byte behind the report is kept.
         assert!(room[output.len()..] == before[output.len()..], "{}", path.display());
     }
+}
+
+/// Both decks of an input of the desk program, as far as they are there, and what follows them.
+fn desk_input(input: &[u8]) -> (&[u8], &[u8], &[u8]) {
+    let deck_of = |text: &[u8]| {
+        let mut end = 0;
+        for line in text.split_inclusive(|&byte| byte == b'\n') {
+            end += line.len();
+            if line.strip_suffix(b"\n").is_some_and(is_termination) {
+                break;
+            }
+        }
+        end
+    };
+    let (repair, rest) = input.split_at(deck_of(input));
+    let (day, rest) = rest.split_at(deck_of(rest));
+    (repair, day, rest)
+}
+
+/// What `ordinary` shows, in the words of the linked function.
+fn ordinary_shown<'a>(id: &[u8], repair: &'a [u8], day: &'a [u8]) -> Result<Shown<'a>, u8> {
+    use ordinary::desk::{show, Shown as Ordinary};
+    let (deck, part, text) = match show(id, repair, day).map_err(|refusal| refusal.number())? {
+        Ordinary::Repair(part) => (Deck::Repair, part, repair),
+        Ordinary::Day(part) => (Deck::Day, part, day),
+    };
+    Ok(Shown { deck, from: part.from, cards: part.of(text) })
+}
+
+#[test]
+fn desk() {
+    let mut answers = [0; 4];
+    for (path, input, _) in cases("cases_desk", 89) {
+        let (repair, day, lines) = desk_input(&input);
+        // What follows the termination card of a deck is handed over too, now and then too much.
+        for (repair, day) in [(repair, day), (day, repair), (&input[..], day), (day, &input[..]), (lines, day)] {
+            for id in lines.split(|&byte| byte == b'\n').take(20).chain([&b"A1"[..], b"B7", b"", b"no ID"]) {
+                let shown = controller::desk(id, repair, day);
+                assert_eq!(shown, ordinary_shown(id, repair, day), "{} {id:?}", path.display());
+                // It is a part of the deck that was lent, and no copy.
+                if let Ok(Shown { deck, from, cards }) = shown {
+                    let lent = if deck == Deck::Repair { repair } else { day };
+                    assert_eq!(cards.as_ptr(), lent[from..].as_ptr());
+                }
+                answers[match shown {
+                    Ok(Shown { deck: Deck::Repair, .. }) => 0,
+                    Ok(Shown { deck: Deck::Day, .. }) => 1,
+                    Err(11) => 2,
+                    Err(_) => 3,
+                }] += 1;
+            }
+        }
+    }
+    assert!(answers.into_iter().min() > Some(50), "{answers:?}");
 }
 
 #[test]

@@ -59,6 +59,9 @@ fn c_has_the_same_answers() {
             path.display()
         );
     }
+    for (path, input) in inputs("cases_desk") {
+        assert!(answer(&program, &["desk"], &input) == ordinary::desk::converse(&input), "{}", path.display());
+    }
     for (words, expected) in [
         (&["legal", "MT", "47"][..], "legal\n"),
         (&["legal", "MA", "47"], "not legal\n"),
