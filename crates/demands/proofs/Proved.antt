@@ -25,6 +25,9 @@ use Rattle.cards_round.proofs.FullRound.{room-read}
 use Rattle.cards_round.proofs.HeldLaws.{held-once}
 use Rattle.cards_round.proofs.Order.{same-request}
 use Rattle.cards_round.proofs.TableRound.{table-place, table-size}
+use Rattle.desk_show.proofs.Own.{bad-if, bad-then, day-cards, day-if, day-then, empty-if, empty-then, no-id, nobody-if, nobody-then, repair-cards, repair-if, repair-then}
+use Rattle.desk_show.proofs.Unique.{tied}
+use Rattle.desk_hearing.proofs.Program.{program}
 use Rattle.units.specs.State.{unitIn}
 use Rattle.packets.specs.Codes.{statusAfter}
 use Rattle.packets.proofs.CodesProof.{codes}
@@ -99,6 +102,16 @@ demand-1 =
       section = listed-exactly;
       pieces = λ deck h. all-printed deck 65537 (omega arith) .whole;
       printed = listed-bad;
+      desk = λ id repair day part r w. record {
+        bad = (bad-if id repair day w, bad-then id repair day w);
+        ofRepair = (repair-if id repair day w, repair-then id repair day w);
+        ofDay = (day-if id repair day w, day-then id repair day w);
+        noId = no-id id repair day w;
+        nobody = (nobody-if id repair day w, nobody-then id repair day w);
+        empty = (empty-if id repair day w, empty-then id repair day w);
+      };
+      tied = λ id repair day part r v w. tied v w;
+      deskPrints = program;
     }
 
 -- ---- demand 2
@@ -166,6 +179,8 @@ demand-2 =
       rows = table-size;
       wrote = allowed-written;
       same = same-request;
+      ownRepair = λ id repair day part r w. repair-cards id repair day w;
+      ownDay = λ id repair day part r w. day-cards id repair day w;
       entered = entered-so;
       noted = λ c deck room after r h. h .deck .text;
       selected = selected-of;

@@ -15,7 +15,7 @@ use Rattle.numbers.specs.declared.ChannelNumber.{ChannelNumber}
 use Rattle.numbers.specs.declared.Outcome.{Outcome}
 use Rattle.numbers.specs.declared.Outcome.the-variants.{Done, Refused}
 use Rattle.numbers.specs.declared.Refusal.{Refusal}
-use Rattle.numbers.specs.declared.Refusal.the-variants.{NoAssignment, NoCandidates, NoPlaceFree, NoRoom, WrongRequest}
+use Rattle.numbers.specs.declared.Refusal.the-variants.{BadDeck, NoAssignment, NoCandidates, NoGroup, NoPlaceFree, NoRoom, WrongRequest}
 use Rattle.text.specs.Class.{isAlnum}
 use Rattle.words.specs.Words.{every}
 use Rattle.line_words.specs.Forms.{IsWord, idOf}
@@ -37,8 +37,8 @@ use Rattle.configuration_form.specs.Form.{FirstBad, InForm, listsCode}
 use Rattle.configuration_form.specs.Means.{Means}
 use Rattle.configuration_units.specs.Fresh.{freshUnits}
 use Rattle.configuration_listing.specs.Listing.{Listed, assignableUnits, errorText, linesFrom}
-use Rattle.cards_fields.specs.Deck.{cardsOf}
-use Rattle.cards_fields.specs.Fields.{fields, malformed, spaceless}
+use Rattle.cards_fields.specs.Deck.{cardsOf, deckGroups}
+use Rattle.cards_fields.specs.Fields.{fields, isName, malformed, spaceless}
 use Rattle.cards_fac.specs.Fac.{entriesOf}
 use Rattle.cards_further.specs.Further.{canonicals, held}
 use Rattle.cards_group.specs.Group.{orderedError, readFull, readGroup}
@@ -51,6 +51,11 @@ use Rattle.cards_round.specs.Allowed.{Name}
 use Rattle.cards_round.specs.AllowedFurther.{AllowedFull, Card, Kept, sheetAt, sheetRows, textsOf}
 use Rattle.cards_round.specs.NoLonger.{NoLonger}
 use Rattle.cards_round.specs.Permuted.{Permuted}
+use Rattle.desk_show.specs.Showing.{FirstOf, IsBad, IsRead, NoneHas, Shows, partOf, Shown as Shown′}
+use Rattle.desk_show.specs.declared.Extent.{Extent}
+use Rattle.desk_show.specs.declared.Which.the-variants as Which′
+use Rattle.desk_hearing.specs.Hearing as Desk
+use Rattle.desk_hearing.specs.Printing.{Prints}
 use Rattle.schedule_entries.specs.Entries.{isNamed, keyOf, precedes}
 use Rattle.schedule_list.specs.InSchedule.{entryAt, find, inSchedule}
 use Rattle.schedule.specs.Calls as Schedule
@@ -120,6 +125,27 @@ use Rattle.packets_given.specs.Given.{OnItsOwn, StillOwn, asking, noHeads, taki
 use Rattle.cards_full.specs.declared.Wrote.the-variants as Wrote′
 use Rattle.packets.specs.Rules as Rules
 
+-- a fact holds exactly when another does
+abbrev pub Exactly : Type 0 → Type 0 → Type 0
+Exactly A B = (A → B) × (B → A)
+
+-- for an ID and two decks on the desk: each of the four answers exactly when its sentence holds
+pub record ShownSo (id repair day : List ℕ) (r : Extent) (part : List ℕ) : Type 0 where
+  -- "11 first": exactly where a deck is refused, whatever the other one has,
+  pub bad : Exactly (r .which ≡ Which′.Refused BadDeck) (IsBad repair ⊎ IsBad day)
+  -- else "from the repair deck if they are there",
+  pub ofRepair : Exactly (r .which ≡ Which′.Repair) ((IsRead repair × IsRead day) × (NoneHas id (deckGroups repair) → ⊥))
+  -- "else from the day's deck",
+  pub ofDay : Exactly (r .which ≡ Which′.Day)
+      ((IsRead repair × IsRead day) × (NoneHas id (deckGroups repair) × (NoneHas id (deckGroups day) → ⊥)))
+  -- and "22 no group with that ID in either deck":
+  pub nobody : Exactly (r .which ≡ Which′.Refused NoGroup)
+      ((IsRead repair × IsRead day) × (NoneHas id (deckGroups repair) × NoneHas id (deckGroups day)))
+  -- "An id that isn't 1-6 of A-Z and 0-9 has none";
+  pub noId : isName id ≡ false → IsRead repair × IsRead day → r .which ≡ Which′.Refused NoGroup
+  -- and no card is shown exactly where there is a refusal
+  pub empty : Exactly (part ≡ []) ((n : Refusal) × (r .which ≡ Which′.Refused n))
+
 -- "1. Every card, deck, configuration and call is answered, whatever is in it. Bad input gets document 01's number,
 -- and after a refused call everything stands, byte for byte, as before." That each is answered is what the check
 -- says of the public functions: none has a condition on its input, and each ends.
@@ -170,6 +196,15 @@ pub record Demand1 : Type 0 where
   -- and the second program prints that line
   pub printed : (s room after : List ℕ) (r line : ℕ) → FirstBad s line → Listed s room after r → 96 ≤ length room
       → take r after ≡ errorText line
+  -- Of two decks on the desk and any ID a part of one of them is shown, or a refusal answers, each exactly when its
+  -- sentence holds,
+  pub desk : (id repair day part : List ℕ) (r : Extent) → Shows id repair day r part → ShownSo id repair day r part
+  -- where the one function says which deck and from which byte on, the other shows just that part,
+  pub tied : (id repair day part : List ℕ) (r : Extent) → Shows id repair day r (partOf r repair day) → Shown′ id repair day part
+      → part ≡ partOf r repair day
+  -- and the desk program prints what is due for its input, in whatever pieces that comes
+  pub deskPrints : (s t : Desk.Standing) (calls : List Desk.Call) (last : List ℕ) → Desk.Begins s → Desk.Runs s calls t
+      → Desk.Ends (t .desk .phase) t last → Prints (Desk.inputOf calls) (Desk.printed calls ++ last)
 
 -- the cell with other units
 abbrev pub withUnits : Cell → List (List UnitState) → Cell
@@ -201,10 +236,6 @@ joins (Rules.Complete channel how) = []
 joins (Rules.End place inError) = []
 joins (Rules.Return place channel unit) = []
 joins (Rules.Mark channel unit mark on) = []
-
--- a fact holds exactly when another does
-abbrev pub Exactly : Type 0 → Type 0 → Type 0
-Exactly A B = (A → B) × (B → A)
 
 -- a selection "refused" is "these three together", each exactly when its sentence holds
 pub record RefusedSo (c : Cell) (o : Outcome) : Type 0 where
@@ -391,6 +422,12 @@ pub record Demand2 : Type 0 where
   -- and that is the status that is shown, and nothing changes by it
   pub shown : (c d : Cell) (place packet : ℕ) (status : Status) → Does c (Call.Status place packet) (Shown (Is status)) d
       → (status ≡ packetIn (inside c .jobs) place packet .status) × (d ≡ c)
+  -- "for an ID the reader shall show us the request's own cards": what is shown is read as the first group of that ID in the
+  -- repair deck, or where that has none in the day's
+  pub ownRepair : (id repair day part : List ℕ) (r : Extent) → Shows id repair day r part → r .which ≡ Which′.Repair
+      → (v : FirstOf id (deckGroups repair) (r .from) part) × (cardsOf part ≡ v .own)
+  pub ownDay : (id repair day part : List ℕ) (r : Extent) → Shows id repair day r part → r .which ≡ Which′.Day
+      → NoneHas id (deckGroups repair) × ((v : FirstOf id (deckGroups day) (r .from) part) × (cardsOf part ≡ v .own))
   -- "the second program": for each channel but the drum's its number and how many of its units are assignable in
   -- the fresh cell
   pub listing : (s room after : List ℕ) (r : ℕ) (of : List Channel) (marks : List Bool) (word : ℕ) → InForm s of marks word
