@@ -7,8 +7,8 @@ use ordinary::fields::CardType;
 use crate::further::{self, Fields};
 use crate::random::{damage, Random, ODD_BYTES};
 
-const TERMINATION: &[u8] = b")))))))) +++++++++++++                                                  ))))))))\n";
-const DECK_LENGTH: usize = 16_384;
+pub const TERMINATION: &[u8] = b")))))))) +++++++++++++                                                  ))))))))\n";
+pub const DECK_LENGTH: usize = 16_384;
 
 const LETTERS: &str = "ABCDEFGHIJKLMNOPQRSTUVWXYZ";
 pub const LETTERS_AND_DIGITS: &str = "ABCDEFGHIJKLMNOPQRSTUVWXYZ0123456789";

@@ -1,13 +1,14 @@
 //! Compares the ordinary implementation with the proved programs on random input, to the byte.
 //!
-//! `compare cards|deck|listing|shift [--seed N] [--count N] [--calls N] [--jobs N] [--save FOLDER] [--first] [--show] [-- COMMAND..]`
+//! `compare cards|deck|desk|listing|shift [--seed N] [--count N] [--calls N] [--jobs N] [--save FOLDER] [--first] [--show] [-- COMMAND..]`
 //!
 //! Input number i of a run is made from seed N + i alone, so `--seed S --count 1` gives it again. For `shift`
-//! `--calls` is the length of a script, and every fiftieth script is short and handed over line by line, each line
-//! after the answer to the one before.
+//! `--calls` is the length of a script. Every fiftieth script, and every fiftieth input of `desk`, is short and handed
+//! over line by line, each line after the answer to the one before.
 
 mod configurations;
 mod decks;
+mod desks;
 mod further;
 mod lacks;
 mod messages;
@@ -34,12 +35,13 @@ use random::Random;
 use scripts::Script;
 
 const USAGE: &str =
-    "usage: compare cards|deck|listing|shift [--seed N] [--count N] [--calls N] [--jobs N] [--save FOLDER] [--first] [--show] [-- COMMAND..]";
+    "usage: compare cards|deck|desk|listing|shift [--seed N] [--count N] [--calls N] [--jobs N] [--save FOLDER] [--first] [--show] [-- COMMAND..]";
 
 #[derive(Clone, Copy, PartialEq, Eq)]
 enum Subject {
     Cards,
     Deck,
+    Desk,
     Listing,
     Shift,
 }
@@ -49,6 +51,7 @@ impl Subject {
         match self {
             Subject::Cards => "cards",
             Subject::Deck => "deck",
+            Subject::Desk => "desk",
             Subject::Listing => "listing",
             Subject::Shift => "shift",
         }
@@ -58,6 +61,7 @@ impl Subject {
         match self {
             Subject::Cards => ordinary::cards::report(input).into_bytes(),
             Subject::Deck => ordinary::deck::report(input).into_bytes(),
+            Subject::Desk => ordinary::desk::converse(input),
             Subject::Listing => ordinary::configuration::listing(input).into_bytes(),
             Subject::Shift => ordinary::shift::converse(input),
         }
@@ -82,6 +86,7 @@ fn options() -> Result<Options, String> {
     let subject = match words.next().as_ref().and_then(|word| word.to_str()) {
         Some("cards") => Subject::Cards,
         Some("deck") => Subject::Deck,
+        Some("desk") => Subject::Desk,
         Some("listing") => Subject::Listing,
         Some("shift") => Subject::Shift,
         _ => return Err(USAGE.into()),
@@ -135,12 +140,13 @@ fn input(subject: Subject, seed: u64, calls: usize) -> Script {
             let counts = decks::card_types(&deck);
             Script { counts, ..one(deck) }
         }
+        Subject::Desk => desks::desk(&mut random, is_talk(seed)),
         Subject::Listing => one(configurations::configuration(&mut random)),
         Subject::Shift => scripts::script(&mut random, if is_talk(seed) { 100 } else { calls }),
     }
 }
 
-/// Is the script of this seed handed over line by line?
+/// Is the input of this seed, if it is one of lines, handed over line by line?
 fn is_talk(seed: u64) -> bool {
     seed.is_multiple_of(50)
 }
@@ -162,6 +168,8 @@ impl Tally {
         self.inputs += 1;
         self.calls += calls as u64;
         self.bytes += input.len() as u64;
+        // The desk shows cards of any bytes: what its answers are is counted where the input is made.
+        let output = if subject == Subject::Desk { b"" } else { output };
         for line in output.split(|&byte| byte == b'\n').filter(|line| !line.is_empty()) {
             *self.answers.entry(sort_of(subject, line)).or_default() += 1;
         }
@@ -209,6 +217,7 @@ fn sort_of(subject: Subject, line: &[u8]) -> String {
             format!("written {}", card_type.trim_end_matches(|c: char| c.is_ascii_digit()))
         }
         (Subject::Deck, _) => "request in the schedule".into(),
+        (Subject::Desk, _) => "line printed".into(),
         (Subject::Listing | Subject::Shift, ["ER", "14", "LINE", number]) => match number.parse() {
             Ok(0..=19) => format!("bad line {number:0>2}"),
             _ => "bad line 20 or later".into(),
@@ -301,10 +310,10 @@ fn one(options: &Options, program: &Program, seed: u64, tally: &Mutex<Tally>) {
     let Script { pieces, calls, counts } = input(subject, seed, options.calls);
     let text = pieces.concat();
     let expected = subject.ordinary(&text);
-    let answered = if subject == Subject::Shift && is_talk(seed) {
-        program.talk(&conversation(&text))
-    } else {
-        program.run(&text)
+    let answered = match subject {
+        Subject::Shift if is_talk(seed) => program.talk(&conversation(&text)),
+        Subject::Desk if is_talk(seed) => program.talk(&desks::conversation(&text)),
+        _ => program.run(&text),
     };
     let differs = answered.output != expected || answered.fault.is_some();
     if differs && !options.first {

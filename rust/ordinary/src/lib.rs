@@ -11,6 +11,7 @@ pub mod cards;
 pub mod cell;
 pub mod configuration;
 pub mod deck;
+pub mod desk;
 pub mod fields;
 pub mod functions;
 pub mod further;

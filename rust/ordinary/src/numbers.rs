@@ -105,6 +105,8 @@ pub enum Refusal {
     Lacking = 20,
     /// The unit is being returned.
     BeingReturned = 21,
+    /// No group with that ID in either deck.
+    NoSuchGroup = 22,
 }
 
 impl Refusal {

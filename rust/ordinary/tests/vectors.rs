@@ -36,6 +36,11 @@ fn cards() {
 }
 
 #[test]
+fn desk() {
+    check("../../crates/cases_desk/data", 89, ordinary::desk::converse);
+}
+
+#[test]
 fn listing() {
     check("../../crates/cases_listing/data", 77, |input| ordinary::configuration::listing(input).into_bytes());
 }

@@ -2,7 +2,7 @@
 //! is then compared with the proved program, or with COMMAND: there must be a difference. The unchanged copy is compared
 //! first, and must have none: else a change that is found would say nothing.
 //!
-//! `mutants cards|deck|listing|shift [--count N] [-- COMMAND..]`
+//! `mutants cards|deck|desk|listing|shift [--count N] [-- COMMAND..]`
 //!
 //! A change is four lines: the subject and the file, the text to find (once), the text to put there, and an empty line.
 
@@ -44,7 +44,7 @@ fn copy(from: &Path, to: &Path) {
 
 fn main() -> ExitCode {
     let mut words = std::env::args().skip(1);
-    let subject = words.next().expect("usage: mutants cards|deck|listing|shift [--count N] [-- COMMAND..]");
+    let subject = words.next().expect("usage: mutants cards|deck|desk|listing|shift [--count N] [-- COMMAND..]");
     let rest: Vec<String> = words.collect();
     let here = Path::new(env!("CARGO_MANIFEST_DIR"));
     let top = here.join("..");
