@@ -20,6 +20,7 @@ use Rattle.desk_hearing.specs.Hearing.{deskOf, Standing, standing, lineI
 use Rattle.desk_hearing.specs.declared.Phase.{Phase}
 use Rattle.desk_hearing.specs.declared.Phase.the-variants.{GathersRepair, GathersDay, Asks}
 use Rattle.desk_hearing.specs.declared.Desk.{Desk}
+use Rattle.desk_hearing.specs.declared.Hearing.{Hearing}
 use Rattle.desk_hearing.proofs.AnswerLaws.{nothing-put, refused-put}
 
 -- an answer goes by the bytes of the ID and of the decks
@@ -74,6 +75,12 @@ module _ (s : Standing) {piece line′ : List ℕ} {cut : Cut} (k : TakesUp (s .
         subst (λ (x : Desk). Heard s piece (standing x line′ (s .repair) (s .day)) (cut .taken) out after· at) (sym is)
         (whole {t = standing (deskOf Asks (s .desk .repair) (s .desk .day) 0) line′ (s .repair) (s .day)} k refl Asks e
         (a .says, refl, (refl, refl), (refl, refl)) refl (a .put))
+
+-- as the code hands it back
+pub as-heard : {s : Standing} {d : Desk} {piece line repair day out after· : List ℕ} {taken at : ℕ} {r : Hearing} → r ≡ record { desk = d; taken = taken; at = at }
+    → Heard s piece (standing d line repair day) taken out after· at → Heard s piece (standing (r .desk) line repair day) (r .taken) out after· (r .at)
+as-heard {s} {d} {piece} {line} {repair} {day} {out} {after·} e w =
+    subst (λ (x : Hearing). Heard s piece (standing (x .desk) line repair day) (x .taken) out after· (x .at)) (sym e) w
 
 -- ---- the end of the input
 module _ (s : Standing) where

@@ -47,6 +47,13 @@ fn desk_of(phase: Phase, repair: usize, day: usize, line: usize) -> Desk
     }
 }
 
+// What was heard.
+fn what_was_heard(desk: Desk, taken: usize, at: usize) -> Hearing
+    ensures { λ r. ⌜ r ≡ record { desk = desk; taken = taken; at = at } ⌝ }
+{
+    Hearing { desk, taken, at }
+}
+
 // Before the first byte of the input.
 pub fn fresh() -> Desk
     ensures { λ r. ⌜ r ≡ fresh ⌝ }
@@ -114,42 +121,25 @@ pub fn hear(
     let taken = cut.taken;
     let phase = desk.phase;
     if !cut.whole {
-        let waits = desk_of(phase, desk.repair, desk.day, kept);
-        return Hearing {
-            desk: waits,
-            taken,
-            at: 0,
-        };
+        return what_was_heard(desk_of(phase, desk.repair, desk.day, kept), taken, 0);
     }
     let whole = shift_lines::front(line, kept);
     match phase {
         Phase::GathersRepair => {
             let n = put_card(repair, desk.repair, whole);
             let next = behind_card(whole, Phase::GathersRepair, Phase::GathersDay);
-            Hearing {
-                desk: desk_of(next, n, desk.day, 0),
-                taken,
-                at: 0,
-            }
+            what_was_heard(desk_of(next, n, desk.day, 0), taken, 0)
         }
         Phase::GathersDay => {
             let n = put_card(day, desk.day, whole);
             let next = behind_card(whole, Phase::GathersDay, Phase::Asks);
-            Hearing {
-                desk: desk_of(next, desk.repair, n, 0),
-                taken,
-                at: 0,
-            }
+            what_was_heard(desk_of(next, desk.repair, n, 0), taken, 0)
         }
         Phase::Asks => {
             let first = shift_lines::front(repair, desk.repair);
             let second = shift_lines::front(day, desk.day);
             let at = put_answer(out, whole, first, second);
-            Hearing {
-                desk: desk_of(Phase::Asks, desk.repair, desk.day, 0),
-                taken,
-                at,
-            }
+            what_was_heard(desk_of(Phase::Asks, desk.repair, desk.day, 0), taken, at)
         }
     }
 }

@@ -1,8 +1,8 @@
 -- `desk_hearing::hear` meets its contract: by whether the line is whole, and what it belongs to. Assumes nothing.
+use mathlib.Core.Path.{refl}
 use borrow.Author.Tests.{not-true, not-false}
 use Rattle.desk_hearing.specs.Hearing.{standing}
-use Rattle.desk_hearing.proofs.CallLaws.{answered-for, waits, of-repair, of-day, of-asks}
-use mathlib.Core.Path.{refl}
+use Rattle.desk_hearing.proofs.CallLaws.{answered-for, as-heard, waits, of-repair, of-day, of-asks}
 use borrow.Author.Needs.{needs}
 use Rattle.desk_hearing.proofs.hear.Statement.{statement}
 use Rattle.desk_hearing.proofs.hear.Tie as tie
@@ -12,6 +12,7 @@ use Rattle.desk_hearing.proofs.behind_card.Reads as behind-card-reads
 use Rattle.desk_hearing.proofs.desk_of.Reads as desk-of-reads
 use Rattle.desk_hearing.proofs.put_answer.Reads as put-answer-reads
 use Rattle.desk_hearing.proofs.put_card.Reads as put-card-reads
+use Rattle.desk_hearing.proofs.what_was_heard.Reads as what-was-heard-reads
 use Rattle.shift_lines.proofs.front.Reads as front-reads
 use Rattle.shift_lines.proofs.take_up.Reads as take-up-reads
 
@@ -21,8 +22,11 @@ take-up-requires c κs = search needs
 desk-of-requires : tie.Need-desk-of-requires
 desk-of-requires c κs = search needs
 
+what-was-heard-requires : tie.Need-what-was-heard-requires
+what-was-heard-requires c κs = search needs
+
 returns : tie.Need-returns
-returns c = waits (standing (c .before .before .before .before .before .before .args .desk) (c .before .before .before .before .before .before .args .line .now) (c .before .before .before .before .before .before .args .repair .now) (c .before .before .before .before .before .before .args .day .now)) (c .before .before .before .take-up .ensures) (not-true (c .before .before .before .take-up .result .whole) (c .before .if1 .taken)) (c .desk-of .ensures) (c .before .before .before .before .before .before .args .out .now)
+returns c = as-heard (c .what-was-heard .ensures) (waits (standing (c .before .before .before .before .before .before .before .args .desk) (c .before .before .before .before .before .before .before .args .line .now) (c .before .before .before .before .before .before .before .args .repair .now) (c .before .before .before .before .before .before .before .args .day .now)) (c .before .before .before .before .take-up .ensures) (not-true (c .before .before .before .before .take-up .result .whole) (c .before .before .if1 .taken)) (c .before .desk-of .ensures) (c .before .before .before .before .before .before .before .args .out .now))
 
 front-requires : tie.Need-front-requires
 front-requires c κs = search needs
@@ -39,6 +43,9 @@ behind-card-requires c κs = search needs
 desk-of-requires-2 : tie.Need-desk-of-requires-2
 desk-of-requires-2 c κs = search needs
 
+what-was-heard-requires-2 : tie.Need-what-was-heard-requires-2
+what-was-heard-requires-2 c κs = search needs
+
 enum-told-2 : tie.Need-enum-told-2
 enum-told-2 c = search needs
 
@@ -50,6 +57,9 @@ behind-card-requires-2 c κs = search needs
 
 desk-of-requires-3 : tie.Need-desk-of-requires-3
 desk-of-requires-3 c κs = search needs
+
+what-was-heard-requires-3 : tie.Need-what-was-heard-requires-3
+what-was-heard-requires-3 c κs = search needs
 
 enum-told-3 : tie.Need-enum-told-3
 enum-told-3 c = search needs
@@ -66,14 +76,17 @@ put-answer-requires c κs = search needs
 desk-of-requires-4 : tie.Need-desk-of-requires-4
 desk-of-requires-4 c κs = search needs
 
+what-was-heard-requires-4 : tie.Need-what-was-heard-requires-4
+what-was-heard-requires-4 c κs = search needs
+
 returns-2 : tie.Need-returns-2
-returns-2 c = of-repair (standing (c .before .before .before .before .before .before .before .before .before .before .before .before .before .before .args .desk) (c .before .before .before .before .before .before .before .before .before .before .before .before .before .before .args .line .now) (c .before .before .before .before .before .before .before .before .before .before .before .before .before .before .args .repair .now) (c .before .before .before .before .before .before .before .before .before .before .before .before .before .before .args .day .now)) (c .before .before .before .before .before .before .before .before .before .before .before .take-up .ensures) (not-false (c .before .before .before .before .before .before .before .before .before .before .before .take-up .result .whole) (c .before .before .before .before .before .before .before .before .before .if1 .left)) (c .before .before .before .before .before .before .front .ensures) (c .before .before .before .before .enum-told .given .1) (c .before .before .put-card .ensures) (c .before .behind-card .ensures) (c .desk-of2 .ensures) (c .before .before .before .before .before .before .before .before .before .before .before .before .before .before .args .out .now)
+returns-2 c = as-heard (c .what-was-heard2 .ensures) (of-repair (standing (c .before .before .before .before .before .before .before .before .before .before .before .before .before .before .before .args .desk) (c .before .before .before .before .before .before .before .before .before .before .before .before .before .before .before .args .line .now) (c .before .before .before .before .before .before .before .before .before .before .before .before .before .before .before .args .repair .now) (c .before .before .before .before .before .before .before .before .before .before .before .before .before .before .before .args .day .now)) (c .before .before .before .before .before .before .before .before .before .before .before .before .take-up .ensures) (not-false (c .before .before .before .before .before .before .before .before .before .before .before .before .take-up .result .whole) (c .before .before .before .before .before .before .before .before .before .before .if1 .left)) (c .before .before .before .before .before .before .before .front .ensures) (c .before .before .before .before .before .enum-told .given .1) (c .before .before .before .put-card .ensures) (c .before .before .behind-card .ensures) (c .before .desk-of2 .ensures) (c .before .before .before .before .before .before .before .before .before .before .before .before .before .before .before .args .out .now))
 
 returns-3 : tie.Need-returns-3
-returns-3 c = of-day (standing (c .before .before .before .before .before .before .before .before .before .before .before .before .before .before .args .desk) (c .before .before .before .before .before .before .before .before .before .before .before .before .before .before .args .line .now) (c .before .before .before .before .before .before .before .before .before .before .before .before .before .before .args .repair .now) (c .before .before .before .before .before .before .before .before .before .before .before .before .before .before .args .day .now)) (c .before .before .before .before .before .before .before .before .before .before .before .take-up .ensures) (not-false (c .before .before .before .before .before .before .before .before .before .before .before .take-up .result .whole) (c .before .before .before .before .before .before .before .before .before .if1 .left)) (c .before .before .before .before .before .before .front .ensures) (c .before .before .before .before .enum-told2 .given .1) (c .before .before .put-card2 .ensures) (c .before .behind-card2 .ensures) (c .desk-of3 .ensures) (c .before .before .before .before .before .before .before .before .before .before .before .before .before .before .args .out .now)
+returns-3 c = as-heard (c .what-was-heard3 .ensures) (of-day (standing (c .before .before .before .before .before .before .before .before .before .before .before .before .before .before .before .args .desk) (c .before .before .before .before .before .before .before .before .before .before .before .before .before .before .before .args .line .now) (c .before .before .before .before .before .before .before .before .before .before .before .before .before .before .before .args .repair .now) (c .before .before .before .before .before .before .before .before .before .before .before .before .before .before .before .args .day .now)) (c .before .before .before .before .before .before .before .before .before .before .before .before .take-up .ensures) (not-false (c .before .before .before .before .before .before .before .before .before .before .before .before .take-up .result .whole) (c .before .before .before .before .before .before .before .before .before .before .if1 .left)) (c .before .before .before .before .before .before .before .front .ensures) (c .before .before .before .before .before .enum-told2 .given .1) (c .before .before .before .put-card2 .ensures) (c .before .before .behind-card2 .ensures) (c .before .desk-of3 .ensures) (c .before .before .before .before .before .before .before .before .before .before .before .before .before .before .before .args .out .now))
 
 returns-4 : tie.Need-returns-4
-returns-4 c = of-asks (standing (c .before .before .before .before .before .before .before .before .before .before .before .before .before .before .before .before .before .before .before .args .desk) (c .before .before .before .before .before .before .before .before .before .before .before .before .before .before .before .before .before .before .before .args .line .now) (c .before .before .before .before .before .before .before .before .before .before .before .before .before .before .before .before .before .before .before .args .repair .now) (c .before .before .before .before .before .before .before .before .before .before .before .before .before .before .before .before .before .before .before .args .day .now)) (c .before .before .before .before .before .before .before .before .before .before .before .before .before .before .before .before .take-up .ensures) (not-false (c .before .before .before .before .before .before .before .before .before .before .before .before .before .before .before .before .take-up .result .whole) (c .before .before .before .before .before .before .before .before .before .before .before .before .before .before .if1 .left)) (c .before .before .before .before .before .before .before .before .before .before .before .front .ensures) (c .before .before .before .before .before .before .before .before .before .enum-told3 .given .1) (answered-for refl (c .before .before .before .before .before .before .front2 .ensures) (c .before .before .before .front3 .ensures) (c .before .put-answer .ensures)) (c .desk-of4 .ensures)
+returns-4 c = as-heard (c .what-was-heard4 .ensures) (of-asks (standing (c .before .before .before .before .before .before .before .before .before .before .before .before .before .before .before .before .before .before .before .before .args .desk) (c .before .before .before .before .before .before .before .before .before .before .before .before .before .before .before .before .before .before .before .before .args .line .now) (c .before .before .before .before .before .before .before .before .before .before .before .before .before .before .before .before .before .before .before .before .args .repair .now) (c .before .before .before .before .before .before .before .before .before .before .before .before .before .before .before .before .before .before .before .before .args .day .now)) (c .before .before .before .before .before .before .before .before .before .before .before .before .before .before .before .before .before .take-up .ensures) (not-false (c .before .before .before .before .before .before .before .before .before .before .before .before .before .before .before .before .before .take-up .result .whole) (c .before .before .before .before .before .before .before .before .before .before .before .before .before .before .before .if1 .left)) (c .before .before .before .before .before .before .before .before .before .before .before .before .front .ensures) (c .before .before .before .before .before .before .before .before .before .before .enum-told3 .given .1) (answered-for refl (c .before .before .before .before .before .before .before .front2 .ensures) (c .before .before .before .before .front3 .ensures) (c .before .before .put-answer .ensures)) (c .before .desk-of4 .ensures))
 
 pub hear-spec : {M : Type 1} → statement M
 hear-spec =
@@ -81,21 +94,25 @@ hear-spec =
     (tie.spec
     take-up-requires
     desk-of-requires
+    what-was-heard-requires
     returns
     front-requires
     enum-told
     put-card-requires
     behind-card-requires
     desk-of-requires-2
+    what-was-heard-requires-2
     enum-told-2
     put-card-requires-2
     behind-card-requires-2
     desk-of-requires-3
+    what-was-heard-requires-3
     enum-told-3
     front-requires-2
     front-requires-3
     put-answer-requires
     desk-of-requires-4
+    what-was-heard-requires-4
     returns-2
     returns-3
     returns-4)
