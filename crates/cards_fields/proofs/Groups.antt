@@ -9,7 +9,7 @@ use mathlib.Core.Logic.{⊎-elim}
 use native.Mathlib.Nat.{eq-zero-or-pos}
 use native.Mathlib.Omega.{arith}
 use lib.Dec.{eqb, leb}
-use lib.ListN.{length, getD, drop, take}
+use lib.ListN.{length, getD, drop, take, length-take}
 use lib.ListN.{take-append-drop}
 use lib.Seq.{take-append-add, drop-append-add}
 use borrow.Author.Tests.{leb-true}
@@ -124,6 +124,21 @@ either d = by (cardsOf d) refl
     by : (cs : List (List ℕ)) → cardsOf d ≡ cs → Either d
     by [] e = empty (rw e) (rw e)
     by (c ∷ cs) e = full (first-of d c cs e)
+
+-- what the code finds there: no group where it has no byte, else the first
+pub no-groups : (d : List ℕ) → length (take (groupSize d) d) ≡ 0 → groupsOf (cardsOf d) ≡ []
+no-groups d h = by (either d)
+  where
+    by : Either d → groupsOf (cardsOf d) ≡ []
+    by (empty e z) = e
+    by (full f) = absurd (omega (arith, f .some, f .within, length-take (groupSize d) d))
+
+pub first-group : (d : List ℕ) → (length (take (groupSize d) d) ≡ 0 → ⊥) → First d
+first-group d n = by (either d)
+  where
+    by : Either d → First d
+    by (empty e z) = absurd (n (rw z))
+    by (full f) = f
 
 before-front : (cs : List (List ℕ)) → cs ≡ before cs ++ drop (length (before cs)) cs
 before-front [] = refl

@@ -9,7 +9,7 @@ use Rattle.numbers.specs.declared.Refusal.{Refusal}
 use Rattle.text.specs.Room.{Written, Whole}
 use Rattle.text.proofs.RoomLaws.{none, entire}
 use Rattle.cards_fields.specs.Deck.{cardsOf, size, groupsOf, groupSize, deckEnd}
-use Rattle.cards_fields.proofs.Groups.{First, Either, empty, full, either}
+use Rattle.cards_fields.proofs.Groups.{First, no-groups, first-group}
 use Rattle.cards_fields.specs.declared.DeckEnd.{DeckEnd}
 use Rattle.cards_fields.specs.declared.DeckEnd.the-variants as Ends
 use Rattle.cards_lines.specs.Shown.{shownBy, refusedText}
@@ -72,19 +72,12 @@ module _ (s : List ℕ) (p : Printing) where
 
     pub end-prints : p .phase ≡ Groups → length g ≡ 0 → {room after· : List ℕ} → length room ≡ 2048 → {at : ℕ} → Written room 0 endText after· at → {next : Printing} → next ≡ over p
         → Prints s p room after· (record { at = at; printing = next })
-    end-prints e z {room} {after·} l {at} w {next} n = by (either d)
-      where
-        by : Either d → Prints s p room after· (record { at = at; printing = next })
-        by (empty q k) = let x = by-left e [] q in prints l endText next (x .0) (n ∙ x .1) (omega arith) w
-        by (full x) = absurd (omega (arith, x .some, x .within, ap length f, length-take (groupSize d) d))
+    end-prints e z l w {next} n =
+        let x = by-left e [] (no-groups d (sym (ap length f) ∙ z)) in prints l endText next (x .0) (n ∙ x .1) (omega arith) w
 
     module _ (z : length g ≡ 0 → ⊥) where
       found : First d
-      found = by (either d)
-        where
-          by : Either d → First d
-          by (empty q k) = absurd (z (omega (arith, k, ap length f, length-take (groupSize d) d)))
-          by (full x) = x
+      found = first-group d (λ k. z (ap length f ∙ k))
 
       pub group-within : p .from + length g ≤ length s
       group-within = omega (arith, found .some, found .within, ap length f, length-take (groupSize d) d, ap length r, length-take (p .end - p .from) (drop (p .from) s), length-drop (p .from) s)

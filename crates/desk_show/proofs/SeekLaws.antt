@@ -5,14 +5,14 @@ use mathlib.Core.Path.{_≡_, refl, sym, ap, subst, _∙_}
 use mathlib.Core.Bool.{Bool, true, false}
 use mathlib.Core.List.{List, [], _∷_, _++_}
 use native.Mathlib.Omega.{arith}
-use lib.ListN.{length, getD, take, drop, length-take, length-drop, length-append, drop-of-length-le}
+use lib.ListN.{length, getD, take, drop, length-drop, length-append, drop-of-length-le}
 use lib.Seq.{drop-drop, length-take-le, take-all}
 use Rattle.words.specs.Lines.{linesText, size}
 use Rattle.words.proofs.LineLaws.{lines-text}
 use Rattle.cards_fields.specs.Fields.{fields}
 use Rattle.cards_fields.specs.Deck.{cardsOf, groupSize}
 use Rattle.cards_fields.proofs.FieldLaws.{rest-is}
-use Rattle.cards_fields.proofs.Groups.{First, Either, empty, full, either}
+use Rattle.cards_fields.proofs.Groups.{First, no-groups, first-group}
 use Rattle.desk_show.specs.Showing.{opensFor, hasId, NoneHas, groupsText, FirstOf}
 use Rattle.desk_show.specs.Seeking.{groupsIn, StandsAt}
 
@@ -66,19 +66,11 @@ module _ {id cards : List ℕ} {from : ℕ} (w : Seeking id cards from) where
     group-is = is ∙ ap (λ (l : List ℕ). take (groupSize l) l) (rest-is cards from)
 
     pub seek-over : length g ≡ 0 → NoneHas id (groupsIn cards)
-    seek-over z = by (either (drop from cards))
-      where
-        by : Either (drop from cards) → NoneHas id (groupsIn cards)
-        by (empty e k) = none-left e
-        by (full f) = absurd (omega (arith, f .some, f .within, ap length group-is, length-take (groupSize (drop from cards)) (drop from cards)))
+    seek-over z = none-left (no-groups (drop from cards) (sym (ap length group-is) ∙ z))
 
     module _ (n : length g ≡ 0 → ⊥) where
       found : First (drop from cards)
-      found = by (either (drop from cards))
-        where
-          by : Either (drop from cards) → First (drop from cards)
-          by (empty e k) = absurd (n (omega (arith, k, ap length group-is, length-take (groupSize (drop from cards)) (drop from cards))))
-          by (full f) = f
+      found = first-group (drop from cards) (λ z. n (ap length group-is ∙ z))
 
       long : length g ≡ groupSize (drop from cards)
       long = ap length group-is ∙ length-take-le (groupSize (drop from cards)) (drop from cards) (found .within)

@@ -10,7 +10,7 @@ use Rattle.text.specs.Room.{Written, Whole}
 use Rattle.text.proofs.RoomLaws.{Going, start, turn, end, none, andThen, entire}
 use Rattle.cards_fields.proofs.FieldLaws.{rest-is}
 use Rattle.cards_fields.specs.Deck.{cardsOf, groupsOf, groupSize, deckEnd, deckGroups}
-use Rattle.cards_fields.proofs.Groups.{Either, empty, full, either, ends, deck-cards}
+use Rattle.cards_fields.proofs.Groups.{no-groups, first-group, ends, deck-cards}
 use Rattle.cards_fields.specs.declared.DeckEnd.{DeckEnd}
 use Rattle.cards_fields.specs.declared.DeckEnd.the-variants.{At, Refused}
 use Rattle.schedule_list.specs.InSchedule.{inSchedule, scheduleOf}
@@ -28,21 +28,10 @@ use Rattle.schedule_deck.specs.declared.Progress.{Progress}
 use Rattle.schedule_deck.specs.declared.Step.{Step}
 use Rattle.schedule_deck.specs.declared.Entered.{Entered}
 
--- what the code found: no group where it has no byte, else the first group, and the others are those of the rest
-no-groups : (d : List ℕ) → length (take (groupSize d) d) ≡ 0 → groupsOf (cardsOf d) ≡ []
-no-groups d h = by (either d)
-  where
-    by : Either d → groupsOf (cardsOf d) ≡ []
-    by (empty e z) = e
-    by (full f) = absurd (omega (arith, f .some, f .within, length-take (groupSize d) d))
-
+-- the group that the code found, and those of the rest
 next-group : (d : List ℕ) → (length (take (groupSize d) d) ≡ 0 → ⊥)
     → groupsOf (cardsOf d) ≡ cardsOf (take (groupSize d) d) ∷ groupsOf (cardsOf (drop (length (take (groupSize d) d)) d))
-next-group d n = by (either d)
-  where
-    by : Either d → groupsOf (cardsOf d) ≡ cardsOf (take (groupSize d) d) ∷ groupsOf (cardsOf (drop (length (take (groupSize d) d)) d))
-    by (empty e z) = absurd (n (rw z))
-    by (full f) = rw (length-take-le (groupSize d) d (f .within)) (f .next)
+next-group d n = let f = first-group d n in rw (length-take-le (groupSize d) d (f .within)) (f .next)
 
 pub record AtGroups (part room : List ℕ) (first : Progress) (out : List ℕ) (p : Progress) (at from : ℕ) : Type 0 where
   pub within : from ≤ length part
