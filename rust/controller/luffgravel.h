@@ -26,7 +26,7 @@ extern "C" {
 #define LUFFGRAVEL_LISTING_ROOM 96
 #define LUFFGRAVEL_DECK_ROOM 53248
 
-/* What decides of an input: a longer one is answered by as many of its first bytes as by all of it. The latter holds for each deck that is handed over. */
+/* What decides of an input: a longer one is answered by as many of its first bytes as by all of it. LUFFGRAVEL_DECK_INPUT holds for each of two decks too. */
 #define LUFFGRAVEL_LISTING_INPUT 2048
 #define LUFFGRAVEL_DECK_INPUT 16385
 
@@ -50,10 +50,10 @@ size_t luffgravel_deck(const uint8_t *deck, size_t deck_length, uint8_t (*out)[L
 
 /*
  * Shows a request's own cards in the deck that has them. Answers 0, and puts LUFFGRAVEL_REPAIR into `*deck` if the repair deck has a group with that ID, else
- * LUFFGRAVEL_DAY, as the day's deck has one; or answers the refusal: 11 if a deck is too long or has no termination card, which is looked at first, of both
+ * LUFFGRAVEL_DAY if the day's deck has one; or answers the refusal: 11 if a deck is too long or has no termination card, which is looked at first, of both
  * decks, and 22 if neither has such a group. An ID that is not 1 to 6 of A-Z and 0-9 has none. Of several groups in a deck the first counts. Its cards are the
  * `*length` bytes of that deck from its byte `*from` on, as they stand there, the last one's LF included; nothing is copied. After a refusal all three numbers
- * keep what they held. They do not overlap each other. The ID and the decks, which are only read, may.
+ * keep what they held. `deck`, `from` and `length` are three different numbers. The ID and the decks, which are only read, may overlap.
  */
 uint8_t luffgravel_desk(const uint8_t *id, size_t id_length, const uint8_t *repair, size_t repair_length, const uint8_t *day, size_t day_length,
                         uint8_t *deck, size_t *from, size_t *length);

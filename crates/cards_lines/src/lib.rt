@@ -1,4 +1,4 @@
-// The lines that the programs that read decks share, in lent room: that of a card error, with the ID that it shows, and
+// The lines that the deck and cards programs share, in lent room: that of a card error, with the ID that it shows, and
 // that of a refused deck.
 use cards_fields::card;
 use cards_fields::parts;

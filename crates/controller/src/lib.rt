@@ -80,7 +80,7 @@ pub extern "C" fn luffgravel_core(taken: u32, ib: u32, db: u32, i: &mut u32, j: 
 }
 
 // Which of two decks has the first group of an ID, put into deck, 1 the repair deck and 2 the day's, and where its cards
-// stand there, put into from and length; or the refusal, 11 or 22, and all three are kept.
+// stand there, put into from and length, and 0 answers; or the refusal, 11 or 22, and all three are kept.
 #[no_mangle]
 pub extern "C" fn luffgravel_desk(
     id: &[u8],

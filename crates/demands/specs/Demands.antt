@@ -422,7 +422,7 @@ pub record Demand2 : Type 0 where
   -- and that is the status that is shown, and nothing changes by it
   pub shown : (c d : Cell) (place packet : ℕ) (status : Status) → Does c (Call.Status place packet) (Shown (Is status)) d
       → (status ≡ packetIn (inside c .jobs) place packet .status) × (d ≡ c)
-  -- "for an ID the reader shall show us the request's own cards": what is shown is read as the first group of that ID in the
+  -- "For an ID the reader shall show us the request's own cards": what is shown is read as the first group of that ID in the
   -- repair deck, or where that has none in the day's
   pub ownRepair : (id repair day part : List ℕ) (r : Extent) → Shows id repair day r part → r .which ≡ Which′.Repair
       → (v : FirstOf id (deckGroups repair) (r .from) part) × (cardsOf part ≡ v .own)

@@ -23,7 +23,7 @@ use Rattle.desk_show.specs.declared.Extent.{Extent}
 use Rattle.desk_show.specs.declared.Which.{Which}
 use Rattle.desk_show.specs.declared.Which.the-variants.{Repair, Day, Refused}
 use Rattle.desk_hearing.specs.Printing.{closing, Says}
-use Rattle.desk_hearing.specs.Hearing.{Answered}
+use Rattle.desk_hearing.specs.Putting.{Answered}
 
 refused-few : (refusal : Refusal) → length (noLine refusal) ≤ 6
 refused-few refusal =

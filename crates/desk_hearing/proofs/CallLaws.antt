@@ -16,7 +16,8 @@ use Rattle.shift_lines.specs.declared.Cut.{Cut}
 use Rattle.shift_lines.proofs.LineLaws.{taken-within as lines-within}
 use Rattle.shift_pieces.specs.Pieces.{noLine}
 use Rattle.desk_hearing.specs.Printing.{Says}
-use Rattle.desk_hearing.specs.Hearing.{deskOf, Standing, standing, lineIn, repairIn, dayIn, Turns, TurnsIf, Heard, Answered, EndsIf, Ends, Ended}
+use Rattle.desk_hearing.specs.Hearing.{deskOf, Standing, standing, lineIn, repairIn, dayIn, Turns, TurnsIf, Heard, EndsIf, Ends, Ended}
+use Rattle.desk_hearing.specs.Putting.{Answered}
 use Rattle.desk_hearing.specs.declared.Phase.{Phase}
 use Rattle.desk_hearing.specs.declared.Phase.the-variants.{GathersRepair, GathersDay, Asks}
 use Rattle.desk_hearing.specs.declared.Desk.{Desk}

@@ -1,5 +1,6 @@
--- The desk, heard line by line in lent rooms: what each call leaves and answers, for whatever it is handed. That the calls
--- together print what the page Printing says is proved (proofs/Program), for any pieces in which the input comes.
+-- The desk, heard line by line in lent rooms: what each call leaves and answers, for whatever it is handed. A reader has
+-- to believe this page. That the calls together print what the page Printing says is proved (proofs/Program), for any
+-- pieces in which the input comes.
 use Prim.Native.Nat.{ℕ}
 use mathlib.Core.Path.{_≡_}
 use mathlib.Core.Bool.{Bool, true, false, cond}
@@ -81,12 +82,6 @@ pub record Hears (s : Standing) (piece : List ℕ) (t : Standing) (taken : ℕ) 
 pub record Heard (s : Standing) (piece : List ℕ) (t : Standing) (taken : ℕ) (out after : List ℕ) (at : ℕ) : Type 0 where
   pub text : List ℕ
   pub hears : Hears s piece t taken text
-  pub put : Whole text out after at
-
--- an ID is answered in lent room
-pub record Answered (id repair day out after : List ℕ) (at : ℕ) : Type 0 where
-  pub text : List ℕ
-  pub says : Says id repair day text
   pub put : Whole text out after at
 
 -- THE END OF THE INPUT: "A last line without LF counts", and one that has no byte is none

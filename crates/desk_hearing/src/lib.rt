@@ -10,7 +10,8 @@ ghost use Rattle.text.specs.Room.{Written, Whole};
 ghost use Rattle.words.specs.Lines.{lineText};
 ghost use Rattle.cards_fields.specs.Deck.{isTermination};
 ghost use Rattle.desk_hearing.specs.Printing.{closing};
-ghost use Rattle.desk_hearing.specs.Hearing.{deskOf, fresh, standing, Answered, Heard, Ended};
+ghost use Rattle.desk_hearing.specs.Hearing.{deskOf, fresh, standing, Heard, Ended};
+ghost use Rattle.desk_hearing.specs.Putting.{Answered};
 
 // What the next line belongs to: the repair deck, the day's deck, or the IDs that are asked for.
 pub enum Phase {
@@ -47,7 +48,7 @@ fn desk_of(phase: Phase, repair: usize, day: usize, line: usize) -> Desk
     }
 }
 
-// What was heard.
+// The desk after a line, with what it took and answered: written once, so that each way of `hear` stays a line.
 fn what_was_heard(desk: Desk, taken: usize, at: usize) -> Hearing
     ensures { λ r. ⌜ r ≡ record { desk = desk; taken = taken; at = at } ⌝ }
 {
@@ -91,7 +92,8 @@ fn put_closing(out: &mut [u8], at: usize, which: Which) -> usize
     }
 }
 
-// Puts the answer to an ID that is asked for into lent room, which holds each.
+// Puts the answer to an ID that is asked for into lent room, which holds each: at most the 16,384 bytes of a deck, and the
+// 12 of `FROM REPAIR` with its LF.
 fn put_answer<'a>(out: &mut [u8; 16396], id: &[u8], repair: &'a [u8], day: &'a [u8]) -> usize
     ensures { λ r. ⌜ Answered (now (id .entry)) (now (repair .entry)) (now (day .entry)) (now (out .entry)) (now (out .exit)) r ⌝ }
 {

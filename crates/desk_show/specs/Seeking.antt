@@ -48,7 +48,7 @@ FindsIn id repair day r = FindsBy id repair day (r .which) (r .from) (r .len)
 abbrev pub clippedTo : Bool → ℕ → ℕ → ℕ → Span
 clippedTo repair from len size = record { repair = repair; from = min from size; end = min (from + len) size }
 
--- where what was found stands in the deck that has it; nowhere where there is a refusal
+-- where what was found stands in the deck that has it; no byte, of the day's deck, where there is a refusal
 abbrev pub spanBy : Which → ℕ → ℕ → ℕ → ℕ → Span
 spanBy Repair from len repair day = clippedTo true from len repair
 spanBy Day from len repair day = clippedTo false from len day

@@ -1,4 +1,4 @@
--- Two decks on the desk: "for an ID the reader shall show us the request's own cards from the repair deck if they are
+-- Two decks on the desk: "For an ID the reader shall show us the request's own cards from the repair deck if they are
 -- there, else from the day's deck, as the text itself in the deck that has it and without a copy". "Nothing enters the
 -- schedule": all that is asked for is bytes, and nothing is checked or changed. A reader has to believe this page.
 use Prim.Native.Nat.{ℕ}

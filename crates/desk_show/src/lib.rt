@@ -26,16 +26,16 @@ pub struct Extent {
 }
 
 // Where a group stands among the cards of one deck.
-pub enum Sought {
+enum Sought {
     At(usize, usize),
     Nowhere,
 }
 
 // The bytes of a deck, the repair deck or the day's, from one to before another.
-pub struct Span {
-    pub repair: bool,
-    pub from: usize,
-    pub end: usize,
+struct Span {
+    repair: bool,
+    from: usize,
+    end: usize,
 }
 
 // Whether a text is an ID as it stands: no space of it is dropped.
@@ -73,6 +73,7 @@ fn seek(id: &[u8], cards: &[u8]) -> Sought
     while from < cards.len() {
         let group = deck::first_group(&cards[from..]);
         let n = group.len();
+        // Bytes behind the last LF are no card: without this they would be looked at for ever.
         if n == 0 {
             return Sought::Nowhere;
         }
@@ -130,7 +131,8 @@ pub fn find(id: &[u8], repair: &[u8], day: &[u8]) -> Extent
     }
 }
 
-// From a byte on so many bytes of a text of this size, but none past its end.
+// From a byte on so many bytes of a text of this size, but none past its end: `part_of` answers for every extent, also one
+// that no search gives.
 fn clipped(repair: bool, from: usize, len: usize, size: usize) -> Span
     ensures { λ r. ⌜ r ≡ clippedTo repair from len size ⌝ }
 {
