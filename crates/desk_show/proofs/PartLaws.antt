@@ -5,10 +5,10 @@ use mathlib.Core.Path.{_≡_, refl, sym, ap, subst, _∙_}
 use mathlib.Core.Bool.{Bool, true, false}
 use mathlib.Core.List.{List, [], _∷_}
 use mathlib.Core.Logic.{_⊎_, ⊎-elim}
-use native.Mathlib.Nat.{eq-zero-or-pos, le-of-suc-le-suc}
+use native.Mathlib.Nat.{eq-zero-or-pos}
 use native.Mathlib.Omega.{arith}
 use lib.ListN.{length, take, drop, length-take, length-drop, drop-of-length-le}
-use lib.Seq.{length-take-le, take-all, take-nil}
+use lib.Seq.{length-take-le, take-all, take-nil, take-take}
 use Rattle.numbers.specs.declared.Refusal.{Refusal}
 use Rattle.numbers.specs.declared.Refusal.the-variants.{BadDeck, NoGroup}
 use Rattle.numbers.proofs.Tests.{never}
@@ -23,15 +23,8 @@ use Rattle.desk_show.specs.declared.Extent.{Extent}
 use Rattle.desk_show.specs.declared.Span.{Span}
 
 -- a part of a text's first bytes is a part of the text
-take-front : (s : List ℕ) (len n : ℕ) → len ≤ n → take len (take n s) ≡ take len s
-take-front s zero n h = refl
-take-front [] (suc len) zero h = refl
-take-front [] (suc len) (suc n) h = refl
-take-front (b ∷ s) (suc len) zero h = absurd (omega arith)
-take-front (b ∷ s) (suc len) (suc n) h = ap (λ (l : List ℕ). b ∷ l) (take-front s len n (le-of-suc-le-suc h))
-
 part-front : (s : List ℕ) (from len n : ℕ) → from + len ≤ n → take len (drop from (take n s)) ≡ take len (drop from s)
-part-front s zero len n h = take-front s len n (omega arith)
+part-front s zero len n h = take-take len n s (omega arith)
 part-front [] (suc from) len zero h = refl
 part-front [] (suc from) len (suc n) h = refl
 part-front (b ∷ s) (suc from) len zero h = absurd (omega arith)

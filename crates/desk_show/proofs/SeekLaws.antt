@@ -3,7 +3,7 @@
 use Prim.Native.Nat.{ℕ, _+_, _-_, _≤_}
 use mathlib.Core.Path.{_≡_, refl, sym, ap, subst, _∙_}
 use mathlib.Core.Bool.{Bool, true, false}
-use mathlib.Core.List.{List, [], _∷_, _++_}
+use mathlib.Core.List.{List, [], _∷_, _++_, append-assoc, append-nil}
 use native.Mathlib.Omega.{arith}
 use lib.ListN.{length, getD, take, drop, length-drop, length-append, drop-of-length-le}
 use lib.Seq.{drop-drop, length-take-le, take-all}
@@ -17,14 +17,6 @@ use Rattle.desk_show.specs.Showing.{opensFor, hasId, NoneHas, groupsText
 use Rattle.desk_show.specs.Seeking.{groupsIn, StandsAt}
 
 -- groups one behind the other
-append-nil : (gs : List (List (List ℕ))) → gs ++ [] ≡ gs
-append-nil [] = refl
-append-nil (g ∷ gs) = ap (λ (l : List (List (List ℕ))). g ∷ l) (append-nil gs)
-
-append-one : (gs hs : List (List (List ℕ))) (g : List (List ℕ)) → (gs ++ (g ∷ [])) ++ hs ≡ gs ++ (g ∷ hs)
-append-one [] hs g = refl
-append-one (x ∷ gs) hs g = ap (λ (l : List (List (List ℕ))). x ∷ l) (append-one gs hs g)
-
 none-one : (id : List ℕ) (gs : List (List (List ℕ))) (g : List (List ℕ)) → NoneHas id gs → hasId id g ≡ false → NoneHas id (gs ++ (g ∷ []))
 none-one id [] g n h = (h, tt)
 none-one id (x ∷ gs) g n h = (n .0, none-one id gs g (n .1) h)
@@ -98,7 +90,7 @@ module _ {id cards : List ℕ} {from : ℕ} (w : Seeking id cards from) where
         seek-turn f = record {
           within = seek-within;
           earlier = w .earlier ++ (cardsOf g ∷ []);
-          among = w .among ∙ ap (λ (l : List (List (List ℕ))). w .earlier ++ l) next ∙ sym (append-one (w .earlier) (groupsIn (drop (from + length g) cards)) (cardsOf g));
+          among = w .among ∙ ap (λ (l : List (List (List ℕ))). w .earlier ++ l) next ∙ sym (append-assoc (w .earlier) (cardsOf g ∷ []) (groupsIn (drop (from + length g) cards)));
           others = none-one id (w .earlier) (cardsOf g) (w .others) (sym has ∙ f);
           start = omega (arith, w .start, text-one (w .earlier) (cardsOf g), ap length text);
         }
