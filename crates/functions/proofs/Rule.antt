@@ -1,6 +1,6 @@
--- The table of legal functions, and its rule: one test that antt computes over all 256 entries, and one law that
+-- The table of legal functions, and its rule: one test that antt computes over all 448 entries, and one law that
 -- carries it to each. No code past the table is legal. Assumes nothing.
-use mathlib.Core.Path.{_≡_, refl, _∙_, ap}
+use mathlib.Core.Path.{_≡_, refl, sym, subst, _∙_, ap}
 use mathlib.Core.Bool.{Bool, true, false}
 use mathlib.Core.List.{List, [], _∷_, _++_}
 use Prim.Native.Nat.{ℕ, suc, _+_, _*_, _≤_, _<_, _/_, _%_}
@@ -9,9 +9,9 @@ use lib.Dec.{T, ltb, ltb→lt}
 use borrow.Author.Tests.{ne-eqb}
 use lib.ListN.{length, getD}
 use Rattle.numbers.specs.declared.Kind.{Kind}
-use Rattle.numbers.specs.declared.Kind.the-variants.{Ma, Mt, Pr, Md}
-use Rattle.numbers.specs.Kinds.{rowOf}
-use Rattle.numbers.proofs.KindLaws.{kindAt, kind-at}
+use Rattle.numbers.specs.declared.Kind.the-variants.{Ma}
+use Rattle.numbers.specs.Kinds.{byRow, rowOf, kinds}
+use Rattle.numbers.proofs.KindLaws.{row-kind, row-low, all-kinds}
 use Rattle.functions.specs.Legal.{own, common, has, legalOf}
 use Rattle.functions.proofs.Entries.{every, both-left, both-right, at}
 
@@ -49,6 +49,30 @@ legalTable =
     false ∷ false ∷ true ∷ false ∷ false ∷ true ∷ true ∷ false ∷
     false ∷ false ∷ true ∷ false ∷ false ∷ true ∷ true ∷ false ∷
     false ∷ false ∷ true ∷ false ∷ false ∷ false ∷ false ∷ false ∷
+    false ∷ false ∷ false ∷ false ∷ false ∷ false ∷ false ∷ false ∷
+    false ∷ true ∷ true ∷ true ∷ true ∷ true ∷ true ∷ true ∷
+    true ∷ false ∷ false ∷ false ∷ false ∷ false ∷ false ∷ false ∷
+    true ∷ true ∷ false ∷ true ∷ false ∷ false ∷ false ∷ false ∷
+    false ∷ false ∷ false ∷ false ∷ false ∷ false ∷ false ∷ true ∷
+    true ∷ false ∷ true ∷ true ∷ true ∷ false ∷ true ∷ true ∷
+    true ∷ false ∷ true ∷ true ∷ true ∷ false ∷ true ∷ false ∷
+    false ∷ true ∷ false ∷ false ∷ true ∷ false ∷ false ∷ false ∷
+    false ∷ false ∷ false ∷ false ∷ false ∷ false ∷ false ∷ false ∷
+    false ∷ false ∷ true ∷ true ∷ true ∷ true ∷ true ∷ true ∷
+    false ∷ false ∷ false ∷ false ∷ false ∷ false ∷ false ∷ false ∷
+    false ∷ false ∷ false ∷ true ∷ false ∷ false ∷ false ∷ false ∷
+    false ∷ false ∷ false ∷ false ∷ false ∷ false ∷ false ∷ false ∷
+    false ∷ true ∷ true ∷ false ∷ true ∷ false ∷ false ∷ false ∷
+    false ∷ false ∷ false ∷ false ∷ false ∷ false ∷ false ∷ false ∷
+    false ∷ false ∷ true ∷ true ∷ true ∷ false ∷ false ∷ false ∷
+    false ∷ false ∷ false ∷ false ∷ false ∷ false ∷ false ∷ false ∷
+    false ∷ false ∷ true ∷ false ∷ false ∷ false ∷ false ∷ true ∷
+    false ∷ false ∷ false ∷ false ∷ false ∷ false ∷ false ∷ false ∷
+    false ∷ false ∷ false ∷ true ∷ false ∷ false ∷ false ∷ false ∷
+    false ∷ false ∷ false ∷ false ∷ false ∷ false ∷ false ∷ false ∷
+    false ∷ false ∷ true ∷ false ∷ false ∷ false ∷ false ∷ false ∷
+    false ∷ false ∷ false ∷ false ∷ false ∷ false ∷ false ∷ false ∷
+    false ∷ false ∷ true ∷ false ∷ false ∷ false ∷ false ∷ false ∷
     false ∷ false ∷ false ∷ false ∷ false ∷ false ∷ false ∷ false ∷ []
 
 -- two truth values are the same
@@ -63,21 +87,19 @@ same→eq true false t = absurd t
 same→eq false true t = absurd t
 same→eq false false t = refl
 
-row-small : (k : Kind) → rowOf k < 4
-row-small Ma = omega arith
-row-small Mt = omega arith
-row-small Pr = omega arith
-row-small Md = omega arith
+-- the kind in a row
+abbrev kindIn : ℕ → Kind
+kindIn row = getD byRow row Ma
 
 -- an entry says what the lists say of its kind and its code
 unfoldable right : ℕ → Bool → Bool
-right i x = same x (legalOf (kindAt (i / 64)) (i % 64))
+right i x = same x (legalOf (kindIn (i / 64)) (i % 64))
 
 tested : T (every right 0 legalTable)
 unfolding legalTable right legalOf
 tested = tt
 
-long : length legalTable ≡ 256
+long : length legalTable ≡ kinds * 64
 unfolding legalTable
 long = refl
 
@@ -85,12 +107,15 @@ long = refl
 pub legal-at : (k : Kind) (c : ℕ) → c < 64 → getD legalTable (rowOf k * 64 + c) false ≡ legalOf k c
 unfolding right
 legal-at k c h =
-    let s : rowOf k < 4 = row-small k in
+    let s : rowOf k < kinds = row-low k in
     let l : rowOf k * 64 + c < length legalTable = omega (arith, long) in
     let d : (rowOf k * 64 + c) / 64 ≡ rowOf k = omega arith in
     let m : (rowOf k * 64 + c) % 64 ≡ c = omega arith in
-    let t = same→eq (getD legalTable (rowOf k * 64 + c) false) (legalOf (kindAt ((rowOf k * 64 + c) / 64)) ((rowOf k * 64 + c) % 64)) (at false right legalTable tested (rowOf k * 64 + c) l) in
-    t ∙ cc (ap kindAt d, kind-at k)
+    let t = same→eq (getD legalTable (rowOf k * 64 + c) false) (legalOf (kindIn ((rowOf k * 64 + c) / 64)) ((rowOf k * 64 + c) % 64)) (at false right legalTable tested (rowOf k * 64 + c) l) in
+    t ∙ cc (ap kindIn d, row-kind k)
+
+eq→T : {b : Bool} → b ≡ true → T b
+eq→T e = subst T (sym e) tt
 
 -- a list whose codes are all below 64 has no other
 abbrev below : ℕ → ℕ → Bool
@@ -105,10 +130,4 @@ absent (x ∷ xs) i c h t =
 -- no function over 77 octal is legal
 pub none-above : (k : Kind) (c : ℕ) → 64 ≤ c → legalOf k c ≡ false
 unfolding legalOf
-none-above k c h = absent (own k ++ common) 0 c h (all k)
-  where
-    all : (k : Kind) → T (every below 0 (own k ++ common))
-    all Ma = tt
-    all Mt = tt
-    all Pr = tt
-    all Md = tt
+none-above k c h = absent (own k ++ common) 0 c h (eq→T (all-kinds (λ m. every below 0 (own m ++ common)) refl k))

@@ -1,6 +1,6 @@
 // The bulletin's three kinds of count, none of which can be passed for another; the kinds of channel; the refusals.
 ghost use mathlib.Core.Path.{_≡_};
-ghost use Rattle.numbers.specs.Kinds.{kindOf, codeOf, Rowed, isDrum};
+ghost use Rattle.numbers.specs.Kinds.{kindOf, codeOf, Rowed, orderOf, kindAt, isDrum};
 ghost use Rattle.numbers.specs.Quoted.{is2};
 ghost use Rattle.numbers.specs.Refusals.{numberOf};
 
@@ -13,13 +13,54 @@ pub struct ChannelNumber(pub u8);
 // The number of a unit on its channel, 0 to 15.
 pub struct UnitNumber(pub u8);
 
-// UNISERVO IIA, UNISERVO IIIA, printer, drum.
+// UNISERVO IIA, UNISERVO IIIA, printer, drum, UNISERVO IIIC, card equipment, paper tape equipment.
 pub enum Kind {
     Ma,
     Mt,
     Pr,
     Md,
+    Mc,
+    Cr,
+    Pt,
 }
+
+// How many kinds there are.
+pub const KINDS: usize = 7;
+
+// How many kinds have units: all but the drum.
+pub const UNIT_KINDS: usize = KINDS - 1;
+
+// The kinds by their rows in the table of functions.
+const BY_ROW: [Kind; KINDS] = [
+    Kind::Ma,
+    Kind::Mt,
+    Kind::Pr,
+    Kind::Md,
+    Kind::Mc,
+    Kind::Cr,
+    Kind::Pt,
+];
+
+// Their codes, in the same order.
+const CODES: [[u8; 2]; KINDS] = [
+    [b'M', b'A'],
+    [b'M', b'T'],
+    [b'P', b'R'],
+    [b'M', b'D'],
+    [b'M', b'C'],
+    [b'C', b'R'],
+    [b'P', b'T'],
+];
+
+// The kinds that have units, in the order in which they are written, served and found lacking.
+const IN_ORDER: [Kind; UNIT_KINDS] = [
+    Kind::Ma, // 0
+    Kind::Mt, // 1
+    Kind::Pr, // 2
+    Kind::Mc, // 3
+    Kind::Cr, // 4
+    Kind::Pt, // 5
+];
 
 // What two letters are: a kind's code, or none.
 pub enum Coded {
@@ -69,34 +110,18 @@ fn is_code(a: u8, b: u8, x: u8, y: u8) -> bool
 pub fn kind_of(a: u8, b: u8) -> Coded
     ensures { λ r. ⌜ r ≡ kindOf a b ⌝ }
 {
-    if is_code(a, b, b'M', b'A') {
-        return Coded::Is(Kind::Ma);
-    }
-    if is_code(a, b, b'M', b'T') {
-        return Coded::Is(Kind::Mt);
-    }
-    if is_code(a, b, b'P', b'R') {
-        return Coded::Is(Kind::Pr);
-    }
-    if is_code(a, b, b'M', b'D') {
-        return Coded::Is(Kind::Md);
+    let mut row: usize = 0;
+    while row < KINDS {
+        let code = CODES[row];
+        if is_code(a, b, code[0], code[1]) {
+            return Coded::Is(BY_ROW[row]);
+        }
+        row += 1;
     }
     Coded::Unknown
 }
 
-// A kind's code.
-pub fn code_of(kind: Kind) -> [u8; 2]
-    ensures { λ r. ⌜ r ≡ codeOf kind ⌝ }
-{
-    match kind {
-        Kind::Ma => [b'M', b'A'],
-        Kind::Mt => [b'M', b'T'],
-        Kind::Pr => [b'P', b'R'],
-        Kind::Md => [b'M', b'D'],
-    }
-}
-
-// A kind's row in a table that has one for every kind.
+// A kind's row in the table of functions.
 pub fn row_of(kind: Kind) -> usize
     ensures { λ r. ⌜ Rowed kind r ⌝ }
 {
@@ -105,7 +130,42 @@ pub fn row_of(kind: Kind) -> usize
         Kind::Mt => 1,
         Kind::Pr => 2,
         Kind::Md => 3,
+        Kind::Mc => 4,
+        Kind::Cr => 5,
+        Kind::Pt => 6,
     }
+}
+
+// A kind's code.
+pub fn code_of(kind: Kind) -> [u8; 2]
+    ensures { λ r. ⌜ r ≡ codeOf kind ⌝ }
+{
+    CODES[row_of(kind)]
+}
+
+// Where a kind stands among those that have units; the drum, which has none, stands behind them.
+pub fn order_of(kind: Kind) -> usize
+    ensures { λ r. ⌜ r ≡ orderOf kind ⌝ }
+{
+    match kind {
+        Kind::Ma => 0,
+        Kind::Mt => 1,
+        Kind::Pr => 2,
+        Kind::Mc => 3,
+        Kind::Cr => 4,
+        Kind::Pt => 5,
+        Kind::Md => UNIT_KINDS,
+    }
+}
+
+// The kind at a place of that order; behind the last the drum.
+pub fn kind_at(order: usize) -> Kind
+    ensures { λ r. ⌜ r ≡ kindAt order ⌝ }
+{
+    if order < UNIT_KINDS {
+        return IN_ORDER[order];
+    }
+    Kind::Md
 }
 
 // Whether a kind is the drum, which has words and no units.
@@ -117,6 +177,9 @@ pub fn is_drum(kind: Kind) -> bool
         Kind::Mt => false,
         Kind::Pr => false,
         Kind::Md => true,
+        Kind::Mc => false,
+        Kind::Cr => false,
+        Kind::Pt => false,
     }
 }
 

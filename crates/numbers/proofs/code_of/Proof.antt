@@ -1,35 +1,28 @@
--- `numbers::code_of` meets its contract: the kind that the match found, put into the definition. Assumes nothing.
-use mathlib.Core.Path.{sym, ap}
+-- `numbers::code_of` meets its contract: the code in the kind's row. Assumes nothing.
+use mathlib.Core.Path.{_∙_, ap}
+use Prim.Native.Nat.{ℕ}
+use lib.ListN.{getD}
+use mathlib.Core.List.{[]}
 use Rattle.numbers.specs.Kinds.{codeOf}
+use Rattle.numbers.proofs.KindLaws.{codes, row-code, row-kind, row-low}
 use borrow.Author.Needs.{needs}
 use Rattle.numbers.proofs.code_of.Statement.{statement}
 use Rattle.numbers.proofs.code_of.Tie as tie
+use Rattle.numbers.proofs.code_of.Reads as reads
+use Rattle.numbers.proofs.code_of.Lts as lts
+use Rattle.numbers.proofs.row_of.Reads as row-of-reads
 
-enum-told : tie.Need-enum-told
-enum-told c = search needs
+row-of-requires : tie.Need-row-of-requires
+row-of-requires c κs = search needs
 
-enum-told-2 : tie.Need-enum-told-2
-enum-told-2 c = search needs
+mul-result : tie.Need-mul-result
+mul-result c = search needs
 
-enum-told-3 : tie.Need-enum-told-3
-enum-told-3 c = search needs
-
-enum-told-4 : tie.Need-enum-told-4
-enum-told-4 c = search needs
+array-copy-out-result : tie.Need-array-copy-out-result
+array-copy-out-result c = search needs
 
 returns : tie.Need-returns
-returns c = sym (ap codeOf (c .enum-told .given .1))
-
-returns-2 : tie.Need-returns-2
-returns-2 c = sym (ap codeOf (c .enum-told2 .given .1))
-
-returns-3 : tie.Need-returns-3
-returns-3 c = sym (ap codeOf (c .enum-told3 .given .1))
-
-returns-4 : tie.Need-returns-4
-returns-4 c = sym (ap codeOf (c .enum-told4 .given .1))
+returns c = ap (λ (i : ℕ). getD codes i []) (c .before .row-of .ensures .is) ∙ row-code _ (row-low (c .before .before .args .kind)) ∙ ap codeOf (row-kind (c .before .before .args .kind))
 
 pub code-of-spec : {M : Type 1} → statement M
-code-of-spec =
-    tie.close
-    (tie.spec enum-told enum-told-2 enum-told-3 enum-told-4 returns returns-2 returns-3 returns-4)
+code-of-spec = tie.close (tie.spec row-of-requires mul-result array-copy-out-result returns)

@@ -1,52 +1,76 @@
--- `numbers::kind_of` meets its contract: each answer by the tests that led there. Assumes nothing.
-use mathlib.Core.Path.{sym, _∙_}
-use Rattle.numbers.specs.Kinds.{kindOf}
+-- `numbers::kind_of` meets its contract: one row after the other, by the laws of the list of kinds. Assumes nothing.
+use mathlib.Core.Path.{_≡_, refl}
+use native.Mathlib.Omega.{arith}
+use Rattle.numbers.proofs.KindLaws.{row-found, row-passed, rows-over}
+use Prim.Native.Nat.{_-_, _≤_}
+use mathlib.Core.Path.{_≡_}
+use lib.ListN.{drop}
+use Rattle.numbers.specs.Kinds.{byRow, kindIn, kindOf}
 use borrow.Author.Needs.{needs}
 use Rattle.numbers.proofs.kind_of.Statement.{statement}
 use Rattle.numbers.proofs.kind_of.Tie as tie
+use Rattle.numbers.proofs.kind_of.Reads as reads
+use Rattle.numbers.proofs.kind_of.Lts as lts
+use Rattle.numbers.proofs.is_code.Reads as is-code-reads
 
-is-code-requires : tie.Need-is-code-requires
+abbrev Inv-loop : tie.InvT-loop
+Inv-loop a b row₀ row = (row ≤ 7) × (kindIn (drop row byRow) a b ≡ kindOf a b)
+
+abbrev μ-loop : tie.MeasureT-loop
+μ-loop a b row₀ row = 7 - row
+
+loop-holds : tie.Need-loop-holds Inv-loop μ-loop
+unfolding kindOf
+loop-holds c = (omega arith, refl)
+
+mul-code : tie.Need-mul-code Inv-loop μ-loop
+mul-code c = search needs
+
+array-copy-out-code : tie.Need-array-copy-out-code Inv-loop μ-loop
+array-copy-out-code c = search needs
+
+array-read-is-code : tie.Need-array-read-is-code Inv-loop μ-loop
+array-read-is-code c = search needs
+
+array-read-is-code-2 : tie.Need-array-read-is-code-2 Inv-loop μ-loop
+array-read-is-code-2 c = search needs
+
+is-code-requires : tie.Need-is-code-requires Inv-loop μ-loop
 is-code-requires c κs = search needs
 
-returns : tie.Need-returns
-unfolding kindOf
-returns c = rw (sym (c .before .is-code .ensures) ∙ c .if1 .taken)
+array-copy-out-t35 : tie.Need-array-copy-out-t35 Inv-loop μ-loop
+array-copy-out-t35 c = search needs
 
-is-code-requires-2 : tie.Need-is-code-requires-2
-is-code-requires-2 c κs = search needs
+returns : tie.Need-returns Inv-loop μ-loop
+returns c = row-found (c .before .before .before .before .before .before .args .a) (c .before .before .before .before .before .before .args .b) (c .before .before .before .before .before .loop .row) (c .before .before .before .before .loop-test .taken) (c .before .before .before .before .before .loop .inv .1) (c .before .before .is-code .ensures) (c .before .if1 .taken)
 
-returns-2 : tie.Need-returns-2
-unfolding kindOf
-returns-2 c = rw (sym (c .before .before .before .is-code .ensures) ∙ c .before .before .if1 .left, sym (c .before .is-code2 .ensures) ∙ c .if2 .taken)
+add-row : tie.Need-add-row Inv-loop μ-loop
+add-row c = search needs
 
-is-code-requires-3 : tie.Need-is-code-requires-3
-is-code-requires-3 c κs = search needs
+loop-less : tie.Need-loop-less Inv-loop μ-loop
+loop-less c = search needs
 
-returns-3 : tie.Need-returns-3
-unfolding kindOf
-returns-3 c = rw (sym (c .before .before .before .before .before .is-code .ensures) ∙ c .before .before .before .before .if1 .left, sym (c .before .before .before .is-code2 .ensures) ∙ c .before .before .if2 .left, sym (c .before .is-code3 .ensures) ∙ c .if3 .taken)
+loop-again : tie.Need-loop-again Inv-loop μ-loop
+loop-again c = (omega (arith, c .before .before .before .loop-test .taken), row-passed (c .before .before .before .before .before .args .a) (c .before .before .before .before .before .args .b) (c .before .before .before .before .loop .row) (c .before .before .before .loop-test .taken) (c .before .before .before .before .loop .inv .1) (c .before .is-code .ensures) (c .if1 .left))
 
-is-code-requires-4 : tie.Need-is-code-requires-4
-is-code-requires-4 c κs = search needs
-
-returns-4 : tie.Need-returns-4
-unfolding kindOf
-returns-4 c = rw (sym (c .before .before .before .before .before .before .before .is-code .ensures) ∙ c .before .before .before .before .before .before .if1 .left, sym (c .before .before .before .before .before .is-code2 .ensures) ∙ c .before .before .before .before .if2 .left, sym (c .before .before .before .is-code3 .ensures) ∙ c .before .before .if3 .left, sym (c .before .is-code4 .ensures) ∙ c .if4 .taken)
-
-returns-5 : tie.Need-returns-5
-unfolding kindOf
-returns-5 c = rw (sym (c .before .before .before .before .before .before .before .is-code .ensures) ∙ c .before .before .before .before .before .before .if1 .left, sym (c .before .before .before .before .before .is-code2 .ensures) ∙ c .before .before .before .before .if2 .left, sym (c .before .before .before .is-code3 .ensures) ∙ c .before .before .if3 .left, sym (c .before .is-code4 .ensures) ∙ c .if4 .left)
+returns-2 : tie.Need-returns-2 Inv-loop μ-loop
+returns-2 c = rows-over (c .before .before .args .a) (c .before .before .args .b) (c .before .loop .row) (c .loop-test .left) (c .before .loop .inv .1)
 
 pub kind-of-spec : {M : Type 1} → statement M
 kind-of-spec =
     tie.close
     (tie.spec
+    Inv-loop
+    μ-loop
+    loop-holds
+    mul-code
+    array-copy-out-code
+    array-read-is-code
+    array-read-is-code-2
     is-code-requires
+    array-copy-out-t35
     returns
-    is-code-requires-2
-    returns-2
-    is-code-requires-3
-    returns-3
-    is-code-requires-4
-    returns-4
-    returns-5)
+    add-row
+    loop-less
+    loop-again
+    returns-2)
