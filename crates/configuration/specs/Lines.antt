@@ -9,11 +9,10 @@ use Rattle.text.specs.declared.Number.{Number}
 use Rattle.text.specs.declared.Number.the-variants as Number′
 use Rattle.text.specs.Reading.{twoDigitsOf, decimalOf}
 use Rattle.numbers.specs.declared.Kind.{Kind}
-use Rattle.numbers.specs.declared.Kind.the-variants.{Ma, Mt, Pr, Md}
 use Rattle.numbers.specs.declared.Coded.{Coded}
 use Rattle.numbers.specs.declared.Coded.the-variants as Coded′
 use Rattle.numbers.specs.Quoted.{byte}
-use Rattle.numbers.specs.Kinds.{kindOf}
+use Rattle.numbers.specs.Kinds.{kindOf, isDrum}
 use Rattle.configuration.specs.declared.line.ChannelLine.{ChannelLine}
 use Rattle.configuration.specs.declared.line.ChannelLine.the-variants as ChannelLine′
 use Rattle.configuration.specs.declared.line.DownLine.{DownLine}
@@ -23,16 +22,10 @@ use Rattle.configuration.specs.declared.line.CodeLine.the-variants as Co
 
 -- units 1 to 16, or for MD the drum length, 35,330 to 1,000,000 words
 abbrev pub least : Kind → ℕ
-least Ma = 1
-least Mt = 1
-least Pr = 1
-least Md = 35330
+least kind = cond (isDrum kind) 35330 1
 
 abbrev pub most : Kind → ℕ
-most Ma = 16
-most Mt = 16
-most Pr = 16
-most Md = 1000000
+most kind = cond (isDrum kind) 1000000 16
 
 -- goes on with a number that was read, and its length
 abbrev pub onNumber : {A : Type 0} → Number → A → (ℕ → ℕ → A) → A

@@ -29,24 +29,20 @@ pub enum CodeLine {
 fn least_of(kind: Kind) -> u32
     ensures { λ r. ⌜ r ≡ least kind ⌝ }
 {
-    match kind {
-        Kind::Ma => 1,
-        Kind::Mt => 1,
-        Kind::Pr => 1,
-        Kind::Md => 35330,
+    if numbers::is_drum(kind) {
+        return 35330;
     }
+    1
 }
 
 // The highest n of a kind.
 fn most_of(kind: Kind) -> u32
     ensures { λ r. ⌜ r ≡ most kind ⌝ }
 {
-    match kind {
-        Kind::Ma => 16,
-        Kind::Mt => 16,
-        Kind::Pr => 16,
-        Kind::Md => 1000000,
+    if numbers::is_drum(kind) {
+        return 1000000;
     }
+    16
 }
 
 // A number from `low` to `high` that ends its line.

@@ -8,16 +8,13 @@ use mathlib.Core.List.{List, [], _++_, append-assoc}
 use native.Mathlib.Omega.{arith}
 use lib.ListN.{length, take, drop, length-append, take-append-drop}
 use lib.Seq.{take-append-le, take-append-seam}
-use Rattle.numbers.specs.declared.Kind.{Kind}
-use Rattle.numbers.specs.declared.Kind.the-variants.{Ma, Mt, Pr, Md}
 use Rattle.numbers.specs.Quoted.{bytes}
 use Rattle.text.specs.Writing.{decimalText}
 use Rattle.text.proofs.Undo.{few-digits}
 use Rattle.channels.specs.declared.Channel.{Channel}
-use Rattle.configuration.specs.Lines.{most}
 use Rattle.configuration.specs.Configured.{configurationOf}
 use Rattle.configuration_form.specs.Form.{Item, line, written, Due, Right, AllRight, InForm, FirstBad}
-use Rattle.configuration_form.proofs.LineLaws.{channel-long}
+use Rattle.configuration_form.proofs.LineLaws.{channel-long, most-small}
 use Rattle.configuration_form.specs.Means.{Said}
 use Rattle.configuration_form.proofs.Meaning.{meaning}
 use Rattle.configuration_form.proofs.Unique.{first-named}
@@ -32,17 +29,11 @@ weight (Due.codes left next of marks word) = 3 * left
 count-long : (k n : ℕ) → n < 10 ^ suc k → length (line (Item.count n)) ≤ k + 2
 count-long k n h = omega (arith, length-append (decimalText n) (bytes "\n"), few-digits k n h)
 
-most-kind : (kind : Kind) → most kind ≤ 1000000
-most-kind Ma = omega arith
-most-kind Mt = omega arith
-most-kind Pr = omega arith
-most-kind Md = omega arith
-
 -- a right line takes its share, and no more than 14
 share : {due next : Due} {item : Item} → Right due item next → (length (line item) + weight next ≤ weight due) × (length (line item) ≤ 14)
 share (Right.channelCount {n = n} a) = let l = count-long 1 n (omega arith) in (omega arith, omega arith)
 share (Right.channelLine {left = left} {c = c} {n = n} {kind = kind} a b d e f) =
-    let l = count-long 6 n (omega (arith, most-kind kind)) in
+    let l = count-long 6 n (omega (arith, most-small kind)) in
     (omega (arith, channel-long c kind n), omega (arith, channel-long c kind n))
 share (Right.downCount {m = m} a) = let l = count-long 2 m (omega arith) in (omega arith, omega arith)
 share (Right.downLine {left = left} a b d e) = (omega arith, omega arith)

@@ -1,7 +1,7 @@
 -- One line, both ways: what is read as a line is that line written, and a line written is read as itself. Assumes
 -- nothing.
 use Prim.Native.Nat.{ℕ, zero, suc, _+_, _^_, _≤_, _<_}
-use mathlib.Core.Path.{_≡_, refl, sym, ap, _∙_}
+use mathlib.Core.Path.{_≡_, refl, sym, ap, subst, _∙_}
 use mathlib.Core.Bool.{cond}
 use mathlib.Core.List.{List, [], _∷_, _++_, append-assoc}
 use native.Mathlib.Omega.{arith}
@@ -11,12 +11,11 @@ use lib.Seq.{drop-drop, getD-append-seam}
 use borrow.Author.Tests.{le-leb, leb-true, eqb-true}
 use Rattle.numbers.specs.Quoted.{byte, bytes}
 use Rattle.numbers.proofs.Tests.{by-bool}
-use Rattle.numbers.specs.Kinds.{codeOf, kindOf}
-use Rattle.numbers.proofs.KindLaws.{code-read, read-code}
+use Rattle.numbers.specs.Kinds.{codeOf, kindOf, isDrum}
+use Rattle.numbers.proofs.KindLaws.{code-two, code-long, code-read, read-code}
 use Rattle.numbers.specs.declared.ChannelNumber.{ChannelNumber}
 use Rattle.numbers.specs.declared.UnitNumber.{UnitNumber}
 use Rattle.numbers.specs.declared.Kind.{Kind}
-use Rattle.numbers.specs.declared.Kind.the-variants.{Ma, Mt, Pr, Md}
 use Rattle.numbers.specs.declared.Coded.{Coded}
 use Rattle.numbers.specs.declared.Coded.the-variants as Coded′
 use Rattle.text.specs.Class.{isDigit}
@@ -115,10 +114,7 @@ six (a ∷ b ∷ x ∷ y ∷ z ∷ w ∷ s) c e p q = e ∙ ap (λ (l : List ℕ
 
 -- a channel line is six bytes and its n
 pub channel-long : (c : ℕ) (kind : Kind) (n : ℕ) → length (line (Item.channel c kind n)) ≡ 6 + length (line (Item.count n))
-channel-long c Ma n = omega arith
-channel-long c Mt n = omega arith
-channel-long c Pr n = omega arith
-channel-long c Md n = omega arith
+channel-long c kind n = omega (arith, length-append (codeOf kind) (bytes " " ++ line (Item.count n)), code-long kind)
 
 -- the parts of a channel line that was read, put together
 module _ (s : List ℕ) (c : ℕ) (kind : Kind) (n k : ℕ) where
@@ -134,14 +130,11 @@ module _ (s : List ℕ) (c : ℕ) (kind : Kind) (n k : ℕ) where
         small = small;
         least = last .least;
         most = last .most;
-        starts = record { same = whole ∙ regroup kind ∙ ap (λ (l : List ℕ). line (Item.channel c kind n) ++ l) (drop-drop k 6 s); long = ap (λ (m : ℕ). 6 + m) (last .starts .long) ∙ sym (channel-long c kind n) };
+        starts = record { same = whole ∙ regroup ∙ ap (λ (l : List ℕ). line (Item.channel c kind n) ++ l) (drop-drop k 6 s); long = ap (λ (m : ℕ). 6 + m) (last .starts .long) ∙ sym (channel-long c kind n) };
       }
     where
-      regroup : (kind : Kind) → twoText c ++ (bytes " " ++ (codeOf kind ++ (bytes " " ++ (line (Item.count n) ++ drop k (drop 6 s))))) ≡ line (Item.channel c kind n) ++ drop k (drop 6 s)
-      regroup Ma = refl
-      regroup Mt = refl
-      regroup Pr = refl
-      regroup Md = refl
+      regroup : twoText c ++ (bytes " " ++ (codeOf kind ++ (bytes " " ++ (line (Item.count n) ++ drop k (drop 6 s))))) ≡ line (Item.channel c kind n) ++ drop k (drop 6 s)
+      regroup = ap (λ (l : List ℕ). twoText c ++ (bytes " " ++ l)) (sym (append-assoc (codeOf kind) (bytes " " ++ line (Item.count n)) (drop k (drop 6 s))))
 
 -- what is read as `cc KK n` is that line written
 pub channel-redone : (s : List ℕ) (c : ChannelNumber) (kind : Kind) (n k : ℕ) → channelLine s ≡ ChannelLine′.Is c kind n k → ChannelIs s (c .0) kind n k
@@ -183,11 +176,8 @@ channel-redone s c kind n k e = number (twoDigitsOf s) refl e
         (λ u. no-channel (rw (t, u) at e)))
         (λ t. no-channel (rw t at e))
 
-most-small : (kind : Kind) → most kind < 10 ^ 7
-most-small Ma = omega arith
-most-small Mt = omega arith
-most-small Pr = omega arith
-most-small Md = omega arith
+pub most-small : (kind : Kind) → most kind ≤ 1000000
+most-small kind = by-bool (isDrum kind) (λ t. rw t (omega arith)) (λ f. rw f (omega arith))
 
 -- a channel line whose code is the letters x, y
 spelt : (c n x y : ℕ) (kind : Kind) (rest : List ℕ) → kindOf x y ≡ Coded′.Is kind → c ≤ 15 → least kind ≤ n → n ≤ most kind
@@ -198,19 +188,17 @@ spelt c n x y kind rest e a b d =
       two-undone c (bytes " " ++ ((x ∷ y ∷ []) ++ (bytes " " ++ (line (Item.count n) ++ rest)))) (omega arith),
       le-leb c 15 a,
       e,
-      last-undone (least kind) (most kind) n rest b d (most-small kind),
+      last-undone (least kind) (most kind) n rest b d (omega (arith, most-small kind)),
     )
 
 -- and `cc KK n` written is read as itself
 pub channel-undone : (c : ℕ) (kind : Kind) (n : ℕ) (rest : List ℕ) → c ≤ 15 → least kind ≤ n → n ≤ most kind
     → channelLine (line (Item.channel c kind n) ++ rest) ≡ ChannelLine′.Is (record { 0 = c }) kind n (length (line (Item.channel c kind n)))
-channel-undone c kind n rest a b d = by kind a b d ∙ ap (ChannelLine′.Is (record { 0 = c }) kind n) (sym (channel-long c kind n))
-  where
-    by : (m : Kind) → c ≤ 15 → least m ≤ n → n ≤ most m → channelLine (line (Item.channel c m n) ++ rest) ≡ ChannelLine′.Is (record { 0 = c }) m n (6 + length (line (Item.count n)))
-    by Ma = spelt c n (byte "M") (byte "A") Ma rest (code-read Ma)
-    by Mt = spelt c n (byte "M") (byte "T") Mt rest (code-read Mt)
-    by Pr = spelt c n (byte "P") (byte "R") Pr rest (code-read Pr)
-    by Md = spelt c n (byte "M") (byte "D") Md rest (code-read Md)
+channel-undone c kind n rest a b d =
+    subst
+    (λ (code : List ℕ). channelLine ((twoText c ++ (bytes " " ++ (code ++ (bytes " " ++ line (Item.count n))))) ++ rest) ≡ ChannelLine′.Is (record { 0 = c }) kind n (6 + length (line (Item.count n))))
+    (code-two kind) (spelt c n (getD (codeOf kind) 0 0) (getD (codeOf kind) 1 0) kind rest (code-read kind) a b d)
+    ∙ ap (ChannelLine′.Is (record { 0 = c }) kind n) (sym (channel-long c kind n))
 
 -- `cc uu`
 pub record DownIs (s : List ℕ) (c u : ℕ) : Type 0 where

@@ -1,15 +1,17 @@
 -- The lines of a text that starts with right ones: each of these ends at its only LF, so they are counted, and a line
 -- that is there is not made another by what follows. Assumes nothing.
 use Prim.Native.Nat.{ℕ, zero, suc, _+_, _/_, _%_, _≤_}
-use mathlib.Core.Path.{_≡_, refl, sym, ap, _∙_}
+use mathlib.Core.Path.{_≡_, refl, sym, ap, subst, _∙_}
+use mathlib.Core.Bool.{true, not, _&&_}
 use mathlib.Core.List.{List, [], _∷_, _++_, append-assoc}
 use native.Mathlib.Omega.{arith}
-use lib.Dec.{ltb}
-use lib.ListN.{length, drop, length-append}
-use Rattle.numbers.proofs.Tests.{by-bool}
+use lib.Dec.{eqb, ltb}
+use borrow.Author.Tests.{eq-eqb}
+use lib.ListN.{length, getD, drop, length-append}
+use Rattle.numbers.proofs.Tests.{by-bool, both, never}
+use Rattle.numbers.proofs.KindLaws.{all-kinds, code-two}
 use Rattle.numbers.specs.Kinds.{codeOf}
 use Rattle.numbers.specs.declared.Kind.{Kind}
-use Rattle.numbers.specs.declared.Kind.the-variants.{Ma, Mt, Pr, Md}
 use Rattle.text.specs.Writing.{twoText, octalText, digitsText, decimalText}
 use Rattle.words.specs.Lines.{lineOf, linesOf, size}
 use Rattle.words.proofs.LineLaws.{NoLf, no-lf-append, first-ended, has-line, line-split, line-clean}
@@ -27,10 +29,12 @@ two-clean : (n : ℕ) (t : List ℕ) → NoLf t → NoLf (twoText n ++ t)
 two-clean n t p = ((λ e. omega arith), ((λ e. omega arith), p))
 
 code-clean : (kind : Kind) (t : List ℕ) → NoLf t → NoLf (codeOf kind ++ t)
-code-clean Ma t p = ((λ e. omega arith), ((λ e. omega arith), p))
-code-clean Mt t p = ((λ e. omega arith), ((λ e. omega arith), p))
-code-clean Pr t p = ((λ e. omega arith), ((λ e. omega arith), p))
-code-clean Md t p = ((λ e. omega arith), ((λ e. omega arith), p))
+code-clean kind t p =
+    let q = both (not (eqb (getD (codeOf kind) 0 0) 10)) (not (eqb (getD (codeOf kind) 1 0) 10)) (all-kinds (λ k. not (eqb (getD (codeOf k) 0 0) 10) && not (eqb (getD (codeOf k) 1 0) 10)) refl kind) in
+    subst (λ (code : List ℕ). NoLf (code ++ t)) (code-two kind) (apart (getD (codeOf kind) 0 0) (q .0), (apart (getD (codeOf kind) 1 0) (q .1), p))
+  where
+    apart : (b : ℕ) → not (eqb b 10) ≡ true → b ≡ 10 → ⊥
+    apart b t e = never t (rw (eq-eqb b 10 e))
 
 -- a line without its LF
 abbrev body : Item → List ℕ
