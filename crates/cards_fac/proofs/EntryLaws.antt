@@ -5,24 +5,35 @@ use mathlib.Core.Bool.{Bool, true, false, cond, _&&_, not}
 use mathlib.Core.Logic.{⊎-elim}
 use mathlib.Core.List.{List, [], _∷_}
 use native.Mathlib.Nat.{le-of-suc-le-suc, eq-zero-or-pos}
+use native.Mathlib.Numerals.{add-one}
 use native.Mathlib.Omega.{arith}
 use lib.Dec.{eqb, ltb, leb}
-use lib.ListN.{length, drop, take, length-drop}
+use lib.ListN.{length, getD, drop, take, length-drop, drop-of-length-le}
 use lib.Seq.{take-all, length-take-le}
 use borrow.Author.Tests.{le-ltb, lt-ltb, ne-eqb, leb-true, eqb-true}
 use Rattle.numbers.proofs.Tests.{by-bool, never, both}
+use Rattle.numbers.proofs.KindLaws.{of-below}
 use Rattle.text.specs.Class.{isDigit, isLetter}
-use Rattle.words.specs.Words.{every, value, leading, isnt}
+use Rattle.words.specs.Words.{every, same, value, leading, isnt}
 use Rattle.words.proofs.WordLaws.{leading-front, tens, value-below}
 use Rattle.cards_fields.specs.Fields.{padded}
 use Rattle.cards_fields.proofs.FieldLaws.{rest-is}
 use Rattle.cards_request.specs.Errors.{good, errorIf}
 use Rattle.cards_request.proofs.ErrorLaws.{not-good, or-else-none}
-use Rattle.cards_fac.specs.Fac.{codes, indexIn, codeText, channelText, slashAt, numberText, channelGood, most, numberGood, entryGood, slot, codeOf, slotOf, codeError, formError, entryAnswer, entryOf}
+use Rattle.cards_fac.specs.Fac.{codes, lastCode, indexIn, codeText, channelText, slashAt, numberText, channelGood, most, numberGood, entryGood, slot, codeOf, slotOf, codeError, formError, entryAnswer, entryOf}
 use Rattle.cards_request.specs.declared.CardError.the-variants.{LongCode, UnknownCode, WrongEntry}
 use Rattle.cards_request.specs.declared.Verdict.{Verdict}
 use Rattle.cards_request.specs.declared.Verdict.the-variants.{Good, Wrong}
 use Rattle.cards_fac.specs.declared.Entry.{Entry}
+
+codes-many : length codes ≡ suc lastCode
+unfolding codes
+codes-many = refl
+
+-- a code is two letters
+pub code-size : (i : ℕ) → i ≤ lastCode → length (getD codes i []) ≡ 2
+unfolding codes
+code-size i h = eqb-true (length (getD codes i [])) 2 (of-below (λ i. eqb (length (getD codes i [])) 2) (suc lastCode) refl i (omega arith))
 
 leading-padded : (p : ℕ → Bool) (w : ℕ) (t : List ℕ) → w ≤ length t → leading p (padded w t) ≡ take w (leading p t)
 leading-padded p zero t h = refl
@@ -33,19 +44,42 @@ leading-padded p (suc w) (b ∷ t) h = test (leading-padded p w t (le-of-suc-le-
     test ih true = ap (λ (l : List ℕ). b ∷ l) ih
     test ih false = refl
 
+-- the codes behind the first i, looked at one by one
+next-code : (c : List ℕ) (ks : List (List ℕ)) (i : ℕ) → i < length ks
+    → indexIn (drop i ks) c ≡ cond (same (getD ks i []) c) 0 (suc (indexIn (drop (suc i) ks) c))
+next-code c [] i h = absurd (omega arith)
+next-code c (k ∷ ks) zero h = refl
+next-code c (k ∷ ks) (suc i) h = next-code c ks i (omega arith)
+
+module _ (c : List ℕ) (i : ℕ) (low : i ≤ lastCode) (before : indexIn codes c ≡ i + indexIn (drop i codes) c) {r : Bool} (is : r ≡ same (getD codes i []) c) where
+  so : indexIn (drop i codes) c ≡ cond r 0 (suc (indexIn (drop (i + 1) codes) c))
+  so = next-code c codes i (omega (arith, codes-many)) ∙ rw (add-one i, is)
+
+  -- a code is there: its index is the answer
+  pub code-found : r ≡ true → i ≡ indexIn codes c
+  code-found t = let z : indexIn (drop i codes) c ≡ 0 = so ∙ rw t in omega arith
+
+  -- it is not: the codes behind it
+  pub code-passed : r ≡ false → indexIn codes c ≡ i + 1 + indexIn (drop (i + 1) codes) c
+  code-passed f = let z : indexIn (drop i codes) c ≡ suc (indexIn (drop (i + 1) codes) c) = so ∙ rw f in omega arith
+
+-- no code is left
+pub codes-over : (c : List ℕ) (i : ℕ) → lastCode < i → indexIn codes c ≡ i + indexIn (drop i codes) c → i ≡ indexIn codes c
+codes-over c i h e = let z : indexIn (drop i codes) c ≡ 0 = rw (drop-of-length-le codes {i = i} (omega (arith, codes-many))) in omega arith
+
 -- the error of a code
 module _ (t : List ℕ) where
   pub code-long : 2 < length (codeText t) → codeError t ≡ Wrong LongCode
   unfolding codeError
   code-long h = rw (lt-ltb 2 (length (codeText t)) h)
 
-  pub code-unknown : length (codeText t) ≤ 2 → 5 < codeOf t → codeError t ≡ Wrong UnknownCode
+  pub code-unknown : length (codeText t) ≤ 2 → lastCode < codeOf t → codeError t ≡ Wrong UnknownCode
   unfolding codeError
-  code-unknown h g = rw (le-ltb 2 (length (codeText t)) h, lt-ltb 5 (codeOf t) g)
+  code-unknown h g = rw (le-ltb 2 (length (codeText t)) h, lt-ltb lastCode (codeOf t) g)
 
-  pub code-known : length (codeText t) ≤ 2 → codeOf t ≤ 5 → codeError t ≡ Good
+  pub code-known : length (codeText t) ≤ 2 → codeOf t ≤ lastCode → codeError t ≡ Good
   unfolding codeError
-  code-known h g = rw (le-ltb 2 (length (codeText t)) h, le-ltb 5 (codeOf t) g)
+  code-known h g = rw (le-ltb 2 (length (codeText t)) h, le-ltb lastCode (codeOf t) g)
 
 -- a field's first twelve bytes tell its code's error
 pub code-padded : (t : List ℕ) → 12 < length t → codeError (padded 12 t) ≡ codeError t
@@ -88,11 +122,11 @@ number-few code s e = omega (arith, leb-true (length s) (most code) (both (leb (
 
 -- an entry whose code is known
 module _ (t : List ℕ) (known : codeError t ≡ Good) where
-  pub code-low : codeOf t ≤ 5
+  pub code-low : codeOf t ≤ lastCode
   code-low =
       ⊎-elim (λ z. omega arith)
       (λ p. ⊎-elim (λ z. not-good (sym (code-unknown t (omega arith) (omega arith)) ∙ known)) (λ q. not-good (sym (code-long t (omega arith)) ∙ known)) (eq-zero-or-pos (length (codeText t) - 2)))
-      (eq-zero-or-pos (codeOf t - 5))
+      (eq-zero-or-pos (codeOf t - lastCode))
 
   pub code-short : length (codeText t) ≤ 2
   code-short = ⊎-elim (λ z. omega arith) (λ q. not-good (sym (code-long t (omega arith)) ∙ known)) (eq-zero-or-pos (length (codeText t) - 2))

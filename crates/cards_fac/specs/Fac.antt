@@ -2,10 +2,12 @@
 use Prim.Native.Nat.{ℕ, suc, _+_, _-_, _*_, _<_}
 use mathlib.Core.Path.{_≡_}
 use mathlib.Core.Bool.{Bool, cond, _&&_, not}
-use mathlib.Core.List.{List, [], _∷_}
+use mathlib.Core.List.{List, [], _∷_, map}
 use lib.Dec.{eqb, ltb, leb}
 use lib.ListN.{length, getD, drop, set}
 use Rattle.numbers.specs.Quoted.{byte, bytes}
+use Rattle.numbers.specs.Kinds.{codeOf as kindCode, inOrder, unitKinds}
+use Rattle.numbers.specs.declared.Kind.the-variants.{Md}
 use Rattle.text.specs.Class.{isDigit, isLetter}
 use Rattle.words.specs.Words.{every, same, value, leading, isnt}
 use Rattle.cards_fields.specs.Fields.{field, fields, malformed}
@@ -18,9 +20,13 @@ use Rattle.cards_fac.specs.declared.Entry.{Entry}
 use Rattle.cards_request.specs.declared.Facilities.{Facilities}
 use Rattle.cards_fac.specs.declared.Asked.{Asked}
 
--- the codes in the order in which entries are written; those of the kinds of unit come last
+-- the codes in the order in which entries are written: IB, DB, MD, and the kinds that have units, in their order
 unfoldable pub codes : List (List ℕ)
-codes = bytes "IB" ∷ bytes "DB" ∷ bytes "MD" ∷ bytes "MA" ∷ bytes "MT" ∷ bytes "PR" ∷ []
+codes = bytes "IB" ∷ bytes "DB" ∷ map kindCode (Md ∷ inOrder)
+
+-- the index of the last code
+abbrev pub lastCode : ℕ
+lastCode = 2 + unitKinds
 
 -- the index of a code; past the last for one that is unknown
 abbrev pub indexIn : List (List ℕ) → List ℕ → ℕ
@@ -89,7 +95,7 @@ slotOf t = slot (codeOf t) (value (channelText t))
 
 -- "9 a code of over two letters, 11 an unknown or empty code"
 unfoldable pub codeError : List ℕ → Verdict
-codeError t = orElse (errorIf (ltb 2 (length (codeText t))) LongCode) (errorIf (ltb 5 (codeOf t)) UnknownCode)
+codeError t = orElse (errorIf (ltb 2 (length (codeText t))) LongCode) (errorIf (ltb lastCode (codeOf t)) UnknownCode)
 
 -- "13 anything else"
 unfoldable pub formError : List ℕ → Verdict

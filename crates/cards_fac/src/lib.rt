@@ -10,8 +10,24 @@ ghost use Prim.Native.Nat.{_≤_, _<_};
 ghost use lib.ListN.{getD, drop, set};
 ghost use Rattle.cards_fields.specs.Fields.{field, fields};
 ghost use Rattle.cards_request.specs.Errors.{good};
-ghost use Rattle.cards_fac.specs.Fac.{codes, indexIn, channelGood, most, numberGood, slot, slots, codeError, coreError};
+ghost use Rattle.cards_fac.specs.Fac.{codes, lastCode, indexIn, channelGood, most, numberGood, slot, slots, codeError, coreError};
 ghost use Rattle.cards_fac.specs.Fac.{nothing, asksOf, entryAnswer, EntryRead, askedAnswer, askedOf, facOf};
+
+// The codes in the order in which entries are written: core, drum, and the kinds that have units in their order.
+pub const CODES: [[u8; 2]; 3 + numbers::UNIT_KINDS] = [
+    [b'I', b'B'],
+    [b'D', b'B'],
+    [b'M', b'D'],
+    [b'M', b'A'],
+    [b'M', b'T'],
+    [b'P', b'R'],
+    [b'M', b'C'],
+    [b'C', b'R'],
+    [b'P', b'T'],
+];
+
+// The index of the last code.
+pub const LAST_CODE: usize = 2 + numbers::UNIT_KINDS;
 
 // How many numbers a FAC card can give: IB, DB, MD and the counts of units.
 pub const SLOTS: usize = 3 + cards_request::COUNTS;
@@ -29,29 +45,19 @@ pub struct Asked {
     pub facilities: Facilities,
 }
 
-// The index of a code: IB, DB, MD, MA, MT, PR, and 6 for one that is unknown.
+// The index of a code; past the last for one that is unknown.
 fn code_index(t: &[u8]) -> usize
     ensures { λ r. ⌜ r ≡ indexIn codes (now (t .entry)) ⌝ }
 {
-    if words::is_same(b"IB", t) {
-        return 0;
+    let mut k: usize = 0;
+    while k <= LAST_CODE {
+        let code = CODES[k];
+        if words::is_same(&code, t) {
+            return k;
+        }
+        k += 1;
     }
-    if words::is_same(b"DB", t) {
-        return 1;
-    }
-    if words::is_same(b"MD", t) {
-        return 2;
-    }
-    if words::is_same(b"MA", t) {
-        return 3;
-    }
-    if words::is_same(b"MT", t) {
-        return 4;
-    }
-    if words::is_same(b"PR", t) {
-        return 5;
-    }
-    6
+    k
 }
 
 // Whether a text is a good logical channel for a code.
@@ -95,7 +101,7 @@ fn is_number(code: usize, t: &[u8]) -> bool
 
 // Where a request holds what an entry asks for.
 fn slot_of(code: usize, channel: u32) -> usize
-    requires { ⌜ (code ≤ 5) × (channel ≤ 15) ⌝ }
+    requires { ⌜ (code ≤ lastCode) × (channel ≤ 15) ⌝ }
     ensures { λ r. ⌜ (r ≡ slot code channel) × (r < slots) ⌝ }
 {
     if code < 3 {
@@ -124,7 +130,7 @@ fn code_error(t: &[u8]) -> Verdict
     if 2 < n {
         return Verdict::Wrong(CardError::LongCode);
     }
-    if 5 < code_index(&t[..n]) {
+    if LAST_CODE < code_index(&t[..n]) {
         return Verdict::Wrong(CardError::UnknownCode);
     }
     Verdict::Good

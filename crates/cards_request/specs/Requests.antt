@@ -1,8 +1,9 @@
 -- The request for nothing, and no further cards: what stands beside an error, and behind the schedule's last request;
 -- and the texts that further cards hold.
-use Prim.Native.Nat.{ℕ}
+use Prim.Native.Nat.{ℕ, _*_}
 use mathlib.Core.List.{List, [], _∷_}
 use lib.ListN.{replicate, take}
+use Rattle.numbers.specs.Kinds.{unitKinds}
 use Rattle.numbers.specs.Quoted.{byte}
 use Rattle.cards_request.specs.declared.Facilities.{Facilities}
 use Rattle.cards_request.specs.declared.Request.{Request}
@@ -10,9 +11,9 @@ use Rattle.cards_request.specs.declared.FurtherCard.{FurtherCard}
 use Rattle.cards_request.specs.declared.Further.{Further}
 use Rattle.cards_request.specs.declared.FullRequest.{FullRequest}
 
--- how many counts of units a request has: one for each of the 16 logical channels of each kind, MA, MT and PR
+-- how many counts of units a request has: one for each of the 16 logical channels of each kind but the drum
 abbrev pub counts : ℕ
-counts = 48
+counts = unitKinds * 16
 
 -- no units
 abbrev pub noUnits : List ℕ

@@ -43,11 +43,11 @@ pub enum Verdict {
     Wrong(CardError),
 }
 
-// How many counts of units a request has: one for each of the 16 logical channels of each kind, MA, MT and PR.
-pub const COUNTS: usize = 48;
+// How many counts of units a request has: one for each of the 16 logical channels of each kind but the drum.
+pub const COUNTS: usize = numbers::UNIT_KINDS * 16;
 
-// What a request asks for, 0 for none: blocks, drum words, and units at kind * 16 + logical channel, kinds in the
-// order MA, MT, PR.
+// What a request asks for, 0 for none: blocks, drum words, and units at order * 16 + logical channel, kinds in the
+// written order, MA, MT, PR, MC, CR, PT.
 pub struct Facilities {
     pub ib: u8,
     pub db: u8,

@@ -15,7 +15,7 @@ use Rattle.words.specs.Words.{every, same, value}
 use Rattle.words.proofs.WordLaws.{same-equal}
 use Rattle.cards_fields.proofs.RoundLaws.{total, digits-few}
 use Rattle.cards_fac.specs.Fac.{codes, codeText, codeOf, channelText, slashAt, numberText, channelGood, most, numberGood, entryGood, slot, slotOf, codeError, formError, entryError, entered, entriesError, allEntered, nothing}
-use Rattle.cards_fac.specs.Fac.{indexIn}
+use Rattle.cards_fac.specs.Fac.{indexIn, lastCode}
 use Rattle.cards_request.specs.Errors.{errorIf}
 use Rattle.cards_request.proofs.ErrorLaws.{or-else-none, not-good}
 use Rattle.cards_request.specs.declared.CardError.the-variants.{WrongEntry}
@@ -26,7 +26,7 @@ use Rattle.cards_writing.specs.Writing.{codeAt, channelAt, entryText, entryText
 -- ---- an entry, read and written again
 
 -- the slot of a code and a logical channel gives both back
-code-again : (code channel : ℕ) → code ≤ 5 → channel ≤ 15 → codeAt (slot code channel) ≡ code
+code-again : (code channel : ℕ) → code ≤ lastCode → channel ≤ 15 → codeAt (slot code channel) ≡ code
 code-again code channel h l =
     by-bool (ltb code 3)
     (λ t. rw (t, t))

@@ -11,6 +11,7 @@ use Rattle.words.specs.Words.{every, has, passes}
 use Rattle.words.specs.declared.Class.the-variants.{Hyphened}
 use Rattle.cards_fields.specs.Fields.{padded}
 use Rattle.cards_request.specs.declared.Request.{Request}
+use Rattle.cards_request.specs.Requests.{counts as many}
 
 -- a name of so many characters, each of a class, and blanks behind them
 pub record Name (class : ℕ → Bool) (least most : ℕ) (s : List ℕ) : Type 0 where
@@ -45,7 +46,7 @@ pub record Allowed (r : Request) : Type 0 where
   -- "14 IB plus DB over 28; 27 no IB"
   pub ib : 1 ≤ r .facilities .ib
   pub core : r .facilities .ib + r .facilities .db ≤ 28
-  -- "`MD/n` (1-6)", and "(1-2 digits)" for each of 16 logical channels of MA, MT and PR; 0 where nothing is asked for
+  -- "`MD/n` (1-6)", and "(1-2 digits)" for each of 16 logical channels of each kind but the drum; 0 where none are
   pub drum : r .facilities .md ≤ 999999
-  pub counts : length (r .facilities .units) ≡ 48
+  pub counts : length (r .facilities .units) ≡ many
   pub units : (k : ℕ) → getD (r .facilities .units) k 0 ≤ 99

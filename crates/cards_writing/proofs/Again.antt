@@ -2,7 +2,7 @@
 -- nothing.
 use Prim.Native.Nat.{ℕ, zero, suc, _+_, _-_, _/_, _%_, _≤_, _<_}
 use mathlib.Core.Path.{_≡_, refl, ap, _∙_}
-use mathlib.Core.Bool.{Bool, true, false, cond}
+use mathlib.Core.Bool.{Bool, true, false, cond, _&&_}
 use mathlib.Core.Logic.{⊎-elim}
 use mathlib.Core.List.{List, [], _∷_, _++_}
 use native.Mathlib.Nat.{eq-zero-or-pos}
@@ -12,13 +12,14 @@ use lib.ListN.{length, getD, length-append, set, replicate}
 use lib.Seq.{drop-append-seam, drop-append-add, append-snoc, getD-at, set-at}
 use borrow.Author.Tests.{ne-eqb, lt-ltb, le-ltb, le-leb, eqb-true, eqb-false, ltb-true}
 use Rattle.numbers.proofs.Tests.{by-bool, never, both}
+use Rattle.numbers.proofs.KindLaws.{of-below}
 use Rattle.text.specs.Class.{isDigit, isLetter, isAlnum}
 use Rattle.text.specs.Writing.{decimalText}
 use Rattle.text.proofs.Undo.{few-digits}
 use Rattle.words.specs.Words.{every, value, leading, isnt}
 use Rattle.words.proofs.WordLaws.{every-append, every-weaker}
-use Rattle.cards_fac.specs.Fac.{codes, indexIn, codeText, channelText, slashAt, numberText, channelGood, most, numberGood, slot, slots, codeOf, slotOf, formError, entriesError, allEntered, nothing}
-use Rattle.cards_fac.proofs.EntryLaws.{code-known}
+use Rattle.cards_fac.specs.Fac.{codes, lastCode, indexIn, codeText, channelText, slashAt, numberText, channelGood, most, numberGood, slot, slots, codeOf, slotOf, formError, entriesError, allEntered, nothing}
+use Rattle.cards_fac.proofs.EntryLaws.{code-known, code-size}
 use Rattle.cards_request.specs.declared.Verdict.the-variants.{Good}
 use Rattle.cards_writing.specs.Writing.{codeAt, channelAt, entryText, entryTexts, limit, numbersFit}
 use Rattle.cards_fields.proofs.CardLaws.{plain, AllPlain, digit-plain, letter-plain, digit-no-letter, number-back, number-digits}
@@ -61,7 +62,7 @@ module _ (code ch d : List ℕ) (l : every isLetter code ≡ true) (h : every is
   entry-size : length (entry code ch d) ≡ length code + length ch + 1 + length d
   entry-size = omega (arith, length-append code (ch ++ (47 ∷ d)), length-append ch (47 ∷ d))
 
-  module _ (c : ℕ) (is : indexIn codes code ≡ c) (low : c ≤ 5) (short : length code ≤ 2) (cg : channelGood c ch ≡ true) (ng : numberGood c d ≡ true) where
+  module _ (c : ℕ) (is : indexIn codes code ≡ c) (low : c ≤ lastCode) (short : length code ≤ 2) (cg : channelGood c ch ≡ true) (ng : numberGood c d ≡ true) where
     code-of : codeOf (entry code ch d) ≡ c
     code-of = ap (indexIn codes) (code-back code ch d l h) ∙ is
 
@@ -91,16 +92,13 @@ slot-at k =
     (λ p. rw (le-ltb k 3 (omega arith), le-ltb (3 + (k - 3) / 16) 3 (omega arith)) (omega arith))
     (eq-zero-or-pos (k - 2))
 
--- each code is two letters, and is known by its index
-code-letters : (c : ℕ) → c ≤ 5 → (every isLetter (getD codes c []) ≡ true) × (indexIn codes (getD codes c []) ≡ c) × (length (getD codes c []) ≤ 2)
+-- each code is letters, and is known by its index
+code-letters : (c : ℕ) → c ≤ lastCode → (every isLetter (getD codes c []) ≡ true) × (indexIn codes (getD codes c []) ≡ c)
 unfolding codes isLetter
-code-letters zero h = (refl, refl, omega arith)
-code-letters (suc zero) h = (refl, refl, omega arith)
-code-letters (suc (suc zero)) h = (refl, refl, omega arith)
-code-letters (suc (suc (suc zero))) h = (refl, refl, omega arith)
-code-letters (suc (suc (suc (suc zero)))) h = (refl, refl, omega arith)
-code-letters (suc (suc (suc (suc (suc zero))))) h = (refl, refl, omega arith)
-code-letters (suc (suc (suc (suc (suc (suc c)))))) h = absurd (omega arith)
+code-letters c h =
+    let t = both (every isLetter (getD codes c [])) (eqb (indexIn codes (getD codes c [])) c)
+    (of-below (λ c. every isLetter (getD codes c []) && eqb (indexIn codes (getD codes c [])) c) (suc lastCode) refl c (omega arith)) in
+    (t .0, eqb-true (indexIn codes (getD codes c [])) c (t .1))
 
 -- a channel as it is written
 abbrev channelOf : ℕ → List ℕ
@@ -119,7 +117,7 @@ channel-good k h =
     rw (le-ltb k 3 (omega arith), le-ltb (3 + (k - 3) / 16) 3 (omega arith), le-leb (length (channelOf ((k - 3) % 16))) 2 (w .2), w .0, w .1, le-leb ((k - 3) % 16) 15 (omega arith)))
     (eq-zero-or-pos (k - 2))
 
-code-low : (k : ℕ) → k < slots → codeAt k ≤ 5
+code-low : (k : ℕ) → k < slots → codeAt k ≤ lastCode
 code-low k h = ⊎-elim (λ z. rw (lt-ltb k 3 (omega arith)) (omega arith)) (λ p. rw (le-ltb k 3 (omega arith)) (omega arith)) (eq-zero-or-pos (k - 2))
 
 channel-low : (k : ℕ) → channelAt k ≤ 15
@@ -154,12 +152,13 @@ entered-back k n h p l =
     let code = getD codes (codeAt k) [] in
     let ch = channelOf (channelAt k) in
     let f = code-letters (codeAt k) (code-low k h) in
+    let s : length code ≤ 2 = omega (arith, code-size (codeAt k) (code-low k h)) in
     let w = channel-written (channelAt k) (channel-low k) in
     let g = number-good k n h p l in
     record {
-      form = form-back code ch (decimalText n) (f .0) (w .0) (codeAt k) (f .1) (code-low k h) (f .2) (channel-good k h) g;
-      at = slot-back code ch (decimalText n) (f .0) (w .0) (codeAt k) (f .1) (code-low k h) (f .2) (channel-good k h) g ∙ ap (slot (codeAt k)) (w .1) ∙ slot-at k;
-      number = number-of-back code ch (decimalText n) (f .0) (w .0) (codeAt k) (f .1) (code-low k h) (f .2) (channel-good k h) g ∙ number-back n;
+      form = form-back code ch (decimalText n) (f .0) (w .0) (codeAt k) (f .1) (code-low k h) s (channel-good k h) g;
+      at = slot-back code ch (decimalText n) (f .0) (w .0) (codeAt k) (f .1) (code-low k h) s (channel-good k h) g ∙ ap (slot (codeAt k)) (w .1) ∙ slot-at k;
+      number = number-of-back code ch (decimalText n) (f .0) (w .0) (codeAt k) (f .1) (code-low k h) s (channel-good k h) g ∙ number-back n;
       bytes =
           every-append plain code (ch ++ (47 ∷ decimalText n)) (every-weaker isLetter plain letter-plain code (f .0))
           (every-append plain ch (47 ∷ decimalText n) (every-weaker isDigit plain digit-plain ch (w .0)) (rw slash-plain (every-weaker isDigit plain digit-plain (decimalText n) (number-digits n))));

@@ -18,7 +18,7 @@ use Rattle.text.specs.Writing.{decimalText}
 use Rattle.text.proofs.Tens.{one-digit, more-digits}
 use Rattle.words.proofs.WordLaws.{drop-step}
 use Rattle.cards_fields.specs.Fields.{cardText, tailText}
-use Rattle.cards_fac.specs.Fac.{codes}
+use Rattle.cards_fac.specs.Fac.{codes, lastCode}
 use Rattle.cards_request.specs.declared.Request.{Request}
 use Rattle.cards_writing.specs.Writing.{priorityText, ptyFields, front, trimmed, entryText, entryTexts, ptyText}
 
@@ -175,7 +175,7 @@ pub no-field : (n : ℕ) (r : Request) (k : ℕ) → 14 ≤ k → getD (ptyField
 unfolding ptyFields
 no-field n r k h = List·getD-eq-default (ptyFields n r) [] {n = k} h
 
-pub no-code : (k : ℕ) → 6 ≤ k → getD codes k [] ≡ []
+pub no-code : (k : ℕ) → lastCode < k → getD codes k [] ≡ []
 unfolding codes
 no-code k h = List·getD-eq-default codes [] {n = k} h
 

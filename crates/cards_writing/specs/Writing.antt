@@ -51,7 +51,7 @@ abbrev pub trimmed : List (List ℕ) → List (List ℕ)
 trimmed [] = []
 trimmed (f ∷ fs) = front f (trimmed fs)
 
--- the code of a slot
+-- the index of a slot's code
 abbrev pub codeAt : ℕ → ℕ
 codeAt k = cond (ltb k 3) k (3 + (k - 3) / 16)
 
@@ -63,7 +63,7 @@ channelAt k = cond (ltb k 3) 0 ((k - 3) % 16)
 unfoldable pub entryText : ℕ → ℕ → List ℕ
 entryText k n = getD codes (codeAt k) [] ++ (cond (eqb (channelAt k) 0) [] (decimalText (channelAt k)) ++ (byte "/" ∷ decimalText n))
 
--- "entries in order IB, DB, MD, MA, MT, PR, then by logical channel": the order of the slots, from slot k on
+-- "entries in order IB, DB, MD, MA, MT, PR" and MC, CR, PT, "then by logical channel": the order of the slots, from k on
 abbrev pub entryTexts : ℕ → List ℕ → List (List ℕ)
 entryTexts k [] = []
 entryTexts k (n ∷ ns) = cond (eqb n 0) (entryTexts (suc k) ns) (entryText k n ∷ entryTexts (suc k) ns)

@@ -107,22 +107,18 @@ pub fn put_pty(room: &mut [u8], at: usize, r: Request, n: usize) -> usize
     put_fields(room, id, r, n)
 }
 
-// Puts the code of a slot.
+// Puts the code with an index, nothing past the last.
 fn put_code(room: &mut [u8], at: usize, code: usize) -> usize
     ensures { λ r. ⌜ Written (now (room .entry)) at (getD codes code []) (now (room .exit)) r ⌝ }
 {
-    match code {
-        0 => text::put_bytes(room, at, b"IB"),
-        1 => text::put_bytes(room, at, b"DB"),
-        2 => text::put_bytes(room, at, b"MD"),
-        3 => text::put_bytes(room, at, b"MA"),
-        4 => text::put_bytes(room, at, b"MT"),
-        5 => text::put_bytes(room, at, b"PR"),
-        _ => at,
+    if cards_fac::LAST_CODE < code {
+        return at;
     }
+    let text = cards_fac::CODES[code];
+    text::put_bytes(room, at, &text)
 }
 
-// The code of a slot.
+// The index of a slot's code.
 fn code_at(k: usize) -> usize
     ensures { λ r. ⌜ r ≡ codeAt k ⌝ }
 {

@@ -1,94 +1,74 @@
+use Rattle.cards_fac.proofs.EntryLaws.{code-size}
+use mathlib.Core.Path.{sym}
+use native.Mathlib.Nat.{zero-add}
+use Prim.Native.Nat.{suc}
+use mathlib.Core.Path.{refl}
 -- `cards_fac::code_index` meets its contract: the codes are compared in their order. Assumes nothing.
-use mathlib.Core.Path.{sym, _∙_}
-use Rattle.cards_fac.specs.Fac.{codes}
+use Prim.Native.Nat.{_+_, _-_, _≤_}
+use mathlib.Core.Path.{_≡_}
+use native.Mathlib.Omega.{arith}
+use lib.ListN.{drop}
+use Rattle.cards_fac.specs.Fac.{codes, lastCode, indexIn}
+use Rattle.cards_fac.proofs.EntryLaws.{code-found, code-passed, codes-over}
 use borrow.Author.Needs.{needs}
 use Rattle.cards_fac.proofs.code_index.Statement.{statement}
 use Rattle.cards_fac.proofs.code_index.Tie as tie
+use Rattle.cards_fac.proofs.code_index.Reads as reads
+use Rattle.cards_fac.proofs.code_index.Lts as lts
+use Rattle.words.proofs.is_same.Reads as is-same-reads
 
-slice-aggregate-is-same : tie.Need-slice-aggregate-is-same
-slice-aggregate-is-same c = search needs
+abbrev Inv-loop : tie.InvT-loop
+Inv-loop t k₀ k = (k ≤ suc lastCode) × (indexIn codes t ≡ k + indexIn (drop k codes) t)
 
-is-same-requires : tie.Need-is-same-requires
+abbrev μ-loop : tie.MeasureT-loop
+μ-loop t k₀ k = suc lastCode - k
+
+loop-holds : tie.Need-loop-holds Inv-loop μ-loop
+loop-holds c = (omega arith, sym (zero-add _))
+
+mul-code : tie.Need-mul-code Inv-loop μ-loop
+mul-code c = search needs
+
+array-copy-out-code : tie.Need-array-copy-out-code Inv-loop μ-loop
+array-copy-out-code c = search needs
+
+slice-aggregate-is-same : tie.Need-slice-aggregate-is-same Inv-loop μ-loop
+unfolding codes
+slice-aggregate-is-same c = sym (code-size (c .before .before .before .loop .k) (c .before .before .loop-test .taken))
+
+is-same-requires : tie.Need-is-same-requires Inv-loop μ-loop
 is-same-requires c κs = search needs
 
-returns : tie.Need-returns
+returns : tie.Need-returns Inv-loop μ-loop
 unfolding codes
-returns c = rw (sym (c .before .is-same .ensures) ∙ c .if1 .taken)
+returns c = code-found (c .before .before .before .before .before .before .before .args .t .now) (c .before .before .before .before .before .loop .k) (omega (arith, c .before .before .before .before .loop-test .taken)) (c .before .before .before .before .before .loop .inv .1) (c .before .is-same .ensures) (c .if1 .taken)
 
-slice-aggregate-is-same-2 : tie.Need-slice-aggregate-is-same-2
-slice-aggregate-is-same-2 c = search needs
+add-k : tie.Need-add-k Inv-loop μ-loop
+add-k c = search needs
 
-is-same-requires-2 : tie.Need-is-same-requires-2
-is-same-requires-2 c κs = search needs
+loop-less : tie.Need-loop-less Inv-loop μ-loop
+loop-less c = search needs
 
-returns-2 : tie.Need-returns-2
+loop-again : tie.Need-loop-again Inv-loop μ-loop
 unfolding codes
-returns-2 c = rw (sym (c .before .before .before .before .is-same .ensures) ∙ c .before .before .before .if1 .left, sym (c .before .is-same2 .ensures) ∙ c .if2 .taken)
+loop-again c = (omega (arith, c .before .before .before .before .loop-test .taken), code-passed (c .before .before .before .before .before .before .before .args .t .now) (c .before .before .before .before .before .loop .k) (omega (arith, c .before .before .before .before .loop-test .taken)) (c .before .before .before .before .before .loop .inv .1) (c .before .is-same .ensures) (c .if1 .left))
 
-slice-aggregate-is-same-3 : tie.Need-slice-aggregate-is-same-3
-slice-aggregate-is-same-3 c = search needs
-
-is-same-requires-3 : tie.Need-is-same-requires-3
-is-same-requires-3 c κs = search needs
-
-returns-3 : tie.Need-returns-3
-unfolding codes
-returns-3 c = rw (sym (c .before .before .before .before .before .before .before .is-same .ensures) ∙ c .before .before .before .before .before .before .if1 .left, sym (c .before .before .before .before .is-same2 .ensures) ∙ c .before .before .before .if2 .left, sym (c .before .is-same3 .ensures) ∙ c .if3 .taken)
-
-slice-aggregate-is-same-4 : tie.Need-slice-aggregate-is-same-4
-slice-aggregate-is-same-4 c = search needs
-
-is-same-requires-4 : tie.Need-is-same-requires-4
-is-same-requires-4 c κs = search needs
-
-returns-4 : tie.Need-returns-4
-unfolding codes
-returns-4 c = rw (sym (c .before .before .before .before .before .before .before .before .before .before .is-same .ensures) ∙ c .before .before .before .before .before .before .before .before .before .if1 .left, sym (c .before .before .before .before .before .before .before .is-same2 .ensures) ∙ c .before .before .before .before .before .before .if2 .left, sym (c .before .before .before .before .is-same3 .ensures) ∙ c .before .before .before .if3 .left, sym (c .before .is-same4 .ensures) ∙ c .if4 .taken)
-
-slice-aggregate-is-same-5 : tie.Need-slice-aggregate-is-same-5
-slice-aggregate-is-same-5 c = search needs
-
-is-same-requires-5 : tie.Need-is-same-requires-5
-is-same-requires-5 c κs = search needs
-
-returns-5 : tie.Need-returns-5
-unfolding codes
-returns-5 c = rw (sym (c .before .before .before .before .before .before .before .before .before .before .before .before .before .is-same .ensures) ∙ c .before .before .before .before .before .before .before .before .before .before .before .before .if1 .left, sym (c .before .before .before .before .before .before .before .before .before .before .is-same2 .ensures) ∙ c .before .before .before .before .before .before .before .before .before .if2 .left, sym (c .before .before .before .before .before .before .before .is-same3 .ensures) ∙ c .before .before .before .before .before .before .if3 .left, sym (c .before .before .before .before .is-same4 .ensures) ∙ c .before .before .before .if4 .left, sym (c .before .is-same5 .ensures) ∙ c .if5 .taken)
-
-slice-aggregate-is-same-6 : tie.Need-slice-aggregate-is-same-6
-slice-aggregate-is-same-6 c = search needs
-
-is-same-requires-6 : tie.Need-is-same-requires-6
-is-same-requires-6 c κs = search needs
-
-returns-6 : tie.Need-returns-6
-unfolding codes
-returns-6 c = rw (sym (c .before .before .before .before .before .before .before .before .before .before .before .before .before .before .before .before .is-same .ensures) ∙ c .before .before .before .before .before .before .before .before .before .before .before .before .before .before .before .if1 .left, sym (c .before .before .before .before .before .before .before .before .before .before .before .before .before .is-same2 .ensures) ∙ c .before .before .before .before .before .before .before .before .before .before .before .before .if2 .left, sym (c .before .before .before .before .before .before .before .before .before .before .is-same3 .ensures) ∙ c .before .before .before .before .before .before .before .before .before .if3 .left, sym (c .before .before .before .before .before .before .before .is-same4 .ensures) ∙ c .before .before .before .before .before .before .if4 .left, sym (c .before .before .before .before .is-same5 .ensures) ∙ c .before .before .before .if5 .left, sym (c .before .is-same6 .ensures) ∙ c .if6 .taken)
-
-returns-7 : tie.Need-returns-7
-unfolding codes
-returns-7 c = rw (sym (c .before .before .before .before .before .before .before .before .before .before .before .before .before .before .before .before .is-same .ensures) ∙ c .before .before .before .before .before .before .before .before .before .before .before .before .before .before .before .if1 .left, sym (c .before .before .before .before .before .before .before .before .before .before .before .before .before .is-same2 .ensures) ∙ c .before .before .before .before .before .before .before .before .before .before .before .before .if2 .left, sym (c .before .before .before .before .before .before .before .before .before .before .is-same3 .ensures) ∙ c .before .before .before .before .before .before .before .before .before .if3 .left, sym (c .before .before .before .before .before .before .before .is-same4 .ensures) ∙ c .before .before .before .before .before .before .if4 .left, sym (c .before .before .before .before .is-same5 .ensures) ∙ c .before .before .before .if5 .left, sym (c .before .is-same6 .ensures) ∙ c .if6 .left)
+returns-2 : tie.Need-returns-2 Inv-loop μ-loop
+returns-2 c = codes-over (c .before .before .before .args .t .now) (c .before .loop .k) (c .loop-test .left) (c .before .loop .inv .1)
 
 pub code-index-spec : {M : Type 1} → statement M
 code-index-spec =
     tie.close
     (tie.spec
+    Inv-loop
+    μ-loop
+    loop-holds
+    mul-code
+    array-copy-out-code
     slice-aggregate-is-same
     is-same-requires
     returns
-    slice-aggregate-is-same-2
-    is-same-requires-2
-    returns-2
-    slice-aggregate-is-same-3
-    is-same-requires-3
-    returns-3
-    slice-aggregate-is-same-4
-    is-same-requires-4
-    returns-4
-    slice-aggregate-is-same-5
-    is-same-requires-5
-    returns-5
-    slice-aggregate-is-same-6
-    is-same-requires-6
-    returns-6
-    returns-7)
+    add-k
+    loop-less
+    loop-again
+    returns-2)
