@@ -11,6 +11,7 @@ use lib.Seq.{ext-getD}
 use borrow.Author.Tests.{ltb-true, ltb-false}
 use Rattle.numbers.proofs.Order.{le-or-lt, one-more}
 use Rattle.numbers.proofs.Tests.{by-bool, never}
+use Rattle.numbers.specs.Kinds.{unitKinds, kindAt}
 use Rattle.numbers.specs.Values.{values}
 use Rattle.numbers.proofs.ValuesLaws.{values-at}
 use Rattle.numbers.specs.declared.ChannelNumber.{ChannelNumber}
@@ -39,11 +40,11 @@ use Rattle.assign.specs.declared.Lacking.the-variants as Lacking
 use Rattle.assign.specs.declared.Part.{Part}
 use Rattle.assign.specs.declared.Part.the-variants as Part
 use Rattle.assign.specs.declared.Provision.{Provision}
-use Rattle.assign.specs.Parts.{kinds, parts, FirstOf, FirstLacking, Has, HasCore, HasKind}
-use Rattle.assign.specs.Assignment.{Cell, unitKinds, drumLength, wantsOf, noChannels, channelsOf, freeOf, given, givenOf, IsAssignment}
-use Rattle.assign.specs.Kinds.{unitKind, Possible, KindsDone, KindLacking, KindsAnswer, ServesKinds}
+use Rattle.assign.specs.Parts.{parts, FirstLacking, Has, HasCore, HasKind}
+use Rattle.assign.specs.Assignment.{Cell, drumLength, wantsOf, noChannels, channelsOf, freeOf, given, givenOf, IsAssignment}
+use Rattle.assign.specs.Kinds.{Possible, KindsDone, KindLacking, KindsAnswer, ServesKinds}
 use Rattle.assign.specs.Chosen.{Chosen, without, Answer, Assigns}
-use Rattle.assign.proofs.FirstLaws.{first-one, not-nothing}
+use Rattle.assign.proofs.FirstLaws.{first-one, not-nothing, first-kind, every-kind}
 
 -- ---- the channels of a kind's entries as a list
 abbrev pub listed : (ℕ → ℕ) → List ChannelNumber
@@ -70,18 +71,18 @@ module _ (cell : Cell) (wanted : Facilities) where
   possible {b} {kind} h i = record { long = i .shaped .entries kind h; to = givenOf cell kind b; served = i .kinds kind h }
 
   -- a kind that is served in some way has channels that are possible, and the other way round
-  pub kind-possible : (row : ℕ) → HasKind cell wanted row → (others : List ChannelNumber) × Possible (freeOf cell) (wanted .units) row others
-  kind-possible row h = (
+  pub kind-possible : (order : ℕ) → HasKind cell wanted order → (others : List ChannelNumber) × Possible (freeOf cell) (wanted .units) order others
+  kind-possible order h = (
     listed (h .on),
     record {
       long = refl;
       to = h .to;
-      served = by-list (freeOf cell row) (want (wantsOf (wanted .units) row)) (h .on) (h .to) (h .served);
+      served = by-list (freeOf cell order) (want (wantsOf (wanted .units) order)) (h .on) (h .to) (h .served);
     },
   )
 
-  pub possible-kind : (row : ℕ) → (others : List ChannelNumber) × Possible (freeOf cell) (wanted .units) row others → HasKind cell wanted row
-  possible-kind row p = record { on = on (p .0); to = p .1 .to; served = p .1 .served }
+  pub possible-kind : (order : ℕ) → (others : List ChannelNumber) × Possible (freeOf cell) (wanted .units) order others → HasKind cell wanted order
+  possible-kind order p = record { on = on (p .0); to = p .1 .to; served = p .1 .served }
 
   -- ---- a part that is lacking
   lacks : (part : Part) → FirstLacking cell wanted (Lacking.First part) → {r : Provision} → r ≡ without part → Assigns cell wanted r
@@ -97,22 +98,14 @@ module _ (cell : Cell) (wanted : Facilities) where
     pub no-drum : Drum.Answers (cell .areas) (drumLength (cell .channels)) (wanted .md) D.Nothing → {r : Provision} → r ≡ without Part.Drum → Assigns cell wanted r
     no-drum d = lacks Part.Drum (inr (has-core, inl (λ h. d (h .start) (h .fits), refl)))
 
-    -- the first kind that is lacking, by its row
-    first-kind : (row : ℕ) → row < unitKinds → ((kind : ℕ) → kind < row → HasKind cell wanted kind) → (HasKind cell wanted row → ⊥)
-        → FirstOf (Has cell wanted) kinds (Lacking.First (Part.Units (unitKind row)))
-    first-kind zero h before none = inl (none, refl)
-    first-kind (suc zero) h before none = inr (before 0 (omega arith), inl (none, refl))
-    first-kind (suc (suc zero)) h before none = inr (before 0 (omega arith), inr (before 1 (omega arith), inl (none, refl)))
-    first-kind (suc (suc (suc row))) h before none = absurd (omega arith)
-
     pub no-kind : {s : ℕ} → Drum.Answers (cell .areas) (drumLength (cell .channels)) (wanted .md) (D.At s)
-        → {row : ℕ} → KindLacking (freeOf cell) (wanted .units) row → {r : Provision} → r ≡ without (Part.Units (unitKind row)) → Assigns cell wanted r
-    no-kind {s} d {row} k = lacks (Part.Units (unitKind row))
+        → {order : ℕ} → KindLacking (freeOf cell) (wanted .units) order → {r : Provision} → r ≡ without (Part.Units (kindAt order)) → Assigns cell wanted r
+    no-kind {s} d {order} k = lacks (Part.Units (kindAt order))
         (inr (
           has-core,
           inr (
             record { start = s; fits = d .0 },
-            first-kind row (k .is-kind) (λ kind h. possible-kind kind (k .before kind h)) (λ h. let p = kind-possible row h in k .never (p .0) (p .1)),
+            first-kind (Has cell wanted) (HasKind cell wanted) (λ m x. x) (λ m x. x) order (k .is-kind) (λ kind h. possible-kind kind (k .before kind h)) (λ h. let p = kind-possible order h in k .never (p .0) (p .1)),
           ),
         ))
 
@@ -202,8 +195,8 @@ module _ (cell : Cell) (wanted : Facilities) where
 
   -- ---- an assignment has every part
   module _ (b : Assigned) (i : IsAssignment cell wanted b) where
-    kind-of : (row : ℕ) → row < unitKinds → HasKind cell wanted row
-    kind-of row h = possible-kind row (channelsOf b row, possible h i)
+    kind-of : (order : ℕ) → order < unitKinds → HasKind cell wanted order
+    kind-of order h = possible-kind order (channelsOf b order, possible h i)
 
     pub all-there : FirstLacking cell wanted Lacking.Nothing
     all-there =
@@ -211,7 +204,7 @@ module _ (cell : Cell) (wanted : Facilities) where
           record { ib = b .ib; db = b .db; fits = i .core },
           inr (
             record { start = b .drum; fits = i .drum },
-            inr (kind-of 0 (omega arith), inr (kind-of 1 (omega arith), inr (kind-of 2 (omega arith), refl))),
+            every-kind (Has cell wanted) (HasKind cell wanted) (λ m x. x) (λ m x. x) kind-of,
           ),
         )
 
@@ -235,7 +228,7 @@ module _ (cell : Cell) (wanted : Facilities) where
 pub kinds-served : {free : ℕ → ℕ → Bool} {asked : List ℕ} (r : Kinds) → r .ok ≡ true → ServesKinds free asked r → KindsDone free asked (r .channels) (r .heads) unitKinds
 kinds-served {free} {asked} r e s = subst (λ (b : Bool). KindsAnswer b free asked r) e s
 
-pub kinds-lacking : {free : ℕ → ℕ → Bool} {asked : List ℕ} (r : Kinds) → r .ok ≡ false → ServesKinds free asked r → KindLacking free asked (r .row)
+pub kinds-lacking : {free : ℕ → ℕ → Bool} {asked : List ℕ} (r : Kinds) → r .ok ≡ false → ServesKinds free asked r → KindLacking free asked (r .order)
 kinds-lacking {free} {asked} r e s = subst (λ (b : Bool). KindsAnswer b free asked r) e s
 
 -- the drum's answer for the length that was worked out

@@ -33,47 +33,48 @@ use Rattle.assign.specs.declared.Kinds.{Kinds}
 use Rattle.assign.specs.declared.Lacking.the-variants as Lacking
 use Rattle.assign.specs.declared.Part.the-variants as Part
 use Rattle.assign.specs.declared.Provision.{Provision}
-use Rattle.assign.specs.Assignment.{Cell, unitKinds, drumLength, wantsOf, noChannels, freeOf}
-use Rattle.assign.specs.Kinds.{unitKind, KindsDone, KindsAnswer, ServesKinds}
+use Rattle.assign.specs.Assignment.{Cell, drumLength, wantsOf, noChannels, freeOf}
+use Rattle.numbers.specs.Kinds.{unitKinds, kindAt}
+use Rattle.assign.specs.Kinds.{KindsDone, KindsAnswer, ServesKinds}
 use Rattle.assign.proofs.KindsLaws.{none-yet, one-more, lacking, all-done}
 use Rattle.assign.specs.Chosen.{without, Assigns}
 use Rattle.assign.proofs.ChosenLaws.{no-core, no-drum, no-kind, assigned, assigns-one}
 
--- ---- the kinds, n of them from a row on
+-- ---- the kinds, n of them from one on
 module _ (units : List (List Unit)) (channels : List Channel) (asked : List ℕ) where
   abbrev pub serviceAt : ℕ → List Head → Service
-  serviceAt row heads = serveOf (marksOf units channels row) (wantsOf asked row) heads
+  serviceAt order heads = serveOf (marksOf units channels order) (wantsOf asked order) heads
 
   unfoldable pub kindsFrom : ℕ → ℕ → List KindChannels → List Head → Kinds
-  kindsFrom zero row named heads = record { ok = true; row = row; channels = named; heads = heads }
-  kindsFrom (suc n) row named heads =
-      cond (serviceAt row heads .ok) (kindsFrom n (row + 1) (set named row (record { on = serviceAt row heads .on })) (serviceAt row heads .heads)) (record { ok = false; row = row; channels = named; heads = heads })
+  kindsFrom zero order named heads = record { ok = true; order = order; channels = named; heads = heads }
+  kindsFrom (suc n) order named heads =
+      cond (serviceAt order heads .ok) (kindsFrom n (order + 1) (set named order (record { on = serviceAt order heads .on })) (serviceAt order heads .heads)) (record { ok = false; order = order; channels = named; heads = heads })
 
   abbrev pub kindsOf : Kinds
   kindsOf = kindsFrom unitKinds 0 (replicate unitKinds noChannels) (replicate 256 blank)
 
   module _ (size : length channels ≡ 16) (full : length asked ≡ counts) where
-    long : (row : ℕ) → row < unitKinds → length (wantsOf asked row) ≡ 16
-    long row h = length-take-le 16 (drop (row * 16) asked) (simp length-drop (omega arith))
+    long : (order : ℕ) → order < unitKinds → length (wantsOf asked order) ≡ 16
+    long order h = length-take-le 16 (drop (order * 16) asked) (simp length-drop (omega arith))
 
     -- the next kind is served, or it is lacking
-    step : (n row : ℕ) (named : List KindChannels) (heads : List Head) → row < unitKinds → (s : Service) → Serving.Serves (marksOf units channels row) (wantsOf asked row) heads s
-        → (KindsDone (isFreeOf units channels) asked (set named row (record { on = s .on })) (s .heads) (row + 1) → ServesKinds (isFreeOf units channels) asked (kindsFrom n (row + 1) (set named row (record { on = s .on })) (s .heads)))
-        → KindsDone (isFreeOf units channels) asked named heads row
-        → ServesKinds (isFreeOf units channels) asked (cond (s .ok) (kindsFrom n (row + 1) (set named row (record { on = s .on })) (s .heads)) (record { ok = false; row = row; channels = named; heads = heads }))
-    step n row named heads h s a more k = by-answer (s .ok) refl
+    step : (n order : ℕ) (named : List KindChannels) (heads : List Head) → order < unitKinds → (s : Service) → Serving.Serves (marksOf units channels order) (wantsOf asked order) heads s
+        → (KindsDone (isFreeOf units channels) asked (set named order (record { on = s .on })) (s .heads) (order + 1) → ServesKinds (isFreeOf units channels) asked (kindsFrom n (order + 1) (set named order (record { on = s .on })) (s .heads)))
+        → KindsDone (isFreeOf units channels) asked named heads order
+        → ServesKinds (isFreeOf units channels) asked (cond (s .ok) (kindsFrom n (order + 1) (set named order (record { on = s .on })) (s .heads)) (record { ok = false; order = order; channels = named; heads = heads }))
+    step n order named heads h s a more k = by-answer (s .ok) refl
       where
-        by-answer : (b : Bool) → s .ok ≡ b → ServesKinds (isFreeOf units channels) asked (cond (s .ok) (kindsFrom n (row + 1) (set named row (record { on = s .on })) (s .heads)) (record { ok = false; row = row; channels = named; heads = heads }))
-        by-answer true e = rw e (more (one-more units channels asked size row h (marks-answer units channels row) refl (served-so (marksOf units channels row) (wantsOf asked row) heads s e a) k))
-        by-answer false e = rw e (lacking units channels asked size row h (marks-answer units channels row) refl (lacking-so (marksOf units channels row) (wantsOf asked row) heads s e a) k)
+        by-answer : (b : Bool) → s .ok ≡ b → ServesKinds (isFreeOf units channels) asked (cond (s .ok) (kindsFrom n (order + 1) (set named order (record { on = s .on })) (s .heads)) (record { ok = false; order = order; channels = named; heads = heads }))
+        by-answer true e = rw e (more (one-more units channels asked size order h (marks-answer units channels order) refl (served-so (marksOf units channels order) (wantsOf asked order) heads s e a) k))
+        by-answer false e = rw e (lacking units channels asked size order h (marks-answer units channels order) refl (lacking-so (marksOf units channels order) (wantsOf asked order) heads s e a) k)
 
-    kinds-from : (n row : ℕ) (named : List KindChannels) (heads : List Head) → row + n ≡ unitKinds → KindsDone (isFreeOf units channels) asked named heads row
-        → ServesKinds (isFreeOf units channels) asked (kindsFrom n row named heads)
+    kinds-from : (n order : ℕ) (named : List KindChannels) (heads : List Head) → order + n ≡ unitKinds → KindsDone (isFreeOf units channels) asked named heads order
+        → ServesKinds (isFreeOf units channels) asked (kindsFrom n order named heads)
     unfolding kindsFrom
-    kinds-from zero row named heads e k = all-done (omega arith) k
-    kinds-from (suc n) row named heads e k =
-        step n row named heads (omega arith) (serviceAt row heads) (serve-answers (marksOf units channels row) (wantsOf asked row) heads refl (long row (omega arith)) (k .wide))
-        (kinds-from n (row + 1) (set named row (record { on = serviceAt row heads .on })) (serviceAt row heads .heads) (omega arith)) k
+    kinds-from zero order named heads e k = all-done (omega arith) k
+    kinds-from (suc n) order named heads e k =
+        step n order named heads (omega arith) (serviceAt order heads) (serve-answers (marksOf units channels order) (wantsOf asked order) heads refl (long order (omega arith)) (k .wide))
+        (kinds-from n (order + 1) (set named order (record { on = serviceAt order heads .on })) (serviceAt order heads .heads) (omega arith)) k
 
     pub kinds-answer : ServesKinds (isFreeOf units channels) asked kindsOf
     kinds-answer = kinds-from unitKinds 0 (replicate unitKinds noChannels) (replicate 256 blank) refl (none-yet (isFreeOf units channels) asked)
@@ -84,7 +85,7 @@ withKinds p s k =
     cond (k .ok) (record {
       lacking = Lacking.Nothing;
       assigned = record { ib = p .0; db = p .1; drum = s; channels = k .channels; heads = k .heads };
-    }) (without (Part.Units (unitKind (k .row))))
+    }) (without (Part.Units (kindAt (k .order))))
 
 abbrev pub withDrum : Cell → Facilities → Pair → Start → Provision
 withDrum cell wanted p (D.At s) = withKinds p s (kindsOf (cell .units) (cell .channels) (wanted .units))

@@ -8,7 +8,7 @@ use native.Mathlib.Numerals.{add-one}
 use lib.ListN.{length, getD, take, drop, length-drop, drop-of-length-le}
 use lib.Seq.{drop-cons, ext-getD, getD-take, getD-drop, length-take-le}
 use Rattle.numbers.specs.declared.Kind.{Kind}
-use Rattle.numbers.specs.Kinds.{isDrum}
+use Rattle.numbers.specs.Kinds.{isDrum, unitKinds}
 use Rattle.channels.specs.declared.Fitted.{Fitted}
 use Rattle.channels.specs.declared.Fitted.the-variants as F
 use Rattle.channels.specs.declared.Channel.{Channel}
@@ -42,8 +42,8 @@ unfolding drumLength
 drum-end channels c h = ap drumLength (drop-of-length-le channels h)
 
 -- a list whose entries are those of a part is that part
-pub part-is : (units wants : List ℕ) (row : ℕ) → length units ≡ counts → length wants ≡ 16 → row < 3 → ((l : ℕ) → l < 16 → getD wants l 0 ≡ getD units (row * 16 + l) 0) → wants ≡ take 16 (drop (row * 16) units)
-part-is units wants row u w r each =
-    ext-getD 0 wants (take 16 (drop (row * 16) units)) (w ∙ sym (length-take-le 16 (drop (row * 16) units) (simp length-drop (omega arith)))) λ l h.
+pub part-is : (units wants : List ℕ) (order : ℕ) → length units ≡ counts → length wants ≡ 16 → order < unitKinds → ((l : ℕ) → l < 16 → getD wants l 0 ≡ getD units (order * 16 + l) 0) → wants ≡ take 16 (drop (order * 16) units)
+part-is units wants order u w r each =
+    ext-getD 0 wants (take 16 (drop (order * 16) units)) (w ∙ sym (length-take-le 16 (drop (order * 16) units) (simp length-drop (omega arith)))) λ l h.
     let k : l < 16 = omega arith in
-    each l k ∙ sym (getD-take 16 (drop (row * 16) units) l 0 k ∙ getD-drop (row * 16) units l 0)
+    each l k ∙ sym (getD-take 16 (drop (order * 16) units) l 0 k ∙ getD-drop (order * 16) units l 0)

@@ -5,7 +5,7 @@ use mathlib.Core.Bool.{Bool, true, cond}
 use mathlib.Core.List.{List, [], _∷_}
 use lib.ListN.{length, getD, take, drop, replicate}
 use Rattle.numbers.specs.declared.ChannelNumber.{ChannelNumber}
-use Rattle.numbers.specs.Kinds.{isDrum}
+use Rattle.numbers.specs.Kinds.{isDrum, unitKinds}
 use Rattle.units.specs.declared.Unit.{Unit}
 use Rattle.channels.specs.declared.Fitted.{Fitted}
 use Rattle.channels.specs.declared.Fitted.the-variants as F
@@ -35,10 +35,6 @@ pub record Cell : Type 0 where
 abbrev pub cellOf : List (List Unit) → ℕ → List Area → List Channel → Cell
 cellOf units occupancy areas channels = record { units = units; occupancy = occupancy; areas = areas; channels = channels }
 
--- the kinds that have units: MA, MT and PR, by their rows
-abbrev pub unitKinds : ℕ
-unitKinds = 3
-
 -- the drum's length, where a channel is the drum's
 abbrev pub lengthIn : Fitted → ℕ → ℕ
 lengthIn F.Nothing other = other
@@ -49,7 +45,7 @@ unfoldable pub drumLength : List Channel → ℕ
 drumLength [] = 0
 drumLength (c ∷ cs) = lengthIn (c .has) (drumLength cs)
 
--- what the entries of a kind ask for, by logical channel
+-- A KIND IS TOLD BY ITS PLACE in the written order of those that have units. What its entries ask for, by logical channel
 abbrev pub wantsOf : List ℕ → ℕ → List ℕ
 wantsOf asked kind = take 16 (drop (kind * 16) asked)
 

@@ -13,7 +13,8 @@ use Rattle.assign.specs.declared.Lacking.{Lacking}
 use Rattle.assign.specs.declared.Lacking.the-variants.{Nothing, First}
 use Rattle.assign.specs.declared.Part.{Part}
 use Rattle.assign.specs.declared.Provision.{Provision}
-use Rattle.assign.specs.Assignment.{Cell, unitKinds, noChannels, channelsOf, freeOf, givenOf, IsAssignment}
+use Rattle.assign.specs.Assignment.{Cell, noChannels, channelsOf, freeOf, givenOf, IsAssignment}
+use Rattle.numbers.specs.Kinds.{unitKinds}
 use Rattle.assign.specs.Parts.{FirstLacking}
 
 -- the chosen assignment

@@ -1,10 +1,9 @@
 -- The parts of an assignment, each alone, and the first that is lacking. A reader has to believe this page.
 use Prim.Native.Nat.{ℕ}
 use mathlib.Core.Path.{_≡_}
-use mathlib.Core.List.{List, [], _∷_}
+use mathlib.Core.List.{List, [], _∷_, map}
 use mathlib.Core.Logic.{_⊎_}
-use Rattle.numbers.specs.Kinds.{rowOf}
-use Rattle.numbers.specs.declared.Kind.the-variants.{Ma, Mt, Pr}
+use Rattle.numbers.specs.Kinds.{inOrder, orderOf}
 use Rattle.assign_core.specs.Core as Cores
 use Rattle.assign_drum.specs.Drum as Drums
 use Rattle.assign_drum.specs.declared.Area.{Area}
@@ -30,22 +29,22 @@ pub record HasDrum (areas : List Area) (length : ℕ) (wanted : Facilities) : Ty
   pub fits : Drums.Fits areas length (wanted .md) start
 
 -- a kind: its entries are served in some way, whatever the other kinds
-pub record HasKind (cell : Cell) (wanted : Facilities) (row : ℕ) : Type 0 where
+pub record HasKind (cell : Cell) (wanted : Facilities) (order : ℕ) : Type 0 where
   pub on : ℕ → ℕ
   pub to : ℕ → Given
-  pub served : Served (freeOf cell row) (want (wantsOf (wanted .units) row)) on to
+  pub served : Served (freeOf cell order) (want (wantsOf (wanted .units) order)) on to
 
 -- a part alone has a solution in this cell; it is lacking where it has none
 abbrev pub Has : Cell → Facilities → Part → Type 0
 Has cell wanted Core = HasCore (cell .occupancy) wanted
 Has cell wanted Drum = HasDrum (cell .areas) (drumLength (cell .channels)) wanted
-Has cell wanted (Units kind) = HasKind cell wanted (rowOf kind)
+Has cell wanted (Units kind) = HasKind cell wanted (orderOf kind)
 
 -- the kinds that have units, as parts
 abbrev pub kinds : List Part
-kinds = Units Ma ∷ Units Mt ∷ Units Pr ∷ []
+kinds = map (λ kind. Units kind) inOrder
 
--- the parts "in the order core, drum, MA, MT, PR"
+-- the parts "in the order core, drum, MA, MT, PR", and the others "after PR"
 abbrev pub parts : List Part
 parts = Core ∷ Drum ∷ kinds
 

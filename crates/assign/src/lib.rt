@@ -14,9 +14,10 @@ use units::Units;
 ghost use mathlib.Core.Path.{_≡_};
 ghost use Prim.Native.Nat.{_<_, _*_};
 ghost use lib.ListN.{take, drop};
+ghost use Rattle.numbers.specs.Kinds.{unitKinds};
 ghost use Rattle.assign_free.specs.Assignable.{isFreeOf};
 ghost use Rattle.assign.specs.Assignment.{drumLength, cellOf};
-ghost use Rattle.assign.specs.Kinds.{unitKind, ServesKinds};
+ghost use Rattle.assign.specs.Kinds.{ServesKinds};
 ghost use Rattle.assign.specs.Chosen.{nothing, without, Assigns};
 
 // The channels of a kind's entries, by logical channel; 0 where there is no entry.
@@ -24,13 +25,13 @@ pub struct KindChannels {
     pub on: [ChannelNumber; 16],
 }
 
-// The starts of a job's blocks and drum area, 0 where none are asked for, the channels of each kind's entries, and to
-// which entry of its channel's kind each unit is given, unit u of channel c at c * 16 + u.
+// The starts of a job's blocks and drum area, 0 where none are asked for, the channels of the entries of each kind, kinds
+// in the written order, and to which entry of its channel's kind each unit is given, unit u of channel c at c * 16 + u.
 pub struct Assigned {
     pub ib: u32,
     pub db: u32,
     pub drum: u32,
-    pub channels: [KindChannels; 3],
+    pub channels: [KindChannels; numbers::UNIT_KINDS],
     pub heads: [Head; 256],
 }
 
@@ -53,11 +54,11 @@ pub struct Provision {
     pub assigned: Assigned,
 }
 
-// Whether every kind is served; then as in Assigned. Else the row of the first that is not.
+// Whether every kind is served; then as in Assigned. Else the place in the written order of the first that is not.
 struct Kinds {
     ok: bool,
-    row: usize,
-    channels: [KindChannels; 3],
+    order: usize,
+    channels: [KindChannels; numbers::UNIT_KINDS],
     heads: [Head; 256],
 }
 
@@ -70,7 +71,7 @@ pub fn nothing() -> Assigned
         ib: 0,
         db: 0,
         drum: 0,
-        channels: [KindChannels { on: none }; 3],
+        channels: [KindChannels { on: none }; numbers::UNIT_KINDS],
         heads: [Head { to: Given::Nothing }; 256],
     }
 }
@@ -94,61 +95,51 @@ pub fn drum_length(channels: [Channel; 16]) -> u32
 }
 
 // What the entries of a kind ask for.
-fn wants_of(units: [u8; cards_request::COUNTS], row: usize) -> [u8; 16]
-    requires { ⌜ row < 3 ⌝ }
-    ensures { λ r. ⌜ r ≡ take 16 (drop (row * 16) units) ⌝ }
+fn wants_of(units: [u8; cards_request::COUNTS], order: usize) -> [u8; 16]
+    requires { ⌜ order < unitKinds ⌝ }
+    ensures { λ r. ⌜ r ≡ take 16 (drop (order * 16) units) ⌝ }
 {
     let mut wants = [0u8; 16];
     let mut l: usize = 0;
     while l < 16 {
-        wants[l] = units[row * 16 + l];
+        wants[l] = units[order * 16 + l];
         l += 1;
     }
     wants
 }
 
-// The kind of a row that has units.
-fn unit_kind(row: usize) -> Kind
-    ensures { λ r. ⌜ r ≡ unitKind row ⌝ }
-{
-    if row == 0 {
-        return Kind::Ma;
-    }
-    if row == 1 {
-        return Kind::Mt;
-    }
-    Kind::Pr
-}
-
-// Serves the kinds in the order of their rows, MA, MT, PR; the first that is lacking ends it.
+// Serves the kinds in the written order; the first that is lacking ends it. One of which nothing is asked for gets no
+// channel and no unit, and its units are not looked at.
 fn serve_kinds(units: Units, channels: [Channel; 16], asked: [u8; cards_request::COUNTS]) -> Kinds
     ensures { λ r. ⌜ ServesKinds (isFreeOf (units .of) channels) asked r ⌝ }
 {
     let none = [ChannelNumber(0); 16];
-    let mut chosen = [KindChannels { on: none }; 3];
+    let mut chosen = [KindChannels { on: none }; numbers::UNIT_KINDS];
     let mut heads = [Head { to: Given::Nothing }; 256];
-    let mut row: usize = 0;
-    while row < 3 {
-        let free = assign_free::free_units(units, channels, row);
-        let wants = wants_of(asked, row);
-        let service = assign_heads::serve(free, wants, heads);
-        if !service.ok {
-            return Kinds {
-                ok: false,
-                row,
-                channels: chosen,
-                heads,
-            };
+    let mut order: usize = 0;
+    while order < numbers::UNIT_KINDS {
+        let wants = wants_of(asked, order);
+        if 0 < assign_channels::sum(wants) {
+            let free = assign_free::free_units(units, channels, order);
+            let service = assign_heads::serve(free, wants, heads);
+            if !service.ok {
+                return Kinds {
+                    ok: false,
+                    order,
+                    channels: chosen,
+                    heads,
+                };
+            }
+            let on = service.on;
+            let next = service.heads;
+            chosen[order] = KindChannels { on };
+            heads = next;
         }
-        let on = service.on;
-        let next = service.heads;
-        chosen[row] = KindChannels { on };
-        heads = next;
-        row += 1;
+        order += 1;
     }
     Kinds {
         ok: true,
-        row,
+        order,
         channels: chosen,
         heads,
     }
@@ -165,7 +156,7 @@ fn without(part: Part) -> Provision
 }
 
 // The assignment that is chosen for what a job asks for, or the first part that is lacking. The parts are looked for in
-// the order core, drum, MA, MT, PR.
+// the order core, drum, MA, MT, PR, MC, CR, PT.
 fn find(
     units: Units,
     occupancy: u32,
@@ -184,7 +175,7 @@ fn find(
     let asked = wanted.units;
     let kinds = serve_kinds(units, channels, asked);
     if !kinds.ok {
-        return without(Part::Units(unit_kind(kinds.row)));
+        return without(Part::Units(numbers::kind_at(kinds.order)));
     }
     let named = kinds.channels;
     let heads = kinds.heads;

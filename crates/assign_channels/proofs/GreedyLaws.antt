@@ -109,3 +109,9 @@ total-drop xs i h = rw (add-one, drop-cons xs i 0)
 
 pub total-end : (xs : List ℕ) (i : ℕ) → length xs ≤ i → total (drop i xs) ≡ 0
 total-end xs i h = rw (drop-of-length-le xs h)
+
+-- where all numbers together are none, each is
+pub total-none : (xs : List ℕ) → total xs ≡ 0 → (i : ℕ) → getD xs i 0 ≡ 0
+total-none [] e i = refl
+total-none (x ∷ xs) e zero = omega arith
+total-none (x ∷ xs) e (suc i) = total-none xs (omega arith) i

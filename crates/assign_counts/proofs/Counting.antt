@@ -12,6 +12,8 @@ use lib.ListN.{length, getD, set, replicate, length-set, getD-replicate}
 use lib.Seq.{ext-getD, getD-set-same, getD-set-other}
 use borrow.Author.Tests.{eq-eqb, ne-eqb, eqb-true, eqb-false, lt-ltb, le-ltb}
 use Rattle.numbers.proofs.Tests.{by-bool}
+use Rattle.numbers.specs.Kinds.{unitKinds}
+use Rattle.cards_request.specs.Requests.{counts as many}
 use Rattle.units.specs.declared.Unit.{Unit}
 use Rattle.units.specs.State.{unitIn, assignable}
 use Rattle.channels.specs.declared.Fitted.{Fitted}
@@ -21,8 +23,8 @@ use Rattle.channels.specs.Channels.{noChannel, unitsOf}
 use Rattle.assign_heads.specs.Sums.{one, howMany}
 use Rattle.assign_heads.proofs.SumsLaws.{sum-same, sum-zero}
 use Rattle.assign_heads.proofs.Turns.{count-more}
-use Rattle.assign_free.specs.Assignable.{isFitted, unitsOfRow, isFreeOf}
-use Rattle.assign_counts.specs.Assignable.{countOn, Counted, rowIn, AssignableOn}
+use Rattle.assign_free.specs.Assignable.{isFitted, unitsOfKind, isFreeOf}
+use Rattle.assign_counts.specs.Assignable.{countOn, Counted, orderIn, AssignableOn}
 
 -- ---- the units of one channel
 -- unit u is one of the first n and assignable
@@ -42,38 +44,38 @@ pub all-seen : (grid : List (List Unit)) (c n u : ℕ) {count : ℕ} → u ≤ 1
 all-seen grid c n u h k l e = let s : u ≡ 16 = omega arith in record { is = e ∙ ap (λ (x : ℕ). howMany x (counts grid c n)) s; few = omega arith }
 
 -- ---- the channels
--- the kind of a channel's row is the one that it has
-fitted-row : (f : Fitted) (row : ℕ) → row < 3 → isFitted row f ≡ eqb (rowIn f) row
-fitted-row Nothing row h = sym (ne-eqb 3 row (λ e. omega arith))
-fitted-row (With kind n) row h = refl
+-- a channel is of the kind at a place exactly if that is the place of its kind
+fitted-order : (f : Fitted) (order : ℕ) → order < unitKinds → isFitted order f ≡ eqb (orderIn f) order
+fitted-order Nothing order h = sym (ne-eqb unitKinds order (λ e. omega arith))
+fitted-order (With kind n) order h = refl
 
 module _ (units : List (List Unit)) (channels : List Channel) (c : ℕ) where
   abbrev channel : Channel
   channel = getD channels c noChannel
 
   -- the count of a channel's own kind
-  own-count : {n row : ℕ} → row < 3 → c < 16 → row ≡ rowIn (channel .has) → AssignableOn units c (unitsOf channel) n → n ≡ countOn units channels row c
+  own-count : {n order : ℕ} → order < unitKinds → c < 16 → order ≡ orderIn (channel .has) → AssignableOn units c (unitsOf channel) n → n ≡ countOn units channels order c
   unfolding isFreeOf
-  own-count {n} {row} h k e a = a .is ∙ sum-same 16 (λ u. one (counts units c (unitsOf channel) u)) (λ u. one (isFreeOf units channels row (c * 16 + u))) each
+  own-count {n} {order} h k e a = a .is ∙ sum-same 16 (λ u. one (counts units c (unitsOf channel) u)) (λ u. one (isFreeOf units channels order (c * 16 + u))) each
     where
-      its : unitsOfRow row channel ≡ unitsOf channel
-      its = ap (λ (b : Bool). cond b (unitsOf channel) 0) (fitted-row (channel .has) row h ∙ eq-eqb (rowIn (channel .has)) row (sym e))
+      its : unitsOfKind order channel ≡ unitsOf channel
+      its = ap (λ (b : Bool). cond b (unitsOf channel) 0) (fitted-order (channel .has) order h ∙ eq-eqb (orderIn (channel .has)) order (sym e))
 
-      each : (u : ℕ) → u < 16 → one (counts units c (unitsOf channel) u) ≡ one (isFreeOf units channels row (c * 16 + u))
+      each : (u : ℕ) → u < 16 → one (counts units c (unitsOf channel) u) ≡ one (isFreeOf units channels order (c * 16 + u))
       each u l =
           let q : (c * 16 + u) / 16 ≡ c = omega arith in
           let r : (c * 16 + u) % 16 ≡ u = omega arith in
           rw (q, r, its) refl
 
   -- a channel has no unit of another kind
-  no-count : {row : ℕ} → row < 3 → c < 16 → (rowIn (channel .has) ≡ row → ⊥) → 0 ≡ countOn units channels row c
+  no-count : {order : ℕ} → order < unitKinds → c < 16 → (orderIn (channel .has) ≡ order → ⊥) → 0 ≡ countOn units channels order c
   unfolding isFreeOf
-  no-count {row} h k d = sym (sum-same 16 (λ u. one (isFreeOf units channels row (c * 16 + u))) (λ u. 0) each ∙ sum-zero 16)
+  no-count {order} h k d = sym (sum-same 16 (λ u. one (isFreeOf units channels order (c * 16 + u))) (λ u. 0) each ∙ sum-zero 16)
     where
-      its : unitsOfRow row channel ≡ 0
-      its = ap (λ (b : Bool). cond b (unitsOf channel) 0) (fitted-row (channel .has) row h ∙ ne-eqb (rowIn (channel .has)) row d)
+      its : unitsOfKind order channel ≡ 0
+      its = ap (λ (b : Bool). cond b (unitsOf channel) 0) (fitted-order (channel .has) order h ∙ ne-eqb (orderIn (channel .has)) order d)
 
-      each : (u : ℕ) → u < 16 → one (isFreeOf units channels row (c * 16 + u)) ≡ 0
+      each : (u : ℕ) → u < 16 → one (isFreeOf units channels order (c * 16 + u)) ≡ 0
       each u l =
           let q : (c * 16 + u) / 16 ≡ c = omega arith in
           let r : (c * 16 + u) % 16 ≡ u = omega arith in
@@ -82,16 +84,16 @@ module _ (units : List (List Unit)) (channels : List Channel) (c : ℕ) where
 -- the channels below c are counted, those from c on are not yet
 pub record Counting (units : List (List Unit)) (channels : List Channel) (of : List ℕ) (c : ℕ) : Type 0 where
   pub high : c ≤ 16
-  pub long : length of ≡ 48
-  pub done : (row d : ℕ) → row < 3 → d < c → getD of (row * 16 + d) 0 ≡ countOn units channels row d
-  pub rest : (row d : ℕ) → row < 3 → c ≤ d → d < 16 → getD of (row * 16 + d) 0 ≡ 0
+  pub long : length of ≡ many
+  pub done : (order d : ℕ) → order < unitKinds → d < c → getD of (order * 16 + d) 0 ≡ countOn units channels order d
+  pub rest : (order d : ℕ) → order < unitKinds → c ≤ d → d < 16 → getD of (order * 16 + d) 0 ≡ 0
 
-pub start : (units : List (List Unit)) (channels : List Channel) → Counting units channels (replicate 48 0) 0
+pub start : (units : List (List Unit)) (channels : List Channel) → Counting units channels (replicate many 0) 0
 start units channels = record {
   high = omega arith;
   long = refl;
-  done = λ row d h k. absurd (omega arith);
-  rest = λ row d h k l. getD-replicate 48 (row * 16 + d) 0 0 (omega arith);
+  done = λ order d h k. absurd (omega arith);
+  rest = λ order d h k l. getD-replicate many (order * 16 + d) 0 0 (omega arith);
 }
 
 module _ {units : List (List Unit)} {channels : List Channel} {of : List ℕ} {c : ℕ} (small : c < 16) (m : Counting units channels of c) where
@@ -103,43 +105,43 @@ module _ {units : List (List Unit)} {channels : List Channel} {of : List ℕ} {c
       at-most d c h = omega arith
 
   -- a channel without units
-  pub past : {next : List ℕ} → 3 ≤ rowIn (getD channels c noChannel .has) → next ≡ of → Counting units channels next (c + 1)
+  pub past : {next : List ℕ} → unitKinds ≤ orderIn (getD channels c noChannel .has) → next ≡ of → Counting units channels next (c + 1)
   past {next} h e = subst (λ (x : List ℕ). Counting units channels x (c + 1)) (sym e) (record {
     high = omega arith;
     long = m .long;
-    done = λ row d l. last (λ (d : ℕ). getD of (row * 16 + d) 0 ≡ countOn units channels row d) (λ d k. m .done row d l k)
-        (m .rest row c l (omega arith) small ∙ no-count units channels c l small (λ q. omega arith)) d;
-    rest = λ row d l k. m .rest row d l (omega arith);
+    done = λ order d l. last (λ (d : ℕ). getD of (order * 16 + d) 0 ≡ countOn units channels order d) (λ d k. m .done order d l k)
+        (m .rest order c l (omega arith) small ∙ no-count units channels c l small (λ q. omega arith)) d;
+    rest = λ order d l k. m .rest order d l (omega arith);
   })
 
   -- one with units of its kind
-  pub counted : {next : List ℕ} {row n : ℕ} → row < 3 → row ≡ rowIn (getD channels c noChannel .has) → AssignableOn units c (unitsOf (getD channels c noChannel)) n
-      → next ≡ set of (row * 16 + c) n → Counting units channels next (c + 1)
-  counted {next} {row} {n} h e a s = subst (λ (x : List ℕ). Counting units channels x (c + 1)) (sym s) (record {
+  pub counted : {next : List ℕ} {order n : ℕ} → order < unitKinds → order ≡ orderIn (getD channels c noChannel .has) → AssignableOn units c (unitsOf (getD channels c noChannel)) n
+      → next ≡ set of (order * 16 + c) n → Counting units channels next (c + 1)
+  counted {next} {order} {n} h e a s = subst (λ (x : List ℕ). Counting units channels x (c + 1)) (sym s) (record {
     high = omega arith;
-    long = length-set of (row * 16 + c) n ∙ m .long;
-    done = λ other d l. last (λ (d : ℕ). getD (set of (row * 16 + c) n) (other * 16 + d) 0 ≡ countOn units channels other d)
+    long = length-set of (order * 16 + c) n ∙ m .long;
+    done = λ other d l. last (λ (d : ℕ). getD (set of (order * 16 + c) n) (other * 16 + d) 0 ≡ countOn units channels other d)
         (λ d k. kept other d l (λ q. omega arith) ∙ m .done other d l k) (here other l) d;
     rest = λ other d l k b. kept other d l (λ q. omega arith) ∙ m .rest other d l (omega arith) b;
   })
     where
-      kept : (other d : ℕ) → other < 3 → (row * 16 + c ≡ other * 16 + d → ⊥) → getD (set of (row * 16 + c) n) (other * 16 + d) 0 ≡ getD of (other * 16 + d) 0
-      kept other d l q = getD-set-other of (row * 16 + c) (other * 16 + d) n 0 (λ r. q (sym r))
+      kept : (other d : ℕ) → other < unitKinds → (order * 16 + c ≡ other * 16 + d → ⊥) → getD (set of (order * 16 + c) n) (other * 16 + d) 0 ≡ getD of (other * 16 + d) 0
+      kept other d l q = getD-set-other of (order * 16 + c) (other * 16 + d) n 0 (λ r. q (sym r))
 
-      here : (other : ℕ) → other < 3 → getD (set of (row * 16 + c) n) (other * 16 + c) 0 ≡ countOn units channels other c
+      here : (other : ℕ) → other < unitKinds → getD (set of (order * 16 + c) n) (other * 16 + c) 0 ≡ countOn units channels other c
       here other l =
-          by-bool (eqb row other)
-          (λ t. subst (λ (x : ℕ). getD (set of (row * 16 + c) n) (x * 16 + c) 0 ≡ countOn units channels x c) (eqb-true row other t)
-          (getD-set-same of (row * 16 + c) n 0 (omega (arith, m .long)) ∙ own-count units channels c h small e a))
-          (λ t. kept other c l (λ q. eqb-false row other t (omega arith)) ∙ m .rest other c l (omega arith) small ∙ no-count units channels c l small (λ q. eqb-false row other t (e ∙ q)))
+          by-bool (eqb order other)
+          (λ t. subst (λ (x : ℕ). getD (set of (order * 16 + c) n) (x * 16 + c) 0 ≡ countOn units channels x c) (eqb-true order other t)
+          (getD-set-same of (order * 16 + c) n 0 (omega (arith, m .long)) ∙ own-count units channels c h small e a))
+          (λ t. kept other c l (λ q. eqb-false order other t (omega arith)) ∙ m .rest other c l (omega arith) small ∙ no-count units channels c l small (λ q. eqb-false order other t (e ∙ q)))
 
 pub end : {grid units : List (List Unit)} {channels : List Channel} {of : List ℕ} {c : ℕ} → 16 ≤ c → grid ≡ units → Counting grid channels of c → Counted units channels of
-end {grid} {units} {channels} {of} h e m = subst (λ (x : List (List Unit)). Counted x channels of) e (record { long = m .long; each = λ row c l k. m .done row c l (omega arith) })
+end {grid} {units} {channels} {of} h e m = subst (λ (x : List (List Unit)). Counted x channels of) e (record { long = m .long; each = λ order c l k. m .done order c l (omega arith) })
 
 -- ---- two answers are one
 pub counted-one : (units : List (List Unit)) (channels : List Channel) (a b : List ℕ) → Counted units channels a → Counted units channels b → a ≡ b
 counted-one units channels a b p q = ext-getD 0 a b (p .long ∙ sym (q .long)) λ i h.
     let s : i / 16 * 16 + i % 16 ≡ i = omega arith in
-    let l : i / 16 < 3 = omega (arith, p .long) in
+    let l : i / 16 < unitKinds = omega (arith, p .long) in
     let k : i % 16 < 16 = omega arith in
     subst (λ (x : ℕ). getD a x 0 ≡ getD b x 0) s (p .each (i / 16) (i % 16) l k ∙ sym (q .each (i / 16) (i % 16) l k))

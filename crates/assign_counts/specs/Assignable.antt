@@ -6,7 +6,7 @@ use mathlib.Core.List.{List}
 use lib.Dec.{ltb}
 use lib.ListN.{length, getD}
 use Rattle.cards_request.specs.Requests.{counts as many}
-use Rattle.numbers.specs.Kinds.{rowOf}
+use Rattle.numbers.specs.Kinds.{orderOf, unitKinds}
 use Rattle.units.specs.declared.Unit.{Unit}
 use Rattle.units.specs.State.{unitIn, assignable}
 use Rattle.channels.specs.declared.Fitted.{Fitted}
@@ -15,19 +15,19 @@ use Rattle.channels.specs.declared.Channel.{Channel}
 use Rattle.assign_heads.specs.Sums.{howMany}
 use Rattle.assign_free.specs.Assignable.{isFreeOf}
 
--- how many units of the kind of a row are assignable on channel c
+-- how many units of a kind, told by its place in the written order, are assignable on channel c
 abbrev pub countOn : List (List Unit) → List Channel → ℕ → ℕ → ℕ
-countOn units channels row c = howMany 16 (λ u. isFreeOf units channels row (c * 16 + u))
+countOn units channels order c = howMany 16 (λ u. isFreeOf units channels order (c * 16 + u))
 
--- the counts of the kinds that have units, at row * 16 + channel
+-- the counts of the kinds that have units, at order * 16 + channel
 pub record Counted (units : List (List Unit)) (channels : List Channel) (counts : List ℕ) : Type 0 where
   pub long : length counts ≡ many
-  pub each : (row c : ℕ) → row < 3 → c < 16 → getD counts (row * 16 + c) 0 ≡ countOn units channels row c
+  pub each : (order c : ℕ) → order < unitKinds → c < 16 → getD counts (order * 16 + c) 0 ≡ countOn units channels order c
 
--- the row of the kind that a channel has; 3, the drum's, where it has nothing
-abbrev pub rowIn : Fitted → ℕ
-rowIn Nothing = 3
-rowIn (With kind n) = rowOf kind
+-- the place in the order of the kind that a channel has; behind the last, the drum's, where it has nothing
+abbrev pub orderIn : Fitted → ℕ
+orderIn Nothing = unitKinds
+orderIn (With kind n) = orderOf kind
 
 -- how many of the first n units of channel c are assignable
 pub record AssignableOn (grid : List (List Unit)) (c n r : ℕ) : Type 0 where

@@ -6,21 +6,21 @@ use units::Units;
 ghost use mathlib.Core.Path.{_≡_};
 ghost use Prim.Native.Nat.{_<_};
 ghost use Rattle.units.specs.State.{Square};
-ghost use Rattle.assign_counts.specs.Assignable.{rowIn, AssignableOn, Counted};
+ghost use Rattle.assign_counts.specs.Assignable.{orderIn, AssignableOn, Counted};
 
-// The number of assignable units of the kinds MA, MT and PR on every channel, at kind * 16 + channel.
+// The number of assignable units of each kind but the drum on every channel, at order * 16 + channel.
 pub struct Counts {
     pub of: [u8; cards_request::COUNTS],
 }
 
-// The row of the kind that a channel has; 3, the drum's, where it has nothing.
-fn row_on(channel: Channel) -> usize
-    ensures { λ r. ⌜ r ≡ rowIn (channel .has) ⌝ }
+// The place in the written order of the kind that a channel has; behind the last, the drum's, where it has nothing.
+fn order_on(channel: Channel) -> usize
+    ensures { λ r. ⌜ r ≡ orderIn (channel .has) ⌝ }
 {
     let has = channel.has;
     match has {
-        Fitted::Nothing => 3,
-        Fitted::With(kind, _) => numbers::row_of(kind),
+        Fitted::Nothing => numbers::UNIT_KINDS,
+        Fitted::With(kind, _) => numbers::order_of(kind),
     }
 }
 
@@ -52,9 +52,9 @@ pub fn count(units: Units, channels: [Channel; 16]) -> Counts
     let mut c: usize = 0;
     while c < 16 {
         let channel = channels[c];
-        let row = row_on(channel);
-        if row < 3 {
-            of[row * 16 + c] = assignable_on(grid, c, channels::units_of(channel));
+        let order = order_on(channel);
+        if order < numbers::UNIT_KINDS {
+            of[order * 16 + c] = assignable_on(grid, c, channels::units_of(channel));
         }
         c += 1;
     }

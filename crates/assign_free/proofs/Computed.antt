@@ -9,7 +9,7 @@ use Rattle.channels.specs.declared.Channel.{Channel}
 use Rattle.assign_free.specs.Assignable.{isFreeOf, FreeUnits}
 
 abbrev pub marksOf : List (List Unit) → List Channel → ℕ → List Bool
-marksOf units channels row = values 256 (isFreeOf units channels row)
+marksOf units channels order = values 256 (isFreeOf units channels order)
 
-pub marks-answer : (units : List (List Unit)) (channels : List Channel) (row : ℕ) → FreeUnits units channels row (marksOf units channels row)
-marks-answer units channels row = record { long = values-long 256 (isFreeOf units channels row); each = λ i h. values-at 256 (isFreeOf units channels row) i false h }
+pub marks-answer : (units : List (List Unit)) (channels : List Channel) (order : ℕ) → FreeUnits units channels order (marksOf units channels order)
+marks-answer units channels order = record { long = values-long 256 (isFreeOf units channels order); each = λ i h. values-at 256 (isFreeOf units channels order) i false h }

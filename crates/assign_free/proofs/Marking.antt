@@ -12,7 +12,7 @@ use Rattle.units.specs.declared.Unit.{Unit}
 use Rattle.units.specs.State.{unitIn, assignable}
 use Rattle.channels.specs.declared.Channel.{Channel}
 use Rattle.channels.specs.Channels.{noChannel}
-use Rattle.assign_free.specs.Assignable.{unitsOfRow, isFreeOf, FreeUnits}
+use Rattle.assign_free.specs.Assignable.{unitsOfKind, isFreeOf, FreeUnits}
 use Rattle.assign_free.specs.Counts.{CountsOf}
 
 -- what unit i's mark is to be
@@ -42,11 +42,11 @@ module _ {grid : List (List Unit)} {counts : List ℕ} {free : List Bool} {i : �
             (v ∙ sym (ap (λ (x : Bool). x && assignable (unitIn grid (i / 16) (i % 16))) (lt-ltb (i % 16) (getD counts (i / 16) 0) h)));
       })
 
-pub end : {grid : List (List Unit)} {counts : List ℕ} {free : List Bool} {i : ℕ} (units : List (List Unit)) (channels : List Channel) (row : ℕ) → 256 ≤ i → grid ≡ units → CountsOf channels row counts
-    → Marking grid counts free i → FreeUnits units channels row free
+pub end : {grid : List (List Unit)} {counts : List ℕ} {free : List Bool} {i : ℕ} (units : List (List Unit)) (channels : List Channel) (order : ℕ) → 256 ≤ i → grid ≡ units → CountsOf channels order counts
+    → Marking grid counts free i → FreeUnits units channels order free
 unfolding isFreeOf
-end {grid} {counts} {free} {i} units channels row h e c m = record {
+end {grid} {counts} {free} {i} units channels order h e c m = record {
   long = m .filled .wide;
   each = λ j k. m .filled .each j (omega arith) ∙ ap (λ (n : ℕ). ltb (j % 16) n && assignable (unitIn grid (j / 16) (j % 16))) (c .each (j / 16) (omega arith))
-      ∙ ap (λ (g : List (List Unit)). ltb (j % 16) (unitsOfRow row (getD channels (j / 16) noChannel)) && assignable (unitIn g (j / 16) (j % 16))) e;
+      ∙ ap (λ (g : List (List Unit)). ltb (j % 16) (unitsOfKind order (getD channels (j / 16) noChannel)) && assignable (unitIn g (j / 16) (j % 16))) e;
 }

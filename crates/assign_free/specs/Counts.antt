@@ -1,13 +1,12 @@
--- How many units of the kind of a row every channel has, as one private function answers it. Nothing here has to be
--- believed.
+-- How many units of a kind every channel has, as one private function answers it. Nothing here has to be believed.
 use Prim.Native.Nat.{ℕ, _<_}
 use mathlib.Core.Path.{_≡_}
 use mathlib.Core.List.{List}
 use lib.ListN.{length, getD}
 use Rattle.channels.specs.declared.Channel.{Channel}
 use Rattle.channels.specs.Channels.{noChannel}
-use Rattle.assign_free.specs.Assignable.{unitsOfRow}
+use Rattle.assign_free.specs.Assignable.{unitsOfKind}
 
-pub record CountsOf (channels : List Channel) (row : ℕ) (counts : List ℕ) : Type 0 where
+pub record CountsOf (channels : List Channel) (order : ℕ) (counts : List ℕ) : Type 0 where
   pub long : length counts ≡ 16
-  pub each : (c : ℕ) → c < 16 → getD counts c 0 ≡ unitsOfRow row (getD channels c noChannel)
+  pub each : (c : ℕ) → c < 16 → getD counts c 0 ≡ unitsOfKind order (getD channels c noChannel)

@@ -1,11 +1,14 @@
 -- What the searches and the two tests say of a part; and there is one answer. Assumes nothing.
 use Prim.Native.Nat.{ℕ, _<_, _≤_}
-use mathlib.Core.Path.{_≡_, refl, sym, _∙_, subst}
-use mathlib.Core.Bool.{Bool, false}
+use mathlib.Core.Path.{_≡_, refl, sym, ap, _∙_, subst}
+use mathlib.Core.Bool.{Bool, true, false}
 use mathlib.Core.List.{List}
-use lib.ListN.{length}
+use native.Mathlib.Omega.{arith}
+use lib.ListN.{length, replicate}
 use Rattle.numbers.specs.Decides.{Decides}
+use Rattle.numbers.specs.declared.ChannelNumber.{ChannelNumber}
 use Rattle.numbers.proofs.Tests.{never}
+use Rattle.numbers.proofs.Stores.{getD-replicate-same}
 use Rattle.assign_core.specs.Core as C
 use Rattle.assign_core.specs.declared.Pair.{Pair}
 use Rattle.assign_core.specs.declared.Found.{Found}
@@ -14,8 +17,9 @@ use Rattle.assign_drum.specs.Drum as D
 use Rattle.assign_drum.specs.declared.Area.{Area}
 use Rattle.assign_drum.specs.declared.Start.{Start}
 use Rattle.assign_drum.specs.declared.Start.the-variants as S
-use Rattle.assign_channels.specs.Choice.{total}
+use Rattle.assign_channels.specs.Choice.{channel, total}
 use Rattle.assign_channels.specs.Greedy.{hallB}
+use Rattle.assign_channels.proofs.GreedyLaws.{total-none}
 use Rattle.assign_channels.proofs.Loops.{too-many, not-served, found, lent}
 use Rattle.cards_request.specs.declared.Facilities.{Facilities}
 use Rattle.assign.specs.declared.Lacking.{Lacking}
@@ -38,7 +42,24 @@ module _ (areas : List Area) (size : ℕ) (wanted : Facilities) {r : Start} (a :
   pub drum-there : (s : ℕ) → r ≡ S.At s → HasDrum areas size wanted
   drum-there s e = record { start = s; fits = subst (D.Answers areas size (wanted .md)) e a .0 }
 
--- ---- a kind: the tests that `assign_channels::choose` makes before it chooses
+-- ---- a kind: where nothing is asked for, no channel is needed
+pub none-asked : (counts wants : List ℕ) → total wants ≡ 0 → Decides (Servable counts wants) true
+none-asked counts wants e = (
+  λ t. record {
+    channels = replicate 16 (channel 0);
+    placed = record {
+      long = refl;
+      fits = λ l h g w. absurd (omega (arith, total-none wants e l));
+      own = λ l m h g n w v q. absurd (omega (arith, total-none wants e l));
+      rest = omega arith;
+      none-0 = refl;
+      none = λ l h g w. ap (λ (c : ChannelNumber). c .0) (getD-replicate-same 16 l (channel 0));
+    };
+  },
+  λ f s. never refl f,
+)
+
+-- else the tests that `assign_channels::choose` makes before it chooses
 module _ (counts wants : List ℕ) (wide : length counts ≡ 16) (size : length wants ≡ 16) where
   -- fewer units than the entries ask for together
   pub too-few : total counts < total wants → Decides (Servable counts wants) false

@@ -4,7 +4,7 @@ use Prim.Native.Nat.{ℕ}
 use mathlib.Core.Path.{_≡_}
 use mathlib.Core.List.{List}
 use lib.ListN as N
-use Rattle.numbers.specs.Kinds.{rowOf}
+use Rattle.numbers.specs.Kinds.{orderOf}
 use Rattle.numbers.specs.declared.ChannelNumber.{ChannelNumber}
 use Rattle.assign_drum.specs.declared.Area.{Area}
 use Rattle.assign_channels.specs.Choice.{Placed}
@@ -23,7 +23,7 @@ pub record Servable (counts wants : List ℕ) : Type 0 where
 
 -- a kind's units are there, by the counts of all kinds; core and drum count as there
 abbrev pub HasUnits : List ℕ → List ℕ → Part → Type 0
-HasUnits counts asked (Units kind) = Servable (wantsOf counts (rowOf kind)) (wantsOf asked (rowOf kind))
+HasUnits counts asked (Units kind) = Servable (wantsOf counts (orderOf kind)) (wantsOf asked (orderOf kind))
 HasUnits counts asked Core = Unit {0}
 HasUnits counts asked Drum = Unit {0}
 

@@ -7,23 +7,23 @@ use assign_counts::Counts;
 use assign_drum::Area;
 use assign_drum::Start;
 use cards_request::Facilities;
-use numbers::Kind;
 ghost use mathlib.Core.Path.{_≡_};
 ghost use Prim.Native.Nat.{_<_};
 ghost use Rattle.numbers.specs.Decides.{Decides};
+ghost use Rattle.numbers.specs.Kinds.{unitKinds};
 ghost use Rattle.assign.specs.Assignment.{wantsOf};
 ghost use Rattle.assign.specs.Parts.{FirstOf, kinds};
 ghost use Rattle.assign_lacking.specs.ByCounts.{Servable, HasUnits, Answers};
 
 // A kind's part of a table by kind and channel, or by kind and logical channel.
-fn row_at(table: [u8; cards_request::COUNTS], row: usize) -> [u8; 16]
-    requires { ⌜ row < 3 ⌝ }
-    ensures { λ r. ⌜ r ≡ wantsOf table row ⌝ }
+fn part_at(table: [u8; cards_request::COUNTS], order: usize) -> [u8; 16]
+    requires { ⌜ order < unitKinds ⌝ }
+    ensures { λ r. ⌜ r ≡ wantsOf table order ⌝ }
 {
     let mut part = [0u8; 16];
     let mut l: usize = 0;
     while l < 16 {
-        part[l] = table[row * 16 + l];
+        part[l] = table[order * 16 + l];
         l += 1;
     }
     part
@@ -40,35 +40,37 @@ fn is_servable(counts: [u8; 16], wants: [u8; 16]) -> bool
     assign_channels::can_serve(&counts, &wants[1..])
 }
 
-// The same of the kind of a row.
+// The same of a kind, told by its place in the written order. Where nothing is asked for the counts are not looked at.
 fn has_units(
     counts: [u8; cards_request::COUNTS],
     asked: [u8; cards_request::COUNTS],
-    row: usize,
+    order: usize,
 ) -> bool
-    requires { ⌜ row < 3 ⌝ }
-    ensures { λ r. ⌜ Decides (Servable (wantsOf counts row) (wantsOf asked row)) r ⌝ }
+    requires { ⌜ order < unitKinds ⌝ }
+    ensures { λ r. ⌜ Decides (Servable (wantsOf counts order) (wantsOf asked order)) r ⌝ }
 {
-    is_servable(row_at(counts, row), row_at(asked, row))
+    let wants = part_at(asked, order);
+    if assign_channels::sum(wants) == 0 {
+        return true;
+    }
+    is_servable(part_at(counts, order), wants)
 }
 
-// The first kind whose units are lacking.
+// The first kind whose units are lacking, in the written order.
 fn lacking_kind(counts: [u8; cards_request::COUNTS], asked: [u8; cards_request::COUNTS]) -> Lacking
     ensures { λ r. ⌜ FirstOf (HasUnits counts asked) kinds r ⌝ }
 {
-    if !has_units(counts, asked, 0) {
-        return Lacking::First(Part::Units(Kind::Ma));
-    }
-    if !has_units(counts, asked, 1) {
-        return Lacking::First(Part::Units(Kind::Mt));
-    }
-    if !has_units(counts, asked, 2) {
-        return Lacking::First(Part::Units(Kind::Pr));
+    let mut order: usize = 0;
+    while order < numbers::UNIT_KINDS {
+        if !has_units(counts, asked, order) {
+            return Lacking::First(Part::Units(numbers::kind_at(order)));
+        }
+        order += 1;
     }
     Lacking::Nothing
 }
 
-// The first part that is lacking, in the order core, drum, MA, MT, PR, on a drum of the length given.
+// The first part that is lacking, in the order core, drum, MA, MT, PR, MC, CR, PT, on a drum of the length given.
 pub fn first_lacking(
     counts: Counts,
     occupancy: u32,

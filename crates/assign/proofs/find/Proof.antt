@@ -53,14 +53,14 @@ returns-2 c = no-drum (cellOf (c .before .before .before .before .before .before
 serve-kinds-requires : tie.Need-serve-kinds-requires
 serve-kinds-requires c κs = search needs
 
-unit-kind-requires : tie.Need-unit-kind-requires
-unit-kind-requires c κs = search needs
+kind-at-requires : tie.Need-kind-at-requires
+kind-at-requires c κs = search needs
 
 without-requires-3 : tie.Need-without-requires-3
 without-requires-3 c κs = search needs
 
 returns-3 : tie.Need-returns-3
-returns-3 c = no-kind (cellOf (c .before .before .before .before .before .before .before .before .before .before .before .before .before .before .before .before .before .args .units .of) (c .before .before .before .before .before .before .before .before .before .before .before .before .before .before .before .before .before .args .occupancy) (c .before .before .before .before .before .before .before .before .before .before .before .before .before .before .before .before .before .args .areas) (c .before .before .before .before .before .before .before .before .before .before .before .before .before .before .before .before .before .args .channels)) (c .before .before .before .before .before .before .before .before .before .before .before .before .before .before .before .before .before .args .wanted) (subst (Core.Answers (c .before .before .before .before .before .before .before .before .before .before .before .before .before .before .before .before .before .args .occupancy) (c .before .before .before .before .before .before .before .before .before .before .before .before .before .before .before .before .before .args .wanted .ib) (c .before .before .before .before .before .before .before .before .before .before .before .before .before .before .before .before .before .args .wanted .db)) (c .before .before .before .before .before .before .before .before .before .before .before .before .pair .given .1) (c .before .before .before .before .before .before .before .before .before .before .before .before .before .before .search .ensures)) (for-length (c .before .before .before .before .before .before .before .before .before .before .before .before .before .before .before .before .before .args .areas) (c .before .before .before .before .before .before .before .before .before .before .before .before .before .before .before .before .before .args .wanted .md) (c .before .before .before .before .before .before .before .before .before .before .drum-length .ensures) (c .before .before .before .before .before .before .before .start .given .1) (c .before .before .before .before .before .before .before .before .before .lowest-start .ensures)) (kinds-lacking (c .before .before .before .before .serve-kinds .result) (not-true (c .before .before .before .before .serve-kinds .result .ok) (c .before .before .if1 .taken)) (c .before .before .before .before .serve-kinds .ensures)) (c .without3 .ensures ∙ ap (λ (k : Kind). without (Units k)) (c .before .unit-kind .ensures))
+returns-3 c = no-kind (cellOf (c .before .before .before .before .before .before .before .before .before .before .before .before .before .before .before .before .before .args .units .of) (c .before .before .before .before .before .before .before .before .before .before .before .before .before .before .before .before .before .args .occupancy) (c .before .before .before .before .before .before .before .before .before .before .before .before .before .before .before .before .before .args .areas) (c .before .before .before .before .before .before .before .before .before .before .before .before .before .before .before .before .before .args .channels)) (c .before .before .before .before .before .before .before .before .before .before .before .before .before .before .before .before .before .args .wanted) (subst (Core.Answers (c .before .before .before .before .before .before .before .before .before .before .before .before .before .before .before .before .before .args .occupancy) (c .before .before .before .before .before .before .before .before .before .before .before .before .before .before .before .before .before .args .wanted .ib) (c .before .before .before .before .before .before .before .before .before .before .before .before .before .before .before .before .before .args .wanted .db)) (c .before .before .before .before .before .before .before .before .before .before .before .before .pair .given .1) (c .before .before .before .before .before .before .before .before .before .before .before .before .before .before .search .ensures)) (for-length (c .before .before .before .before .before .before .before .before .before .before .before .before .before .before .before .before .before .args .areas) (c .before .before .before .before .before .before .before .before .before .before .before .before .before .before .before .before .before .args .wanted .md) (c .before .before .before .before .before .before .before .before .before .before .drum-length .ensures) (c .before .before .before .before .before .before .before .start .given .1) (c .before .before .before .before .before .before .before .before .before .lowest-start .ensures)) (kinds-lacking (c .before .before .before .before .serve-kinds .result) (not-true (c .before .before .before .before .serve-kinds .result .ok) (c .before .before .if1 .taken)) (c .before .before .before .before .serve-kinds .ensures)) (c .without3 .ensures ∙ ap (λ (k : Kind). without (Units k)) (c .before .kind-at .ensures))
 
 returns-4 : tie.Need-returns-4
 returns-4 c = assigned (cellOf (c .before .before .before .before .before .before .before .before .before .before .before .before .before .before .before .before .before .args .units .of) (c .before .before .before .before .before .before .before .before .before .before .before .before .before .before .before .before .before .args .occupancy) (c .before .before .before .before .before .before .before .before .before .before .before .before .before .before .before .before .before .args .areas) (c .before .before .before .before .before .before .before .before .before .before .before .before .before .before .before .before .before .args .channels)) (c .before .before .before .before .before .before .before .before .before .before .before .before .before .before .before .before .before .args .wanted) (c .before .before .before .before .before .before .before .before .before .before .before .before .pair .given .0 .0) (c .before .before .before .before .before .before .before .start .given .0 .0) (c .before .before .before .before .serve-kinds .result .channels) (c .before .before .before .before .serve-kinds .result .heads) (subst (Core.Answers (c .before .before .before .before .before .before .before .before .before .before .before .before .before .before .before .before .before .args .occupancy) (c .before .before .before .before .before .before .before .before .before .before .before .before .before .before .before .before .before .args .wanted .ib) (c .before .before .before .before .before .before .before .before .before .before .before .before .before .before .before .before .before .args .wanted .db)) (c .before .before .before .before .before .before .before .before .before .before .before .before .pair .given .1) (c .before .before .before .before .before .before .before .before .before .before .before .before .before .before .search .ensures)) (for-length (c .before .before .before .before .before .before .before .before .before .before .before .before .before .before .before .before .before .args .areas) (c .before .before .before .before .before .before .before .before .before .before .before .before .before .before .before .before .before .args .wanted .md) (c .before .before .before .before .before .before .before .before .before .before .drum-length .ensures) (c .before .before .before .before .before .before .before .start .given .1) (c .before .before .before .before .before .before .before .before .before .lowest-start .ensures)) (kinds-served (c .before .before .before .before .serve-kinds .result) (not-false (c .before .before .before .before .serve-kinds .result .ok) (c .before .before .if1 .left)) (c .before .before .before .before .serve-kinds .ensures))
@@ -83,7 +83,7 @@ find-spec =
     without-requires-2
     returns-2
     serve-kinds-requires
-    unit-kind-requires
+    kind-at-requires
     without-requires-3
     returns-3
     returns-4)

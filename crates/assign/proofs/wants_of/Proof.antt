@@ -10,10 +10,10 @@ use Rattle.assign.proofs.wants_of.Statement.{statement}
 use Rattle.assign.proofs.wants_of.Tie as tie
 
 abbrev Inv-loop : tie.InvT-loop
-Inv-loop row units wants₀ l₀ wants l = ((l ≤ 16) × (length wants ≡ 16)) × ((d : ℕ) → d < l → getD wants d 0 ≡ getD units (row * 16 + d) 0)
+Inv-loop order units wants₀ l₀ wants l = ((l ≤ 16) × (length wants ≡ 16)) × ((d : ℕ) → d < l → getD wants d 0 ≡ getD units (order * 16 + d) 0)
 
 abbrev μ-loop : tie.MeasureT-loop
-μ-loop row units wants₀ l₀ wants l = 16 - l
+μ-loop order units wants₀ l₀ wants l = 16 - l
 
 loop-holds : tie.Need-loop-holds Inv-loop μ-loop
 loop-holds c = ((omega arith, refl), λ d h. absurd (omega arith))
@@ -37,10 +37,10 @@ loop-less : tie.Need-loop-less Inv-loop μ-loop
 loop-less c = omega arith
 
 loop-again : tie.Need-loop-again Inv-loop μ-loop
-loop-again c = ((omega arith, length-set (c .before .loop .wants) (c .before .loop .l) (getD (c .before .before .args .t1) (c .before .before .args .row * 16 + c .before .loop .l) 0) ∙ c .before .loop .inv .0 .1), stored (λ (d : ℕ) (n : ℕ). n ≡ getD (c .before .before .args .t1) (c .before .before .args .row * 16 + d) 0) (c .before .loop .wants) (c .before .loop .l) 16 (getD (c .before .before .args .t1) (c .before .before .args .row * 16 + c .before .loop .l) 0) 0 (c .before .loop .inv .0 .1) (c .loop-test .taken) (c .before .loop .inv .1) refl)
+loop-again c = ((omega arith, length-set (c .before .loop .wants) (c .before .loop .l) (getD (c .before .before .args .t1) (c .before .before .args .order * 16 + c .before .loop .l) 0) ∙ c .before .loop .inv .0 .1), stored (λ (d : ℕ) (n : ℕ). n ≡ getD (c .before .before .args .t1) (c .before .before .args .order * 16 + d) 0) (c .before .loop .wants) (c .before .loop .l) 16 (getD (c .before .before .args .t1) (c .before .before .args .order * 16 + c .before .loop .l) 0) 0 (c .before .loop .inv .0 .1) (c .loop-test .taken) (c .before .loop .inv .1) refl)
 
 returns : tie.Need-returns Inv-loop μ-loop
-returns c = part-is (c .before .before .args .t1) (c .before .loop .wants) (c .before .before .args .row) (omega arith) (c .before .loop .inv .0 .1) (c .before .before .pre) (λ d h. c .before .loop .inv .1 d (omega arith))
+returns c = part-is (c .before .before .args .t1) (c .before .loop .wants) (c .before .before .args .order) (omega arith) (c .before .loop .inv .0 .1) (c .before .before .pre) (λ d h. c .before .loop .inv .1 d (omega arith))
 
 pub wants-of-spec : {M : Type 1} → statement M
 wants-of-spec =

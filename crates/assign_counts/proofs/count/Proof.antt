@@ -28,8 +28,8 @@ mul-channel c = search needs
 array-copy-out-channel : tie.Need-array-copy-out-channel Inv-loop μ-loop
 array-copy-out-channel c = search needs
 
-row-on-requires : tie.Need-row-on-requires Inv-loop μ-loop
-row-on-requires c κs = search needs
+order-on-requires : tie.Need-order-on-requires Inv-loop μ-loop
+order-on-requires c κs = search needs
 
 units-of-requires : tie.Need-units-of-requires Inv-loop μ-loop
 units-of-requires c κs = search needs
@@ -53,7 +53,7 @@ loop-less : tie.Need-loop-less Inv-loop μ-loop
 loop-less c = omega arith
 
 loop-again : tie.Need-loop-again Inv-loop μ-loop
-loop-again c = ⊎-elim (λ w. counted (c .before .before .before .loop-test .taken) (c .before .before .before .before .loop .inv) (w .0 .taken) (c .before .row-on .ensures) (subst (λ (n : ℕ). AssignableOn (c .before .before .before .before .before .grid-of .result) (c .before .before .before .before .loop .c) n (w .2 .result)) (w .1 .ensures) (w .2 .ensures)) (w .3)) (λ w. past (c .before .before .before .loop-test .taken) (c .before .before .before .before .loop .inv) (omega (arith, c .before .row-on .ensures, w .0 .left)) (w .1)) (c .if1 .came)
+loop-again c = ⊎-elim (λ w. counted (c .before .before .before .loop-test .taken) (c .before .before .before .before .loop .inv) (w .0 .taken) (c .before .order-on .ensures) (subst (λ (n : ℕ). AssignableOn (c .before .before .before .before .before .grid-of .result) (c .before .before .before .before .loop .c) n (w .2 .result)) (w .1 .ensures) (w .2 .ensures)) (w .3)) (λ w. past (c .before .before .before .loop-test .taken) (c .before .before .before .before .loop .inv) (omega (arith, c .before .order-on .ensures, w .0 .left)) (w .1)) (c .if1 .came)
 
 returns : tie.Need-returns Inv-loop μ-loop
 returns c = end (c .loop-test .left) (c .before .before .grid-of .ensures .is) (c .before .loop .inv)
@@ -68,7 +68,7 @@ count-spec =
     loop-holds
     mul-channel
     array-copy-out-channel
-    row-on-requires
+    order-on-requires
     units-of-requires
     assignable-on-requires
     mul-of

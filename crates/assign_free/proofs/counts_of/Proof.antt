@@ -6,16 +6,16 @@ use native.Mathlib.Omega.{arith}
 use lib.ListN.{length, getD, length-set}
 use Rattle.numbers.proofs.Stores.{stored}
 use Rattle.channels.specs.Channels.{noChannel}
-use Rattle.assign_free.specs.Assignable.{unitsOfRow}
+use Rattle.assign_free.specs.Assignable.{unitsOfKind}
 use borrow.Author.Needs.{needs}
 use Rattle.assign_free.proofs.counts_of.Statement.{statement}
 use Rattle.assign_free.proofs.counts_of.Tie as tie
 
 abbrev Inv-loop : tie.InvT-loop
-Inv-loop row channels counts₀ c₀ counts c = ((c ≤ 16) × (length counts ≡ 16)) × ((d : ℕ) → d < c → getD counts d 0 ≡ unitsOfRow row (getD channels d noChannel))
+Inv-loop order channels counts₀ c₀ counts c = ((c ≤ 16) × (length counts ≡ 16)) × ((d : ℕ) → d < c → getD counts d 0 ≡ unitsOfKind order (getD channels d noChannel))
 
 abbrev μ-loop : tie.MeasureT-loop
-μ-loop row channels counts₀ c₀ counts c = 16 - c
+μ-loop order channels counts₀ c₀ counts c = 16 - c
 
 loop-holds : tie.Need-loop-holds Inv-loop μ-loop
 loop-holds c = ((omega arith, refl), λ d h. absurd (omega arith))
@@ -26,8 +26,8 @@ mul-channel c = search needs
 array-copy-out-channel : tie.Need-array-copy-out-channel Inv-loop μ-loop
 array-copy-out-channel c = search needs
 
-units-of-row-requires : tie.Need-units-of-row-requires Inv-loop μ-loop
-units-of-row-requires c κs = search needs
+units-of-kind-requires : tie.Need-units-of-kind-requires Inv-loop μ-loop
+units-of-kind-requires c κs = search needs
 
 mul-counts : tie.Need-mul-counts Inv-loop μ-loop
 mul-counts c = search needs
@@ -42,7 +42,7 @@ loop-less : tie.Need-loop-less Inv-loop μ-loop
 loop-less c = omega arith
 
 loop-again : tie.Need-loop-again Inv-loop μ-loop
-loop-again c = ((omega arith, length-set (c .before .before .before .loop .counts) (c .before .before .before .loop .c) (c .units-of-row .result) ∙ c .before .before .before .loop .inv .0 .1), stored (λ (d : ℕ) (n : ℕ). n ≡ unitsOfRow (c .before .before .before .before .args .row) (getD (c .before .before .before .before .args .t1) d noChannel)) (c .before .before .before .loop .counts) (c .before .before .before .loop .c) 16 (c .units-of-row .result) 0 (c .before .before .before .loop .inv .0 .1) (c .before .before .loop-test .taken) (c .before .before .before .loop .inv .1) (c .units-of-row .ensures))
+loop-again c = ((omega arith, length-set (c .before .before .before .loop .counts) (c .before .before .before .loop .c) (c .units-of-kind .result) ∙ c .before .before .before .loop .inv .0 .1), stored (λ (d : ℕ) (n : ℕ). n ≡ unitsOfKind (c .before .before .before .before .args .order) (getD (c .before .before .before .before .args .t1) d noChannel)) (c .before .before .before .loop .counts) (c .before .before .before .loop .c) 16 (c .units-of-kind .result) 0 (c .before .before .before .loop .inv .0 .1) (c .before .before .loop-test .taken) (c .before .before .before .loop .inv .1) (c .units-of-kind .ensures))
 
 returns : tie.Need-returns Inv-loop μ-loop
 returns c = record { long = c .before .loop .inv .0 .1; each = λ d h. c .before .loop .inv .1 d (omega arith) }
@@ -56,7 +56,7 @@ counts-of-spec =
     loop-holds
     mul-channel
     array-copy-out-channel
-    units-of-row-requires
+    units-of-kind-requires
     mul-counts
     array-write-counts
     add-c

@@ -9,10 +9,10 @@ use Rattle.assign_free.proofs.free_units.Statement.{statement}
 use Rattle.assign_free.proofs.free_units.Tie as tie
 
 abbrev Inv-loop : tie.InvT-loop
-Inv-loop row grid counts free₀ i₀ free i = Marking grid counts free i
+Inv-loop order grid counts free₀ i₀ free i = Marking grid counts free i
 
 abbrev μ-loop : tie.MeasureT-loop
-μ-loop row grid counts free₀ i₀ free i = 256 - i
+μ-loop order grid counts free₀ i₀ free i = 256 - i
 
 grid-of-requires : tie.Need-grid-of-requires Inv-loop μ-loop
 grid-of-requires c κs = search needs
@@ -61,7 +61,7 @@ unfolding unitIn
 loop-again c = ⊎-elim (λ w. marked (c .before .loop-test .taken) (c .before .before .loop .inv) (w .0 .taken) (w .2 .ensures) (w .3)) (λ w. past (c .before .loop-test .taken) (c .before .before .loop .inv) (w .0 .left) (w .1)) (c .if1 .came)
 
 returns : tie.Need-returns Inv-loop μ-loop
-returns c = end (c .before .before .before .before .args .units .of) (c .before .before .before .before .args .channels) (c .before .before .before .before .args .row) (c .loop-test .left) (c .before .before .before .grid-of .ensures .is) (c .before .before .counts-of .ensures) (c .before .loop .inv)
+returns c = end (c .before .before .before .before .args .units .of) (c .before .before .before .before .args .channels) (c .before .before .before .before .args .order) (c .loop-test .left) (c .before .before .before .grid-of .ensures .is) (c .before .before .counts-of .ensures) (c .before .loop .inv)
 
 pub free-units-spec : {M : Type 1} → statement M
 free-units-spec =

@@ -1,40 +1,66 @@
--- `assign_lacking::lacking_kind` meets its contract. Assumes nothing.
-use mathlib.Core.Path.{refl}
-use mathlib.Core.Logic.{inl, inr}
+-- `assign_lacking::lacking_kind` meets its contract: the kinds before one have their units, by the law of the first kind
+-- that is lacking. Assumes nothing.
+use Prim.Native.Nat.{ℕ, _-_, _≤_, _<_}
+use mathlib.Core.Path.{subst, sym}
+use native.Mathlib.Omega.{arith}
 use borrow.Author.Tests.{not-true, not-false}
+use Rattle.numbers.specs.Kinds.{unitKinds}
+use Rattle.numbers.specs.declared.Kind.{Kind}
+use Rattle.numbers.proofs.Order.{one-more}
+use Rattle.assign.specs.Assignment.{wantsOf}
+use Rattle.assign.specs.Parts.{FirstOf, kinds}
+use Rattle.assign.specs.declared.Lacking.the-variants.{First}
+use Rattle.assign.specs.declared.Part.the-variants.{Units}
+use Rattle.assign.proofs.FirstLaws.{first-kind, every-kind}
+use Rattle.assign_lacking.specs.ByCounts.{Servable, HasUnits}
 use borrow.Author.Needs.{needs}
 use Rattle.assign_lacking.proofs.lacking_kind.Statement.{statement}
 use Rattle.assign_lacking.proofs.lacking_kind.Tie as tie
+use Rattle.assign_lacking.proofs.lacking_kind.Reads as reads
+use Rattle.assign_lacking.proofs.lacking_kind.Lts as lts
+use Rattle.assign_lacking.proofs.has_units.Reads as has-units-reads
 
-has-units-requires : tie.Need-has-units-requires
+abbrev Inv-loop : tie.InvT-loop
+Inv-loop counts asked order₀ order = (order ≤ unitKinds) × ((j : ℕ) → j < order → Servable (wantsOf counts j) (wantsOf asked j))
+
+abbrev μ-loop : tie.MeasureT-loop
+μ-loop counts asked order₀ order = unitKinds - order
+
+loop-holds : tie.Need-loop-holds Inv-loop μ-loop
+loop-holds c = (omega arith, λ j h. absurd (omega arith))
+
+has-units-requires : tie.Need-has-units-requires Inv-loop μ-loop
 has-units-requires c κs = search needs
 
-returns : tie.Need-returns
-returns c = inl (c .before .has-units .ensures .1 (not-true (c .before .has-units .result) (c .if1 .taken)), refl)
+kind-at-requires : tie.Need-kind-at-requires Inv-loop μ-loop
+kind-at-requires c κs = search needs
 
-has-units-requires-2 : tie.Need-has-units-requires-2
-has-units-requires-2 c κs = search needs
+returns : tie.Need-returns Inv-loop μ-loop
+returns c = subst (λ (k : Kind). FirstOf (HasUnits (c .before .before .before .before .before .args .counts) (c .before .before .before .before .before .args .asked)) kinds (First (Units k))) (sym (c .kind-at .ensures)) (first-kind (HasUnits (c .before .before .before .before .before .args .counts) (c .before .before .before .before .before .args .asked)) (λ j. Servable (wantsOf (c .before .before .before .before .before .args .counts) j) (wantsOf (c .before .before .before .before .before .args .asked) j)) (λ k x. x) (λ k x. x) (c .before .before .before .before .loop .order) (c .before .before .before .loop-test .taken) (c .before .before .before .before .loop .inv .1) (c .before .before .has-units .ensures .1 (not-true (c .before .before .has-units .result) (c .before .if1 .taken))))
 
-returns-2 : tie.Need-returns-2
-returns-2 c = inr (c .before .before .before .has-units .ensures .0 (not-false (c .before .before .before .has-units .result) (c .before .before .if1 .left)), inl (c .before .has-units2 .ensures .1 (not-true (c .before .has-units2 .result) (c .if2 .taken)), refl))
+add-order : tie.Need-add-order Inv-loop μ-loop
+add-order c = search needs
 
-has-units-requires-3 : tie.Need-has-units-requires-3
-has-units-requires-3 c κs = search needs
+loop-less : tie.Need-loop-less Inv-loop μ-loop
+loop-less c = search needs
 
-returns-3 : tie.Need-returns-3
-returns-3 c = inr (c .before .before .before .before .before .has-units .ensures .0 (not-false (c .before .before .before .before .before .has-units .result) (c .before .before .before .before .if1 .left)), inr (c .before .before .before .has-units2 .ensures .0 (not-false (c .before .before .before .has-units2 .result) (c .before .before .if2 .left)), inl (c .before .has-units3 .ensures .1 (not-true (c .before .has-units3 .result) (c .if3 .taken)), refl)))
+loop-again : tie.Need-loop-again Inv-loop μ-loop
+loop-again c = (omega (arith, c .before .before .loop-test .taken), one-more (λ j. Servable (wantsOf (c .before .before .before .before .args .counts) j) (wantsOf (c .before .before .before .before .args .asked) j)) (c .before .before .before .loop .order) (c .before .before .before .loop .inv .1) (c .before .has-units .ensures .0 (not-false (c .before .has-units .result) (c .if1 .left))))
 
-returns-4 : tie.Need-returns-4
-returns-4 c = inr (c .before .before .before .before .before .has-units .ensures .0 (not-false (c .before .before .before .before .before .has-units .result) (c .before .before .before .before .if1 .left)), inr (c .before .before .before .has-units2 .ensures .0 (not-false (c .before .before .before .has-units2 .result) (c .before .before .if2 .left)), inr (c .before .has-units3 .ensures .0 (not-false (c .before .has-units3 .result) (c .if3 .left)), refl)))
+returns-2 : tie.Need-returns-2 Inv-loop μ-loop
+returns-2 c = every-kind (HasUnits (c .before .before .args .counts) (c .before .before .args .asked)) (λ j. Servable (wantsOf (c .before .before .args .counts) j) (wantsOf (c .before .before .args .asked) j)) (λ k x. x) (λ k x. x) (λ j h. c .before .loop .inv .1 j (omega (arith, c .loop-test .left)))
 
 pub lacking-kind-spec : {M : Type 1} → statement M
 lacking-kind-spec =
     tie.close
     (tie.spec
+    Inv-loop
+    μ-loop
+    loop-holds
     has-units-requires
+    kind-at-requires
     returns
-    has-units-requires-2
-    returns-2
-    has-units-requires-3
-    returns-3
-    returns-4)
+    add-order
+    loop-less
+    loop-again
+    returns-2)
