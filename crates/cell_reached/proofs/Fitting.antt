@@ -11,7 +11,7 @@ use lib.ListN.{length, getD, length-map, List·getD-map}
 use borrow.Author.Tests.{leb-true, ltb-true}
 use Rattle.numbers.proofs.Tests.{both, by-bool}
 use Rattle.units.specs.State.{assignable, unitIn}
-use Rattle.assign_free.specs.Assignable.{isFreeOf, unitsOfRow}
+use Rattle.assign_free.specs.Assignable.{isFreeOf, unitsOfKind}
 use Rattle.channels.specs.Channels.{noChannel}
 use Rattle.numbers.specs.Bits.{bit}
 use Rattle.assign_drum.specs.Drum.{In, noArea}
@@ -111,7 +111,7 @@ module _ (es : List Entry) (lists : Lists) (s : Selection) (d : Selected es list
   units-fit c u h k e =
       let g : isTaken (getD (s .assigned .heads) (c * 16 + u) blank) ≡ true = sym (List·getD-map isTaken (s .assigned .heads) (c * 16 + u) blank) ∙ e in
       let f = is .only (c * 16 + u) g in
-      let a = both (ltb ((c * 16 + u) % 16) (unitsOfRow (f .kind) (getD (lists .channels) ((c * 16 + u) / 16) noChannel))) (assignable (unitIn (lists .units .of) ((c * 16 + u) / 16) ((c * 16 + u) % 16))) (f .free) .1 in
+      let a = both (ltb ((c * 16 + u) % 16) (unitsOfKind (f .kind) (getD (lists .channels) ((c * 16 + u) / 16) noChannel))) (assignable (unitIn (lists .units .of) ((c * 16 + u) / 16) ((c * 16 + u) % 16))) (f .free) .1 in
       let x : (c * 16 + u) / 16 ≡ c = omega arith in
       let y : (c * 16 + u) % 16 ≡ u = omega arith in
       subst (λ (m : ℕ). assignable (unitIn (lists .units .of) c m) ≡ true) y

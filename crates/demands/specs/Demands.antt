@@ -250,7 +250,7 @@ pub record RefusedSo (c : Cell) (o : Outcome) : Type 0 where
   pub together : Exactly (o ≡ Done → ⊥) (AllHeld (c .lists) ⊎ NoFit (inSchedule (c .schedule)) (seenIn (c .lists)))
 
 -- what comes with 20: "the first candidate's ID and the first facility lacking for it, in the order core, drum, MA, MT,
--- PR"
+-- PR", and "20 names the new kinds after PR": MC, CR, PT
 pub record Missing (c : Cell) (s : Selection) : Type 0 where
   pub at : ℕ
   pub candidate : Candidate (inSchedule (c .schedule)) at

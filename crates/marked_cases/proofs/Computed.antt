@@ -11,6 +11,7 @@ use native.Mathlib.Omega.{arith}
 use lib.Dec.{eqb}
 use lib.ListN.{length}
 use borrow.Author.Tests.{eqb-true}
+use Rattle.cards_request.specs.Requests.{counts as many}
 use Rattle.numbers.proofs.Tests.{by-bool, both, never}
 use Rattle.schedule_entries.specs.declared.Entry.{Entry}
 use Rattle.schedule_list.specs.InSchedule.{entryAt, inSchedule}
@@ -62,7 +63,7 @@ pickFrom es cell (suc n) k l at =
 abbrev pickOf : List Entry → Assign.Cell → Pick
 pickOf es cell = pickFrom es cell (length es) 0 Nothing 0
 
-module _ (es : List Entry) (cell : Assign.Cell) (size : length (cell .channels) ≡ 16) (full : (k : ℕ) → length (entryAt es k .request .facilities .units) ≡ 48) where
+module _ (es : List Entry) (cell : Assign.Cell) (size : length (cell .channels) ≡ 16) (full : (k : ℕ) → length (entryAt es k .request .facilities .units) ≡ many) where
   picks-from : (n k : ℕ) (x : Lacking) (at : ℕ) → k + n ≡ length es → Walked es cell x at k → Picks es cell (pickFrom es cell n k x at)
   picks-from zero k x at e w = walked-all es cell k w (omega arith) nothing refl
   picks-from (suc n) k x at e w =
@@ -133,15 +134,15 @@ selectOf c =
 -- the request's counts and the cell's channels are as many as they are in every cell of the code
 abbrev countsFull : List Entry → Bool
 countsFull [] = true
-countsFull (e ∷ es) = eqb (length (e .request .facilities .units)) 48 && countsFull es
+countsFull (e ∷ es) = eqb (length (e .request .facilities .units)) many && countsFull es
 
 abbrev pub sized : Cell → Bool
 sized c = eqb (length (c .lists .channels)) 16 && countsFull (inSchedule (c .schedule))
 
-counts-full : (es : List Entry) → countsFull es ≡ true → (k : ℕ) → length (entryAt es k .request .facilities .units) ≡ 48
+counts-full : (es : List Entry) → countsFull es ≡ true → (k : ℕ) → length (entryAt es k .request .facilities .units) ≡ many
 counts-full [] f k = refl
-counts-full (e ∷ es) f zero = eqb-true (length (e .request .facilities .units)) 48 (both (eqb (length (e .request .facilities .units)) 48) (countsFull es) f .0)
-counts-full (e ∷ es) f (suc k) = counts-full es (both (eqb (length (e .request .facilities .units)) 48) (countsFull es) f .1) k
+counts-full (e ∷ es) f zero = eqb-true (length (e .request .facilities .units)) many (both (eqb (length (e .request .facilities .units)) many) (countsFull es) f .0)
+counts-full (e ∷ es) f (suc k) = counts-full es (both (eqb (length (e .request .facilities .units)) many) (countsFull es) f .1) k
 
 module _ (c : Cell) (s : sized c ≡ true) where
   parts : (eqb (length (c .lists .channels)) 16 ≡ true) × (countsFull (inSchedule (c .schedule)) ≡ true)

@@ -7,6 +7,7 @@ use mathlib.Core.List.{List, [], _∷_, _++_}
 use lib.Dec.{eqb}
 use lib.ListN.{set}
 use Rattle.numbers.specs.Quoted.{bytes}
+use Rattle.numbers.specs.Kinds.{orderOf}
 use Rattle.numbers.specs.declared.Kind.the-variants.{Mt, Md}
 use Rattle.numbers.specs.declared.Outcome.the-variants as Outcomes
 use Rattle.numbers.specs.declared.Refusal.{Refusal}
@@ -56,9 +57,9 @@ pub data Seen : Type 0 where
   Answered : Answer → Seen
   Faulty : Fault → Seen
 
--- the row of MT
+-- MT's place in the written order of the kinds
 abbrev pub mt : ℕ
-mt = 1
+mt = orderOf Mt
 
 -- a drum area has words from its start on; 0 where none are asked for
 abbrev pub lastWord : ℕ → ℕ → ℕ

@@ -1,4 +1,4 @@
--- How long the line of a job selected is at most: 4,938 bytes, if its numbers and name are what their types let them
+-- How long the line of a job selected is at most: 9,786 bytes, if its numbers and name are what their types let them
 -- be. A unit is given to one entry of a kind at most, so a kind's entries name 256 units at most, together. Assumes
 -- nothing.
 use Prim.Native.Nat.{ℕ, zero, suc, _+_, _*_, _-_, _/_, _%_, _^_, _≤_, _<_}
@@ -11,10 +11,10 @@ use lib.Dec.{eqb, leb, ltb}
 use lib.ListN.{length, getD, length-append}
 use borrow.Author.Tests.{le-leb, leb-true, lt-leb, lt-ltb, ltb-true, eqb-true}
 use Rattle.numbers.specs.Quoted.{bytes}
-use Rattle.numbers.specs.Kinds.{codeOf}
+use Rattle.numbers.specs.Kinds.{codeOf, unitKinds, kindAt}
 use Rattle.numbers.specs.declared.Kind.{Kind}
-use Rattle.numbers.specs.declared.Kind.the-variants.{Ma, Md, Mt, Pr}
 use Rattle.numbers.proofs.Tests.{both, by-bool}
+use Rattle.numbers.proofs.KindLaws.{code-long}
 use Rattle.text.specs.Writing.{decimalText}
 use Rattle.text.proofs.Undo.{few-digits}
 use Rattle.cards_request.specs.declared.Facilities.{Facilities}
@@ -53,12 +53,6 @@ at-most f m zero k p = omega arith
 at-most f m (suc n) k p = omega (arith, suc-mul n m, p k, at-most f m n (k + 1) p)
 
 -- ---- one kind
-code-long : (kind : Kind) → length (codeOf kind) ≡ 2
-code-long Ma = refl
-code-long Mt = refl
-code-long Pr = refl
-code-long Md = refl
-
 -- six bytes for a unit that is given to one of n logical channels from k on
 abbrev share : ℕ → ℕ → Given → ℕ
 share n k G.Nothing = 0
@@ -159,13 +153,13 @@ pub record InTypes (place : ℕ) (request : Request) (assigned : Assigned) : Typ
 
 -- every line of a job selected has at most so many bytes
 pub selected-bound : (place : ℕ) (request : Request) (assigned : Assigned) (channels : List Channel) → InTypes place request assigned
-    → length (selectedText place request assigned channels) ≤ 4938
+    → length (selectedText place request assigned channels) ≤ 9786
 selected-bound place request assigned channels t =
     let wanted = request .facilities in
     let ib = runText (bytes " IB ") (assigned .ib) (wanted .ib) in
     let db = runText (bytes " DB ") (assigned .db) (wanted .db) in
     let md = runText (bytes " MD ") (assigned .drum) (wanted .md) in
-    let kind : Kind → List ℕ = λ k. kindText (wanted .units) channels (assigned .heads) k in
+    let kind : ℕ → List ℕ = λ i. kindText (wanted .units) channels (assigned .heads) (kindAt i) in
     let kinds = kindsText (wanted .units) channels (assigned .heads) ++ bytes "\n" in
     let areas = areasText wanted (assigned .ib) (assigned .db) (assigned .drum) ++ kinds in
     let name = spaceless (request .id) ++ areas in
@@ -177,14 +171,11 @@ selected-bound place request assigned channels t =
       length-append ib (db ++ md),
       length-append db md,
       length-append (kindsText (wanted .units) channels (assigned .heads)) (bytes "\n"),
-      length-append (kind Ma) (kind Mt ++ kind Pr),
-      length-append (kind Mt) (kind Pr),
+      long kind unitKinds 0,
+      at-most (λ i. length (kind i)) 1616 unitKinds 0 (λ i. kind-most (wanted .units) channels (assigned .heads) (kindAt i)),
       few-digits 2 place (omega (arith, t .places)),
       spaceless-short (request .id),
       run-most (bytes " IB ") (assigned .ib) (wanted .ib) refl (t .ib .0) (t .ib .1),
       run-most (bytes " DB ") (assigned .db) (wanted .db) refl (t .db .0) (t .db .1),
       run-most (bytes " MD ") (assigned .drum) (wanted .md) refl (t .md .0) (t .md .1),
-      kind-most (wanted .units) channels (assigned .heads) Ma,
-      kind-most (wanted .units) channels (assigned .heads) Mt,
-      kind-most (wanted .units) channels (assigned .heads) Pr,
     )

@@ -5,9 +5,8 @@ use mathlib.Core.List.{List, [], _++_}
 use lib.Dec.{eqb}
 use lib.ListN.{getD}
 use Rattle.numbers.specs.Quoted.{bytes}
-use Rattle.numbers.specs.Kinds.{codeOf, rowOf}
+use Rattle.numbers.specs.Kinds.{codeOf, rowOf, unitKinds, kindAt, orderOf}
 use Rattle.numbers.specs.declared.Kind.{Kind}
-use Rattle.numbers.specs.declared.Kind.the-variants.{Ma, Mt, Pr}
 use Rattle.numbers.specs.declared.LogicalChannel.{LogicalChannel}
 use Rattle.text.specs.Writing.{decimalText}
 use Rattle.cards_fields.specs.Fields.{spaceless}
@@ -65,7 +64,7 @@ entryText channels heads kind l =
 
 -- how many units an entry asks for
 unfoldable pub asked : List ℕ → Kind → LogicalChannel → ℕ
-asked units kind l = getD units (rowOf kind * 16 + l .0) 0
+asked units kind l = getD units (orderOf kind * 16 + l .0) 0
 
 unfoldable pub askedText : List ℕ → List Channel → List Head → Kind → LogicalChannel → List ℕ
 askedText units channels heads kind l = cond (eqb (asked units kind l) 0) [] (entryText channels heads kind l)
@@ -74,9 +73,9 @@ askedText units channels heads kind l = cond (eqb (asked units kind l) 0) [] (en
 abbrev pub kindText : List ℕ → List Channel → List Head → Kind → List ℕ
 kindText units channels heads kind = each (λ l. askedText units channels heads kind (logical l)) 16
 
--- "for each unit entry in the written card's order": MA, MT, PR, then by logical channel
+-- "for each unit entry in the written card's order": MA, MT, PR, MC, CR, PT, then by logical channel
 abbrev pub kindsText : List ℕ → List Channel → List Head → List ℕ
-kindsText units channels heads = kindText units channels heads Ma ++ (kindText units channels heads Mt ++ kindText units channels heads Pr)
+kindsText units channels heads = each (λ i. kindText units channels heads (kindAt i)) unitKinds
 
 -- THE LINE OF A SELECTION
 abbrev pub selectedText : ℕ → Request → Assigned → List Channel → List ℕ
@@ -88,7 +87,7 @@ selectedText place request assigned channels =
     ++ (areasText (request .facilities) (assigned .ib) (assigned .db) (assigned .drum)
     ++ (kindsText (request .facilities .units) channels (assigned .heads) ++ bytes "\n")))))
 
--- "`CORE`, `DRUM`, `MA`, `MT`, `PR`"
+-- "`CORE`, `DRUM`, `MA`, `MT`, `PR`", and "`MC`, `CR`, `PT`": a kind's code
 abbrev pub partText : Part → List ℕ
 partText Core = bytes "CORE"
 partText Drum = bytes "DRUM"

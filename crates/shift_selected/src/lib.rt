@@ -103,7 +103,7 @@ fn put_units(
 fn asked_for(units: [u8; cards_request::COUNTS], kind: Kind, logical: LogicalChannel) -> u8
     ensures { λ r. ⌜ r ≡ asked units kind logical ⌝ }
 {
-    let slot = numbers::row_of(kind) * 16 + logical.0 as usize;
+    let slot = numbers::order_of(kind) * 16 + logical.0 as usize;
     if slot < cards_request::COUNTS {
         return units[slot];
     }
@@ -178,7 +178,7 @@ fn put_areas(out: &mut [u8], at: usize, wanted: Facilities, ib: u32, db: u32, dr
     put_run(out, data, b" MD ", drum, wanted.md)
 }
 
-// Puts the units of every kind.
+// Puts the units of every kind that has units, in the written order.
 fn put_kinds(
     out: &mut [u8],
     at: usize,
@@ -188,9 +188,13 @@ fn put_kinds(
 ) -> usize
     ensures { λ r. ⌜ Written (now (out .entry)) at (kindsText units channels heads) (now (out .exit)) r ⌝ }
 {
-    let ma = put_kind(out, at, Kind::Ma, units, channels, heads);
-    let mt = put_kind(out, ma, Kind::Mt, units, channels, heads);
-    put_kind(out, mt, Kind::Pr, units, channels, heads)
+    let mut next = at;
+    let mut order: usize = 0;
+    while order < numbers::UNIT_KINDS {
+        next = put_kind(out, next, numbers::kind_at(order), units, channels, heads);
+        order += 1;
+    }
+    next
 }
 
 // Puts the line of a selection: the job's place, its ID and its assignment, by the channels of the cell.

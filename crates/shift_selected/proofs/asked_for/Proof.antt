@@ -1,3 +1,8 @@
+use lib.Dec.{leb}
+use borrow.Author.Tests.{leb-true}
+use mathlib.Core.Path.{refl}
+use Rattle.numbers.specs.Kinds.{orderOf, unitKinds}
+use Rattle.numbers.proofs.KindLaws.{all-kinds}
 -- `shift_selected::asked_for` meets its contract: what stands at the entry's slot, 0 past the last. Assumes nothing.
 use native.Mathlib.Omega.{arith}
 use lib.ListN.{length, List·getD-eq-default}
@@ -8,31 +13,31 @@ use borrow.Author.Needs.{needs}
 use Rattle.shift_selected.proofs.asked_for.Statement.{statement}
 use Rattle.shift_selected.proofs.asked_for.Tie as tie
 
-row-of-requires : tie.Need-row-of-requires
-row-of-requires c κs = search needs
+order-of-requires : tie.Need-order-of-requires
+order-of-requires c κs = search needs
 
 mul-slot : tie.Need-mul-slot
-mul-slot c = search needs
+mul-slot c = record { fits = omega (arith, c .order-of .ensures, leb-true (orderOf (c .before .args .kind)) unitKinds (all-kinds (λ k. leb (orderOf k) unitKinds) refl (c .before .args .kind))) }
 
 cast-slot : tie.Need-cast-slot
 cast-slot c = search needs
 
 add-slot : tie.Need-add-slot
-add-slot c = search needs
+add-slot c = record { fits = omega (arith, c .before .order-of .ensures, leb-true (orderOf (c .before .before .args .kind)) unitKinds (all-kinds (λ k. leb (orderOf k) unitKinds) refl (c .before .before .args .kind))) }
 
 array-read-result : tie.Need-array-read-result
 array-read-result c = search needs
 
 returns : tie.Need-returns
 unfolding asked
-returns c = rw (c .before .before .row-of .ensures .is)
+returns c = rw (c .before .before .order-of .ensures)
 
 returns-2 : tie.Need-returns-2
 unfolding asked
 returns-2 c = let n : length (c .before .before .before .args .t1) ≡ counts = search needs in
-    sym (List·getD-eq-default (c .before .before .before .args .t1) 0 (omega (arith, c .before .before .row-of .ensures .is)))
+    sym (List·getD-eq-default (c .before .before .before .args .t1) 0 (omega (arith, c .before .before .order-of .ensures)))
 
 pub asked-for-spec : {M : Type 1} → statement M
 asked-for-spec =
     tie.close
-    (tie.spec row-of-requires mul-slot cast-slot add-slot array-read-result returns returns-2)
+    (tie.spec order-of-requires mul-slot cast-slot add-slot array-read-result returns returns-2)

@@ -1,25 +1,71 @@
--- `shift_selected::put_kinds` meets its contract: one kind after the other. Assumes nothing.
-use Rattle.text.proofs.RoomLaws.{andThen}
+-- `shift_selected::put_kinds` meets its contract. The loop's invariant is `Going`: whoever puts the kinds that are left has
+-- put them all. Assumes nothing.
+use Prim.Native.Nat.{ℕ, _-_, _≤_}
+use mathlib.Core.List.{List}
+use mathlib.Core.Path.{_≡_, subst}
+use native.Mathlib.Omega.{arith}
+use Rattle.numbers.specs.Kinds.{unitKinds, kindAt}
+use Rattle.numbers.specs.declared.Kind.{Kind}
+use Rattle.channels.specs.declared.Channel.{Channel}
+use Rattle.assign_heads.specs.declared.Head.{Head}
+use Rattle.text.specs.Room.{Written}
+use Rattle.text.proofs.RoomLaws.{Going, start, same-room}
+use Rattle.shift_pieces.specs.Pieces.{eachFrom}
+use Rattle.shift_pieces.proofs.PieceLaws.{on, over}
+use Rattle.shift_selected.specs.Selected.{kindText, kindsText}
 use borrow.Author.Needs.{needs}
 use Rattle.shift_selected.proofs.put_kinds.Statement.{statement}
 use Rattle.shift_selected.proofs.put_kinds.Tie as tie
+use Rattle.shift_selected.proofs.put_kinds.Reads as reads
+use Rattle.shift_selected.proofs.put_kinds.Lts as lts
+use Rattle.shift_selected.proofs.put_kind.Reads as put-kind-reads
 
-put-kind-requires : tie.Need-put-kind-requires
+abbrev Inv-loop : tie.InvT-loop
+Inv-loop out₀ at units channels heads next₀ order₀ out next order = (order ≤ unitKinds) × Going out₀ at (kindsText units channels heads) out next (eachFrom (λ i. kindText units channels heads (kindAt i)) (unitKinds - order) order)
+
+abbrev μ-loop : tie.MeasureT-loop
+μ-loop out₀ at units channels heads next₀ order₀ out next order = unitKinds - order
+
+loop-holds : tie.Need-loop-holds Inv-loop μ-loop
+loop-holds c = (omega arith, start _ _ _)
+
+kind-at-requires : tie.Need-kind-at-requires Inv-loop μ-loop
+kind-at-requires c κs = search needs
+
+put-kind-requires : tie.Need-put-kind-requires Inv-loop μ-loop
 put-kind-requires c κs = search needs
 
-put-kind-requires-2 : tie.Need-put-kind-requires-2
-put-kind-requires-2 c κs = search needs
+add-order : tie.Need-add-order Inv-loop μ-loop
+add-order c = search needs
 
-put-kind-requires-3 : tie.Need-put-kind-requires-3
-put-kind-requires-3 c κs = search needs
+loop-less : tie.Need-loop-less Inv-loop μ-loop
+loop-less c = omega arith
 
-same-length : tie.Need-same-length
-same-length c = search needs
+-- what is put of a kind is put of one that is the same
+same-kind : {room after : List ℕ} {at r : ℕ} (units : List ℕ) (channels : List Channel) (heads : List Head) {k m : Kind} → k ≡ m → Written room at (kindText units channels heads k) after r
+    → Written room at (kindText units channels heads m) after r
+same-kind {room} {after} {at} {r} units channels heads e w = subst (λ (k : Kind). Written room at (kindText units channels heads k) after r) e w
 
-returns : tie.Need-returns
-returns c = andThen (c .before .before .before .before .before .before .before .before .before .before .put-kind .ensures) (andThen (c .before .before .before .before .before .before .put-kind2 .ensures) (c .before .before .put-kind3 .ensures))
+loop-again : tie.Need-loop-again Inv-loop μ-loop
+loop-again c = (omega arith, on (λ i. kindText (c .before .before .before .before .before .before .before .before .args .units) (c .before .before .before .before .before .before .before .before .args .channels) (c .before .before .before .before .before .before .before .before .args .heads) (kindAt i)) unitKinds (c .before .before .before .before .before .loop-test .taken) (c .before .before .before .before .before .before .loop .inv .1) (same-kind (c .before .before .before .before .before .before .before .before .args .units) (c .before .before .before .before .before .before .before .before .args .channels) (c .before .before .before .before .before .before .before .before .args .heads) (c .before .before .before .kind-at .ensures) (c .before .before .put-kind .ensures)))
+
+same-length : tie.Need-same-length Inv-loop μ-loop
+same-length c = same-room (over (λ i. kindText (c .before .before .before .args .units) (c .before .before .before .args .channels) (c .before .before .before .args .heads) (kindAt i)) unitKinds (c .loop-test .left) (c .before .loop .inv .1))
+
+returns : tie.Need-returns Inv-loop μ-loop
+returns c = over (λ i. kindText (c .before .before .before .args .units) (c .before .before .before .args .channels) (c .before .before .before .args .heads) (kindAt i)) unitKinds (c .loop-test .left) (c .before .loop .inv .1)
 
 pub put-kinds-spec : {M : Type 1} → statement M
 put-kinds-spec =
     tie.close
-    (tie.spec put-kind-requires put-kind-requires-2 put-kind-requires-3 same-length returns)
+    (tie.spec
+    Inv-loop
+    μ-loop
+    loop-holds
+    kind-at-requires
+    put-kind-requires
+    add-order
+    loop-less
+    loop-again
+    same-length
+    returns)
