@@ -128,7 +128,7 @@ impl Code {
 
     /// May the entry name a logical channel?
     fn has_logical(self) -> bool {
-        matches!(self, Code::Of(Kind::Ma | Kind::Mt | Kind::Pr))
+        matches!(self, Code::Of(kind) if kind != Kind::Md)
     }
 }
 
@@ -208,7 +208,7 @@ pub struct Request {
 }
 
 impl Request {
-    /// n of the entry with this code, 0 if there is none. For MA, MT and PR that of logical channel 0.
+    /// n of the entry with this code, 0 if there is none. For a kind of unit that of logical channel 0.
     pub fn asked(&self, code: Code) -> u32 {
         let entry = self.entries.iter().find(|entry| entry.code == code && entry.logical.0 == 0);
         entry.map_or(0, |entry| entry.n)
@@ -461,6 +461,14 @@ mod tests {
     }
 
     #[test]
+    fn the_new_kinds_follow_pr() {
+        let one = read(PTY, b"A1,FAC,PT/1,CR15/2,CR/3,MC1/4,PR/5,MT/6,MA/7,MD/8,DB/9,IB/10.").unwrap();
+        let due = "A1,FAC,IB/10,DB/9,MD/8,MA/7,MT/6,PR/5,MC1/4,CR/3,CR15/2,PT/1.";
+        assert_eq!(written(&one).lines().last(), Some(due));
+        assert_eq!(read(PTY, due.as_bytes()), Ok(one));
+    }
+
+    #[test]
     fn writing_is_undone_by_reading() {
         let request = read(b"A1,PTY,2,S,X-1,I,C,M,S,A,C,0,Z,LIB.", b"A1,FAC,IB/28.").unwrap();
         let text = written(&request);
@@ -479,7 +487,15 @@ mod tests {
         for (entry, error) in [
             ("", 11),
             ("1/1", 11),
-            ("CR/1", 11),
+            ("CP/1", 11),
+            ("HP/1", 11),
+            ("PP/1", 11),
+            ("JP/1", 11),
+            ("C/1", 11),
+            ("RC/1", 11),
+            ("TP/1", 11),
+            ("MCX/1", 9),
+            ("MCC1/1", 9),
             ("I/1", 11),
             ("PRINT/1", 9),
             ("IB", 13),
@@ -492,6 +508,12 @@ mod tests {
             ("MT/1/1", 13),
             ("MT/-1", 13),
             ("PR00/1", 13),
+            ("MC16/1", 13),
+            ("CR/100", 13),
+            ("PT/0", 13),
+            ("PT001/1", 13),
+            ("CR1", 13),
+            ("MC/1,MC0/2", 13),
             ("DB/29", 14),
         ] {
             let fac = format!("A1,FAC,IB/1,PR/1,{entry}.");

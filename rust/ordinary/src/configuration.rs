@@ -326,6 +326,26 @@ mod tests {
     }
 
     #[test]
+    fn every_kind_has_a_code_of_its_own() {
+        for kind in Kind::WITH_UNITS {
+            for count in [1, 16] {
+                let text = format!("1\n09 {} {count}\n0\n0\n", kind.letters());
+                let configuration = Configuration::from_text(text.as_bytes()).unwrap();
+                assert_eq!(configuration.channel(ChannelNumber(9)), Some(Channel::Units { kind, count }));
+            }
+            for count in ["0", "17", "01", "35330", ""] {
+                let text = format!("1\n09 {} {count}\n0\n0\n", kind.letters());
+                assert_eq!(Configuration::from_text(text.as_bytes()), Err(BadLine(2)), "{text}");
+            }
+        }
+        // The bulletin's other codes are no kinds, and a kind is two capitals.
+        for code in ["CP", "HP", "PP", "JP", "PC", "TP", "RC", "CM", "mc", "Cr", "pT", "M", "MCC", "CR1", "IB", ""] {
+            let text = format!("1\n09 {code} 1\n0\n0\n");
+            assert_eq!(Configuration::from_text(text.as_bytes()), Err(BadLine(2)), "{text}");
+        }
+    }
+
+    #[test]
     fn first_bad_or_missing_line() {
         for (text, line) in [
             (&b""[..], 1),

@@ -39,11 +39,17 @@ pub enum Kind {
     Mt,
     /// printer
     Pr,
+    /// UNISERVO IIIC
+    Mc,
+    /// card equipment: reader and punch together
+    Cr,
+    /// paper tape equipment: reader and punch together
+    Pt,
 }
 
 impl Kind {
-    /// The kinds that have units.
-    pub const WITH_UNITS: [Kind; 3] = [Kind::Ma, Kind::Mt, Kind::Pr];
+    /// The kinds that have units, in the order in which they are written, assigned and found lacking.
+    pub const WITH_UNITS: [Kind; 6] = [Kind::Ma, Kind::Mt, Kind::Pr, Kind::Mc, Kind::Cr, Kind::Pt];
 
     pub fn from_letters(letters: &[u8]) -> Option<Kind> {
         match letters {
@@ -51,6 +57,9 @@ impl Kind {
             b"MA" => Some(Kind::Ma),
             b"MT" => Some(Kind::Mt),
             b"PR" => Some(Kind::Pr),
+            b"MC" => Some(Kind::Mc),
+            b"CR" => Some(Kind::Cr),
+            b"PT" => Some(Kind::Pt),
             _ => None,
         }
     }
@@ -61,6 +70,9 @@ impl Kind {
             Kind::Ma => "MA",
             Kind::Mt => "MT",
             Kind::Pr => "PR",
+            Kind::Mc => "MC",
+            Kind::Cr => "CR",
+            Kind::Pt => "PT",
         }
     }
 }

@@ -27,12 +27,12 @@ fn check(folder: &str, at_least: usize, answer: impl Fn(&[u8]) -> Vec<u8>) {
 
 #[test]
 fn deck() {
-    check("../../crates/cases_deck/data", 45, |input| ordinary::deck::report(input).into_bytes());
+    check("../../crates/cases_deck/data", 52, |input| ordinary::deck::report(input).into_bytes());
 }
 
 #[test]
 fn cards() {
-    check("../../crates/cases_cards/data", 145, |input| ordinary::cards::report(input).into_bytes());
+    check("../../crates/cases_cards/data", 150, |input| ordinary::cards::report(input).into_bytes());
 }
 
 #[test]
@@ -42,10 +42,10 @@ fn desk() {
 
 #[test]
 fn listing() {
-    check("../../crates/cases_listing/data", 77, |input| ordinary::configuration::listing(input).into_bytes());
+    check("../../crates/cases_listing/data", 111, |input| ordinary::configuration::listing(input).into_bytes());
 }
 
 #[test]
 fn shift() {
-    check("../../crates/cases_shift/data", 60, ordinary::shift::converse);
+    check("../../crates/cases_shift/data", 107, ordinary::shift::converse);
 }
