@@ -1,5 +1,10 @@
 //! Random configurations: good ones, damaged ones, ones with a bad third section, and ones at the limits.
 
+use std::collections::BTreeMap;
+
+use ordinary::configuration::{BadLine, Configuration};
+use ordinary::numbers::Kind;
+
 use crate::random::{damage, Random};
 
 /// A configuration as it is handed to the listing program.
@@ -21,7 +26,7 @@ pub fn configuration(random: &mut Random) -> Vec<u8> {
         4 => long(random),
         _ => {
             let length = random.below(60);
-            random.text("0011223 \nMATPRD", length).into_bytes()
+            random.text("0011223 \nMATPRDC", length).into_bytes()
         }
     }
 }
@@ -39,6 +44,7 @@ fn channels_and_down(random: &mut Random) -> String {
         numbers.remove(random.below(numbers.len()));
     }
     let drum = if random.percent(60) && count > 0 { Some(*random.pick(&numbers)) } else { None };
+    let kinds = kinds(random);
     let most_units = *random.pick(&[2, 4, 16, 16]);
     let all_most = random.percent(10);
     let mut text = format!("{count}\n");
@@ -52,7 +58,7 @@ fn channels_and_down(random: &mut Random) -> String {
             );
         } else {
             let n = if all_most || random.percent(20) { most_units } else { random.within(1..=most_units) };
-            text += &format!("{number:02} {} {n}\n", random.pick(&["MA", "MT", "PR"]));
+            text += &format!("{number:02} {} {n}\n", random.pick(&kinds).letters());
             units.extend((0..n).map(|unit| (number, unit)));
         }
     }
@@ -63,6 +69,46 @@ fn channels_and_down(random: &mut Random) -> String {
         text += &format!("{channel:02} {unit:02}\n");
     }
     text
+}
+
+/// The kinds that the channels of a cell have. Few of them, now and then, so that several channels are of one kind.
+fn kinds(random: &mut Random) -> Vec<Kind> {
+    let all = Kind::WITH_UNITS;
+    match random.weighted(&[35, 20, 30, 15]) {
+        0 => all.to_vec(),
+        1 => all[3..].to_vec(),
+        2 => all[..3].to_vec(),
+        _ => vec![*random.pick(&all), *random.pick(&all)],
+    }
+}
+
+/// The channels of a configuration by their kind, or what is wrong with the first bad one.
+pub fn met(text: &[u8]) -> BTreeMap<String, u64> {
+    let mut met = BTreeMap::new();
+    match Configuration::from_text(text) {
+        Ok(read) => {
+            for (_, channel) in read.channels() {
+                *met.entry(format!("configured {}", channel.kind().letters())).or_default() += 1;
+            }
+        }
+        Err(BadLine(line)) => {
+            let line = text.split(|&byte| byte == b'\n').nth(line - 1).unwrap_or(b"");
+            met.extend(bad_channel(&String::from_utf8_lossy(line)).map(|what| (what, 1)));
+        }
+    }
+    met
+}
+
+/// What a bad line has that would be a channel.
+fn bad_channel(line: &str) -> Option<String> {
+    let words: Vec<&str> = line.split(' ').collect();
+    let [_, kind, n] = words[..] else { return None };
+    match Kind::from_letters(kind.as_bytes()) {
+        None => Some("bad channel, no kind".into()),
+        Some(Kind::Md) => None,
+        Some(kind) if ["0", "17"].contains(&n) => Some(format!("bad channel, {n} units of {}", kind.letters())),
+        Some(_) => None,
+    }
 }
 
 /// A good third section: no code, one, some, all but some, or all sixty.
@@ -113,10 +159,11 @@ pub const FAILURES: [u8; 60] = {
 /// Good channels and down units, and a third section that is bad, or nearly so.
 pub fn with_bad_codes(random: &mut Random) -> Vec<u8> {
     // Mostly few lines, so that each is a telling one.
-    let before = match random.below(4) {
+    let before = match random.below(5) {
         0 => channels_and_down(random),
         1 => "0\n0\n".to_string(),
         2 => "1\n03 MT 4\n0\n".to_string(),
+        3 => "3\n00 PT 16\n01 CR 1\n15 MC 2\n1\n00 15\n".to_string(),
         _ => "2\n03 MT 4\n05 PR 2\n1\n03 01\n".to_string(),
     };
     let mut text = before.into_bytes();
@@ -254,10 +301,10 @@ fn spoilt(random: &mut Random, good: &[u8]) -> Vec<u8> {
     // Channels, the drum's and counts are few lines of many.
     let channels = lines[0].parse().unwrap_or(0);
     let drum = lines.iter().position(|line| line.contains("MD")).unwrap_or(0);
-    let at = match random.below(10) {
-        0..=2 => random.within(0..=channels),
-        3 => drum,
-        4 | 5 => channels + 1,
+    let at = match random.below(12) {
+        0..=4 => random.within(0..=channels),
+        5 => drum,
+        6 | 7 => channels + 1,
         _ => random.below(lines.len()),
     };
     let mut words: Vec<String> = lines[at].split(' ').map(String::from).collect();
@@ -306,7 +353,19 @@ fn spoilt(random: &mut Random, good: &[u8]) -> Vec<u8> {
         "1\r",
         "a0",
     ];
+    const NO_KINDS: &[&str] = &[
+        "ma", "mc", "Cr", "pT", "M", "C", "P", "T", "R", "MAA", "MCC", "CRP", "PTT", "MC1", "CR0", "CP", "PP", "HP",
+        "JP", "PC", "RC", "TP", "CM", "TM", "CC", "MM", "IB", "DB", "MC,CR", "MC/", "",
+    ];
     match random.weighted(&[45, 15, 10, 10, 20]) {
+        // The kind or the number of units, on a channel's line.
+        0 | 1 if words.len() == 3 && words[1] != "MD" && random.percent(70) => {
+            if random.percent(60) {
+                words[2] = random.pick(&["0", "0", "0", "16", "17", "17", "17", "18", "256", "272", "016"]).to_string();
+            } else {
+                words[1] = random.pick(NO_KINDS).to_string();
+            }
+        }
         0 if words.contains(&"MD".to_string()) && random.percent(60) => words[2] = random.pick(LENGTHS).to_string(),
         0 if words.len() == 1 && random.percent(60) => words[0] = random.pick(COUNTS).to_string(),
         0 => {
@@ -315,7 +374,8 @@ fn spoilt(random: &mut Random, good: &[u8]) -> Vec<u8> {
         }
         1 => {
             let word = random.below(words.len());
-            words[word] = random.pick(&["MA", "MT", "PR", "MD", "MC", "ma", "M", "MAA", "PT", ""]).to_string();
+            let kinds = [Kind::WITH_UNITS.map(Kind::letters).as_slice(), &["MD", "ma", "M", "MAA", ""]].concat();
+            words[word] = random.pick(&kinds).to_string();
         }
         2 => {
             let word = random.within(0..=words.len());

@@ -3,6 +3,7 @@
 use std::collections::BTreeMap;
 
 use ordinary::fields::CardType;
+use ordinary::numbers::Kind;
 
 use crate::further::{self, Fields};
 use crate::random::{damage, Random, ODD_BYTES};
@@ -45,10 +46,11 @@ pub struct Style {
     pub reach: Option<Reach>,
 }
 
-/// What a cell has: the most units of MA, MT and PR on one channel, and the assignable words of its drum.
+/// What a cell has: the most units of each kind on one channel, and the assignable words of its drum.
 #[derive(Clone, Copy)]
 pub struct Reach {
-    pub units: [usize; 3],
+    /// In the order of `Kind::WITH_UNITS`.
+    pub units: [usize; 6],
     pub words: usize,
 }
 
@@ -415,7 +417,7 @@ fn entries(random: &mut Random, style: Style) -> Vec<String> {
     let core =
         |random: &mut Random| if random.percent(large) { random.within(1..=14) } else { random.within(1..=blocks) };
     // What is out of reach is seldom asked for.
-    let out_of_reach = |random: &mut Random, most: usize| reach.is_some() && most == 0 && !random.percent(2);
+    let out_of_reach = |random: &mut Random, most: usize| reach.is_some() && most == 0 && !random.percent(1);
     let mut entries = Vec::new();
     let ib = if random.percent(large / 3) { random.within(14..=28) } else { core(random) };
     entries.push(format!("IB/{}", number(random, ib)));
@@ -430,9 +432,21 @@ fn entries(random: &mut Random, style: Style) -> Vec<String> {
         let any = random.within(1..=most);
         entries.push(format!("MD/{}", random.pick(&[some, some, some, any, 1, 671, words.max(1)])));
     }
-    for (kind, letters) in ["MA", "MT", "PR"].iter().enumerate() {
-        let most = reach.map_or(4, |reach| reach.units[kind]);
-        if !random.percent(style.units) || out_of_reach(random, most) {
+    let asked = kinds(random);
+    // Of a cell with many kinds each is asked for less often, so that as many jobs fit; now and then one unit of each.
+    let in_reach = reach.map_or(3, |reach| reach.units.iter().filter(|most| **most > 0).count());
+    let one_of_each = reach.is_some() && random.percent(2);
+    for (at, kind) in Kind::WITH_UNITS.into_iter().enumerate() {
+        let (letters, most) = (kind.letters(), reach.map_or(4, |reach| reach.units[at]));
+        if one_of_each {
+            if most > 0 {
+                entries.push(format!("{letters}{}/1", random.pick(&["", "", "1", "7", "15"])));
+            }
+            continue;
+        }
+        // A cell that has a kind is asked for it, whichever kinds the request would have.
+        let is_asked = asked.contains(&kind) || reach.is_some();
+        if !is_asked || !random.percent(style.units * 3 / in_reach.max(3)) || out_of_reach(random, most) {
             continue;
         }
         let mut used = Vec::new();
@@ -451,6 +465,10 @@ fn entries(random: &mut Random, style: Style) -> Vec<String> {
             }
         }
     }
+    if reach.is_none() && random.percent(3) {
+        entries.truncate(1);
+        fill_card(random, &mut entries);
+    }
     for at in (1..entries.len()).rev() {
         entries.swap(at, random.below(at + 1));
     }
@@ -462,6 +480,30 @@ fn entries(random: &mut Random, style: Style) -> Vec<String> {
         };
     }
     entries
+}
+
+/// The kinds that a request may ask for: all, or few of them, so that these have several logical channels.
+fn kinds(random: &mut Random) -> &'static [Kind] {
+    const ALL: [Kind; 6] = Kind::WITH_UNITS;
+    match random.weighted(&[30, 30, 40]) {
+        0 => &ALL,
+        1 => &ALL[3..],
+        _ => &ALL[..3],
+    }
+}
+
+/// Adds entries of all codes, small ones, for as many as a card can have; perhaps one more.
+fn fill_card(random: &mut Random, entries: &mut Vec<String>) {
+    let length = random.within(60..=68);
+    entries.extend(["DB/1".to_string(), "MD/1".to_string()]);
+    entries.extend(Kind::WITH_UNITS.map(|kind| format!("{}/{}", kind.letters(), random.within(1..=9))));
+    for _ in 0..40 {
+        let (kind, logical) = (random.pick(&Kind::WITH_UNITS).letters(), random.within(1..=9));
+        let name = format!("{kind}{logical}/");
+        if !entries.iter().any(|entry| entry.starts_with(&name)) && entries.join(",").len() + name.len() + 2 <= length {
+            entries.push(format!("{name}{}", random.within(1..=9)));
+        }
+    }
 }
 
 fn spoil_pty(random: &mut Random, fields: &mut Vec<String>) {
@@ -559,7 +601,52 @@ fn spoil_fac(random: &mut Random, group: &mut Group) {
         "MTX/1",
         "M/1",
         "XX/1",
+        "CP/1",
+        "PP/1",
+        "HP/1",
+        "JP/1",
+        "PC/1",
+        "RC/1",
+        "TP/1",
+        "CM/1",
+        "C/1",
+        "P/1",
+        "R/1",
+        "MCC/1",
+        "MCX/1",
+        "CRP1/1",
+        "PTR/1",
+        "MCCR/1",
+        "1MC/1",
+        "-CR/1",
+        "*PT/1",
+        "MC16/1",
+        "CR16/1",
+        "PT16/1",
+        "MC99/1",
+        "CR015/1",
+        "PT001/1",
+        "MC/100",
+        "CR/100",
+        "PT/100",
+        "MC/0",
+        "CR/0",
+        "PT/0",
+        "MC/99",
+        "CR15/99",
+        "PT15/99",
+        "MC",
+        "CR1",
+        "PT/",
+        "MC/1/1",
+        "CR:1/1",
+        "PT1A/1",
         "CR/1",
+        "CR00/1",
+        "MC1/1",
+        "MC01/1",
+        "PT/1",
+        "PT0/1",
         "MT-1/1",
         "MT:1/1",
         "MT*",
@@ -600,13 +687,13 @@ fn spoil_fac(random: &mut Random, group: &mut Group) {
         1 => {
             let at = random.within(2..=fields.len());
             let length = random.below(9);
-            let alphabet = *random.pick(&["MATPRDIB0123456789/", CARD_CHARACTERS]);
+            let alphabet = *random.pick(&["MATPRDIBC0123456789/", CARD_CHARACTERS]);
             fields.insert(at, random.text(alphabet, length));
         }
-        // An entry twice.
+        // An entry twice, perhaps written otherwise.
         2 => {
             let again = fields[random.within(2..=fields.len() - 1)].clone();
-            fields.push(again);
+            fields.push(if random.percent(50) { again } else { written_otherwise(&again) });
         }
         // No IB, or no entry at all.
         3 => {
@@ -624,6 +711,14 @@ fn spoil_fac(random: &mut Random, group: &mut Group) {
             fields.push(format!("DB/{db}"));
         }
     }
+}
+
+/// An entry with a zero before its logical channel, or with 0 for none; another n.
+fn written_otherwise(entry: &str) -> String {
+    let Some((name, _)) = entry.split_once('/') else { return entry.to_string() };
+    let digits = name.find(|c: char| c.is_ascii_digit()).unwrap_or(name.len());
+    let (code, logical) = name.split_at(digits);
+    format!("{code}0{logical}/3")
 }
 
 /// Cards too many, too few, in another order, or of another type, or another number of them.

@@ -10,7 +10,7 @@ use crate::decks;
 use crate::random::Random;
 
 /// Words of answers are IDs too.
-pub const IDS: &[&str] = &["G", "GREEDY", "ACK", "NO", "CORE", "MT", "20", "IB"];
+pub const IDS: &[&str] = &["G", "GREEDY", "ACK", "NO", "CORE", "MT", "20", "IB", "MC", "PT"];
 
 /// A deck of one to three requests, mostly one, and their IDs.
 pub fn deck(random: &mut Random, cell: &Cell) -> (Vec<u8>, Vec<&'static str>) {
@@ -21,8 +21,14 @@ pub fn deck(random: &mut Random, cell: &Cell) -> (Vec<u8>, Vec<&'static str>) {
 
 fn request(random: &mut Random, cell: &Cell, id: &str) -> String {
     let mut entries = [core(random, cell), drum(random, cell)].concat();
+    let of_cell = |kind: &Kind| cell.configuration().channels().any(|(_, channel)| channel.kind() == *kind);
+    let in_cell = Kind::WITH_UNITS.iter().filter(|kind| of_cell(kind)).count();
     for kind in Kind::WITH_UNITS {
-        entries.extend(units(random, cell, kind));
+        // Of many kinds fewer are asked for: else the first ones would always be those that are lacking.
+        let percent = if of_cell(&kind) { 50 * 3 / in_cell.max(3) } else { 4 };
+        if random.percent(percent) {
+            entries.extend(units(random, cell, kind));
+        }
     }
     for at in (1..entries.len()).rev() {
         entries.swap(at, random.below(at + 1));
@@ -70,7 +76,7 @@ fn drum(random: &mut Random, cell: &Cell) -> Vec<String> {
     vec![format!("MD/{}", words.clamp(1, 999_999))]
 }
 
-/// Perhaps entries of a kind, for all units that are free or for one more, in ways that the channels may not have.
+/// Entries of a kind, for all units that are free or for one more, in ways that the channels may not have.
 fn units(random: &mut Random, cell: &Cell, kind: Kind) -> Vec<String> {
     let channels = cell.configuration().channels().filter(|(_, channel)| channel.kind() == kind);
     let free = channels.map(|(number, channel)| {
@@ -78,9 +84,6 @@ fn units(random: &mut Random, cell: &Cell, kind: Kind) -> Vec<String> {
         units.filter(|&unit| cell.unit(number, unit).is_assignable()).count()
     });
     let counts: Vec<usize> = free.collect();
-    if random.percent(if counts.is_empty() { 95 } else { 50 }) {
-        return Vec::new();
-    }
     let (most, all) = (counts.iter().max().copied().unwrap_or(0), counts.iter().sum::<usize>());
     let more = random.below(2);
     // Logical channels, 0 for any, with as many units each.

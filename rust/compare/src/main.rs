@@ -10,6 +10,7 @@ mod configurations;
 mod decks;
 mod desks;
 mod further;
+mod kinds;
 mod lacks;
 mod messages;
 mod programs;
@@ -137,11 +138,16 @@ fn input(subject: Subject, seed: u64, calls: usize) -> Script {
     match subject {
         Subject::Cards | Subject::Deck => {
             let deck = decks::deck(&mut random);
-            let counts = decks::card_types(&deck);
+            let mut counts = decks::card_types(&deck);
+            counts.extend(kinds::on_cards(&deck));
             Script { counts, ..one(deck) }
         }
         Subject::Desk => desks::desk(&mut random, is_talk(seed)),
-        Subject::Listing => one(configurations::configuration(&mut random)),
+        Subject::Listing => {
+            let configuration = configurations::configuration(&mut random);
+            let counts = configurations::met(&configuration);
+            Script { counts, ..one(configuration) }
+        }
         Subject::Shift => scripts::script(&mut random, if is_talk(seed) { 100 } else { calls }),
     }
 }

@@ -12,6 +12,7 @@ use ordinary::shift::Shift;
 
 use crate::configurations;
 use crate::decks::{self, Reach, Style};
+use crate::kinds;
 use crate::lacks;
 use crate::messages;
 use crate::random::{damage, Random, ODD_BYTES};
@@ -22,8 +23,8 @@ pub struct Script {
     pub pieces: Vec<Vec<u8>>,
     /// How many of the pieces are calls.
     pub calls: usize,
-    /// How often packets failed in which way, what was met of heads that are given back, and how many cards of which
-    /// type came.
+    /// How often packets failed in which way, what was met of heads that are given back and of each kind of unit, and
+    /// how many cards of which type came.
     pub counts: BTreeMap<String, u64>,
 }
 
@@ -89,13 +90,18 @@ struct Writer<'r> {
     counts: BTreeMap<String, u64>,
 }
 
+const SEVEN_KINDS: &str = "9\n00 PT 3\n01 CR 3\n02 MC 4\n03 MC 3\n04 PR 2\n05 MT 4\n06 MA 4\n07 MD 40000\n15 PT 2\n0\n";
+
 /// A script with this many calls.
 pub fn script(random: &mut Random, calls: usize) -> Script {
     let configuration = match random.below(30) {
         0 => configurations::configuration(random),
         1 | 2 => configurations::with_bad_codes(random),
         3..=6 => with_codes(random, "6\n00 MA 4\n01 MA 2\n03 MT 6\n05 MT 3\n07 MD 40000\n12 PR 2\n1\n00 01\n"),
-        7..=9 => with_codes(random, "4\n02 MD 35400\n03 MT 16\n05 MT 16\n06 PR 16\n0\n"),
+        7 | 8 => with_codes(random, "4\n02 MD 35400\n03 MT 16\n05 MT 16\n06 PR 16\n0\n"),
+        9 | 10 => with_codes(random, "6\n00 MC 4\n01 MC 2\n03 CR 6\n05 CR 3\n07 MD 40000\n12 PT 2\n1\n00 01\n"),
+        // All seven kinds, each written order turned round.
+        11..=13 => with_codes(random, SEVEN_KINDS),
         _ => with_units(random),
     };
     // What follows a configuration is no fault of it here.
@@ -161,7 +167,7 @@ fn reach(configuration: &Configuration) -> Reach {
         channels.map(|(_, channel)| channel.unit_count().into()).max().unwrap_or(0)
     };
     let words = configuration.drum().map_or(0, |length| length - DRUM_START);
-    Reach { units: [Kind::Ma, Kind::Mt, Kind::Pr].map(most), words: words as usize }
+    Reach { units: Kind::WITH_UNITS.map(most), words: words as usize }
 }
 
 /// The units that the job in a place holds now.
@@ -634,6 +640,7 @@ impl Writer<'_> {
     fn push(&mut self, piece: Vec<u8>) {
         self.count_failure(&piece);
         self.count(returns::met(self.shift.cell(), &piece));
+        self.count(kinds::met(self.shift.cell(), &piece));
         if let Some(deck) = piece.strip_prefix(b"DECK\n") {
             for (card_type, times) in decks::card_types(deck) {
                 *self.counts.entry(card_type).or_default() += times;
@@ -644,7 +651,11 @@ impl Writer<'_> {
             answer = self.shift.answer_line(line.strip_suffix(b"\n").unwrap_or(line));
         }
         if piece == b"SELECT\n" {
-            self.count(taken(&answer).and_then(|place| returns::selected(self.shift.cell(), place)));
+            let place = taken(&answer);
+            self.count(place.and_then(|place| returns::selected(self.shift.cell(), place)));
+            for what in place.map_or(Vec::new(), |place| kinds::selected(self.shift.cell(), place)) {
+                self.count(Some(what));
+            }
         }
         self.pieces.push(piece);
     }
@@ -967,7 +978,7 @@ impl Writer<'_> {
     }
 
     fn function(&mut self, kind: Kind) -> u8 {
-        match self.random.weighted(&[70, 12, 14, 4]) {
+        match self.random.weighted(&[64, 12, 14, 6, 4]) {
             0 => {
                 let legal: Vec<u8> =
                     (0..=functions::LAST).filter(|&function| functions::is_legal(kind, function)).collect();
@@ -975,6 +986,15 @@ impl Writer<'_> {
             }
             1 => REMOVE_INTERLOCK,
             2 => TERMINATE,
+            // One that another kind has.
+            3 => {
+                let is_elsewhere = |function: &u8| {
+                    let mut kinds = Kind::WITH_UNITS.into_iter().chain([Kind::Md]);
+                    !functions::is_legal(kind, *function) && kinds.any(|other| functions::is_legal(other, *function))
+                };
+                let elsewhere: Vec<u8> = (0..=functions::LAST).filter(is_elsewhere).collect();
+                *self.random.pick(&elsewhere)
+            }
             _ => self.random.below(64) as u8,
         }
     }
