@@ -2,7 +2,9 @@
 //! is then compared with the proved program, or with COMMAND: there must be a difference. The unchanged copy is compared
 //! first, and must have none: else a change that is found would say nothing.
 //!
-//! `mutants cards|deck|desk|listing|shift [--count N] [-- COMMAND..]`
+//! `mutants cards|deck|desk|listing|shift [--last N] [--count N] [-- COMMAND..]`
+//!
+//! With `--last N` only the last N changes of the subject are made: those that have just been added.
 //!
 //! A change is four lines: the subject and the file, the text to find (once), the text to put there, and an empty line.
 
@@ -44,8 +46,14 @@ fn copy(from: &Path, to: &Path) {
 
 fn main() -> ExitCode {
     let mut words = std::env::args().skip(1);
-    let subject = words.next().expect("usage: mutants cards|deck|desk|listing|shift [--count N] [-- COMMAND..]");
-    let rest: Vec<String> = words.collect();
+    let subject =
+        words.next().expect("usage: mutants cards|deck|desk|listing|shift [--last N] [--count N] [-- COMMAND..]");
+    let mut rest: Vec<String> = words.collect();
+    let mut last = usize::MAX;
+    if rest.first().is_some_and(|word| word == "--last") {
+        last = rest.get(1).and_then(|number| number.parse().ok()).expect("a number behind --last");
+        rest.drain(..2);
+    }
     let here = Path::new(env!("CARGO_MANIFEST_DIR"));
     let top = here.join("..");
     let repository = top.join("target/mutants");
@@ -67,7 +75,8 @@ fn main() -> ExitCode {
     }
 
     let text = fs::read_to_string(here.join("mutants.txt")).expect("mutants.txt");
-    let changes = changes(&text, &subject);
+    let all = changes(&text, &subject);
+    let changes = &all[all.len().saturating_sub(last)..];
     let build = |what: &str| {
         let mut build = Command::new("cargo");
         build.args(["build", "--offline", "--quiet", "--bin", "compare"]).current_dir(&work);
@@ -85,7 +94,7 @@ fn main() -> ExitCode {
     assert_eq!(compare(), Some(0), "the unchanged copy must be compared without a difference");
 
     let (mut kept, mut stopped) = (0, 0);
-    for Change { file, old, new } in &changes {
+    for Change { file, old, new } in changes {
         let path = work.join("ordinary/src").join(file);
         let source = fs::read_to_string(&path).expect("a source file");
         assert_eq!(source.matches(old.as_str()).count(), 1, "{file}: {old}");
