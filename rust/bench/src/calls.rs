@@ -117,8 +117,8 @@ pub fn entries() {
     }
 }
 
-/// A cell with every kind of channel.
-fn every_kind() -> String {
+/// A cell with the channels of the first four kinds.
+fn four_kinds() -> String {
     let channels: String = (0..16)
         .map(|channel| match channel {
             0..=4 => format!("{channel:02} MA 16\n"),
@@ -136,9 +136,10 @@ const LACKS: &str = "IB/1,DB/1,MD/100,MA1/4,MA2/3,MT1/4,MT2/3,PR1/5";
 
 /// Selection in a cell in which no job runs: the first request fits, or none does.
 pub fn selections() {
+    let cell = four_kinds();
     for count in [1, 16, 64] {
         for (what, entries) in [("the first fits", FITS), ("none fits", LACKS)] {
-            select(&format!("selection, {count} in the schedule, {what}"), &deck(0..count, entries), false);
+            select(&format!("selection, {count} in the schedule, {what}"), &cell, &deck(0..count, entries), false);
         }
     }
 }
@@ -149,14 +150,56 @@ pub fn late_selections() {
         let held: String = (0..15).map(|number| request(number, "IB/1,MD/100,MT/2")).collect();
         let waiting: String = (15..63).map(|number| request(number, LACKS)).collect();
         let deck = held + &waiting + &deck(63..64, last);
-        select(&format!("selection, 15 places held, {what}"), &deck, true);
+        select(&format!("selection, 15 places held, {what}"), &four_kinds(), &deck, true);
     }
 }
 
-/// Selection after a deck was entered and, `late`, after fifteen selections.
-fn select(what: &str, deck: &str, late: bool) {
-    let configuration = every_kind();
-    let mut cell = fresh(&configuration, deck);
+/// A cell with a drum and fifteen channels of 16 units, as many of each of these kinds.
+fn cell_of(kinds: &[&str]) -> String {
+    let units: String = (0..15).map(|channel| format!("{channel:02} {} 16\n", kinds[channel % kinds.len()])).collect();
+    format!("16\n{units}15 MD 400000\n0\n0\n")
+}
+
+/// Selection in a cell with all seven kinds beside one with four. Both have as many channels and units, and the requests
+/// have as many entries: the same ones for the four kinds; or such that all kinds of the cell are asked for.
+pub fn kinds() {
+    let four = cell_of(&["MA", "MT", "PR"]);
+    let seven = cell_of(&["MA", "MT", "PR", "MC", "CR", "PT"]);
+    const CORE_AND_DRUM: &str = "IB/1,DB/1,MD/100";
+    // The last entry's number decides: 4 units are there on one channel, and 17 are not.
+    let same = "MA1/4,MA2/3,MT1/4,MT2/3,PR1/4,PR2";
+    let each = "MA1/4,MT1/4,PR1/4,MC1/4,CR1/4,PT1";
+    for (what, in_four, in_seven) in
+        [("the same entries of four kinds", same, same), ("entries of every kind", same, each)]
+    {
+        let [fits, lacks] = [4, 17].map(|n| [in_four, in_seven].map(|units| format!("{CORE_AND_DRUM},{units}/{n}")));
+        let waiting = |entries: &str| (0..63).map(|number| request(number, entries)).collect::<String>();
+        let one = fits.each_ref().map(|entries| deck(0..1, entries));
+        let none = lacks.each_ref().map(|entries| deck(0..64, entries));
+        let last = [0, 1].map(|cell| waiting(&lacks[cell]) + &deck(63..64, &fits[cell]));
+        for (which, decks) in
+            [("one request, it fits", one), ("64 requests, none fits", none), ("64 requests, the last fits", last)]
+        {
+            let what = format!("{which}, {what}");
+            let in_four = select(&format!("four kinds: {what}"), &four, &decks[0], false);
+            let in_seven = select(&format!("seven kinds: {what}"), &seven, &decks[1], false);
+            show_growth(&what, in_four, in_seven);
+        }
+    }
+}
+
+/// How many times longer the second took than the first.
+fn show_growth(what: &str, (ordinary, proved): Times, (ordinary_then, proved_then): Times) {
+    let proved = proved.zip(proved_then).map_or("-".into(), |(now, then)| format!("{:.2}", then / now));
+    println!("| seven kinds / four kinds: {what} | {:.2} | {proved} | |", ordinary_then / ordinary);
+}
+
+/// Nanoseconds of `ordinary` and, where they are linked, of the proved functions.
+type Times = (f64, Option<f64>);
+
+/// Selection in a cell after a deck was entered and, `late`, after fifteen selections.
+fn select(what: &str, configuration: &str, deck: &str, late: bool) -> Times {
+    let mut cell = fresh(configuration, deck);
     if late {
         for _ in 0..15 {
             cell.select().expect("a job");
@@ -174,4 +217,5 @@ fn select(what: &str, deck: &str, late: bool) {
         time_of_one(100, 1, run)
     });
     show(what, ordinary, proved);
+    (ordinary, proved)
 }

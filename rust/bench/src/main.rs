@@ -63,7 +63,7 @@ fn show(what: &str, ordinary: f64, proved: Option<f64>) {
 }
 
 /// What is timed, by the name that asks for it alone.
-const PARTS: [(&str, fn()); 7] = [
+const PARTS: [(&str, fn()); 8] = [
     ("decks", decks),
     ("configurations", configurations),
     ("turns", calls::turns),
@@ -71,6 +71,7 @@ const PARTS: [(&str, fn()); 7] = [
     ("entries", calls::entries),
     ("selections", calls::selections),
     ("late-selections", calls::late_selections),
+    ("kinds", calls::kinds),
 ];
 
 fn main() {
