@@ -62,8 +62,8 @@ uint8_t luffgravel_desk(const uint8_t *id, size_t id_length, const uint8_t *repa
 size_t luffgravel_bad_line(const uint8_t *config, size_t config_length);
 
 /*
- * Whether a function code is legal on channels of a kind, which goes by the two letters of its code, as 'M' and 'T'. On letters that are no kind's no
- * function is legal, and no code over 077 is legal on any.
+ * Whether a function code is legal on channels of a kind, which goes by the two letters of its code, as 'M' and 'T': MA, MT, PR, MD, MC, CR and PT are
+ * kinds. On letters that are no kind's no function is legal, and no code over 077 is legal on any.
  */
 bool luffgravel_is_legal(uint8_t first, uint8_t second, uint8_t function);
 

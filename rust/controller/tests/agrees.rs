@@ -53,7 +53,7 @@ fn cut(path: &Path, whole: &[u8], put: impl Fn(&mut [u8]) -> usize) {
 
 #[test]
 fn listing() {
-    for (path, input, output) in cases("cases_listing", 77) {
+    for (path, input, output) in cases("cases_listing", 111) {
         let mut room = [0; LISTING_ROOM];
         let answered = controller::listing(&input, &mut room);
         same(&path, answered, &output);
@@ -65,7 +65,7 @@ fn listing() {
 #[test]
 fn deck() {
     let before: [u8; DECK_ROOM] = std::array::from_fn(|at| at as u8 ^ 0xa5);
-    for (path, input, output) in cases("cases_deck", 45) {
+    for (path, input, output) in cases("cases_deck", 52) {
         let mut room = before;
         let answered = controller::deck(&input, &mut room);
         same(&path, answered, &output);
@@ -132,7 +132,7 @@ fn desk() {
 #[test]
 fn bad_line() {
     let mut bad = 0;
-    for (path, input, _) in cases("cases_listing", 77) {
+    for (path, input, _) in cases("cases_listing", 111) {
         let expected = Configuration::from_text(&input).err().map(|line| line.0);
         assert_eq!(controller::bad_line(&input).map(NonZeroUsize::get), expected, "{}", path.display());
         bad += usize::from(expected.is_some());
@@ -157,7 +157,8 @@ fn legality() {
             legal += u32::from(expected);
         }
     }
-    assert_eq!(legal, 24 + 17 + 4 + 10);
+    // MA, MT, PR, MD, MC, CR and PT.
+    assert_eq!(legal, 24 + 17 + 4 + 10 + 25 + 13 + 5);
 }
 
 /// What `ordinary` assigns to a request for core alone.

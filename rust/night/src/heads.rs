@@ -301,13 +301,31 @@ mod tests {
         let taken = (&b"SELECT"[..], "ACK 0 A1 IB 2-3 MT1 03/00 03/01");
         let heads = after(&[taken]);
         // Whatever the ID is, it is no assignment.
-        for answer in ["NO 18", "NO 19", "NO 20 B CORE", "NO 20 0 DRUM", "NO 20 ACK MA", "NO 20 IB MT", "NO 20 MD PR"] {
+        let lacking = ["B CORE", "0 DRUM", "ACK MA", "IB MT", "MD PR", "A1 MC", "MC CR", "PT PT"];
+        let lacking = lacking.map(|lacking| format!("NO 20 {lacking}"));
+        for answer in ["NO 18", "NO 19"].into_iter().chain(lacking.iter().map(String::as_str)) {
             let same = after(&[taken, (b"SELECT", answer)]);
             assert_eq!((&same.heads, &same.jobs), (&heads.heads, &heads.jobs), "{answer}");
             let none = after(&[(b"SELECT", answer)]);
             assert!(none.heads.values().all(|head| *head == Head::default()), "{answer}");
             assert!(none.jobs.iter().all(Option::is_none), "{answer}");
         }
+    }
+
+    #[test]
+    fn units_of_every_kind_are_heads_and_the_drum_is_none() {
+        let text =
+            b"7\n00 PT 2\n01 CR 1\n02 MC 16\n03 PR 1\n04 MT 1\n05 MA 1\n06 MD 40000\n3\n00 01\n01 00\n02 15\n0\n";
+        let mut heads = Heads::fresh(text).unwrap();
+        let of_channel = |heads: &Heads, channel| heads.heads.keys().filter(|(at, _)| *at == channel).count();
+        assert_eq!([0, 1, 2, 3, 4, 5, 6].map(|channel| of_channel(&heads, channel)), [2, 1, 16, 1, 1, 1, 0]);
+        assert!([(0, 1), (1, 0), (2, 15)].iter().all(|name| heads.heads[name].down));
+        // The letters before the units are those of the written order; the ID may be such letters too.
+        let answer = Answer::new(b"ACK 3 MD IB 2-2 MD 35329-35330 PR 03/00 MC1 02/00 02/01 CR 01/00 PT 00/00\n");
+        heads.hear(&Answered { call: Call { text: b"SELECT\n".to_vec(), open: false }, answer });
+        let held = heads.heads.iter().filter(|(_, head)| head.holder == Some(3)).map(|(name, _)| *name);
+        assert_eq!(held.collect::<Vec<HeadName>>(), [(0, 0), (1, 0), (2, 0), (2, 1), (3, 0)]);
+        assert_eq!(heads.job(3).map(|job| (job.id.as_str(), job.area)), Some(("MD", Some((35_329, 35_330)))));
     }
 
     #[test]

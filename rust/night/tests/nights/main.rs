@@ -14,6 +14,9 @@ mod decks;
 #[path = "../../../compare/src/further.rs"]
 mod further;
 #[allow(dead_code)]
+#[path = "../../../compare/src/kinds.rs"]
+mod kinds;
+#[allow(dead_code)]
 #[path = "../../../compare/src/lacks.rs"]
 mod lacks;
 #[allow(dead_code)]
