@@ -90,6 +90,13 @@ struct Writer<'r> {
     counts: BTreeMap<String, u64>,
 }
 
+/// The functions that are legal on some kind, 07 and 23 apart. They are written out, so that one is tried too where the
+/// implementation beside does not know it.
+const OF_ANY_KIND: &[u8] = &[
+    0o01, 0o02, 0o03, 0o04, 0o05, 0o06, 0o10, 0o20, 0o21, 0o37, 0o40, 0o41, 0o42, 0o43, 0o44, 0o45, 0o46, 0o47, 0o50,
+    0o51, 0o52, 0o53, 0o54, 0o55, 0o56, 0o61, 0o62, 0o63, 0o64, 0o66, 0o67, 0o71, 0o72, 0o73, 0o76,
+];
+
 const SEVEN_KINDS: &str = "9\n00 PT 3\n01 CR 3\n02 MC 4\n03 MC 3\n04 PR 2\n05 MT 4\n06 MA 4\n07 MD 40000\n15 PT 2\n0\n";
 
 /// A script with this many calls.
@@ -988,11 +995,8 @@ impl Writer<'_> {
             2 => TERMINATE,
             // One that another kind has.
             3 => {
-                let is_elsewhere = |function: &u8| {
-                    let mut kinds = Kind::WITH_UNITS.into_iter().chain([Kind::Md]);
-                    !functions::is_legal(kind, *function) && kinds.any(|other| functions::is_legal(other, *function))
-                };
-                let elsewhere: Vec<u8> = (0..=functions::LAST).filter(is_elsewhere).collect();
+                let is_elsewhere = |function: &u8| !functions::is_legal(kind, *function);
+                let elsewhere: Vec<u8> = OF_ANY_KIND.iter().copied().filter(is_elsewhere).collect();
                 *self.random.pick(&elsewhere)
             }
             _ => self.random.below(64) as u8,
