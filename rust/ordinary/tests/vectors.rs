@@ -32,7 +32,7 @@ fn deck() {
 
 #[test]
 fn cards() {
-    check("../../crates/cases_cards/data", 150, |input| ordinary::cards::report(input).into_bytes());
+    check("../../crates/cases_cards/data", 151, |input| ordinary::cards::report(input).into_bytes());
 }
 
 #[test]
@@ -47,5 +47,5 @@ fn listing() {
 
 #[test]
 fn shift() {
-    check("../../crates/cases_shift/data", 107, ordinary::shift::converse);
+    check("../../crates/cases_shift/data", 109, ordinary::shift::converse);
 }
