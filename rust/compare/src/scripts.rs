@@ -380,14 +380,41 @@ impl Writer<'_> {
         }
     }
 
-    /// A unit that a running job holds and is not giving back, and its place.
-    fn held_unit(&mut self) -> Option<(usize, ChannelNumber, u32)> {
+    /// The units that running jobs hold and are not giving back, with their places.
+    fn held_units(&self) -> Vec<(usize, ChannelNumber, u32)> {
         let cell = self.shift.cell();
         let running = cell.jobs().filter(|(_, job)| job.end.is_none());
         let held = running.flat_map(|(place, _)| holdings(cell, place).into_iter().map(move |held| (place, held)));
         let held = held.filter(|(_, (channel, unit))| !cell.unit(*channel, UnitNumber(*unit as u8)).returning);
-        let held: Vec<_> = held.map(|(place, (channel, unit))| (place, channel, unit)).collect();
+        held.map(|(place, (channel, unit))| (place, channel, unit)).collect()
+    }
+
+    fn held_unit(&mut self) -> Option<(usize, ChannelNumber, u32)> {
+        let held = self.held_units();
         (!held.is_empty()).then(|| *self.random.pick(&held))
+    }
+
+    /// Every function number, and one that is too large, on a unit of any kind that is held. What is listed is taken off
+    /// the list again.
+    fn every_function(&mut self) {
+        let mut held = self.held_units();
+        let configuration = self.shift.cell().configuration().clone();
+        let is_of = |kind: Kind, channel| configuration.channel(channel).is_some_and(|there| there.kind() == kind);
+        let kinds = Kind::WITH_UNITS.into_iter().filter(|kind| held.iter().any(|(_, at, _)| is_of(*kind, *at)));
+        let kinds: Vec<Kind> = kinds.collect();
+        if kinds.is_empty() {
+            return;
+        }
+        let kind = *self.random.pick(&kinds);
+        held.retain(|(_, at, _)| is_of(kind, *at));
+        let (place, channel, unit) = *self.random.pick(&held);
+        for function in 0..=functions::LAST + 1 {
+            self.submit_to(place, channel, unit, Some(function));
+            let cell = self.shift.cell();
+            if cell.listed().any(|(at, name)| at == channel && name.place == place) {
+                self.submit_to(place, channel, unit, Some(TERMINATE));
+            }
+        }
     }
 
     /// Some packets for a unit.
@@ -673,8 +700,11 @@ impl Writer<'_> {
         }
     }
 
-    /// The state in full at the end, and now and then an end in the middle of something.
+    /// Every function on a unit, the state in full at the end, and now and then an end in the middle of something.
     fn last(&mut self) {
+        if self.random.percent(60) {
+            self.every_function();
+        }
         self.push(b"BOARD\n".to_vec());
         for place in 0..16 {
             for packet in 0..16 {
