@@ -7,6 +7,11 @@ use mathlib.Core.List.{List}
 use native.Mathlib.Omega.{arith}
 use lib.ListN.{length, set, drop, replicate, length-drop}
 use lib.Seq.{length-take-le}
+use lib.Dec.{eqb}
+use borrow.Author.Tests.{eqb-true}
+use Rattle.numbers.proofs.Tests.{by-bool}
+use Rattle.assign_channels.specs.Choice.{total}
+use Rattle.numbers.specs.Kinds.{unitKinds, kindAt}
 use Rattle.units.specs.declared.Unit.{Unit}
 use Rattle.channels.specs.declared.Channel.{Channel}
 use Rattle.assign_core.specs.declared.Pair.{Pair}
@@ -34,9 +39,8 @@ use Rattle.assign.specs.declared.Lacking.the-variants as Lacking
 use Rattle.assign.specs.declared.Part.the-variants as Part
 use Rattle.assign.specs.declared.Provision.{Provision}
 use Rattle.assign.specs.Assignment.{Cell, drumLength, wantsOf, noChannels, freeOf}
-use Rattle.numbers.specs.Kinds.{unitKinds, kindAt}
 use Rattle.assign.specs.Kinds.{KindsDone, KindsAnswer, ServesKinds}
-use Rattle.assign.proofs.KindsLaws.{none-yet, one-more, lacking, all-done}
+use Rattle.assign.proofs.KindsLaws.{none-yet, one-more, unasked, lacking, all-done}
 use Rattle.assign.specs.Chosen.{without, Assigns}
 use Rattle.assign.proofs.ChosenLaws.{no-core, no-drum, no-kind, assigned, assigns-one}
 
@@ -48,7 +52,8 @@ module _ (units : List (List Unit)) (channels : List Channel) (asked : List ℕ)
   unfoldable pub kindsFrom : ℕ → ℕ → List KindChannels → List Head → Kinds
   kindsFrom zero order named heads = record { ok = true; order = order; channels = named; heads = heads }
   kindsFrom (suc n) order named heads =
-      cond (serviceAt order heads .ok) (kindsFrom n (order + 1) (set named order (record { on = serviceAt order heads .on })) (serviceAt order heads .heads)) (record { ok = false; order = order; channels = named; heads = heads })
+      cond (eqb (total (wantsOf asked order)) 0) (kindsFrom n (order + 1) named heads)
+      (cond (serviceAt order heads .ok) (kindsFrom n (order + 1) (set named order (record { on = serviceAt order heads .on })) (serviceAt order heads .heads)) (record { ok = false; order = order; channels = named; heads = heads }))
 
   abbrev pub kindsOf : Kinds
   kindsOf = kindsFrom unitKinds 0 (replicate unitKinds noChannels) (replicate 256 blank)
@@ -73,8 +78,10 @@ module _ (units : List (List Unit)) (channels : List Channel) (asked : List ℕ)
     unfolding kindsFrom
     kinds-from zero order named heads e k = all-done (omega arith) k
     kinds-from (suc n) order named heads e k =
-        step n order named heads (omega arith) (serviceAt order heads) (serve-answers (marksOf units channels order) (wantsOf asked order) heads refl (long order (omega arith)) (k .wide))
-        (kinds-from n (order + 1) (set named order (record { on = serviceAt order heads .on })) (serviceAt order heads .heads) (omega arith)) k
+        by-bool (eqb (total (wantsOf asked order)) 0)
+        (λ t. rw t (kinds-from n (order + 1) named heads (omega arith) (unasked units channels asked order (omega arith) (eqb-true (total (wantsOf asked order)) 0 t) k)))
+        (λ f. rw f (step n order named heads (omega arith) (serviceAt order heads) (serve-answers (marksOf units channels order) (wantsOf asked order) heads refl (long order (omega arith)) (k .wide))
+        (kinds-from n (order + 1) (set named order (record { on = serviceAt order heads .on })) (serviceAt order heads .heads) (omega arith)) k))
 
     pub kinds-answer : ServesKinds (isFreeOf units channels) asked kindsOf
     kinds-answer = kinds-from unitKinds 0 (replicate unitKinds noChannels) (replicate 256 blank) refl (none-yet (isFreeOf units channels) asked)

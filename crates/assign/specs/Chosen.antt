@@ -2,6 +2,7 @@
 use Prim.Native.Nat.{ℕ, _<_}
 use mathlib.Core.Path.{_≡_}
 use lib.ListN.{length, replicate}
+use Rattle.numbers.specs.Kinds.{unitKinds}
 use Rattle.assign_core.specs.Core.{Before}
 use Rattle.assign_channels.specs.Choice.{LexLe}
 use Rattle.assign_heads.specs.Heads.{Lowest}
@@ -14,7 +15,6 @@ use Rattle.assign.specs.declared.Lacking.the-variants.{Nothing, First}
 use Rattle.assign.specs.declared.Part.{Part}
 use Rattle.assign.specs.declared.Provision.{Provision}
 use Rattle.assign.specs.Assignment.{Cell, noChannels, channelsOf, freeOf, givenOf, IsAssignment}
-use Rattle.numbers.specs.Kinds.{unitKinds}
 use Rattle.assign.specs.Parts.{FirstLacking}
 
 -- the chosen assignment
