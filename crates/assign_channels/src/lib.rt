@@ -64,17 +64,17 @@ fn lowest(counts: [u8; 16], n: u8, rest: &[u8]) -> ChannelNumber
 }
 
 // A byte as a count.
-fn wide(x: u8) -> usize
+fn wide(x: u8) -> u16
     ensures { λ r. ⌜ (r ≡ x) × (r < 256) ⌝ }
 {
-    x as usize
+    x as u16
 }
 
-// All numbers of a list together.
-pub fn sum(xs: [u8; 16]) -> usize
+// All numbers of a list together: at most 16 * 255, so that 16 bits hold them, and eight are added at a time.
+pub fn sum(xs: [u8; 16]) -> u16
     ensures { λ r. ⌜ r ≡ total xs ⌝ }
 {
-    let mut n: usize = 0;
+    let mut n: u16 = 0;
     let mut i: usize = 0;
     while i < 16 {
         n += wide(xs[i]);

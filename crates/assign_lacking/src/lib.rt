@@ -29,18 +29,9 @@ fn part_at(table: [u8; cards_request::COUNTS], order: usize) -> [u8; 16]
     part
 }
 
-// Whether the entries of a kind can be served: there are as many units as they ask for together, and each with
-// logical channel 1 to 15 can have a channel of its own.
-fn is_servable(counts: [u8; 16], wants: [u8; 16]) -> bool
-    ensures { λ r. ⌜ Decides (Servable counts wants) r ⌝ }
-{
-    if assign_channels::sum(counts) < assign_channels::sum(wants) {
-        return false;
-    }
-    assign_channels::can_serve(&counts, &wants[1..])
-}
-
-// The same of a kind, told by its place in the written order. Where nothing is asked for the counts are not looked at.
+// Whether the entries of a kind, told by its place in the written order, can be served: nothing is asked for, and the
+// counts are not looked at; or there are as many units as they ask for together, and each with logical channel 1 to 15
+// can have a channel of its own.
 fn has_units(
     counts: [u8; cards_request::COUNTS],
     asked: [u8; cards_request::COUNTS],
@@ -50,10 +41,15 @@ fn has_units(
     ensures { λ r. ⌜ Decides (Servable (wantsOf counts order) (wantsOf asked order)) r ⌝ }
 {
     let wants = part_at(asked, order);
-    if assign_channels::sum(wants) == 0 {
+    let sum = assign_channels::sum(wants);
+    if sum == 0 {
         return true;
     }
-    is_servable(part_at(counts, order), wants)
+    let there = part_at(counts, order);
+    if assign_channels::sum(there) < sum {
+        return false;
+    }
+    assign_channels::can_serve(&there, &wants[1..])
 }
 
 // The first kind whose units are lacking, in the written order.

@@ -15,15 +15,15 @@ ghost use Rattle.cards_fac.specs.Fac.{nothing, asksOf, entryAnswer, Entr
 
 // The codes in the order in which entries are written: core, drum, and the kinds that have units in their order.
 pub const CODES: [[u8; 2]; 3 + numbers::UNIT_KINDS] = [
-    [b'I', b'B'],
-    [b'D', b'B'],
-    [b'M', b'D'],
-    [b'M', b'A'],
-    [b'M', b'T'],
-    [b'P', b'R'],
-    [b'M', b'C'],
-    [b'C', b'R'],
-    [b'P', b'T'],
+    [b'I', b'B'], // 0
+    [b'D', b'B'], // 1
+    [b'M', b'D'], // 2
+    [b'M', b'A'], // 3
+    [b'M', b'T'], // 4
+    [b'P', b'R'], // 5
+    [b'M', b'C'], // 6
+    [b'C', b'R'], // 7
+    [b'P', b'T'], // 8
 ];
 
 // The index of the last code.

@@ -64,7 +64,7 @@ isDrum Mc = false
 isDrum Cr = false
 isDrum Pt = false
 
--- THE WRITTEN ORDER of the kinds that have units: "after PR in that order wherever order is seen"
+-- THE WRITTEN ORDER of the kinds that have units: "in FAC they follow PR in that order", and wherever an order is seen
 abbrev pub inOrder : List Kind
 inOrder = Ma ∷ Mt ∷ Pr ∷ Mc ∷ Cr ∷ Pt ∷ []
 
