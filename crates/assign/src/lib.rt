@@ -25,8 +25,8 @@ pub struct KindChannels {
     pub on: [ChannelNumber; 16],
 }
 
-// The starts of a job's blocks and drum area, 0 where none are asked for, the channels of the entries of each kind, kinds
-// in the written order, and to which entry of its channel's kind each unit is given, unit u of channel c at c * 16 + u.
+// The starts of a job's blocks and drum area, 0 where none are asked for; the channels of the entries of each kind, kinds
+// in the written order; and to which entry of its channel's kind each unit is given, unit u of channel c at c * 16 + u.
 pub struct Assigned {
     pub ib: u32,
     pub db: u32,

@@ -70,7 +70,7 @@ fn wide(x: u8) -> u16
     x as u16
 }
 
-// All numbers of a list together: at most 16 * 255, so that 16 bits hold them, and eight are added at a time.
+// All numbers of a list together: at most 16 * 255, so that 16 bits hold them; the compiler can then add eight at a time.
 pub fn sum(xs: [u8; 16]) -> u16
     ensures { λ r. ⌜ r ≡ total xs ⌝ }
 {

@@ -28,7 +28,7 @@ fn put_run(out: &mut [u8], at: usize, code: &[u8], first: u32, count: u32) -> us
     shift_pieces::put_span(out, next, first, count)
 }
 
-// Whether a channel is of a kind.
+// Whether a channel is of a kind: kinds of one row are one.
 fn is_of_kind(channel: Channel, kind: Kind) -> bool
     ensures { λ r. ⌜ r ≡ isOfKind kind channel ⌝ }
 {
