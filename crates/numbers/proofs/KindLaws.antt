@@ -98,17 +98,17 @@ units-order k e = placed (isDrum k) e (all-kinds (λ m. cond (isDrum m) true (lt
     placed false e t = ltb-true (orderOf k) unitKinds t
 
 -- a code is two letters
+pub code-long : (k : Kind) → length (codeOf k) ≡ 2
+code-long k = eqb-true (length (codeOf k)) 2 (all-kinds (λ m. eqb (length (codeOf m)) 2) refl k)
+
 pub code-two : (k : Kind) → getD (codeOf k) 0 0 ∷ getD (codeOf k) 1 0 ∷ [] ≡ codeOf k
-code-two k = two (codeOf k) (eqb-true (length (codeOf k)) 2 (all-kinds (λ m. eqb (length (codeOf m)) 2) refl k))
+code-two k = two (codeOf k) (code-long k)
   where
     two : (s : List ℕ) → length s ≡ 2 → getD s 0 0 ∷ getD s 1 0 ∷ [] ≡ s
     two [] e = absurd (omega arith)
     two (a ∷ []) e = absurd (omega arith)
     two (a ∷ b ∷ []) e = refl
     two (a ∷ b ∷ c ∷ s) e = absurd (omega arith)
-
-pub code-long : (k : Kind) → length (codeOf k) ≡ 2
-code-long k = eqb-true (length (codeOf k)) 2 (all-kinds (λ m. eqb (length (codeOf m)) 2) refl k)
 
 -- the code of a kind is read as the kind
 pub code-read : (k : Kind) → kindOf (getD (codeOf k) 0 0) (getD (codeOf k) 1 0) ≡ Is k

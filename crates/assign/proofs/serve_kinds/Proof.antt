@@ -1,25 +1,17 @@
 -- `assign::serve_kinds` meets its contract. The loop's invariant is `KindsDone`; a kind is served, or nothing is asked for
 -- it. Assumes nothing.
-use mathlib.Core.Logic.{⊎-elim}
-use mathlib.Core.Path.{sym, _∙_}
-use Rattle.assign.proofs.KindsLaws.{as-stored, nothing-asked}
 use Prim.Native.Nat.{_-_}
+use mathlib.Core.Logic.{⊎-elim}
 use native.Mathlib.Omega.{arith}
 use borrow.Author.Tests.{not-true, not-false}
 use Rattle.numbers.specs.Kinds.{unitKinds}
 use Rattle.assign_heads.proofs.ServingLaws.{served-so, lacking-so}
 use Rattle.assign_free.specs.Assignable.{isFreeOf}
+use Rattle.assign.proofs.KindsLaws.{as-stored, nothing-asked, none-yet, one-more, unasked, lacking, all-done}
 use Rattle.assign.specs.Kinds.{KindsDone}
-use Rattle.assign.proofs.KindsLaws.{none-yet, one-more, unasked, lacking, all-done}
 use borrow.Author.Needs.{needs}
 use Rattle.assign.proofs.serve_kinds.Statement.{statement}
 use Rattle.assign.proofs.serve_kinds.Tie as tie
-use Rattle.assign.proofs.serve_kinds.Reads as reads
-use Rattle.assign.proofs.serve_kinds.Lts as lts
-use Rattle.assign.proofs.wants_of.Reads as wants-of-reads
-use Rattle.assign_channels.proofs.sum.Reads as sum-reads
-use Rattle.assign_free.proofs.free_units.Reads as free-units-reads
-use Rattle.assign_heads.proofs.serve.Reads as serve-reads
 
 abbrev Inv-loop : tie.InvT-loop
 Inv-loop units channels asked chosen₀ heads₀ order₀ chosen heads order = KindsDone (isFreeOf (units .of) channels) asked chosen heads order

@@ -7,11 +7,6 @@ use Rattle.assign_lacking.proofs.PartsLaws.{none-asked, too-few, tested
 use borrow.Author.Needs.{needs}
 use Rattle.assign_lacking.proofs.has_units.Statement.{statement}
 use Rattle.assign_lacking.proofs.has_units.Tie as tie
-use Rattle.assign_lacking.proofs.has_units.Reads as reads
-use Rattle.assign_lacking.proofs.has_units.Lts as lts
-use Rattle.assign_channels.proofs.can_serve.Reads as can-serve-reads
-use Rattle.assign_channels.proofs.sum.Reads as sum-reads
-use Rattle.assign_lacking.proofs.part_at.Reads as part-at-reads
 
 part-at-requires : tie.Need-part-at-requires
 part-at-requires c κs = search needs

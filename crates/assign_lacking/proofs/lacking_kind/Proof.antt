@@ -16,9 +16,6 @@ use Rattle.assign_lacking.specs.ByCounts.{Servable, HasUnits}
 use borrow.Author.Needs.{needs}
 use Rattle.assign_lacking.proofs.lacking_kind.Statement.{statement}
 use Rattle.assign_lacking.proofs.lacking_kind.Tie as tie
-use Rattle.assign_lacking.proofs.lacking_kind.Reads as reads
-use Rattle.assign_lacking.proofs.lacking_kind.Lts as lts
-use Rattle.assign_lacking.proofs.has_units.Reads as has-units-reads
 
 abbrev Inv-loop : tie.InvT-loop
 Inv-loop counts asked order₀ order = (order ≤ unitKinds) × ((j : ℕ) → j < order → Servable (wantsOf counts j) (wantsOf asked j))

@@ -1,21 +1,14 @@
-use Rattle.cards_fac.proofs.EntryLaws.{code-size}
-use mathlib.Core.Path.{sym}
-use native.Mathlib.Nat.{zero-add}
-use Prim.Native.Nat.{suc}
-use mathlib.Core.Path.{refl}
 -- `cards_fac::code_index` meets its contract: the codes are compared in their order. Assumes nothing.
-use Prim.Native.Nat.{_+_, _-_, _≤_}
-use mathlib.Core.Path.{_≡_}
+use Prim.Native.Nat.{suc, _+_, _-_, _≤_}
+use mathlib.Core.Path.{sym, _≡_}
+use native.Mathlib.Nat.{zero-add}
 use native.Mathlib.Omega.{arith}
 use lib.ListN.{drop}
+use Rattle.cards_fac.proofs.EntryLaws.{code-size, code-found, code-passed, codes-over}
 use Rattle.cards_fac.specs.Fac.{codes, lastCode, indexIn}
-use Rattle.cards_fac.proofs.EntryLaws.{code-found, code-passed, codes-over}
 use borrow.Author.Needs.{needs}
 use Rattle.cards_fac.proofs.code_index.Statement.{statement}
 use Rattle.cards_fac.proofs.code_index.Tie as tie
-use Rattle.cards_fac.proofs.code_index.Reads as reads
-use Rattle.cards_fac.proofs.code_index.Lts as lts
-use Rattle.words.proofs.is_same.Reads as is-same-reads
 
 abbrev Inv-loop : tie.InvT-loop
 Inv-loop t k₀ k = (k ≤ suc lastCode) × (indexIn codes t ≡ k + indexIn (drop k codes) t)

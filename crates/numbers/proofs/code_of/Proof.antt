@@ -1,16 +1,13 @@
 -- `numbers::code_of` meets its contract: the code in the kind's row. Assumes nothing.
-use mathlib.Core.Path.{_∙_, ap}
 use Prim.Native.Nat.{ℕ}
-use lib.ListN.{getD}
+use mathlib.Core.Path.{_∙_, ap}
 use mathlib.Core.List.{[]}
+use lib.ListN.{getD}
 use Rattle.numbers.specs.Kinds.{codeOf}
 use Rattle.numbers.proofs.KindLaws.{codes, row-code, row-kind, row-low}
 use borrow.Author.Needs.{needs}
 use Rattle.numbers.proofs.code_of.Statement.{statement}
 use Rattle.numbers.proofs.code_of.Tie as tie
-use Rattle.numbers.proofs.code_of.Reads as reads
-use Rattle.numbers.proofs.code_of.Lts as lts
-use Rattle.numbers.proofs.row_of.Reads as row-of-reads
 
 row-of-requires : tie.Need-row-of-requires
 row-of-requires c κs = search needs

@@ -3,8 +3,6 @@ use Rattle.numbers.proofs.KindLaws.{listed-kind, past-kind}
 use borrow.Author.Needs.{needs}
 use Rattle.numbers.proofs.kind_at.Statement.{statement}
 use Rattle.numbers.proofs.kind_at.Tie as tie
-use Rattle.numbers.proofs.kind_at.Reads as reads
-use Rattle.numbers.proofs.kind_at.Lts as lts
 
 array-copy-out-result : tie.Need-array-copy-out-result
 array-copy-out-result c = search needs

@@ -1,17 +1,13 @@
 -- `numbers::kind_of` meets its contract: one row after the other, by the laws of the list of kinds. Assumes nothing.
+use Prim.Native.Nat.{_-_, _≤_}
 use mathlib.Core.Path.{_≡_, refl}
 use native.Mathlib.Omega.{arith}
-use Rattle.numbers.proofs.KindLaws.{row-found, row-passed, rows-over}
-use Prim.Native.Nat.{_-_, _≤_}
-use mathlib.Core.Path.{_≡_}
 use lib.ListN.{drop}
+use Rattle.numbers.proofs.KindLaws.{row-found, row-passed, rows-over}
 use Rattle.numbers.specs.Kinds.{byRow, kindIn, kindOf}
 use borrow.Author.Needs.{needs}
 use Rattle.numbers.proofs.kind_of.Statement.{statement}
 use Rattle.numbers.proofs.kind_of.Tie as tie
-use Rattle.numbers.proofs.kind_of.Reads as reads
-use Rattle.numbers.proofs.kind_of.Lts as lts
-use Rattle.numbers.proofs.is_code.Reads as is-code-reads
 
 abbrev Inv-loop : tie.InvT-loop
 Inv-loop a b row₀ row = (row ≤ 7) × (kindIn (drop row byRow) a b ≡ kindOf a b)

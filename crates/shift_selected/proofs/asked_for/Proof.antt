@@ -1,14 +1,13 @@
+-- `shift_selected::asked_for` meets its contract: what stands at the entry's slot, 0 past the last. Assumes nothing.
+use mathlib.Core.Path.{refl, _≡_, sym}
+use native.Mathlib.Omega.{arith}
 use lib.Dec.{leb}
+use lib.ListN.{length, List·getD-eq-default}
 use borrow.Author.Tests.{leb-true}
-use mathlib.Core.Path.{refl}
 use Rattle.numbers.specs.Kinds.{orderOf, unitKinds}
 use Rattle.numbers.proofs.KindLaws.{all-kinds}
--- `shift_selected::asked_for` meets its contract: what stands at the entry's slot, 0 past the last. Assumes nothing.
-use native.Mathlib.Omega.{arith}
-use lib.ListN.{length, List·getD-eq-default}
 use Rattle.cards_request.specs.Requests.{counts}
 use Rattle.shift_selected.specs.Selected.{asked}
-use mathlib.Core.Path.{_≡_, sym}
 use borrow.Author.Needs.{needs}
 use Rattle.shift_selected.proofs.asked_for.Statement.{statement}
 use Rattle.shift_selected.proofs.asked_for.Tie as tie

@@ -16,9 +16,6 @@ use Rattle.shift_selected.specs.Selected.{kindText, kindsText}
 use borrow.Author.Needs.{needs}
 use Rattle.shift_selected.proofs.put_kinds.Statement.{statement}
 use Rattle.shift_selected.proofs.put_kinds.Tie as tie
-use Rattle.shift_selected.proofs.put_kinds.Reads as reads
-use Rattle.shift_selected.proofs.put_kinds.Lts as lts
-use Rattle.shift_selected.proofs.put_kind.Reads as put-kind-reads
 
 abbrev Inv-loop : tie.InvT-loop
 Inv-loop out₀ at units channels heads next₀ order₀ out next order = (order ≤ unitKinds) × Going out₀ at (kindsText units channels heads) out next (eachFrom (λ i. kindText units channels heads (kindAt i)) (unitKinds - order) order)

@@ -7,9 +7,6 @@ use Rattle.cards_writing.proofs.PutLaws.{no-code}
 use borrow.Author.Needs.{needs}
 use Rattle.cards_writing.proofs.put.put_code.Statement.{statement}
 use Rattle.cards_writing.proofs.put.put_code.Tie as tie
-use Rattle.cards_writing.proofs.put.put_code.Reads as reads
-use Rattle.cards_writing.proofs.put.put_code.Lts as lts
-use Rattle.text.proofs.put_bytes.Reads as put-bytes-reads
 
 returns : tie.Need-returns
 returns c = rw (no-code (c .before .before .args .code) (c .if1 .taken)) (none (c .before .before .args .room .now) (c .before .before .args .at))
