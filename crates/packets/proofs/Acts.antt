@@ -12,7 +12,9 @@ use Rattle.packets.proofs.Inv.{Inv}
 use Rattle.packets.proofs.Laws.{and-left, and-right}
 use Rattle.packets.specs.Lone.{Lone, loneStart, loneStep, loneDoes, loneTakes, startBy}
 use Rattle.packets.specs.Picks.{find}
-use Rattle.packets.specs.Rules.{Call, Complete, End, Mark, Return, Start, Submit, Take, accept, answer, siteOf, isWrong, refusal, startable}
+use Rattle.packets.specs.Rules.{Call, Do, Take, accept, answer, isWrong, refusal, siteOf, startable}
+use Rattle.packets.proofs.ByNumber.{Complete, End, Return, Start, Submit}
+use Rattle.packets.specs.declared.Act.the-variants as Act′
 use Rattle.packets.proofs.Sim.{Sim}
 use Rattle.packets.proofs.SimEnd.{sim-assign-away, sim-complete, sim-complete-away, sim-end, sim-end-away, sim-mark, takes-complete, takes-end}
 use Rattle.packets.proofs.SimStart.{on-channel, same-start, sim-start, sim-start-away, takes-start}
@@ -38,12 +40,12 @@ answersThere h s c (Refused n) = false
 
 unfoldable pub actsNow : Holding → State → Call → Bool
 actsNow h s (Take j asg) = false
-actsNow h s (Submit j p f c w) = eqb j (h .place) && isThere h c (siteOf w)
-actsNow h s (Start c) = answersThere h s c (answer s (Start c))
-actsNow h s (Complete c how) = answersThere h s c (answer s (Complete c how))
-actsNow h s (End j e) = eqb j (h .place)
-actsNow h s (Return j c u) = eqb j (h .place) && isThere h c (unitSite u)
-actsNow h s (Mark c u m on) = false
+actsNow h s (Do (Act′.Submit j p f c w)) = eqb j (h .place) && isThere h (c .0) (siteOf w)
+actsNow h s (Do (Act′.Start c)) = answersThere h s (c .0) (answer s (Start (c .0)))
+actsNow h s (Do (Act′.Complete c how)) = answersThere h s (c .0) (answer s (Complete (c .0) how))
+actsNow h s (Do (Act′.End j e)) = eqb j (h .place)
+actsNow h s (Do (Act′.Return j c u)) = eqb j (h .place) && isThere h (c .0) (unitSite (u .0))
+actsNow h s (Do (Act′.Mark c u m on)) = false
 
 -- the call acts on the holding, and the lone unit takes it and makes the same step and the same start; or it
 -- doesn't, and the lone unit stands still
@@ -66,63 +68,63 @@ acted-by h s l x t sim start =
 pub sim-acts : (h : Holding) (s : State) → Inv s → Holds s h → (l : Lone) → Sim h s l → (x : Call) → refusal s x ≡ Granted → actsNow h s x ≡ true → Acted h s l x
 unfolding accept actsNow answersThere answer startBy loneDoes loneTakes
 sim-acts h s I H l S (Take j asg) r t = never {b = false} t refl
-sim-acts h s I H l S (Submit j p f c w) r t =
-    let k = submits s j p f c w r in
+sim-acts h s I H l S (Do (Act′.Submit j p f c w)) r t =
+    let k = submits s j p f (c .0) w r in
     let at-j : h .place ≡ j = sym (eqb-true j (h .place) (and-left (eqb j (h .place)) _ t)) in
-    let there-it-goes : isThere h c (siteOf w) ≡ true = and-right (eqb j (h .place)) _ t in
-    acted-by h s l (Submit j p f c w)
-    (takes-submit h s I H l S j p f c w k at-j there-it-goes)
-    (sim-submit h s I H l S j p f c w k at-j there-it-goes)
+    let there-it-goes : isThere h (c .0) (siteOf w) ≡ true = and-right (eqb j (h .place)) _ t in
+    acted-by h s l (Submit j p f (c .0) w)
+    (takes-submit h s I H l S j p f (c .0) w k at-j there-it-goes)
+    (sim-submit h s I H l S j p f (c .0) w k at-j there-it-goes)
     refl
-sim-acts h s I H l S (Start c) r t =
-    let k = starts-on s c r in
-    let o = find-some (find (startable s c) (s .queue)) (k .2) in
+sim-acts h s I H l S (Do (Act′.Start c)) r t =
+    let k = starts-on s (c .0) r in
+    let o = find-some (find (startable s (c .0)) (s .queue)) (k .2) in
     let e = o .0 in
-    let t′ : eqb (placeOf e) (h .place) && isThere h c (packetIn (s .jobs) (placeOf e) (packetOf e) .at) ≡ true = rw (o .1) at t in
+    let t′ : eqb (placeOf e) (h .place) && isThere h (c .0) (packetIn (s .jobs) (placeOf e) (packetOf e) .at) ≡ true = rw (o .1) at t in
     let at-e : placeOf e ≡ h .place = eqb-true (placeOf e) (h .place) (and-left (eqb (placeOf e) (h .place)) _ t′) in
-    let on-c = on-channel h s I H l S c (k .0) (k .1) e (o .1) in
+    let on-c = on-channel h s I H l S (c .0) (k .0) (k .1) e (o .1) in
     let y : there h (packetIn (s .jobs) (h .place) (packetOf e)) ≡ true = rw (← at-e, on-c) (and-right (eqb (placeOf e) (h .place)) _ t′) in
-    acted-by h s l (Start c)
-    (takes-start h s I H l S c (k .0) (k .1) e (o .1) at-e y)
-    (rw (o .1) (sim-start h s I H l S c (k .0) (k .1) e (o .1) at-e y))
-    (same-start h s I H l S c (k .0) (k .1) e (o .1) at-e y)
-sim-acts h s I H l S (Complete c how) r t =
-    let k = completes-on s c how r in
-    let o = busy-of (motionOn s c) (k .1) in
+    acted-by h s l (Start (c .0))
+    (takes-start h s I H l S (c .0) (k .0) (k .1) e (o .1) at-e y)
+    (rw (o .1) (sim-start h s I H l S (c .0) (k .0) (k .1) e (o .1) at-e y))
+    (same-start h s I H l S (c .0) (k .0) (k .1) e (o .1) at-e y)
+sim-acts h s I H l S (Do (Act′.Complete c how)) r t =
+    let k = completes-on s (c .0) how r in
+    let o = busy-of (motionOn s (c .0)) (k .1) in
     let t′ : eqb (o .0) (h .place) && there h (packetIn (s .jobs) (o .0) (o .1)) ≡ true = rw (o .2) at t in
     let at-j : h .place ≡ o .0 = sym (eqb-true (o .0) (h .place) (and-left (eqb (o .0) (h .place)) _ t′)) in
     let y : there h (packetIn (s .jobs) (o .0) (o .1)) ≡ true = and-right (eqb (o .0) (h .place)) _ t′ in
     let right : isWrong (packetIn (s .jobs) (o .0) (o .1) .status) how ≡ false = rw (o .2) at (k .2) in
-    acted-by h s l (Complete c how)
-    (takes-complete h s I H l S c (k .0) (o .0) (o .1) (o .2) at-j y how right)
-    (rw (o .2) (sim-complete h s I H l S c (k .0) (o .0) (o .1) (o .2) at-j y how))
+    acted-by h s l (Complete (c .0) how)
+    (takes-complete h s I H l S (c .0) (k .0) (o .0) (o .1) (o .2) at-j y how right)
+    (rw (o .2) (sim-complete h s I H l S (c .0) (k .0) (o .0) (o .1) (o .2) at-j y how))
     (rw (o .2))
-sim-acts h s I H l S (End j e) r t =
+sim-acts h s I H l S (Do (Act′.End j e)) r t =
     let at-j : h .place ≡ j = sym (eqb-true j (h .place) t) in
     acted-by h s l (End j e) (takes-end h s I l S j e (ends-of s j e r) at-j) (sim-end h s I l S j e (ends-of s j e r) at-j) refl
-sim-acts h s I H l S (Return j c u) r t =
-    let k = returns-of s j c u r in
+sim-acts h s I H l S (Do (Act′.Return j c u)) r t =
+    let k = returns-of s j (c .0) (u .0) r in
     let at-j : h .place ≡ j = sym (eqb-true j (h .place) (and-left (eqb j (h .place)) _ t)) in
-    let y : isThere h c (unitSite u) ≡ true = and-right (eqb j (h .place)) _ t in
-    acted-by h s l (Return j c u) (takes-return h s I H l S j c u k at-j y) (sim-returns h s I H l S j c u k at-j y) refl
-sim-acts h s I H l S (Mark c u m on) r t = never {b = false} t refl
+    let y : isThere h (c .0) (unitSite (u .0)) ≡ true = and-right (eqb j (h .place)) _ t in
+    acted-by h s l (Return j (c .0) (u .0)) (takes-return h s I H l S j (c .0) (u .0) k at-j y) (sim-returns h s I H l S j (c .0) (u .0) k at-j y) refl
+sim-acts h s I H l S (Do (Act′.Mark c u m on)) r t = never {b = false} t refl
 
 pub sim-away : (h : Holding) (s : State) → Inv s → Holds s h → (l : Lone) → Sim h s l → (x : Call) → refusal s x ≡ Granted → actsNow h s x ≡ false → Sim h (accept s x) l
 unfolding accept actsNow answersThere answer
 sim-away h s I H l S (Take j asg) r t = sim-assign-away h s I H l S j (assigns-to s j asg r .0) (assigns-to s j asg r .1) asg
-sim-away h s I H l S (Submit j p f c w) r t = sim-submit-away h s I H l S j p f c w (submits s j p f c w r) (rw (eqb-flip j (h .place)) at t)
-sim-away h s I H l S (Start c) r t =
-    let k = starts-on s c r in
-    let o = find-some (find (startable s c) (s .queue)) (k .2) in
+sim-away h s I H l S (Do (Act′.Submit j p f c w)) r t = sim-submit-away h s I H l S j p f (c .0) w (submits s j p f (c .0) w r) (rw (eqb-flip j (h .place)) at t)
+sim-away h s I H l S (Do (Act′.Start c)) r t =
+    let k = starts-on s (c .0) r in
+    let o = find-some (find (startable s (c .0)) (s .queue)) (k .2) in
     let e = o .0 in
-    let t′ : eqb (placeOf e) (h .place) && isThere h c (packetIn (s .jobs) (placeOf e) (packetOf e) .at) ≡ false = rw (o .1) at t in
-    let on-c = on-channel h s I H l S c (k .0) (k .1) e (o .1) in
-    rw (o .1) (sim-start-away h s I H l S c (k .0) (k .1) e (o .1) (rw (eqb-flip (h .place) (placeOf e), on-c) t′))
-sim-away h s I H l S (Complete c how) r t =
-    let k = completes-on s c how r in
-    let o = busy-of (motionOn s c) (k .1) in
+    let t′ : eqb (placeOf e) (h .place) && isThere h (c .0) (packetIn (s .jobs) (placeOf e) (packetOf e) .at) ≡ false = rw (o .1) at t in
+    let on-c = on-channel h s I H l S (c .0) (k .0) (k .1) e (o .1) in
+    rw (o .1) (sim-start-away h s I H l S (c .0) (k .0) (k .1) e (o .1) (rw (eqb-flip (h .place) (placeOf e), on-c) t′))
+sim-away h s I H l S (Do (Act′.Complete c how)) r t =
+    let k = completes-on s (c .0) how r in
+    let o = busy-of (motionOn s (c .0)) (k .1) in
     let t′ : eqb (o .0) (h .place) && there h (packetIn (s .jobs) (o .0) (o .1)) ≡ false = rw (o .2) at t in
-    rw (o .2) (sim-complete-away h s I H l S c (k .0) (o .0) (o .1) (o .2) (rw (eqb-flip (h .place) (o .0)) t′) how)
-sim-away h s I H l S (End j e) r t = sim-end-away h s I l S j e (ends-of s j e r) (rw (eqb-flip (h .place) j) t)
-sim-away h s I H l S (Return j c u) r t = sim-returns-away h s I H l S j c u (returns-of s j c u r) (rw (eqb-flip j (h .place)) at t)
-sim-away h s I H l S (Mark c u m on) r t = sim-mark h s I l S c u m on
+    rw (o .2) (sim-complete-away h s I H l S (c .0) (k .0) (o .0) (o .1) (o .2) (rw (eqb-flip (h .place) (o .0)) t′) how)
+sim-away h s I H l S (Do (Act′.End j e)) r t = sim-end-away h s I l S j e (ends-of s j e r) (rw (eqb-flip (h .place) j) t)
+sim-away h s I H l S (Do (Act′.Return j c u)) r t = sim-returns-away h s I H l S j (c .0) (u .0) (returns-of s j (c .0) (u .0) r) (rw (eqb-flip j (h .place)) at t)
+sim-away h s I H l S (Do (Act′.Mark c u m on)) r t = sim-mark h s I l S (c .0) (u .0) m on

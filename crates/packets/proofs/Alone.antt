@@ -17,7 +17,9 @@ use Rattle.packets.proofs.InvJobs.{held-once, take-held}
 use Rattle.packets.proofs.InvStores.{mark-holder}
 use Rattle.packets.proofs.Laws.{find-holds}
 use Rattle.packets.specs.Picks.{find}
-use Rattle.packets.specs.Rules.{Call, Complete, End, Mark, Return, Start, Submit, Take, accept, always, answer, siteOf, begins, begun, closing, completed, cut, decided, finished, isTrouble, locked, marked, packet, refusal, returnIfDone, startable, started, step, submitted}
+use Rattle.packets.specs.Rules.{Call, Do, Take, accept, always, answer, begins, begun, closing, completed, cut, decided, finished, isTrouble, locked, marked, packet, refusal, returnIfDone, siteOf, startable, started, step, submitted}
+use Rattle.packets.proofs.ByNumber.{Start}
+use Rattle.packets.specs.declared.Act.the-variants as Act′
 use Rattle.packets.proofs.SeenLaws.{SeenOk}
 use Rattle.packets.proofs.There.{is-there, unit-held}
 use Rattle.packets.specs.State.{State, anyMoves, close, heldBy, isBusy, isClosing, isUnit, motionOn, packetIn, packetOf, placeOf, stateIn, sweep}
@@ -72,24 +74,24 @@ unfolding accept
 accept-same s I (Take k asg) r =
     λ c u i j a b. held-once (unitIn (s .units) c u .holder) j i
     (rw (take-held s I k (assigns-to s k asg r .0) (assigns-to s k asg r .1) asg c u i a) at b) a
-accept-same s I (Submit k p f c w) r = same-kept s (submitted s k p f c w) (submit-keeps s k p f c w)
-accept-same s I (Start c) r = go (find (startable s c) (s .queue))
+accept-same s I (Do (Act′.Submit k p f c w)) r = same-kept s (submitted s k p f (c .0) w) (submit-keeps s k p f (c .0) w)
+accept-same s I (Do (Act′.Start c)) r = go (find (startable s (c .0)) (s .queue))
   where
-    go : (o : Option ℕ) → Same s (started s c o)
-    go none = same-kept s s (λ c u. refl)
-    go (some e) = same-kept s (begun s c e) (λ c u. refl)
-accept-same s I (Complete c how) r = go (motionOn s c)
+    go : (o : Option ℕ) → Same s (started s (c .0) o)
+    go none = same-kept s s (λ d u. refl)
+    go (some e) = same-kept s (begun s (c .0) e) (λ d u. refl)
+accept-same s I (Do (Act′.Complete c how)) r = go (motionOn s (c .0))
   where
-    go : (m : Motion) → Same s (completed s c how m)
-    go Idle = same-kept s s (λ c u. refl)
+    go : (m : Motion) → Same s (completed s (c .0) how m)
+    go Idle = same-kept s s (λ d u. refl)
     go (Busy j p) =
-        λ d u i k a b. return-keeps s (finished s c how j p) j (finish-keeps s c how j p) d u i k a
-        (back-held (returnIfDone j (finished s c how j p) .units) c (packetIn (s .jobs) j p .at) d u k b)
-accept-same s I (End k e) r = return-keeps s (close (sweep s k always cut) k (closing e)) k (λ c u. refl)
-accept-same s I (Return k c u) r =
-    λ d w i j a b. held-once (unitIn (s .units) d w .holder) j i (handed-held s I k c u (returns-of s k c u r) d w j b) a
-accept-same s I (Mark c u m on) r =
-    same-kept s (marked s c u m on) (λ e w. unit-keep (λ (v : UnitState). v .holder) (s .units) c u (markedUnit m on (unitIn (s .units) c u)) e w (mark-holder m on (unitIn (s .units) c u)))
+        λ d u i k a b. return-keeps s (finished s (c .0) how j p) j (finish-keeps s (c .0) how j p) d u i k a
+        (back-held (returnIfDone j (finished s (c .0) how j p) .units) (c .0) (packetIn (s .jobs) j p .at) d u k b)
+accept-same s I (Do (Act′.End k e)) r = return-keeps s (close (sweep s k always cut) k (closing e)) k (λ c u. refl)
+accept-same s I (Do (Act′.Return k c u)) r =
+    λ d w i j a b. held-once (unitIn (s .units) d w .holder) j i (handed-held s I k (c .0) (u .0) (returns-of s k (c .0) (u .0) r) d w j b) a
+accept-same s I (Do (Act′.Mark c u m on)) r =
+    same-kept s (marked s (c .0) (u .0) m on) (λ e w. unit-keep (λ (v : UnitState). v .holder) (s .units) (c .0) (u .0) (markedUnit m on (unitIn (s .units) (c .0) (u .0))) e w (mark-holder m on (unitIn (s .units) (c .0) (u .0))))
 
 pub step-same : (s : State) → Inv s → (x : Call) → Same s (step s x .state)
 unfolding step

@@ -17,7 +17,8 @@ use Rattle.packets.specs.Demand.{emptyPlace, fresh}
 use Rattle.packets.proofs.Inv.{Inv, running-alive}
 use Rattle.packets.proofs.Laws.{and-left, eqb-self, getD-set-keep}
 use Rattle.packets.specs.Picks.{find}
-use Rattle.packets.specs.Rules.{Call, Complete, End, Mark, Return, Start, Submit, Take, accept, aimed, always, assigned, siteOf, isAt, begun, broken, closed, closing, codeFor, cut, decided, ended, enlist, failed, finished, freshJob, freeIfReturning, handedBack, inArea, isDone, isTrouble, locked, marked, over, packet, refusal, returnIfDone, returned, run, startable, started, step, submitted}
+use Rattle.packets.specs.Rules.{Call, Do, Take, accept, aimed, always, assigned, begun, broken, closed, closing, codeFor, cut, decided, ended, enlist, failed, finished, freeIfReturning, freshJob, handedBack, inArea, isAt, isDone, isTrouble, locked, marked, over, packet, refusal, returnIfDone, returned, run, siteOf, startable, started, step, submitted}
+use Rattle.packets.specs.declared.Act.the-variants as Act′
 use Rattle.packets.specs.State.{State, isClosing, isEmpty, isUnit, jobIn, lock, motionOn, move, noJob, packetIn, packetOf, placeOf, put, restatus, restatusAll, setState, stateIn, store, sweep, withPackets, withState, withStatus}
 use Rattle.packets.proofs.Steps.{busy-of, closing-alive, closing-not-running, fresh-inv, fresh-state, step-inv}
 use Rattle.packets.proofs.Store.{alive-in, state-fresh, state-put, state-restatus, state-state}
@@ -132,21 +133,21 @@ module _ (part : Part) (L : Lasting part) where
   accept-apart : (s : State) → Inv s → Apart part s → (x : Call) → refusal s x ≡ Granted → Fits part s x → Apart part (accept s x)
   unfolding accept
   accept-apart s I A (Take j asg) r f = apart-taken s j asg (rw (I .places) (assigns-to s j asg r .0)) f A
-  accept-apart s I A (Submit j p f c w) r k = apart-same s (submitted s j p f c w) (same-submit s j p f c w) A
-  accept-apart s I A (Start c) r k = go (find (startable s c) (s .queue))
+  accept-apart s I A (Do (Act′.Submit j p f c w)) r k = apart-same s (submitted s j p f (c .0) w) (same-submit s j p f (c .0) w) A
+  accept-apart s I A (Do (Act′.Start c)) r k = go (find (startable s (c .0)) (s .queue))
     where
-      go : (o : Option ℕ) → Apart part (started s c o)
+      go : (o : Option ℕ) → Apart part (started s (c .0) o)
       go none = A
       go (some e) =
-          apart-same s (begun s c e)
-          (same-trans (same-store s (placeOf e) (packetOf e) (withStatus (packetIn (s .jobs) (placeOf e) (packetOf e)) InProgress)) (same-jobs _ (begun s c e) refl)) A
-  accept-apart s I A (Complete c how) r k =
-      let m = completes-on s c how r in
-      let o = busy-of (motionOn s c) (m .1) in
-      let s₁ = finished s c how (o .0) (o .1) in
+          apart-same s (begun s (c .0) e)
+          (same-trans (same-store s (placeOf e) (packetOf e) (withStatus (packetIn (s .jobs) (placeOf e) (packetOf e)) InProgress)) (same-jobs _ (begun s (c .0) e) refl)) A
+  accept-apart s I A (Do (Act′.Complete c how)) r k =
+      let m = completes-on s (c .0) how r in
+      let o = busy-of (motionOn s (c .0)) (m .1) in
+      let s₁ = finished s (c .0) how (o .0) (o .1) in
       let s₂ = returnIfDone (o .0) s₁ in
-      let s₃ = freeIfReturning s₂ c (packetIn (s .jobs) (o .0) (o .1) .at) in
-      rw (o .2) (apart-same s s₃ (same-trans (same-finished s c how (o .0) (o .1)) (same-trans (return-if s₁ (o .0)) (same-jobs s₂ s₃ refl))) A)
+      let s₃ = freeIfReturning s₂ (c .0) (packetIn (s .jobs) (o .0) (o .1) .at) in
+      rw (o .2) (apart-same s s₃ (same-trans (same-finished s (c .0) how (o .0) (o .1)) (same-trans (return-if s₁ (o .0)) (same-jobs s₂ s₃ refl))) A)
     where
       return-if : (s₁ : State) (j : ℕ) → Held-on s₁ (returnIfDone j s₁)
       return-if s₁ j =
@@ -154,18 +155,18 @@ module _ (part : Part) (L : Lasting part) where
           (λ e. let a = closing-not-running (stateIn (s₁ .jobs) j) (and-left (isClosing (stateIn (s₁ .jobs) j)) _ e) .1 in
           rw e (same-state s₁ (returned s₁ j) j Empty refl (alive-in (s₁ .jobs) j a) a))
           (λ e. rw e (same-refl s₁))
-  accept-apart s I A (End j e) r k =
+  accept-apart s I A (Do (Act′.End j e)) r k =
       let a = running-alive (stateIn (s .jobs) j) (ends-of s j e r) in
       let s₁ = sweep s j always cut in
       let a₁ : isEmpty (stateIn (s₁ .jobs) j) ≡ false = rw (state-restatus (s .jobs) j always cut j) a in
       let h₁ = alive-in (s₁ .jobs) j a₁ in
       let a₂ : isEmpty (stateIn (closed s j e .jobs) j) ≡ false = rw (state-state (s₁ .jobs) j (closing e) j h₁, eqb-self j) (closing-alive e) in
       apart-same s (ended s j e) (same-trans (same-sweep s j always cut) (same-trans (same-state s₁ (closed s j e) j (closing e) refl h₁ a₁) (same-return (closed s j e) j a₂))) A
-  accept-apart s I A (Return j c u) r k =
-      let s₁ = sweep s j (isAt c (AtUnit (record { 0 = u }))) cut in
-      let s₂ = handedBack s j c (AtUnit (record { 0 = u })) in
-      apart-same s s₂ (same-trans (same-sweep s j (isAt c (AtUnit (record { 0 = u }))) cut) (same-jobs s₁ s₂ refl)) A
-  accept-apart s I A (Mark c u m on) r k = apart-same s (marked s c u m on) (same-jobs s (marked s c u m on) refl) A
+  accept-apart s I A (Do (Act′.Return j c u)) r k =
+      let s₁ = sweep s j (isAt (c .0) (AtUnit (record { 0 = (u .0) }))) cut in
+      let s₂ = handedBack s j (c .0) (AtUnit (record { 0 = (u .0) })) in
+      apart-same s s₂ (same-trans (same-sweep s j (isAt (c .0) (AtUnit (record { 0 = (u .0) }))) cut) (same-jobs s₁ s₂ refl)) A
+  accept-apart s I A (Do (Act′.Mark c u m on)) r k = apart-same s (marked s (c .0) (u .0) m on) (same-jobs s (marked s (c .0) (u .0) m on) refl) A
 
   step-apart : (s : State) → Inv s → Apart part s → (x : Call) → Fits part s x → Apart part (step s x .state)
   unfolding step

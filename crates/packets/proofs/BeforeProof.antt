@@ -16,7 +16,8 @@ use Rattle.channels.specs.Channels.{setsInterlock}
 use Rattle.functions.proofs.Entries.{at, every}
 use Rattle.packets.specs.Before.{AllListed, AsBefore, OnlyCompletions, all60, completedBefore, completesBefore, isCompletion, isFailure, withCodes}
 use Rattle.packets.specs.Picks.{find}
-use Rattle.packets.specs.Rules.{Call, Complete, End, Mark, Return, Start, Submit, Take, accept, answer, begins, closed, completed, completes, first, isDone, isTrouble, isWrong, locked, movesAt, refusal, siteOf, startable, started, submitted}
+use Rattle.packets.specs.Rules.{Call, Do, Take, accept, answer, begins, closed, completed, completes, first, isDone, isTrouble, isWrong, locked, movesAt, refusal, siteOf, startable, started, submitted}
+use Rattle.packets.specs.declared.Act.the-variants as Act′
 use Rattle.packets.specs.State.{State, configured, isIdle, motionOn, movingStatus}
 use Rattle.packets.specs.declared.How.{How}
 use Rattle.packets.specs.declared.How.the-variants.{Cut, Failed, Full}
@@ -49,14 +50,14 @@ a-failure codes all t (Failed k) e =
 pub as-before : AsBefore
 unfolding accept answer
 as-before s all c how r =
-    let e = a-failure (s .codes) all (movingStatus s (motionOn s c)) how (completes-on s c how r .2) in
-    (completed-same e (motionOn s c), completes-same e (motionOn s c))
+    let e = a-failure (s .codes) all (movingStatus s (motionOn s (c .0))) how (completes-on s (c .0) how r .2) in
+    (completed-same e (motionOn s (c .0)), completes-same e (motionOn s (c .0)))
   where
-    completed-same : isTrouble (s .codes) how ≡ isFailure how → (m : Motion) → completed s c how m ≡ completedBefore s c how m
+    completed-same : isTrouble (s .codes) how ≡ isFailure how → (m : Motion) → completed s (c .0) how m ≡ completedBefore s (c .0) how m
     completed-same e Idle = refl
     completed-same e (Busy j p) = rw e
 
-    completes-same : isTrouble (s .codes) how ≡ isFailure how → (m : Motion) → completes s c how m ≡ completesBefore s c how m
+    completes-same : isTrouble (s .codes) how ≡ isFailure how → (m : Motion) → completes s (c .0) how m ≡ completesBefore s (c .0) how m
     completes-same e Idle = refl
     completes-same e (Busy j p) = rw e
 
@@ -66,17 +67,17 @@ module _ (codes : ℕ) (s : State) where
   no-refusal : (x : Call) → refusal (withCodes codes s) x ≡ refusal s x
   unfolding refusal
   no-refusal (Take j asg) = refl
-  no-refusal (Submit j p f c w) = refl
-  no-refusal (Start c) = refl
-  no-refusal (Complete c how) = by-motion (motionOn s c)
+  no-refusal (Do (Act′.Submit j p f c w)) = refl
+  no-refusal (Do (Act′.Start c)) = refl
+  no-refusal (Do (Act′.Complete c how)) = by-motion (motionOn s (c .0))
     where
-      by-motion : (m : Motion) → first (not (configured (s .channels) c)) OutOfRange (first (isIdle m) NothingInProgress (first (isWrong (movingStatus (withCodes codes s) m) how) WrongCompletion Granted))
-          ≡ first (not (configured (s .channels) c)) OutOfRange (first (isIdle m) NothingInProgress (first (isWrong (movingStatus s m) how) WrongCompletion Granted))
+      by-motion : (m : Motion) → first (not (configured (s .channels) (c .0))) OutOfRange (first (isIdle m) NothingInProgress (first (isWrong (movingStatus (withCodes codes s) m) how) WrongCompletion Granted))
+          ≡ first (not (configured (s .channels) (c .0))) OutOfRange (first (isIdle m) NothingInProgress (first (isWrong (movingStatus s m) how) WrongCompletion Granted))
       by-motion Idle = refl
       by-motion (Busy j p) = refl
-  no-refusal (End j e) = refl
-  no-refusal (Return j c u) = refl
-  no-refusal (Mark c u m on) = refl
+  no-refusal (Do (Act′.End j e)) = refl
+  no-refusal (Do (Act′.Return j c u)) = refl
+  no-refusal (Do (Act′.Mark c u m on)) = refl
 
   submits-so : (j p f c : ℕ) (w : Spot) → submitted (withCodes codes s) j p f c w ≡ withCodes codes (submitted s j p f c w)
   submits-so j p f c w =
@@ -94,22 +95,22 @@ module _ (codes : ℕ) (s : State) where
   leaves-so : (x : Call) → isCompletion x ≡ false → accept (withCodes codes s) x ≡ withCodes codes (accept s x)
   unfolding accept
   leaves-so (Take j asg) n = refl
-  leaves-so (Submit j p f c w) n = submits-so j p f c w
-  leaves-so (Start c) n = starts-so c (find (startable s c) (s .queue)) .0
-  leaves-so (Complete c how) n = never {b = true} refl n
-  leaves-so (End j e) n = by-bool (isDone (closed s j e) j) (λ d. rw d) (λ d. rw d)
-  leaves-so (Return j c u) n = rw (moves-so j c (AtUnit (record { 0 = u })) (motionOn s c))
-  leaves-so (Mark c u m on) n = refl
+  leaves-so (Do (Act′.Submit j p f c w)) n = submits-so j p f (c .0) w
+  leaves-so (Do (Act′.Start c)) n = starts-so (c .0) (find (startable s (c .0)) (s .queue)) .0
+  leaves-so (Do (Act′.Complete c how)) n = never {b = true} refl n
+  leaves-so (Do (Act′.End j e)) n = by-bool (isDone (closed s j e) j) (λ d. rw d) (λ d. rw d)
+  leaves-so (Do (Act′.Return j c u)) n = rw (moves-so j (c .0) (AtUnit (record { 0 = (u .0) })) (motionOn s (c .0)))
+  leaves-so (Do (Act′.Mark c u m on)) n = refl
 
   answers-so : (x : Call) → isCompletion x ≡ false → answer (withCodes codes s) x ≡ answer s x
   unfolding answer
   answers-so (Take j asg) n = refl
-  answers-so (Submit j p f c w) n = refl
-  answers-so (Start c) n = starts-so c (find (startable s c) (s .queue)) .1
-  answers-so (Complete c how) n = never {b = true} refl n
-  answers-so (End j e) n = refl
-  answers-so (Return j c u) n = refl
-  answers-so (Mark c u m on) n = refl
+  answers-so (Do (Act′.Submit j p f c w)) n = refl
+  answers-so (Do (Act′.Start c)) n = starts-so (c .0) (find (startable s (c .0)) (s .queue)) .1
+  answers-so (Do (Act′.Complete c how)) n = never {b = true} refl n
+  answers-so (Do (Act′.End j e)) n = refl
+  answers-so (Do (Act′.Return j c u)) n = refl
+  answers-so (Do (Act′.Mark c u m on)) n = refl
 
 pub only-completions : OnlyCompletions
 only-completions = record { refusals = no-refusal; leaves = leaves-so; answers = answers-so }

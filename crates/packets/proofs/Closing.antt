@@ -18,7 +18,9 @@ use Rattle.packets.specs.Demand.{emptyPlace, fresh}
 use Rattle.packets.proofs.Inv.{EntryOk, Inv}
 use Rattle.packets.proofs.Laws.{eqb-self, find-holds}
 use Rattle.packets.specs.Picks.{any, find}
-use Rattle.packets.specs.Rules.{Call, Complete, End, Mark, Return, Start, Submit, Take, accept, isAt, closed, closing, completed, cut, decided, failed, finished, freeIfReturning, isDone, isTrouble, refusal, returnIfDone, returned, run, startable, started, step}
+use Rattle.packets.specs.Rules.{Call, Do, Take, accept, closed, closing, completed, cut, decided, failed, finished, freeIfReturning, isAt, isDone, isTrouble, refusal, returnIfDone, returned, run, startable, started, step}
+use Rattle.packets.proofs.ByNumber.{Complete, End, Mark, Return, Start, Submit}
+use Rattle.packets.specs.declared.Act.the-variants as Act′
 use Rattle.packets.specs.State.{State, anyMoves, carrying, inMotion, isClosing, isPacket, isRunning, isUnit, motionOn, moves, packetIn, placeOf, stateIn}
 use Rattle.packets.proofs.States.{states-begun, states-closed, states-finished, states-handed, states-returned, states-submit}
 use Rattle.packets.proofs.Steps.{busy-of, closing-not-running, ending-inv, find-some, finished-inv, fresh-state, step-inv}
@@ -129,33 +131,33 @@ accept-halts s I H (Take j asg) r i c =
     by-bool (eqb i j)
     (λ d. let b : isClosing (cond (eqb i j) Running (stateIn (s .jobs) i)) ≡ true = rw e at c in never {b = false} (rw d at b) refl)
     (λ d. elsewhere s I H (Take j asg) r i (e ∙ rw d) (λ n. rw d) c)
-accept-halts s I H (Submit j p f g w) r i c =
-    let e = states-submit s j p f g w i in
+accept-halts s I H (Do (Act′.Submit j p f g w)) r i c =
+    let e = states-submit s j p f (g .0) w i in
     by-bool (eqb i j)
-    (λ d. absurd (running-closing (stateIn (s .jobs) j) (submits s j p f g w r .running) (rw (eqb-true i j d) at (sym (ap isClosing e) ∙ c))))
-    (λ d. elsewhere s I H (Submit j p f g w) r i e (λ n. rw d) c)
-accept-halts s I H (Start g) r i c =
-    let k = starts-on s g r in
-    let o = find-some (find (startable s g) (s .queue)) (k .2) in
-    let q = find-holds (EntryOk s) (startable s g) (s .queue) (o .0) (I .queued) (o .1) .0 in
-    let e : stateIn (started s g (find (startable s g) (s .queue)) .jobs) i ≡ stateIn (s .jobs) i = rw (o .1) (states-begun s g (o .0) i) in
+    (λ d. absurd (running-closing (stateIn (s .jobs) j) (submits s j p f (g .0) w r .running) (rw (eqb-true i j d) at (sym (ap isClosing e) ∙ c))))
+    (λ d. elsewhere s I H (Submit j p f (g .0) w) r i e (λ n. rw d) c)
+accept-halts s I H (Do (Act′.Start g)) r i c =
+    let k = starts-on s (g .0) r in
+    let o = find-some (find (startable s (g .0)) (s .queue)) (k .2) in
+    let q = find-holds (EntryOk s) (startable s (g .0)) (s .queue) (o .0) (I .queued) (o .1) .0 in
+    let e : stateIn (started s (g .0) (find (startable s (g .0)) (s .queue)) .jobs) i ≡ stateIn (s .jobs) i = rw (o .1) (states-begun s (g .0) (o .0) i) in
     by-bool (eqb i (placeOf (o .0)))
     (λ d. absurd (running-closing (stateIn (s .jobs) (placeOf (o .0))) (q .running) (rw (eqb-true i (placeOf (o .0)) d) at (sym (ap isClosing e) ∙ c))))
-    (λ d. elsewhere s I H (Start g) r i e (λ n. rw (o .1, d)) c)
-accept-halts s I H (Complete g how) r i c =
-    let k = completes-on s g how r in
-    let o = busy-of (motionOn s g) (k .1) in
+    (λ d. elsewhere s I H (Start (g .0)) r i e (λ n. rw (o .1, d)) c)
+accept-halts s I H (Do (Act′.Complete g how)) r i c =
+    let k = completes-on s (g .0) how r in
+    let o = busy-of (motionOn s (g .0)) (k .1) in
     let j = o .0 in
     let p = o .1 in
-    let s₁ = finished s g how j p in
+    let s₁ = finished s (g .0) how j p in
     by-bool (eqb i j)
     (λ d. let same : i ≡ j = eqb-true i j d in
     let c′ : isClosing (stateIn (returnIfDone j s₁ .jobs) j) ≡ true = rw (o .2, same) at c in
     rw (o .2, same)
-    (same-halts (returnIfDone j s₁) (freeIfReturning (returnIfDone j s₁) g (packetIn (s .jobs) j p .at)) j (λ n. refl)
-    (returns s₁ (finished-inv s I g (k .0) j p (o .2) how) j (λ n x. moved g how j p (k .0) (o .2) n (sym (ap isClosing (states-finished s g how j p j)) ∙ x)) c′)))
-    (λ d. let e : stateIn (completed s g how (motionOn s g) .jobs) i ≡ stateIn (s .jobs) i = rw (o .2) (returns-other s₁ j i d ∙ states-finished s g how j p i) in
-    elsewhere s I H (Complete g how) r i e (λ n. rw (o .2, d)) c)
+    (same-halts (returnIfDone j s₁) (freeIfReturning (returnIfDone j s₁) (g .0) (packetIn (s .jobs) j p .at)) j (λ n. refl)
+    (returns s₁ (finished-inv s I (g .0) (k .0) j p (o .2) how) j (λ n x. moved (g .0) how j p (k .0) (o .2) n (sym (ap isClosing (states-finished s (g .0) how j p j)) ∙ x)) c′)))
+    (λ d. let e : stateIn (completed s (g .0) how (motionOn s (g .0)) .jobs) i ≡ stateIn (s .jobs) i = rw (o .2) (returns-other s₁ j i d ∙ states-finished s (g .0) how j p i) in
+    elsewhere s I H (Complete (g .0) how) r i e (λ n. rw (o .2, d)) c)
   where
     -- what of the job still moves is as it was
     moved : (g : ℕ) (how : How) (j p : ℕ) → g < 16 → motionOn s g ≡ Busy j p → (n : ℕ) → isClosing (stateIn (s .jobs) j) ≡ true
@@ -172,7 +174,7 @@ accept-halts s I H (Complete g how) r i c =
             let z = f ∙ failed-halts (statusIn s j n) (sym (ap inMotion f) ∙ e) in
             z ∙ H j x .all n (sym (ap inMotion z) ∙ e)
         go false false e = H j x .all n e
-accept-halts s I H (End j b) r i c =
+accept-halts s I H (Do (Act′.End j b)) r i c =
     by-bool (eqb i j)
     (λ d. let same : i ≡ j = eqb-true i j d in
     let c′ : isClosing (stateIn (returnIfDone j (closed s j b) .jobs) j) ≡ true = rw same at c in
@@ -186,12 +188,12 @@ accept-halts s I H (End j b) r i c =
     cut-all n x m =
         let a : statusIn (closed s j b) j n ≡ cut (statusIn s j n) = closed-status s j b (ends-of s j b r) j n ∙ rw (eqb-self j) in
         a ∙ cut-halts (statusIn s j n) (sym (ap inMotion a) ∙ m)
-accept-halts s I H (Return j g u) r i c =
-    let e = states-handed s j g (unitSite u) i in
+accept-halts s I H (Do (Act′.Return j g u)) r i c =
+    let e = states-handed s j (g .0) (unitSite (u .0)) i in
     by-bool (eqb i j)
-    (λ d. absurd (running-closing (stateIn (s .jobs) j) (returns-of s j g u r .running) (rw (eqb-true i j d) at (sym (ap isClosing e) ∙ c))))
-    (λ d. elsewhere s I H (Return j g u) r i e (λ n. rw d) c)
-accept-halts s I H (Mark g u m on) r i c = elsewhere s I H (Mark g u m on) r i refl (λ n. refl) c
+    (λ d. absurd (running-closing (stateIn (s .jobs) j) (returns-of s j (g .0) (u .0) r .running) (rw (eqb-true i j d) at (sym (ap isClosing e) ∙ c))))
+    (λ d. elsewhere s I H (Return j (g .0) (u .0)) r i e (λ n. rw d) c)
+accept-halts s I H (Do (Act′.Mark g u m on)) r i c = elsewhere s I H (Mark (g .0) (u .0) m on) r i refl (λ n. refl) c
 
 step-halts : (s : State) → Inv s → Halts s → (x : Call) → Halts (step s x .state)
 unfolding step

@@ -13,7 +13,8 @@ use Rattle.packets.proofs.InvStores.{sweep-inv}
 use Rattle.packets.proofs.Laws.{and-left, and-right, find-holds}
 use Rattle.packets.specs.Lone.{endsWith, stops}
 use Rattle.packets.specs.Picks.{find}
-use Rattle.packets.specs.Rules.{Call, Complete, End, Mark, Return, Start, Submit, Take, accept, aimed, always, siteOf, isAt, closed, closing, codeFor, cut, decided, failed, finished, isDone, isTrouble, locked, over, packet, refusal, returnIfDone, run, startable, step, submitted}
+use Rattle.packets.specs.Rules.{Call, Do, Take, accept, aimed, always, closed, closing, codeFor, cut, decided, failed, finished, isAt, isDone, isTrouble, locked, over, packet, refusal, returnIfDone, run, siteOf, startable, step, submitted}
+use Rattle.packets.specs.declared.Act.the-variants as Act′
 use Rattle.packets.specs.State.{isPacket, State, isRunning, isUnit, motionOn, packetIn, packetOf, placeOf, put, restatusAll, stateIn, sweep, withStatus}
 use Rattle.packets.proofs.SimSubmit.{cut-stops, failed-ends}
 use Rattle.packets.proofs.Steps.{Ready, busy-of, find-some, fresh-inv, over-fits, over-inside, ready-fits, ready-inside, ready-sweep, run-inv, start-fits, startable-on}
@@ -117,24 +118,24 @@ pub status-after : (s : State) → Inv s → (x : Call) → refusal s x ≡ Gran
 unfolding accept statusAfter
 status-after s I (Take j asg) r i n =
     rw (packet-fresh (s .jobs) j asg i (rw (I .places) (assigns-to s j asg r .0)) n) (by-bool (eqb i j) (λ e. rw e) (λ e. rw e))
-status-after s I (Submit j p f c w) r i n = submit-status s I j p f c w (submits s j p f c w r) i n
-status-after s I (Start c) r i n =
-    let k = starts-on s c r in
-    let o = find-some (find (startable s c) (s .queue)) (k .2) in
+status-after s I (Do (Act′.Submit j p f c w)) r i n = submit-status s I j p f (c .0) w (submits s j p f (c .0) w r) i n
+status-after s I (Do (Act′.Start c)) r i n =
+    let k = starts-on s (c .0) r in
+    let o = find-some (find (startable s (c .0)) (s .queue)) (k .2) in
     let e = o .0 in
-    let z = find-holds (EntryOk s) (startable s c) (s .queue) e (I .queued) (o .1) in
+    let z = find-holds (EntryOk s) (startable s (c .0)) (s .queue) e (I .queued) (o .1) in
     rw (o .1)
     (stored-status s (placeOf e) (packetOf e) (withStatus (packetIn (s .jobs) (placeOf e) (packetOf e)) InProgress)
-    (start-fits s I c (k .0) e (z .0) (startable-on s c e (z .1))) i n)
-status-after s I (Complete c how) r i n =
-    let k = completes-on s c how r in
-    let o = busy-of (motionOn s c) (k .1) in
-    rw (o .2) (returned-status (finished s c how (o .0) (o .1)) (o .0) i n ∙ finished-status s I c (k .0) how (o .0) (o .1) (o .2) i n)
-status-after s I (End j e) r i n =
+    (start-fits s I (c .0) (k .0) e (z .0) (startable-on s (c .0) e (z .1))) i n)
+status-after s I (Do (Act′.Complete c how)) r i n =
+    let k = completes-on s (c .0) how r in
+    let o = busy-of (motionOn s (c .0)) (k .1) in
+    rw (o .2) (returned-status (finished s (c .0) how (o .0) (o .1)) (o .0) i n ∙ finished-status s I (c .0) (k .0) how (o .0) (o .1) (o .2) i n)
+status-after s I (Do (Act′.End j e)) r i n =
     returned-status (closed s j e) j i n ∙ closed-status s j e (ends-of s j e r) i n ∙ rw (cut-stops (packetIn (s .jobs) i n .status))
-status-after s I (Return j c u) r i n =
-    swept-status s j (isAt c (unitSite u)) cut (λ x. stops (endsWith 0o16 x)) cut-stops (returns-inside s I j c u (returns-of s j c u r)) refl i n
-status-after s I (Mark c u m on) r i n = refl
+status-after s I (Do (Act′.Return j c u)) r i n =
+    swept-status s j (isAt (c .0) (unitSite (u .0))) cut (λ x. stops (endsWith 0o16 x)) cut-stops (returns-inside s I j (c .0) (u .0) (returns-of s j (c .0) (u .0) r)) refl i n
+status-after s I (Do (Act′.Mark c u m on)) r i n = refl
 
 pub codes : Codes
 codes channels word units free before x r i n =
@@ -147,15 +148,15 @@ keeps-code : (s : State) → Inv s → (x : Call) → refusal s x ≡ Granted �
     → statusAfter s x i n ≡ Ended k
 unfolding statusAfter
 keeps-code s I (Take j asg) r i n k e b = rw b e
-keeps-code s I (Submit j p f c w) r i n k e b =
+keeps-code s I (Do (Act′.Submit j p f c w)) r i n k e b =
     rw (b, e)
-    (by-bool (eqb i j && (eqb f 0o07 && (locked s c (siteOf w) && isAt c (siteOf w) (packetIn (s .jobs) i n))))
+    (by-bool (eqb i j && (eqb f 0o07 && (locked s (c .0) (siteOf w) && isAt (c .0) (siteOf w) (packetIn (s .jobs) i n))))
     (λ d. rw d)
-    (λ d. rw d (by-bool (eqb i j && (not (eqb f 0o07) && (eqb f 0o23 && aimed c w (packetIn (s .jobs) i n)))) (λ g. rw g) (λ g. rw g))))
-keeps-code s I (Start c) r i n k e b =
-    let z = starts-on s c r in
-    let o = find-some (find (startable s c) (s .queue)) (z .2) in
-    let l = find-holds (EntryOk s) (startable s c) (s .queue) (o .0) (I .queued) (o .1) .0 .listed in
+    (λ d. rw d (by-bool (eqb i j && (not (eqb f 0o07) && (eqb f 0o23 && aimed (c .0) w (packetIn (s .jobs) i n)))) (λ g. rw g) (λ g. rw g))))
+keeps-code s I (Do (Act′.Start c)) r i n k e b =
+    let z = starts-on s (c .0) r in
+    let o = find-some (find (startable s (c .0)) (s .queue)) (z .2) in
+    let l = find-holds (EntryOk s) (startable s (c .0)) (s .queue) (o .0) (I .queued) (o .1) .0 .listed in
     rw (o .1)
     (by-bool (isPacket (placeOf (o .0)) (packetOf (o .0)) i n)
     (λ t. let x : i ≡ placeOf (o .0) = eqb-true i (placeOf (o .0)) (and-left (eqb i (placeOf (o .0))) _ t) in
@@ -163,10 +164,10 @@ keeps-code s I (Start c) r i n k e b =
     let e′ : packetIn (s .jobs) (placeOf (o .0)) (packetOf (o .0)) .status ≡ Ended k = rw (x, y) at e in
     never {b = false} (rw e′ at l) refl)
     (λ t. rw (t, e)))
-keeps-code s I (Complete c how) r i n k e b =
-    let z = completes-on s c how r in
-    let o = busy-of (motionOn s c) (z .1) in
-    let g = I .motion c (o .0) (o .1) (o .2) .going in
+keeps-code s I (Do (Act′.Complete c how)) r i n k e b =
+    let z = completes-on s (c .0) how r in
+    let o = busy-of (motionOn s (c .0)) (z .1) in
+    let g = I .motion (c .0) (o .0) (o .1) (o .2) .going in
     rw (o .2)
     (by-bool (isPacket (o .0) (o .1) i n)
     (λ t. let x : i ≡ o .0 = eqb-true i (o .0) (and-left (eqb i (o .0)) _ t) in
@@ -174,11 +175,11 @@ keeps-code s I (Complete c how) r i n k e b =
     let e′ : packetIn (s .jobs) (o .0) (o .1) .status ≡ Ended k = rw (x, y) at e in
     never {b = false} (rw e′ at g) refl)
     (λ t. rw (t, e)
-    (by-bool (eqb i (o .0) && ((isTrouble (s .codes) how && isUnit (packetIn (s .jobs) (o .0) (o .1) .at)) && isAt c (packetIn (s .jobs) (o .0) (o .1) .at) (packetIn (s .jobs) i n)))
+    (by-bool (eqb i (o .0) && ((isTrouble (s .codes) how && isUnit (packetIn (s .jobs) (o .0) (o .1) .at)) && isAt (c .0) (packetIn (s .jobs) (o .0) (o .1) .at) (packetIn (s .jobs) i n)))
     (λ d. rw d) (λ d. rw d))))
-keeps-code s I (End j err) r i n k e b = rw e (by-bool (eqb i j) (λ d. rw d) (λ d. rw d))
-keeps-code s I (Return j c u) r i n k e b = rw e (by-bool (eqb i j && isAt c (unitSite u) (packetIn (s .jobs) i n)) (λ d. rw d) (λ d. rw d))
-keeps-code s I (Mark c u m on) r i n k e b = e
+keeps-code s I (Do (Act′.End j err)) r i n k e b = rw e (by-bool (eqb i j) (λ d. rw d) (λ d. rw d))
+keeps-code s I (Do (Act′.Return j c u)) r i n k e b = rw e (by-bool (eqb i j && isAt (c .0) (unitSite (u .0)) (packetIn (s .jobs) i n)) (λ d. rw d) (λ d. rw d))
+keeps-code s I (Do (Act′.Mark c u m on)) r i n k e b = e
 
 pub kept : Kept
 unfolding step

@@ -12,7 +12,8 @@ use Rattle.units.specs.State.{assignable, isFree, markedUnit, unitIn}
 use Rattle.units.specs.declared.Unit.{Unit as UnitState}
 use Rattle.packets.specs.Interlocks.{interlockAfter, isThat}
 use Rattle.packets.specs.Picks.{find}
-use Rattle.packets.specs.Rules.{Call, Complete, End, Mark, Return, Start, Submit, Take, accept, assigned, closed, finished, isDone, isTrouble, locked, refusal, returnIfDone, siteOf, startable, started, submitted}
+use Rattle.packets.specs.Rules.{Call, Do, Take, accept, assigned, closed, finished, isDone, isTrouble, locked, refusal, returnIfDone, siteOf, startable, started, submitted}
+use Rattle.packets.specs.declared.Act.the-variants as Act′
 use Rattle.packets.specs.State.{State, heldBy, isEmpty, isUnit, motionOn, packetIn, setLock, stateIn, unitAt, wanted, withLock}
 use Rattle.packets.specs.declared.Assignment.{Assignment}
 use Rattle.packets.specs.declared.How.{How}
@@ -98,15 +99,15 @@ module _ (s : State) (I : Inv s) (c u : ℕ) where
   pub lock-after : (x : Call) → refusal s x ≡ Granted → unitIn (accept s x .units) c u .interlock ≡ interlockAfter s x c u
   unfolding accept interlockAfter
   lock-after (Take j asg) r = taken-lock j asg (assigns-to s j asg r .1)
-  lock-after (Submit j p f d w) r = submitted-lock j p f d w (submits s j p f d w r)
-  lock-after (Start d) r = started-lock s d (find (startable s d) (s .queue)) c u
-  lock-after (Complete d how) r =
-      let o = busy-of (motionOn s d) (completes-on s d how r .1) in
-      let s₁ = returnIfDone (o .0) (finished s d how (o .0) (o .1)) in
+  lock-after (Do (Act′.Submit j p f d w)) r = submitted-lock j p f (d .0) w (submits s j p f (d .0) w r)
+  lock-after (Do (Act′.Start d)) r = started-lock s (d .0) (find (startable s (d .0)) (s .queue)) c u
+  lock-after (Do (Act′.Complete d how)) r =
+      let o = busy-of (motionOn s (d .0)) (completes-on s (d .0) how r .1) in
+      let s₁ = returnIfDone (o .0) (finished s (d .0) how (o .0) (o .1)) in
       rw (o .2)
-      (back-interlock (s₁ .units) d (packetIn (s .jobs) (o .0) (o .1) .at) c u
-      ∙ returned-lock (finished s d how (o .0) (o .1)) (o .0) c u ∙ finished-lock d how (o .0) (o .1) (o .2))
-  lock-after (End j e) r = returned-lock (closed s j e) j c u
-  lock-after (Return j d v) r = hold-interlock (s .units) d v (next s I j d v (returns-of s j d v r)) c u
-  lock-after (Mark d v m on) r =
-      unit-keep (λ (x : UnitState). x .interlock) (s .units) d v (markedUnit m on (unitIn (s .units) d v)) c u (mark-lock m on (unitIn (s .units) d v))
+      (back-interlock (s₁ .units) (d .0) (packetIn (s .jobs) (o .0) (o .1) .at) c u
+      ∙ returned-lock (finished s (d .0) how (o .0) (o .1)) (o .0) c u ∙ finished-lock (d .0) how (o .0) (o .1) (o .2))
+  lock-after (Do (Act′.End j e)) r = returned-lock (closed s j e) j c u
+  lock-after (Do (Act′.Return j d v)) r = hold-interlock (s .units) (d .0) (v .0) (next s I j (d .0) (v .0) (returns-of s j (d .0) (v .0) r)) c u
+  lock-after (Do (Act′.Mark d v m on)) r =
+      unit-keep (λ (x : UnitState). x .interlock) (s .units) (d .0) (v .0) (markedUnit m on (unitIn (s .units) (d .0) (v .0))) c u (mark-lock m on (unitIn (s .units) (d .0) (v .0)))

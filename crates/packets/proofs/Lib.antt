@@ -36,3 +36,4 @@ pub mod DemandProof
 pub mod AlwaysProof
 pub mod MarkLaws
 pub mod PickLaws
+pub mod ByNumber

@@ -12,7 +12,8 @@ use Rattle.numbers.proofs.BitLaws.{bit-suc, bit-zero}
 use Rattle.numbers.proofs.Tests.{by-bool}
 use Rattle.channels.specs.Channels.{setsInterlock}
 use Rattle.packets.specs.Lone.{Lone, hasListed, inUse, isAtRest, isHalting, isIn, loneDoes, loneStart, loneStep, loneTakes, mayComplete, startBy}
-use Rattle.packets.specs.Rules.{Call, Complete, End, Return, Start, Submit}
+use Rattle.packets.specs.Rules.{Call}
+use Rattle.packets.proofs.ByNumber.{Complete, End, Return, Start, Submit}
 use Rattle.packets.specs.declared.How.{How}
 use Rattle.packets.specs.declared.How.the-variants.{Cut, Failed}
 use Rattle.packets.specs.declared.Spot.{Spot}

@@ -27,12 +27,7 @@ use Rattle.packets.specs.Demand.{Holding, NoneHeld, emptyPlace, fresh}
 use Rattle.packets.specs.Picks.{find}
 use Rattle.packets.specs.Rules.{
   Call,
-  Complete,
-  End,
-  Mark,
-  Return,
-  Start,
-  Submit,
+  Do,
   Take,
   accept,
   aimed,
@@ -61,6 +56,8 @@ use Rattle.packets.specs.Rules.{
   step,
   submitted,
 }
+use Rattle.packets.proofs.ByNumber.{Complete, End, Mark, Return, Start, Submit}
+use Rattle.packets.specs.declared.Act.the-variants as Act′
 use Rattle.packets.specs.State.{
   State,
   freedAt,
@@ -111,23 +108,23 @@ pub motion-kept : (s : State) → Inv s → (x : Call) → refusal s x ≡ Grant
     → motionOn (accept s x) c ≡ motionOn s c
 unfolding accept
 motion-kept s I (Take j asg) r c n o = refl
-motion-kept s I (Submit j p f d w) r c n o = submit-motion s j p f d w c
-motion-kept s I (Start d) r c n o =
-    let m = starts-on s d r in
-    let y = find-some (find (startable s d) (s .queue)) (m .2) in
-    let apart : eqb c d ≡ false = ne-eqb c d (λ q. n (ap Start (sym q))) in
-    let k : motionOn (begun s d (y .0)) c ≡ motionOn s c = motion-move s d (Busy (placeOf (y .0)) (packetOf (y .0))) c (rw (I .channels) (m .0)) ∙ rw apart in
+motion-kept s I (Do (Act′.Submit j p f d w)) r c n o = submit-motion s j p f (d .0) w c
+motion-kept s I (Do (Act′.Start d)) r c n o =
+    let m = starts-on s (d .0) r in
+    let y = find-some (find (startable s (d .0)) (s .queue)) (m .2) in
+    let apart : eqb c (d .0) ≡ false = ne-eqb c (d .0) (λ q. n (ap Start (sym q))) in
+    let k : motionOn (begun s (d .0) (y .0)) c ≡ motionOn s c = motion-move s (d .0) (Busy (placeOf (y .0)) (packetOf (y .0))) c (rw (I .channels) (m .0)) ∙ rw apart in
     rw (y .1) k
-motion-kept s I (Complete d how) r c n o =
-    let m = completes-on s d how r in
-    let y = busy-of (motionOn s d) (m .1) in
-    let apart : eqb c d ≡ false = ne-eqb c d (λ q. o how (ap (λ (e : ℕ). Complete e how) (sym q))) in
-    let k : motionOn (returnIfDone (y .0) (finished s d how (y .0) (y .1))) c ≡ motionOn s c =
-    return-motion (finished s d how (y .0) (y .1)) (y .0) c ∙ finished-motion s d how (y .0) (y .1) c ∙ motion-move s d Idle c (rw (I .channels) (m .0)) ∙ rw apart in
+motion-kept s I (Do (Act′.Complete d how)) r c n o =
+    let m = completes-on s (d .0) how r in
+    let y = busy-of (motionOn s (d .0)) (m .1) in
+    let apart : eqb c (d .0) ≡ false = ne-eqb c (d .0) (λ q. o how (ap (λ (e : ℕ). Complete e how) (sym q))) in
+    let k : motionOn (returnIfDone (y .0) (finished s (d .0) how (y .0) (y .1))) c ≡ motionOn s c =
+    return-motion (finished s (d .0) how (y .0) (y .1)) (y .0) c ∙ finished-motion s (d .0) how (y .0) (y .1) c ∙ motion-move s (d .0) Idle c (rw (I .channels) (m .0)) ∙ rw apart in
     rw (y .2) k
-motion-kept s I (End j b) r c n o = return-motion (closed s j b) j c
-motion-kept s I (Return j d v) r c n o = refl
-motion-kept s I (Mark d v m on) r c n o = refl
+motion-kept s I (Do (Act′.End j b)) r c n o = return-motion (closed s j b) j c
+motion-kept s I (Do (Act′.Return j d v)) r c n o = refl
+motion-kept s I (Do (Act′.Mark d v m on)) r c n o = refl
 
 -- ---- where a packet that moves was submitted
 
@@ -152,32 +149,32 @@ at-kept s I (Take j asg) r c i n is =
     let e : eqb i j ≡ false = by-bool (eqb i j) (λ t. never {b = isEmpty (stateIn (s .jobs) j)} (k .1) (rw (eqb-true i j t) at (I .motion c i n is .alive))) (λ t. t) in
     let z : packetIn (assigned s j asg .jobs) i n ≡ packetIn (s .jobs) i n = packet-fresh (s .jobs) j asg i (rw (I .places) (k .0)) n ∙ rw e in
     ap (λ (q : Packet). q .at) z
-at-kept s I (Submit j p f d w) r c i n is =
-    let k = submits s j p f d w r in
-    calm-submit (its i) s I j p f d w k n (another s I c i n is j p (record { small = k .small; running = k .running; idle = k .idle })) .2
-at-kept s I (Start d) r c i n is =
-    let m = starts-on s d r in
-    let y = find-some (find (startable s d) (s .queue)) (m .2) in
+at-kept s I (Do (Act′.Submit j p f d w)) r c i n is =
+    let k = submits s j p f (d .0) w r in
+    calm-submit (its i) s I j p f (d .0) w k n (another s I c i n is j p (record { small = k .small; running = k .running; idle = k .idle })) .2
+at-kept s I (Do (Act′.Start d)) r c i n is =
+    let m = starts-on s (d .0) r in
+    let y = find-some (find (startable s (d .0)) (s .queue)) (m .2) in
     let e = y .0 in
-    let q = find-holds (EntryOk s) (startable s d) (s .queue) e (I .queued) (y .1) in
-    let fits = start-fits s I d (m .0) e (q .0) (startable-on s d e (q .1)) in
-    let k : packetIn (begun s d e .jobs) i n .at ≡ packetIn (s .jobs) i n .at =
+    let q = find-holds (EntryOk s) (startable s (d .0)) (s .queue) e (I .queued) (y .1) in
+    let fits = start-fits s I (d .0) (m .0) e (q .0) (startable-on s (d .0) e (q .1)) in
+    let k : packetIn (begun s (d .0) e .jobs) i n .at ≡ packetIn (s .jobs) i n .at =
     calm-status (its i) s (placeOf e) (packetOf e) InProgress fits (listed-busy (packetIn (s .jobs) (placeOf e) (packetOf e) .status) (q .0 .listed)) n .2 in
     rw (y .1) k
-at-kept s I (Complete d how) r c i n is =
-    let m = completes-on s d how r in
-    let y = busy-of (motionOn s d) (m .1) in
-    let k : packetIn (completed s d how (Busy (y .0) (y .1)) .jobs) i n .at ≡ packetIn (s .jobs) i n .at = calm-finished (its i) s I d (m .0) how (y .0) (y .1) (y .2) n .2 in
+at-kept s I (Do (Act′.Complete d how)) r c i n is =
+    let m = completes-on s (d .0) how r in
+    let y = busy-of (motionOn s (d .0)) (m .1) in
+    let k : packetIn (completed s (d .0) how (Busy (y .0) (y .1)) .jobs) i n .at ≡ packetIn (s .jobs) i n .at = calm-finished (its i) s I (d .0) (m .0) how (y .0) (y .1) (y .2) n .2 in
     rw (y .2) k
-at-kept s I (End j b) r c i n is =
+at-kept s I (Do (Act′.End j b)) r c i n is =
     let inside = alive-in (s .jobs) j (running-alive (stateIn (s .jobs) j) (ends-of s j b r)) in
     let h = its i in
     let s₁ = sweep s j always cut in
     let s₂ = closed s j b in
     calm-trans h s s₁ (ended s j b) n (calm-sweep h s j always cut inside refl cut-idle n)
     (calm-trans h s₁ s₂ (ended s j b) n (calm-same h s₁ s₂ n (packet-state (restatusAll (s .jobs) j always cut) j (closing b) i n)) (calm-return h s₂ j n)) .2
-at-kept s I (Return j d v) r c i n is = calm-sweep (its i) s j (isAt d (unitSite v)) cut (returns-inside s I j d v (returns-of s j d v r)) refl cut-idle n .2
-at-kept s I (Mark d v m on) r c i n is = refl
+at-kept s I (Do (Act′.Return j d v)) r c i n is = calm-sweep (its i) s j (isAt (d .0) (unitSite (v .0))) cut (returns-inside s I j (d .0) (v .0) (returns-of s j (d .0) (v .0) r)) refl cut-idle n .2
+at-kept s I (Do (Act′.Mark d v m on)) r c i n is = refl
 
 -- ---- a unit on which something moves has no interlock
 
@@ -196,12 +193,12 @@ module _ (s : State) (I : Inv s) (x : Call) (r : refusal s x ≡ Granted) where
 
       by-call : (x : Call) (c u : ℕ) → unitIn (s .units) c u .interlock ≡ false → ((how : How) → x ≡ Complete c how → ⊥) → interlockAfter s x c u ≡ false
       by-call (Take j asg) c u e o = by-bool (heldBy (unitIn (accept s (Take j asg) .units) c u .holder) j) (λ t. rw t) (λ t. rw (t, e))
-      by-call (Submit j p f d w) c u e o = by-bool (eqb f 0o07 && isThat c u d (siteOf w)) (λ t. rw t) (λ t. rw (t, e))
-      by-call (Start d) c u e o = e
-      by-call (Complete d how) c u e o = rw (by-motion d how (motionOn s d) c u (ne-eqb c d (λ q. o how (ap (λ (n : ℕ). Complete n how) (sym q)))), e)
-      by-call (End j b) c u e o = e
-      by-call (Return j d v) c u e o = e
-      by-call (Mark d v m on) c u e o = e
+      by-call (Do (Act′.Submit j p f d w)) c u e o = by-bool (eqb f 0o07 && isThat c u (d .0) (siteOf w)) (λ t. rw t) (λ t. rw (t, e))
+      by-call (Do (Act′.Start d)) c u e o = e
+      by-call (Do (Act′.Complete d how)) c u e o = rw (by-motion (d .0) how (motionOn s (d .0)) c u (ne-eqb c (d .0) (λ q. o how (ap (λ (n : ℕ). Complete n how) (sym q)))), e)
+      by-call (Do (Act′.End j b)) c u e o = e
+      by-call (Do (Act′.Return j d v)) c u e o = e
+      by-call (Do (Act′.Mark d v m on)) c u e o = e
 
   stays-open : (c : ℕ) (a : Site) → unitAt (s .units) c a .interlock ≡ false → ((how : How) → x ≡ Complete c how → ⊥) → unitAt (accept s x .units) c a .interlock ≡ false
   stays-open c (AtUnit u) e o = lock-after s I c (u .0) x r ∙ unlocked c (u .0) e o
@@ -216,43 +213,43 @@ module _ (s : State) (I : Inv s) (x : Call) (r : refusal s x ≡ Granted) where
 
 accept-open : (s : State) → Inv s → Opened s → (x : Call) → refusal s x ≡ Granted → Opened (accept s x)
 accept-open s I O (Take i asg) r c j p e = moved-open s I (Take i asg) r O c j p e (λ q. let y : _≡_ {A = ℕ} 0 1 = cc in omega arith) (λ how q. let y : _≡_ {A = ℕ} 0 1 = cc in omega arith)
-accept-open s I O (Submit i n f d w) r c j p e = moved-open s I (Submit i n f d w) r O c j p e (λ q. let y : _≡_ {A = ℕ} 0 1 = cc in omega arith) (λ how q. let y : _≡_ {A = ℕ} 0 1 = cc in omega arith)
-accept-open s I O (Start d) r c j p e =
-    by-bool (eqb c d)
-    (λ t. now (eqb-true c d t))
-    (λ t. moved-open s I (Start d) r O c j p e (λ q. let y : c ≡ d = cc in eqb-false c d t y) (λ how q. let y : _≡_ {A = ℕ} 0 1 = cc in omega arith))
+accept-open s I O (Do (Act′.Submit i n f d w)) r c j p e = moved-open s I (Submit i n f (d .0) w) r O c j p e (λ q. let y : _≡_ {A = ℕ} 0 1 = cc in omega arith) (λ how q. let y : _≡_ {A = ℕ} 0 1 = cc in omega arith)
+accept-open s I O (Do (Act′.Start d)) r c j p e =
+    by-bool (eqb c (d .0))
+    (λ t. now (eqb-true c (d .0) t))
+    (λ t. moved-open s I (Start (d .0)) r O c j p e (λ q. let y : c ≡ (d .0) = cc in eqb-false c (d .0) t y) (λ how q. let y : _≡_ {A = ℕ} 0 1 = cc in omega arith))
   where
-    now : c ≡ d → unitAt (accept s (Start d) .units) c (packetIn (accept s (Start d) .jobs) j p .at) .interlock ≡ false
+    now : c ≡ (d .0) → unitAt (accept s (Start (d .0)) .units) c (packetIn (accept s (Start (d .0)) .jobs) j p .at) .interlock ≡ false
     now same = unfold accept in
-        let m = starts-on s d r in
-        let y = find-some (find (startable s d) (s .queue)) (m .2) in
-        let q = find-holds (EntryOk s) (startable s d) (s .queue) (y .0) (I .queued) (y .1) in
+        let m = starts-on s (d .0) r in
+        let y = find-some (find (startable s (d .0)) (s .queue)) (m .2) in
+        let q = find-holds (EntryOk s) (startable s (d .0)) (s .queue) (y .0) (I .queued) (y .1) in
         let b = packetIn (s .jobs) (placeOf (y .0)) (packetOf (y .0)) in
-        let e₁ : motionOn (started s d (find (startable s d) (s .queue))) c ≡ Busy j p = e in
-        let e₂ : motionOn (begun s d (y .0)) d ≡ Busy j p = rw (y .1, same) at e₁ in
-        let z : Busy (placeOf (y .0)) (packetOf (y .0)) ≡ Busy j p = sym (motion-move s d (Busy (placeOf (y .0)) (packetOf (y .0))) d (rw (I .channels) (m .0)) ∙ rw (eqb-self d)) ∙ e₂ in
+        let e₁ : motionOn (started s (d .0) (find (startable s (d .0)) (s .queue))) c ≡ Busy j p = e in
+        let e₂ : motionOn (begun s (d .0) (y .0)) (d .0) ≡ Busy j p = rw (y .1, same) at e₁ in
+        let z : Busy (placeOf (y .0)) (packetOf (y .0)) ≡ Busy j p = sym (motion-move s (d .0) (Busy (placeOf (y .0)) (packetOf (y .0))) (d .0) (rw (I .channels) (m .0)) ∙ rw (eqb-self (d .0))) ∙ e₂ in
         let x₁ : j ≡ placeOf (y .0) = cc in
         let x₂ : p ≡ packetOf (y .0) = cc in
-        let w : packetIn (begun s d (y .0) .jobs) (placeOf (y .0)) (packetOf (y .0)) .at ≡ b .at = ap (λ (o : Packet). o .at) (start-at s I d (m .0) (y .0) (q .0) (startable-on s d (y .0) (q .1))) in
-        let k : unitAt (begun s d (y .0) .units) d (packetIn (begun s d (y .0) .jobs) (placeOf (y .0)) (packetOf (y .0)) .at) .interlock ≡ false =
-        ap (λ (a : Site). unitAt (s .units) d a .interlock) w ∙ not-true _ (and-right (eqb (b .channel .0) d) _ (q .1)) in
+        let w : packetIn (begun s (d .0) (y .0) .jobs) (placeOf (y .0)) (packetOf (y .0)) .at ≡ b .at = ap (λ (o : Packet). o .at) (start-at s I (d .0) (m .0) (y .0) (q .0) (startable-on s (d .0) (y .0) (q .1))) in
+        let k : unitAt (begun s (d .0) (y .0) .units) (d .0) (packetIn (begun s (d .0) (y .0) .jobs) (placeOf (y .0)) (packetOf (y .0)) .at) .interlock ≡ false =
+        ap (λ (a : Site). unitAt (s .units) (d .0) a .interlock) w ∙ not-true _ (and-right (eqb (b .channel .0) (d .0)) _ (q .1)) in
         rw (y .1, same, x₁, x₂) k
-accept-open s I O (Complete d how) r c j p e =
-    by-bool (eqb c d)
-    (λ t. absurd (idle (eqb-true c d t)))
-    (λ t. moved-open s I (Complete d how) r O c j p e (λ q. let y : _≡_ {A = ℕ} 0 1 = cc in omega arith) (λ how′ q. let y : c ≡ d = cc in eqb-false c d t y))
+accept-open s I O (Do (Act′.Complete d how)) r c j p e =
+    by-bool (eqb c (d .0))
+    (λ t. absurd (idle (eqb-true c (d .0) t)))
+    (λ t. moved-open s I (Complete (d .0) how) r O c j p e (λ q. let y : _≡_ {A = ℕ} 0 1 = cc in omega arith) (λ how′ q. let y : c ≡ (d .0) = cc in eqb-false c (d .0) t y))
   where
-    idle : c ≡ d → ⊥
+    idle : c ≡ (d .0) → ⊥
     idle same = unfold accept in
-        let m = completes-on s d how r in
-        let y = busy-of (motionOn s d) (m .1) in
-        let e₁ : motionOn (completed s d how (motionOn s d)) c ≡ Busy j p = e in
-        let e₂ : motionOn (returnIfDone (y .0) (finished s d how (y .0) (y .1))) d ≡ Busy j p = rw (y .2, same) at e₁ in
-        let z : Idle ≡ Busy j p = sym (completed-idle s I d (m .0) how (y .0) (y .1)) ∙ e₂ in
+        let m = completes-on s (d .0) how r in
+        let y = busy-of (motionOn s (d .0)) (m .1) in
+        let e₁ : motionOn (completed s (d .0) how (motionOn s (d .0))) c ≡ Busy j p = e in
+        let e₂ : motionOn (returnIfDone (y .0) (finished s (d .0) how (y .0) (y .1))) (d .0) ≡ Busy j p = rw (y .2, same) at e₁ in
+        let z : Idle ≡ Busy j p = sym (completed-idle s I (d .0) (m .0) how (y .0) (y .1)) ∙ e₂ in
         absurd (let y : _≡_ {A = ℕ} 0 1 = cc in omega arith)
-accept-open s I O (End i b) r c j p e = moved-open s I (End i b) r O c j p e (λ q. let y : _≡_ {A = ℕ} 0 1 = cc in omega arith) (λ how q. let y : _≡_ {A = ℕ} 0 1 = cc in omega arith)
-accept-open s I O (Return i d v) r c j p e = moved-open s I (Return i d v) r O c j p e (λ q. let y : _≡_ {A = ℕ} 0 1 = cc in omega arith) (λ how q. let y : _≡_ {A = ℕ} 0 1 = cc in omega arith)
-accept-open s I O (Mark d v m on) r c j p e = moved-open s I (Mark d v m on) r O c j p e (λ q. let y : _≡_ {A = ℕ} 0 1 = cc in omega arith) (λ how q. let y : _≡_ {A = ℕ} 0 1 = cc in omega arith)
+accept-open s I O (Do (Act′.End i b)) r c j p e = moved-open s I (End i b) r O c j p e (λ q. let y : _≡_ {A = ℕ} 0 1 = cc in omega arith) (λ how q. let y : _≡_ {A = ℕ} 0 1 = cc in omega arith)
+accept-open s I O (Do (Act′.Return i d v)) r c j p e = moved-open s I (Return i (d .0) (v .0)) r O c j p e (λ q. let y : _≡_ {A = ℕ} 0 1 = cc in omega arith) (λ how q. let y : _≡_ {A = ℕ} 0 1 = cc in omega arith)
+accept-open s I O (Do (Act′.Mark d v m on)) r c j p e = moved-open s I (Mark (d .0) (v .0) m on) r O c j p e (λ q. let y : _≡_ {A = ℕ} 0 1 = cc in omega arith) (λ how q. let y : _≡_ {A = ℕ} 0 1 = cc in omega arith)
 
 step-open : (s : State) → Inv s → Opened s → (x : Call) → Opened (step s x .state)
 unfolding step

@@ -15,7 +15,8 @@ use Rattle.packets.proofs.Inv.{EntryOk, Inv, listed-busy, motion-busy, 
 use Rattle.packets.proofs.InvStores.{lock-inv, sweep-inv}
 use Rattle.packets.proofs.Laws.{and-left, and-right, find-holds}
 use Rattle.packets.specs.Picks.{find}
-use Rattle.packets.specs.Rules.{Call, Complete, End, Mark, Return, Start, Submit, Take, accept, aimed, always, answer, assigned, siteOf, isAt, begins, begun, broken, closing, codeFor, completes, cut, ended, failed, finished, handedBack, isTrouble, locked, over, packet, refusal, returnIfDone, returned, startable, submitted, terminate, unlock}
+use Rattle.packets.specs.Rules.{Call, Do, Take, accept, aimed, always, answer, assigned, begins, begun, broken, closing, codeFor, completes, cut, ended, failed, finished, handedBack, isAt, isTrouble, locked, over, packet, refusal, returnIfDone, returned, siteOf, startable, submitted, terminate, unlock}
+use Rattle.packets.specs.declared.Act.the-variants as Act′
 use Rattle.packets.proofs.SimSubmit.{eqb-flip, holder-alive}
 use Rattle.packets.specs.State.{State, anyMoves, close, isBusy, isClosing, isEmpty, isUnit, lock, motionOn, packetIn, packetOf, placeOf, put, restatus, restatusAll, stateIn, store, sweep, withStatus}
 use Rattle.packets.proofs.Steps.{Ready, busy-of, find-some, over-fits, over-inside, ready-fits, ready-inside, ready-sweep, start-fits, startable-on, stored-at}
@@ -169,74 +170,74 @@ accept-seen h s I H t k (Take j asg) r =
   where
     other : eqb (h .place) j ≡ false
     other = by-bool (eqb (h .place) j) (λ e. never {b = isEmpty (stateIn (s .jobs) j)} (assigns-to s j asg r .1) (rw (eqb-true (h .place) j e) at (holder-alive h s I H))) (λ e. e)
-accept-seen h s I H t k (Submit j p f c w) r =
+accept-seen h s I H t k (Do (Act′.Submit j p f c w)) r =
     λ n. by-bool (eqb j (h .place) && eqb n p)
     (λ e. let x : j ≡ h .place = eqb-true j (h .place) (and-left (eqb j (h .place)) (eqb n p) e) in
     let y : n ≡ p = eqb-true n p (and-right (eqb j (h .place)) (eqb n p) e) in
-    let z : there h (packetIn (submitted s j p f c w .jobs) (h .place) n) ≡ isThere h c (siteOf w) = rw (← x, y) (submitted-read (there h) (isThere h c (siteOf w)) s I j p f c w (submits s j p f c w r) (λ t. refl)) in
+    let z : there h (packetIn (submitted s j p f (c .0) w .jobs) (h .place) n) ≡ isThere h (c .0) (siteOf w) = rw (← x, y) (submitted-read (there h) (isThere h (c .0) (siteOf w)) s I j p f (c .0) w (submits s j p f (c .0) w r) (λ t. refl)) in
     rw e (λ d. z ∙ d, λ d. sym z))
-    (λ e. rw e (seen-calm h s (submitted s j p f c w) (t n) n (calm-submit h s I j p f c w (submits s j p f c w r) n (rw (eqb-flip (h .place) j) e)) (k n)))
-accept-seen h s I H t k (Start c) r =
-    let m = starts-on s c r in
-    let o = find-some (find (startable s c) (s .queue)) (m .2) in
+    (λ e. rw e (seen-calm h s (submitted s j p f (c .0) w) (t n) n (calm-submit h s I j p f (c .0) w (submits s j p f (c .0) w r) n (rw (eqb-flip (h .place) j) e)) (k n)))
+accept-seen h s I H t k (Do (Act′.Start c)) r =
+    let m = starts-on s (c .0) r in
+    let o = find-some (find (startable s (c .0)) (s .queue)) (m .2) in
     let e = o .0 in
-    let q = find-holds (EntryOk s) (startable s c) (s .queue) e (I .queued) (o .1) .0 in
-    rw (o .1) (λ n. seen-calm h s (begun s c e) (t n) n
-    (calm-status h s (placeOf e) (packetOf e) InProgress (start-fits s I c (m .0) e q (startable-on s c e (find-holds (EntryOk s) (startable s c) (s .queue) e (I .queued) (o .1) .1))) (listed-busy (packetIn (s .jobs) (placeOf e) (packetOf e) .status) (q .listed)) n) (k n))
-accept-seen h s I H t k (Complete c how) r =
-    let m = completes-on s c how r in
-    let o = busy-of (motionOn s c) (m .1) in
-    rw (o .2) (λ n. seen-calm h s (returnIfDone (o .0) (finished s c how (o .0) (o .1))) (t n) n (calm-finished h s I c (m .0) how (o .0) (o .1) (o .2) n) (k n))
-accept-seen h s I H t k (End j e) r =
+    let q = find-holds (EntryOk s) (startable s (c .0)) (s .queue) e (I .queued) (o .1) .0 in
+    rw (o .1) (λ n. seen-calm h s (begun s (c .0) e) (t n) n
+    (calm-status h s (placeOf e) (packetOf e) InProgress (start-fits s I (c .0) (m .0) e q (startable-on s (c .0) e (find-holds (EntryOk s) (startable s (c .0)) (s .queue) e (I .queued) (o .1) .1))) (listed-busy (packetIn (s .jobs) (placeOf e) (packetOf e) .status) (q .listed)) n) (k n))
+accept-seen h s I H t k (Do (Act′.Complete c how)) r =
+    let m = completes-on s (c .0) how r in
+    let o = busy-of (motionOn s (c .0)) (m .1) in
+    rw (o .2) (λ n. seen-calm h s (returnIfDone (o .0) (finished s (c .0) how (o .0) (o .1))) (t n) n (calm-finished h s I (c .0) (m .0) how (o .0) (o .1) (o .2) n) (k n))
+accept-seen h s I H t k (Do (Act′.End j e)) r =
     let inside = alive-in (s .jobs) j (running-alive (stateIn (s .jobs) j) (ends-of s j e r)) in
     let s₁ = sweep s j always cut in
     let s₂ = close s₁ j (closing e) in
     λ n. seen-calm h s (ended s j e) (t n) n
     (calm-trans h s s₁ (ended s j e) n (calm-sweep h s j always cut inside refl cut-idle n)
     (calm-trans h s₁ s₂ (ended s j e) n (calm-same h s₁ s₂ n (packet-state (restatusAll (s .jobs) j always cut) j (closing e) (h .place) n)) (calm-return h s₂ j n))) (k n)
-accept-seen h s I H t k (Return j c u) r =
-    λ n. seen-calm h s (handedBack s j c (unitSite u)) (t n) n (calm-sweep h s j (isAt c (unitSite u)) cut (returns-inside s I j c u (returns-of s j c u r)) refl cut-idle n) (k n)
-accept-seen h s I H t k (Mark c u m on) r = k
+accept-seen h s I H t k (Do (Act′.Return j c u)) r =
+    λ n. seen-calm h s (handedBack s j (c .0) (unitSite (u .0))) (t n) n (calm-sweep h s j (isAt (c .0) (unitSite (u .0))) cut (returns-inside s I j (c .0) (u .0) (returns-of s j (c .0) (u .0) r)) refl cut-idle n) (k n)
+accept-seen h s I H t k (Do (Act′.Mark c u m on)) r = k
 
 -- what is seen from outside to act on the holding does
 pub acts-same : (h : Holding) (s : State) → Inv s → (t : Seen) → SeenOk h s t → (x : Call) → acts h t x (answer s x) ≡ actsNow h s x
 unfolding acts actsNow answersThere answer
 acts-same h s I t k (Take j asg) = refl
-acts-same h s I t k (Submit j p f c w) = refl
-acts-same h s I t k (Start c) = go (find (startable s c) (s .queue))
+acts-same h s I t k (Do (Act′.Submit j p f c w)) = refl
+acts-same h s I t k (Do (Act′.Start c)) = go (find (startable s (c .0)) (s .queue))
   where
-    go : (o : Option ℕ) → tookThere h c (begins s o) ≡ answersThere h s c (begins s o)
+    go : (o : Option ℕ) → tookThere h (c .0) (begins s o) ≡ answersThere h s (c .0) (begins s o)
     go none = refl
     go (some e) = refl
-acts-same h s I t k (Complete c how) = go (motionOn s c) refl
+acts-same h s I t k (Do (Act′.Complete c how)) = go (motionOn s (c .0)) refl
   where
-    go : (m : Motion) → motionOn s c ≡ m → endedThere h t (completes s c how m) ≡ answersThere h s c (completes s c how m)
+    go : (m : Motion) → motionOn s (c .0) ≡ m → endedThere h t (completes s (c .0) how m) ≡ answersThere h s (c .0) (completes s (c .0) how m)
     go Idle e = refl
     go (Busy j p) e =
         by-bool (eqb j (h .place))
         (λ d. let x : j ≡ h .place = eqb-true j (h .place) d in
-        rw (d, x) (k p .1 (motion-busy (packetIn (s .jobs) (h .place) p .status) (rw x at (I .motion c j p e .going)))))
+        rw (d, x) (k p .1 (motion-busy (packetIn (s .jobs) (h .place) p .status) (rw x at (I .motion (c .0) j p e .going)))))
         (λ d. rw d)
-acts-same h s I t k (End j e) = refl
-acts-same h s I t k (Return j c u) = refl
-acts-same h s I t k (Mark c u m on) = refl
+acts-same h s I t k (Do (Act′.End j e)) = refl
+acts-same h s I t k (Do (Act′.Return j c u)) = refl
+acts-same h s I t k (Do (Act′.Mark c u m on)) = refl
 
 pub acts-refused : (h : Holding) (t : Seen) (x : Call) (n : Refusal) → acts h t x (Refused n) ≡ false
 unfolding acts
 acts-refused h t (Take j asg) n = refl
-acts-refused h t (Submit j p f c w) n = refl
-acts-refused h t (Start c) n = refl
-acts-refused h t (Complete c how) n = refl
-acts-refused h t (End j e) n = refl
-acts-refused h t (Return j c u) n = refl
-acts-refused h t (Mark c u m on) n = refl
+acts-refused h t (Do (Act′.Submit j p f c w)) n = refl
+acts-refused h t (Do (Act′.Start c)) n = refl
+acts-refused h t (Do (Act′.Complete c how)) n = refl
+acts-refused h t (Do (Act′.End j e)) n = refl
+acts-refused h t (Do (Act′.Return j c u)) n = refl
+acts-refused h t (Do (Act′.Mark c u m on)) n = refl
 
 pub noted-refused : (h : Holding) (t : Seen) (x : Call) (n : Refusal) → noted h t x (Refused n) ≡ t
 unfolding noted
 noted-refused h t (Take j asg) n = refl
-noted-refused h t (Submit j p f c w) n = refl
-noted-refused h t (Start c) n = refl
-noted-refused h t (Complete c how) n = refl
-noted-refused h t (End j e) n = refl
-noted-refused h t (Return j c u) n = refl
-noted-refused h t (Mark c u m on) n = refl
+noted-refused h t (Do (Act′.Submit j p f c w)) n = refl
+noted-refused h t (Do (Act′.Start c)) n = refl
+noted-refused h t (Do (Act′.Complete c how)) n = refl
+noted-refused h t (Do (Act′.End j e)) n = refl
+noted-refused h t (Do (Act′.Return j c u)) n = refl
+noted-refused h t (Do (Act′.Mark c u m on)) n = refl

@@ -18,7 +18,8 @@ use Rattle.packets.proofs.InvStores.{idle-inv, mark-holder, sweep-inv}
 use Rattle.packets.proofs.Laws.{and-left, and-right, eqb-self, neither}
 use Rattle.packets.proofs.LoneLaws.{in-section}
 use Rattle.packets.specs.Lone.{Lone, become, carries, completesAs, ends, endsWith, fails, halts, isIn, locks, stops, Request, closes, loneDoes, loneTakes, mayComplete, mayEnd}
-use Rattle.packets.specs.Rules.{Complete, End, always, assigned, isAt, broken, closing, codeFor, completed, cut, ended, failed, finished, isTrouble, marked, over, returnIfDone, isWrong}
+use Rattle.packets.specs.Rules.{always, assigned, isAt, broken, closing, codeFor, completed, cut, ended, failed, finished, isTrouble, marked, over, returnIfDone, isWrong}
+use Rattle.packets.proofs.ByNumber.{Complete, End}
 use Rattle.packets.proofs.Sim.{Sim, lockThere, movingThere, sim-store, sim-store-away, sim-sweep, sim-sweep-away}
 use Rattle.packets.proofs.SimRest.{sim-move, sim-move-away, sim-same, sim-units, sim-units-away, sim-same-but, stays-held, stays-locked}
 use Rattle.packets.proofs.SimReturn.{sim-back}

@@ -22,7 +22,8 @@ use Rattle.packets.proofs.There.{is-there, its-own, return-is, there-ch
 use Rattle.packets.proofs.Told.{Returns}
 use Rattle.packets.specs.Demand.{Holding, Holds, isThere, there}
 use Rattle.packets.specs.Lone.{Lone, asksBack, become, endsWith, halts, loneDoes, loneTakes, stops}
-use Rattle.packets.specs.Rules.{Return, cut, freeIfReturning, handedBack, isAt, movesAt}
+use Rattle.packets.specs.Rules.{cut, freeIfReturning, handedBack, isAt, movesAt}
+use Rattle.packets.proofs.ByNumber.{Return}
 use Rattle.packets.specs.State.{
   State,
   heldBy,

@@ -17,7 +17,8 @@ use Rattle.packets.specs.State.{freedAt, inMotion, isPacket, State, blan
 use Rattle.packets.proofs.InvStores.{New, enlisted-is, idle-is, lock-inv, motion-move, sweep-inv}
 use Rattle.packets.proofs.Laws.{eqb-self, find-holds, getD-replicate-const}
 use Rattle.packets.specs.Picks.{any, find}
-use Rattle.packets.specs.Rules.{Call, Complete, End, Mark, Return, Start, Submit, Take, accept, aimed, always, siteOf, isAt, begun, closed, closing, codeFor, cut, decided, enlist, failed, finished, handedBack, isDone, isTrouble, locked, marked, over, packet, refusal, returnIfDone, run, startable, step, submitted}
+use Rattle.packets.specs.Rules.{Call, Do, Take, accept, aimed, always, begun, closed, closing, codeFor, cut, decided, enlist, failed, finished, handedBack, isAt, isDone, isTrouble, locked, marked, over, packet, refusal, returnIfDone, run, siteOf, startable, step, submitted}
+use Rattle.packets.specs.declared.Act.the-variants as Act′
 use Rattle.packets.proofs.Sound.{Sound, assigned-sound, enqueue-sound, move-sound, noPacket, sound-but, sound-whole, state-sound, store-sound, sweep-sound, units-sound}
 use Rattle.packets.proofs.Steps.{Ready, busy-of, find-some, listed-new, over-fits, over-inside, ready-fits, ready-inside, ready-store, ready-sweep, start-at, start-fits, startable-on, step-inv, stored-at}
 use Rattle.packets.proofs.Store.{alive-in, packet-put, sizeIn}
@@ -163,24 +164,24 @@ return-sound s S j = by-bool (isDone s j) (λ e. rw e (state-sound s S j Empty (
 accept-sound : (s : State) → Inv s → Sound s noPacket → (x : Call) → refusal s x ≡ Granted → Sound (accept s x) noPacket
 unfolding accept
 accept-sound s I S (Take j asg) r = assigned-sound s S j asg (rw (I .places) (assigns-to s j asg r .0))
-accept-sound s I S (Submit j p f c w) r = submit-sound s I S j p f c w (submits s j p f c w r)
-accept-sound s I S (Start c) r =
-    let k = starts-on s c r in
-    let o = find-some (find (startable s c) (s .queue)) (k .2) in
-    let z = find-holds (EntryOk s) (startable s c) (s .queue) (o .0) (I .queued) (o .1) in
-    rw (o .1) (begun-sound s I S c (k .0) (k .1) (o .0) (z .0) (startable-on s c (o .0) (z .1)))
-accept-sound s I S (Complete c how) r =
-    let k = completes-on s c how r in
-    let o = busy-of (motionOn s c) (k .1) in
-    let s₁ = returnIfDone (o .0) (finished s c how (o .0) (o .1)) in
-    rw (o .2) (units-sound s₁ noPacket (return-sound (finished s c how (o .0) (o .1)) (finished-sound s I S c (k .0) (o .0) (o .1) (o .2) how) (o .0)) (freedAt (s₁ .units) c (packetIn (s .jobs) (o .0) (o .1) .at)))
-accept-sound s I S (End j e) r =
+accept-sound s I S (Do (Act′.Submit j p f c w)) r = submit-sound s I S j p f (c .0) w (submits s j p f (c .0) w r)
+accept-sound s I S (Do (Act′.Start c)) r =
+    let k = starts-on s (c .0) r in
+    let o = find-some (find (startable s (c .0)) (s .queue)) (k .2) in
+    let z = find-holds (EntryOk s) (startable s (c .0)) (s .queue) (o .0) (I .queued) (o .1) in
+    rw (o .1) (begun-sound s I S (c .0) (k .0) (k .1) (o .0) (z .0) (startable-on s (c .0) (o .0) (z .1)))
+accept-sound s I S (Do (Act′.Complete c how)) r =
+    let k = completes-on s (c .0) how r in
+    let o = busy-of (motionOn s (c .0)) (k .1) in
+    let s₁ = returnIfDone (o .0) (finished s (c .0) how (o .0) (o .1)) in
+    rw (o .2) (units-sound s₁ noPacket (return-sound (finished s (c .0) how (o .0) (o .1)) (finished-sound s I S (c .0) (k .0) (o .0) (o .1) (o .2) how) (o .0)) (freedAt (s₁ .units) (c .0) (packetIn (s .jobs) (o .0) (o .1) .at)))
+accept-sound s I S (Do (Act′.End j e)) r =
     let h = alive-in (s .jobs) j (running-alive (stateIn (s .jobs) j) (ends-of s j e r)) in
     return-sound (closed s j e) (state-sound (sweep s j always cut) (sweep-sound s S j always cut h refl cut-moved cut-listed) j (closing e) (s .units)) j
-accept-sound s I S (Return j c u) r =
-    units-sound (sweep s j (isAt c (unitSite u)) cut) noPacket
-    (sweep-sound s S j (isAt c (unitSite u)) cut (returns-inside s I j c u (returns-of s j c u r)) refl cut-moved cut-listed) (handedBack s j c (unitSite u) .units)
-accept-sound s I S (Mark c u m on) r = units-sound s noPacket S (marked s c u m on .units)
+accept-sound s I S (Do (Act′.Return j c u)) r =
+    units-sound (sweep s j (isAt (c .0) (unitSite (u .0))) cut) noPacket
+    (sweep-sound s S j (isAt (c .0) (unitSite (u .0))) cut (returns-inside s I j (c .0) (u .0) (returns-of s j (c .0) (u .0) r)) refl cut-moved cut-listed) (handedBack s j (c .0) (unitSite (u .0)) .units)
+accept-sound s I S (Do (Act′.Mark c u m on)) r = units-sound s noPacket S (marked s (c .0) (u .0) m on .units)
 
 step-sound : (s : State) → Inv s → Sound s noPacket → (x : Call) → Sound (step s x .state) noPacket
 unfolding step

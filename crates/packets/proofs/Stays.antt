@@ -8,7 +8,8 @@ use lib.Dec.{eqb}
 use Rattle.numbers.proofs.Tests.{by-bool}
 use Rattle.channels.specs.declared.Channel.{Channel}
 use Rattle.packets.specs.Picks.{find}
-use Rattle.packets.specs.Rules.{Call, Complete, End, Mark, Return, Start, Submit, Take, accept, closed, completed, decided, finished, isDone, isTrouble, locked, refusal, returnIfDone, run, siteOf, startable, started, step, submitted}
+use Rattle.packets.specs.Rules.{Call, Do, Take, accept, closed, completed, decided, finished, isDone, isTrouble, locked, refusal, returnIfDone, run, siteOf, startable, started, step, submitted}
+use Rattle.packets.specs.declared.Act.the-variants as Act′
 use Rattle.packets.specs.State.{State, isUnit, motionOn, packetIn}
 use Rattle.packets.specs.declared.How.{How}
 use Rattle.packets.specs.declared.Motion.{Motion}
@@ -47,12 +48,12 @@ module _ (s : State) where
   accept-has : (x : Call) → has (accept s x) ≡ has s
   unfolding accept
   accept-has (Take j asg) = refl
-  accept-has (Submit j p f c w) = submitted-has j p f c w
-  accept-has (Start c) = starts-has c (find (startable s c) (s .queue))
-  accept-has (Complete c how) = completed-has c how (motionOn s c)
-  accept-has (End j e) = returns-has j (closed s j e) refl
-  accept-has (Return j c u) = refl
-  accept-has (Mark c u m on) = refl
+  accept-has (Do (Act′.Submit j p f c w)) = submitted-has j p f (c .0) w
+  accept-has (Do (Act′.Start c)) = starts-has (c .0) (find (startable s (c .0)) (s .queue))
+  accept-has (Do (Act′.Complete c how)) = completed-has (c .0) how (motionOn s (c .0))
+  accept-has (Do (Act′.End j e)) = returns-has j (closed s j e) refl
+  accept-has (Do (Act′.Return j c u)) = refl
+  accept-has (Do (Act′.Mark c u m on)) = refl
 
   pub step-has : (x : Call) → has (step s x .state) ≡ has s
   unfolding step

@@ -20,7 +20,8 @@ use Rattle.packets.proofs.InvJobs.{NotOf, assigned-inv, close-inv, retu
 use Rattle.packets.proofs.InvStores.{New, busy-inv, enqueue-inv, entry-packet, entry-place, idle-inv, lock-inv, marked-inv, motion-move, store-inv, sweep-inv}
 use Rattle.packets.specs.Picks.{All, find, keep}
 use Rattle.packets.proofs.Laws.{all-imp, all-keep, and-left, and-right, any-none, eqb-self, find-holds, getD-replicate-const}
-use Rattle.packets.specs.Rules.{Call, Complete, End, Mark, Return, Start, Submit, Take, accept, aimed, always, siteOf, isAt, begun, closing, codeFor, cut, decided, failed, finished, isTrouble, isNone, locked, over, packet, refusal, returnIfDone, run, startable, step, submitted}
+use Rattle.packets.specs.Rules.{Call, Do, Take, accept, aimed, always, begun, closing, codeFor, cut, decided, failed, finished, isAt, isNone, isTrouble, locked, over, packet, refusal, returnIfDone, run, siteOf, startable, step, submitted}
+use Rattle.packets.specs.declared.Act.the-variants as Act′
 use Rattle.packets.proofs.Store.{alive-in, busy-in, packet-put, packet-restatus, sizeIn, state-put, state-restatus}
 use Rattle.packets.proofs.Told.{Submits, assigns-to, completes-on, cut-going, cut-idle, cut-unlisted, ends-of, failed-going, failed-idle, owns-unit, returns-of, starts-on, submits}
 use Rattle.packets.proofs.Handing.{back-inv, completed-idle, handed-inv}
@@ -255,22 +256,22 @@ startable-on s c e t = eqb-true _ c (and-left (eqb (packetIn (s .jobs) (placeOf 
 pub accept-inv : (s : State) → Inv s → (x : Call) → refusal s x ≡ Granted → Inv (accept s x)
 unfolding accept
 accept-inv s I (Take j asg) r = assigned-inv s I j (assigns-to s j asg r .0) (assigns-to s j asg r .1) asg
-accept-inv s I (Submit j p f c w) r = submit-inv s I j p f c w (submits s j p f c w r)
-accept-inv s I (Start c) r =
-    let k = starts-on s c r in
-    let o = find-some (find (startable s c) (s .queue)) (k .2) in
-    let z = find-holds (EntryOk s) (startable s c) (s .queue) (o .0) (I .queued) (o .1) in
-    rw (o .1) (begun-inv s I c (k .0) (o .0) (z .0) (startable-on s c (o .0) (z .1)))
-accept-inv s I (Complete c how) r =
-    let k = completes-on s c how r in
-    let o = busy-of (motionOn s c) (k .1) in
+accept-inv s I (Do (Act′.Submit j p f c w)) r = submit-inv s I j p f (c .0) w (submits s j p f (c .0) w r)
+accept-inv s I (Do (Act′.Start c)) r =
+    let k = starts-on s (c .0) r in
+    let o = find-some (find (startable s (c .0)) (s .queue)) (k .2) in
+    let z = find-holds (EntryOk s) (startable s (c .0)) (s .queue) (o .0) (I .queued) (o .1) in
+    rw (o .1) (begun-inv s I (c .0) (k .0) (o .0) (z .0) (startable-on s (c .0) (o .0) (z .1)))
+accept-inv s I (Do (Act′.Complete c how)) r =
+    let k = completes-on s (c .0) how r in
+    let o = busy-of (motionOn s (c .0)) (k .1) in
     rw (o .2)
-    (back-inv (returnIfDone (o .0) (finished s c how (o .0) (o .1)))
-    (return-inv (finished s c how (o .0) (o .1)) (finished-inv s I c (k .0) (o .0) (o .1) (o .2) how) (o .0))
-    c (packetIn (s .jobs) (o .0) (o .1) .at) (completed-idle s I c (k .0) how (o .0) (o .1)))
-accept-inv s I (End j e) r = return-inv (close (sweep s j always cut) j (closing e)) (ending-inv s I j e (ends-of s j e r)) j
-accept-inv s I (Return j c u) r = handed-inv s I j c u (returns-of s j c u r)
-accept-inv s I (Mark c u m on) e = marked-inv s I c u m on
+    (back-inv (returnIfDone (o .0) (finished s (c .0) how (o .0) (o .1)))
+    (return-inv (finished s (c .0) how (o .0) (o .1)) (finished-inv s I (c .0) (k .0) (o .0) (o .1) (o .2) how) (o .0))
+    (c .0) (packetIn (s .jobs) (o .0) (o .1) .at) (completed-idle s I (c .0) (k .0) how (o .0) (o .1)))
+accept-inv s I (Do (Act′.End j e)) r = return-inv (close (sweep s j always cut) j (closing e)) (ending-inv s I j e (ends-of s j e r)) j
+accept-inv s I (Do (Act′.Return j c u)) r = handed-inv s I j (c .0) (u .0) (returns-of s j (c .0) (u .0) r)
+accept-inv s I (Do (Act′.Mark c u m on)) e = marked-inv s I (c .0) (u .0) m on
 
 pub decided-inv : (s : State) → Inv s → (x : Call) (n : Verdict) → refusal s x ≡ n → Inv (decided s x n .state)
 decided-inv s I x Granted e = accept-inv s I x e

@@ -25,12 +25,7 @@ use Rattle.packets.proofs.Waiting.{Waiting, Waits, step-waits}
 use Rattle.packets.specs.Picks.{All, find}
 use Rattle.packets.specs.Rules.{
   Call,
-  Complete,
-  End,
-  Mark,
-  Return,
-  Start,
-  Submit,
+  Do,
   Take,
   accept,
   closed,
@@ -48,6 +43,8 @@ use Rattle.packets.specs.Rules.{
   started,
   step,
 }
+use Rattle.packets.proofs.ByNumber.{Complete}
+use Rattle.packets.specs.declared.Act.the-variants as Act′
 use Rattle.packets.specs.State.{State, freedAt, heldBy, isClosing, motionOn, packetIn, release, stateIn}
 use Rattle.packets.specs.declared.How.{How}
 use Rattle.packets.specs.declared.Motion.the-variants.{Busy}
@@ -124,33 +121,33 @@ module _ (s : State) (I : Inv s) (W : Waits s) (c u : ℕ) (e : isReturning (uni
   accept-until (Take j asg) r o =
       let k = assigns-to s j asg r in
       ap (λ (v : UnitState). v .holder) (take-held s I j (k .0) (k .1) asg c u (wait .place) (wait .held))
-  accept-until (Submit j p f d w) r o = submit-keeps s j p f d w c u
-  accept-until (Start d) r o = same (find (startable s d) (s .queue))
+  accept-until (Do (Act′.Submit j p f d w)) r o = submit-keeps s j p f (d .0) w c u
+  accept-until (Do (Act′.Start d)) r o = same (find (startable s (d .0)) (s .queue))
     where
-      same : (x : Option ℕ) → unitIn (started s d x .units) c u .holder ≡ unitIn (s .units) c u .holder
+      same : (x : Option ℕ) → unitIn (started s (d .0) x .units) c u .holder ≡ unitIn (s .units) c u .holder
       same none = refl
       same (some x) = refl
-  accept-until (Complete d how) r o =
-      let m = completes-on s d how r in
-      let y = busy-of (motionOn s d) (m .1) in
+  accept-until (Do (Act′.Complete d how)) r o =
+      let m = completes-on s (d .0) how r in
+      let y = busy-of (motionOn s (d .0)) (m .1) in
       let j = y .0 in
       let p = y .1 in
-      let s₁ = finished s d how j p in
-      let apart : eqb c d ≡ false = ne-eqb c d (λ q. o how (ap (λ (n : ℕ). Complete n how) (sym q))) in
-      let moves : motionOn s₁ c ≡ Busy (wait .place) (wait .packet) = finished-motion s d how j p c ∙ motion-move s d _ c (rw (I .channels) (m .0)) ∙ rw apart (wait .moves) in
+      let s₁ = finished s (d .0) how j p in
+      let apart : eqb c (d .0) ≡ false = ne-eqb c (d .0) (λ q. o how (ap (λ (n : ℕ). Complete n how) (sym q))) in
+      let moves : motionOn s₁ c ≡ Busy (wait .place) (wait .packet) = finished-motion s (d .0) how j p c ∙ motion-move s (d .0) _ c (rw (I .channels) (m .0)) ∙ rw apart (wait .moves) in
       rw (y .2)
-      (ap (λ (v : UnitState). v .holder) (back-keeps (returnIfDone j s₁ .units) d (packetIn (s .jobs) j p .at) apart)
-      ∙ return-keeps s₁ j moves (finish-keeps s d how j p c u))
-  accept-until (End j b) r o = return-keeps (closed s j b) j (wait .moves) refl
-  accept-until (Return j d v) r o =
-      let k = returns-of s j d v r in
-      let h = held-unit (s .units) d v (next s I j d v k) (held-taken (unitIn (s .units) d v .holder) j (k .held)) c u in
-      by-bool (eqb c d && eqb u v)
-      (λ t. let x : c ≡ d = eqb-true c d (and-left (eqb c d) _ t) in
-      let y : u ≡ v = eqb-true u v (and-right (eqb c d) _ t) in
+      (ap (λ (v : UnitState). v .holder) (back-keeps (returnIfDone j s₁ .units) (d .0) (packetIn (s .jobs) j p .at) apart)
+      ∙ return-keeps s₁ j moves (finish-keeps s (d .0) how j p c u))
+  accept-until (Do (Act′.End j b)) r o = return-keeps (closed s j b) j (wait .moves) refl
+  accept-until (Do (Act′.Return j d v)) r o =
+      let k = returns-of s j (d .0) (v .0) r in
+      let h = held-unit (s .units) (d .0) (v .0) (next s I j (d .0) (v .0) k) (held-taken (unitIn (s .units) (d .0) (v .0) .holder) j (k .held)) c u in
+      by-bool (eqb c (d .0) && eqb u (v .0))
+      (λ t. let x : c ≡ (d .0) = eqb-true c (d .0) (and-left (eqb c (d .0)) _ t) in
+      let y : u ≡ (v .0) = eqb-true u (v .0) (and-right (eqb c (d .0)) _ t) in
       never {b = isReturning (unitIn (s .units) c u .holder)} e (rw (x, y) (k .staying)))
       (λ t. rw (h, t))
-  accept-until (Mark d v m on) r o = unit-keep (λ (w : UnitState). w .holder) (s .units) d v (markedUnit m on (unitIn (s .units) d v)) c u (mark-holder m on (unitIn (s .units) d v))
+  accept-until (Do (Act′.Mark d v m on)) r o = unit-keep (λ (w : UnitState). w .holder) (s .units) (d .0) (v .0) (markedUnit m on (unitIn (s .units) (d .0) (v .0))) c u (mark-holder m on (unitIn (s .units) (d .0) (v .0)))
 
   pub step-until : (x : Call) → ((how : How) → x ≡ Complete c how → ⊥) → unitIn (step s x .state .units) c u .holder ≡ unitIn (s .units) c u .holder
   unfolding step

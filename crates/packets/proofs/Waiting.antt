@@ -33,12 +33,7 @@ use Rattle.packets.specs.Demand.{Holding, NoneHeld, fresh}
 use Rattle.packets.specs.Picks.{find}
 use Rattle.packets.specs.Rules.{
   Call,
-  Complete,
-  End,
-  Mark,
-  Return,
-  Start,
-  Submit,
+  Do,
   Take,
   accept,
   aimed,
@@ -67,6 +62,8 @@ use Rattle.packets.specs.Rules.{
   step,
   submitted,
 }
+use Rattle.packets.proofs.ByNumber.{Complete, End, Mark, Return, Start, Submit}
+use Rattle.packets.specs.declared.Act.the-variants as Act′
 use Rattle.packets.specs.State.{
   State,
   freedAt,
@@ -135,14 +132,14 @@ module _ (s : State) (I : Inv s) (c i n : ℕ) (is : motionOn s c ≡ Busy i n) 
   unfolding statusAfter
   stays-stopping (Take j asg) r o =
       by-bool (eqb i j) (λ t. never {b = isEmpty (stateIn (s .jobs) j)} (assigns-to s j asg r .1) (rw (eqb-true i j t) at (I .motion c i n is .alive))) (λ t. rw (t, st))
-  stays-stopping (Submit j p f d w) r o =
-      let k = submits s j p f d w r in
+  stays-stopping (Do (Act′.Submit j p f d w)) r o =
+      let k = submits s j p f (d .0) w r in
       rw (another s I c i n is j p (record { small = k .small; running = k .running; idle = k .idle }), st)
-      (by-bool (eqb i j && (eqb f 0o07 && (locked s d (siteOf w) && isAt d (siteOf w) (packetIn (s .jobs) i n)))) (λ t. rw t)
-      (λ t. rw t (by-bool (eqb i j && (not (eqb f 0o07) && (eqb f 0o23 && aimed d w (packetIn (s .jobs) i n)))) (λ v. rw v) (λ v. rw v))))
-  stays-stopping (Start d) r o =
-      let y = find-some (find (startable s d) (s .queue)) (starts-on s d r .2) in
-      let l = find-holds (EntryOk s) (startable s d) (s .queue) (y .0) (I .queued) (y .1) .0 .listed in
+      (by-bool (eqb i j && (eqb f 0o07 && (locked s (d .0) (siteOf w) && isAt (d .0) (siteOf w) (packetIn (s .jobs) i n)))) (λ t. rw t)
+      (λ t. rw t (by-bool (eqb i j && (not (eqb f 0o07) && (eqb f 0o23 && aimed (d .0) w (packetIn (s .jobs) i n)))) (λ v. rw v) (λ v. rw v))))
+  stays-stopping (Do (Act′.Start d)) r o =
+      let y = find-some (find (startable s (d .0)) (s .queue)) (starts-on s (d .0) r .2) in
+      let l = find-holds (EntryOk s) (startable s (d .0)) (s .queue) (y .0) (I .queued) (y .1) .0 .listed in
       rw (y .1)
       (by-bool (isPacket (placeOf (y .0)) (packetOf (y .0)) i n)
       (λ t. let a : i ≡ placeOf (y .0) = eqb-true i (placeOf (y .0)) (and-left (eqb i (placeOf (y .0))) _ t) in
@@ -150,21 +147,21 @@ module _ (s : State) (I : Inv s) (c i n : ℕ) (is : motionOn s c ≡ Busy i n) 
       let z : packetIn (s .jobs) (placeOf (y .0)) (packetOf (y .0)) .status ≡ Stopping = rw (a, b) at st in
       never {b = false} (rw z at l) refl)
       (λ t. rw (t, st)))
-  stays-stopping (Complete d how) r o =
-      let y = busy-of (motionOn s d) (completes-on s d how r .1) in
+  stays-stopping (Do (Act′.Complete d how)) r o =
+      let y = busy-of (motionOn s (d .0)) (completes-on s (d .0) how r .1) in
       let j = y .0 in
       let p = y .1 in
       let other : isPacket j p i n ≡ false = by-bool (isPacket j p i n)
       (λ t. let a : i ≡ j = eqb-true i j (and-left (eqb i j) _ t) in
       let b : n ≡ p = eqb-true n p (and-right (eqb i j) _ t) in
       let is′ : motionOn s c ≡ Busy j p = rw (a, b) at is in
-      absurd (o how (ap (λ (e : ℕ). Complete e how) (sym (I .motion d j p (y .2) .channel) ∙ I .motion c j p is′ .channel))))
+      absurd (o how (ap (λ (e : ℕ). Complete e how) (sym (I .motion (d .0) j p (y .2) .channel) ∙ I .motion c j p is′ .channel))))
       (λ t. t) in
       rw (y .2, other, st)
-      (by-bool (eqb i j && ((isTrouble (s .codes) how && isUnit (packetIn (s .jobs) j p .at)) && isAt d (packetIn (s .jobs) j p .at) (packetIn (s .jobs) i n))) (λ t. rw t) (λ t. rw t))
-  stays-stopping (End j b) r o = rw st (by-bool (eqb i j) (λ t. rw t) (λ t. rw t))
-  stays-stopping (Return j d v) r o = rw st (by-bool (eqb i j && isAt d (unitSite v) (packetIn (s .jobs) i n)) (λ t. rw t) (λ t. rw t))
-  stays-stopping (Mark d v m on) r o = st
+      (by-bool (eqb i j && ((isTrouble (s .codes) how && isUnit (packetIn (s .jobs) j p .at)) && isAt (d .0) (packetIn (s .jobs) j p .at) (packetIn (s .jobs) i n))) (λ t. rw t) (λ t. rw t))
+  stays-stopping (Do (Act′.End j b)) r o = rw st (by-bool (eqb i j) (λ t. rw t) (λ t. rw t))
+  stays-stopping (Do (Act′.Return j d v)) r o = rw st (by-bool (eqb i j && isAt (d .0) (unitSite (v .0)) (packetIn (s .jobs) i n)) (λ t. rw t) (λ t. rw t))
+  stays-stopping (Do (Act′.Mark d v m on)) r o = st
 
   goes : (x : Call) → refusal s x ≡ Granted → ((how : How) → x ≡ Complete c how → ⊥) → Goes s (accept s x) c i n
   goes x r o =
@@ -274,41 +271,41 @@ module _ (s : State) (I : Inv s) (W : Waits s) where
     where
       different : {how : How} → Take j asg ≡ Complete c how → ⊥
       different q = let y : _≡_ {A = ℕ} 0 1 = cc in omega arith
-  accept-waits (Submit j p f d w) r c u e = still-waits (Submit j p f d w) r c u e (sym (submit-keeps s j p f d w c u)) (λ v how q. let y : _≡_ {A = ℕ} 0 1 = cc in omega arith)
-  accept-waits (Start d) r c u e = still-waits (Start d) r c u e (same (find (startable s d) (s .queue))) (λ v how q. let y : _≡_ {A = ℕ} 0 1 = cc in omega arith)
+  accept-waits (Do (Act′.Submit j p f d w)) r c u e = still-waits (Submit j p f (d .0) w) r c u e (sym (submit-keeps s j p f (d .0) w c u)) (λ v how q. let y : _≡_ {A = ℕ} 0 1 = cc in omega arith)
+  accept-waits (Do (Act′.Start d)) r c u e = still-waits (Start (d .0)) r c u e (same (find (startable s (d .0)) (s .queue))) (λ v how q. let y : _≡_ {A = ℕ} 0 1 = cc in omega arith)
     where
-      same : (o : Option ℕ) → unitIn (s .units) c u .holder ≡ unitIn (started s d o .units) c u .holder
+      same : (o : Option ℕ) → unitIn (s .units) c u .holder ≡ unitIn (started s (d .0) o .units) c u .holder
       same none = refl
       same (some x) = refl
-  accept-waits (Complete d how) r c u e =
-      let y = busy-of (motionOn s d) (completes-on s d how r .1) in
+  accept-waits (Do (Act′.Complete d how)) r c u e =
+      let y = busy-of (motionOn s (d .0)) (completes-on s (d .0) how r .1) in
       let j = y .0 in
       let p = y .1 in
       let a = packetIn (s .jobs) j p .at in
-      let s₁ = finished s d how j p in
+      let s₁ = finished s (d .0) how j p in
       let s₂ = returnIfDone j s₁ in
-      let e′ : isReturning (unitIn (freedAt (s₂ .units) d a) c u .holder) ≡ true = rw (y .2) at e in
-      let k = back-returning (s₂ .units) d a c u e′ in
-      let same : unitIn (s .units) c u .holder ≡ unitIn (freedAt (s₂ .units) d a) c u .holder = sym (finish-keeps s d how j p c u) ∙ return-returning s₁ j c u (ap isReturning (k .0) ∙ e′) ∙ k .0 in
-      still-waits (Complete d how) r c u e (rw (y .2) same)
-      (λ w how′ q. let f : d ≡ c = cc in
+      let e′ : isReturning (unitIn (freedAt (s₂ .units) (d .0) a) c u .holder) ≡ true = rw (y .2) at e in
+      let k = back-returning (s₂ .units) (d .0) a c u e′ in
+      let same : unitIn (s .units) c u .holder ≡ unitIn (freedAt (s₂ .units) (d .0) a) c u .holder = sym (finish-keeps s (d .0) how j p c u) ∙ return-returning s₁ j c u (ap isReturning (k .0) ∙ e′) ∙ k .0 in
+      still-waits (Complete (d .0) how) r c u e (rw (y .2) same)
+      (λ w how′ q. let f : (d .0) ≡ c = cc in
       let m : Busy (w .place) (w .packet) ≡ Busy j p = sym (w .moves) ∙ ap (motionOn s) (sym f) ∙ y .2 in
       let i : w .place ≡ j = cc in
       let n : w .packet ≡ p = cc in
       k .1 (sym f) (rw (i, n) at (w .at)))
-  accept-waits (End j b) r c u e = still-waits (End j b) r c u e (return-returning (closed s j b) j c u e) (λ v how q. let y : _≡_ {A = ℕ} 0 1 = cc in omega arith)
-  accept-waits (Return j d v) r c u e =
-      let k = returns-of s j d v r in
-      let h = held-unit (s .units) d v (next s I j d v k) (held-taken (unitIn (s .units) d v .holder) j (k .held)) c u in
-      by-bool (eqb c d && eqb u v)
-      (λ t. let x : c ≡ d = eqb-true c d (and-left (eqb c d) _ t) in
-      let y : u ≡ v = eqb-true u v (and-right (eqb c d) _ t) in
-      rw (x, y) (now-waits j d v k (rw (x, y) at e)))
-      (λ t. let same : unitIn (s .units) c u .holder ≡ unitIn (handedBack s j d (unitSite v) .units) c u .holder = rw (h, t) in
-      still-waits (Return j d v) r c u e same (λ w how q. let y : _≡_ {A = ℕ} 0 1 = cc in omega arith))
-  accept-waits (Mark d v m on) r c u e =
-      still-waits (Mark d v m on) r c u e
-      (sym (unit-keep (λ (o : UnitState). o .holder) (s .units) d v (markedUnit m on (unitIn (s .units) d v)) c u (mark-holder m on (unitIn (s .units) d v))))
+  accept-waits (Do (Act′.End j b)) r c u e = still-waits (End j b) r c u e (return-returning (closed s j b) j c u e) (λ v how q. let y : _≡_ {A = ℕ} 0 1 = cc in omega arith)
+  accept-waits (Do (Act′.Return j d v)) r c u e =
+      let k = returns-of s j (d .0) (v .0) r in
+      let h = held-unit (s .units) (d .0) (v .0) (next s I j (d .0) (v .0) k) (held-taken (unitIn (s .units) (d .0) (v .0) .holder) j (k .held)) c u in
+      by-bool (eqb c (d .0) && eqb u (v .0))
+      (λ t. let x : c ≡ (d .0) = eqb-true c (d .0) (and-left (eqb c (d .0)) _ t) in
+      let y : u ≡ (v .0) = eqb-true u (v .0) (and-right (eqb c (d .0)) _ t) in
+      rw (x, y) (now-waits j (d .0) (v .0) k (rw (x, y) at e)))
+      (λ t. let same : unitIn (s .units) c u .holder ≡ unitIn (handedBack s j (d .0) (unitSite (v .0)) .units) c u .holder = rw (h, t) in
+      still-waits (Return j (d .0) (v .0)) r c u e same (λ w how q. let y : _≡_ {A = ℕ} 0 1 = cc in omega arith))
+  accept-waits (Do (Act′.Mark d v m on)) r c u e =
+      still-waits (Mark (d .0) (v .0) m on) r c u e
+      (sym (unit-keep (λ (o : UnitState). o .holder) (s .units) (d .0) (v .0) (markedUnit m on (unitIn (s .units) (d .0) (v .0))) c u (mark-holder m on (unitIn (s .units) (d .0) (v .0)))))
       (λ w how q. let y : _≡_ {A = ℕ} 0 1 = cc in omega arith)
 
   pub step-waits : (x : Call) → Waits (step s x .state)

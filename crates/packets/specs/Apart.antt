@@ -7,7 +7,7 @@ use mathlib.Core.List.{List, [], _∷_}
 use Rattle.units.specs.declared.Unit.{Unit as UnitState}
 use Rattle.channels.specs.declared.Channel.{Channel}
 use Rattle.packets.specs.Demand.{NoneHeld, fresh}
-use Rattle.packets.specs.Rules.{Call, Complete, End, Mark, Return, Start, Submit, Take, freshJob, inArea, run, step}
+use Rattle.packets.specs.Rules.{Call, Do, Take, freshJob, inArea, run, step}
 use Rattle.packets.specs.State.{State, isEmpty, inRun, jobIn, stateIn}
 use Rattle.packets.specs.declared.Job.{Job}
 
@@ -29,12 +29,7 @@ Apart part s =
 abbrev pub Fits : Part → State → Call → Type 0
 Fits part s (Take j asg) =
     (i x : ℕ) → isEmpty (stateIn (s .jobs) i) ≡ false → part (jobIn (s .jobs) i) x ≡ true → part (freshJob asg) x ≡ true → ⊥
-Fits part s (Submit j p f c w) = Unit {0}
-Fits part s (Start c) = Unit {0}
-Fits part s (Complete c how) = Unit {0}
-Fits part s (End j e) = Unit {0}
-Fits part s (Return j c u) = Unit {0}
-Fits part s (Mark c u m on) = Unit {0}
+Fits part s (Do x) = Unit {0}
 
 -- so is each taking of a history
 abbrev pub Fitting : Part → State → List Call → Type 0

@@ -5,15 +5,11 @@
 use Prim.Native.Nat.{ℕ, _+_, _-_, _^_, _≤_}
 use mathlib.Core.Path.{_≡_}
 use mathlib.Core.Bool.{Bool, true, false, cond, _&&_}
+use Rattle.numbers.specs.declared.ChannelNumber.{ChannelNumber}
 use Rattle.channels.specs.Channels.{setsInterlock}
 use Rattle.packets.specs.Rules.{
   Call,
-  Complete,
-  End,
-  Mark,
-  Return,
-  Start,
-  Submit,
+  Do,
   Take,
   accept,
   answer,
@@ -26,6 +22,7 @@ use Rattle.packets.specs.Rules.{
   returnIfDone,
 }
 use Rattle.packets.specs.State.{State, isUnit, motionOn, packetIn}
+use Rattle.packets.specs.declared.Act.the-variants.{Submit, Start, Complete, End, Return, Mark}
 use Rattle.packets.specs.declared.Answer.{Answer}
 use Rattle.packets.specs.declared.Answer.the-variants.{Completed, Done}
 use Rattle.packets.specs.declared.How.{How}
@@ -64,8 +61,9 @@ completesBefore s c how (Busy j p) = Completed j p (leaving j (finishedBefore s 
 -- a completion that is not refused leaves and answers the same as then
 abbrev pub AsBefore : Type 0
 AsBefore =
-    (s : State) → AllListed (s .codes) → (c : ℕ) (how : How) → refusal s (Complete c how) ≡ Granted
-    → (accept s (Complete c how) ≡ completedBefore s c how (motionOn s c)) × (answer s (Complete c how) ≡ completesBefore s c how (motionOn s c))
+    (s : State) → AllListed (s .codes) → (c : ChannelNumber) (how : How) → refusal s (Do (Complete c how)) ≡ Granted
+    → (accept s (Do (Complete c how)) ≡ completedBefore s (c .0) how (motionOn s (c .0)))
+    × (answer s (Do (Complete c how)) ≡ completesBefore s (c .0) how (motionOn s (c .0)))
 
 -- the same state with another section
 abbrev pub withCodes : ℕ → State → State
@@ -74,12 +72,12 @@ withCodes codes s =
 
 abbrev pub isCompletion : Call → Bool
 isCompletion (Take j asg) = false
-isCompletion (Submit j p f c w) = false
-isCompletion (Start c) = false
-isCompletion (Complete c how) = true
-isCompletion (End j e) = false
-isCompletion (Return j c u) = false
-isCompletion (Mark c u m on) = false
+isCompletion (Do (Submit j p f c w)) = false
+isCompletion (Do (Start c)) = false
+isCompletion (Do (Complete c how)) = true
+isCompletion (Do (End j e)) = false
+isCompletion (Do (Return j c u)) = false
+isCompletion (Do (Mark c u m on)) = false
 
 -- and nothing else goes by the section: no refusal does, and what any other call leaves and answers does not
 pub record OnlyCompletions : Type 0 where

@@ -13,12 +13,7 @@ use Rattle.packets.specs.Lone.{endsWith, stops}
 use Rattle.packets.specs.Picks.{find}
 use Rattle.packets.specs.Rules.{
   Call,
-  Complete,
-  End,
-  Mark,
-  Return,
-  Start,
-  Submit,
+  Do,
   Take,
   accept,
   aimed,
@@ -32,6 +27,7 @@ use Rattle.packets.specs.Rules.{
   step,
 }
 use Rattle.packets.specs.State.{isPacket, isUnit, State, motionOn, packetIn, packetOf, placeOf}
+use Rattle.packets.specs.declared.Act.the-variants.{Submit, Start, Complete, End, Return, Mark}
 use Rattle.packets.specs.declared.How.{How}
 use Rattle.packets.specs.declared.How.the-variants.{Cut, Failed, Full}
 use Rattle.packets.specs.declared.Motion.{Motion}
@@ -77,16 +73,16 @@ afterComplete s c how (Busy j p) i n =
 -- packet n of place i after an accepted call
 unfoldable pub statusAfter : State → Call → ℕ → ℕ → Status
 statusAfter s (Take j asg) i n = cond (eqb i j) Blank (packetIn (s .jobs) i n .status)
-statusAfter s (Submit j p f c w) i n = afterSubmit s j p f c w i n
-statusAfter s (Start c) i n = cond (takes (find (startable s c) (s .queue)) i n) InProgress (packetIn (s .jobs) i n .status)
-statusAfter s (Complete c how) i n = afterComplete s c how (motionOn s c) i n
-statusAfter s (End j e) i n =
+statusAfter s (Do (Submit j p f c w)) i n = afterSubmit s j p f (c .0) w i n
+statusAfter s (Do (Start c)) i n = cond (takes (find (startable s (c .0)) (s .queue)) i n) InProgress (packetIn (s .jobs) i n .status)
+statusAfter s (Do (Complete c how)) i n = afterComplete s (c .0) how (motionOn s (c .0)) i n
+statusAfter s (Do (End j e)) i n =
     cond (eqb i j) (stops (endsWith 0o16 (packetIn (s .jobs) i n .status))) (packetIn (s .jobs) i n .status)
 -- a return: what its job has listed on the unit ends with 16o, what is in progress there is stopping
-statusAfter s (Return j c u) i n =
+statusAfter s (Do (Return j c u)) i n =
     let q = packetIn (s .jobs) i n in
-    cond (eqb i j && isAt c (AtUnit (record { 0 = u })) q) (stops (endsWith 0o16 (q .status))) (q .status)
-statusAfter s (Mark c u m on) i n = packetIn (s .jobs) i n .status
+    cond (eqb i j && isAt (c .0) (AtUnit u) q) (stops (endsWith 0o16 (q .status))) (q .status)
+statusAfter s (Do (Mark c u m on)) i n = packetIn (s .jobs) i n .status
 
 -- over any history: before each accepted call s is a cell that calls led to
 abbrev pub Codes : Type 0
@@ -98,12 +94,12 @@ Codes =
 -- the calls that a packet's ended status does not outlast: its own submission, and a taking of its place
 abbrev pub renews : Call → ℕ → ℕ → Bool
 renews (Take j asg) i n = eqb i j
-renews (Submit j p f c w) i n = isPacket j p i n
-renews (Start c) i n = false
-renews (Complete c how) i n = false
-renews (End j e) i n = false
-renews (Return j c u) i n = false
-renews (Mark c u m on) i n = false
+renews (Do (Submit j p f c w)) i n = isPacket j p i n
+renews (Do (Start c)) i n = false
+renews (Do (Complete c how)) i n = false
+renews (Do (End j e)) i n = false
+renews (Do (Return j c u)) i n = false
+renews (Do (Mark c u m on)) i n = false
 
 -- an ended packet keeps its code through every other call, accepted or refused
 abbrev pub Kept : Type 0

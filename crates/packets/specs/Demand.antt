@@ -9,8 +9,9 @@ use Rattle.units.specs.declared.Unit.{Unit as UnitState}
 use Rattle.units.specs.State.{unitIn}
 use Rattle.units.specs.declared.Holder.the-variants.{Free}
 use Rattle.packets.specs.Lone.{isAtRest, loneRun, loneStarts, loneTakesAll, newLone}
-use Rattle.packets.specs.Rules.{Call, Complete, End, Mark, Return, Start, Submit, Take, siteOf, refusal, run, step}
+use Rattle.packets.specs.Rules.{Call, Do, Take, siteOf, refusal, run, step}
 use Rattle.packets.specs.State.{State, blank, drumOn, heldBy, isEmpty, jobIn, motionOn, noCore, packetIn, stateIn}
+use Rattle.packets.specs.declared.Act.the-variants.{Submit, Start, Complete, End, Return, Mark}
 use Rattle.packets.specs.declared.Answer.{Answer}
 use Rattle.packets.specs.declared.Answer.the-variants.{Closed, Completed, Done, Refused, Started}
 use Rattle.packets.specs.declared.Assignment.{Assignment}
@@ -103,12 +104,12 @@ noneSeen n = false
 -- an accepted submission of the job's says where its packet was last submitted
 unfoldable pub noted : Holding → Seen → Call → Answer → Seen
 noted h t (Take j asg) r n = t n
-noted h t (Submit j p f c w) r n = cond (isAccepted r && eqb j (h .place) && eqb n p) (isThere h c (siteOf w)) (t n)
-noted h t (Start c) r n = t n
-noted h t (Complete c how) r n = t n
-noted h t (End j e) r n = t n
-noted h t (Return j c u) r n = t n
-noted h t (Mark c u m on) r n = t n
+noted h t (Do (Submit j p f c w)) r n = cond (isAccepted r && eqb j (h .place) && eqb n p) (isThere h (c .0) (siteOf w)) (t n)
+noted h t (Do (Start c)) r n = t n
+noted h t (Do (Complete c how)) r n = t n
+noted h t (Do (End j e)) r n = t n
+noted h t (Do (Return j c u)) r n = t n
+noted h t (Do (Mark c u m on)) r n = t n
 
 -- a start that took a packet there
 abbrev pub tookThere : Holding → ℕ → Answer → Bool
@@ -130,12 +131,12 @@ endedThere h t (Refused n) = false
 -- completions of such packets, and the job's end; and "the release acts on the holding": its job's return of that unit
 unfoldable pub acts : Holding → Seen → Call → Answer → Bool
 acts h t (Take j asg) r = false
-acts h t (Submit j p f c w) r = isAccepted r && (eqb j (h .place) && isThere h c (siteOf w))
-acts h t (Start c) r = tookThere h c r
-acts h t (Complete c how) r = endedThere h t r
-acts h t (End j e) r = isAccepted r && eqb j (h .place)
-acts h t (Return j c u) r = isAccepted r && (eqb j (h .place) && isThere h c (AtUnit (record { 0 = u })))
-acts h t (Mark c u m on) r = false
+acts h t (Do (Submit j p f c w)) r = isAccepted r && (eqb j (h .place) && isThere h (c .0) (siteOf w))
+acts h t (Do (Start c)) r = tookThere h (c .0) r
+acts h t (Do (Complete c how)) r = endedThere h t r
+acts h t (Do (End j e)) r = isAccepted r && eqb j (h .place)
+acts h t (Do (Return j c u)) r = isAccepted r && (eqb j (h .place) && isThere h (c .0) (AtUnit u))
+acts h t (Do (Mark c u m on)) r = false
 
 -- the calls of a stretch that acted on the holding
 unfoldable pub acting : Holding → Seen → List Event → List Call
@@ -176,7 +177,7 @@ Stretch h s (x ∷ l) = Holds s h × Stretch h (step s x .state) l
 abbrev pub OwnStarts : Holding → Seen → List Event → Type 0
 OwnStarts h t [] = Unit {0}
 OwnStarts h t (e ∷ l) =
-    ((b : Begun) → e .call ≡ Start (h .channel) → e .answer ≡ Started b → b .at ≡ itsUnit h
+    ((b : Begun) → e .call ≡ Do (Start (record { 0 = h .channel })) → e .answer ≡ Started b → b .at ≡ itsUnit h
     → (b .place ≡ h .place) × (t (b .packet) ≡ true))
     × OwnStarts h (noted h t (e .call) (e .answer)) l
 

@@ -5,8 +5,9 @@ use Prim.Native.Nat.{ℕ}
 use mathlib.Core.Bool.{Bool, false, cond, _&&_, _||_}
 use lib.Dec.{eqb}
 use Rattle.units.specs.State.{unitIn}
-use Rattle.packets.specs.Rules.{Call, Complete, End, Mark, Return, Start, Submit, Take, accept, isTrouble, siteOf}
+use Rattle.packets.specs.Rules.{Call, Do, Take, accept, isTrouble, siteOf}
 use Rattle.packets.specs.State.{State, heldBy, motionOn, packetIn, same}
+use Rattle.packets.specs.declared.Act.the-variants.{Submit, Start, Complete, End, Return, Mark}
 use Rattle.packets.specs.declared.Motion.{Motion}
 use Rattle.packets.specs.declared.Motion.the-variants.{Busy, Idle}
 use Rattle.packets.specs.declared.Site.{Site}
@@ -27,10 +28,10 @@ unfoldable pub interlockAfter : State → Call → ℕ → ℕ → Bool
 interlockAfter s (Take j asg) c u =
     cond (heldBy (unitIn (accept s (Take j asg) .units) c u .holder) j) false (unitIn (s .units) c u .interlock)
 -- 07 clears it; 23 "doesn't touch interlock"
-interlockAfter s (Submit j p f d w) c u = cond (eqb f 0o07 && isThat c u d (siteOf w)) false (unitIn (s .units) c u .interlock)
-interlockAfter s (Start d) c u = unitIn (s .units) c u .interlock
+interlockAfter s (Do (Submit j p f d w)) c u = cond (eqb f 0o07 && isThat c u (d .0) (siteOf w)) false (unitIn (s .units) c u .interlock)
+interlockAfter s (Do (Start d)) c u = unitIn (s .units) c u .interlock
 -- "Any other failure code sets none", nor does any on the drum
-interlockAfter s (Complete d how) c u = (isTrouble (s .codes) how && carriedAt s d (motionOn s d) c u) || unitIn (s .units) c u .interlock
-interlockAfter s (End j e) c u = unitIn (s .units) c u .interlock
-interlockAfter s (Return j d v) c u = unitIn (s .units) c u .interlock
-interlockAfter s (Mark d v m on) c u = unitIn (s .units) c u .interlock
+interlockAfter s (Do (Complete d how)) c u = (isTrouble (s .codes) how && carriedAt s (d .0) (motionOn s (d .0)) c u) || unitIn (s .units) c u .interlock
+interlockAfter s (Do (End j e)) c u = unitIn (s .units) c u .interlock
+interlockAfter s (Do (Return j d v)) c u = unitIn (s .units) c u .interlock
+interlockAfter s (Do (Mark d v m on)) c u = unitIn (s .units) c u .interlock

@@ -7,7 +7,8 @@ use mathlib.Core.Bool.{Bool, true, false, not, cond, _&&_}
 use mathlib.Core.List.{List, [], _∷_, _++_}
 use mathlib.Core.Option.{Option, none, some}
 use lib.Dec.{leb, eqb}
-use Rattle.packets.specs.Rules.{Call, Complete, End, Mark, Return, Start, Submit, Take}
+use Rattle.packets.specs.Rules.{Call, Do, Take}
+use Rattle.packets.specs.declared.Act.the-variants.{Submit, Start, Complete, End, Return, Mark}
 use Rattle.packets.specs.declared.Begun.{Begun}
 use Rattle.packets.specs.declared.How.{How}
 use Rattle.packets.specs.declared.How.the-variants.{Cut, Failed, Full}
@@ -216,24 +217,24 @@ mayComplete l how (some n) = mayEnd (l .packets n .status) how
 -- of drum (1)
 unfoldable pub loneTakes : Bool → Lone → Call → Bool
 loneTakes drum l (Take j asg) = false
-loneTakes drum l (Submit j n f c w) = not (l .jobOver) && (not (l .returning) && not (inUse (l .packets n .status)))
-loneTakes drum l (Start c) = not (l .jobOver) && (isAtRest (l .moving) && (not (l .interlock) && hasListed (l .order)))
-loneTakes drum l (Complete c how) = mayComplete l how (l .moving)
-loneTakes drum l (End j e) = not (l .jobOver)
-loneTakes drum l (Return j c u) = not drum && (not (l .jobOver) && not (l .returning))
-loneTakes drum l (Mark c u m on) = false
+loneTakes drum l (Do (Submit j n f c w)) = not (l .jobOver) && (not (l .returning) && not (inUse (l .packets n .status)))
+loneTakes drum l (Do (Start c)) = not (l .jobOver) && (isAtRest (l .moving) && (not (l .interlock) && hasListed (l .order)))
+loneTakes drum l (Do (Complete c how)) = mayComplete l how (l .moving)
+loneTakes drum l (Do (End j e)) = not (l .jobOver)
+loneTakes drum l (Do (Return j c u)) = not drum && (not (l .jobOver) && not (l .returning))
+loneTakes drum l (Do (Mark c u m on)) = false
 
 -- ---- what it does
 
 -- what a call that it takes does; section: the codes that set interlock; drum: it is a piece of drum
 unfoldable pub loneDoes : ℕ → Bool → Lone → Call → Lone
 loneDoes section drum l (Take j asg) = l
-loneDoes section drum l (Submit j n f c w) = hears l n f w
-loneDoes section drum l (Start c) = setsOff l (l .order)
-loneDoes section drum l (Complete c how) = completesAs section drum l how (l .moving)
-loneDoes section drum l (End j e) = closes (halts (λ x. true) l)
-loneDoes section drum l (Return j c u) = asksBack (halts (λ x. true) l)
-loneDoes section drum l (Mark c u m on) = l
+loneDoes section drum l (Do (Submit j n f c w)) = hears l n f w
+loneDoes section drum l (Do (Start c)) = setsOff l (l .order)
+loneDoes section drum l (Do (Complete c how)) = completesAs section drum l how (l .moving)
+loneDoes section drum l (Do (End j e)) = closes (halts (λ x. true) l)
+loneDoes section drum l (Do (Return j c u)) = asksBack (halts (λ x. true) l)
+loneDoes section drum l (Do (Mark c u m on)) = l
 
 -- a refused call leaves it as it was
 unfoldable pub loneStep : ℕ → Bool → Lone → Call → Lone
@@ -246,12 +247,12 @@ startOf place l (n ∷ r) = (record { place = place; packet = n; function = l .p
 
 unfoldable pub startBy : ℕ → Lone → Call → List Begun
 startBy place l (Take j asg) = []
-startBy place l (Submit j n f c w) = []
-startBy place l (Start c) = startOf place l (l .order)
-startBy place l (Complete c how) = []
-startBy place l (End j e) = []
-startBy place l (Return j c u) = []
-startBy place l (Mark c u m on) = []
+startBy place l (Do (Submit j n f c w)) = []
+startBy place l (Do (Start c)) = startOf place l (l .order)
+startBy place l (Do (Complete c how)) = []
+startBy place l (Do (End j e)) = []
+startBy place l (Do (Return j c u)) = []
+startBy place l (Do (Mark c u m on)) = []
 
 -- a refused call starts nothing
 unfoldable pub loneStart : Bool → ℕ → Lone → Call → List Begun

@@ -43,6 +43,8 @@ use Rattle.packets.specs.declared.Site.{Site}
 use Rattle.packets.specs.declared.Site.the-variants.{AtUnit, AtAddress}
 use Rattle.packets.specs.declared.How.{How}
 use Rattle.packets.specs.declared.How.the-variants.{Full, Cut, Failed}
+use Rattle.packets.specs.declared.Act.{Act}
+use Rattle.packets.specs.declared.Act.the-variants.{Submit, Start, Complete, End, Return, Mark}
 use Rattle.packets.specs.declared.Assignment.{Assignment}
 use Rattle.packets.specs.declared.Leaving.{Leaving}
 use Rattle.packets.specs.declared.Leaving.the-variants.{Stays, AfterNormal, AfterError}
@@ -95,18 +97,8 @@ use Rattle.packets.specs.State.{
 pub data Call : Type 0 where
   -- a job is taken into a place with an assignment
   Take : ℕ → Assignment → Call
-  -- a submission names place, packet, function, channel and unit or address
-  Submit : ℕ → ℕ → ℕ → ℕ → Spot → Call
-  -- start on a channel
-  Start : ℕ → Call
-  -- completion on a channel
-  Complete : ℕ → How → Call
-  -- the job in a place ends: true in error
-  End : ℕ → Bool → Call
-  -- the job in a place gives unit u of channel c back (02, request 5)
-  Return : ℕ → ℕ → ℕ → Call
-  -- a mark of unit u of channel c, down or reserved, is set (true) or cleared
-  Mark : ℕ → ℕ → UnitMark → Bool → Call
+  -- a submission, a start, a completion, a job's end, a unit's return (02, request 5), a mark set (true) or cleared
+  Do : Act → Call
 
 -- the unit, or the address X or L
 abbrev pub siteOf : Spot → Site
@@ -406,44 +398,44 @@ returnRefusal has state head j c u =
 unfoldable pub refusal : State → Call → Verdict
 -- a job is taken into a place that is free; 18 is for any other, which no selection names (it is shown of each)
 refusal s (Take j asg) = first (not (ltb j 16 && isEmpty (stateIn (s .jobs) j))) NoPlaceFree Granted
-refusal s (Submit j p f c w) = submitRefusal (fittedOn (s .channels) c) (jobIn (s .jobs) j) (unitAt (s .units) c (siteOf w)) j p f c w
-refusal s (Start c) =
-    first (not (configured (s .channels) c)) OutOfRange
-    (first (not (isIdle (motionOn s c))) ChannelBusy
-    (first (isNone (find (startable s c) (s .queue))) NothingStartable
+refusal s (Do (Submit j p f c w)) = submitRefusal (fittedOn (s .channels) (c .0)) (jobIn (s .jobs) j) (unitAt (s .units) (c .0) (siteOf w)) j p f (c .0) w
+refusal s (Do (Start c)) =
+    first (not (configured (s .channels) (c .0))) OutOfRange
+    (first (not (isIdle (motionOn s (c .0)))) ChannelBusy
+    (first (isNone (find (startable s (c .0)) (s .queue))) NothingStartable
     Granted))
-refusal s (Complete c how) =
-    first (not (configured (s .channels) c)) OutOfRange
-    (first (isIdle (motionOn s c)) NothingInProgress
-    (first (isWrong (movingStatus s (motionOn s c)) how) WrongCompletion
+refusal s (Do (Complete c how)) =
+    first (not (configured (s .channels) (c .0))) OutOfRange
+    (first (isIdle (motionOn s (c .0))) NothingInProgress
+    (first (isWrong (movingStatus s (motionOn s (c .0))) how) WrongCompletion
     Granted))
-refusal s (End j e) =
+refusal s (Do (End j e)) =
     first (not (ltb j 16)) OutOfRange
     (first (not (isRunning (stateIn (s .jobs) j))) NoJob
     Granted)
-refusal s (Return j c u) = returnRefusal (fittedOn (s .channels) c) (stateIn (s .jobs) j) (unitIn (s .units) c u) j c u
-refusal s (Mark c u m on) =
-    first (not (ltb c 16 && reaches (fittedOn (s .channels) c) (OnUnit (record { 0 = u })))) OutOfRange Granted
+refusal s (Do (Return j c u)) = returnRefusal (fittedOn (s .channels) (c .0)) (stateIn (s .jobs) j) (unitIn (s .units) (c .0) (u .0)) j (c .0) (u .0)
+refusal s (Do (Mark c u m on)) =
+    first (not (ltb (c .0) 16 && reaches (fittedOn (s .channels) (c .0)) (OnUnit u))) OutOfRange Granted
 
 -- ---- what an accepted call leaves, and what it answers
 
 unfoldable pub accept : State → Call → State
 accept s (Take j asg) = assigned s j asg
-accept s (Submit j p f c w) = submitted s j p f c w
-accept s (Start c) = started s c (find (startable s c) (s .queue))
-accept s (Complete c how) = completed s c how (motionOn s c)
-accept s (End j e) = ended s j e
-accept s (Return j c u) = handedBack s j c (AtUnit (record { 0 = u }))
-accept s (Mark c u m on) = marked s c u m on
+accept s (Do (Submit j p f c w)) = submitted s j p f (c .0) w
+accept s (Do (Start c)) = started s (c .0) (find (startable s (c .0)) (s .queue))
+accept s (Do (Complete c how)) = completed s (c .0) how (motionOn s (c .0))
+accept s (Do (End j e)) = ended s j e
+accept s (Do (Return j c u)) = handedBack s j (c .0) (AtUnit u)
+accept s (Do (Mark c u m on)) = marked s (c .0) (u .0) m on
 
 unfoldable pub answer : State → Call → Answer
 answer s (Take j asg) = Done
-answer s (Submit j p f c w) = Done
-answer s (Start c) = begins s (find (startable s c) (s .queue))
-answer s (Complete c how) = completes s c how (motionOn s c)
-answer s (End j e) = Closed (leaving j (closed s j e))
-answer s (Return j c u) = Done
-answer s (Mark c u m on) = Done
+answer s (Do (Submit j p f c w)) = Done
+answer s (Do (Start c)) = begins s (find (startable s (c .0)) (s .queue))
+answer s (Do (Complete c how)) = completes s (c .0) how (motionOn s (c .0))
+answer s (Do (End j e)) = Closed (leaving j (closed s j e))
+answer s (Do (Return j c u)) = Done
+answer s (Do (Mark c u m on)) = Done
 
 -- ---- a step, a run
 

@@ -3,6 +3,7 @@ use channels::Channel;
 use numbers::ChannelNumber;
 use numbers::Refusal;
 use numbers::UnitNumber;
+use units::Mark;
 use units::Units;
 
 // A packet is blank, listed, in progress, stopping or ended with a code.
@@ -95,6 +96,18 @@ pub enum How {
     Full,
     Cut,
     Failed(u8),
+}
+
+// A call on packets, jobs, units and marks. Submit: place, packet, function, channel, and unit or address. Start and
+// Complete: the channel. End: the place, and whether in error. Return: the place whose job gives the unit back. Mark:
+// whether it is set.
+pub enum Act {
+    Submit(u8, u8, u8, ChannelNumber, Spot),
+    Start(ChannelNumber),
+    Complete(ChannelNumber, How),
+    End(u8, bool),
+    Return(u8, ChannelNumber, UnitNumber),
+    Mark(ChannelNumber, UnitNumber, Mark, bool),
 }
 
 // What a job is given: unit u of channel c where units[c * 16 + u]; a drum area and core.
