@@ -35,7 +35,7 @@ unfoldable pub answersThere : Holding → State → ℕ → Answer → Bool
 answersThere h s c Done = false
 answersThere h s c (Started b) = eqb (b .place) (h .place) && isThere h c (b .at)
 answersThere h s c (Completed j p r) = eqb j (h .place) && there h (packetIn (s .jobs) j p)
-answersThere h s c (Closed r) = false
+answersThere h s c (Closed j r) = false
 answersThere h s c (Refused n) = false
 
 unfoldable pub actsNow : Holding → State → Call → Bool

@@ -91,7 +91,7 @@ abbrev pub isAccepted : Answer → Bool
 isAccepted Done = true
 isAccepted (Started b) = true
 isAccepted (Completed j p r) = true
-isAccepted (Closed r) = true
+isAccepted (Closed j r) = true
 isAccepted (Refused n) = false
 
 -- which of the job's packets were, since the taking, last submitted there
@@ -116,7 +116,7 @@ abbrev pub tookThere : Holding → ℕ → Answer → Bool
 tookThere h c Done = false
 tookThere h c (Started b) = eqb (b .place) (h .place) && isThere h c (b .at)
 tookThere h c (Completed j p r) = false
-tookThere h c (Closed r) = false
+tookThere h c (Closed j r) = false
 tookThere h c (Refused n) = false
 
 -- a completion of such a packet
@@ -124,7 +124,7 @@ abbrev pub endedThere : Holding → Seen → Answer → Bool
 endedThere h t Done = false
 endedThere h t (Started b) = false
 endedThere h t (Completed j p r) = eqb j (h .place) && t p
-endedThere h t (Closed r) = false
+endedThere h t (Closed j r) = false
 endedThere h t (Refused n) = false
 
 -- the calls that act on a holding are its job's submissions there (07 and 23 too), starts that took a packet there,
@@ -149,7 +149,7 @@ abbrev pub startIn : Answer → List Begun
 startIn Done = []
 startIn (Started b) = b ∷ []
 startIn (Completed j p r) = []
-startIn (Closed r) = []
+startIn (Closed j r) = []
 startIn (Refused n) = []
 
 -- the starts that those calls made in the cell
