@@ -20,7 +20,7 @@ use Rattle.shift_lines.specs.declared.Cut.{Cut}
 use Rattle.shift_lines.proofs.LineLaws.{taken-within}
 use Rattle.packets.specs.declared.Lists.{Lists}
 use Rattle.schedule_list.specs.declared.Schedule.{Schedule}
-use Rattle.cell.specs.Calls.{cellOf, afterCompletion}
+use Rattle.cell.specs.Calls.{cellOf, followed}
 use Rattle.shift_script.specs.Script.{lineSays}
 use Rattle.shift_script.specs.declared.Line.{Line}
 use Rattle.shift_script.specs.declared.Line.the-variants as Line′
@@ -88,12 +88,7 @@ talks-on Line′.Echo e = refl
 talks-on Line′.Deck e = absurd (false≢true e)
 talks-on Line′.Select e = refl
 talks-on Line′.Board e = refl
-talks-on (Line′.Submit s) e = refl
-talks-on (Line′.Start c) e = refl
-talks-on (Line′.Complete c h) e = refl
-talks-on (Line′.End p n) e = refl
-talks-on (Line′.Return p c u) e = refl
-talks-on (Line′.Mark c u m o) e = refl
+talks-on (Line′.Do act) e = refl
 talks-on Line′.Release e = refl
 talks-on Line′.Delete e = refl
 talks-on (Line′.Status p k) e = refl
@@ -117,13 +112,13 @@ call-turns Phase′.Over schedule lists line room answer answer′ h e g = absur
 
 -- a call on the request lists, answered from them, is a line's turn
 pub call-behind : (phase : Phase) (schedule s : Schedule) (lists : Lists) (call : Line) (said room answer answer′ out after : List ℕ) (at : ℕ) (r : Handled)
-    → call ≡ askedIn phase said → isForLists call ≡ true → HandlesBehind lists call answer answer′ out at after r → s ≡ afterCompletion schedule (r .answer)
+    → call ≡ askedIn phase said → isForLists call ≡ true → HandlesBehind lists call answer answer′ out at after r → s ≡ followed schedule (r .answer)
     → AnswersBehind (shiftOf phase (cellOf schedule lists)) said room room answer answer′ out at after (turnOf phase (cellOf s (r .lists)) (r .at))
 call-behind phase schedule s lists call said room answer answer′ out after at r c f g e =
     record {
       turn = turnOf phase (followedBy schedule (g .handled)) (g .handled .at);
       turns = call-turns phase schedule lists said room answer answer′ (g .handled) (subst (λ (x : Line). isForLists x ≡ true) c f) (subst (λ (x : Line). Handles lists x answer answer′ (g .handled)) c (g .handles));
-      shift = ap₂ (λ (t : Schedule) (l : Lists). shiftOf phase (cellOf t l)) (e ∙ ap (afterCompletion schedule) (g .says)) (g .leaves);
+      shift = ap₂ (λ (t : Schedule) (l : Lists). shiftOf phase (cellOf t l)) (e ∙ ap (followed schedule) (g .says)) (g .leaves);
       behind = g .behind;
     }
 

@@ -14,7 +14,7 @@ use shift_turns::Turn;
 ghost use mathlib.Core.Path.{_≡_};
 ghost use mathlib.Core.Bool.{false};
 ghost use lib.ListN.{take};
-ghost use Rattle.cell.specs.Calls.{cellOf, afterCompletion};
+ghost use Rattle.cell.specs.Calls.{cellOf, followed};
 ghost use Rattle.schedule_list.specs.declared.Schedule.{Schedule};
 ghost use Rattle.shift_turns.specs.Turns.{shiftOf, Ends};
 ghost use Rattle.shift_hearing.specs.Behind.{askedIn, AnswersBehind, HandlesBehind};
@@ -67,10 +67,9 @@ fn asked(phase: Phase, line: &[u8]) -> Line
     }
 }
 
-// Whether a completion returned its job's facilities. Where it did not, no schedule follows, and none is copied: that
-// is all that this is asked for.
-fn is_returning(answer: Answer) -> bool
-    ensures { λ r. ⌜ ((r ≡ false) → (s : Schedule) → afterCompletion s answer ≡ s) ⌝ }
+// Whether the schedule follows an answer. Where it does not, none is copied: that is all that this is asked for.
+fn is_followed(answer: Answer) -> bool
+    ensures { λ r. ⌜ ((r ≡ false) → (s : Schedule) → followed s answer ≡ s) ⌝ }
 {
     match answer {
         Answer::Done => false,
@@ -80,7 +79,7 @@ fn is_returning(answer: Answer) -> bool
             Leaving::AfterNormal => true,
             Leaving::AfterError => true,
         },
-        Answer::Closed(_) => false,
+        Answer::Closed(_, _) => true,
         Answer::Refused(_) => false,
     }
 }
@@ -163,8 +162,8 @@ pub fn hear(
                 let said = handled.answer;
                 lists = handled.lists;
                 at = handled.at;
-                if is_returning(said) {
-                    schedule = cell::after_completion(schedule, said);
+                if is_followed(said) {
+                    schedule = cell::follow(schedule, said);
                 }
             } else {
                 let now = shift_of(phase, schedule, lists);

@@ -3,6 +3,7 @@ use Prim.Native.Nat.{ℕ, min}
 use mathlib.Core.Path.{_≡_, refl, sym, ap, subst, _∙_}
 use mathlib.Core.Bool.{Bool, true, false}
 use mathlib.Core.List.{List}
+use Rattle.numbers.specs.declared.ChannelNumber.{ChannelNumber}
 use Rattle.channels.specs.declared.Channel.{Channel}
 use Rattle.channels.specs.declared.Fitted.{Fitted}
 use Rattle.text.specs.Room.{Written}
@@ -13,20 +14,20 @@ use Rattle.packets.specs.declared.Answer.{Answer}
 use Rattle.packets.specs.declared.Answer.the-variants.{Done}
 use Rattle.packets.specs.declared.Lists.{Lists}
 use Rattle.packets.specs.declared.Spot.the-variants.{OnUnit, OnDrum}
-use Rattle.shift_script.specs.declared.Submission.{Submission}
 use Rattle.shift_script.specs.declared.Line.{Line}
 use Rattle.shift_script.specs.declared.Line.the-variants as Line′
-use Rattle.shift_packets.specs.Texts.{spotOf}
+use Rattle.shift_packets.specs.Texts.{spotOn}
 use Rattle.shift_packets.specs.OnLists.{nothingDone, Tells, Gives, Handles}
 use Rattle.shift_packets.specs.declared.Handled.{Handled}
 
-module _ (channels : List Channel) (s : Submission) where
-  pub to-drum : drumOn channels (s .channel .0) ≡ true → OnDrum (s .at) (s .to) ≡ spotOf channels s
-  unfolding spotOf
+module _ (channels : List Channel) (channel : ChannelNumber) (x h : ℕ) where
+  pub to-drum : drumOn channels (channel .0) ≡ true → OnDrum x h ≡ spotOn channels channel (OnDrum x h)
+  unfolding spotOn
   to-drum d = rw d
 
-  pub to-unit : drumOn channels (s .channel .0) ≡ false → (n : ℕ) → n ≡ min (s .at) 255 → OnUnit (record { 0 = n }) ≡ spotOf channels s
-  unfolding spotOf
+  pub to-unit : drumOn channels (channel .0) ≡ false → (n : ℕ) → n ≡ min x 255
+      → OnUnit (record { 0 = n }) ≡ spotOn channels channel (OnDrum x h)
+  unfolding spotOn
   to-unit d n e = rw (d, e)
 
 -- whether a channel has the drum, by what it has
@@ -57,12 +58,7 @@ handles-one lists Line′.Echo room a b r q x y = tells-one x y
 handles-one lists Line′.Deck room a b r q x y = tells-one x y
 handles-one lists Line′.Select room a b r q x y = tells-one x y
 handles-one lists Line′.Board room a b r q x y = tells-one x y
-handles-one lists (Line′.Submit s) room a b r q x y = tells-one x y
-handles-one lists (Line′.Start c) room a b r q x y = tells-one x y
-handles-one lists (Line′.Complete c h) room a b r q x y = tells-one x y
-handles-one lists (Line′.End p e) room a b r q x y = tells-one x y
-handles-one lists (Line′.Return p c u) room a b r q x y = tells-one x y
-handles-one lists (Line′.Mark c u m o) room a b r q x y = tells-one x y
+handles-one lists (Line′.Do act) room a b r q x y = tells-one x y
 handles-one lists Line′.Release room a b r q x y = tells-one x y
 handles-one lists Line′.Delete room a b r q x y = tells-one x y
 handles-one lists (Line′.Status p k) room a b r q x y = tells-one x y

@@ -6,34 +6,24 @@ use mathlib.Core.Path.{_≡_}
 use mathlib.Core.Bool.{Bool, true, false}
 use mathlib.Core.List.{List, []}
 use Rattle.text.specs.Room.{Written}
-use Rattle.packets.specs.Rules as Rules
+use Rattle.packets.specs.Rules.{Do}
 use Rattle.packets.specs.declared.Acted.{Acted}
 use Rattle.packets.specs.declared.Answer.the-variants as Answer′
 use Rattle.packets.specs.declared.Lists.{Lists}
 use Rattle.lists.specs.Outcomes.{outcome, statusIn}
-use Rattle.shift_script.specs.declared.Submission.{Submission}
 use Rattle.shift_script.specs.declared.Line.{Line}
 use Rattle.shift_script.specs.declared.Line.the-variants as Line′
-use Rattle.shift_packets.specs.Texts.{answerText, statusAnswerText, submission}
+use Rattle.shift_packets.specs.Texts.{answerText, placed, statusAnswerText}
 use Rattle.shift_packets.specs.declared.Handled.{Handled}
 
--- the outcome of a line SUBMIT
-abbrev pub submittingIn : Lists → Submission → Acted
-submittingIn lists s = outcome lists (submission lists s)
-
--- whether a line is a call on the request lists alone: they say all that is answered to it
+-- whether a line is a call on the request lists: they say all that is answered to it
 abbrev pub isForLists : Line → Bool
 isForLists Line′.NoCall = false
 isForLists Line′.Echo = false
 isForLists Line′.Deck = false
 isForLists Line′.Select = false
 isForLists Line′.Board = false
-isForLists (Line′.Submit s) = true
-isForLists (Line′.Start channel) = true
-isForLists (Line′.Complete channel how) = true
-isForLists (Line′.End place inError) = false
-isForLists (Line′.Return place channel unit) = true
-isForLists (Line′.Mark channel unit mark on) = true
+isForLists (Line′.Do act) = true
 isForLists Line′.Release = false
 isForLists Line′.Delete = false
 isForLists (Line′.Status place packet) = true
@@ -66,14 +56,7 @@ Handles lists Line′.Echo room after r = NotHere lists room after r
 Handles lists Line′.Deck room after r = NotHere lists room after r
 Handles lists Line′.Select room after r = NotHere lists room after r
 Handles lists Line′.Board room after r = NotHere lists room after r
-Handles lists (Line′.Submit s) room after r = Gives (submittingIn lists s) room after r
-Handles lists (Line′.Start channel) room after r = Gives (outcome lists (Rules.Start (channel .0))) room after r
-Handles lists (Line′.Complete channel how) room after r = Gives (outcome lists (Rules.Complete (channel .0) how)) room after r
-Handles lists (Line′.End place inError) room after r = NotHere lists room after r
-Handles lists (Line′.Return place channel unit) room after r =
-    Gives (outcome lists (Rules.Return place (channel .0) (unit .0))) room after r
-Handles lists (Line′.Mark channel unit mark on) room after r =
-    Gives (outcome lists (Rules.Mark (channel .0) (unit .0) mark on)) room after r
+Handles lists (Line′.Do act) room after r = Gives (outcome lists (Do (placed (lists .channels) act))) room after r
 Handles lists Line′.Release room after r = NotHere lists room after r
 Handles lists Line′.Delete room after r = NotHere lists room after r
 Handles lists (Line′.Status place packet) room after r =

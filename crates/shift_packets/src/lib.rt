@@ -1,20 +1,21 @@
-// A line of the script that is a call on the request lists alone: a submission, a start, a completion, a unit's return,
-// a mark, or a packet's status. It is handed the request lists and not the cell, so that the schedule is not copied for
+// A line of the script that is a call on the request lists: on packets, jobs, units and marks, or a packet's status. It
+// is handed the request lists and not the cell, so that the schedule is not copied for
 // it. The line of an answer is put here for all calls.
 use channels::Channel;
 use lists::StatusAnswer;
+use numbers::ChannelNumber;
 use numbers::UnitNumber;
+use packets::Act;
 use packets::Acted;
 use packets::Answer;
 use packets::Lists;
 use packets::Spot;
 use shift_script::Line;
-use shift_script::Submission;
 ghost use mathlib.Core.Path.{_≡_};
 ghost use Rattle.text.specs.Room.{Written};
 ghost use Rattle.packets.specs.declared.Answer.the-variants.{Done};
-ghost use Rattle.shift_packets.specs.Texts.{answerText, statusAnswerText, spotOf};
-ghost use Rattle.shift_packets.specs.OnLists.{submittingIn, isForLists, Gives, Handles};
+ghost use Rattle.shift_packets.specs.Texts.{answerText, statusAnswerText, spotOn, placed};
+ghost use Rattle.shift_packets.specs.OnLists.{isForLists, Gives, Handles};
 
 // The request lists after a line, what the call answered (done, for a status, refused or not, and for a line that is no
 // such call), and where its text ends in the lent room.
@@ -34,12 +35,7 @@ pub fn is_for_lists(call: Line) -> bool
         Line::Deck => false,
         Line::Select => false,
         Line::Board => false,
-        Line::Submit(_) => true,
-        Line::Start(_) => true,
-        Line::Complete(_, _) => true,
-        Line::End(_, _) => false,
-        Line::Return(_, _, _) => true,
-        Line::Mark(_, _, _, _) => true,
+        Line::Do(_) => true,
         Line::Release => false,
         Line::Delete => false,
         Line::Status(_, _) => true,
@@ -55,7 +51,7 @@ pub fn put_answer(out: &mut [u8], answer: Answer) -> usize
         Answer::Done => shift_answers::put_done(out, 0),
         Answer::Started(begun) => shift_answers::put_started(out, 0, begun),
         Answer::Completed(place, packet, _) => shift_answers::put_completed(out, 0, place, packet),
-        Answer::Closed(_) => shift_answers::put_done(out, 0),
+        Answer::Closed(_, _) => shift_answers::put_done(out, 0),
         Answer::Refused(refusal) => shift_pieces::put_refused(out, 0, refusal),
     }
 }
@@ -70,37 +66,40 @@ fn put_status(out: &mut [u8], answer: StatusAnswer) -> usize
     }
 }
 
-// Where a submission goes: on the drum channel to an address or two, elsewhere to a unit. A unit number over 255 is
-// out of range as 255 is.
-fn spot_of(channels: [Channel; 16], submission: Submission) -> Spot
-    ensures { λ r. ⌜ r ≡ spotOf channels submission ⌝ }
+// Where a submission of a line goes: on the drum channel to an address or two, elsewhere to a unit. A unit number over
+// 255 is out of range as 255 is.
+fn spot_on(channels: [Channel; 16], channel: ChannelNumber, spot: Spot) -> Spot
+    ensures { λ r. ⌜ r ≡ spotOn channels channel spot ⌝ }
 {
-    let at = submission.at;
-    let to = submission.to;
-    if packets_channels::is_drum(packets_channels::fitted_on(channels, submission.channel)) {
-        return Spot::OnDrum(at, to);
+    match spot {
+        Spot::OnUnit(_) => spot,
+        Spot::OnDrum(x, _) => {
+            if packets_channels::is_drum(packets_channels::fitted_on(channels, channel)) {
+                return spot;
+            }
+            if x < 255 {
+                return Spot::OnUnit(UnitNumber(x as u8));
+            }
+            Spot::OnUnit(UnitNumber(255))
+        }
     }
-    if at < 255 {
-        return Spot::OnUnit(UnitNumber(at as u8));
-    }
-    Spot::OnUnit(UnitNumber(255))
 }
 
-// A submission.
-fn submit(lists: Lists, submission: Submission) -> Acted
-    ensures { λ r. ⌜ r ≡ submittingIn lists submission ⌝ }
+// The call that a line is in a cell with these channels: a submission goes where the channel's kind says.
+fn placed(channels: [Channel; 16], act: Act) -> Act
+    ensures { λ r. ⌜ r ≡ placed channels act ⌝ }
 {
-    let channels = lists.channels;
-    let spot = spot_of(channels, submission);
-    let channel = submission.channel;
-    lists::submit(
-        lists,
-        submission.place,
-        submission.packet,
-        submission.function,
-        channel,
-        spot,
-    )
+    match act {
+        Act::Submit(place, packet, function, channel, spot) => {
+            let there = spot_on(channels, channel, spot);
+            Act::Submit(place, packet, function, channel, there)
+        }
+        Act::Start(_) => act,
+        Act::Complete(_, _) => act,
+        Act::End(_, _) => act,
+        Act::Return(_, _, _) => act,
+        Act::Mark(_, _, _, _) => act,
+    }
 }
 
 // The answer of a call, and its request lists.
@@ -137,15 +136,9 @@ pub fn reply(lists: Lists, call: Line, out: &mut [u8]) -> Handled
         Line::Deck => unchanged(lists, 0),
         Line::Select => unchanged(lists, 0),
         Line::Board => unchanged(lists, 0),
-        Line::Submit(submission) => with_answer(out, submit(lists, submission)),
-        Line::Start(channel) => with_answer(out, lists::start(lists, channel)),
-        Line::Complete(channel, how) => with_answer(out, lists::complete(lists, channel, how)),
-        Line::End(_, _) => unchanged(lists, 0),
-        Line::Return(place, channel, unit) => {
-            with_answer(out, lists::return_unit(lists, place, channel, unit))
-        }
-        Line::Mark(channel, unit, mark, on) => {
-            with_answer(out, lists::mark(lists, channel, unit, mark, on))
+        Line::Do(act) => {
+            let channels = lists.channels;
+            with_answer(out, lists::act(lists, placed(channels, act)))
         }
         Line::Release => unchanged(lists, 0),
         Line::Delete => unchanged(lists, 0),

@@ -4,16 +4,16 @@ use mathlib.Core.Path.{_≡_}
 use Prim.Native.Nat.{ℕ}
 use mathlib.Core.List.{List}
 use Rattle.schedule_list.specs.declared.Schedule.{Schedule}
-use Rattle.cell.specs.Calls.{cellOf, afterCompletion}
+use Rattle.cell.specs.Calls.{cellOf, followed}
 use Rattle.cell.specs.declared.Cell.{Cell}
 use Rattle.shift_script.specs.declared.Line.{Line}
 use Rattle.shift_packets.specs.OnLists.{Handles}
 use Rattle.shift_packets.specs.declared.Handled.{Handled}
 use Rattle.shift_reply.specs.declared.Replied.{Replied}
 
--- the lists that a call leaves, and the schedule, which follows a completion that has returned a job's facilities
+-- the lists that a call leaves, and the schedule, which follows the answer
 abbrev pub followedBy : Schedule → Handled → Cell
-followedBy s h = cellOf (afterCompletion s (h .answer)) (h .lists)
+followedBy s h = cellOf (followed s (h .answer)) (h .lists)
 
 -- a line that is a call on the request lists, answered from them
 pub record Followed (cell : Cell) (call : Line) (room after : List ℕ) (r : Replied) : Type 0 where

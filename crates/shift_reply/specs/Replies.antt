@@ -9,7 +9,6 @@ use Rattle.channels.specs.declared.Channel.{Channel}
 use Rattle.text.specs.Room.{Written}
 use Rattle.cards_fields.specs.Fields.{spaceless}
 use Rattle.schedule_deck.specs.Report.{deckNotes, deckSchedule, deckOutcome}
-use Rattle.packets.specs.Rules as Rules
 use Rattle.cell_selection.specs.declared.Choice.{Choice}
 use Rattle.cell_selection.specs.declared.Choice.the-variants.{Job, NoPlace, NoCandidates, Lacks}
 use Rattle.cell_selection.specs.declared.Selection.{Selection}
@@ -22,11 +21,10 @@ use Rattle.cell.specs.declared.Heeded.{Heeded}
 use Rattle.cell.specs.declared.SelectAnswer.{SelectAnswer}
 use Rattle.shift_pieces.specs.Pieces.{noText, noLine}
 use Rattle.shift_answers.specs.Answers.{noCallText}
-use Rattle.shift_packets.specs.Texts.{answerText, statusAnswerText, submission}
+use Rattle.shift_packets.specs.Texts.{answerText, placed, statusAnswerText}
 use Rattle.shift_selected.specs.Selected.{selectedText, partText}
 use Rattle.board.specs.Board.{boardText}
 use Rattle.shift_script.specs.Script.{messageIn}
-use Rattle.shift_script.specs.declared.Submission.{Submission}
 use Rattle.shift_script.specs.declared.Line.{Line}
 use Rattle.shift_script.specs.declared.Line.the-variants as Line′
 use Rattle.shift_reply.specs.declared.Replied.{Replied}
@@ -56,10 +54,6 @@ selectText (Outcome′.Refused refusal) selection channels =
 -- "echoed as it stands"
 abbrev pub echoText : List ℕ → List ℕ
 echoText line = line ++ bytes "\n"
-
--- "submission of packet k by place p"
-abbrev pub submitting : Cell → Submission → Answered
-submitting cell s = acted cell (submission (cell .lists) s)
 
 -- ---- what a line leaves: the text from the room's start on, cut at its end, and the cell
 
@@ -108,14 +102,7 @@ Replies cell Line′.Echo id line room after r = Shows (echoText line) cell room
 Replies cell Line′.Deck id line room after r = Shows [] cell room after r
 Replies cell Line′.Select id line room after r = Selects cell room after r
 Replies cell Line′.Board id line room after r = Shows (boardText (cell .lists) (cell .schedule)) cell room after r
-Replies cell (Line′.Submit s) id line room after r = Gives (submitting cell s) room after r
-Replies cell (Line′.Start channel) id line room after r = Gives (acted cell (Rules.Start (channel .0))) room after r
-Replies cell (Line′.Complete channel how) id line room after r = Gives (acted cell (Rules.Complete (channel .0) how)) room after r
-Replies cell (Line′.End place inError) id line room after r = Gives (acted cell (Rules.End place inError)) room after r
-Replies cell (Line′.Return place channel unit) id line room after r =
-    Gives (acted cell (Rules.Return place (channel .0) (unit .0))) room after r
-Replies cell (Line′.Mark channel unit mark on) id line room after r =
-    Gives (acted cell (Rules.Mark (channel .0) (unit .0) mark on)) room after r
+Replies cell (Line′.Do act) id line room after r = Gives (acted cell (placed (cell .lists .channels) act)) room after r
 Replies cell Line′.Release id line room after r = Gives (releasing cell id) room after r
 Replies cell Line′.Delete id line room after r = Gives (deleting cell id) room after r
 Replies cell (Line′.Status place packet) id line room after r = Shows (statusAnswerText (statusOf cell place packet)) cell room after r

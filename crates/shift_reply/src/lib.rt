@@ -128,8 +128,7 @@ pub fn reply_deck(cell: Cell, deck: &[u8], out: &mut [u8; 53248]) -> Replied
     }
 }
 
-// A call on the request lists: they answer it, and the schedule follows a completion that has returned a job's
-// facilities.
+// A call on the request lists: they answer it, and the schedule follows the answer.
 fn on_lists(cell: Cell, call: Line, out: &mut [u8]) -> Replied
     ensures { λ r. ⌜ Followed cell call (now (out .entry)) (now (out .exit)) r ⌝ }
 {
@@ -138,7 +137,7 @@ fn on_lists(cell: Cell, call: Line, out: &mut [u8]) -> Replied
     let handled = shift_packets::reply(lists, call, out);
     let after = handled.lists;
     let answer = handled.answer;
-    let next = cell::after_completion(schedule, answer);
+    let next = cell::follow(schedule, answer);
     Replied {
         cell: Cell {
             schedule: next,
@@ -184,12 +183,7 @@ pub fn reply_line(cell: Cell, said: Said, line: &[u8], out: &mut [u8]) -> Replie
         Line::Deck => unchanged(cell, 0),
         Line::Select => select(cell, out),
         Line::Board => board(cell, out),
-        Line::Submit(_) => on_lists(cell, call, out),
-        Line::Start(_) => on_lists(cell, call, out),
-        Line::Complete(_, _) => on_lists(cell, call, out),
-        Line::End(place, in_error) => with_answer(out, cell::end(cell, place, in_error)),
-        Line::Return(_, _, _) => on_lists(cell, call, out),
-        Line::Mark(_, _, _, _) => on_lists(cell, call, out),
+        Line::Do(_) => on_lists(cell, call, out),
         Line::Release => with_answer(out, cell::release(cell, id)),
         Line::Delete => with_answer(out, cell::delete(cell, id)),
         Line::Status(_, _) => on_lists(cell, call, out),

@@ -11,13 +11,14 @@ use Rattle.words.specs.Words.{same}
 use Rattle.numbers.specs.declared.ChannelNumber.{ChannelNumber}
 use Rattle.numbers.specs.declared.UnitNumber.{UnitNumber}
 use Rattle.units.specs.declared.Mark.the-variants as Mark′
+use Rattle.packets.specs.declared.Spot.the-variants.{OnDrum}
 use Rattle.packets.specs.declared.How.the-variants.{Full, Cut, Failed}
 use Rattle.line_words.specs.declared.Base.the-variants.{Decimal, Octal}
 use Rattle.line_words.specs.Forms.{wordsOf, numberIn, fitting, idOf}
-use Rattle.packets.specs.declared.Act.the-variants.{Start, Complete, End, Return, Mark}
-use Rattle.shift_script.specs.declared.Submission.{Submission}
+use Rattle.packets.specs.declared.Act.{Act}
+use Rattle.packets.specs.declared.Act.the-variants.{Submit, Start, Complete, End, Return, Mark}
 use Rattle.shift_script.specs.declared.Line.{Line}
-use Rattle.shift_script.specs.declared.Line.the-variants.{NoCall, Echo, Deck, Select, Board, Submit, Do}
+use Rattle.shift_script.specs.declared.Line.the-variants.{NoCall, Echo, Deck, Select, Board, Do}
 use Rattle.shift_script.specs.declared.Line.the-variants.{Release, Delete, Status, Key}
 use Rattle.shift_script.specs.declared.Said.{Said}
 
@@ -39,17 +40,9 @@ channelAt k words = record { 0 = smallAt k words }
 abbrev pub unitAt : ℕ → List (List ℕ) → UnitNumber
 unitAt k words = record { 0 = smallAt k words }
 
--- `SUBMIT p k ff cc x`, and H
-abbrev pub submissionOf : ℕ → List (List ℕ) → Submission
-submissionOf to words =
-    record {
-      place = smallAt 1 words;
-      packet = smallAt 2 words;
-      function = codeAt 3 words;
-      channel = channelAt 4 words;
-      at = decimalAt 5 words;
-      to = to;
-    }
+-- `SUBMIT p k ff cc x`, and H: x as an address, whatever the channel's kind, which no line says (`placed` does)
+abbrev pub submissionOf : ℕ → List (List ℕ) → Act
+submissionOf to w = Submit (smallAt 1 w) (smallAt 2 w) (codeAt 3 w) (channelAt 4 w) (OnDrum (decimalAt 5 w) to)
 
 -- a meaning without an ID, and one with the ID of the line's second word
 abbrev pub said : Line → Said
@@ -70,8 +63,8 @@ unfoldable pub table : List Row
 table =
     row "DECK" (λ w. said Deck)
     ∷ row "SELECT" (λ w. said Select)
-    ∷ row "SUBMIT p k ff cc x" (λ w. said (Submit (submissionOf 0 w)))
-    ∷ row "SUBMIT p k ff cc x h" (λ w. said (Submit (submissionOf (decimalAt 6 w) w)))
+    ∷ row "SUBMIT p k ff cc x" (λ w. said (Do (submissionOf 0 w)))
+    ∷ row "SUBMIT p k ff cc x h" (λ w. said (Do (submissionOf (decimalAt 6 w) w)))
     ∷ row "START cc" (λ w. said (Do (Start (channelAt 1 w))))
     ∷ row "DONE cc" (λ w. said (Do (Complete (channelAt 1 w) Full)))
     ∷ row "CUT cc" (λ w. said (Do (Complete (channelAt 1 w) Cut)))

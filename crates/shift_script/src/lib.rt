@@ -4,6 +4,7 @@ use numbers::ChannelNumber;
 use numbers::UnitNumber;
 use packets::Act;
 use packets::How;
+use packets::Spot;
 use units::Mark;
 ghost use mathlib.Core.Path.{_≡_};
 ghost use Prim.Native.Nat.{min};
@@ -12,19 +13,8 @@ ghost use Rattle.line_words.specs.Forms.{wordsOf};
 ghost use Rattle.shift_script.specs.Script.{said, named, smallAt, codeAt, channelAt, unitAt, submissionOf};
 ghost use Rattle.shift_script.specs.Script.{isEcho, isKey, messageIn, sayBy, table, lineSays};
 
-// A submission: place, packet, function, channel; at: the unit, or on the drum channel the address X or L; to: H
-// there, 0 where it was left out.
-pub struct Submission {
-    pub place: u8,
-    pub packet: u8,
-    pub function: u8,
-    pub channel: ChannelNumber,
-    pub at: u32,
-    pub to: u32,
-}
-
-// What a line says: no call, an echo, or one of the calls. Submit: by numbers, since the channel's kind says whether the
-// first is a unit or an address. Do: any other call on packets, jobs, units and marks. The ID of a release or a deletion
+// What a line says: no call, an echo, or one of the calls. Do: a call on packets, jobs, units and marks; a submission has
+// its two numbers as an address and H, whatever the channel's kind, which no line says. The ID of a release or a deletion
 // is beside it. Key: a keyboard message, which is in the line.
 pub enum Line {
     NoCall,
@@ -32,7 +22,6 @@ pub enum Line {
     Deck,
     Select,
     Board,
-    Submit(Submission),
     Do(Act),
     Release,
     Delete,
@@ -105,18 +94,16 @@ fn unit_at(line: &[u8]) -> UnitNumber
     UnitNumber(small_at(line, 2))
 }
 
-// What a line `SUBMIT p k ff cc x` submits, with H.
-fn submitted(line: &[u8], to: u32) -> Submission
+// The submission of a line `SUBMIT p k ff cc x`, with H.
+fn submitted(line: &[u8], to: u32) -> Act
     ensures { λ r. ⌜ r ≡ submissionOf to (wordsOf (now (line .entry))) ⌝ }
 {
-    Submission {
-        place: small_at(line, 1),
-        packet: small_at(line, 2),
-        function: code_at(line, 3),
-        channel: ChannelNumber(small_at(line, 4)),
-        at: line_words::number_at(Base::Decimal, line, 5),
-        to,
-    }
+    let place = small_at(line, 1);
+    let packet = small_at(line, 2);
+    let function = code_at(line, 3);
+    let channel = ChannelNumber(small_at(line, 4));
+    let at = line_words::number_at(Base::Decimal, line, 5);
+    Act::Submit(place, packet, function, channel, Spot::OnDrum(at, to))
 }
 
 // The rows of the table from `RELEASE` on.
@@ -179,11 +166,11 @@ fn on_packets(line: &[u8]) -> Said
         return plain(Line::Select);
     }
     if line_words::fits(line, b"SUBMIT p k ff cc x") {
-        return plain(Line::Submit(submitted(line, 0)));
+        return plain(Line::Do(submitted(line, 0)));
     }
     if line_words::fits(line, b"SUBMIT p k ff cc x h") {
         let to = line_words::number_at(Base::Decimal, line, 6);
-        return plain(Line::Submit(submitted(line, to)));
+        return plain(Line::Do(submitted(line, to)));
     }
     if line_words::fits(line, b"START cc") {
         return plain(Line::Do(Act::Start(channel_at(line))));

@@ -15,13 +15,14 @@ use Rattle.numbers.specs.Quoted.{bytes}
 use Rattle.words.specs.Words.{every, isnt}
 use Rattle.cards_fields.specs.Fields.{padded}
 use Rattle.units.specs.declared.Mark.the-variants as Mark′
+use Rattle.packets.specs.declared.Spot.the-variants.{OnDrum, OnUnit}
 use Rattle.packets.specs.declared.How.the-variants.{Full, Cut, Failed}
 use Rattle.line_words.specs.declared.Base.the-variants.{Decimal, Octal}
 use Rattle.line_words.specs.Forms.{IsWord, wordsOf, idOf}
 use Rattle.line_words.proofs.FormLaws.{id-long, id-short}
-use Rattle.packets.specs.declared.Act.the-variants.{Start, Complete, End, Return, Mark}
+use Rattle.packets.specs.declared.Act.the-variants.{Submit, Start, Complete, End, Return, Mark}
 use Rattle.shift_script.specs.declared.Line.{Line}
-use Rattle.shift_script.specs.declared.Line.the-variants.{NoCall, Echo, Deck, Select, Board, Submit, Release, Delete, Status, Key, Do}
+use Rattle.shift_script.specs.declared.Line.the-variants.{NoCall, Echo, Deck, Select, Board, Release, Delete, Status, Key, Do}
 use Rattle.shift_script.specs.declared.Said.{Said}
 use Rattle.shift_script.specs.Script.{said, table, sayBy, isEcho, isKey, lineSays}
 use Rattle.shift_script_form.specs.Written.{spaced, decimal, octal, lineFor, Sayable}
@@ -75,7 +76,8 @@ read-back Echo id h = absurd h
 read-back Deck id h = rw h (said-by 68 (bytes "ECK") [] (said Deck) refl refl refl tt (omega arith) deck-row)
 read-back Select id h = rw h (said-by 83 (bytes "ELECT") [] (said Select) refl refl refl tt (omega arith) select-row)
 read-back Board id h = rw h (said-by 66 (bytes "OARD") [] (said Board) refl refl refl tt (omega arith) board-row)
-read-back (Submit s) id h =
+read-back (Do (Submit place packet function channel (OnUnit unit))) id h = absurd h
+read-back (Do (Submit place packet function channel (OnDrum x y))) id h =
     let a = byte (h .1) in
     let b = byte (h .2) in
     let d = code (h .3) in
@@ -83,10 +85,12 @@ read-back (Submit s) id h =
     let g = ten (h .5) in
     let w = ten (h .6) in
     rw (h .0)
-    (said-by 83 (bytes "UBMIT") (decimal (s .place) ∷ decimal (s .packet) ∷ octal (s .function) ∷ decimal (s .channel .0) ∷ decimal (s .at) ∷ decimal (s .to) ∷ []) (said (Submit s)) refl refl refl
+    (said-by 83 (bytes "UBMIT")
+    (decimal place ∷ decimal packet ∷ octal function ∷ decimal (channel .0) ∷ decimal x ∷ decimal y ∷ [])
+    (said (Do (Submit place packet function channel (OnDrum x y)))) refl refl refl
     (a .plain, (b .plain, (d .plain, (e .plain, (g .plain, (w .plain, tt))))))
     (omega (arith, a .short, b .short, d .short, e .short, g .short, w .short))
-    (submit-row s (h .1) (h .2) (h .3) (h .4) a b d e g w))
+    (submit-row (h .1) (h .2) (h .3) (h .4) a b d e g w))
 read-back (Do (Start channel)) id h =
     let a = byte (h .1) in
     rw (h .0) (said-by 83 (bytes "TART") (decimal (channel .0) ∷ []) (said (Do (Start channel))) refl refl refl (a .plain, tt) (omega (arith, a .short)) (start-row a (h .1)))

@@ -10,13 +10,13 @@ use borrow.Author.Tests.{lt-ltb}
 use Rattle.numbers.specs.Quoted.{bytes}
 use Rattle.text.specs.Class.{isLetter}
 use Rattle.units.specs.declared.Mark.the-variants as Mark′
+use Rattle.packets.specs.declared.Spot.the-variants.{OnDrum}
 use Rattle.packets.specs.declared.How.the-variants.{Full, Cut, Failed}
 use Rattle.line_words.specs.declared.Base.the-variants.{Decimal, Octal}
 use Rattle.line_words.specs.Forms.{wordsOf, wordFits, fitting, idOf}
-use Rattle.packets.specs.declared.Act.the-variants.{Start, Complete, End, Return, Mark}
-use Rattle.shift_script.specs.declared.Submission.{Submission}
-use Rattle.shift_script.specs.declared.Line.the-variants.{Deck, Select, Board, Submit, Release, Delete, Status, Do}
+use Rattle.packets.specs.declared.Act.the-variants.{Submit, Start, Complete, End, Return, Mark}
 use Rattle.shift_script.specs.declared.Said.{Said}
+use Rattle.shift_script.specs.declared.Line.the-variants.{Deck, Select, Board, Release, Delete, Status, Do}
 use Rattle.shift_script.specs.Script.{said, table, sayBy}
 use Rattle.shift_script_form.proofs.NumberLaws.{Writes}
 
@@ -95,14 +95,19 @@ module _ (a : List ℕ) (h : 0 < length a) where
   delete-row = rw (lt-ltb 0 (length a) h)
 
 -- a submission with H; without, H is 0
-module _ (s : Submission) (j : s .place ≤ 255) (k : s .packet ≤ 255) (f : s .function ≤ 255) (c : s .channel .0 ≤ 255)
-    {p q r u x : List ℕ} (a : Writes Decimal (s .place) p) (b : Writes Decimal (s .packet) q) (d : Writes Octal (s .function) r) (e : Writes Decimal (s .channel .0) u) (g : Writes Decimal (s .at) x) where
-  pub submit-row : {y : List ℕ} → Writes Decimal (s .to) y → sayBy table (bytes "SUBMIT" ∷ p ∷ q ∷ r ∷ u ∷ x ∷ y ∷ []) ≡ said (Submit s)
+module _ {j k f m x : ℕ} (place : j ≤ 255) (packet : k ≤ 255) (function : f ≤ 255) (channel : m ≤ 255) {p q r u v : List ℕ}
+    (a : Writes Decimal j p) (b : Writes Decimal k q) (d : Writes Octal f r) (e : Writes Decimal m u) (g : Writes Decimal x v) where
+  abbrev submitted : ℕ → Said
+  submitted to = said (Do (Submit j k f (record { 0 = m }) (OnDrum x to)))
+
+  pub submit-row : {y : List ℕ} {to : ℕ} → Writes Decimal to y → sayBy table (bytes "SUBMIT" ∷ p ∷ q ∷ r ∷ u ∷ v ∷ y ∷ []) ≡ submitted to
   unfolding sayBy table fitting wordFits wordsOf isLetter
   submit-row w =
-      rw (a .number, b .number, d .number, e .number, g .number, w .number, a .value, b .value, d .value, e .value, g .value, w .value, small (s .place) j, small (s .packet) k, small (s .function) f, small (s .channel .0) c)
+      rw (a .number, b .number, d .number, e .number, g .number, w .number, a .value, b .value, d .value, e .value, g .value, w .value)
+      (rw (small j place, small k packet, small f function, small m channel))
 
-  pub short-row : s .to ≡ 0 → sayBy table (bytes "SUBMIT" ∷ p ∷ q ∷ r ∷ u ∷ x ∷ []) ≡ said (Submit s)
+  pub short-row : sayBy table (bytes "SUBMIT" ∷ p ∷ q ∷ r ∷ u ∷ v ∷ []) ≡ submitted 0
   unfolding sayBy table fitting wordFits wordsOf isLetter
-  short-row z =
-      rw (a .number, b .number, d .number, e .number, g .number, a .value, b .value, d .value, e .value, g .value, small (s .place) j, small (s .packet) k, small (s .function) f, small (s .channel .0) c, ← z)
+  short-row =
+      rw (a .number, b .number, d .number, e .number, g .number, a .value, b .value, d .value, e .value, g .value)
+      (rw (small j place, small k packet, small f function, small m channel))

@@ -7,13 +7,14 @@ use lib.Dec.{ltb}
 use lib.ListN.{length}
 use Rattle.numbers.specs.Quoted.{byte, bytes}
 use Rattle.units.specs.declared.Mark.the-variants as Mark′
+use Rattle.packets.specs.declared.Spot.the-variants.{OnDrum, OnUnit}
 use Rattle.packets.specs.declared.How.the-variants.{Full, Cut, Failed}
 use Rattle.line_words.specs.declared.Base.{Base}
 use Rattle.line_words.specs.declared.Base.the-variants.{Decimal, Octal}
 use Rattle.line_words.specs.Forms.{IsWord, baseOf}
-use Rattle.packets.specs.declared.Act.the-variants.{Start, Complete, End, Return, Mark}
+use Rattle.packets.specs.declared.Act.the-variants.{Submit, Start, Complete, End, Return, Mark}
 use Rattle.shift_script.specs.declared.Line.{Line}
-use Rattle.shift_script.specs.declared.Line.the-variants.{NoCall, Echo, Deck, Select, Board, Submit, Do}
+use Rattle.shift_script.specs.declared.Line.the-variants.{NoCall, Echo, Deck, Select, Board, Do}
 use Rattle.shift_script.specs.declared.Line.the-variants.{Release, Delete, Status, Key}
 
 -- words with single spaces between them
@@ -43,9 +44,9 @@ callWords Echo id = []
 callWords Deck id = bytes "DECK" ∷ []
 callWords Select id = bytes "SELECT" ∷ []
 callWords Board id = bytes "BOARD" ∷ []
-callWords (Submit s) id =
-    bytes "SUBMIT"
-    ∷ decimal (s .place) ∷ decimal (s .packet) ∷ octal (s .function) ∷ decimal (s .channel .0) ∷ decimal (s .at) ∷ decimal (s .to) ∷ []
+callWords (Do (Submit place packet function channel (OnUnit unit))) id = []
+callWords (Do (Submit place packet function channel (OnDrum x h))) id =
+    bytes "SUBMIT" ∷ decimal place ∷ decimal packet ∷ octal function ∷ decimal (channel .0) ∷ decimal x ∷ decimal h ∷ []
 callWords (Do (Start channel)) id = bytes "START" ∷ decimal (channel .0) ∷ []
 callWords (Do (Complete channel Full)) id = bytes "DONE" ∷ decimal (channel .0) ∷ []
 callWords (Do (Complete channel Cut)) id = bytes "CUT" ∷ decimal (channel .0) ∷ []
@@ -78,8 +79,9 @@ Sayable Echo id = ⊥
 Sayable Deck id = id ≡ []
 Sayable Select id = id ≡ []
 Sayable Board id = id ≡ []
-Sayable (Submit s) id =
-    (id ≡ []) × (s .place ≤ 255) × (s .packet ≤ 255) × (s .function ≤ 255) × (s .channel .0 ≤ 255) × (s .at < 10 ^ 9) × (s .to < 10 ^ 9)
+Sayable (Do (Submit place packet function channel (OnUnit unit))) id = ⊥
+Sayable (Do (Submit place packet function channel (OnDrum x h))) id =
+    (id ≡ []) × (place ≤ 255) × (packet ≤ 255) × (function ≤ 255) × (channel .0 ≤ 255) × (x < 10 ^ 9) × (h < 10 ^ 9)
 Sayable (Do (Start channel)) id = (id ≡ []) × (channel .0 ≤ 255)
 Sayable (Do (Complete channel Full)) id = (id ≡ []) × (channel .0 ≤ 255)
 Sayable (Do (Complete channel Cut)) id = (id ≡ []) × (channel .0 ≤ 255)

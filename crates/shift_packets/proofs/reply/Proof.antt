@@ -1,5 +1,9 @@
 -- `shift_packets::reply` meets its contract: what the line says is what the request lists answered. Assumes nothing.
+use mathlib.Core.Path.{ap, _∙_}
 use Rattle.text.proofs.RoomLaws.{none}
+use Rattle.packets.specs.Rules.{Do}
+use Rattle.packets.specs.declared.Act.{Act}
+use Rattle.lists.specs.Outcomes.{outcome}
 use Rattle.shift_packets.proofs.OnListsLaws.{told, gives-as}
 use borrow.Author.Needs.{needs}
 use Rattle.shift_packets.proofs.reply.Statement.{statement}
@@ -38,29 +42,14 @@ unchanged-requires-5 c κs = search needs
 enum-known-call : tie.Need-enum-known-call
 enum-known-call c = search needs
 
-submit-requires : tie.Need-submit-requires
-submit-requires c κs = search needs
+placed-requires : tie.Need-placed-requires
+placed-requires c κs = search needs
+
+act-requires : tie.Need-act-requires
+act-requires c κs = search needs
 
 with-answer-requires : tie.Need-with-answer-requires
 with-answer-requires c κs = search needs
-
-enum-known-call-2 : tie.Need-enum-known-call-2
-enum-known-call-2 c = search needs
-
-start-requires : tie.Need-start-requires
-start-requires c κs = search needs
-
-with-answer-requires-2 : tie.Need-with-answer-requires-2
-with-answer-requires-2 c κs = search needs
-
-enum-known-call-3 : tie.Need-enum-known-call-3
-enum-known-call-3 c = search needs
-
-complete-requires : tie.Need-complete-requires
-complete-requires c κs = search needs
-
-with-answer-requires-3 : tie.Need-with-answer-requires-3
-with-answer-requires-3 c κs = search needs
 
 enum-told-6 : tie.Need-enum-told-6
 enum-told-6 c = search needs
@@ -68,38 +57,14 @@ enum-told-6 c = search needs
 unchanged-requires-6 : tie.Need-unchanged-requires-6
 unchanged-requires-6 c κs = search needs
 
-enum-known-call-4 : tie.Need-enum-known-call-4
-enum-known-call-4 c = search needs
-
-return-unit-requires : tie.Need-return-unit-requires
-return-unit-requires c κs = search needs
-
-with-answer-requires-4 : tie.Need-with-answer-requires-4
-with-answer-requires-4 c κs = search needs
-
-enum-known-call-5 : tie.Need-enum-known-call-5
-enum-known-call-5 c = search needs
-
-mark-requires : tie.Need-mark-requires
-mark-requires c κs = search needs
-
-with-answer-requires-5 : tie.Need-with-answer-requires-5
-with-answer-requires-5 c κs = search needs
-
 enum-told-7 : tie.Need-enum-told-7
 enum-told-7 c = search needs
 
 unchanged-requires-7 : tie.Need-unchanged-requires-7
 unchanged-requires-7 c κs = search needs
 
-enum-told-8 : tie.Need-enum-told-8
-enum-told-8 c = search needs
-
-unchanged-requires-8 : tie.Need-unchanged-requires-8
-unchanged-requires-8 c κs = search needs
-
-enum-known-call-6 : tie.Need-enum-known-call-6
-enum-known-call-6 c = search needs
+enum-known-call-2 : tie.Need-enum-known-call-2
+enum-known-call-2 c = search needs
 
 status-requires : tie.Need-status-requires
 status-requires c κs = search needs
@@ -107,14 +72,14 @@ status-requires c κs = search needs
 put-status-requires : tie.Need-put-status-requires
 put-status-requires c κs = search needs
 
+unchanged-requires-8 : tie.Need-unchanged-requires-8
+unchanged-requires-8 c κs = search needs
+
+enum-told-8 : tie.Need-enum-told-8
+enum-told-8 c = search needs
+
 unchanged-requires-9 : tie.Need-unchanged-requires-9
 unchanged-requires-9 c κs = search needs
-
-enum-told-9 : tie.Need-enum-told-9
-enum-told-9 c = search needs
-
-unchanged-requires-10 : tie.Need-unchanged-requires-10
-unchanged-requires-10 c κs = search needs
 
 returns : tie.Need-returns
 returns c = rw (c .before .enum-told .given .1) (told (c .unchanged .ensures) (none (c .before .before .before .before .args .out .now) 0))
@@ -135,49 +100,29 @@ same-length : tie.Need-same-length
 same-length c = search needs
 
 returns-6 : tie.Need-returns-6
-returns-6 c = rw (c .before .before .before .before .before .before .call .given .1) (gives-as (c .before .before .before .submit .ensures) (c .before .before .with-answer .ensures))
+returns-6 c = let placing = c .before .before .before .before in
+    let known = placing .before .before .before .before in
+    let lists = known .before .before .before .args .lists in
+    rw (known .call .given .1)
+    (gives-as (c .before .before .before .act .ensures ∙ ap (λ (x : Act). outcome lists (Do x)) (placing .placed .ensures))
+    (c .before .before .with-answer .ensures))
+
+returns-7 : tie.Need-returns-7
+returns-7 c = rw (c .before .enum-told6 .given .1) (told (c .unchanged6 .ensures) (none (c .before .before .before .before .args .out .now) 0))
+
+returns-8 : tie.Need-returns-8
+returns-8 c = rw (c .before .enum-told7 .given .1) (told (c .unchanged7 .ensures) (none (c .before .before .before .before .args .out .now) 0))
 
 same-length-2 : tie.Need-same-length-2
 same-length-2 c = search needs
 
-returns-7 : tie.Need-returns-7
-returns-7 c = rw (c .before .before .before .before .before .before .call2 .given .1) (gives-as (c .before .before .before .start .ensures) (c .before .before .with-answer2 .ensures))
-
-same-length-3 : tie.Need-same-length-3
-same-length-3 c = search needs
-
-returns-8 : tie.Need-returns-8
-returns-8 c = rw (c .before .before .before .before .before .before .call3 .given .1) (gives-as (c .before .before .before .complete .ensures) (c .before .before .with-answer3 .ensures))
-
 returns-9 : tie.Need-returns-9
-returns-9 c = rw (c .before .enum-told6 .given .1) (told (c .unchanged6 .ensures) (none (c .before .before .before .before .args .out .now) 0))
-
-same-length-4 : tie.Need-same-length-4
-same-length-4 c = search needs
+returns-9 c = let asked = c .before .before .before .before in
+    rw (asked .before .before .before .call2 .given .1)
+    (told (c .unchanged8 .ensures) (rw (← asked .status .ensures) (c .before .before .before .put-status .ensures)))
 
 returns-10 : tie.Need-returns-10
-returns-10 c = rw (c .before .before .before .before .before .before .call4 .given .1) (gives-as (c .before .before .before .return-unit .ensures) (c .before .before .with-answer4 .ensures))
-
-same-length-5 : tie.Need-same-length-5
-same-length-5 c = search needs
-
-returns-11 : tie.Need-returns-11
-returns-11 c = rw (c .before .before .before .before .before .before .call5 .given .1) (gives-as (c .before .before .before .mark .ensures) (c .before .before .with-answer5 .ensures))
-
-returns-12 : tie.Need-returns-12
-returns-12 c = rw (c .before .enum-told7 .given .1) (told (c .unchanged7 .ensures) (none (c .before .before .before .before .args .out .now) 0))
-
-returns-13 : tie.Need-returns-13
-returns-13 c = rw (c .before .enum-told8 .given .1) (told (c .unchanged8 .ensures) (none (c .before .before .before .before .args .out .now) 0))
-
-same-length-6 : tie.Need-same-length-6
-same-length-6 c = search needs
-
-returns-14 : tie.Need-returns-14
-returns-14 c = rw (c .before .before .before .before .before .before .before .call6 .given .1) (told (c .unchanged9 .ensures) (rw (← c .before .before .before .before .status .ensures) (c .before .before .before .put-status .ensures)))
-
-returns-15 : tie.Need-returns-15
-returns-15 c = rw (c .before .enum-told9 .given .1) (told (c .unchanged10 .ensures) (none (c .before .before .before .before .args .out .now) 0))
+returns-10 c = rw (c .before .enum-told8 .given .1) (told (c .unchanged9 .ensures) (none (c .before .before .before .before .args .out .now) 0))
 
 pub reply-spec : {M : Type 1} → statement M
 reply-spec =
@@ -194,32 +139,19 @@ reply-spec =
     enum-told-5
     unchanged-requires-5
     enum-known-call
-    submit-requires
+    placed-requires
+    act-requires
     with-answer-requires
-    enum-known-call-2
-    start-requires
-    with-answer-requires-2
-    enum-known-call-3
-    complete-requires
-    with-answer-requires-3
     enum-told-6
     unchanged-requires-6
-    enum-known-call-4
-    return-unit-requires
-    with-answer-requires-4
-    enum-known-call-5
-    mark-requires
-    with-answer-requires-5
     enum-told-7
     unchanged-requires-7
-    enum-told-8
-    unchanged-requires-8
-    enum-known-call-6
+    enum-known-call-2
     status-requires
     put-status-requires
+    unchanged-requires-8
+    enum-told-8
     unchanged-requires-9
-    enum-told-9
-    unchanged-requires-10
     returns
     returns-2
     returns-3
@@ -227,17 +159,8 @@ reply-spec =
     returns-5
     same-length
     returns-6
-    same-length-2
     returns-7
-    same-length-3
     returns-8
+    same-length-2
     returns-9
-    same-length-4
-    returns-10
-    same-length-5
-    returns-11
-    returns-12
-    returns-13
-    same-length-6
-    returns-14
-    returns-15)
+    returns-10)

@@ -10,14 +10,14 @@ use Rattle.shift_reply.proofs.on_lists.Tie as tie
 reply-requires : tie.Need-reply-requires
 reply-requires c κs = search needs
 
-after-completion-requires : tie.Need-after-completion-requires
-after-completion-requires c κs = search needs
+follow-requires : tie.Need-follow-requires
+follow-requires c κs = search needs
 
 same-length : tie.Need-same-length
 same-length c = search needs
 
 returns : tie.Need-returns
-returns c = record { handled = c .before .before .before .before .reply .result; handles = c .before .before .before .before .reply .ensures; is = ap (λ (s : Schedule). let r : Replied = record { cell = cellOf s (c .before .before .before .before .reply .result .lists); at = c .before .before .before .before .reply .result .at } in r) (c .after-completion .ensures) }
+returns c = record { handled = c .before .before .before .before .reply .result; handles = c .before .before .before .before .reply .ensures; is = ap (λ (s : Schedule). let r : Replied = record { cell = cellOf s (c .before .before .before .before .reply .result .lists); at = c .before .before .before .before .reply .result .at } in r) (c .follow .ensures) }
 
 pub on-lists-spec : {M : Type 1} → statement M
-on-lists-spec = tie.close (tie.spec reply-requires after-completion-requires same-length returns)
+on-lists-spec = tie.close (tie.spec reply-requires follow-requires same-length returns)

@@ -5,10 +5,10 @@ use mathlib.Core.Path.{sym, ap, ap₂, _∙_}
 use Rattle.line_words.specs.Forms.{wordsOf}
 use Rattle.numbers.specs.declared.ChannelNumber.{ChannelNumber}
 use Rattle.packets.specs.declared.How.the-variants.{Full, Cut, Failed}
+use Rattle.packets.specs.declared.Act.{Act}
 use Rattle.packets.specs.declared.Act.the-variants.{Start, Complete}
 use Rattle.shift_script.specs.Script.{submissionOf, said, sayBy, table}
-use Rattle.shift_script.specs.declared.Line.the-variants.{Submit, Do}
-use Rattle.shift_script.specs.declared.Submission.{Submission}
+use Rattle.shift_script.specs.declared.Line.the-variants.{Do}
 use borrow.Author.Needs.{needs}
 use Rattle.shift_script.proofs.on_packets.Statement.{statement}
 use Rattle.shift_script.proofs.on_packets.Tie as tie
@@ -53,7 +53,7 @@ plain-requires-3 c κs = search needs
 
 returns-3 : tie.Need-returns-3
 unfolding sayBy table
-returns-3 c = c .plain3 .ensures ∙ ap (λ (t : Submission). said (Submit t)) (c .before .submitted .ensures) ∙ rw (sym (c .before .before .before .before .before .before .before .before .before .fits2 .ensures) ∙ c .before .before .before .before .before .before .before .before .if1 .left, sym (c .before .before .before .before .before .before .fits3 .ensures) ∙ c .before .before .before .before .before .if2 .left, sym (c .before .before .before .fits4 .ensures) ∙ c .before .before .if3 .taken)
+returns-3 c = c .plain3 .ensures ∙ ap (λ (t : Act). said (Do t)) (c .before .submitted .ensures) ∙ rw (sym (c .before .before .before .before .before .before .before .before .before .fits2 .ensures) ∙ c .before .before .before .before .before .before .before .before .if1 .left, sym (c .before .before .before .before .before .before .fits3 .ensures) ∙ c .before .before .before .before .before .if2 .left, sym (c .before .before .before .fits4 .ensures) ∙ c .before .before .if3 .taken)
 
 slice-aggregate-fits-4 : tie.Need-slice-aggregate-fits-4
 slice-aggregate-fits-4 c = search needs
@@ -72,7 +72,7 @@ plain-requires-4 c κs = search needs
 
 returns-4 : tie.Need-returns-4
 unfolding sayBy table
-returns-4 c = c .plain4 .ensures ∙ ap (λ (t : Submission). said (Submit t)) (c .before .submitted2 .ensures ∙ ap (λ (n : ℕ). submissionOf n (wordsOf (c .before .before .before .before .before .before .before .before .before .before .before .before .before .before .before .before .args .line .now))) (c .before .before .number-at .ensures)) ∙ rw (sym (c .before .before .before .before .before .before .before .before .before .before .before .before .before .fits2 .ensures) ∙ c .before .before .before .before .before .before .before .before .before .before .before .before .if1 .left, sym (c .before .before .before .before .before .before .before .before .before .before .fits3 .ensures) ∙ c .before .before .before .before .before .before .before .before .before .if2 .left, sym (c .before .before .before .before .before .before .before .fits4 .ensures) ∙ c .before .before .before .before .before .before .if3 .left, sym (c .before .before .before .before .fits5 .ensures) ∙ c .before .before .before .if4 .taken)
+returns-4 c = c .plain4 .ensures ∙ ap (λ (t : Act). said (Do t)) (c .before .submitted2 .ensures ∙ ap (λ (n : ℕ). submissionOf n (wordsOf (c .before .before .before .before .before .before .before .before .before .before .before .before .before .before .before .before .args .line .now))) (c .before .before .number-at .ensures)) ∙ rw (sym (c .before .before .before .before .before .before .before .before .before .before .before .before .before .fits2 .ensures) ∙ c .before .before .before .before .before .before .before .before .before .before .before .before .if1 .left, sym (c .before .before .before .before .before .before .before .before .before .before .fits3 .ensures) ∙ c .before .before .before .before .before .before .before .before .before .if2 .left, sym (c .before .before .before .before .before .before .before .fits4 .ensures) ∙ c .before .before .before .before .before .before .if3 .left, sym (c .before .before .before .before .fits5 .ensures) ∙ c .before .before .before .if4 .taken)
 
 slice-aggregate-fits-5 : tie.Need-slice-aggregate-fits-5
 slice-aggregate-fits-5 c = search needs

@@ -1,9 +1,9 @@
--- `shift_hearing::is_returning` meets its contract: an answer that returned nothing moves no schedule. Assumes nothing.
+-- `shift_hearing::is_followed` meets its contract: an answer that returned nothing moves no schedule. Assumes nothing.
 use mathlib.Core.Path.{refl}
 use mathlib.Core.Bool.{true≢false}
 use borrow.Author.Needs.{needs}
-use Rattle.shift_hearing.proofs.is_returning.Statement.{statement}
-use Rattle.shift_hearing.proofs.is_returning.Tie as tie
+use Rattle.shift_hearing.proofs.is_followed.Statement.{statement}
+use Rattle.shift_hearing.proofs.is_followed.Tie as tie
 
 enum-told : tie.Need-enum-told
 enum-told c = search needs
@@ -45,13 +45,13 @@ returns-5 : tie.Need-returns-5
 returns-5 c = λ e. absurd (true≢false e)
 
 returns-6 : tie.Need-returns-6
-returns-6 c = λ e s. rw (c .enum-told6 .given .1) refl
+returns-6 c = λ e. absurd (true≢false e)
 
 returns-7 : tie.Need-returns-7
 returns-7 c = λ e s. rw (c .enum-told7 .given .1) refl
 
-pub is-returning-spec : {M : Type 1} → statement M
-is-returning-spec =
+pub is-followed-spec : {M : Type 1} → statement M
+is-followed-spec =
     tie.close
     (tie.spec
     enum-told
