@@ -20,6 +20,7 @@ use Rattle.packets.specs.Rules.{packet, refusal, returnIfDone, returned,
 use Rattle.packets.specs.Rules.{unlock}
 use Rattle.packets.specs.declared.Act.the-variants as Act′
 use Rattle.packets.proofs.SimSubmit.{eqb-flip, holder-alive}
+use Rattle.packets.proofs.SimSweep.{busy-before}
 use Rattle.packets.specs.State.{State, anyMoves, close, isBusy, isClosing, isEmpty, isUnit, lock, motionOn, packetIn}
 use Rattle.packets.specs.State.{packetOf, placeOf, put, restatus, restatusAll, stateIn, store, sweep, withStatus}
 use Rattle.packets.proofs.Steps.{Ready, busy-of, find-some, over-fits, over-inside, ready-fits}
@@ -76,17 +77,13 @@ pub calm-sweep : (h : Holding) (s : State) (j : ℕ) (t : Packet → Bool) (f : 
     → ((x : Status) → isBusy x ≡ false → f x ≡ x) → (n : ℕ) → Calm h s (sweep s j t f) n
 calm-sweep h s j t f inside fb keeps n =
     let q = packetIn (s .jobs) (h .place) n in
+    let swept = packet-restatus (s .jobs) j t f (h .place) n inside fb in
     by-bool (eqb (h .place) j)
-    (λ e. let z : packetIn (restatusAll (s .jobs) j t f) (h .place) n ≡ restatus t f q = packet-restatus (s .jobs) j t f (h .place) n inside fb ∙ rw e in
-    (rw z, λ b. go (isBusy (q .status)) refl (rw z at b), rw z))
-    (λ e. calm-same h s (sweep s j t f) n (packet-restatus (s .jobs) j t f (h .place) n inside fb ∙ rw e))
-  where
-    go : (x : Bool) → isBusy (packetIn (s .jobs) (h .place) n .status) ≡ x → isBusy (restatus t f (packetIn (s .jobs) (h .place) n) .status) ≡ true → isBusy (packetIn (s .jobs) (h .place) n .status) ≡ true
-    go true e b = e
-    go false e b =
-        by-bool (t (packetIn (s .jobs) (h .place) n))
-        (λ d. let b′ : isBusy (f (packetIn (s .jobs) (h .place) n .status)) ≡ true = rw d at b in rw (keeps (packetIn (s .jobs) (h .place) n .status) e) at b′)
-        (λ d. rw d at b)
+    (λ e. let z : packetIn (restatusAll (s .jobs) j t f) (h .place) n ≡ restatus t f q = swept ∙ rw e in
+    let back : isBusy (restatus t f q .status) ≡ true → isBusy (q .status) ≡ true =
+    λ b. by-bool (t q) (λ d. busy-before f keeps (q .status) (rw d at b)) (λ d. rw d at b) in
+    (rw z, λ b. back (rw z at b), rw z))
+    (λ e. calm-same h s (sweep s j t f) n (swept ∙ rw e))
 
 pub calm-return : (h : Holding) (s : State) (j n : ℕ) → Calm h s (returnIfDone j s) n
 calm-return h s j n =

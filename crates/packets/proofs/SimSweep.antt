@@ -12,7 +12,7 @@ use Rattle.packets.proofs.Inv.{Inv}
 use Rattle.packets.proofs.Laws.{and-both}
 use Rattle.packets.specs.Lone.{Lone, Request, become, endsWith, fails, halts, inUse, stops}
 use Rattle.packets.specs.Rules.{cut, failed, isAt}
-use Rattle.packets.proofs.Sim.{Like, Sim, like-status, sim-sweep}
+use Rattle.packets.proofs.Sim.{Like, Sim, like-status, sim-sweep, use-busy}
 use Rattle.packets.specs.State.{State, isBusy, packetIn, sweep, withStatus}
 use Rattle.packets.proofs.There.{there-channel, there-unit}
 use Rattle.packets.proofs.Sites.{same-eq}
@@ -38,21 +38,6 @@ cut-stops InProgress = refl
 cut-stops Stopping = refl
 cut-stops (Ended k) = refl
 
--- what either table leaves in use was in use
-ends-use : (k : ℕ) (x : Status) → inUse (endsWith k x) ≡ true → inUse x ≡ true
-ends-use k Blank e = e
-ends-use k Listed e = refl
-ends-use k InProgress e = e
-ends-use k Stopping e = e
-ends-use k (Ended i) e = e
-
-stops-use : (k : ℕ) (x : Status) → inUse (stops (endsWith k x)) ≡ true → inUse x ≡ true
-stops-use k Blank e = e
-stops-use k Listed e = refl
-stops-use k InProgress e = e
-stops-use k Stopping e = e
-stops-use k (Ended i) e = e
-
 halted : {r : Request} {q : Packet} → Like r q → stops (endsWith 0o16 (r .status)) ≡ cut (q .status)
 halted {r} {q} k = ap (λ (x : Status). stops (endsWith 0o16 x)) (k .status) ∙ cut-stops (q .status)
 
@@ -62,8 +47,12 @@ not-busy x f = by-bool (isBusy x) f (λ e. e)
 -- ---- the two sweeps
 
 -- what a sweep leaves listed, in progress or stopping was so before
-busy-before : (f : Status → Status) → ((x : Status) → isBusy x ≡ false → f x ≡ x) → (x : Status) → isBusy (f x) ≡ true → isBusy x ≡ true
+pub busy-before : (f : Status → Status) → ((x : Status) → isBusy x ≡ false → f x ≡ x) → (x : Status) → isBusy (f x) ≡ true → isBusy x ≡ true
 busy-before f keeps x b = by-bool (isBusy x) (λ e. e) (λ e. rw (keeps x e) at b)
+
+-- in the lone unit's words
+use-before : (f : Status → Status) → ((x : Status) → isBusy x ≡ false → f x ≡ x) → (x y : Status) → y ≡ f x → inUse y ≡ true → inUse x ≡ true
+use-before f keeps x y e u = use-busy x ∙ busy-before f keeps x (sym (use-busy (f x)) ∙ ap inUse (sym e) ∙ u)
 
 -- what is there is at the holding's unit
 pub at-unit : (h : Holding) (c : ℕ) (a : Site) (q : Packet) → h .drum ≡ false → isThere h c a ≡ true → there h q ≡ true → isAt c a q ≡ true
@@ -84,7 +73,7 @@ halts-like false true r q k same =
 halts-like false false r q k same = k
 
 halts-use : (b : Bool) (r : Request) → inUse (cond b (become r (stops (endsWith 0o16 (r .status)))) r .status) ≡ true → inUse (r .status) ≡ true
-halts-use true r u = stops-use 0o16 (r .status) u
+halts-use true r u = use-before cut cut-idle (r .status) _ (cut-stops (r .status)) u
 halts-use false r u = u
 
 module _ (h : Holding) (s : State) (I : Inv s) (l : Lone) (S : Sim h s l) (j : ℕ) (inside : j < length (s .jobs)) (at-j : h .place ≡ j) where
@@ -98,7 +87,7 @@ module _ (h : Holding) (s : State) (I : Inv s) (l : Lone) (S : Sim h s l) (j : �
       (λ n y. let k = S .table n y in
       rw (at-unit h c a (its n) d t y)
       (like-status k _ _ (ap (endsWith 0o01) (k .status) ∙ failed-ends (its n .status)) (busy-before failed failed-idle (its n .status))))
-      (λ n. ends-use 0o01 (l .packets n .status))
+      (λ n. use-before failed failed-idle (l .packets n .status) _ (failed-ends (l .packets n .status)))
 
   -- 23, a return or the job's end, for the same packets on both sides
   pub sim-halts : (test : Packet → Bool) (t : Option ℕ → Bool) → ((n : ℕ) → there h (its n) ≡ true → t (wordAt (its n .at)) ≡ test (its n))
