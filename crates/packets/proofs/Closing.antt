@@ -12,7 +12,7 @@ use Rattle.units.specs.declared.Unit.{Unit as UnitState}
 use Rattle.channels.specs.declared.Channel.{Channel}
 use Rattle.packets.specs.Codes.{afterComplete, codeOf, statusAfter}
 use Rattle.packets.specs.Lone.{endsWith}
-use Rattle.packets.proofs.SimSubmit.{failed-ends}
+use Rattle.packets.proofs.SimSweep.{failed-ends}
 use Rattle.packets.proofs.CodesProof.{closed-status, finished-status, status-after}
 use Rattle.packets.specs.Demand.{emptyPlace, fresh}
 use Rattle.packets.proofs.Inv.{EntryOk, Inv}

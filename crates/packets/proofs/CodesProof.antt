@@ -16,7 +16,7 @@ use Rattle.packets.specs.Picks.{find}
 use Rattle.packets.specs.Rules.{Call, Do, Take, accept, aimed, always, closed, closing, codeFor, cut, decided, failed, finished, isAt, isDone, isTrouble, locked, over, packet, refusal, returnIfDone, run, siteOf, startable, step, submitted}
 use Rattle.packets.specs.declared.Act.the-variants as Act′
 use Rattle.packets.specs.State.{isPacket, State, isRunning, isUnit, motionOn, packetIn, packetOf, placeOf, put, restatusAll, stateIn, sweep, withStatus}
-use Rattle.packets.proofs.SimSubmit.{cut-stops, failed-ends}
+use Rattle.packets.proofs.SimSweep.{cut-stops, failed-ends}
 use Rattle.packets.proofs.Steps.{Ready, busy-of, find-some, fresh-inv, over-fits, over-inside, ready-fits, ready-inside, ready-sweep, run-inv, start-fits, startable-on}
 use Rattle.packets.proofs.Store.{alive-in, packet-fresh, packet-put, packet-restatus, packet-state, sizeIn}
 use Rattle.packets.proofs.Told.{Submits, assigns-to, completes-on, cut-going, cut-idle, ends-of, failed-going, failed-idle, returns-of, starts-on, submits}
