@@ -23,7 +23,7 @@ use packets::Verdict;
 use units::Units;
 ghost use mathlib.Core.Path.{_≡_};
 ghost use Rattle.packets.specs.Rules.{Take, Submit, Start, Complete, End, Return, Mark};
-ghost use Rattle.packets.specs.Demand.{fresh};
+ghost use Rattle.packets.specs.History.{fresh};
 ghost use Rattle.lists.specs.Outcomes.{listsOf, outcome, statusIn};
 
 // A packet's status, or why it is not answered.

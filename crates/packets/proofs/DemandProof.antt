@@ -1,9 +1,9 @@
 -- Demand 3 holds: the holding and its lone unit begin alike at the taking, and stay alike through the stretch.
 -- Assumes nothing.
 use Prim.Native.Nat.{ℕ, _<_}
-use mathlib.Core.Path.{_≡_, refl, sym, ap, subst, _∙_}
+use mathlib.Core.Path.{_≡_, refl, sym, ap, _∙_}
 use mathlib.Core.Bool.{Bool, true, false, not, cond, _&&_}
-use mathlib.Core.List.{List, [], _∷_, map}
+use mathlib.Core.List.{List, [], _∷_, _++_, map}
 use mathlib.Core.Option.{Option, none}
 use lib.Dec.{eqb}
 use borrow.Author.Tests.{eqb-true}
@@ -13,19 +13,37 @@ use Rattle.units.specs.State.{assignable, isReturning, unitIn}
 use Rattle.units.specs.declared.Holder.the-variants.{Held}
 use Rattle.packets.proofs.Acts.{Acted, sim-acts, sim-away}
 use Rattle.packets.proofs.Alone.{Quiet, mover, own-motion, own-start, quiet-after, quiet-held}
-use Rattle.packets.specs.Demand.{Demand3, Holding, Holds, OwnStarts, Seen, Stretch, acting, acts, events, fresh, itsUnit, noneSeen, noted, seenAfter, startIn, startsIn, there}
+use Rattle.packets.specs.Demand.{
+  Demand3,
+  Holding,
+  Holds,
+  OwnStarts,
+  Seen,
+  Stretch,
+  acting,
+  acts,
+  itsUnit,
+  noneSeen,
+  noted,
+  seenAfter,
+  startIn,
+  startsIn,
+  there,
+}
+use Rattle.packets.specs.History.{Event, Leads, Reached}
+use Rattle.packets.proofs.Reaching.{event, reached-append, reached-more, step-accepted}
 use Rattle.packets.proofs.Inv.{EntryOk, Inv, running-alive}
 use Rattle.packets.proofs.Laws.{all-imp, and-left, and-right, eqb-self, keep-none}
 use Rattle.packets.specs.Lone.{Lone, Request, isAtRest, loneRun, loneStart, loneStarts, loneStep, newLone, loneTakes, loneTakesAll}
-use Rattle.packets.specs.Rules.{Call, Take, accept, answer, assigned, decided, refusal, run, step}
+use Rattle.packets.specs.Rules.{Call, Take, accept, assigned, decided, refusal, step}
 use Rattle.packets.proofs.SeenLaws.{SeenOk, accept-seen, acts-refused, acts-same, noted-refused}
 use Rattle.packets.proofs.Sim.{Sim, lockThere, movingThere, num, on, returnThere}
-use Rattle.packets.proofs.Stays.{Configured, run-has, step-has}
+use Rattle.packets.proofs.Stays.{Configured, step-has}
 use Rattle.packets.proofs.There.{is-there, there-unit, unit-held}
 use Rattle.packets.proofs.InvJobs.{held-once}
-use Rattle.packets.proofs.Waiting.{Waits, fresh-waits, run-waits, step-waits}
+use Rattle.packets.proofs.Waiting.{Waits, reached-waits}
 use Rattle.packets.specs.State.{State, blank, heldBy, isEmpty, isRunning, lock, motionOn, packetIn, placeOf, stateIn, takeAll, wanted}
-use Rattle.packets.proofs.Steps.{fresh-inv, run-inv, step-inv}
+use Rattle.packets.proofs.Steps.{reached-inv, step-inv}
 use Rattle.packets.proofs.Store.{packet-fresh, state-fresh, unit-take}
 use Rattle.packets.proofs.Told.{assigns-to}
 use Rattle.packets.specs.declared.Answer.{Answer}
@@ -39,10 +57,6 @@ use Rattle.packets.specs.declared.Verdict.{Verdict}
 use Rattle.packets.specs.declared.Verdict.the-variants.{Denied, Granted}
 
 -- ---- a stretch
-
-pub step-accepted : (s : State) (x : Call) → refusal s x ≡ Granted → step s x ≡ record { answer = answer s x; state = accept s x }
-unfolding step
-step-accepted s x e = ap (decided s x) e
 
 -- one step of the cell, and of the lone unit if the call acted
 pub record Next (codes : ℕ) (h : Holding) (l : Lone) (t : Seen) (x : Call) (r : Answer) (s : State) : Type 0 where
@@ -68,31 +82,54 @@ next h s I H l S t k x = go (refusal s x) refl
           seen = rw (noted-refused h t x n) k;
         }
 
-pub record Through (codes : ℕ) (h : Holding) (s : State) (l : Lone) (t : Seen) (during : List Call) : Type 0 where
-  pub inv : Inv (run s during)
-  pub taken : loneTakesAll codes (h .drum) l (acting h t (events s during)) ≡ true
-  pub starts : startsIn h t (events s during) ≡ loneStarts codes (h .drum) (h .place) l (acting h t (events s during))
-  pub sim : Sim h (run s during) (loneRun codes (h .drum) l (acting h t (events s during)))
-  pub seen : SeenOk h (run s during) (seenAfter h t (events s during))
-  pub own : h .drum ≡ false → OwnStarts h t (events s during)
-  pub quiet : h .drum ≡ false → Quiet h (run s during)
+pub record Through (codes : ℕ) (h : Holding) (l : Lone) (t : Seen) (during : List Event) (end : State) : Type 0 where
+  pub inv : Inv end
+  pub taken : loneTakesAll codes (h .drum) l (acting h t during) ≡ true
+  pub starts : startsIn h t during ≡ loneStarts codes (h .drum) (h .place) l (acting h t during)
+  pub sim : Sim h end (loneRun codes (h .drum) l (acting h t during))
+  pub seen : SeenOk h end (seenAfter h t during)
+  pub own : h .drum ≡ false → OwnStarts h t during
+  pub quiet : h .drum ≡ false → Quiet h end
 
 pub through : (codes : ℕ) (h : Holding) (s : State) → s .codes ≡ codes → Inv s → (l : Lone) → Sim h s l → (t : Seen) → SeenOk h s t → (h .drum ≡ false → Quiet h s)
-    → (during : List Call) → Stretch h s during → Through codes h s l t during
-unfolding startsIn acting seenAfter events loneStarts loneTakesAll loneRun run
-through codes h s same I l S t k q [] H = record { inv = I; taken = refl; starts = refl; sim = S; seen = k; own = λ d. tt; quiet = q }
-through codes h s same I l S t k q (x ∷ during) H =
-    let y : Next codes h l t x (step s x .answer) (step s x .state) = subst (λ (z : ℕ). Next z h l t x (step s x .answer) (step s x .state)) same (next h s I (H .0) l S t k x) in
+    → (during : List Event) (end : State) → Leads s during end → Stretch h s during → Through codes h l t during end
+unfolding startsIn acting seenAfter loneStarts loneTakesAll loneRun
+through codes h s same I l S t k q [] end d H =
+    record { inv = rw d I; taken = refl; starts = refl; sim = rw d S; seen = rw d k; own = λ z. tt; quiet = rw d q }
+through codes h s same I l S t k q (e ∷ during) end d H =
+    let x = e .call in
+    let y : Next codes h l t x (e .answer) (step s x .state) = rw (d .0, sym same) (next h s I (H .0) l S t k x) in
     let same′ : step s x .state .codes ≡ codes = ap (λ (z : Configured). z .codes) (step-has s x) ∙ same in
     let s′ = step s x .state in
-    let t′ = noted h t x (step s x .answer) in
-    let q′ : h .drum ≡ false → Quiet h s′ = λ d. quiet-after h s I (H .0) d x in
-    by-bool (acts h t x (step s x .answer))
+    let t′ = noted h t x (e .answer) in
+    let q′ : h .drum ≡ false → Quiet h s′ = λ z. quiet-after h s I (H .0) z x in
+    by-bool (acts h t x (e .answer))
     (λ a. let z = y .acted a in
-    let r : Through codes h s′ (loneStep codes (h .drum) l x) t′ during = through codes h s′ same′ (step-inv s I x) (loneStep codes (h .drum) l x) (z .1) t′ (y .seen) q′ during (H .1) in
-    record { inv = r .inv; taken = rw (a, z .2) (r .taken); starts = rw (a, z .0, r .starts); sim = rw a (r .sim); seen = r .seen; own = λ d. (own-start h s I (H .0) d t k x, r .own d); quiet = r .quiet })
-    (λ a. let r : Through codes h s′ l t′ during = through codes h s′ same′ (step-inv s I x) l (y .idled a) t′ (y .seen) q′ during (H .1) in
-    record { inv = r .inv; taken = rw a (r .taken); starts = rw (a, r .starts); sim = rw a (r .sim); seen = r .seen; own = λ d. (own-start h s I (H .0) d t k x, r .own d); quiet = r .quiet })
+    let r : Through codes h (loneStep codes (h .drum) l x) t′ during end =
+    through codes h s′ same′ (step-inv s I x) (loneStep codes (h .drum) l x) (z .1) t′ (y .seen) q′ during end (d .1) (H .1) in
+    record {
+      inv = r .inv;
+      taken = rw (a, z .2) (r .taken);
+      starts = rw (a, z .0, r .starts);
+      sim = rw a (r .sim);
+      seen = r .seen;
+      own = own (r .own);
+      quiet = r .quiet;
+    })
+    (λ a. let r : Through codes h l t′ during end =
+    through codes h s′ same′ (step-inv s I x) l (y .idled a) t′ (y .seen) q′ during end (d .1) (H .1) in
+    record {
+      inv = r .inv;
+      taken = rw a (r .taken);
+      starts = rw (a, r .starts);
+      sim = rw a (r .sim);
+      seen = r .seen;
+      own = own (r .own);
+      quiet = r .quiet;
+    })
+  where
+    own : (h .drum ≡ false → OwnStarts h (noted h t (e .call) (e .answer)) during) → h .drum ≡ false → OwnStarts h t (e ∷ during)
+    own f n = (rw (d .0) (own-start h s I (H .0) n t k (e .call)), f n)
 
 -- ---- the assignment
 
@@ -192,19 +229,21 @@ returned-so h s I W l S d r =
         (λ x. rw x)
 
 pub demand3 : Demand3
-demand3 channels codes units free before j asg r h at-j H during stretch =
-    let s₀ = run (fresh channels codes units) before in
-    let I₀ : Inv s₀ = run-inv (fresh channels codes units) (fresh-inv channels codes units free) before in
+demand3 before s₀ reached j asg r h at-j H during end leads stretch =
+    let I₀ : Inv s₀ = reached-inv before s₀ reached in
+    let taken = before ++ (event s₀ (Take j asg) ∷ []) in
     let s = step s₀ (Take j asg) .state in
-    let I : Inv s = step-inv s₀ I₀ (Take j asg) in
-    let W : Waits s = step-waits s₀ I₀ (run-waits (fresh channels codes units) (fresh-inv channels codes units free) (fresh-waits channels codes units free) before) (Take j asg) in
-    let same : s .codes ≡ codes = ap (λ (z : Configured). z .codes) (step-has s₀ (Take j asg) ∙ run-has (fresh channels codes units) before) ∙ (unfold fresh in refl) in
-    let k = through codes h s same I newLone (assigned-sim s₀ I₀ j asg r h at-j H) noneSeen (assigned-seen s₀ I₀ j asg r h at-j) (quiet-held h s I H) during stretch in
+    let now : Reached taken s = reached-more before s₀ reached (Take j asg) in
+    let I : Inv s = reached-inv taken s now in
+    let same : s .codes ≡ s₀ .codes = ap (λ (z : Configured). z .codes) (step-has s₀ (Take j asg)) in
+    let k = through (s₀ .codes) h s same I newLone (assigned-sim s₀ I₀ j asg r h at-j H) noneSeen (assigned-seen s₀ I₀ j asg r h at-j)
+    (quiet-held h s I H) during end leads stretch in
     record {
       taken = k .taken;
       starts = k .starts;
       status = λ n t. ap (λ (q : Request). q .status) (k .sim .table n (k .seen n .0 t));
-      returned = λ d. returned-so h (run s during) (k .inv) (run-waits s I W during) (loneRun codes (h .drum) newLone (acting h noneSeen (events s during))) (k .sim) d;
+      returned = λ d. returned-so h end (k .inv) (reached-waits (taken ++ during) end (reached-append taken s now during end leads))
+          (loneRun (s₀ .codes) (h .drum) newLone (acting h noneSeen during)) (k .sim) d;
       started = k .own;
-      moves = λ d. own-motion h (run s during) (k .inv) d (seenAfter h noneSeen (events s during)) (k .seen) (k .quiet d);
+      moves = λ d. own-motion h end (k .inv) d (seenAfter h noneSeen during) (k .seen) (k .quiet d);
     }

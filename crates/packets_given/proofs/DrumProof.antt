@@ -14,7 +14,8 @@ use Rattle.units.specs.declared.Holder.{Holder}
 use Rattle.packets.proofs.AlwaysProof.{invariants}
 use Rattle.packets.specs.Codes.{statusAfter}
 use Rattle.packets.proofs.CodesProof.{status-after}
-use Rattle.packets.specs.Demand.{Holding, emptyPlace, fresh}
+use Rattle.packets.specs.Demand.{Holding}
+use Rattle.packets.specs.History.{emptyPlace, fresh}
 use Rattle.packets.proofs.Inv.{EntryOk, Inv, listed-busy, running-alive}
 use Rattle.packets.proofs.Laws.{and-left, and-right, eqb-self, find-holds, getD-set-keep}
 use Rattle.numbers.proofs.Stores.{getD-set}

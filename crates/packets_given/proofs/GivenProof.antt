@@ -18,7 +18,8 @@ use Rattle.units.specs.declared.Holder.{Holder}
 use Rattle.units.specs.declared.Holder.the-variants.{Free, Held, Returning}
 use Rattle.units.specs.declared.Unit.{Unit as UnitState}
 use Rattle.channels.specs.declared.Channel.{Channel}
-use Rattle.packets.specs.Demand.{emptyPlace, events, fresh, isAccepted}
+use Rattle.packets.specs.Demand.{events}
+use Rattle.packets.specs.History.{emptyPlace, fresh, isAccepted}
 use Rattle.packets.proofs.Handing.{unitSite}
 use Rattle.packets.proofs.Inv.{Inv, running-alive}
 use Rattle.packets.proofs.InvJobs.{held-once}

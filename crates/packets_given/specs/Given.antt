@@ -12,7 +12,8 @@ use Rattle.units.specs.State.{Square, assignable, isReturning, unitIn}
 use Rattle.units.specs.declared.Unit.{Unit as UnitState}
 use Rattle.channels.specs.declared.Channel.{Channel}
 use Rattle.packets.specs.Apart.{inCore}
-use Rattle.packets.specs.Demand.{Event, NoneHeld, events, fresh, isAccepted}
+use Rattle.packets.specs.Demand.{events}
+use Rattle.packets.specs.History.{Event, NoneHeld, fresh, isAccepted}
 use Rattle.packets.specs.Rules.{Call, Complete, End, Mark, Return, Start, Submit, Take, inArea, movesAt, run, step}
 use Rattle.packets.specs.State.{State, heldBy, isBusy, isEmpty, jobIn, motionOn, packetIn, stateIn, wanted}
 use Rattle.packets.specs.declared.Answer.{Answer}
