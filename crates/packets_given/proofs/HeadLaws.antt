@@ -3,7 +3,7 @@
 -- of that, and that it is what the page says. Assumes nothing.
 use Prim.Native.Nat.{ℕ, _<_}
 use mathlib.Core.Path.{_≡_, refl, sym, ap, _∙_}
-use mathlib.Core.Bool.{Bool, true, false, not, cond, _&&_, _||_}
+use mathlib.Core.Bool.{true, false, cond, _&&_}
 use mathlib.Core.List.{List}
 use mathlib.Core.Logic.{_⊎_, inl, inr, ⊎-elim}
 use mathlib.Core.Option.{Option, some}
@@ -21,7 +21,8 @@ use Rattle.packets.proofs.Laws.{and-both, and-left, and-right, eqb-self, neithe
 use Rattle.packets.proofs.Sites.{same-eq, same-is}
 use Rattle.packets.proofs.Told.{Returns}
 use Rattle.packets.proofs.Waiting.{Waits}
-use Rattle.packets.specs.Rules.{Return, cut, freeIfReturning, handedBack, isAt, movesAt}
+use Rattle.packets.specs.Rules.{cut, freeIfReturning, handedBack, isAt, movesAt}
+use Rattle.packets.proofs.ByNumber.{Return}
 use Rattle.packets.specs.State.{State, freedAt, heldBy, isEmpty, jobIn, motionOn, packetIn, stateIn, wanted, withHolder}
 use Rattle.packets.specs.declared.Answer.the-variants.{Done}
 use Rattle.packets.specs.declared.Assignment.{Assignment}

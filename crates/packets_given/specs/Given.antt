@@ -9,12 +9,10 @@ use mathlib.Core.List.{List, [], _∷_}
 use mathlib.Core.Option.{Option, none, some}
 use lib.Dec.{eqb}
 use Rattle.units.specs.State.{Square, assignable, isReturning, unitIn}
-use Rattle.units.specs.declared.Unit.{Unit as UnitState}
-use Rattle.channels.specs.declared.Channel.{Channel}
 use Rattle.packets.specs.Apart.{inCore}
-use Rattle.packets.specs.Demand.{events}
-use Rattle.packets.specs.History.{Event, NoneHeld, fresh, isAccepted}
-use Rattle.packets.specs.Rules.{Call, Complete, End, Mark, Return, Start, Submit, Take, inArea, movesAt, run, step}
+use Rattle.packets.specs.History.{Along, Event, Reached, isAccepted}
+use Rattle.packets.specs.Rules.{Call, Do, Take, inArea, movesAt}
+use Rattle.packets.specs.declared.Act.the-variants.{Submit, Start, Complete, End, Return, Mark}
 use Rattle.packets.specs.State.{State, heldBy, isBusy, isEmpty, jobIn, motionOn, packetIn, stateIn, wanted}
 use Rattle.packets.specs.declared.Answer.{Answer}
 use Rattle.packets.specs.declared.Assignment.{Assignment}
@@ -22,27 +20,22 @@ use Rattle.packets.specs.declared.Packet.{Packet}
 use Rattle.packets.specs.declared.Site.{Site}
 use Rattle.packets.specs.declared.Site.the-variants.{AtAddress, AtUnit}
 
--- ---- what was given, by the calls and their answers alone
+-- ---- reckoned from calls and their answers alone
+
+module _ {A : Type 0} where
+  -- call by call
+  abbrev pub reckoned : (A → Call → Answer → A) → A → List Event → A
+  reckoned f t [] = t
+  reckoned f t (e ∷ l) = reckoned f (f t (e .call) (e .answer)) l
 
 -- an accepted taking into place j gives its assignment; after any other call the last one stands
 unfoldable pub takenBy : ℕ → Option Assignment → Call → Answer → Option Assignment
 takenBy j last (Take i asg) r = cond (isAccepted r && eqb j i) (some asg) last
-takenBy j last (Submit i p f c w) r = last
-takenBy j last (Start c) r = last
-takenBy j last (Complete c how) r = last
-takenBy j last (End i e) r = last
-takenBy j last (Return i c u) r = last
-takenBy j last (Mark c u m on) r = last
+takenBy j last (Do x) r = last
 
-unfoldable pub takenIn : ℕ → Option Assignment → List Event → Option Assignment
-takenIn j last [] = last
-takenIn j last (e ∷ l) = takenIn j (takenBy j last (e .call) (e .answer)) l
-
--- the assignment of the last accepted taking into place j, from a fresh cell on
+-- the assignment of the last accepted taking into place j
 abbrev pub taking : List Event → ℕ → Option Assignment
-taking l j = takenIn j none l
-
--- ---- what was asked back, by the calls and their answers alone
+taking l j = reckoned (takenBy j) none l
 
 -- some units, by channel and number
 abbrev pub Heads : Type 0
@@ -54,39 +47,27 @@ noHeads c u = false
 -- an accepted return of place j asks for its unit; a taking into place j begins with none
 unfoldable pub askedBy : ℕ → Heads → Call → Answer → Heads
 askedBy j t (Take i asg) r c u = cond (isAccepted r && eqb j i) false (t c u)
-askedBy j t (Submit i p f d w) r c u = t c u
-askedBy j t (Start d) r c u = t c u
-askedBy j t (Complete d how) r c u = t c u
-askedBy j t (End i e) r c u = t c u
-askedBy j t (Return i d v) r c u = (isAccepted r && (eqb j i && (eqb c d && eqb u v))) || t c u
-askedBy j t (Mark d v m on) r c u = t c u
+askedBy j t (Do (Submit i p f d w)) r c u = t c u
+askedBy j t (Do (Start d)) r c u = t c u
+askedBy j t (Do (Complete d how)) r c u = t c u
+askedBy j t (Do (End i e)) r c u = t c u
+askedBy j t (Do (Return i d v)) r c u = (isAccepted r && (eqb j i && (eqb c (d .0) && eqb u (v .0)))) || t c u
+askedBy j t (Do (Mark d v m on)) r c u = t c u
 
-unfoldable pub askedIn : ℕ → Heads → List Event → Heads
-askedIn j t [] = t
-askedIn j t (e ∷ l) = askedIn j (askedBy j t (e .call) (e .answer)) l
-
--- the units whose return the job in place j has asked for since it was taken, from a fresh cell on
+-- the units whose return the job in place j has asked for since it was taken
 abbrev pub asking : List Event → ℕ → Heads
-asking l j = askedIn j noHeads l
+asking l j = reckoned (askedBy j) noHeads l
 
 -- ---- what a taking may be given
 
--- each unit that an accepted taking wants is assignable: free and unmarked
+-- each unit that a taking wants is assignable: free and unmarked
 abbrev pub Wants : State → Call → Type 0
-Wants s (Take j asg) =
-    isAccepted (step s (Take j asg) .answer) ≡ true → (c u : ℕ) → c < 16 → u < 16 → wanted asg c u ≡ true
-    → assignable (unitIn (s .units) c u) ≡ true
-Wants s (Submit j p f c w) = Unit {0}
-Wants s (Start c) = Unit {0}
-Wants s (Complete c how) = Unit {0}
-Wants s (End j e) = Unit {0}
-Wants s (Return j c u) = Unit {0}
-Wants s (Mark c u m on) = Unit {0}
+Wants s (Take j asg) = (c u : ℕ) → c < 16 → u < 16 → wanted asg c u ≡ true → assignable (unitIn (s .units) c u) ≡ true
+Wants s (Do x) = Unit {0}
 
--- so it is with each taking of a history
-abbrev pub Wanting : State → List Call → Type 0
-Wanting s [] = Unit {0}
-Wanting s (x ∷ l) = Wants s x × Wanting (step s x .state) l
+-- so it is with each accepted taking of a history
+abbrev pub Wanting : State → List Event → Type 0
+Wanting s l = Along (λ before x after. Wants before x) s l
 
 -- ---- what a place holds
 
@@ -126,19 +107,17 @@ IsOwn s j c (AtAddress x) = inArea (jobIn (s .jobs) j) x ≡ true
 abbrev pub OnItsOwn : State → ℕ → Packet → Type 0
 OnItsOwn s j q = IsOwn s j (q .channel .0) (q .at)
 
-pub record AsGiven (s : State) (j : ℕ) (last : Option Assignment) (asked : Heads) : Type 0 where
+-- place j after a history
+pub record AsGiven (l : List Event) (s : State) (j : ℕ) : Type 0 where
   -- a job that runs or is closing was taken, and holds what it was given less what it has returned
-  pub live : isEmpty (stateIn (s .jobs) j) ≡ false → (asg : Assignment) × (last ≡ some asg) × HoldsExactly s j asg asked
+  pub live : isEmpty (stateIn (s .jobs) j) ≡ false → (asg : Assignment) × (taking l j ≡ some asg) × HoldsExactly s j asg (asking l j)
   -- no job is there, or its facilities have returned
   pub empty : isEmpty (stateIn (s .jobs) j) ≡ true → (c u : ℕ) → heldBy (unitIn (s .units) c u .holder) j ≡ false
 
--- for every history of calls from a fresh cell of 16 channels of 16 units, and for every place
+-- for every history that begins with 16 channels of 16 units, and for every place
 abbrev pub HoldsWhatItWasGiven : Type 0
 HoldsWhatItWasGiven =
-    (channels : List Channel) (codes : ℕ) (units : List (List UnitState)) → NoneHeld units → Square units → (calls : List Call)
-    → Wanting (fresh channels codes units) calls
-    → (j : ℕ) → AsGiven (run (fresh channels codes units) calls) j (taking (events (fresh channels codes units) calls) j)
-    (asking (events (fresh channels codes units) calls) j)
+    (l : List Event) (s : State) (r : Reached l s) → Square (r .from .units) → Wanting (r .from) l → (j : ℕ) → AsGiven l s j
 
 -- a packet that is listed, in progress or stopping at an address is at one of its job's area
 abbrev pub AtItsArea : State → Type 0
@@ -147,6 +126,4 @@ AtItsArea s =
     → inArea (jobIn (s .jobs) j) x ≡ true
 
 abbrev pub OnItsOwnWords : Type 0
-OnItsOwnWords =
-    (channels : List Channel) (codes : ℕ) (units : List (List UnitState)) → NoneHeld units → (calls : List Call)
-    → AtItsArea (run (fresh channels codes units) calls)
+OnItsOwnWords = (l : List Event) (s : State) → Reached l s → AtItsArea s
