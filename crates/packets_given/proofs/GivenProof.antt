@@ -5,14 +5,13 @@
 use Prim.Native.Nat.{ℕ, _<_}
 use mathlib.Core.Path.{_≡_, refl, sym, ap, _∙_, subst}
 use mathlib.Core.Bool.{Bool, true, false, not, cond, _&&_}
-use mathlib.Core.List.{List, [], _∷_, _++_}
+use mathlib.Core.List.{List, [], _∷_}
 use mathlib.Core.Option.{Option, none, some}
 use lib.ListN.{length}
 use lib.Dec.{eqb}
 use borrow.Author.Tests.{eqb-true, eqb-false, ne-eqb}
 use Rattle.numbers.proofs.Stores.{getD-set}
 use Rattle.numbers.proofs.Tests.{by-bool, never}
-use Rattle.numbers.specs.declared.Refusal.{Refusal}
 use Rattle.units.specs.State.{Square, assignable, isFree, isReturning, unitIn}
 use Rattle.units.specs.declared.Holder.{Holder}
 use Rattle.units.specs.declared.Holder.the-variants.{Free, Held, Returning}
@@ -51,8 +50,6 @@ use Rattle.packets.proofs.Steps.{busy-of, closing-not-running, fresh-state, rea
 use Rattle.packets.proofs.Store.{alive-in, state-fresh, state-state, unit-release}
 use Rattle.packets.proofs.Told.{assigns-to, completes-on, ends-of, returns-of}
 use Rattle.packets.proofs.UnitLaws.{release-square, take-read, take-square}
-use Rattle.packets.proofs.Waiting.{reached-waits}
-use Rattle.packets.specs.declared.Answer.{Answer}
 use Rattle.packets.specs.declared.Answer.the-variants.{Done, Refused}
 use Rattle.packets.specs.declared.Assignment.{Assignment}
 use Rattle.packets.specs.declared.JobState.the-variants.{Empty, Running}
@@ -66,10 +63,10 @@ use Rattle.packets_given.specs.Given.{
   askedBy,
   asking,
   noHeads,
-  reckoned,
   takenBy,
   taking,
 }
+use Rattle.packets_given.proofs.Reckoning.{reckoned-append, refused-asks, refused-keeps}
 use Rattle.packets_given.proofs.HeadLaws.{Alike, Has, Kept, exactly, has-asked, has-on, kept-back, kept-handed}
 use Rattle.packets_given.proofs.SameLaws.{Same, same-begun, same-closed, same-finished, same-marked, same-submit, share}
 
@@ -213,22 +210,6 @@ accept-kept given asked s I (Do (Act′.Return j c u)) r k K = kept-handed given
 accept-kept given asked s I (Do (Act′.Mark c u m on)) r k K =
     kept-same given asked s (marked s (c .0) (u .0) m on) (same-marked s (c .0) (u .0) m on) K
 
--- a refused call gives nothing, and asks for nothing
-refused-keeps : (j : ℕ) (last : Option Assignment) (x : Call) (n : Refusal) → takenBy j last x (Refused n) ≡ last
-unfolding takenBy
-refused-keeps j last (Take i asg) n = refl
-refused-keeps j last (Do x) n = refl
-
-refused-asks : (j : ℕ) (t : Heads) (x : Call) (n : Refusal) (c u : ℕ) → askedBy j t x (Refused n) c u ≡ t c u
-unfolding askedBy
-refused-asks j t (Take i asg) n c u = refl
-refused-asks j t (Do (Act′.Submit i p f d w)) n c u = refl
-refused-asks j t (Do (Act′.Start d)) n c u = refl
-refused-asks j t (Do (Act′.Complete d how)) n c u = refl
-refused-asks j t (Do (Act′.End i e)) n c u = refl
-refused-asks j t (Do (Act′.Return i d v)) n c u = refl
-refused-asks j t (Do (Act′.Mark d v m on)) n c u = refl
-
 step-kept : (given : ℕ → Option Assignment) (asked : ℕ → Heads) (s : State) → Inv s → (x : Call)
     → (refusal s x ≡ Granted → Wants s x) → Kept given asked s
     → Kept (λ (i : ℕ). takenBy i (given i) x (step s x .answer)) (λ (i : ℕ). askedBy i (asked i) x (step s x .answer)) (step s x .state)
@@ -249,12 +230,6 @@ step-kept given asked s I x f K = unfold step in go (refusal s x) refl
         }
 
 -- ---- over a history
-
--- reckoned to the end of one part, and then on
-pub reckoned-append : {A : Type 0} (f : A → Call → Answer → A) (t : A) (l m : List Event)
-    → reckoned f t (l ++ m) ≡ reckoned f (reckoned f t l) m
-reckoned-append f t [] m = refl
-reckoned-append f t (e ∷ l) m = reckoned-append f (f t (e .call) (e .answer)) l m
 
 -- the same gifts and requests
 kept-eq : (given given′ : ℕ → Option Assignment) (asked asked′ : ℕ → Heads) (s : State) → ((i : ℕ) → given′ i ≡ given i)
@@ -287,6 +262,6 @@ pub holds-what-it-was-given : HoldsWhatItWasGiven
 holds-what-it-was-given l s r q w j =
     record {
       live = λ a. let k = reached-kept (r .from) (r .begins) q l s (r .leads) w .live j a in
-          (k .0, k .1, exactly s (reached-inv l s r) (reached-waits l s r) j (k .0) (asking l j) (k .2));
+          (k .0, k .1, exactly l s r j (k .0) (k .2));
       empty = λ a c u. none-held s (reached-inv l s r) j a c u;
     }

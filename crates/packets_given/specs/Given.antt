@@ -11,11 +11,14 @@ use lib.Dec.{eqb}
 use Rattle.units.specs.State.{Square, assignable, isReturning, unitIn}
 use Rattle.packets.specs.Apart.{inCore}
 use Rattle.packets.specs.History.{Along, Event, Reached, isAccepted}
-use Rattle.packets.specs.Rules.{Call, Do, Take, inArea, movesAt}
+use Rattle.packets.specs.Demand.{startIn}
+use Rattle.packets.specs.Picks.{any}
+use Rattle.packets.specs.Rules.{Call, Do, Take, inArea}
 use Rattle.packets.specs.declared.Act.the-variants.{Submit, Start, Complete, End, Return, Mark}
-use Rattle.packets.specs.State.{State, heldBy, isBusy, isEmpty, jobIn, motionOn, packetIn, stateIn, wanted}
+use Rattle.packets.specs.State.{State, heldBy, isBusy, isEmpty, jobIn, packetIn, same, stateIn, wanted}
 use Rattle.packets.specs.declared.Answer.{Answer}
 use Rattle.packets.specs.declared.Assignment.{Assignment}
+use Rattle.packets.specs.declared.Begun.{Begun}
 use Rattle.packets.specs.declared.Packet.{Packet}
 use Rattle.packets.specs.declared.Site.{Site}
 use Rattle.packets.specs.declared.Site.the-variants.{AtAddress, AtUnit}
@@ -58,6 +61,32 @@ askedBy j t (Do (Mark d v m on)) r c u = t c u
 abbrev pub asking : List Event → ℕ → Heads
 asking l j = reckoned (askedBy j) noHeads l
 
+-- what is under way on each channel
+abbrev pub UnderWay : Type 0
+UnderWay = ℕ → List Begun
+
+-- an accepted start puts under way on its channel what it answers; an accepted completion there ends it
+unfoldable pub movedBy : UnderWay → Call → Answer → UnderWay
+movedBy t (Take i asg) r c = t c
+movedBy t (Do (Submit i p f d w)) r c = t c
+movedBy t (Do (Start d)) r c = cond (isAccepted r && eqb c (d .0)) (startIn r) (t c)
+movedBy t (Do (Complete d how)) r c = cond (isAccepted r && eqb c (d .0)) [] (t c)
+movedBy t (Do (End i e)) r c = t c
+movedBy t (Do (Return i d v)) r c = t c
+movedBy t (Do (Mark d v m on)) r c = t c
+
+abbrev pub underWay : List Event → UnderWay
+underWay l = reckoned movedBy (λ c. []) l
+
+-- it is of the job in place j, on unit u
+abbrev pub isOn : ℕ → ℕ → Begun → Bool
+isOn j u b = eqb (b .place) j && same (b .at) (AtUnit (record { 0 = u }))
+
+-- what the job in place j has returned since it was taken: a unit whose return it has asked for is "free when that
+-- completion comes, or at once if nothing moves"
+abbrev pub hasReturned : List Event → ℕ → Heads
+hasReturned l j c u = asking l j c u && not (any (isOn j u) (underWay l c))
+
 -- ---- what a taking may be given
 
 -- each unit that a taking wants is assignable: free and unmarked
@@ -71,27 +100,22 @@ Wanting s l = Along (λ before x after. Wants before x) s l
 
 -- ---- what a place holds
 
--- what it has returned: a unit whose return it has asked for is "free when that completion comes, or at once if nothing
--- moves"
-abbrev pub hasReturned : State → ℕ → Heads → Heads
-hasReturned s j asked c u = asked c u && not (movesAt s j c (AtUnit (record { 0 = u })) (motionOn s c))
-
 -- the job in place j holds what the assignment gave less what it has returned: that drum area, that core, and a unit
 -- exactly when the assignment has it and it has not returned it
-pub record HoldsExactly (s : State) (j : ℕ) (asg : Assignment) (asked : Heads) : Type 0 where
+pub record HoldsExactly (s : State) (j : ℕ) (asg : Assignment) (asked back : Heads) : Type 0 where
   pub from : jobIn (s .jobs) j .from ≡ asg .from
   pub words : jobIn (s .jobs) j .words ≡ asg .words
   pub core : jobIn (s .jobs) j .core ≡ asg .core
-  pub units : (c u : ℕ) → c < 16 → u < 16 → heldBy (unitIn (s .units) c u .holder) j ≡ wanted asg c u && not (hasReturned s j asked c u)
+  pub units : (c u : ℕ) → c < 16 → u < 16 → heldBy (unitIn (s .units) c u .holder) j ≡ wanted asg c u && not (back c u)
   -- of the units that it holds those are being returned whose return it has asked for
   pub returning : (c u : ℕ) → c < 16 → u < 16 → heldBy (unitIn (s .units) c u .holder) j ≡ true
       → isReturning (unitIn (s .units) c u .holder) ≡ asked c u
 
 -- all that the assignment gave and that it has not returned is still the job's own: the job is there, it holds exactly
 -- that, and no other job holds one of its units, a word of its drum area or a block of its core
-pub record StillOwn (s : State) (j : ℕ) (asg : Assignment) (asked : Heads) : Type 0 where
+pub record StillOwn (s : State) (j : ℕ) (asg : Assignment) (asked back : Heads) : Type 0 where
   pub there : isEmpty (stateIn (s .jobs) j) ≡ false
-  pub holds : HoldsExactly s j asg asked
+  pub holds : HoldsExactly s j asg asked back
   -- of units that is so by type: a unit has one holder
   pub heads : (i c u : ℕ) → heldBy (unitIn (s .units) c u .holder) j ≡ true → heldBy (unitIn (s .units) c u .holder) i ≡ true → i ≡ j
   pub drum : (i x : ℕ) → isEmpty (stateIn (s .jobs) i) ≡ false
@@ -110,7 +134,8 @@ OnItsOwn s j q = IsOwn s j (q .channel .0) (q .at)
 -- place j after a history
 pub record AsGiven (l : List Event) (s : State) (j : ℕ) : Type 0 where
   -- a job that runs or is closing was taken, and holds what it was given less what it has returned
-  pub live : isEmpty (stateIn (s .jobs) j) ≡ false → (asg : Assignment) × (taking l j ≡ some asg) × HoldsExactly s j asg (asking l j)
+  pub live : isEmpty (stateIn (s .jobs) j) ≡ false
+      → (asg : Assignment) × (taking l j ≡ some asg) × HoldsExactly s j asg (asking l j) (hasReturned l j)
   -- no job is there, or its facilities have returned
   pub empty : isEmpty (stateIn (s .jobs) j) ≡ true → (c u : ℕ) → heldBy (unitIn (s .units) c u .holder) j ≡ false
 
