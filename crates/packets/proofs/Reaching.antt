@@ -3,7 +3,7 @@
 use Prim.Native.Nat.{ℕ}
 use mathlib.Core.Path.{_≡_, refl, sym, ap, subst, _∙_}
 use mathlib.Core.Bool.{true, false}
-use mathlib.Core.List.{List, [], _∷_, _++_, append-assoc, append-nil}
+use mathlib.Core.List.{List, [], _∷_, _++_, append-assoc, append-nil, map}
 use mathlib.Core.Option.{Option, none, some}
 use Rattle.numbers.proofs.Tests.{never}
 use Rattle.units.specs.declared.Unit.{Unit as UnitState}
@@ -38,6 +38,13 @@ leads-split s (e ∷ l) m u h = let k = leads-split (step s (e .call) .state) l 
 pub leads-once : (s : State) (l : List Event) (t u : State) → Leads s l t → Leads s l u → t ≡ u
 leads-once s [] t u h k = h ∙ sym k
 leads-once s (e ∷ l) t u h k = leads-once (step s (e .call) .state) l t u (h .1) (k .1)
+
+-- any calls are those of a history, from any state
+pub any-calls : (s : State) (calls : List Call) → (l : List Event) × (t : State) × Leads s l t × (map (λ (e : Event). e .call) l ≡ calls)
+any-calls s [] = ([], s, refl, refl)
+any-calls s (x ∷ calls) =
+    let k = any-calls (step s x .state) calls in
+    (event s x ∷ k .0, k .1, (refl, k .2), ap (λ (m : List Call). x ∷ m) (k .3))
 
 -- one call more
 pub leads-more : (s : State) (l : List Event) (t : State) → Leads s l t → (x : Call) → Leads s (l ++ (event t x ∷ [])) (step t x .state)
