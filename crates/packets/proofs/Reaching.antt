@@ -114,7 +114,7 @@ accepted-granted s x h = go (refusal s x) refl (unfold step in h)
     go Granted e a = e
     go (Denied n) e a = never {b = false} a refl
 
-pub answers-accepted : (s : State) (x : Call) → isAccepted (answer s x) ≡ true
+answers-accepted : (s : State) (x : Call) → isAccepted (answer s x) ≡ true
 unfolding answer
 answers-accepted s (Take j asg) = refl
 answers-accepted s (Do (Act′.Submit j p f c w)) = refl

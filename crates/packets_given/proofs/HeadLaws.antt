@@ -23,7 +23,6 @@ use Rattle.packets.proofs.Told.{Returns}
 use Rattle.packets.proofs.Steps.{reached-inv}
 use Rattle.packets.proofs.Waiting.{Waits, reached-waits}
 use Rattle.packets.specs.History.{Event, Reached}
-use Rattle.packets.specs.Picks.{any}
 use Rattle.packets.specs.Rules.{cut, freeIfReturning, handedBack, isAt, movesAt}
 use Rattle.packets.proofs.ByNumber.{Return}
 use Rattle.packets.specs.State.{State, freedAt, heldBy, isEmpty, jobIn, motionOn, packetIn, stateIn, wanted, withHolder}
@@ -231,11 +230,11 @@ exactly l s r i asg H =
     W : Waits s
     W = reached-waits l s r
 
-    moving : (c u : ℕ) → movesAt s i c (unitSite u) (motionOn s c) ≡ true → any (isOn i u) (underWay l c) ≡ true
+    moving : (c u : ℕ) → movesAt s i c (unitSite u) (motionOn s c) ≡ true → isOn i u (underWay l c) ≡ true
     moving c u m = sym (told-moves l s r i c u) ∙ m
 
-    resting : (c u : ℕ) → heldBy (unitIn (s .units) c u .holder) i ≡ false → any (isOn i u) (underWay l c) ≡ false
+    resting : (c u : ℕ) → heldBy (unitIn (s .units) c u .holder) i ≡ false → isOn i u (underWay l c) ≡ false
     resting c u x =
-        by-bool (any (isOn i u) (underWay l c))
+        by-bool (isOn i u (underWay l c))
         (λ m. never {b = heldBy (unitIn (s .units) c u .holder) i} (moves-held s I W i c u (told-moves l s r i c u ∙ m)) x)
         (λ m. m)

@@ -4,6 +4,8 @@ use Prim.Native.Nat.{ℕ}
 use mathlib.Core.Path.{_≡_, refl}
 use mathlib.Core.List.{List, [], _∷_, _++_}
 use mathlib.Core.Option.{Option}
+use lib.Dec.{eqb}
+use Rattle.numbers.proofs.Tests.{by-bool}
 use Rattle.numbers.specs.declared.Refusal.{Refusal}
 use Rattle.packets.specs.History.{Event}
 use Rattle.packets.specs.Rules.{Call, Do, Take}
@@ -39,8 +41,8 @@ pub refused-moves : (t : UnderWay) (x : Call) (n : Refusal) (c : ℕ) → movedB
 unfolding movedBy
 refused-moves t (Take i asg) n c = refl
 refused-moves t (Do (Act′.Submit i p f d w)) n c = refl
-refused-moves t (Do (Act′.Start d)) n c = refl
-refused-moves t (Do (Act′.Complete d how)) n c = refl
+refused-moves t (Do (Act′.Start d)) n c = by-bool (eqb c (d .0)) (λ e. rw e) (λ e. rw e)
+refused-moves t (Do (Act′.Complete d how)) n c = by-bool (eqb c (d .0)) (λ e. rw e) (λ e. rw e)
 refused-moves t (Do (Act′.End i e)) n c = refl
 refused-moves t (Do (Act′.Return i d v)) n c = refl
 refused-moves t (Do (Act′.Mark d v m on)) n c = refl

@@ -11,12 +11,11 @@ use lib.Dec.{eqb}
 use Rattle.units.specs.State.{Square, assignable, isReturning, unitIn}
 use Rattle.packets.specs.Apart.{inCore}
 use Rattle.packets.specs.History.{Along, Event, Reached, isAccepted}
-use Rattle.packets.specs.Demand.{startIn}
-use Rattle.packets.specs.Picks.{any}
 use Rattle.packets.specs.Rules.{Call, Do, Take, inArea}
 use Rattle.packets.specs.declared.Act.the-variants.{Submit, Start, Complete, End, Return, Mark}
 use Rattle.packets.specs.State.{State, heldBy, isBusy, isEmpty, jobIn, packetIn, same, stateIn, wanted}
 use Rattle.packets.specs.declared.Answer.{Answer}
+use Rattle.packets.specs.declared.Answer.the-variants.{Closed, Completed, Done, Refused, Started}
 use Rattle.packets.specs.declared.Assignment.{Assignment}
 use Rattle.packets.specs.declared.Begun.{Begun}
 use Rattle.packets.specs.declared.Packet.{Packet}
@@ -61,31 +60,40 @@ askedBy j t (Do (Mark d v m on)) r c u = t c u
 abbrev pub asking : List Event → ℕ → Heads
 asking l j = reckoned (askedBy j) noHeads l
 
--- what is under way on each channel
+-- what is under way on each channel, if anything
 abbrev pub UnderWay : Type 0
-UnderWay = ℕ → List Begun
+UnderWay = ℕ → Option Begun
 
--- an accepted start puts under way on its channel what it answers; an accepted completion there ends it
+-- on a channel, after an answer: what a start took; nothing, after a completion; else what was
+abbrev pub wayAfter : Answer → Option Begun → Option Begun
+wayAfter Done o = o
+wayAfter (Started b) o = some b
+wayAfter (Completed j p r) o = none
+wayAfter (Closed r) o = o
+wayAfter (Refused n) o = o
+
+-- a start and a completion are of one channel
 unfoldable pub movedBy : UnderWay → Call → Answer → UnderWay
 movedBy t (Take i asg) r c = t c
 movedBy t (Do (Submit i p f d w)) r c = t c
-movedBy t (Do (Start d)) r c = cond (isAccepted r && eqb c (d .0)) (startIn r) (t c)
-movedBy t (Do (Complete d how)) r c = cond (isAccepted r && eqb c (d .0)) [] (t c)
+movedBy t (Do (Start d)) r c = cond (eqb c (d .0)) (wayAfter r (t c)) (t c)
+movedBy t (Do (Complete d how)) r c = cond (eqb c (d .0)) (wayAfter r (t c)) (t c)
 movedBy t (Do (End i e)) r c = t c
 movedBy t (Do (Return i d v)) r c = t c
 movedBy t (Do (Mark d v m on)) r c = t c
 
 abbrev pub underWay : List Event → UnderWay
-underWay l = reckoned movedBy (λ c. []) l
+underWay l = reckoned movedBy (λ c. none) l
 
--- it is of the job in place j, on unit u
-abbrev pub isOn : ℕ → ℕ → Begun → Bool
-isOn j u b = eqb (b .place) j && same (b .at) (AtUnit (record { 0 = u }))
+-- it is a packet of the job in place j, on unit u
+abbrev pub isOn : ℕ → ℕ → Option Begun → Bool
+isOn j u none = false
+isOn j u (some b) = eqb (b .place) j && same (b .at) (AtUnit (record { 0 = u }))
 
 -- what the job in place j has returned since it was taken: a unit whose return it has asked for is "free when that
 -- completion comes, or at once if nothing moves"
 abbrev pub hasReturned : List Event → ℕ → Heads
-hasReturned l j c u = asking l j c u && not (any (isOn j u) (underWay l c))
+hasReturned l j c u = asking l j c u && not (isOn j u (underWay l c))
 
 -- ---- what a taking may be given
 
