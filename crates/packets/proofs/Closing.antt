@@ -13,7 +13,7 @@ use Rattle.channels.specs.declared.Channel.{Channel}
 use Rattle.packets.proofs.Reaching.{by-history, of-fresh}
 use Rattle.packets.specs.Codes.{afterComplete, codeOf, statusAfter}
 use Rattle.packets.specs.Lone.{endsWith}
-use Rattle.packets.proofs.SimSubmit.{failed-ends}
+use Rattle.packets.proofs.SimSweep.{failed-ends}
 use Rattle.packets.proofs.CodesProof.{closed-status, finished-status, status-after}
 use Rattle.packets.specs.History.{Event, Reached, emptyPlace, fresh}
 use Rattle.packets.proofs.Inv.{EntryOk, Inv}

@@ -40,7 +40,7 @@ use Rattle.packets.specs.Rules.{
 }
 use Rattle.packets.specs.declared.Act.the-variants as Act′
 use Rattle.packets.specs.State.{isPacket, State, isRunning, isUnit, motionOn, packetIn, packetOf, placeOf, put, restatusAll, stateIn, sweep, withStatus}
-use Rattle.packets.proofs.SimSubmit.{cut-stops, failed-ends}
+use Rattle.packets.proofs.SimSweep.{cut-stops, failed-ends}
 use Rattle.packets.proofs.Steps.{
   Ready,
   busy-of,

@@ -11,34 +11,20 @@ use Rattle.units.specs.declared.Unit.{Unit as UnitState}
 use Rattle.numbers.proofs.Tests.{by-bool, never}
 use Rattle.units.specs.State.{assignable, isReturning, unitIn}
 use Rattle.units.specs.declared.Holder.the-variants.{Held}
-use Rattle.packets.proofs.Acts.{Acted, sim-acts, sim-away}
+use Rattle.packets.proofs.Acts.{Follows, accepted-follows, follows-none}
 use Rattle.packets.proofs.Alone.{Quiet, mover, own-motion, own-start, quiet-after, quiet-held}
-use Rattle.packets.specs.Demand.{
-  Demand3,
-  Holding,
-  Holds,
-  OwnStarts,
-  Seen,
-  Stretch,
-  acting,
-  acts,
-  itsUnit,
-  noneSeen,
-  noted,
-  seenAfter,
-  startIn,
-  startsIn,
-  there,
-}
-use Rattle.packets.specs.History.{Event, Leads, Reached}
-use Rattle.packets.proofs.Reaching.{event, reached-append, reached-more, step-accepted}
+use Rattle.packets.specs.Demand.{Holding, Holds, IsolatedAlways, OwnStarts, Seen, Stretch, acting, asLone}
+use Rattle.packets.specs.Demand.{itsUnit, noneSeen, noted, seenAfter, startsIn, there}
 use Rattle.packets.proofs.Inv.{EntryOk, Inv, running-alive}
 use Rattle.packets.proofs.Laws.{all-imp, and-left, and-right, eqb-self, keep-none}
-use Rattle.packets.specs.Lone.{Lone, Request, isAtRest, loneRun, loneStart, loneStarts, loneStep, newLone, loneTakes, loneTakesAll}
+use Rattle.packets.specs.Lone.{Lone, isAtRest, loneRun, loneStarts, loneTakesAll, newLone, unused}
+use Rattle.packets.proofs.LoneLaws.{run-append, starts-append, takes-append}
 use Rattle.packets.specs.Rules.{Call, Take, accept, assigned, decided, refusal, step}
-use Rattle.packets.proofs.SeenLaws.{SeenOk, accept-seen, acts-refused, acts-same, noted-refused}
-use Rattle.packets.proofs.Sim.{Sim, lockThere, movingThere, num, on, returnThere}
+use Rattle.packets.proofs.SeenLaws.{SeenOk, accept-seen, lone-refused, noted-refused}
+use Rattle.packets.proofs.Sim.{Like, Sim, lockThere, movingThere, num, on, returnThere}
 use Rattle.packets.proofs.Stays.{Configured, step-has}
+use Rattle.packets.specs.History.{Event, Leads, Reached}
+use Rattle.packets.proofs.Reaching.{event, reached-append, reached-more, step-accepted}
 use Rattle.packets.proofs.There.{is-there, there-unit, unit-held}
 use Rattle.packets.proofs.InvJobs.{held-once}
 use Rattle.packets.proofs.Waiting.{Waits, reached-waits}
@@ -58,78 +44,61 @@ use Rattle.packets.specs.declared.Verdict.the-variants.{Denied, Granted}
 
 -- ---- a stretch
 
--- one step of the cell, and of the lone unit if the call acted
+-- what one call of the cell is to the lone unit, and where packets are then
 pub record Next (codes : ℕ) (h : Holding) (l : Lone) (t : Seen) (x : Call) (r : Answer) (s : State) : Type 0 where
-  pub acted : acts h t x r ≡ true → (loneStart (h .drum) (h .place) l x ≡ startIn r) × Sim h s (loneStep codes (h .drum) l x) × (loneTakes (h .drum) l x ≡ true)
-  pub idled : acts h t x r ≡ false → Sim h s l
+  pub lone : Follows codes h l (asLone h t x r) r s
   pub seen : SeenOk h s (noted h t x r)
 
-pub next : (h : Holding) (s : State) → Inv s → Holds s h → (l : Lone) → Sim h s l → (t : Seen) → SeenOk h s t → (x : Call) → Next (s .codes) h l t x (step s x .answer) (step s x .state)
+pub next : (h : Holding) (s : State) → Inv s → Holds s h → (l : Lone) → Sim h s l → (t : Seen) → SeenOk h s t → (x : Call)
+    → Next (s .codes) h l t x (step s x .answer) (step s x .state)
 unfolding step
 next h s I H l S t k x = go (refusal s x) refl
   where
     go : (n : Verdict) → refusal s x ≡ n → Next (s .codes) h l t x (decided s x n .answer) (decided s x n .state)
-    go Granted e =
-        record {
-          acted = λ a. let d : Acted h s l x = sim-acts h s I H l S x e (sym (acts-same h s I t k x) ∙ a) in (d .start, d .sim, d .taken);
-          idled = λ a. sim-away h s I H l S x e (sym (acts-same h s I t k x) ∙ a);
-          seen = accept-seen h s I H t k x e;
-        }
+    go Granted e = record { lone = accepted-follows h s I H l S t k x e; seen = accept-seen h s I H t k x e }
     go (Denied n) e =
         record {
-          acted = λ a. never {b = acts h t x (Refused n)} a (acts-refused h t x n);
-          idled = λ a. S;
+          lone = rw (lone-refused h t x n) (follows-none (s .codes) h l (Refused n) s S);
           seen = rw (noted-refused h t x n) k;
         }
 
 pub record Through (codes : ℕ) (h : Holding) (l : Lone) (t : Seen) (during : List Event) (end : State) : Type 0 where
   pub inv : Inv end
   pub taken : loneTakesAll codes (h .drum) l (acting h t during) ≡ true
-  pub starts : startsIn h t during ≡ loneStarts codes (h .drum) (h .place) l (acting h t during)
+  pub starts : startsIn h t during ≡ loneStarts codes (h .drum) l (acting h t during)
   pub sim : Sim h end (loneRun codes (h .drum) l (acting h t during))
   pub seen : SeenOk h end (seenAfter h t during)
   pub own : h .drum ≡ false → OwnStarts h t during
   pub quiet : h .drum ≡ false → Quiet h end
 
-pub through : (codes : ℕ) (h : Holding) (s : State) → s .codes ≡ codes → Inv s → (l : Lone) → Sim h s l → (t : Seen) → SeenOk h s t → (h .drum ≡ false → Quiet h s)
+pub through : (codes : ℕ) (h : Holding) (s : State) → s .codes ≡ codes → Inv s → (l : Lone) → Sim h s l → (t : Seen) → SeenOk h s t
+    → (h .drum ≡ false → Quiet h s)
     → (during : List Event) (end : State) → Leads s during end → Stretch h s during → Through codes h l t during end
 unfolding startsIn acting seenAfter loneStarts loneTakesAll loneRun
 through codes h s same I l S t k q [] end d H =
     record { inv = rw d I; taken = refl; starts = refl; sim = rw d S; seen = rw d k; own = λ z. tt; quiet = rw d q }
 through codes h s same I l S t k q (e ∷ during) end d H =
     let x = e .call in
-    let y : Next codes h l t x (e .answer) (step s x .state) = rw (d .0, sym same) (next h s I (H .0) l S t k x) in
-    let same′ : step s x .state .codes ≡ codes = ap (λ (z : Configured). z .codes) (step-has s x) ∙ same in
+    let a = e .answer in
     let s′ = step s x .state in
-    let t′ = noted h t x (e .answer) in
+    let t′ = noted h t x a in
+    let xs = asLone h t x a in
+    let l′ = loneRun codes (h .drum) l xs in
+    let rest = acting h t′ during in
+    let y : Next codes h l t x a s′ = rw (d .0, sym same) (next h s I (H .0) l S t k x) in
+    let same′ : s′ .codes ≡ codes = ap (λ (z : Configured). z .codes) (step-has s x) ∙ same in
     let q′ : h .drum ≡ false → Quiet h s′ = λ z. quiet-after h s I (H .0) z x in
-    by-bool (acts h t x (e .answer))
-    (λ a. let z = y .acted a in
-    let r : Through codes h (loneStep codes (h .drum) l x) t′ during end =
-    through codes h s′ same′ (step-inv s I x) (loneStep codes (h .drum) l x) (z .1) t′ (y .seen) q′ during end (d .1) (H .1) in
+    let r : Through codes h l′ t′ during end =
+    through codes h s′ same′ (step-inv s I x) l′ (y .lone .sim) t′ (y .seen) q′ during end (d .1) (H .1) in
     record {
       inv = r .inv;
-      taken = rw (a, z .2) (r .taken);
-      starts = rw (a, z .0, r .starts);
-      sim = rw a (r .sim);
+      taken = takes-append codes (h .drum) l xs rest (y .lone .taken) (r .taken);
+      starts = rw (y .lone .starts, r .starts) (sym (starts-append codes (h .drum) l xs rest));
+      sim = rw (run-append codes (h .drum) l xs rest) (r .sim);
       seen = r .seen;
-      own = own (r .own);
+      own = λ n. (rw (d .0) (own-start h s I (H .0) n t k x), r .own n);
       quiet = r .quiet;
-    })
-    (λ a. let r : Through codes h l t′ during end =
-    through codes h s′ same′ (step-inv s I x) l (y .idled a) t′ (y .seen) q′ during end (d .1) (H .1) in
-    record {
-      inv = r .inv;
-      taken = rw a (r .taken);
-      starts = rw (a, r .starts);
-      sim = rw a (r .sim);
-      seen = r .seen;
-      own = own (r .own);
-      quiet = r .quiet;
-    })
-  where
-    own : (h .drum ≡ false → OwnStarts h (noted h t (e .call) (e .answer)) during) → h .drum ≡ false → OwnStarts h t (e ∷ during)
-    own f n = (rw (d .0) (own-start h s I (H .0) n t k (e .call)), f n)
+    }
 
 -- ---- the assignment
 
@@ -147,7 +116,7 @@ module _ (s : State) (I : Inv s) (j : ℕ) (asg : Assignment) (small : j < 16) (
         order = ap (λ (x : List ℕ). map num x) (sym (keep-none (on h (assigned s j asg .jobs)) (s .queue)
             (all-imp (EntryOk s) (λ (e : ℕ). on h (assigned s j asg .jobs) e ≡ false)
             (λ e k. rw (not-j (placeOf e) (running-alive (stateIn (s .jobs) (placeOf e)) (k .running)))) (s .queue) (I .queued))));
-        table = λ n t. rw (packet-fresh (s .jobs) j asg (h .place) (rw (I .places) small) n, at-j, eqb-self j);
+        table = λ n t. rw (packet-fresh (s .jobs) j asg (h .place) (rw (I .places) small) n, at-j, eqb-self j) blank-like;
         moving = sym (no-motion (motionOn s (h .channel)) refl);
         lock = sym no-lock-yet;
         here = λ n u. never {b = false} u refl;
@@ -155,6 +124,9 @@ module _ (s : State) (I : Inv s) (j : ℕ) (asg : Assignment) (small : j < 16) (
         asked = λ e. sym not-asked-yet;
       }
     where
+      blank-like : Like unused blank
+      blank-like = record { status = refl; function = refl; word = λ b. never {b = false} b refl }
+
       running-now : stateIn (assigned s j asg .jobs) (h .place) ≡ Running
       running-now = state-fresh (s .jobs) j asg (h .place) (rw (I .places) small) ∙ rw (at-j, eqb-self j)
 
@@ -228,7 +200,7 @@ returned-so h s I W l S d r =
         (mover h s I (h .place) p e′ (there-unit h (q .channel .0) (q .at) d (and-right (eqb j (h .place)) _ x))) t)
         (λ x. rw x)
 
-pub demand3 : Demand3
+pub demand3 : IsolatedAlways
 demand3 before s₀ reached j asg r h at-j H during end leads stretch =
     let I₀ : Inv s₀ = reached-inv before s₀ reached in
     let taken = before ++ (event s₀ (Take j asg) ∷ []) in
@@ -241,7 +213,7 @@ demand3 before s₀ reached j asg r h at-j H during end leads stretch =
     record {
       taken = k .taken;
       starts = k .starts;
-      status = λ n t. ap (λ (q : Request). q .status) (k .sim .table n (k .seen n .0 t));
+      status = λ n t. k .sim .table n (k .seen n .0 t) .status;
       returned = λ d. returned-so h end (k .inv) (reached-waits (taken ++ during) end (reached-append taken s now during end leads))
           (loneRun (s₀ .codes) (h .drum) newLone (acting h noneSeen during)) (k .sim) d;
       started = k .own;

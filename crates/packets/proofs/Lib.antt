@@ -17,12 +17,13 @@ pub mod LoneLaws
 pub mod Sim
 pub mod SimRest
 pub mod There
+pub mod SimSweep
 pub mod SimSubmit
 pub mod SimStart
 pub mod SimReturn
 pub mod SimEnd
-pub mod Acts
 pub mod SeenLaws
+pub mod Acts
 pub mod Alone
 pub mod ApartProof
 pub mod CodesProof

@@ -3,31 +3,37 @@
 use Prim.Native.Nat.{ℕ, _<_}
 use mathlib.Core.Path.{_≡_, refl, sym, ap, _∙_}
 use mathlib.Core.Bool.{Bool, true, false, not, _&&_}
-use mathlib.Core.Option.{Option, none, some}
+use mathlib.Core.List.{[]}
 use lib.ListN.{length}
 use lib.Dec.{eqb}
 use borrow.Author.Tests.{eqb-true}
 use Rattle.numbers.proofs.Tests.{by-bool, never}
 use Rattle.numbers.specs.declared.Refusal.{Refusal}
-use Rattle.packets.proofs.Acts.{actsNow, answersThere}
-use Rattle.packets.specs.Demand.{Holding, Holds, Seen, acts, endedThere, isThere, noted, there, tookThere}
+use Rattle.packets.specs.Demand.{Holding, Holds, Seen, asLone, isThere, noted, there}
 use Rattle.packets.proofs.Inv.{EntryOk, Inv, listed-busy, motion-busy, running-alive}
 use Rattle.packets.proofs.InvStores.{lock-inv, sweep-inv}
 use Rattle.packets.proofs.Laws.{and-left, and-right, find-holds}
 use Rattle.packets.specs.Picks.{find}
-use Rattle.packets.specs.Rules.{Call, Do, Take, accept, aimed, always, answer, assigned, begins, begun, broken, closing, codeFor, completes, cut, ended, failed, finished, handedBack, isAt, isTrouble, locked, over, packet, refusal, returnIfDone, returned, siteOf, startable, submitted, terminate, unlock}
+use Rattle.packets.specs.Rules.{Call, Do, Take, accept, aimed, always, answer, assigned, begun, broken, closing}
+use Rattle.packets.specs.Rules.{codeFor, cut, ended, failed, finished, handedBack, isAt, isTrouble, locked, over}
+use Rattle.packets.specs.Rules.{packet, refusal, returnIfDone, returned, siteOf, startable, submitted, terminate}
+use Rattle.packets.specs.Rules.{unlock}
 use Rattle.packets.specs.declared.Act.the-variants as Act′
 use Rattle.packets.proofs.SimSubmit.{eqb-flip, holder-alive}
-use Rattle.packets.specs.State.{State, anyMoves, close, isBusy, isClosing, isEmpty, isUnit, lock, motionOn, packetIn, packetOf, placeOf, put, restatus, restatusAll, stateIn, store, sweep, withStatus}
-use Rattle.packets.proofs.Steps.{Ready, busy-of, find-some, over-fits, over-inside, ready-fits, ready-inside, ready-sweep, start-fits, startable-on, stored-at}
+use Rattle.packets.proofs.SimSweep.{busy-before}
+use Rattle.packets.specs.State.{State, anyMoves, close, isBusy, isClosing, isEmpty, isUnit, lock, motionOn, packetIn}
+use Rattle.packets.specs.State.{packetOf, placeOf, put, restatus, restatusAll, stateIn, store, sweep, withStatus}
+use Rattle.packets.proofs.Steps.{Ready, busy-of, find-some, over-fits, over-inside, ready-fits}
+use Rattle.packets.proofs.Steps.{ready-inside, ready-sweep, start-fits, startable-on, stored-at}
 use Rattle.packets.proofs.Store.{alive-in, packet-fresh, packet-put, packet-restatus, packet-state, sizeIn}
-use Rattle.packets.proofs.Told.{Submits, assigns-to, completes-on, cut-going, cut-idle, ends-of, failed-going, failed-idle, returns-of, starts-on, submits}
+use Rattle.packets.proofs.Told.{Submits, assigns-to, completes-on, cut-going, cut-idle}
+use Rattle.packets.proofs.Told.{ends-of, failed-going, failed-idle, returns-of, starts-on}
+use Rattle.packets.proofs.Told.{submits}
 use Rattle.packets.proofs.Handing.{returns-inside, unitSite}
 use Rattle.packets.specs.declared.Answer.the-variants.{Refused}
 use Rattle.packets.specs.declared.How.{How}
 use Rattle.packets.specs.declared.JobState.the-variants.{Empty}
-use Rattle.packets.specs.declared.Motion.{Motion}
-use Rattle.packets.specs.declared.Motion.the-variants.{Busy, Idle}
+use Rattle.packets.specs.declared.Motion.the-variants.{Busy}
 use Rattle.packets.specs.declared.Packet.{Packet}
 use Rattle.packets.specs.declared.Spot.{Spot}
 use Rattle.packets.specs.declared.Status.{Status}
@@ -71,17 +77,13 @@ pub calm-sweep : (h : Holding) (s : State) (j : ℕ) (t : Packet → Bool) (f : 
     → ((x : Status) → isBusy x ≡ false → f x ≡ x) → (n : ℕ) → Calm h s (sweep s j t f) n
 calm-sweep h s j t f inside fb keeps n =
     let q = packetIn (s .jobs) (h .place) n in
+    let swept = packet-restatus (s .jobs) j t f (h .place) n inside fb in
     by-bool (eqb (h .place) j)
-    (λ e. let z : packetIn (restatusAll (s .jobs) j t f) (h .place) n ≡ restatus t f q = packet-restatus (s .jobs) j t f (h .place) n inside fb ∙ rw e in
-    (rw z, λ b. go (isBusy (q .status)) refl (rw z at b), rw z))
-    (λ e. calm-same h s (sweep s j t f) n (packet-restatus (s .jobs) j t f (h .place) n inside fb ∙ rw e))
-  where
-    go : (x : Bool) → isBusy (packetIn (s .jobs) (h .place) n .status) ≡ x → isBusy (restatus t f (packetIn (s .jobs) (h .place) n) .status) ≡ true → isBusy (packetIn (s .jobs) (h .place) n .status) ≡ true
-    go true e b = e
-    go false e b =
-        by-bool (t (packetIn (s .jobs) (h .place) n))
-        (λ d. let b′ : isBusy (f (packetIn (s .jobs) (h .place) n .status)) ≡ true = rw d at b in rw (keeps (packetIn (s .jobs) (h .place) n .status) e) at b′)
-        (λ d. rw d at b)
+    (λ e. let z : packetIn (restatusAll (s .jobs) j t f) (h .place) n ≡ restatus t f q = swept ∙ rw e in
+    let back : isBusy (restatus t f q .status) ≡ true → isBusy (q .status) ≡ true =
+    λ b. by-bool (t q) (λ d. busy-before f keeps (q .status) (rw d at b)) (λ d. rw d at b) in
+    (rw z, λ b. back (rw z at b), rw z))
+    (λ e. calm-same h s (sweep s j t f) n (swept ∙ rw e))
 
 pub calm-return : (h : Holding) (s : State) (j n : ℕ) → Calm h s (returnIfDone j s) n
 calm-return h s j n =
@@ -199,38 +201,16 @@ accept-seen h s I H t k (Do (Act′.Return j c u)) r =
     λ n. seen-calm h s (handedBack s j (c .0) (unitSite (u .0))) (t n) n (calm-sweep h s j (isAt (c .0) (unitSite (u .0))) cut (returns-inside s I j (c .0) (u .0) (returns-of s j (c .0) (u .0) r)) refl cut-idle n) (k n)
 accept-seen h s I H t k (Do (Act′.Mark c u m on)) r = k
 
--- what is seen from outside to act on the holding does
-pub acts-same : (h : Holding) (s : State) → Inv s → (t : Seen) → SeenOk h s t → (x : Call) → acts h t x (answer s x) ≡ actsNow h s x
-unfolding acts actsNow answersThere answer
-acts-same h s I t k (Take j asg) = refl
-acts-same h s I t k (Do (Act′.Submit j p f c w)) = refl
-acts-same h s I t k (Do (Act′.Start c)) = go (find (startable s (c .0)) (s .queue))
-  where
-    go : (o : Option ℕ) → tookThere h (c .0) (begins s o) ≡ answersThere h s (c .0) (begins s o)
-    go none = refl
-    go (some e) = refl
-acts-same h s I t k (Do (Act′.Complete c how)) = go (motionOn s (c .0)) refl
-  where
-    go : (m : Motion) → motionOn s (c .0) ≡ m → endedThere h t (completes s (c .0) how m) ≡ answersThere h s (c .0) (completes s (c .0) how m)
-    go Idle e = refl
-    go (Busy j p) e =
-        by-bool (eqb j (h .place))
-        (λ d. let x : j ≡ h .place = eqb-true j (h .place) d in
-        rw (d, x) (k p .1 (motion-busy (packetIn (s .jobs) (h .place) p .status) (rw x at (I .motion (c .0) j p e .going)))))
-        (λ d. rw d)
-acts-same h s I t k (Do (Act′.End j e)) = refl
-acts-same h s I t k (Do (Act′.Return j c u)) = refl
-acts-same h s I t k (Do (Act′.Mark c u m on)) = refl
-
-pub acts-refused : (h : Holding) (t : Seen) (x : Call) (n : Refusal) → acts h t x (Refused n) ≡ false
-unfolding acts
-acts-refused h t (Take j asg) n = refl
-acts-refused h t (Do (Act′.Submit j p f c w)) n = refl
-acts-refused h t (Do (Act′.Start c)) n = refl
-acts-refused h t (Do (Act′.Complete c how)) n = refl
-acts-refused h t (Do (Act′.End j e)) n = refl
-acts-refused h t (Do (Act′.Return j c u)) n = refl
-acts-refused h t (Do (Act′.Mark c u m on)) n = refl
+-- a refused call is nothing to the lone unit, and says nothing of where a packet is
+pub lone-refused : (h : Holding) (t : Seen) (x : Call) (n : Refusal) → asLone h t x (Refused n) ≡ []
+unfolding asLone
+lone-refused h t (Take j asg) n = refl
+lone-refused h t (Do (Act′.Submit j p f c w)) n = refl
+lone-refused h t (Do (Act′.Start c)) n = refl
+lone-refused h t (Do (Act′.Complete c how)) n = refl
+lone-refused h t (Do (Act′.End j e)) n = refl
+lone-refused h t (Do (Act′.Return j c u)) n = refl
+lone-refused h t (Do (Act′.Mark c u m on)) n = refl
 
 pub noted-refused : (h : Holding) (t : Seen) (x : Call) (n : Refusal) → noted h t x (Refused n) ≡ t
 unfolding noted

@@ -10,13 +10,15 @@ use borrow.Author.Tests.{eqb-true}
 use Rattle.units.specs.declared.Unit.{Unit as UnitState}
 use Rattle.numbers.proofs.Tests.{by-bool, never}
 use Rattle.units.specs.State.{isReturning, unitIn}
-use Rattle.packets.specs.Demand.{Holding, there}
+use Rattle.packets.specs.Demand.{Holding, there, wordAt}
 use Rattle.packets.proofs.Inv.{Elsewhere, EntryOk, Inv, kept-still, listed-busy, motion-busy}
 use Rattle.packets.proofs.InvStores.{put-elsewhere, restatus-elsewhere}
 use Rattle.packets.specs.Picks.{All, keep}
 use Rattle.packets.proofs.Laws.{all-imp, all-keep, and-both, and-left, and-right, eqb-self, keep-all, settle-eq}
-use Rattle.packets.specs.Lone.{Lone, Request, settle, still, stores, waits, write, inUse}
-use Rattle.packets.specs.State.{State, heldBy, isBusy, isKept, isListed, motionOn, packetIn, packetOf, packetsIn, placeOf, put, relist, restatus, restatusAll, store, sweep, isRunning, stateIn}
+use Rattle.packets.specs.Lone.{Lone, Request, become, settle, still, stores, waits, write, inUse}
+use Rattle.packets.specs.State.{State, heldBy, isBusy, isKept, isListed, motionOn, packetIn, packetOf, packetsIn}
+use Rattle.packets.specs.State.{placeOf, put, relist, restatus, restatusAll, store, sweep, withStatus, isRunning}
+use Rattle.packets.specs.State.{stateIn}
 use Rattle.packets.proofs.Store.{packet-put, packet-restatus, sizeIn, state-put, state-restatus}
 use Rattle.packets.specs.declared.Job.{Job}
 use Rattle.packets.specs.declared.Motion.{Motion}
@@ -25,9 +27,17 @@ use Rattle.packets.specs.declared.Packet.{Packet}
 use Rattle.packets.specs.declared.Status.{Status}
 use Rattle.packets.specs.declared.Status.the-variants.{Blank, Ended, InProgress, Listed, Stopping}
 
--- what a lone unit knows of a packet
-abbrev pub look : Packet → Request
-look p = record { status = p .status; function = p .function; at = p .at }
+-- a lone unit's packet is like the cell's: of the same status and function, and, while it is listed, in progress or
+-- stopping, at the same word
+pub record Like (r : Request) (p : Packet) : Type 0 where
+  pub status : r .status ≡ p .status
+  pub function : r .function ≡ p .function
+  pub word : isBusy (p .status) ≡ true → r .word ≡ wordAt (p .at)
+
+-- both get the same status, which does not put an idle packet in use
+pub like-status : {r : Request} {p : Packet} → Like r p → (t u : Status) → t ≡ u
+    → (isBusy u ≡ true → isBusy (p .status) ≡ true) → Like (become r t) (withStatus p u)
+like-status k t u e busy = record { status = e; function = k .function; word = λ b. k .word (busy b) }
 
 abbrev pub num : ℕ → ℕ
 num e = packetOf e
@@ -53,7 +63,8 @@ isIts h units = cond (h .drum) true (heldBy (unitIn units (h .channel) (h .unit)
 
 pub record Sim (h : Holding) (s : State) (l : Lone) : Type 0 where
   pub order : l .order ≡ map num (keep (on h (s .jobs)) (s .queue))
-  pub table : (n : ℕ) → there h (packetIn (s .jobs) (h .place) n) ≡ true → l .packets n ≡ look (packetIn (s .jobs) (h .place) n)
+  pub table : (n : ℕ) → there h (packetIn (s .jobs) (h .place) n) ≡ true
+      → Like (l .packets n) (packetIn (s .jobs) (h .place) n)
   pub moving : l .moving ≡ movingThere h (s .jobs) (motionOn s (h .channel))
   pub lock : l .interlock ≡ lockThere h (s .units)
   -- what the lone unit has listed, in progress or stopping was last submitted there
@@ -70,8 +81,10 @@ use-busy Stopping = refl
 use-busy (Ended k) = refl
 
 -- a packet that the lone unit has in use is busy in the cell
-pub here-busy : (h : Holding) (s : State) (l : Lone) → Sim h s l → (n : ℕ) → inUse (l .packets n .status) ≡ true → isBusy (packetIn (s .jobs) (h .place) n .status) ≡ true
-here-busy h s l S n u = sym (use-busy (packetIn (s .jobs) (h .place) n .status)) ∙ ap (λ (r : Request). inUse (r .status)) (sym (S .table n (S .here n u))) ∙ u
+pub here-busy : (h : Holding) (s : State) (l : Lone) → Sim h s l → (n : ℕ) → inUse (l .packets n .status) ≡ true
+    → isBusy (packetIn (s .jobs) (h .place) n .status) ≡ true
+here-busy h s l S n u =
+    sym (use-busy (packetIn (s .jobs) (h .place) n .status)) ∙ ap inUse (sym (S .table n (S .here n u) .status)) ∙ u
 
 waits-listed : (t : Status) → isListed t ≡ waits t
 waits-listed Blank = refl
@@ -104,7 +117,8 @@ module _ (h : Holding) (s : State) (I : Inv s) (l : Lone) (S : Sim h s l) where
       each : (e : ℕ) → EntryOk s e × (on h (s .jobs) e ≡ true) → waits (l .packets (num e) .status) ≡ true
       each e k =
           let p : placeOf e ≡ h .place = eqb-true (placeOf e) (h .place) (and-left (eqb (placeOf e) (h .place)) _ (k .1)) in
-          rw (S .table (packetOf e) (and-right (eqb (placeOf e) (h .place)) _ (k .1)), ← waits-listed (packetIn (s .jobs) (h .place) (packetOf e) .status)) (rw p at (k .0 .listed))
+          ap waits (S .table (packetOf e) (and-right (eqb (placeOf e) (h .place)) _ (k .1)) .status)
+          ∙ sym (waits-listed (packetIn (s .jobs) (h .place) (packetOf e) .status)) ∙ rw p at (k .0 .listed)
 
   module _ (j : ℕ) (jobs : List Job) (elsewhere : Elsewhere j (s .jobs) jobs)
       (kept : (n : ℕ) → isBusy (packetIn (s .jobs) (h .place) n .status) ≡ true → there h (packetIn jobs (h .place) n) ≡ there h (packetIn (s .jobs) (h .place) n))
@@ -121,7 +135,7 @@ module _ (h : Holding) (s : State) (I : Inv s) (l : Lone) (S : Sim h s l) where
         (λ t. rw t)
 
     pub sim-jobs : (t : ℕ → Request)
-        → ((n : ℕ) → there h (packetIn jobs (h .place) n) ≡ true → t n ≡ look (packetIn jobs (h .place) n))
+        → ((n : ℕ) → there h (packetIn jobs (h .place) n) ≡ true → Like (t n) (packetIn jobs (h .place) n))
         → ((n : ℕ) → inUse (t n .status) ≡ true → there h (packetIn jobs (h .place) n) ≡ true)
         → Sim h rejob (settle l t)
     unfolding relist
@@ -150,9 +164,11 @@ module _ (h : Holding) (s : State) (I : Inv s) (l : Lone) (S : Sim h s l) where
         listens e k o =
             let p : placeOf e ≡ h .place = eqb-true (placeOf e) (h .place) (and-left (eqb (placeOf e) (h .place)) _ o) in
             let o′ : on h jobs e ≡ true = same e k ∙ o in
-            rw (table (packetOf e) (and-right (eqb (placeOf e) (h .place)) _ o′), p) (waits-listed (packetIn jobs (h .place) (packetOf e) .status))
+            rw p (waits-listed (packetIn jobs (h .place) (packetOf e) .status)
+            ∙ ap waits (sym (table (packetOf e) (and-right (eqb (placeOf e) (h .place)) _ o′) .status)))
 
-    pub sim-jobs-away : ((n : ℕ) → there h (packetIn jobs (h .place) n) ≡ true → l .packets n ≡ look (packetIn jobs (h .place) n)) → Sim h rejob l
+    pub sim-jobs-away : ((n : ℕ) → there h (packetIn jobs (h .place) n) ≡ true → Like (l .packets n) (packetIn jobs (h .place) n))
+        → Sim h rejob l
     sim-jobs-away table =
         record {
           order = sym order-waits ∙ sim-jobs (l .packets) table here .order;
@@ -180,7 +196,7 @@ module _ (h : Holding) (s : State) (I : Inv s) (l : Lone) (S : Sim h s l) where
         rw e (rw (x, y) (same (rw (x, y) at b))))
         (λ e. rw e))
 
-    pub sim-store : h .place ≡ j → there h q ≡ true → (r : Request) → r ≡ look q → Sim h (store s j p q) (stores l p r)
+    pub sim-store : h .place ≡ j → there h q ≡ true → (r : Request) → Like r q → Sim h (store s j p q) (stores l p r)
     sim-store at-j is-here r is =
         sim-jobs j (put (s .jobs) j p q) (put-elsewhere (s .jobs) j p q fits) store-kept (state-put (s .jobs) j p q (h .place)) (write (l .packets) p r) table here
       where
@@ -190,7 +206,8 @@ module _ (h : Holding) (s : State) (I : Inv s) (l : Lone) (S : Sim h s l) where
             rw (packet-put (s .jobs) j p q (h .place) n fits, m)
             (by-bool (eqb n p) (λ e. rw e is-here) (λ e. rw e (S .here n (rw e at u))))
 
-        table : (n : ℕ) → there h (packetIn (put (s .jobs) j p q) (h .place) n) ≡ true → write (l .packets) p r n ≡ look (packetIn (put (s .jobs) j p q) (h .place) n)
+        table : (n : ℕ) → there h (packetIn (put (s .jobs) j p q) (h .place) n) ≡ true
+            → Like (write (l .packets) p r n) (packetIn (put (s .jobs) j p q) (h .place) n)
         table n t =
             let t′ : there h (cond (eqb (h .place) j && eqb n p) q (packetIn (s .jobs) (h .place) n)) ≡ true = rw (packet-put (s .jobs) j p q (h .place) n fits) at t in
             let m : eqb (h .place) j ≡ true = rw at-j (eqb-self j) in
@@ -201,7 +218,8 @@ module _ (h : Holding) (s : State) (I : Inv s) (l : Lone) (S : Sim h s l) where
     sim-store-away away =
         sim-jobs-away j (put (s .jobs) j p q) (put-elsewhere (s .jobs) j p q fits) store-kept (state-put (s .jobs) j p q (h .place)) table
       where
-        table : (n : ℕ) → there h (packetIn (put (s .jobs) j p q) (h .place) n) ≡ true → l .packets n ≡ look (packetIn (put (s .jobs) j p q) (h .place) n)
+        table : (n : ℕ) → there h (packetIn (put (s .jobs) j p q) (h .place) n) ≡ true
+            → Like (l .packets n) (packetIn (put (s .jobs) j p q) (h .place) n)
         table n t =
             let t′ : there h (cond (eqb (h .place) j && eqb n p) q (packetIn (s .jobs) (h .place) n)) ≡ true = rw (packet-put (s .jobs) j p q (h .place) n fits) at t in
             rw (packet-put (s .jobs) j p q (h .place) n fits)
@@ -216,14 +234,15 @@ module _ (h : Holding) (s : State) (I : Inv s) (l : Lone) (S : Sim h s l) where
     sweep-kept n b = rw (packet-restatus (s .jobs) j test f (h .place) n inside fb) (by-bool (eqb (h .place) j) (λ e. rw e) (λ e. rw e))
 
     pub sim-sweep : h .place ≡ j → (t : ℕ → Request)
-        → ((n : ℕ) → there h (packetIn (s .jobs) (h .place) n) ≡ true → t n ≡ look (restatus test f (packetIn (s .jobs) (h .place) n)))
+        → ((n : ℕ) → there h (packetIn (s .jobs) (h .place) n) ≡ true → Like (t n) (restatus test f (packetIn (s .jobs) (h .place) n)))
         → ((n : ℕ) → inUse (t n .status) ≡ true → inUse (l .packets n .status) ≡ true)
         → Sim h (sweep s j test f) (settle l t)
     sim-sweep at-j t is uses =
         sim-jobs j (restatusAll (s .jobs) j test f) (restatus-elsewhere (s .jobs) j test f inside fb) sweep-kept (state-restatus (s .jobs) j test f (h .place)) t table
         (λ n u. sweep-kept n (here-busy h s l S n (uses n u)) ∙ S .here n (uses n u))
       where
-        table : (n : ℕ) → there h (packetIn (restatusAll (s .jobs) j test f) (h .place) n) ≡ true → t n ≡ look (packetIn (restatusAll (s .jobs) j test f) (h .place) n)
+        table : (n : ℕ) → there h (packetIn (restatusAll (s .jobs) j test f) (h .place) n) ≡ true
+            → Like (t n) (packetIn (restatusAll (s .jobs) j test f) (h .place) n)
         table n e =
             let m : eqb (h .place) j ≡ true = rw at-j (eqb-self j) in
             let e′ : there h (cond (eqb (h .place) j) (restatus test f (packetIn (s .jobs) (h .place) n)) (packetIn (s .jobs) (h .place) n)) ≡ true = rw (packet-restatus (s .jobs) j test f (h .place) n inside fb) at e in
@@ -233,7 +252,8 @@ module _ (h : Holding) (s : State) (I : Inv s) (l : Lone) (S : Sim h s l) where
     sim-sweep-away away =
         sim-jobs-away j (restatusAll (s .jobs) j test f) (restatus-elsewhere (s .jobs) j test f inside fb) sweep-kept (state-restatus (s .jobs) j test f (h .place)) table
       where
-        table : (n : ℕ) → there h (packetIn (restatusAll (s .jobs) j test f) (h .place) n) ≡ true → l .packets n ≡ look (packetIn (restatusAll (s .jobs) j test f) (h .place) n)
+        table : (n : ℕ) → there h (packetIn (restatusAll (s .jobs) j test f) (h .place) n) ≡ true
+            → Like (l .packets n) (packetIn (restatusAll (s .jobs) j test f) (h .place) n)
         table n e =
             let e′ : there h (cond (eqb (h .place) j) (restatus test f (packetIn (s .jobs) (h .place) n)) (packetIn (s .jobs) (h .place) n)) ≡ true = rw (packet-restatus (s .jobs) j test f (h .place) n inside fb) at e in
             rw (packet-restatus (s .jobs) j test f (h .place) n inside fb)

@@ -17,16 +17,20 @@ use Rattle.packets.proofs.InvJobs.{held-once, held-taken, take-held}
 use Rattle.packets.proofs.InvStores.{idle-inv, mark-holder, sweep-inv}
 use Rattle.packets.proofs.Laws.{and-left, and-right, eqb-self, neither}
 use Rattle.packets.proofs.LoneLaws.{in-section}
-use Rattle.packets.specs.Lone.{Lone, become, carries, completesAs, ends, endsWith, fails, halts, isIn, locks, stops, Request, closes, loneDoes, loneTakes, mayComplete, mayEnd}
-use Rattle.packets.specs.Rules.{always, assigned, isAt, broken, closing, codeFor, completed, cut, ended, failed, finished, isTrouble, marked, over, returnIfDone, isWrong}
-use Rattle.packets.proofs.ByNumber.{Complete, End}
-use Rattle.packets.proofs.Sim.{Sim, lockThere, movingThere, sim-store, sim-store-away, sim-sweep, sim-sweep-away}
+use Rattle.packets.specs.Lone.{Lone, become, carries, completesAs, ends, fails, halts, isIn, locks, closes, mayComplete, mayEnd}
+use Rattle.packets.specs.Rules.{always, assigned, isAt, broken, closing, codeFor, completed, cut}
+use Rattle.packets.specs.Rules.{ended, failed, finished, isTrouble, marked, over, returnIfDone}
+use Rattle.packets.specs.Rules.{isWrong}
+use Rattle.packets.proofs.Sim.{Like, Sim, like-status, lockThere, movingThere, sim-store, sim-store-away, sim-sweep-away}
 use Rattle.packets.proofs.SimRest.{sim-move, sim-move-away, sim-same, sim-units, sim-units-away, sim-same-but, stays-held, stays-locked}
 use Rattle.packets.proofs.SimReturn.{sim-back}
 use Rattle.packets.proofs.SimStart.{sim-return}
-use Rattle.packets.proofs.SimSubmit.{cut-stops, ends-use, fail-table, holder-alive, stops-use}
+use Rattle.packets.proofs.SimSubmit.{holder-alive}
+use Rattle.packets.proofs.SimSweep.{sim-fails, sim-halts}
 use Rattle.packets.proofs.There.{is-there, lock-away, lock-here, there-channel, there-kind, there-unit, unit-held}
-use Rattle.packets.specs.State.{State, close, heldBy, isEmpty, isRunning, isStopping, isUnit, motionOn, move, packetIn, same, setLock, setState, stateIn, sweep, takeAll, unitAt, wanted, withStatus}
+use Rattle.packets.specs.State.{State, close, heldBy, isEmpty, isRunning, isStopping, isUnit, motionOn, move}
+use Rattle.packets.specs.State.{packetIn, same, setLock, setState, stateIn, sweep, takeAll, unitAt, wanted}
+use Rattle.packets.specs.State.{withStatus}
 use Rattle.packets.proofs.Sites.{mark-lock, same-is}
 use Rattle.packets.proofs.Steps.{ending-inv, finished-inv, return-inv, over-fits, over-inside, over-inv}
 use Rattle.packets.proofs.Store.{alive-in, length-restatus, packet-fresh, packet-state, state-fresh, state-restatus, state-state, unit-keep}
@@ -83,11 +87,14 @@ module _ (h : Holding) (s : State) (I : Inv s) (H : Holds s h) (l : Lone) (S : S
         now : motionOn s (h .channel) ≡ Busy j p
         now = rw channel-at is
 
+    its-like : Like (l .packets p) (packetIn (s .jobs) j p)
+    its-like = subst (λ (i : ℕ). Like (l .packets p) (packetIn (s .jobs) i p)) at-j (S .table p (rw at-j t))
+
     sim-over : (k : ℕ) → Sim h (over s c j p k) (ends l p k)
     sim-over k =
         sim-store h (move s c Idle) (idle-inv s I c small) (carries l none) (sim-move h s I l S c Idle none small channel-at refl) j p
         (withStatus (packetIn (s .jobs) j p) (Ended k)) (over-fits s I c small j p is) (λ b. refl) at-j t (become (l .packets p) (Ended k))
-        (rw (S .table p (rw at-j t), at-j))
+        (like-status its-like (Ended k) (Ended k) refl (λ b. never {b = false} b refl))
 
     sim-broken : (k : ℕ) → h .drum ≡ false → Sim h (broken (over s c j p k) c (packetIn (s .jobs) j p .at) j) (locks (fails (ends l p k)) true)
     sim-broken k d =
@@ -97,8 +104,7 @@ module _ (h : Holding) (s : State) (I : Inv s) (H : Holds s h) (l : Lone) (S : S
         let inside = over-inside s I c small j p is k in
         let u : a ≡ itsUnit h = there-unit h (packetIn (s .jobs) j p .channel .0) a d t in
         let S₂ : Sim h (sweep s₁ j (isAt c a) failed) (fails (ends l p k)) =
-        sim-sweep h s₁ I₁ (ends l p k) (sim-over k) j (isAt c a) failed inside refl at-j (λ m. become (ends l p k .packets m) (endsWith 0o01 (ends l p k .packets m .status)))
-        (fail-table h s₁ (ends l p k) (sim-over k) c a d (sym channel-at) u) (λ m. ends-use 0o01 (ends l p k .packets m .status)) in
+        sim-fails h s₁ I₁ (ends l p k) (sim-over k) j inside at-j c a d (is-there h c a d (sym channel-at) u) in
         sim-units h (sweep s₁ j (isAt c a) failed) (sweep-inv s₁ I₁ j (isAt c a) failed inside refl failed-going) (fails (ends l p k)) S₂
         (setLock (s .units) c a true) true (stays-locked h (s .units) c a true)
         (ap (λ (x : Site). lockThere h (setLock (s .units) c x true)) u ∙ lock-here h s H c true d channel-at)
@@ -116,14 +122,12 @@ module _ (h : Holding) (s : State) (I : Inv s) (H : Holds s h) (l : Lone) (S : S
         (λ b. rw b (sim-over k)))
 
     -- the lone unit takes it: the packet moves there, and may end so
-    pub takes-complete : (how : How) → isWrong (packetIn (s .jobs) j p .status) how ≡ false → loneTakes (h .drum) l (Complete c how) ≡ true
-    unfolding loneTakes
+    pub takes-complete : (how : How) → isWrong (packetIn (s .jobs) j p .status) how ≡ false → mayComplete l how (l .moving) ≡ true
     takes-complete how right =
-        let e : l .packets p .status ≡ packetIn (s .jobs) j p .status = ap (λ (r : Request). r .status) (S .table p (rw at-j t)) ∙ rw at-j in
-        ap (mayComplete l how) moving-is ∙ ap (λ (x : Status). mayEnd x how) e ∙ may-end (packetIn (s .jobs) j p .status) how right
+        ap (mayComplete l how) moving-is ∙ ap (λ (x : Status). mayEnd x how) (its-like .status)
+        ∙ may-end (packetIn (s .jobs) j p .status) how right
 
-    pub sim-complete : (how : How) → Sim h (completed s c how (Busy j p)) (loneDoes (s .codes) (h .drum) l (Complete c how))
-    unfolding loneDoes
+    pub sim-complete : (how : How) → Sim h (completed s c how (Busy j p)) (completesAs (s .codes) (h .drum) l how (l .moving))
     sim-complete how =
         subst (λ (x : Option ℕ). Sim h (completed s c how (Busy j p)) (completesAs (s .codes) (h .drum) l how x)) (sym moving-is)
         (gives-back how (completesAs (s .codes) (h .drum) l how (some p)) (sim-finished how))
@@ -210,20 +214,15 @@ module _ (h : Holding) (s : State) (I : Inv s) (l : Lone) (S : Sim h s l) (j : �
       over-closing true = refl
       over-closing false = refl
 
-  pub takes-end : h .place ≡ j → loneTakes (h .drum) l (End j err) ≡ true
-  unfolding loneTakes
+  pub takes-end : h .place ≡ j → not (l .jobOver) ≡ true
   takes-end at-j =
       let x : isRunning (stateIn (s .jobs) (h .place)) ≡ true = rw at-j r in
       ap not (S .over ∙ ap not x)
 
-  pub sim-end : h .place ≡ j → Sim h (ended s j err) (loneDoes (s .codes) (h .drum) l (End j err))
-  unfolding loneDoes
+  pub sim-end : h .place ≡ j → Sim h (ended s j err) (closes (halts (λ x. true) l))
   sim-end at-j =
       sim-return h (close swept j (closing err)) (ending-inv s I j err r) (closes (halts (λ x. true) l))
-      (sim-closes at-j (halts (λ x. true) l)
-      (sim-sweep h s I l S j always cut its-place refl at-j (λ m. become (l .packets m) (stops (endsWith 0o16 (l .packets m .status))))
-      (λ n y. rw (S .table n y, cut-stops (packetIn (s .jobs) (h .place) n .status)))
-      (λ n. stops-use 0o16 (l .packets n .status))))
+      (sim-closes at-j (halts (λ x. true) l) (sim-halts h s I l S j its-place at-j always (λ x. true) (λ n y. refl)))
       j
 
   pub sim-end-away : eqb (h .place) j ≡ false → Sim h (ended s j err) l

@@ -1,41 +1,29 @@
 -- A unit that is given back, at a completion or by a return: the holding and its lone unit stay alike. Assumes nothing.
 use Prim.Native.Nat.{ℕ}
 use mathlib.Core.Path.{_≡_, refl, sym, ap, _∙_}
-use mathlib.Core.Bool.{Bool, true, false, not, cond, _&&_}
+use mathlib.Core.Bool.{true, false, not, cond, _&&_}
 use mathlib.Core.List.{List}
 use lib.Dec.{eqb}
 use borrow.Author.Tests.{eqb-true, eq-eqb, not-true}
 use Rattle.numbers.proofs.Tests.{by-bool, never}
 use Rattle.units.specs.State.{isReturning, unitIn}
 use Rattle.units.specs.declared.Holder.{Holder}
-use Rattle.units.specs.declared.Holder.the-variants.{Free, Returning}
+use Rattle.units.specs.declared.Holder.the-variants.{Free}
 use Rattle.units.specs.declared.Unit.{Unit as UnitState}
 use Rattle.packets.proofs.Handing.{held-unit, hold-interlock, next, returning-taken, returns-inside, swept-inv, unitSite}
 use Rattle.packets.proofs.Inv.{Inv}
 use Rattle.packets.proofs.InvJobs.{held-once, held-taken}
-use Rattle.packets.proofs.Laws.{and-both, and-left, and-right, eqb-self}
-use Rattle.packets.proofs.Sim.{Sim, isIts, lockThere, look, returnThere, sim-sweep, sim-sweep-away}
+use Rattle.packets.proofs.Laws.{and-both, and-left, and-right}
+use Rattle.packets.proofs.Sim.{Sim, isIts, lockThere, returnThere, sim-sweep-away}
 use Rattle.packets.proofs.SimRest.{Stays, sim-units-away, stays-free, stays-held}
-use Rattle.packets.proofs.SimSubmit.{cut-stops, stops-use}
-use Rattle.packets.proofs.Sites.{same-eq, same-is}
-use Rattle.packets.proofs.There.{is-there, its-own, return-is, there-channel, there-kind, there-unit, unit-held}
+use Rattle.packets.proofs.SimSweep.{at-unit, sim-halts}
+use Rattle.packets.proofs.Sites.{same-is}
+use Rattle.packets.proofs.There.{is-there, its-own, return-is, there-channel, there-kind, unit-held}
 use Rattle.packets.proofs.Told.{Returns}
 use Rattle.packets.specs.Demand.{Holding, Holds, isThere, there}
-use Rattle.packets.specs.Lone.{Lone, asksBack, become, endsWith, halts, loneDoes, loneTakes, stops}
+use Rattle.packets.specs.Lone.{Lone, asksBack, halts}
 use Rattle.packets.specs.Rules.{cut, freeIfReturning, handedBack, isAt, movesAt}
-use Rattle.packets.proofs.ByNumber.{Return}
-use Rattle.packets.specs.State.{
-  State,
-  heldBy,
-  isRunning,
-  motionOn,
-  packetIn,
-  restatus,
-  setHolder,
-  stateIn,
-  sweep,
-  withHolder,
-}
+use Rattle.packets.specs.State.{State, heldBy, isRunning, motionOn, packetIn, setHolder, stateIn, sweep, withHolder}
 use Rattle.packets.specs.declared.Site.{Site}
 use Rattle.packets.specs.declared.Site.the-variants.{AtAddress, AtUnit}
 
@@ -79,8 +67,7 @@ module _ (h : Holding) (s : State) (I : Inv s) (H : Holds s h) (l : Lone) (S : S
     no-drum = not-true (h .drum) (sym (there-kind h c a t))
 
     -- the lone unit takes it: it is no piece of drum, its job runs, and it is not being returned
-    pub takes-return : loneTakes (h .drum) l (Return j c u) ≡ true
-    unfolding loneTakes
+    pub takes-return : not (h .drum) && (not (l .jobOver) && not (l .returning)) ≡ true
     takes-return =
         let x : isRunning (stateIn (s .jobs) (h .place)) ≡ true = rw at-j (k .running) in
         let y : l .jobOver ≡ false = S .over ∙ rw x in
@@ -88,17 +75,10 @@ module _ (h : Holding) (s : State) (I : Inv s) (H : Holds s h) (l : Lone) (S : S
         and-both _ _ (ap not no-drum) (and-both _ _ (ap not y) (ap not z))
 
     -- all that the lone unit has is at the unit
-    at-unit : (n : ℕ) → there h (packetIn (s .jobs) (h .place) n) ≡ true → isAt c a (packetIn (s .jobs) (h .place) n) ≡ true
-    at-unit n y =
-        let q = packetIn (s .jobs) (h .place) n in
-        and-both _ _ (eq-eqb (q .channel .0) c (there-channel h (q .channel .0) (q .at) y ∙ sym (there-channel h c a t)))
-        (same-eq (q .at) a (there-unit h (q .channel .0) (q .at) no-drum y ∙ sym (there-unit h c a no-drum t)))
-
     swept-sim : Sim h (sweep s j (isAt c a) cut) (halts (λ x. true) l)
     swept-sim =
-        sim-sweep h s I l S j (isAt c a) cut (returns-inside s I j c u k) refl at-j (λ m. become (l .packets m) (stops (endsWith 0o16 (l .packets m .status))))
-        (λ n y. rw (S .table n y, cut-stops (packetIn (s .jobs) (h .place) n .status), at-unit n y))
-        (λ n. stops-use 0o16 (l .packets n .status))
+        sim-halts h s I l S j (returns-inside s I j c u k) at-j (isAt c a) (λ x. true)
+        (λ n y. sym (at-unit h c a (packetIn (s .jobs) (h .place) n) no-drum t y))
 
     -- as long as the job has it, it is being returned
     now-returning : isIts h (setHolder (s .units) c a then) ≡ true → true ≡ returnThere h (setHolder (s .units) c a then)
@@ -109,8 +89,7 @@ module _ (h : Holding) (s : State) (I : Inv s) (H : Holds s h) (l : Lone) (S : S
         let e′ : heldBy then (h .place) ≡ true = rw (no-drum, v) at e in
         rw (no-drum, v) (by-bool (movesAt s j c a (motionOn s c)) (λ m. rw m) (λ m. never {b = false} (rw m at e′) refl))
 
-    pub sim-returns : Sim h (handedBack s j c a) (loneDoes (s .codes) (h .drum) l (Return j c u))
-    unfolding loneDoes
+    pub sim-returns : Sim h (handedBack s j c a) (asksBack (halts (λ x. true) l))
     sim-returns =
         let S₁ = swept-sim in
         record {

@@ -1,25 +1,26 @@
 -- A start and a return: the holding and its lone unit stay alike, and make the same start. Assumes nothing.
 use Prim.Native.Nat.{ℕ, _<_}
 use mathlib.Core.Path.{_≡_, refl, sym, ap, _∙_, subst}
-use mathlib.Core.Bool.{Bool, true, false, not, _&&_}
+use mathlib.Core.Bool.{true, false, not, _&&_}
 use mathlib.Core.List.{List, _∷_, map}
-use mathlib.Core.Option.{Option, none, some}
+use mathlib.Core.Option.{none, some}
 use lib.Dec.{eqb}
 use borrow.Author.Tests.{eqb-true, eq-eqb, not-true}
 use Rattle.numbers.proofs.Tests.{by-bool, never}
 use Rattle.units.specs.State.{unitIn}
 use Rattle.packets.specs.Demand.{Holding, Holds, isThere, startIn, there}
-use Rattle.packets.proofs.Inv.{EntryOk, Inv}
+use Rattle.packets.proofs.Inv.{EntryOk, Inv, listed-busy}
 use Rattle.packets.proofs.InvStores.{idle-is}
-use Rattle.packets.proofs.Laws.{all-imp, and-left, and-right, eqb-self, find-holds, find-keep}
-use Rattle.packets.specs.Lone.{Lone, become, carries, setsOff, startOf, stores, loneDoes, loneTakes, startBy}
+use Rattle.packets.proofs.Laws.{all-imp, and-both, and-left, and-right, eqb-self, find-holds, find-keep}
+use Rattle.packets.specs.Lone.{Lone, become, hasListed, isAtRest, setsOff, startOf, stores}
 use Rattle.packets.specs.Picks.{find, keep}
-use Rattle.packets.specs.Rules.{answer, begun, returnIfDone, startable}
-use Rattle.packets.proofs.ByNumber.{Start}
-use Rattle.packets.proofs.Sim.{Sim, lockThere, movingThere, num, on, sim-store, sim-store-away}
+use Rattle.packets.specs.Rules.{begins, begun, returnIfDone, startable}
+use Rattle.packets.proofs.Sim.{Sim, like-status, lockThere, movingThere, num, on, sim-store, sim-store-away}
 use Rattle.packets.proofs.SimRest.{Stays, sim-move, sim-move-away, sim-same, stays-free, stays-held}
 use Rattle.packets.proofs.There.{lock-is, there-channel}
-use Rattle.packets.specs.State.{State, anyMoves, heldBy, isClosing, isIdle, isRunning, motionOn, packetIn, packetOf, placeOf, put, release, releaseAll, setState, stateIn, store, unitAt, withStatus}
+use Rattle.packets.specs.State.{State, anyMoves, heldBy, isBusy, isClosing, isIdle, isRunning, motionOn, packetIn}
+use Rattle.packets.specs.State.{packetOf, placeOf, put, release, releaseAll, setState, stateIn, store, unitAt}
+use Rattle.packets.specs.State.{withStatus}
 use Rattle.packets.proofs.Steps.{closing-not-running, start-at, start-fits, start-store, startable-on}
 use Rattle.packets.proofs.Store.{alive-in, packet-state, state-state, unit-release}
 use Rattle.packets.specs.declared.Job.{Job}
@@ -96,40 +97,35 @@ module _ (h : Holding) (s : State) (I : Inv s) (H : Holds s h) (l : Lone) (S : S
 
     -- the lone unit takes it: its job runs, nothing is in progress or stopping, no interlock is set, and something
     -- is listed
-    pub takes-start : loneTakes (h .drum) l (Start c) ≡ true
-    unfolding loneTakes
+    pub takes-start : not (l .jobOver) && (isAtRest (l .moving) && (not (l .interlock) && hasListed (l .order))) ≡ true
     takes-start =
         let x : isRunning (stateIn (s .jobs) (h .place)) ≡ true = rw (← at-e) (entry-ok .running) in
         let o : l .jobOver ≡ false = S .over ∙ rw x in
-        let m : l .moving ≡ none = S .moving ∙ ap (λ (k : ℕ). movingThere h (s .jobs) (motionOn s k)) channel-is ∙ ap (movingThere h (s .jobs)) (idle-is s I c idle) in
-        ap (λ (b : Bool). takes b (l .moving) (l .interlock) (l .order)) o
-        ∙ ap (λ (x : Option ℕ). takes false x (l .interlock) (l .order)) m
-        ∙ ap (λ (b : Bool). takes false none b (l .order)) (S .lock ∙ no-lock)
-        ∙ ap (takes false none false) order-is
-      where
-        takes : Bool → Option ℕ → Bool → List ℕ → Bool
-        takes over moving interlock order =
-            loneTakes (h .drum) (record { packets = l .packets; order = order; moving = moving; interlock = interlock; jobOver = over; returning = l .returning }) (Start c)
+        let m : l .moving ≡ none =
+        S .moving ∙ ap (λ (k : ℕ). movingThere h (s .jobs) (motionOn s k)) channel-is ∙ ap (movingThere h (s .jobs)) (idle-is s I c idle) in
+        and-both _ _ (ap not o) (and-both _ _ (ap isAtRest m) (and-both _ _ (ap not (S .lock ∙ no-lock)) (ap hasListed order-is)))
 
-    lone-start : loneDoes (s .codes) (h .drum) l (Start c) ≡ carries (stores l (packetOf e) (become (l .packets (packetOf e)) InProgress)) (some (packetOf e))
-    unfolding loneDoes
-    lone-start = ap (setsOff l) order-is
+    -- the packet, which is listed, is at the same word on both sides
+    was-busy : isBusy (packetIn (s .jobs) (h .place) (packetOf e) .status) ≡ true
+    was-busy = listed-busy (packetIn (s .jobs) (h .place) (packetOf e) .status) (rw at-e at (entry-ok .listed))
 
-    pub same-start : startBy (h .place) l (Start c) ≡ startIn (answer s (Start c))
-    unfolding startBy answer
+    pub same-start : startOf l (l .order) ≡ startIn (begins s (some e))
     same-start =
-        ap (startOf (h .place) l) order-is
-        ∙ rw (found, at-e, S .table (packetOf e) t)
+        let k = S .table (packetOf e) t in
+        ap (startOf l) order-is ∙ rw (at-e, k .function, k .word was-busy)
 
-    pub sim-start : Sim h (begun s c e) (loneDoes (s .codes) (h .drum) l (Start c))
+    pub sim-start : Sim h (begun s c e) (setsOff l (l .order))
     sim-start =
         let q = withStatus (packetIn (s .jobs) (placeOf e) (packetOf e)) InProgress in
         let s₁ = store s (placeOf e) (packetOf e) q in
-        let l₁ = stores l (packetOf e) (become (l .packets (packetOf e)) InProgress) in
-        let S₁ : Sim h s₁ l₁ = sim-store h s I l S (placeOf e) (packetOf e) q (start-fits s I c small e entry-ok on-channel) (λ b. refl) (sym at-e) (rw at-e t) (become (l .packets (packetOf e)) InProgress)
-        (rw (S .table (packetOf e) t, at-e)) in
-        subst (λ (x : Lone). Sim h (begun s c e) x) (sym lone-start)
-        (sim-move h s₁ (start-store s I c small e entry-ok on-channel) l₁ S₁ c (Busy (placeOf e) (packetOf e)) (some (packetOf e)) small channel-is now-moving)
+        let r₁ = become (l .packets (packetOf e)) InProgress in
+        let l₁ = stores l (packetOf e) r₁ in
+        let S₁ : Sim h s₁ l₁ =
+        sim-store h s I l S (placeOf e) (packetOf e) q (start-fits s I c small e entry-ok on-channel) (λ b. refl) (sym at-e) (rw at-e t) r₁
+        (rw at-e (like-status (S .table (packetOf e) t) InProgress InProgress refl (λ b. was-busy))) in
+        subst (λ (x : List ℕ). Sim h (begun s c e) (setsOff l x)) (sym order-is)
+        (sim-move h s₁ (start-store s I c small e entry-ok on-channel) l₁ S₁ c (Busy (placeOf e) (packetOf e)) (some (packetOf e))
+        small channel-is now-moving)
       where
         now-moving : movingThere h (put (s .jobs) (placeOf e) (packetOf e) (withStatus (packetIn (s .jobs) (placeOf e) (packetOf e)) InProgress)) (Busy (placeOf e) (packetOf e)) ≡ some (packetOf e)
         now-moving =

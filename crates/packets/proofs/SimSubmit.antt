@@ -6,55 +6,28 @@ use lib.Dec.{ltb, eqb}
 use borrow.Author.Tests.{eqb-true, eq-eqb, not-true}
 use Rattle.numbers.proofs.Tests.{by-bool, never}
 use Rattle.units.specs.State.{unitIn}
-use Rattle.packets.specs.Demand.{Holding, Holds, isThere, itsUnit, there}
+use Rattle.packets.specs.Demand.{Holding, Holds, isThere, itsUnit, targetOf, there, wordAt}
 use Rattle.packets.proofs.Inv.{Inv}
 use Rattle.packets.proofs.InvJobs.{held-once, held-taken}
 use Rattle.packets.proofs.InvStores.{entry-packet, entry-place, lock-inv, sweep-inv}
 use Rattle.packets.proofs.Laws.{and-both, and-left, and-right, bool-iff, eqb-self}
-use Rattle.packets.specs.Lone.{Lone, become, endsWith, fails, halts, hears, lists, locks, meant, request, stops, stores, unlocks, inUse}
+use Rattle.packets.specs.Lone.{Lone, fails, halts, hears, lists, locks, meant, request, stores, unlocks, inUse}
 use Rattle.packets.specs.Rules.{aimed, cut, enlist, failed, isAt, locked, packet, pass, siteOf, submitted, terminate, unlock}
-use Rattle.packets.proofs.Sim.{Sim, here-busy, lockThere, look, on, sim-store, sim-store-away, sim-sweep, sim-sweep-away}
+use Rattle.packets.proofs.Sim.{Sim, here-busy, lockThere, on, sim-store, sim-store-away, sim-sweep-away}
 use Rattle.packets.proofs.SimRest.{sim-enqueue, sim-enqueue-away, sim-units, sim-units-away, stays-locked}
-use Rattle.packets.specs.State.{State, entryOf, heldBy, isBusy, isEmpty, isRunning, jobIn, lock, packetIn, put, restatus, same, setLock, stateIn, store, sweep, unitAt}
-use Rattle.packets.proofs.There.{covers-meant, covers-there, goes-to, is-there, its-own, lock-away, lock-here, lock-is, return-is, there-channel, there-kind, there-unit, unit-held}
+use Rattle.packets.proofs.SimSweep.{sim-fails, sim-halts}
+use Rattle.packets.specs.State.{State, entryOf, heldBy, isBusy, isEmpty, isRunning, jobIn, lock}
+use Rattle.packets.specs.State.{packetIn, put, same, setLock, stateIn, store, sweep, unitAt}
+use Rattle.packets.proofs.There.{covers-meant, covers-there, goes-to, is-there, its-own, lock-away}
+use Rattle.packets.proofs.There.{lock-here, lock-is, return-is, there-channel, there-kind, there-unit}
+use Rattle.packets.proofs.There.{unit-held}
 use Rattle.packets.proofs.Steps.{Ready, listed-new, ready-fits, ready-inside, ready-store, ready-sweep, stored-at}
-use Rattle.packets.proofs.Sites.{locked-unit, same-eq, same-is}
+use Rattle.packets.proofs.Sites.{locked-unit, same-is}
 use Rattle.packets.proofs.Told.{Submits, cut-going, cut-idle, failed-going, failed-idle, owns-unit}
 use Rattle.packets.specs.declared.Site.{Site}
 use Rattle.packets.specs.declared.Spot.{Spot}
 use Rattle.packets.specs.declared.Status.{Status}
-use Rattle.packets.specs.declared.Status.the-variants.{Blank, Ended, InProgress, Listed, Stopping}
-
--- ---- the two tables of statuses say the same
-
-pub failed-ends : (x : Status) → endsWith 0o01 x ≡ failed x
-failed-ends Blank = refl
-failed-ends Listed = refl
-failed-ends InProgress = refl
-failed-ends Stopping = refl
-failed-ends (Ended k) = refl
-
-pub cut-stops : (x : Status) → stops (endsWith 0o16 x) ≡ cut x
-cut-stops Blank = refl
-cut-stops Listed = refl
-cut-stops InProgress = refl
-cut-stops Stopping = refl
-cut-stops (Ended k) = refl
-
--- what either table leaves in use was in use
-pub ends-use : (k : ℕ) (x : Status) → inUse (endsWith k x) ≡ true → inUse x ≡ true
-ends-use k Blank e = e
-ends-use k Listed e = refl
-ends-use k InProgress e = e
-ends-use k Stopping e = e
-ends-use k (Ended i) e = e
-
-pub stops-use : (k : ℕ) (x : Status) → inUse (stops (endsWith k x)) ≡ true → inUse x ≡ true
-stops-use k Blank e = e
-stops-use k Listed e = refl
-stops-use k InProgress e = e
-stops-use k Stopping e = e
-stops-use k (Ended i) e = e
+use Rattle.packets.specs.declared.Status.the-variants.{Ended, Listed}
 
 pub eqb-flip : (a b : ℕ) → eqb a b ≡ eqb b a
 eqb-flip a b =
@@ -69,18 +42,6 @@ holder-alive h s I H = go (h .drum) (H .held)
     go true e = not-true _ (and-left (not (isEmpty (stateIn (s .jobs) (h .place)))) _ e)
     go false e = I .holders (h .channel) (h .unit) (h .place) e
 
--- what a failure does to what is listed on a unit
-pub fail-table : (h : Holding) (s : State) (l : Lone) → Sim h s l → (c : ℕ) (a : Site) → h .drum ≡ false → c ≡ h .channel → a ≡ itsUnit h
-    → (n : ℕ) → there h (packetIn (s .jobs) (h .place) n) ≡ true
-    → become (l .packets n) (endsWith 0o01 (l .packets n .status)) ≡ look (restatus (isAt c a) failed (packetIn (s .jobs) (h .place) n))
-fail-table h s l S c a d e f n y =
-    let q = packetIn (s .jobs) (h .place) n in
-    rw (
-      S .table n y,
-      failed-ends (q .status),
-      and-both (eqb (q .channel .0) c) (same (q .at) a) (eq-eqb _ c (there-channel h (q .channel .0) (q .at) y ∙ sym e)) (same-eq (q .at) a (there-unit h (q .channel .0) (q .at) d y ∙ sym f)),
-    )
-
 -- ---- a submission there
 
 module _ (h : Holding) (s : State) (I : Inv s) (H : Holds s h) (l : Lone) (S : Sim h s l) (j p f c : ℕ) (w : Spot) (k : Submits s j p f c w) where
@@ -92,9 +53,11 @@ module _ (h : Holding) (s : State) (I : Inv s) (H : Holds s h) (l : Lone) (S : S
 
   -- what is listed, or stored, where the submission says
   store-here : (s′ : State) → Inv s′ → (l′ : Lone) → Sim h s′ l′ → Ready s′ j p → h .place ≡ j → isThere h c a ≡ true → (t : Status)
-      → Sim h (store s′ j p (packet t f c a)) (stores l′ p (request t f a))
+      → Sim h (store s′ j p (packet t f c a)) (stores l′ p (request t f (wordAt a)))
   store-here s′ I′ l′ S′ r at-j y t =
-      sim-store h s′ I′ l′ S′ j p (packet t f c a) (ready-fits s′ I′ j p r) (λ b. never {b = (isBusy (packetIn (s′ .jobs) j p .status))} b (r .idle)) at-j y (request t f a) refl
+      sim-store h s′ I′ l′ S′ j p (packet t f c a) (ready-fits s′ I′ j p r)
+      (λ b. never {b = isBusy (packetIn (s′ .jobs) j p .status)} b (r .idle)) at-j y (request t f (wordAt a))
+      (record { status = refl; function = refl; word = λ b. refl })
 
   store-gone : (s′ : State) → Inv s′ → Sim h s′ l → Ready s′ j p → eqb (h .place) j && isThere h c a ≡ false → (t : Status) → Sim h (store s′ j p (packet t f c a)) l
   store-gone s′ I′ S′ r away t =
@@ -107,13 +70,13 @@ module _ (h : Holding) (s : State) (I : Inv s) (H : Holds s h) (l : Lone) (S : S
     drum-off : locked s c a ≡ true → h .drum ≡ false
     drum-off d = not-true (h .drum) (sym (there-kind h c a t) ∙ locked-unit (s .units) c a d)
 
-    sim-unlock : locked s c a ≡ true → Sim h (unlock s j p f c a) (stores (locks (fails l) false) p (request (Ended 0o00) f a))
+    sim-unlock : locked s c a ≡ true → Sim h (unlock s j p f c a) (stores (locks (fails l) false) p (request (Ended 0o00) f (wordAt a)))
     sim-unlock d =
         let inside = ready-inside s j p ready in
         let s₁ = sweep s j (isAt c a) failed in
         let I₁ : Inv s₁ = sweep-inv s I j (isAt c a) failed inside refl failed-going in
         let r₁ : Ready s₁ j p = ready-sweep s j p (isAt c a) failed refl failed-idle ready in
-        let S₁ : Sim h s₁ (fails l) = sim-sweep h s I l S j (isAt c a) failed inside refl at-j (λ m. become (l .packets m) (endsWith 0o01 (l .packets m .status))) (fail-table h s l S c a (drum-off d) (there-channel h c a t) (there-unit h c a (drum-off d) t)) (λ m. ends-use 0o01 (l .packets m .status)) in
+        let S₁ : Sim h s₁ (fails l) = sim-fails h s I l S j inside at-j c a (drum-off d) t in
         store-here (lock s₁ c a false) (lock-inv s₁ I₁ c a false) (locks (fails l) false)
         (sim-units h s₁ I₁ (fails l) S₁ (setLock (s .units) c a false) false (stays-locked h (s .units) c a false)
         (ap (λ (x : Site). lockThere h (setLock (s .units) c x false)) (there-unit h c a (drum-off d) t)
@@ -122,40 +85,28 @@ module _ (h : Holding) (s : State) (I : Inv s) (H : Holds s h) (l : Lone) (S : S
 
     -- what a 23 there aims at
     aimed-is : (n : ℕ) → there h (packetIn (s .jobs) (h .place) n) ≡ true
-        → aimed c w (packetIn (s .jobs) (h .place) n) ≡ meant w (packetIn (s .jobs) (h .place) n .at)
+        → meant (targetOf w) (wordAt (packetIn (s .jobs) (h .place) n .at)) ≡ aimed c w (packetIn (s .jobs) (h .place) n)
     aimed-is n y =
         let q = packetIn (s .jobs) (h .place) n in
         rw (eq-eqb (q .channel .0) c (there-channel h (q .channel .0) (q .at) y ∙ sym (there-channel h c a t)))
-        (covers-meant h c w (q .channel .0) (q .at) t y)
+        (sym (covers-meant h c w (q .channel .0) (q .at) t y))
 
-    cut-table : (n : ℕ) → there h (packetIn (s .jobs) (h .place) n) ≡ true
-        → cond (meant w (l .packets n .at)) (become (l .packets n) (stops (endsWith 0o16 (l .packets n .status)))) (l .packets n)
-        ≡ look (restatus (aimed c w) cut (packetIn (s .jobs) (h .place) n))
-    cut-table n y =
-        let q = packetIn (s .jobs) (h .place) n in
-        rw (S .table n y, cut-stops (q .status), aimed-is n y)
-        (by-bool (meant w (q .at)) (λ e. rw e) (λ e. rw e))
-
-    cut-use : (n : ℕ) → inUse (cond (meant w (l .packets n .at)) (become (l .packets n) (stops (endsWith 0o16 (l .packets n .status)))) (l .packets n) .status) ≡ true
-        → inUse (l .packets n .status) ≡ true
-    cut-use n u =
-        by-bool (meant w (l .packets n .at)) (λ e. stops-use 0o16 (l .packets n .status) (rw e at u)) (λ e. rw e at u)
-
-    sim-terminate : Sim h (terminate s j p f c w) (stores (halts (meant w) l) p (request (Ended 0o00) f a))
+    sim-terminate : Sim h (terminate s j p f c w) (stores (halts (meant (targetOf w)) l) p (request (Ended 0o00) f (wordAt a)))
     sim-terminate =
         let inside = ready-inside s j p ready in
         let test = aimed c w in
-        store-here (sweep s j test cut) (sweep-inv s I j test cut inside refl cut-going) (halts (meant w) l)
-        (sim-sweep h s I l S j test cut inside refl at-j (λ m. cond (meant w (l .packets m .at)) (become (l .packets m) (stops (endsWith 0o16 (l .packets m .status)))) (l .packets m)) cut-table cut-use)
+        store-here (sweep s j test cut) (sweep-inv s I j test cut inside refl cut-going) (halts (meant (targetOf w)) l)
+        (sim-halts h s I l S j inside at-j test (meant (targetOf w)) aimed-is)
         (ready-sweep s j p test cut refl cut-idle ready) at-j t (Ended 0o00)
 
-    sim-enlist : Sim h (enlist s j p f c a) (lists l p f a)
+    sim-enlist : Sim h (enlist s j p f c a) (lists l p f (wordAt a))
     sim-enlist =
-        sim-enqueue h (store s j p (packet Listed f c a)) (ready-store s I j p (packet Listed f c a) ready) (stores l p (request Listed f a))
+        sim-enqueue h (store s j p (packet Listed f c a)) (ready-store s I j p (packet Listed f c a) ready)
+        (stores l p (request Listed f (wordAt a)))
         (store-here s I l S ready at-j t Listed) j p (listed-new s I j p f c w k)
         (rw (entry-place j p (k .small), entry-packet j p (k .small), at-j, eqb-self j, stored-at s I j p (packet Listed f c a) ready) t)
 
-    sim-seven : (x : Bool) → locked s c a ≡ x → Sim h (cond x (unlock s j p f c a) (pass s j p f c a)) (unlocks l p f a x)
+    sim-seven : (x : Bool) → locked s c a ≡ x → Sim h (cond x (unlock s j p f c a) (pass s j p f c a)) (unlocks l p f (wordAt a) x)
     sim-seven true d = sim-unlock d
     sim-seven false d = store-here s I l S ready at-j t (Ended 0o00)
 
@@ -169,11 +120,12 @@ module _ (h : Holding) (s : State) (I : Inv s) (H : Holds s h) (l : Lone) (S : S
         let v : l .returning ≡ false = S .asked (its-own h s H) ∙ sym (return-is h (s .units) c a t) ∙ k .staying in
         and-both _ _ (ap not y) (and-both _ _ (ap not v) (ap not z))
 
-    pub sim-submit : Sim h (submitted s j p f c w) (hears l p f w)
+    pub sim-submit : Sim h (submitted s j p f c w) (hears l p f (targetOf w))
     sim-submit =
         rw (goes-to w)
         (by-bool (eqb f 0o07)
-        (λ e. rw e (subst (λ (x : Bool). Sim h (cond (locked s c a) (unlock s j p f c a) (pass s j p f c a)) (unlocks l p f a x)) locked-is (sim-seven (locked s c a) refl)))
+        (λ e. let then = cond (locked s c a) (unlock s j p f c a) (pass s j p f c a) in
+        rw e (subst (λ (x : Bool). Sim h then (unlocks l p f (wordAt a) x)) locked-is (sim-seven (locked s c a) refl)))
         (λ e. rw e (by-bool (eqb f 0o23) (λ d. rw d sim-terminate) (λ d. rw d sim-enlist))))
 
   module _ (away : eqb (h .place) j && isThere h c a ≡ false) where

@@ -3,12 +3,12 @@ use Prim.Native.Nat.{ℕ}
 use mathlib.Core.Path.{_≡_, refl, sym, ap, _∙_, subst}
 use mathlib.Core.Bool.{Bool, true, false, not, _&&_}
 use mathlib.Core.List.{List}
-use lib.Dec.{eqb}
+use lib.Dec.{eqb, leb}
 use borrow.Author.Tests.{eqb-true, not-true}
 use Rattle.units.specs.declared.Unit.{Unit as UnitState}
 use Rattle.numbers.proofs.Tests.{by-bool, never}
 use Rattle.units.specs.State.{isFree, isReturning, unitIn}
-use Rattle.packets.specs.Demand.{Holding, Holds, isThere, itsUnit}
+use Rattle.packets.specs.Demand.{Holding, Holds, isThere, itsUnit, targetOf, wordAt, wordOf}
 use Rattle.packets.proofs.InvJobs.{held-taken}
 use Rattle.packets.proofs.Laws.{and-left, and-right, eqb-self}
 use Rattle.packets.specs.Lone.{goesTo, meant}
@@ -94,17 +94,23 @@ pub its-own : (h : Holding) (s : State) → Holds s h → isIts h (s .units) ≡
 its-own h s H = by-bool (h .drum) (λ d. rw d) (λ d. rw d (unit-held h s H d))
 
 -- a lone unit reads where a submission goes as the rules do
-pub goes-to : (w : Spot) → goesTo w ≡ siteOf w
+pub goes-to : (w : Spot) → goesTo (targetOf w) ≡ wordAt (siteOf w)
 goes-to (OnUnit u) = refl
 goes-to (OnDrum x h) = refl
 
+-- words are in the order of the addresses
+word-order : (x y : ℕ) → leb (wordOf x) (wordOf y) ≡ leb x y
+unfolding wordOf
+word-order x y = refl
+
 -- what 23 is for, of what is there
-pub covers-meant : (h : Holding) (c : ℕ) (w : Spot) (d : ℕ) (a : Site) → isThere h c (siteOf w) ≡ true → isThere h d a ≡ true → covers w a ≡ meant w a
+pub covers-meant : (h : Holding) (c : ℕ) (w : Spot) (d : ℕ) (a : Site) → isThere h c (siteOf w) ≡ true → isThere h d a ≡ true
+    → covers w a ≡ meant (targetOf w) (wordAt a)
 covers-meant h c (OnUnit u) d a t y =
     let k = not-true (h .drum) (sym (there-kind h c (AtUnit u) t)) in
     same-eq a (AtUnit u) (there-unit h d a k y ∙ sym (there-unit h c (AtUnit u) k t))
 covers-meant h c (OnDrum l m) d (AtUnit v) t y = refl
-covers-meant h c (OnDrum l m) d (AtAddress x) t y = refl
+covers-meant h c (OnDrum l m) d (AtAddress x) t y = rw (word-order l x, word-order x m)
 
 -- it is there, if it is for something there
 pub covers-there : (h : Holding) (c : ℕ) (w : Spot) (a : Site) → covers w a ≡ true → isThere h c a ≡ true → isThere h c (siteOf w) ≡ true

@@ -3,9 +3,11 @@ use Prim.Native.Nat.{ℕ}
 use mathlib.Core.Path.{_≡_}
 use mathlib.Core.Bool.{Bool, true, false, not, cond, _&&_}
 use mathlib.Core.List.{List, [], _∷_, _++_}
+use mathlib.Core.Option.{Option, none, some}
 use lib.Dec.{ltb, eqb}
 use Rattle.units.specs.State.{unitIn}
 use Rattle.packets.specs.History.{Event, Leads, Reached, isAccepted}
+use Rattle.packets.specs.Lone.{LoneCall, Submits, Starts, Completes, Ends, Returns, LoneStart, Target, Itself, Words}
 use Rattle.packets.specs.Lone.{isAtRest, loneRun, loneStarts, loneTakesAll, newLone}
 use Rattle.packets.specs.Rules.{Call, Do, Take, siteOf, refusal, step}
 use Rattle.packets.specs.State.{State, drumOn, heldBy, isEmpty, jobIn, motionOn, packetIn, stateIn}
@@ -18,6 +20,8 @@ use Rattle.packets.specs.declared.Motion.the-variants.{Busy}
 use Rattle.packets.specs.declared.Packet.{Packet}
 use Rattle.packets.specs.declared.Site.{Site}
 use Rattle.packets.specs.declared.Site.the-variants.{AtAddress, AtUnit}
+use Rattle.packets.specs.declared.Spot.{Spot}
+use Rattle.packets.specs.declared.Spot.the-variants.{OnDrum, OnUnit}
 use Rattle.packets.specs.declared.Verdict.the-variants.{Granted}
 
 -- ---- a holding: what one job holds
@@ -88,37 +92,62 @@ endedThere h t (Completed j p r) = eqb j (h .place) && t p
 endedThere h t (Closed r) = false
 endedThere h t (Refused n) = false
 
--- the calls that act on a holding are its job's submissions there (07 and 23 too), starts that took a packet there,
--- completions of such packets, and the job's end; and "the release acts on the holding": its job's return of that unit
-unfoldable pub acts : Holding → Seen → Call → Answer → Bool
-acts h t (Take j asg) r = false
-acts h t (Do (Submit j p f c w)) r = isAccepted r && (eqb j (h .place) && isThere h (c .0) (siteOf w))
-acts h t (Do (Start c)) r = tookThere h (c .0) r
-acts h t (Do (Complete c how)) r = endedThere h t r
-acts h t (Do (End j e)) r = isAccepted r && eqb j (h .place)
-acts h t (Do (Return j c u)) r = isAccepted r && (eqb j (h .place) && isThere h (c .0) (AtUnit u))
-acts h t (Do (Mark c u m on)) r = false
+-- ---- what that is to the lone unit
+
+-- what a drum address is to it: the word of the same number
+unfoldable pub wordOf : ℕ → ℕ
+wordOf x = x
+
+-- the word that a packet is at; on a unit there is none
+abbrev pub wordAt : Site → Option ℕ
+wordAt (AtUnit u) = none
+wordAt (AtAddress x) = some (wordOf x)
+
+-- what a submission is for
+abbrev pub targetOf : Spot → Target
+targetOf (OnUnit u) = Itself
+targetOf (OnDrum x h) = Words (wordOf x) (wordOf h)
+
+-- one call if the test holds, else nothing
+abbrev pub when : Bool → LoneCall → List LoneCall
+when b x = cond b (x ∷ []) []
+
+-- what a call and its answer are to the lone unit: a call of its own, if they acted on the holding. "The calls that act
+-- on a holding are its job's submissions there (07 and 23 too), starts that took a packet there, completions of such
+-- packets, and the job's end"; and "the release acts on the holding": its job's return of that unit
+unfoldable pub asLone : Holding → Seen → Call → Answer → List LoneCall
+asLone h t (Take j asg) r = []
+asLone h t (Do (Submit j p f c w)) r =
+    when (isAccepted r && (eqb j (h .place) && isThere h (c .0) (siteOf w))) (Submits p f (targetOf w))
+asLone h t (Do (Start c)) r = when (tookThere h (c .0) r) Starts
+asLone h t (Do (Complete c how)) r = when (endedThere h t r) (Completes how)
+asLone h t (Do (End j e)) r = when (isAccepted r && eqb j (h .place)) Ends
+asLone h t (Do (Return j c u)) r = when (isAccepted r && (eqb j (h .place) && isThere h (c .0) (AtUnit u))) Returns
+asLone h t (Do (Mark c u m on)) r = []
 
 -- the calls of a stretch that acted on the holding
-unfoldable pub acting : Holding → Seen → List Event → List Call
+unfoldable pub acting : Holding → Seen → List Event → List LoneCall
 acting h t [] = []
-acting h t (e ∷ l) =
-    cond (acts h t (e .call) (e .answer)) (e .call ∷ acting h (noted h t (e .call) (e .answer)) l)
-    (acting h (noted h t (e .call) (e .answer)) l)
+acting h t (e ∷ l) = asLone h t (e .call) (e .answer) ++ acting h (noted h t (e .call) (e .answer)) l
 
-abbrev pub startIn : Answer → List Begun
+-- the start that an answer tells
+abbrev pub startIn : Answer → List LoneStart
 startIn Done = []
-startIn (Started b) = b ∷ []
+startIn (Started b) = (record { packet = b .packet; function = b .function; word = wordAt (b .at) }) ∷ []
 startIn (Completed j p r) = []
 startIn (Closed r) = []
 startIn (Refused n) = []
 
+-- what is nothing to the lone unit starts nothing there
+abbrev pub startThere : List LoneCall → Answer → List LoneStart
+startThere [] r = []
+startThere (x ∷ l) r = startIn r
+
 -- the starts that those calls made in the cell
-unfoldable pub startsIn : Holding → Seen → List Event → List Begun
+unfoldable pub startsIn : Holding → Seen → List Event → List LoneStart
 startsIn h t [] = []
 startsIn h t (e ∷ l) =
-    cond (acts h t (e .call) (e .answer)) (startIn (e .answer) ++ startsIn h (noted h t (e .call) (e .answer)) l)
-    (startsIn h (noted h t (e .call) (e .answer)) l)
+    startThere (asLone h t (e .call) (e .answer)) (e .answer) ++ startsIn h (noted h t (e .call) (e .answer)) l
 
 -- the packets that were last submitted there, after a stretch
 unfoldable pub seenAfter : Holding → Seen → List Event → Seen
@@ -153,7 +182,7 @@ pub record Isolated (codes : ℕ) (h : Holding) (l : List Event) (end : State) :
   -- the lone unit takes every call that acted on the holding, each at the moment when it comes
   pub taken : loneTakesAll codes (h .drum) newLone (acting h noneSeen l) ≡ true
   -- it makes the same starts in the same order
-  pub starts : startsIn h noneSeen l ≡ loneStarts codes (h .drum) (h .place) newLone (acting h noneSeen l)
+  pub starts : startsIn h noneSeen l ≡ loneStarts codes (h .drum) newLone (acting h noneSeen l)
   -- it leaves the same status in every packet last submitted there
   pub status : (n : ℕ) → seenAfter h noneSeen l n ≡ true
       → loneRun codes (h .drum) newLone (acting h noneSeen l) .packets n .status ≡ packetIn (end .jobs) (h .place) n .status
@@ -168,8 +197,8 @@ pub record Isolated (codes : ℕ) (h : Holding) (l : List Event) (end : State) :
 
 -- in a reached state a job is taken with any assignment; for all that it then holds, up to its return or any earlier
 -- moment. "Demand 3's lone unit takes the same section"
-abbrev pub Demand3 : Type 0
-Demand3 =
+abbrev pub IsolatedAlways : Type 0
+IsolatedAlways =
     (before : List Event) (s : State) → Reached before s → (j : ℕ) (asg : Assignment) → refusal s (Take j asg) ≡ Granted
     → (h : Holding) → h .place ≡ j → Holds (step s (Take j asg) .state) h
     → (during : List Event) (end : State) → Leads (step s (Take j asg) .state) during end

@@ -1,28 +1,45 @@
 -- A lone unit, or a lone piece of drum, that one job has to itself: what it refuses and what it does, written from
 -- document 01 and requests 3 and 5 of document 02, and not from the rules of the cell. It knows nothing of channels,
--- places or other units. A reader has to believe this page. It shares with the rules only the calls, the statuses and
--- the shape of a start. It takes the section of the codes that set interlock as its own parameter.
+-- places or other units, and hears calls of its own. A reader has to believe this page. It shares with the rules only
+-- the statuses and how a packet completes. It takes the section of the codes that set interlock as its own parameter.
 use Prim.Native.Nat.{ℕ, zero, suc, _/_, _%_}
 use mathlib.Core.Bool.{Bool, true, false, not, cond, _&&_}
 use mathlib.Core.List.{List, [], _∷_, _++_}
 use mathlib.Core.Option.{Option, none, some}
 use lib.Dec.{leb, eqb}
-use Rattle.packets.specs.Rules.{Call, Do, Take}
-use Rattle.packets.specs.declared.Act.the-variants.{Submit, Start, Complete, End, Return, Mark}
-use Rattle.packets.specs.declared.Begun.{Begun}
 use Rattle.packets.specs.declared.How.{How}
 use Rattle.packets.specs.declared.How.the-variants.{Cut, Failed, Full}
-use Rattle.packets.specs.declared.Site.{Site}
-use Rattle.packets.specs.declared.Site.the-variants.{AtAddress, AtUnit}
-use Rattle.packets.specs.declared.Spot.{Spot}
-use Rattle.packets.specs.declared.Spot.the-variants.{OnDrum, OnUnit}
 use Rattle.packets.specs.declared.Status.{Status}
 use Rattle.packets.specs.declared.Status.the-variants.{Blank, Ended, InProgress, Listed, Stopping}
 
+-- what a submission is for: the unit itself; on a piece of drum the word X, for 23 the words L to H
+pub data Target : Type 0 where
+  Itself : Target
+  Words : ℕ → ℕ → Target
+
+pub data LoneCall : Type 0 where
+  -- the job submits a packet: its number, its function, what it is for
+  Submits : ℕ → ℕ → Target → LoneCall
+  -- the oldest listed packet starts
+  Starts : LoneCall
+  -- what moves completes
+  Completes : How → LoneCall
+  -- the job ends
+  Ends : LoneCall
+  -- the job gives the unit back
+  Returns : LoneCall
+
+-- a packet as it was last submitted here; on a unit it has no word
 pub record Request : Type 0 where
   pub status : Status
   pub function : ℕ
-  pub at : Site
+  pub word : Option ℕ
+
+-- a start tells the packet's number, its function and, on a piece of drum, its word
+pub record LoneStart : Type 0 where
+  pub packet : ℕ
+  pub function : ℕ
+  pub word : Option ℕ
 
 pub record Lone : Type 0 where
   -- what was last submitted here under each number
@@ -39,7 +56,7 @@ pub record Lone : Type 0 where
   pub returning : Bool
 
 abbrev pub unused : Request
-unused = record { status = Blank; function = 0; at = AtUnit (record { 0 = 0 }) }
+unused = record { status = Blank; function = 0; word = none }
 
 abbrev pub newLone : Lone
 newLone = record { packets = λ n. unused; order = []; moving = none; interlock = false; jobOver = false; returning = false }
@@ -69,7 +86,7 @@ stops Stopping = Stopping
 stops (Ended i) = Ended i
 
 abbrev pub become : Request → Status → Request
-become r t = record { status = t; function = r .function; at = r .at }
+become r t = record { status = t; function = r .function; word = r .word }
 
 abbrev pub write : (ℕ → Request) → ℕ → Request → ℕ → Request
 write t n r m = cond (eqb m n) r (t m)
@@ -106,11 +123,11 @@ joins l n =
 abbrev pub stores : Lone → ℕ → Request → Lone
 stores l n r = settle l (write (l .packets) n r)
 
-abbrev pub request : Status → ℕ → Site → Request
-request t f a = record { status = t; function = f; at = a }
+abbrev pub request : Status → ℕ → Option ℕ → Request
+request t f a = record { status = t; function = f; word = a }
 
 -- an ordinary function is listed as the youngest
-abbrev pub lists : Lone → ℕ → ℕ → Site → Lone
+abbrev pub lists : Lone → ℕ → ℕ → Option ℕ → Lone
 lists l n f a = joins (stores l n (request Listed f a)) n
 
 -- every listed packet ends with 01
@@ -118,24 +135,20 @@ abbrev pub fails : Lone → Lone
 fails l = settle l (λ m. become (l .packets m) (endsWith 0o01 (l .packets m .status)))
 
 -- 07: under interlock what is listed ends with 01 and the interlock goes; 07 ends with 00
-abbrev pub unlocks : Lone → ℕ → ℕ → Site → Bool → Lone
+abbrev pub unlocks : Lone → ℕ → ℕ → Option ℕ → Bool → Lone
 unlocks l n f a true = stores (locks (fails l) false) n (request (Ended 0o00) f a)
 unlocks l n f a false = stores l n (request (Ended 0o00) f a)
 
--- is it an address from L to H?
-abbrev pub within : ℕ → ℕ → Site → Bool
-within l h (AtUnit u) = false
-within l h (AtAddress x) = leb l x && leb x h
-
--- what 23 is for: on a unit all packets, on the drum those with L ≤ X ≤ H
-abbrev pub meant : Spot → Site → Bool
-meant (OnUnit u) a = true
-meant (OnDrum l h) a = within l h a
+-- what 23 is for: on a unit all packets, on a piece of drum those with L ≤ X ≤ H
+abbrev pub meant : Target → Option ℕ → Bool
+meant Itself a = true
+meant (Words l h) none = false
+meant (Words l h) (some x) = leb l x && leb x h
 
 -- what is listed, and meant, ends with 16o; what is in progress, and meant, is stopping
-abbrev pub halts : (Site → Bool) → Lone → Lone
+abbrev pub halts : (Option ℕ → Bool) → Lone → Lone
 halts t l =
-    settle l (λ m. cond (t (l .packets m .at)) (become (l .packets m) (stops (endsWith 0o16 (l .packets m .status)))) (l .packets m))
+    settle l (λ m. cond (t (l .packets m .word)) (become (l .packets m) (stops (endsWith 0o16 (l .packets m .status)))) (l .packets m))
 
 -- the oldest listed packet is in progress
 abbrev pub setsOff : Lone → List ℕ → Lone
@@ -161,13 +174,13 @@ completesAs section drum l Full (some n) = ends l n 0o00
 completesAs section drum l Cut (some n) = ends l n 0o17
 completesAs section drum l (Failed k) (some n) = breaks (isIn section k) drum (ends l n k)
 
--- where a submission goes: to the unit, or on the drum to X or L
-abbrev pub goesTo : Spot → Site
-goesTo (OnUnit u) = AtUnit u
-goesTo (OnDrum x h) = AtAddress x
+-- the word that a submission goes to: on a piece of drum X or L
+abbrev pub goesTo : Target → Option ℕ
+goesTo Itself = none
+goesTo (Words x h) = some x
 
 -- 07, 23, or a packet to be listed
-abbrev pub hears : Lone → ℕ → ℕ → Spot → Lone
+abbrev pub hears : Lone → ℕ → ℕ → Target → Lone
 hears l n f w =
     let a = goesTo w in
     cond (eqb f 0o07) (unlocks l n f a (l .interlock))
@@ -215,60 +228,54 @@ mayComplete l how (some n) = mayEnd (l .packets n .status) how
 -- returned (21); a start while nothing is in progress or stopping, without interlock, of something listed; a completion
 -- of what moves; the job's end, once, and after that end nothing but completions; its return, once (21), and of no piece
 -- of drum (1)
-unfoldable pub loneTakes : Bool → Lone → Call → Bool
-loneTakes drum l (Take j asg) = false
-loneTakes drum l (Do (Submit j n f c w)) = not (l .jobOver) && (not (l .returning) && not (inUse (l .packets n .status)))
-loneTakes drum l (Do (Start c)) = not (l .jobOver) && (isAtRest (l .moving) && (not (l .interlock) && hasListed (l .order)))
-loneTakes drum l (Do (Complete c how)) = mayComplete l how (l .moving)
-loneTakes drum l (Do (End j e)) = not (l .jobOver)
-loneTakes drum l (Do (Return j c u)) = not drum && (not (l .jobOver) && not (l .returning))
-loneTakes drum l (Do (Mark c u m on)) = false
+unfoldable pub loneTakes : Bool → Lone → LoneCall → Bool
+loneTakes drum l (Submits n f w) = not (l .jobOver) && (not (l .returning) && not (inUse (l .packets n .status)))
+loneTakes drum l Starts = not (l .jobOver) && (isAtRest (l .moving) && (not (l .interlock) && hasListed (l .order)))
+loneTakes drum l (Completes how) = mayComplete l how (l .moving)
+loneTakes drum l Ends = not (l .jobOver)
+loneTakes drum l Returns = not drum && (not (l .jobOver) && not (l .returning))
 
 -- ---- what it does
 
 -- what a call that it takes does; section: the codes that set interlock; drum: it is a piece of drum
-unfoldable pub loneDoes : ℕ → Bool → Lone → Call → Lone
-loneDoes section drum l (Take j asg) = l
-loneDoes section drum l (Do (Submit j n f c w)) = hears l n f w
-loneDoes section drum l (Do (Start c)) = setsOff l (l .order)
-loneDoes section drum l (Do (Complete c how)) = completesAs section drum l how (l .moving)
-loneDoes section drum l (Do (End j e)) = closes (halts (λ x. true) l)
-loneDoes section drum l (Do (Return j c u)) = asksBack (halts (λ x. true) l)
-loneDoes section drum l (Do (Mark c u m on)) = l
+unfoldable pub loneDoes : ℕ → Bool → Lone → LoneCall → Lone
+loneDoes section drum l (Submits n f w) = hears l n f w
+loneDoes section drum l Starts = setsOff l (l .order)
+loneDoes section drum l (Completes how) = completesAs section drum l how (l .moving)
+loneDoes section drum l Ends = closes (halts (λ x. true) l)
+loneDoes section drum l Returns = asksBack (halts (λ x. true) l)
 
 -- a refused call leaves it as it was
-unfoldable pub loneStep : ℕ → Bool → Lone → Call → Lone
+unfoldable pub loneStep : ℕ → Bool → Lone → LoneCall → Lone
 loneStep section drum l x = cond (loneTakes drum l x) (loneDoes section drum l x) l
 
--- the start that a call makes, if it makes one; place is where the lone unit's job is
-abbrev pub startOf : ℕ → Lone → List ℕ → List Begun
-startOf place l [] = []
-startOf place l (n ∷ r) = (record { place = place; packet = n; function = l .packets n .function; at = l .packets n .at }) ∷ []
+-- the start that a call makes, if it makes one
+abbrev pub startOf : Lone → List ℕ → List LoneStart
+startOf l [] = []
+startOf l (n ∷ r) = (record { packet = n; function = l .packets n .function; word = l .packets n .word }) ∷ []
 
-unfoldable pub startBy : ℕ → Lone → Call → List Begun
-startBy place l (Take j asg) = []
-startBy place l (Do (Submit j n f c w)) = []
-startBy place l (Do (Start c)) = startOf place l (l .order)
-startBy place l (Do (Complete c how)) = []
-startBy place l (Do (End j e)) = []
-startBy place l (Do (Return j c u)) = []
-startBy place l (Do (Mark c u m on)) = []
+unfoldable pub startBy : Lone → LoneCall → List LoneStart
+startBy l (Submits n f w) = []
+startBy l Starts = startOf l (l .order)
+startBy l (Completes how) = []
+startBy l Ends = []
+startBy l Returns = []
 
 -- a refused call starts nothing
-unfoldable pub loneStart : Bool → ℕ → Lone → Call → List Begun
-loneStart drum place l x = cond (loneTakes drum l x) (startBy place l x) []
+unfoldable pub loneStart : Bool → Lone → LoneCall → List LoneStart
+loneStart drum l x = cond (loneTakes drum l x) (startBy l x) []
 
 -- ---- calls one after the other
 
-unfoldable pub loneRun : ℕ → Bool → Lone → List Call → Lone
+unfoldable pub loneRun : ℕ → Bool → Lone → List LoneCall → Lone
 loneRun section drum l [] = l
 loneRun section drum l (x ∷ xs) = loneRun section drum (loneStep section drum l x) xs
 
-unfoldable pub loneStarts : ℕ → Bool → ℕ → Lone → List Call → List Begun
-loneStarts section drum place l [] = []
-loneStarts section drum place l (x ∷ xs) = loneStart drum place l x ++ loneStarts section drum place (loneStep section drum l x) xs
+unfoldable pub loneStarts : ℕ → Bool → Lone → List LoneCall → List LoneStart
+loneStarts section drum l [] = []
+loneStarts section drum l (x ∷ xs) = loneStart drum l x ++ loneStarts section drum (loneStep section drum l x) xs
 
 -- it takes every one of them, each at the moment when it comes
-unfoldable pub loneTakesAll : ℕ → Bool → Lone → List Call → Bool
+unfoldable pub loneTakesAll : ℕ → Bool → Lone → List LoneCall → Bool
 loneTakesAll section drum l [] = true
 loneTakesAll section drum l (x ∷ xs) = loneTakes drum l x && loneTakesAll section drum (loneStep section drum l x) xs
