@@ -17,7 +17,9 @@ use Rattle.schedule.specs.Calls.{closing, deleted, released, returned}
 use Rattle.schedule.specs.declared.Changed.{Changed}
 use Rattle.schedule_deck.specs.Reading.{DeckEntered}
 use Rattle.packets.specs.History.{fresh}
-use Rattle.packets.specs.Rules.{Call, Complete, End, Mark, Return, Start, Submit, Take}
+use Rattle.packets.specs.Rules.{Do}
+use Rattle.packets.specs.declared.Act.{Act}
+use Rattle.packets.specs.declared.Act.the-variants.{Mark}
 use Rattle.packets.specs.declared.Answer.{Answer}
 use Rattle.packets.specs.declared.Answer.the-variants.{Closed, Completed, Done, Refused, Started}
 use Rattle.packets.specs.declared.Leaving.{Leaving}
@@ -58,39 +60,20 @@ leftBy Stays s place otherwise = otherwise
 leftBy AfterNormal s place otherwise = returned s place false
 leftBy AfterError s place otherwise = returned s place true
 
--- a completion may have returned its job's facilities
-abbrev pub afterCompletion : Schedule → Answer → Schedule
-afterCompletion s Done = s
-afterCompletion s (Started b) = s
-afterCompletion s (Completed place packet leaving) = leftBy leaving s place s
-afterCompletion s (Closed leaving) = s
-afterCompletion s (Refused n) = s
-
--- a job that has ended is closing, unless its facilities returned at once
-abbrev pub afterEnd : Schedule → ℕ → Answer → Schedule
-afterEnd s place Done = s
-afterEnd s place (Started b) = s
-afterEnd s place (Completed j p leaving) = s
-afterEnd s place (Closed leaving) = leftBy leaving s place (closing s place)
-afterEnd s place (Refused n) = s
-
--- the schedule after a call on the lists
-abbrev pub follows : Schedule → Call → Answer → Schedule
-follows s (Take j asg) a = s
-follows s (Submit j p f c w) a = s
-follows s (Start c) a = s
-follows s (Complete c how) a = afterCompletion s a
-follows s (End j e) a = afterEnd s j a
-follows s (Return j c u) a = s
-follows s (Mark c u m on) a = s
+-- the schedule follows the answer: a completion may have returned its job's facilities; a job that has ended is closing,
+-- unless its facilities returned at once
+abbrev pub followed : Schedule → Answer → Schedule
+followed s Done = s
+followed s (Started b) = s
+followed s (Completed place packet leaving) = leftBy leaving s place s
+followed s (Closed place leaving) = leftBy leaving s place (closing s place)
+followed s (Refused n) = s
 
 -- SUBMIT, START, COMPLETE, END, RETURN, MARK
-unfoldable pub acted : Cell → Call → Answered
+unfoldable pub acted : Cell → Act → Answered
 acted cell x =
-    record {
-      answer = outcome (cell .lists) x .answer;
-      cell = cellOf (follows (cell .schedule) x (outcome (cell .lists) x .answer)) (outcome (cell .lists) x .lists);
-    }
+    let next = outcome (cell .lists) (Do x) in
+    record { answer = next .answer; cell = cellOf (followed (cell .schedule) (next .answer)) (next .lists) }
 
 -- ---- the calls on the schedule alone
 
@@ -143,7 +126,7 @@ called a = record { told = Said (a .answer); cell = a .cell }
 abbrev pub heeded : Cell → Asked → List ℕ → Heeded
 heeded cell Asked′.Unknown id = record { told = Said (Refused Refusals.UnknownMessage); cell = cell }
 heeded cell (Asked′.Wrong word fault) id = record { told = Mistyped fault; cell = cell }
-heeded cell (Asked′.Mark channel unit on) id = called (acted cell (Mark (channel .0) (unit .0) Down on))
+heeded cell (Asked′.Mark channel unit on) id = called (acted cell (Mark channel unit Down on))
 heeded cell Asked′.Release id = called (releasing cell id)
 heeded cell Asked′.Delete id = called (deleting cell id)
 

@@ -6,20 +6,16 @@ use channels::Configuration;
 use keyboard::Asked;
 use keyboard_answers::Told;
 use lists::StatusAnswer;
-use numbers::ChannelNumber;
 use numbers::Outcome;
 use numbers::Refusal;
-use numbers::UnitNumber;
+use packets::Act;
 use packets::Acted;
 use packets::Answer;
-use packets::How;
 use packets::Leaving;
 use packets::Lists;
-use packets::Spot;
 use schedule_list::Schedule;
 ghost use mathlib.Core.Path.{_≡_};
-ghost use Rattle.packets.specs.Rules.{Submit, Start, Complete, End, Return, Mark};
-ghost use Rattle.cell.specs.Calls.{freshCell, acted, leftBy, afterCompletion, afterEnd, releasing};
+ghost use Rattle.cell.specs.Calls.{freshCell, acted, leftBy, followed, releasing};
 ghost use Rattle.cell.specs.Calls.{deleting, answerOf, outcomeOf, statusOf, Enters, SelectsIn, called, heeded, Keys};
 
 pub struct Cell {
@@ -140,32 +136,6 @@ fn with_schedule(acted: Acted, schedule: Schedule) -> Answered
     }
 }
 
-// Submission of a packet of the job in a place.
-pub fn submit(
-    cell: Cell,
-    place: u8,
-    packet: u8,
-    function: u8,
-    channel: ChannelNumber,
-    spot: Spot,
-) -> Answered
-    ensures { λ r. ⌜ r ≡ acted cell (Submit place packet function (channel .0) spot) ⌝ }
-{
-    let lists = cell.lists;
-    with_schedule(
-        lists::submit(lists, place, packet, function, channel, spot),
-        cell.schedule,
-    )
-}
-
-// Start on a channel.
-pub fn start(cell: Cell, channel: ChannelNumber) -> Answered
-    ensures { λ r. ⌜ r ≡ acted cell (Start (channel .0)) ⌝ }
-{
-    let lists = cell.lists;
-    with_schedule(lists::start(lists, channel), cell.schedule)
-}
-
 // The schedule after a call that may have returned a job's facilities; otherwise as given.
 fn left_by(leaving: Leaving, schedule: Schedule, place: u8, otherwise: Schedule) -> Schedule
     ensures { λ r. ⌜ r ≡ leftBy leaving schedule place otherwise ⌝ }
@@ -177,39 +147,16 @@ fn left_by(leaving: Leaving, schedule: Schedule, place: u8, otherwise: Schedule)
     }
 }
 
-// The schedule after a completion: the request of a job whose facilities returned goes or is suspended.
-pub fn after_completion(schedule: Schedule, answer: Answer) -> Schedule
-    ensures { λ r. ⌜ r ≡ afterCompletion schedule answer ⌝ }
+// The schedule after a call that the request lists answered so: the request of a job whose facilities returned goes or
+// is suspended, that of a job that has ended is closing.
+pub fn follow(schedule: Schedule, answer: Answer) -> Schedule
+    ensures { λ r. ⌜ r ≡ followed schedule answer ⌝ }
 {
     match answer {
         Answer::Done => schedule,
         Answer::Started(_) => schedule,
         Answer::Completed(place, _, leaving) => left_by(leaving, schedule, place, schedule),
-        Answer::Closed(_) => schedule,
-        Answer::Refused(_) => schedule,
-    }
-}
-
-// Completion on a channel: full, cut or failed with a code.
-pub fn complete(cell: Cell, channel: ChannelNumber, how: How) -> Answered
-    ensures { λ r. ⌜ r ≡ acted cell (Complete (channel .0) how) ⌝ }
-{
-    let lists = cell.lists;
-    let schedule = cell.schedule;
-    let acted = lists::complete(lists, channel, how);
-    let answer = acted.answer;
-    with_schedule(acted, after_completion(schedule, answer))
-}
-
-// The schedule after a job's end: it is closing, or its facilities have returned.
-fn after_end(schedule: Schedule, place: u8, answer: Answer) -> Schedule
-    ensures { λ r. ⌜ r ≡ afterEnd schedule place answer ⌝ }
-{
-    match answer {
-        Answer::Done => schedule,
-        Answer::Started(_) => schedule,
-        Answer::Completed(_, _, _) => schedule,
-        Answer::Closed(leaving) => {
+        Answer::Closed(place, leaving) => {
             let closing = schedule::closing(schedule, place);
             left_by(leaving, schedule, place, closing)
         }
@@ -217,40 +164,15 @@ fn after_end(schedule: Schedule, place: u8, answer: Answer) -> Schedule
     }
 }
 
-// The job in a place ends, normally or in error.
-pub fn end(cell: Cell, place: u8, in_error: bool) -> Answered
-    ensures { λ r. ⌜ r ≡ acted cell (End place in_error) ⌝ }
+// A call on packets, jobs, units or marks.
+pub fn act(cell: Cell, act: Act) -> Answered
+    ensures { λ r. ⌜ r ≡ acted cell act ⌝ }
 {
     let lists = cell.lists;
     let schedule = cell.schedule;
-    let acted = lists::end(lists, place, in_error);
+    let acted = lists::act(lists, act);
     let answer = acted.answer;
-    with_schedule(acted, after_end(schedule, place, answer))
-}
-
-// The job in a place gives a unit back early and goes on.
-pub fn return_unit(cell: Cell, place: u8, channel: ChannelNumber, unit: UnitNumber) -> Answered
-    ensures { λ r. ⌜ r ≡ acted cell (Return place (channel .0) (unit .0)) ⌝ }
-{
-    let lists = cell.lists;
-    with_schedule(
-        lists::return_unit(lists, place, channel, unit),
-        cell.schedule,
-    )
-}
-
-// A mark of a unit is set or cleared.
-pub fn mark(
-    cell: Cell,
-    channel: ChannelNumber,
-    unit: UnitNumber,
-    mark: units::Mark,
-    on: bool,
-) -> Answered
-    ensures { λ r. ⌜ r ≡ acted cell (Mark (channel .0) (unit .0) mark on) ⌝ }
-{
-    let lists = cell.lists;
-    with_schedule(lists::mark(lists, channel, unit, mark, on), cell.schedule)
+    with_schedule(acted, follow(schedule, answer))
 }
 
 // How a call that only changes the schedule ends.
@@ -332,7 +254,9 @@ fn heed(cell: Cell, asks: Asked, id: [u8; 6]) -> Heeded
             told: Told::Mistyped(fault),
             cell,
         },
-        Asked::Mark(channel, unit, on) => called(mark(cell, channel, unit, units::Mark::Down, on)),
+        Asked::Mark(channel, unit, on) => {
+            called(act(cell, Act::Mark(channel, unit, units::Mark::Down, on)))
+        }
         Asked::Release => called(release(cell, id)),
         Asked::Delete => called(delete(cell, id)),
     }

@@ -17,7 +17,7 @@ abbrev pub ofAnswer : Answer → Option Refusal
 ofAnswer Answers.Done = none
 ofAnswer (Answers.Started b) = none
 ofAnswer (Answers.Completed place packet leaving) = none
-ofAnswer (Answers.Closed leaving) = none
+ofAnswer (Answers.Closed place leaving) = none
 ofAnswer (Answers.Refused n) = some n
 
 abbrev pub ofStatus : StatusAnswer → Option Refusal

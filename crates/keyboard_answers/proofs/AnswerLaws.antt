@@ -61,7 +61,7 @@ said-short : (answer : Answer) → length (saidText answer) ≤ 9
 said-short Answer′.Done = omega arith
 said-short (Answer′.Started begun) = omega arith
 said-short (Answer′.Completed place packet leaving) = omega arith
-said-short (Answer′.Closed leaving) = omega arith
+said-short (Answer′.Closed place leaving) = omega arith
 said-short (Answer′.Refused refusal) = error-short (shownNumber refusal) (shown-few refusal)
 
 told-short : (told : Told) → length (toldText told) ≤ 9

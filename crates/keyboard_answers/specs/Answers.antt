@@ -55,7 +55,7 @@ abbrev pub saidText : Answer → List ℕ
 saidText Answer′.Done = doneText
 saidText (Answer′.Started begun) = doneText
 saidText (Answer′.Completed place packet leaving) = doneText
-saidText (Answer′.Closed leaving) = doneText
+saidText (Answer′.Closed place leaving) = doneText
 saidText (Answer′.Refused refusal) = errorText (shownNumber refusal)
 
 -- what was told: what the call answered (an unknown message, which is no call, is told as one that was refused), or of

@@ -78,7 +78,7 @@ fn put_said(out: &mut [u8], at: usize, answer: Answer) -> usize
         Answer::Done => text::put_bytes(out, at, b" ACK"),
         Answer::Started(_) => text::put_bytes(out, at, b" ACK"),
         Answer::Completed(_, _, _) => text::put_bytes(out, at, b" ACK"),
-        Answer::Closed(_) => text::put_bytes(out, at, b" ACK"),
+        Answer::Closed(_, _) => text::put_bytes(out, at, b" ACK"),
         Answer::Refused(refusal) => put_error(out, at, shown_number(refusal)),
     }
 }

@@ -17,7 +17,8 @@ use Rattle.channels.specs.declared.Channel.{Channel}
 use Rattle.channels.specs.declared.Fitted.{Fitted}
 use Rattle.channels.specs.declared.Fitted.the-variants.{Nothing}
 use Rattle.packets.proofs.Laws.{and-left, passes}
-use Rattle.packets.specs.Rules.{Call, End, Mark, Take, accept, always, answer, closed, closing, cut, first, freshJob, leaving, reaches, refusal, returnIfDone}
+use Rattle.packets.specs.Rules.{Call, Take, accept, always, answer, closed, closing, cut, first, freshJob, leaving, reaches, refusal, returnIfDone}
+use Rattle.packets.proofs.ByNumber.{End, Mark}
 use Rattle.packets.specs.State.{State, close, configured, fittedOn, isEmpty, isThereOf, isRunning, jobIn, noJob, relist, releaseAll, stateIn, sweep, takeAll, wanted}
 use Rattle.packets.specs.declared.Acted.{Acted}
 use Rattle.packets.specs.declared.Answer.{Answer}
@@ -99,7 +100,7 @@ module _ (r : Lists) (j : ℕ) (err : Bool) where
         → (units : Units) → units ≡ unitsFrom (cond (shut .done) (releaseAll (r .units .of) j) (r .units .of))
         → _≡_ {A = Acted} (record {
           lists = record { channels = r .channels; codes = r .codes; jobs = set (r .jobs) (j % 16) (shut .job); list = left; moving = r .moving; units = units };
-          answer = Closed (shut .leaving);
+          answer = Closed j (shut .leaving);
         }) (outcome r (End j err))
     unfolding accept answer
     end-is shut e left l units u =
@@ -107,7 +108,7 @@ module _ (r : Lists) (j : ℕ) (err : Bool) where
         granted-is r (End j err) granted _ _
         (rw (l, u, e, k, ending-packets _ shutJob)
         (sym (ap listsOf (ap (returnIfDone j) shut-is ∙ focus-return (stateOf r) j (omega (arith, size, small)) shutJob shutList))))
-        (rw (e, k) (sym (ap Closed (ap (leaving j) shut-is ∙ focus-leaving (stateOf r) j (omega (arith, size, small)) shutJob shutList))))
+        (rw (e, k) (sym (ap (Closed j) (ap (leaving j) shut-is ∙ focus-leaving (stateOf r) j (omega (arith, size, small)) shutJob shutList))))
 
 -- ---- taking a job
 

@@ -15,7 +15,8 @@ use Rattle.units.specs.declared.Units.{Units}
 use Rattle.channels.specs.declared.Channel.{Channel}
 use Rattle.channels.specs.declared.Fitted.the-variants.{Nothing}
 use Rattle.packets.proofs.Laws.{and-left, and-right, neither, passes}
-use Rattle.packets.specs.Rules.{Complete, accept, answer, isAt, broken, codeFor, completed, completes, failed, finished, first, freeIfReturning, isTrouble, isWrong, leaving, over, refusal, returnIfDone}
+use Rattle.packets.specs.Rules.{accept, answer, isAt, broken, codeFor, completed, completes, failed, finished, first, freeIfReturning, isTrouble, isWrong, leaving, over, refusal, returnIfDone}
+use Rattle.packets.proofs.ByNumber.{Complete}
 use Rattle.packets.specs.State.{State, blank, carrying, configured, isIdle, isListed, isThereOf, isUnit, jobIn, lock, motionOn, movingStatus, move, noJob, packetIn, relist, restatus, setLock, store, sweep, unitAt, withPackets, withStatus}
 use Rattle.packets.proofs.Told.{configured-in}
 use Rattle.packets.specs.declared.Acted.{Acted}

@@ -3,7 +3,9 @@
 use mathlib.Core.Path.{_≡_, refl, subst}
 use mathlib.Core.List.{List, [], _∷_}
 use Rattle.packets.specs.History.{Event, Leads}
-use Rattle.packets.specs.Rules.{Call, Complete, End, Mark, Return, Start, Submit, Take, accept, decided, refusal, step}
+use Rattle.packets.specs.Rules.{Call, Do, Take, accept, decided, refusal, step}
+use Rattle.packets.proofs.ByNumber.{Complete, End, Return, Start, Submit}
+use Rattle.packets.specs.declared.Act.the-variants as Act′
 use Rattle.packets.specs.State.{State}
 use Rattle.packets.specs.declared.Lists.{Lists}
 use Rattle.packets.specs.declared.Verdict.{Verdict}
@@ -18,12 +20,12 @@ state-of s = rw (list-padded (s .queue))
 leaves-is : (r : Lists) (x : Call) → stateOf (leaves r x) ≡ accept (stateOf r) x
 unfolding accept
 leaves-is r (Take j asg) = refl
-leaves-is r (Submit j p f c w) = state-of (accept (stateOf r) (Submit j p f c w))
-leaves-is r (Start c) = state-of (accept (stateOf r) (Start c))
-leaves-is r (Complete c how) = state-of (accept (stateOf r) (Complete c how))
-leaves-is r (End j e) = state-of (accept (stateOf r) (End j e))
-leaves-is r (Return j c u) = state-of (accept (stateOf r) (Return j c u))
-leaves-is r (Mark c u m on) = refl
+leaves-is r (Do (Act′.Submit j p f c w)) = state-of (accept (stateOf r) (Submit j p f (c .0) w))
+leaves-is r (Do (Act′.Start c)) = state-of (accept (stateOf r) (Start (c .0)))
+leaves-is r (Do (Act′.Complete c how)) = state-of (accept (stateOf r) (Complete (c .0) how))
+leaves-is r (Do (Act′.End j e)) = state-of (accept (stateOf r) (End j e))
+leaves-is r (Do (Act′.Return j c u)) = state-of (accept (stateOf r) (Return j (c .0) (u .0)))
+leaves-is r (Do (Act′.Mark c u m on)) = refl
 
 -- one call: the rules' answer, and the rules' state
 pub outcome-is : (r : Lists) (x : Call) → (outcome r x .answer ≡ step (stateOf r) x .answer) × (stateOf (outcome r x .lists) ≡ step (stateOf r) x .state)

@@ -17,7 +17,8 @@ use Rattle.units.specs.declared.Units.{Units}
 use Rattle.channels.specs.declared.Channel.{Channel}
 use Rattle.channels.specs.declared.Fitted.the-variants.{Nothing}
 use Rattle.packets.proofs.Laws.{and-left, and-right, passes}
-use Rattle.packets.specs.Rules.{Return, accept, answer, cut, isAt, movesAt, reaches, refusal, returnRefusal}
+use Rattle.packets.specs.Rules.{accept, answer, cut, isAt, movesAt, reaches, refusal, returnRefusal}
+use Rattle.packets.proofs.ByNumber.{Return}
 use Rattle.packets.specs.State.{State, carrying, fittedOn, hold, jobIn, motionOn, noJob, packetIn, relist, restatus, setHolder, stateIn, sweep, withPackets}
 use Rattle.packets.specs.declared.Acted.{Acted}
 use Rattle.packets.specs.declared.Answer.the-variants.{Done}

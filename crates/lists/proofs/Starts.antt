@@ -14,7 +14,8 @@ use Rattle.channels.specs.declared.Channel.{Channel}
 use Rattle.channels.specs.declared.Fitted.the-variants.{Nothing}
 use Rattle.packets.proofs.Laws.{passes}
 use Rattle.packets.specs.Picks.{find}
-use Rattle.packets.specs.Rules.{Start, accept, answer, begins, begun, first, isNone, refusal, startable, startableOn, started}
+use Rattle.packets.specs.Rules.{accept, answer, begins, begun, first, isNone, refusal, startable, startableOn, started}
+use Rattle.packets.proofs.ByNumber.{Start}
 use Rattle.packets.specs.State.{State, carrying, configured, isIdle, isThereOf, jobIn, motionOn, move, noJob, packetIn, packetOf, placeOf, relist, store, withPackets, withStatus}
 use Rattle.packets.proofs.Told.{configured-in}
 use Rattle.packets.specs.declared.Acted.{Acted}

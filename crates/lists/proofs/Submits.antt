@@ -16,7 +16,8 @@ use Rattle.units.specs.declared.Units.{Units}
 use Rattle.channels.specs.declared.Channel.{Channel}
 use Rattle.channels.specs.declared.Fitted.the-variants.{Nothing}
 use Rattle.packets.proofs.Laws.{and-left, and-right, passes}
-use Rattle.packets.specs.Rules.{Submit, accept, aimed, answer, cut, enlist, failed, inRange, isAt, locked, packet, pass, refusal, siteOf, submitRefusal, submitted}
+use Rattle.packets.specs.Rules.{accept, aimed, answer, cut, enlist, failed, inRange, isAt, locked, packet, pass, refusal, siteOf, submitRefusal, submitted}
+use Rattle.packets.proofs.ByNumber.{Submit}
 use Rattle.packets.specs.State.{State, enqueue, entryOf, fittedOn, jobIn, noJob, relist, restatus, setLock, store, sweep, unitAt, withPackets}
 use Rattle.packets.specs.declared.Acted.{Acted}
 use Rattle.packets.specs.declared.Answer.the-variants.{Done}

@@ -5,8 +5,9 @@ use mathlib.Core.Bool.{cond, _&&_}
 use lib.Dec.{ltb}
 use Rattle.numbers.specs.declared.Refusal.the-variants.{OutOfRange}
 use Rattle.units.specs.State.{unitsFrom}
-use Rattle.packets.specs.Rules.{Call, Complete, End, Mark, Return, Start, Submit, Take, accept, answer, refusal}
+use Rattle.packets.specs.Rules.{Call, Do, Take, accept, answer, refusal}
 use Rattle.packets.specs.State.{State, packetIn}
+use Rattle.packets.specs.declared.Act.the-variants.{Submit, Start, Complete, End, Return, Mark}
 use Rattle.packets.specs.declared.Answer.the-variants.{Refused}
 use Rattle.packets.specs.declared.Lists.{Lists}
 use Rattle.packets.specs.declared.Acted.{Acted}
@@ -36,12 +37,12 @@ pub record Kept (s : State) (r : Lists) : Type 0 where
 -- what an accepted call leaves; a taking and a mark do not touch the list
 abbrev pub leaves : Lists → Call → Lists
 leaves r (Take j asg) = keeping r (accept (stateOf r) (Take j asg))
-leaves r (Submit j p f c w) = listsOf (accept (stateOf r) (Submit j p f c w))
-leaves r (Start c) = listsOf (accept (stateOf r) (Start c))
-leaves r (Complete c how) = listsOf (accept (stateOf r) (Complete c how))
-leaves r (End j e) = listsOf (accept (stateOf r) (End j e))
-leaves r (Return j c u) = listsOf (accept (stateOf r) (Return j c u))
-leaves r (Mark c u m on) = keeping r (accept (stateOf r) (Mark c u m on))
+leaves r (Do (Submit j p f c w)) = listsOf (accept (stateOf r) (Do (Submit j p f c w)))
+leaves r (Do (Start c)) = listsOf (accept (stateOf r) (Do (Start c)))
+leaves r (Do (Complete c how)) = listsOf (accept (stateOf r) (Do (Complete c how)))
+leaves r (Do (End j e)) = listsOf (accept (stateOf r) (Do (End j e)))
+leaves r (Do (Return j c u)) = listsOf (accept (stateOf r) (Do (Return j c u)))
+leaves r (Do (Mark c u m on)) = keeping r (accept (stateOf r) (Do (Mark c u m on)))
 
 -- an accepted call leaves and answers what the rules say; a refused one returns the number alone, and the state keeps
 -- every byte

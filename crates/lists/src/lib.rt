@@ -8,6 +8,7 @@ use channels::Channel;
 use numbers::ChannelNumber;
 use numbers::Refusal;
 use numbers::UnitNumber;
+use packets::Act;
 use packets::Acted;
 use packets::Answer;
 use packets::Assignment;
@@ -22,7 +23,8 @@ use packets::Status;
 use packets::Verdict;
 use units::Units;
 ghost use mathlib.Core.Path.{_≡_};
-ghost use Rattle.packets.specs.Rules.{Take, Submit, Start, Complete, End, Return, Mark};
+ghost use Rattle.packets.specs.Rules.{Take, Do};
+ghost use Rattle.packets.specs.declared.Act.the-variants.{Submit, Start, Complete, End, Return, Mark};
 ghost use Rattle.packets.specs.History.{fresh};
 ghost use Rattle.lists.specs.Outcomes.{listsOf, outcome, statusIn};
 
@@ -60,7 +62,7 @@ pub fn submit(
     channel: ChannelNumber,
     spot: Spot,
 ) -> Acted
-    ensures { λ r. ⌜ r ≡ outcome lists (Submit place packet function (channel .0) spot) ⌝ }
+    ensures { λ r. ⌜ r ≡ outcome lists (Do (Submit place packet function channel spot)) ⌝ }
 {
     let units = lists.units;
     let at = packets_submit::site_of(spot);
@@ -98,7 +100,7 @@ pub fn submit(
 // function of its own, which would copy the places; units and count are read before the copy into `next`, so that the
 // older state need not be kept.
 pub fn start(lists: Lists, channel: ChannelNumber) -> Acted
-    ensures { λ r. ⌜ r ≡ outcome lists (Start (channel .0)) ⌝ }
+    ensures { λ r. ⌜ r ≡ outcome lists (Do (Start channel)) ⌝ }
 {
     let row = packets_queue::row_of(lists.units, channel);
     let count = lists.list.count;
@@ -143,7 +145,7 @@ pub fn start(lists: Lists, channel: ChannelNumber) -> Acted
 
 // Completion on a channel: full, cut or failed with a code.
 pub fn complete(lists: Lists, channel: ChannelNumber, how: How) -> Acted
-    ensures { λ r. ⌜ r ≡ outcome lists (Complete (channel .0) how) ⌝ }
+    ensures { λ r. ⌜ r ≡ outcome lists (Do (Complete channel how)) ⌝ }
 {
     let mut next = lists;
     let mut answer = Answer::Done;
@@ -188,7 +190,7 @@ pub fn complete(lists: Lists, channel: ChannelNumber, how: How) -> Acted
 
 // The job in a place ends, normally or in error.
 pub fn end(lists: Lists, place: u8, in_error: bool) -> Acted
-    ensures { λ r. ⌜ r ≡ outcome lists (End place in_error) ⌝ }
+    ensures { λ r. ⌜ r ≡ outcome lists (Do (End place in_error)) ⌝ }
 {
     let mut next = lists;
     let mut answer = Answer::Done;
@@ -206,7 +208,7 @@ pub fn end(lists: Lists, place: u8, in_error: bool) -> Acted
             let left = packets_queue::relisted(gone, place, &next.list.entries, count);
             next.list = left;
             let leaving = shut.leaving;
-            answer = Answer::Closed(leaving);
+            answer = Answer::Closed(place, leaving);
             if shut.done {
                 let units = next.units;
                 let free = packets_units::released(units, place);
@@ -223,7 +225,7 @@ pub fn end(lists: Lists, place: u8, in_error: bool) -> Acted
 // The job in a place gives a unit back while it goes on with the others: the unit's listed packets end, and it is free
 // at once, or when the packet that moves there completes.
 pub fn return_unit(lists: Lists, place: u8, channel: ChannelNumber, unit: UnitNumber) -> Acted
-    ensures { λ r. ⌜ r ≡ outcome lists (Return place (channel .0) (unit .0)) ⌝ }
+    ensures { λ r. ⌜ r ≡ outcome lists (Do (Return place channel unit)) ⌝ }
 {
     let units = lists.units;
     let was = units::unit_at(units, channel, unit);
@@ -253,6 +255,22 @@ pub fn return_unit(lists: Lists, place: u8, channel: ChannelNumber, unit: UnitNu
     Acted {
         lists: next,
         answer,
+    }
+}
+
+// A call on packets, jobs, units or marks.
+pub fn act(lists: Lists, act: Act) -> Acted
+    ensures { λ r. ⌜ r ≡ outcome lists (Do act) ⌝ }
+{
+    match act {
+        Act::Submit(place, packet, function, channel, spot) => {
+            submit(lists, place, packet, function, channel, spot)
+        }
+        Act::Start(channel) => start(lists, channel),
+        Act::Complete(channel, how) => complete(lists, channel, how),
+        Act::End(place, in_error) => end(lists, place, in_error),
+        Act::Return(place, channel, unit) => return_unit(lists, place, channel, unit),
+        Act::Mark(channel, unit, which, on) => mark(lists, channel, unit, which, on),
     }
 }
 
@@ -291,7 +309,7 @@ pub fn mark(
     mark: units::Mark,
     on: bool,
 ) -> Acted
-    ensures { λ r. ⌜ r ≡ outcome lists (Mark (channel .0) (unit .0) mark on) ⌝ }
+    ensures { λ r. ⌜ r ≡ outcome lists (Do (Mark channel unit mark on)) ⌝ }
 {
     let mut next = lists;
     let mut answer = Answer::Done;

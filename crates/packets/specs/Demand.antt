@@ -81,7 +81,7 @@ abbrev pub tookThere : Holding → ℕ → Answer → Bool
 tookThere h c Done = false
 tookThere h c (Started b) = eqb (b .place) (h .place) && isThere h c (b .at)
 tookThere h c (Completed j p r) = false
-tookThere h c (Closed r) = false
+tookThere h c (Closed j r) = false
 tookThere h c (Refused n) = false
 
 -- a completion of such a packet
@@ -89,7 +89,7 @@ abbrev pub endedThere : Holding → Seen → Answer → Bool
 endedThere h t Done = false
 endedThere h t (Started b) = false
 endedThere h t (Completed j p r) = eqb j (h .place) && t p
-endedThere h t (Closed r) = false
+endedThere h t (Closed j r) = false
 endedThere h t (Refused n) = false
 
 -- ---- what that is to the lone unit
@@ -135,7 +135,7 @@ abbrev pub startIn : Answer → List LoneStart
 startIn Done = []
 startIn (Started b) = (record { packet = b .packet; function = b .function; word = wordAt (b .at) }) ∷ []
 startIn (Completed j p r) = []
-startIn (Closed r) = []
+startIn (Closed j r) = []
 startIn (Refused n) = []
 
 -- what is nothing to the lone unit starts nothing there

@@ -54,7 +54,7 @@ abbrev pub isAccepted : Answer → Bool
 isAccepted Done = true
 isAccepted (Started b) = true
 isAccepted (Completed j p r) = true
-isAccepted (Closed r) = true
+isAccepted (Closed j r) = true
 isAccepted (Refused n) = false
 
 -- calls one after the other, each answered so, lead from one state to another

@@ -433,7 +433,7 @@ answer s (Take j asg) = Done
 answer s (Do (Submit j p f c w)) = Done
 answer s (Do (Start c)) = begins s (find (startable s (c .0)) (s .queue))
 answer s (Do (Complete c how)) = completes s (c .0) how (motionOn s (c .0))
-answer s (Do (End j e)) = Closed (leaving j (closed s j e))
+answer s (Do (End j e)) = Closed j (leaving j (closed s j e))
 answer s (Do (Return j c u)) = Done
 answer s (Do (Mark c u m on)) = Done
 

@@ -140,12 +140,13 @@ pub struct Ending {
     pub leaving: Leaving,
 }
 
-// What a call answers: a completion the place and number of the packet that it ends.
+// What a call answers: a completion the place and number of the packet that it ends, an end the place, and both whether
+// the facilities returned.
 pub enum Answer {
     Done,
     Started(Begun),
     Completed(u8, u8, Leaving),
-    Closed(Leaving),
+    Closed(u8, Leaving),
     Refused(Refusal),
 }
 

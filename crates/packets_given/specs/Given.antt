@@ -69,7 +69,7 @@ abbrev pub wayAfter : Answer → Option Begun → Option Begun
 wayAfter Done o = o
 wayAfter (Started b) o = some b
 wayAfter (Completed j p r) o = none
-wayAfter (Closed r) o = o
+wayAfter (Closed j r) o = o
 wayAfter (Refused n) o = o
 
 -- a start and a completion are of one channel

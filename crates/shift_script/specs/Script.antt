@@ -14,10 +14,11 @@ use Rattle.units.specs.declared.Mark.the-variants as Mark′
 use Rattle.packets.specs.declared.How.the-variants.{Full, Cut, Failed}
 use Rattle.line_words.specs.declared.Base.the-variants.{Decimal, Octal}
 use Rattle.line_words.specs.Forms.{wordsOf, numberIn, fitting, idOf}
+use Rattle.packets.specs.declared.Act.the-variants.{Start, Complete, End, Return, Mark}
 use Rattle.shift_script.specs.declared.Submission.{Submission}
 use Rattle.shift_script.specs.declared.Line.{Line}
-use Rattle.shift_script.specs.declared.Line.the-variants.{NoCall, Echo, Deck, Select, Board, Submit, Start, Complete}
-use Rattle.shift_script.specs.declared.Line.the-variants.{End, Return, Mark, Release, Delete, Status, Key}
+use Rattle.shift_script.specs.declared.Line.the-variants.{NoCall, Echo, Deck, Select, Board, Submit, Do}
+use Rattle.shift_script.specs.declared.Line.the-variants.{Release, Delete, Status, Key}
 use Rattle.shift_script.specs.declared.Said.{Said}
 
 -- the number that word k writes, the line's first word at 0
@@ -71,21 +72,21 @@ table =
     ∷ row "SELECT" (λ w. said Select)
     ∷ row "SUBMIT p k ff cc x" (λ w. said (Submit (submissionOf 0 w)))
     ∷ row "SUBMIT p k ff cc x h" (λ w. said (Submit (submissionOf (decimalAt 6 w) w)))
-    ∷ row "START cc" (λ w. said (Start (channelAt 1 w)))
-    ∷ row "DONE cc" (λ w. said (Complete (channelAt 1 w) Full))
-    ∷ row "CUT cc" (λ w. said (Complete (channelAt 1 w) Cut))
-    ∷ row "FAIL cc ff" (λ w. said (Complete (channelAt 1 w) (Failed (codeAt 2 w))))
-    ∷ row "END p" (λ w. said (End (smallAt 1 w) false))
-    ∷ row "ABORT p" (λ w. said (End (smallAt 1 w) true))
-    ∷ row "DOWN cc uu" (λ w. said (Mark (channelAt 1 w) (unitAt 2 w) Mark′.Down true))
-    ∷ row "UP cc uu" (λ w. said (Mark (channelAt 1 w) (unitAt 2 w) Mark′.Down false))
-    ∷ row "RESERVE cc uu" (λ w. said (Mark (channelAt 1 w) (unitAt 2 w) Mark′.Reserved true))
-    ∷ row "UNRESERVE cc uu" (λ w. said (Mark (channelAt 1 w) (unitAt 2 w) Mark′.Reserved false))
+    ∷ row "START cc" (λ w. said (Do (Start (channelAt 1 w))))
+    ∷ row "DONE cc" (λ w. said (Do (Complete (channelAt 1 w) Full)))
+    ∷ row "CUT cc" (λ w. said (Do (Complete (channelAt 1 w) Cut)))
+    ∷ row "FAIL cc ff" (λ w. said (Do (Complete (channelAt 1 w) (Failed (codeAt 2 w)))))
+    ∷ row "END p" (λ w. said (Do (End (smallAt 1 w) false)))
+    ∷ row "ABORT p" (λ w. said (Do (End (smallAt 1 w) true)))
+    ∷ row "DOWN cc uu" (λ w. said (Do (Mark (channelAt 1 w) (unitAt 2 w) Mark′.Down true)))
+    ∷ row "UP cc uu" (λ w. said (Do (Mark (channelAt 1 w) (unitAt 2 w) Mark′.Down false)))
+    ∷ row "RESERVE cc uu" (λ w. said (Do (Mark (channelAt 1 w) (unitAt 2 w) Mark′.Reserved true)))
+    ∷ row "UNRESERVE cc uu" (λ w. said (Do (Mark (channelAt 1 w) (unitAt 2 w) Mark′.Reserved false)))
     ∷ row "RELEASE id" (λ w. named Release w)
     ∷ row "DELETE id" (λ w. named Delete w)
     ∷ row "STATUS p k" (λ w. said (Status (smallAt 1 w) (smallAt 2 w)))
     ∷ row "BOARD" (λ w. said Board)
-    ∷ row "RETURN p cc uu" (λ w. said (Return (smallAt 1 w) (channelAt 2 w) (unitAt 3 w)))
+    ∷ row "RETURN p cc uu" (λ w. said (Do (Return (smallAt 1 w) (channelAt 2 w) (unitAt 3 w))))
     ∷ []
 
 -- "A line that has not exactly the words below, or a number that is no such number, is no call"

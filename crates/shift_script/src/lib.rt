@@ -2,6 +2,7 @@
 use line_words::Base;
 use numbers::ChannelNumber;
 use numbers::UnitNumber;
+use packets::Act;
 use packets::How;
 use units::Mark;
 ghost use mathlib.Core.Path.{_≡_};
@@ -22,9 +23,9 @@ pub struct Submission {
     pub to: u32,
 }
 
-// What a line says: no call, an echo, or one of the calls. End: the place, and whether in error; Return: the place, and
-// the unit that its job gives back; Mark: whether it is set; the ID of a release or a deletion stands beside it. Key: a
-// keyboard message, which stands in the line.
+// What a line says: no call, an echo, or one of the calls. Submit: by numbers, since the channel's kind says whether the
+// first is a unit or an address. Do: any other call on packets, jobs, units and marks. The ID of a release or a deletion
+// is beside it. Key: a keyboard message, which is in the line.
 pub enum Line {
     NoCall,
     Echo,
@@ -32,11 +33,7 @@ pub enum Line {
     Select,
     Board,
     Submit(Submission),
-    Start(ChannelNumber),
-    Complete(ChannelNumber, How),
-    End(u8, bool),
-    Return(u8, ChannelNumber, UnitNumber),
-    Mark(ChannelNumber, UnitNumber, Mark, bool),
+    Do(Act),
     Release,
     Delete,
     Status(u8, u8),
@@ -141,7 +138,7 @@ fn on_requests(line: &[u8]) -> Said
     if line_words::fits(line, b"RETURN p cc uu") {
         let channel = ChannelNumber(small_at(line, 2));
         let unit = UnitNumber(small_at(line, 3));
-        return plain(Line::Return(small_at(line, 1), channel, unit));
+        return plain(Line::Do(Act::Return(small_at(line, 1), channel, unit)));
     }
     plain(Line::NoCall)
 }
@@ -151,22 +148,22 @@ fn on_units(line: &[u8]) -> Said
     ensures { λ r. ⌜ r ≡ sayBy (drop 8 table) (wordsOf (now (line .entry))) ⌝ }
 {
     if line_words::fits(line, b"END p") {
-        return plain(Line::End(small_at(line, 1), false));
+        return plain(Line::Do(Act::End(small_at(line, 1), false)));
     }
     if line_words::fits(line, b"ABORT p") {
-        return plain(Line::End(small_at(line, 1), true));
+        return plain(Line::Do(Act::End(small_at(line, 1), true)));
     }
     if line_words::fits(line, b"DOWN cc uu") {
-        return plain(Line::Mark(channel_at(line), unit_at(line), Mark::Down, true));
+        return plain(Line::Do(Act::Mark(channel_at(line), unit_at(line), Mark::Down, true)));
     }
     if line_words::fits(line, b"UP cc uu") {
-        return plain(Line::Mark(channel_at(line), unit_at(line), Mark::Down, false));
+        return plain(Line::Do(Act::Mark(channel_at(line), unit_at(line), Mark::Down, false)));
     }
     if line_words::fits(line, b"RESERVE cc uu") {
-        return plain(Line::Mark(channel_at(line), unit_at(line), Mark::Reserved, true));
+        return plain(Line::Do(Act::Mark(channel_at(line), unit_at(line), Mark::Reserved, true)));
     }
     if line_words::fits(line, b"UNRESERVE cc uu") {
-        return plain(Line::Mark(channel_at(line), unit_at(line), Mark::Reserved, false));
+        return plain(Line::Do(Act::Mark(channel_at(line), unit_at(line), Mark::Reserved, false)));
     }
     on_requests(line)
 }
@@ -189,16 +186,16 @@ fn on_packets(line: &[u8]) -> Said
         return plain(Line::Submit(submitted(line, to)));
     }
     if line_words::fits(line, b"START cc") {
-        return plain(Line::Start(channel_at(line)));
+        return plain(Line::Do(Act::Start(channel_at(line))));
     }
     if line_words::fits(line, b"DONE cc") {
-        return plain(Line::Complete(channel_at(line), How::Full));
+        return plain(Line::Do(Act::Complete(channel_at(line), How::Full)));
     }
     if line_words::fits(line, b"CUT cc") {
-        return plain(Line::Complete(channel_at(line), How::Cut));
+        return plain(Line::Do(Act::Complete(channel_at(line), How::Cut)));
     }
     if line_words::fits(line, b"FAIL cc ff") {
-        return plain(Line::Complete(channel_at(line), How::Failed(code_at(line, 2))));
+        return plain(Line::Do(Act::Complete(channel_at(line), How::Failed(code_at(line, 2)))));
     }
     on_units(line)
 }

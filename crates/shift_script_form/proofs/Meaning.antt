@@ -19,8 +19,9 @@ use Rattle.packets.specs.declared.How.the-variants.{Full, Cut, Failed}
 use Rattle.line_words.specs.declared.Base.the-variants.{Decimal, Octal}
 use Rattle.line_words.specs.Forms.{IsWord, wordsOf, idOf}
 use Rattle.line_words.proofs.FormLaws.{id-long, id-short}
+use Rattle.packets.specs.declared.Act.the-variants.{Start, Complete, End, Return, Mark}
 use Rattle.shift_script.specs.declared.Line.{Line}
-use Rattle.shift_script.specs.declared.Line.the-variants.{NoCall, Echo, Deck, Select, Board, Submit, Start, Complete, End, Return, Mark, Release, Delete, Status, Key}
+use Rattle.shift_script.specs.declared.Line.the-variants.{NoCall, Echo, Deck, Select, Board, Submit, Release, Delete, Status, Key, Do}
 use Rattle.shift_script.specs.declared.Said.{Said}
 use Rattle.shift_script.specs.Script.{said, table, sayBy, isEcho, isKey, lineSays}
 use Rattle.shift_script_form.specs.Written.{spaced, decimal, octal, lineFor, Sayable}
@@ -86,46 +87,46 @@ read-back (Submit s) id h =
     (a .plain, (b .plain, (d .plain, (e .plain, (g .plain, (w .plain, tt))))))
     (omega (arith, a .short, b .short, d .short, e .short, g .short, w .short))
     (submit-row s (h .1) (h .2) (h .3) (h .4) a b d e g w))
-read-back (Start channel) id h =
+read-back (Do (Start channel)) id h =
     let a = byte (h .1) in
-    rw (h .0) (said-by 83 (bytes "TART") (decimal (channel .0) ∷ []) (said (Start channel)) refl refl refl (a .plain, tt) (omega (arith, a .short)) (start-row a (h .1)))
-read-back (Complete channel Full) id h =
+    rw (h .0) (said-by 83 (bytes "TART") (decimal (channel .0) ∷ []) (said (Do (Start channel))) refl refl refl (a .plain, tt) (omega (arith, a .short)) (start-row a (h .1)))
+read-back (Do (Complete channel Full)) id h =
     let a = byte (h .1) in
-    rw (h .0) (said-by 68 (bytes "ONE") (decimal (channel .0) ∷ []) (said (Complete channel Full)) refl refl refl (a .plain, tt) (omega (arith, a .short)) (done-row a (h .1)))
-read-back (Complete channel Cut) id h =
+    rw (h .0) (said-by 68 (bytes "ONE") (decimal (channel .0) ∷ []) (said (Do (Complete channel Full))) refl refl refl (a .plain, tt) (omega (arith, a .short)) (done-row a (h .1)))
+read-back (Do (Complete channel Cut)) id h =
     let a = byte (h .1) in
-    rw (h .0) (said-by 67 (bytes "UT") (decimal (channel .0) ∷ []) (said (Complete channel Cut)) refl refl refl (a .plain, tt) (omega (arith, a .short)) (cut-row a (h .1)))
-read-back (Complete channel (Failed n)) id h =
+    rw (h .0) (said-by 67 (bytes "UT") (decimal (channel .0) ∷ []) (said (Do (Complete channel Cut))) refl refl refl (a .plain, tt) (omega (arith, a .short)) (cut-row a (h .1)))
+read-back (Do (Complete channel (Failed n))) id h =
     let a = byte (h .1) in
     let b = code (h .2) in
-    rw (h .0) (said-by 70 (bytes "AIL") (decimal (channel .0) ∷ octal n ∷ []) (said (Complete channel (Failed n))) refl refl refl (a .plain, (b .plain, tt)) (omega (arith, a .short, b .short)) (fail-row a (h .1) b (h .2)))
-read-back (End place false) id h =
+    rw (h .0) (said-by 70 (bytes "AIL") (decimal (channel .0) ∷ octal n ∷ []) (said (Do (Complete channel (Failed n)))) refl refl refl (a .plain, (b .plain, tt)) (omega (arith, a .short, b .short)) (fail-row a (h .1) b (h .2)))
+read-back (Do (End place false)) id h =
     let a = byte (h .1) in
-    rw (h .0) (said-by 69 (bytes "ND") (decimal place ∷ []) (said (End place false)) refl refl refl (a .plain, tt) (omega (arith, a .short)) (end-row a (h .1)))
-read-back (End place true) id h =
+    rw (h .0) (said-by 69 (bytes "ND") (decimal place ∷ []) (said (Do (End place false))) refl refl refl (a .plain, tt) (omega (arith, a .short)) (end-row a (h .1)))
+read-back (Do (End place true)) id h =
     let a = byte (h .1) in
-    rw (h .0) (said-by 65 (bytes "BORT") (decimal place ∷ []) (said (End place true)) refl refl refl (a .plain, tt) (omega (arith, a .short)) (abort-row a (h .1)))
-read-back (Return place channel unit) id h =
+    rw (h .0) (said-by 65 (bytes "BORT") (decimal place ∷ []) (said (Do (End place true))) refl refl refl (a .plain, tt) (omega (arith, a .short)) (abort-row a (h .1)))
+read-back (Do (Return place channel unit)) id h =
     let a = byte (h .1) in
     let b = byte (h .2) in
     let d = byte (h .3) in
-    rw (h .0) (said-by 82 (bytes "ETURN") (decimal place ∷ decimal (channel .0) ∷ decimal (unit .0) ∷ []) (said (Return place channel unit)) refl refl refl (a .plain, (b .plain, (d .plain, tt))) (omega (arith, a .short, b .short, d .short)) (return-row a (h .1) b (h .2) d (h .3)))
-read-back (Mark channel unit Mark′.Down true) id h =
+    rw (h .0) (said-by 82 (bytes "ETURN") (decimal place ∷ decimal (channel .0) ∷ decimal (unit .0) ∷ []) (said (Do (Return place channel unit))) refl refl refl (a .plain, (b .plain, (d .plain, tt))) (omega (arith, a .short, b .short, d .short)) (return-row a (h .1) b (h .2) d (h .3)))
+read-back (Do (Mark channel unit Mark′.Down true)) id h =
     let a = byte (h .1) in
     let b = byte (h .2) in
-    rw (h .0) (said-by 68 (bytes "OWN") (decimal (channel .0) ∷ decimal (unit .0) ∷ []) (said (Mark channel unit Mark′.Down true)) refl refl refl (a .plain, (b .plain, tt)) (omega (arith, a .short, b .short)) (down-row a (h .1) b (h .2)))
-read-back (Mark channel unit Mark′.Down false) id h =
+    rw (h .0) (said-by 68 (bytes "OWN") (decimal (channel .0) ∷ decimal (unit .0) ∷ []) (said (Do (Mark channel unit Mark′.Down true))) refl refl refl (a .plain, (b .plain, tt)) (omega (arith, a .short, b .short)) (down-row a (h .1) b (h .2)))
+read-back (Do (Mark channel unit Mark′.Down false)) id h =
     let a = byte (h .1) in
     let b = byte (h .2) in
-    rw (h .0) (said-by 85 (bytes "P") (decimal (channel .0) ∷ decimal (unit .0) ∷ []) (said (Mark channel unit Mark′.Down false)) refl refl refl (a .plain, (b .plain, tt)) (omega (arith, a .short, b .short)) (up-row a (h .1) b (h .2)))
-read-back (Mark channel unit Mark′.Reserved true) id h =
+    rw (h .0) (said-by 85 (bytes "P") (decimal (channel .0) ∷ decimal (unit .0) ∷ []) (said (Do (Mark channel unit Mark′.Down false))) refl refl refl (a .plain, (b .plain, tt)) (omega (arith, a .short, b .short)) (up-row a (h .1) b (h .2)))
+read-back (Do (Mark channel unit Mark′.Reserved true)) id h =
     let a = byte (h .1) in
     let b = byte (h .2) in
-    rw (h .0) (said-by 82 (bytes "ESERVE") (decimal (channel .0) ∷ decimal (unit .0) ∷ []) (said (Mark channel unit Mark′.Reserved true)) refl refl refl (a .plain, (b .plain, tt)) (omega (arith, a .short, b .short)) (reserve-row a (h .1) b (h .2)))
-read-back (Mark channel unit Mark′.Reserved false) id h =
+    rw (h .0) (said-by 82 (bytes "ESERVE") (decimal (channel .0) ∷ decimal (unit .0) ∷ []) (said (Do (Mark channel unit Mark′.Reserved true))) refl refl refl (a .plain, (b .plain, tt)) (omega (arith, a .short, b .short)) (reserve-row a (h .1) b (h .2)))
+read-back (Do (Mark channel unit Mark′.Reserved false)) id h =
     let a = byte (h .1) in
     let b = byte (h .2) in
-    rw (h .0) (said-by 85 (bytes "NRESERVE") (decimal (channel .0) ∷ decimal (unit .0) ∷ []) (said (Mark channel unit Mark′.Reserved false)) refl refl refl (a .plain, (b .plain, tt)) (omega (arith, a .short, b .short)) (unreserve-row a (h .1) b (h .2)))
+    rw (h .0) (said-by 85 (bytes "NRESERVE") (decimal (channel .0) ∷ decimal (unit .0) ∷ []) (said (Do (Mark channel unit Mark′.Reserved false))) refl refl refl (a .plain, (b .plain, tt)) (omega (arith, a .short, b .short)) (unreserve-row a (h .1) b (h .2)))
 read-back Release id h = said-by 82 (bytes "ELEASE") (id ∷ []) (record { line = Release; id = idOf id }) refl refl refl (h .0 .plain, tt) (omega (arith, h .1)) (release-row id (h .0 .some))
 read-back Delete id h = said-by 68 (bytes "ELETE") (id ∷ []) (record { line = Delete; id = idOf id }) refl refl refl (h .0 .plain, tt) (omega (arith, h .1)) (delete-row id (h .0 .some))
 read-back (Status place packet) id h =

@@ -13,8 +13,9 @@ use Rattle.units.specs.declared.Mark.the-variants as Mark′
 use Rattle.packets.specs.declared.How.the-variants.{Full, Cut, Failed}
 use Rattle.line_words.specs.declared.Base.the-variants.{Decimal, Octal}
 use Rattle.line_words.specs.Forms.{wordsOf, wordFits, fitting, idOf}
+use Rattle.packets.specs.declared.Act.the-variants.{Start, Complete, End, Return, Mark}
 use Rattle.shift_script.specs.declared.Submission.{Submission}
-use Rattle.shift_script.specs.declared.Line.the-variants.{Deck, Select, Board, Submit, Start, Complete, End, Return, Mark, Release, Delete, Status}
+use Rattle.shift_script.specs.declared.Line.the-variants.{Deck, Select, Board, Submit, Release, Delete, Status, Do}
 use Rattle.shift_script.specs.declared.Said.{Said}
 use Rattle.shift_script.specs.Script.{said, table, sayBy}
 use Rattle.shift_script_form.proofs.NumberLaws.{Writes}
@@ -35,40 +36,40 @@ unfolding sayBy table fitting wordFits wordsOf isLetter
 board-row = refl
 
 module _ {a : List ℕ} {m : ℕ} (v : Writes Decimal m a) (h : m ≤ 255) where
-  pub start-row : sayBy table (bytes "START" ∷ a ∷ []) ≡ said (Start (record { 0 = m }))
+  pub start-row : sayBy table (bytes "START" ∷ a ∷ []) ≡ said (Do (Start (record { 0 = m })))
   unfolding sayBy table fitting wordFits wordsOf isLetter
   start-row = rw (v .number, v .value, small m h)
 
-  pub done-row : sayBy table (bytes "DONE" ∷ a ∷ []) ≡ said (Complete (record { 0 = m }) Full)
+  pub done-row : sayBy table (bytes "DONE" ∷ a ∷ []) ≡ said (Do (Complete (record { 0 = m }) Full))
   unfolding sayBy table fitting wordFits wordsOf isLetter
   done-row = rw (v .number, v .value, small m h)
 
-  pub cut-row : sayBy table (bytes "CUT" ∷ a ∷ []) ≡ said (Complete (record { 0 = m }) Cut)
+  pub cut-row : sayBy table (bytes "CUT" ∷ a ∷ []) ≡ said (Do (Complete (record { 0 = m }) Cut))
   unfolding sayBy table fitting wordFits wordsOf isLetter
   cut-row = rw (v .number, v .value, small m h)
 
-  pub end-row : sayBy table (bytes "END" ∷ a ∷ []) ≡ said (End m false)
+  pub end-row : sayBy table (bytes "END" ∷ a ∷ []) ≡ said (Do (End m false))
   unfolding sayBy table fitting wordFits wordsOf isLetter
   end-row = rw (v .number, v .value, small m h)
 
-  pub abort-row : sayBy table (bytes "ABORT" ∷ a ∷ []) ≡ said (End m true)
+  pub abort-row : sayBy table (bytes "ABORT" ∷ a ∷ []) ≡ said (Do (End m true))
   unfolding sayBy table fitting wordFits wordsOf isLetter
   abort-row = rw (v .number, v .value, small m h)
 
   module _ {c : List ℕ} {n : ℕ} (w : Writes Decimal n c) (k : n ≤ 255) where
-    pub down-row : sayBy table (bytes "DOWN" ∷ a ∷ c ∷ []) ≡ said (Mark (record { 0 = m }) (record { 0 = n }) Mark′.Down true)
+    pub down-row : sayBy table (bytes "DOWN" ∷ a ∷ c ∷ []) ≡ said (Do (Mark (record { 0 = m }) (record { 0 = n }) Mark′.Down true))
     unfolding sayBy table fitting wordFits wordsOf isLetter
     down-row = rw (v .number, v .value, w .number, w .value, small m h, small n k)
 
-    pub up-row : sayBy table (bytes "UP" ∷ a ∷ c ∷ []) ≡ said (Mark (record { 0 = m }) (record { 0 = n }) Mark′.Down false)
+    pub up-row : sayBy table (bytes "UP" ∷ a ∷ c ∷ []) ≡ said (Do (Mark (record { 0 = m }) (record { 0 = n }) Mark′.Down false))
     unfolding sayBy table fitting wordFits wordsOf isLetter
     up-row = rw (v .number, v .value, w .number, w .value, small m h, small n k)
 
-    pub reserve-row : sayBy table (bytes "RESERVE" ∷ a ∷ c ∷ []) ≡ said (Mark (record { 0 = m }) (record { 0 = n }) Mark′.Reserved true)
+    pub reserve-row : sayBy table (bytes "RESERVE" ∷ a ∷ c ∷ []) ≡ said (Do (Mark (record { 0 = m }) (record { 0 = n }) Mark′.Reserved true))
     unfolding sayBy table fitting wordFits wordsOf isLetter
     reserve-row = rw (v .number, v .value, w .number, w .value, small m h, small n k)
 
-    pub unreserve-row : sayBy table (bytes "UNRESERVE" ∷ a ∷ c ∷ []) ≡ said (Mark (record { 0 = m }) (record { 0 = n }) Mark′.Reserved false)
+    pub unreserve-row : sayBy table (bytes "UNRESERVE" ∷ a ∷ c ∷ []) ≡ said (Do (Mark (record { 0 = m }) (record { 0 = n }) Mark′.Reserved false))
     unfolding sayBy table fitting wordFits wordsOf isLetter
     unreserve-row = rw (v .number, v .value, w .number, w .value, small m h, small n k)
 
@@ -76,11 +77,11 @@ module _ {a : List ℕ} {m : ℕ} (v : Writes Decimal m a) (h : m ≤ 255) where
     unfolding sayBy table fitting wordFits wordsOf isLetter
     status-row = rw (v .number, v .value, w .number, w .value, small m h, small n k)
 
-    pub return-row : {d : List ℕ} {i : ℕ} → Writes Decimal i d → i ≤ 255 → sayBy table (bytes "RETURN" ∷ a ∷ c ∷ d ∷ []) ≡ said (Return m (record { 0 = n }) (record { 0 = i }))
+    pub return-row : {d : List ℕ} {i : ℕ} → Writes Decimal i d → i ≤ 255 → sayBy table (bytes "RETURN" ∷ a ∷ c ∷ d ∷ []) ≡ said (Do (Return m (record { 0 = n }) (record { 0 = i })))
     unfolding sayBy table fitting wordFits wordsOf isLetter
     return-row {i = i} x l = rw (v .number, v .value, w .number, w .value, x .number, x .value, small m h, small n k, small i l)
 
-  pub fail-row : {c : List ℕ} {n : ℕ} → Writes Octal n c → n ≤ 255 → sayBy table (bytes "FAIL" ∷ a ∷ c ∷ []) ≡ said (Complete (record { 0 = m }) (Failed n))
+  pub fail-row : {c : List ℕ} {n : ℕ} → Writes Octal n c → n ≤ 255 → sayBy table (bytes "FAIL" ∷ a ∷ c ∷ []) ≡ said (Do (Complete (record { 0 = m }) (Failed n)))
   unfolding sayBy table fitting wordFits wordsOf isLetter
   fail-row {n = n} w k = rw (v .number, v .value, w .number, w .value, small m h, small n k)
 

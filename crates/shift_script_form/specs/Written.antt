@@ -11,9 +11,10 @@ use Rattle.packets.specs.declared.How.the-variants.{Full, Cut, Failed}
 use Rattle.line_words.specs.declared.Base.{Base}
 use Rattle.line_words.specs.declared.Base.the-variants.{Decimal, Octal}
 use Rattle.line_words.specs.Forms.{IsWord, baseOf}
+use Rattle.packets.specs.declared.Act.the-variants.{Start, Complete, End, Return, Mark}
 use Rattle.shift_script.specs.declared.Line.{Line}
-use Rattle.shift_script.specs.declared.Line.the-variants.{NoCall, Echo, Deck, Select, Board, Submit, Start, Complete}
-use Rattle.shift_script.specs.declared.Line.the-variants.{End, Return, Mark, Release, Delete, Status, Key}
+use Rattle.shift_script.specs.declared.Line.the-variants.{NoCall, Echo, Deck, Select, Board, Submit, Do}
+use Rattle.shift_script.specs.declared.Line.the-variants.{Release, Delete, Status, Key}
 
 -- words with single spaces between them
 abbrev pub spaced : List (List ℕ) → List ℕ
@@ -45,17 +46,17 @@ callWords Board id = bytes "BOARD" ∷ []
 callWords (Submit s) id =
     bytes "SUBMIT"
     ∷ decimal (s .place) ∷ decimal (s .packet) ∷ octal (s .function) ∷ decimal (s .channel .0) ∷ decimal (s .at) ∷ decimal (s .to) ∷ []
-callWords (Start channel) id = bytes "START" ∷ decimal (channel .0) ∷ []
-callWords (Complete channel Full) id = bytes "DONE" ∷ decimal (channel .0) ∷ []
-callWords (Complete channel Cut) id = bytes "CUT" ∷ decimal (channel .0) ∷ []
-callWords (Complete channel (Failed code)) id = bytes "FAIL" ∷ decimal (channel .0) ∷ octal code ∷ []
-callWords (End place false) id = bytes "END" ∷ decimal place ∷ []
-callWords (End place true) id = bytes "ABORT" ∷ decimal place ∷ []
-callWords (Return place channel unit) id = bytes "RETURN" ∷ decimal place ∷ decimal (channel .0) ∷ decimal (unit .0) ∷ []
-callWords (Mark channel unit Mark′.Down true) id = bytes "DOWN" ∷ decimal (channel .0) ∷ decimal (unit .0) ∷ []
-callWords (Mark channel unit Mark′.Down false) id = bytes "UP" ∷ decimal (channel .0) ∷ decimal (unit .0) ∷ []
-callWords (Mark channel unit Mark′.Reserved true) id = bytes "RESERVE" ∷ decimal (channel .0) ∷ decimal (unit .0) ∷ []
-callWords (Mark channel unit Mark′.Reserved false) id = bytes "UNRESERVE" ∷ decimal (channel .0) ∷ decimal (unit .0) ∷ []
+callWords (Do (Start channel)) id = bytes "START" ∷ decimal (channel .0) ∷ []
+callWords (Do (Complete channel Full)) id = bytes "DONE" ∷ decimal (channel .0) ∷ []
+callWords (Do (Complete channel Cut)) id = bytes "CUT" ∷ decimal (channel .0) ∷ []
+callWords (Do (Complete channel (Failed code))) id = bytes "FAIL" ∷ decimal (channel .0) ∷ octal code ∷ []
+callWords (Do (End place false)) id = bytes "END" ∷ decimal place ∷ []
+callWords (Do (End place true)) id = bytes "ABORT" ∷ decimal place ∷ []
+callWords (Do (Return place channel unit)) id = bytes "RETURN" ∷ decimal place ∷ decimal (channel .0) ∷ decimal (unit .0) ∷ []
+callWords (Do (Mark channel unit Mark′.Down true)) id = bytes "DOWN" ∷ decimal (channel .0) ∷ decimal (unit .0) ∷ []
+callWords (Do (Mark channel unit Mark′.Down false)) id = bytes "UP" ∷ decimal (channel .0) ∷ decimal (unit .0) ∷ []
+callWords (Do (Mark channel unit Mark′.Reserved true)) id = bytes "RESERVE" ∷ decimal (channel .0) ∷ decimal (unit .0) ∷ []
+callWords (Do (Mark channel unit Mark′.Reserved false)) id = bytes "UNRESERVE" ∷ decimal (channel .0) ∷ decimal (unit .0) ∷ []
 callWords Release id = bytes "RELEASE" ∷ id ∷ []
 callWords Delete id = bytes "DELETE" ∷ id ∷ []
 callWords (Status place packet) id = bytes "STATUS" ∷ decimal place ∷ decimal packet ∷ []
@@ -79,13 +80,13 @@ Sayable Select id = id ≡ []
 Sayable Board id = id ≡ []
 Sayable (Submit s) id =
     (id ≡ []) × (s .place ≤ 255) × (s .packet ≤ 255) × (s .function ≤ 255) × (s .channel .0 ≤ 255) × (s .at < 10 ^ 9) × (s .to < 10 ^ 9)
-Sayable (Start channel) id = (id ≡ []) × (channel .0 ≤ 255)
-Sayable (Complete channel Full) id = (id ≡ []) × (channel .0 ≤ 255)
-Sayable (Complete channel Cut) id = (id ≡ []) × (channel .0 ≤ 255)
-Sayable (Complete channel (Failed code)) id = (id ≡ []) × (channel .0 ≤ 255) × (code ≤ 255)
-Sayable (End place inError) id = (id ≡ []) × (place ≤ 255)
-Sayable (Return place channel unit) id = (id ≡ []) × (place ≤ 255) × (channel .0 ≤ 255) × (unit .0 ≤ 255)
-Sayable (Mark channel unit mark on) id = (id ≡ []) × (channel .0 ≤ 255) × (unit .0 ≤ 255)
+Sayable (Do (Start channel)) id = (id ≡ []) × (channel .0 ≤ 255)
+Sayable (Do (Complete channel Full)) id = (id ≡ []) × (channel .0 ≤ 255)
+Sayable (Do (Complete channel Cut)) id = (id ≡ []) × (channel .0 ≤ 255)
+Sayable (Do (Complete channel (Failed code))) id = (id ≡ []) × (channel .0 ≤ 255) × (code ≤ 255)
+Sayable (Do (End place inError)) id = (id ≡ []) × (place ≤ 255)
+Sayable (Do (Return place channel unit)) id = (id ≡ []) × (place ≤ 255) × (channel .0 ≤ 255) × (unit .0 ≤ 255)
+Sayable (Do (Mark channel unit mark on)) id = (id ≡ []) × (channel .0 ≤ 255) × (unit .0 ≤ 255)
 Sayable Release id = IsWord id × (length id ≤ 247)
 Sayable Delete id = IsWord id × (length id ≤ 247)
 Sayable (Status place packet) id = (id ≡ []) × (place ≤ 255) × (packet ≤ 255)

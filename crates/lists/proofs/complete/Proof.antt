@@ -1,7 +1,7 @@
 -- `lists::complete` meets its contract: the rules' outcome of a completion. Assumes nothing.
 use mathlib.Core.Path.{refl, sym, ap, _∙_}
 use Rattle.units.specs.State.{unitsFrom}
-use Rattle.packets.specs.Rules.{Complete}
+use Rattle.packets.proofs.ByNumber.{Complete}
 use Rattle.lists.proofs.Calls.{relisted-is, refused-is}
 use Rattle.lists.proofs.Full.{entries, places}
 use Rattle.lists.proofs.Completes.{complete-verdict, complete-is, unchanged}

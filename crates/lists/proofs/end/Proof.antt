@@ -1,6 +1,6 @@
 -- `lists::end` meets its contract: the rules' outcome of a job's end. Assumes nothing.
 use mathlib.Core.Path.{refl, _∙_}
-use Rattle.packets.specs.Rules.{End}
+use Rattle.packets.proofs.ByNumber.{End}
 use Rattle.lists.proofs.Calls.{relisted-is, refused-is, end-verdict, end-is}
 use Rattle.lists.proofs.Full.{entries, places}
 use borrow.Author.Needs.{needs}

@@ -1,6 +1,6 @@
 -- `lists::mark` meets its contract: the rules' outcome of a mark. Assumes nothing.
 use mathlib.Core.Path.{_∙_}
-use Rattle.packets.specs.Rules.{Mark}
+use Rattle.packets.proofs.ByNumber.{Mark}
 use Rattle.lists.proofs.Calls.{refused-is, mark-verdict, mark-is}
 use borrow.Author.Needs.{needs}
 use Rattle.lists.proofs.mark.Statement.{statement}

@@ -1,6 +1,6 @@
 -- `lists::return_unit` meets its contract: the rules' outcome of a return. Assumes nothing.
 use mathlib.Core.Path.{refl, _∙_}
-use Rattle.packets.specs.Rules.{Return}
+use Rattle.packets.proofs.ByNumber.{Return}
 use Rattle.lists.proofs.Calls.{relisted-is, refused-is}
 use Rattle.lists.proofs.Full.{entries, places}
 use Rattle.lists.proofs.Returns.{return-verdict, return-is}

@@ -5,7 +5,8 @@ use mathlib.Core.Path.{_≡_, refl, ap, _∙_}
 use mathlib.Core.Logic.{⊎-elim}
 use lib.ListN.{length, getD}
 use Rattle.packets.specs.Picks.{find}
-use Rattle.packets.specs.Rules.{Start, startableOn}
+use Rattle.packets.specs.Rules.{startableOn}
+use Rattle.packets.proofs.ByNumber.{Start}
 use Rattle.packets.specs.State.{placeOf, packetOf}
 use Rattle.packets.specs.declared.Found.the-variants.{At}
 use Rattle.packets_queue.specs.Padded.{listOf}

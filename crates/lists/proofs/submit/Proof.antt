@@ -1,7 +1,7 @@
 -- `lists::submit` meets its contract: the rules' outcome of a submission. Assumes nothing.
 use mathlib.Core.Path.{refl, _∙_}
 use native.Mathlib.Omega.{arith}
-use Rattle.packets.specs.Rules.{Submit}
+use Rattle.packets.proofs.ByNumber.{Submit}
 use Rattle.lists.proofs.Calls.{refused-is}
 use Rattle.lists.proofs.Full.{entries, places}
 use Rattle.lists.proofs.Submits.{submit-verdict, submit-is}

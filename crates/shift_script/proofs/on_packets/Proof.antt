@@ -5,8 +5,9 @@ use mathlib.Core.Path.{sym, ap, ap₂, _∙_}
 use Rattle.line_words.specs.Forms.{wordsOf}
 use Rattle.numbers.specs.declared.ChannelNumber.{ChannelNumber}
 use Rattle.packets.specs.declared.How.the-variants.{Full, Cut, Failed}
+use Rattle.packets.specs.declared.Act.the-variants.{Start, Complete}
 use Rattle.shift_script.specs.Script.{submissionOf, said, sayBy, table}
-use Rattle.shift_script.specs.declared.Line.the-variants.{Submit, Start, Complete}
+use Rattle.shift_script.specs.declared.Line.the-variants.{Submit, Do}
 use Rattle.shift_script.specs.declared.Submission.{Submission}
 use borrow.Author.Needs.{needs}
 use Rattle.shift_script.proofs.on_packets.Statement.{statement}
@@ -87,7 +88,7 @@ plain-requires-5 c κs = search needs
 
 returns-5 : tie.Need-returns-5
 unfolding sayBy table
-returns-5 c = c .plain5 .ensures ∙ ap (λ (c : ChannelNumber). said (Start c)) (c .before .channel-at .ensures) ∙ rw (sym (c .before .before .before .before .before .before .before .before .before .before .before .before .before .before .before .fits2 .ensures) ∙ c .before .before .before .before .before .before .before .before .before .before .before .before .before .before .if1 .left, sym (c .before .before .before .before .before .before .before .before .before .before .before .before .fits3 .ensures) ∙ c .before .before .before .before .before .before .before .before .before .before .before .if2 .left, sym (c .before .before .before .before .before .before .before .before .before .fits4 .ensures) ∙ c .before .before .before .before .before .before .before .before .if3 .left, sym (c .before .before .before .before .before .before .fits5 .ensures) ∙ c .before .before .before .before .before .if4 .left, sym (c .before .before .before .fits6 .ensures) ∙ c .before .before .if5 .taken)
+returns-5 c = c .plain5 .ensures ∙ ap (λ (c : ChannelNumber). said (Do (Start c))) (c .before .channel-at .ensures) ∙ rw (sym (c .before .before .before .before .before .before .before .before .before .before .before .before .before .before .before .fits2 .ensures) ∙ c .before .before .before .before .before .before .before .before .before .before .before .before .before .before .if1 .left, sym (c .before .before .before .before .before .before .before .before .before .before .before .before .fits3 .ensures) ∙ c .before .before .before .before .before .before .before .before .before .before .before .if2 .left, sym (c .before .before .before .before .before .before .before .before .before .fits4 .ensures) ∙ c .before .before .before .before .before .before .before .before .if3 .left, sym (c .before .before .before .before .before .before .fits5 .ensures) ∙ c .before .before .before .before .before .if4 .left, sym (c .before .before .before .fits6 .ensures) ∙ c .before .before .if5 .taken)
 
 slice-aggregate-fits-6 : tie.Need-slice-aggregate-fits-6
 slice-aggregate-fits-6 c = search needs
@@ -103,7 +104,7 @@ plain-requires-6 c κs = search needs
 
 returns-6 : tie.Need-returns-6
 unfolding sayBy table
-returns-6 c = c .plain6 .ensures ∙ ap (λ (c : ChannelNumber). said (Complete c Full)) (c .before .channel-at2 .ensures) ∙ rw (sym (c .before .before .before .before .before .before .before .before .before .before .before .before .before .before .before .before .before .before .fits2 .ensures) ∙ c .before .before .before .before .before .before .before .before .before .before .before .before .before .before .before .before .before .if1 .left, sym (c .before .before .before .before .before .before .before .before .before .before .before .before .before .before .before .fits3 .ensures) ∙ c .before .before .before .before .before .before .before .before .before .before .before .before .before .before .if2 .left, sym (c .before .before .before .before .before .before .before .before .before .before .before .before .fits4 .ensures) ∙ c .before .before .before .before .before .before .before .before .before .before .before .if3 .left, sym (c .before .before .before .before .before .before .before .before .before .fits5 .ensures) ∙ c .before .before .before .before .before .before .before .before .if4 .left, sym (c .before .before .before .before .before .before .fits6 .ensures) ∙ c .before .before .before .before .before .if5 .left, sym (c .before .before .before .fits7 .ensures) ∙ c .before .before .if6 .taken)
+returns-6 c = c .plain6 .ensures ∙ ap (λ (c : ChannelNumber). said (Do (Complete c Full))) (c .before .channel-at2 .ensures) ∙ rw (sym (c .before .before .before .before .before .before .before .before .before .before .before .before .before .before .before .before .before .before .fits2 .ensures) ∙ c .before .before .before .before .before .before .before .before .before .before .before .before .before .before .before .before .before .if1 .left, sym (c .before .before .before .before .before .before .before .before .before .before .before .before .before .before .before .fits3 .ensures) ∙ c .before .before .before .before .before .before .before .before .before .before .before .before .before .before .if2 .left, sym (c .before .before .before .before .before .before .before .before .before .before .before .before .fits4 .ensures) ∙ c .before .before .before .before .before .before .before .before .before .before .before .if3 .left, sym (c .before .before .before .before .before .before .before .before .before .fits5 .ensures) ∙ c .before .before .before .before .before .before .before .before .if4 .left, sym (c .before .before .before .before .before .before .fits6 .ensures) ∙ c .before .before .before .before .before .if5 .left, sym (c .before .before .before .fits7 .ensures) ∙ c .before .before .if6 .taken)
 
 slice-aggregate-fits-7 : tie.Need-slice-aggregate-fits-7
 slice-aggregate-fits-7 c = search needs
@@ -119,7 +120,7 @@ plain-requires-7 c κs = search needs
 
 returns-7 : tie.Need-returns-7
 unfolding sayBy table
-returns-7 c = c .plain7 .ensures ∙ ap (λ (c : ChannelNumber). said (Complete c Cut)) (c .before .channel-at3 .ensures) ∙ rw (sym (c .before .before .before .before .before .before .before .before .before .before .before .before .before .before .before .before .before .before .before .before .before .fits2 .ensures) ∙ c .before .before .before .before .before .before .before .before .before .before .before .before .before .before .before .before .before .before .before .before .if1 .left, sym (c .before .before .before .before .before .before .before .before .before .before .before .before .before .before .before .before .before .before .fits3 .ensures) ∙ c .before .before .before .before .before .before .before .before .before .before .before .before .before .before .before .before .before .if2 .left, sym (c .before .before .before .before .before .before .before .before .before .before .before .before .before .before .before .fits4 .ensures) ∙ c .before .before .before .before .before .before .before .before .before .before .before .before .before .before .if3 .left, sym (c .before .before .before .before .before .before .before .before .before .before .before .before .fits5 .ensures) ∙ c .before .before .before .before .before .before .before .before .before .before .before .if4 .left, sym (c .before .before .before .before .before .before .before .before .before .fits6 .ensures) ∙ c .before .before .before .before .before .before .before .before .if5 .left, sym (c .before .before .before .before .before .before .fits7 .ensures) ∙ c .before .before .before .before .before .if6 .left, sym (c .before .before .before .fits8 .ensures) ∙ c .before .before .if7 .taken)
+returns-7 c = c .plain7 .ensures ∙ ap (λ (c : ChannelNumber). said (Do (Complete c Cut))) (c .before .channel-at3 .ensures) ∙ rw (sym (c .before .before .before .before .before .before .before .before .before .before .before .before .before .before .before .before .before .before .before .before .before .fits2 .ensures) ∙ c .before .before .before .before .before .before .before .before .before .before .before .before .before .before .before .before .before .before .before .before .if1 .left, sym (c .before .before .before .before .before .before .before .before .before .before .before .before .before .before .before .before .before .before .fits3 .ensures) ∙ c .before .before .before .before .before .before .before .before .before .before .before .before .before .before .before .before .before .if2 .left, sym (c .before .before .before .before .before .before .before .before .before .before .before .before .before .before .before .fits4 .ensures) ∙ c .before .before .before .before .before .before .before .before .before .before .before .before .before .before .if3 .left, sym (c .before .before .before .before .before .before .before .before .before .before .before .before .fits5 .ensures) ∙ c .before .before .before .before .before .before .before .before .before .before .before .if4 .left, sym (c .before .before .before .before .before .before .before .before .before .fits6 .ensures) ∙ c .before .before .before .before .before .before .before .before .if5 .left, sym (c .before .before .before .before .before .before .fits7 .ensures) ∙ c .before .before .before .before .before .if6 .left, sym (c .before .before .before .fits8 .ensures) ∙ c .before .before .if7 .taken)
 
 slice-aggregate-fits-8 : tie.Need-slice-aggregate-fits-8
 slice-aggregate-fits-8 c = search needs
@@ -138,7 +139,7 @@ plain-requires-8 c κs = search needs
 
 returns-8 : tie.Need-returns-8
 unfolding sayBy table
-returns-8 c = c .plain8 .ensures ∙ ap₂ (λ (c : ChannelNumber) (f : ℕ). said (Complete c (Failed f))) (c .before .before .channel-at4 .ensures) (c .before .code-at .ensures) ∙ rw (sym (c .before .before .before .before .before .before .before .before .before .before .before .before .before .before .before .before .before .before .before .before .before .before .before .before .before .fits2 .ensures) ∙ c .before .before .before .before .before .before .before .before .before .before .before .before .before .before .before .before .before .before .before .before .before .before .before .before .if1 .left, sym (c .before .before .before .before .before .before .before .before .before .before .before .before .before .before .before .before .before .before .before .before .before .before .fits3 .ensures) ∙ c .before .before .before .before .before .before .before .before .before .before .before .before .before .before .before .before .before .before .before .before .before .if2 .left, sym (c .before .before .before .before .before .before .before .before .before .before .before .before .before .before .before .before .before .before .before .fits4 .ensures) ∙ c .before .before .before .before .before .before .before .before .before .before .before .before .before .before .before .before .before .before .if3 .left, sym (c .before .before .before .before .before .before .before .before .before .before .before .before .before .before .before .before .fits5 .ensures) ∙ c .before .before .before .before .before .before .before .before .before .before .before .before .before .before .before .if4 .left, sym (c .before .before .before .before .before .before .before .before .before .before .before .before .before .fits6 .ensures) ∙ c .before .before .before .before .before .before .before .before .before .before .before .before .if5 .left, sym (c .before .before .before .before .before .before .before .before .before .before .fits7 .ensures) ∙ c .before .before .before .before .before .before .before .before .before .if6 .left, sym (c .before .before .before .before .before .before .before .fits8 .ensures) ∙ c .before .before .before .before .before .before .if7 .left, sym (c .before .before .before .before .fits9 .ensures) ∙ c .before .before .before .if8 .taken)
+returns-8 c = c .plain8 .ensures ∙ ap₂ (λ (c : ChannelNumber) (f : ℕ). said (Do (Complete c (Failed f)))) (c .before .before .channel-at4 .ensures) (c .before .code-at .ensures) ∙ rw (sym (c .before .before .before .before .before .before .before .before .before .before .before .before .before .before .before .before .before .before .before .before .before .before .before .before .before .fits2 .ensures) ∙ c .before .before .before .before .before .before .before .before .before .before .before .before .before .before .before .before .before .before .before .before .before .before .before .before .if1 .left, sym (c .before .before .before .before .before .before .before .before .before .before .before .before .before .before .before .before .before .before .before .before .before .before .fits3 .ensures) ∙ c .before .before .before .before .before .before .before .before .before .before .before .before .before .before .before .before .before .before .before .before .before .if2 .left, sym (c .before .before .before .before .before .before .before .before .before .before .before .before .before .before .before .before .before .before .before .fits4 .ensures) ∙ c .before .before .before .before .before .before .before .before .before .before .before .before .before .before .before .before .before .before .if3 .left, sym (c .before .before .before .before .before .before .before .before .before .before .before .before .before .before .before .before .fits5 .ensures) ∙ c .before .before .before .before .before .before .before .before .before .before .before .before .before .before .before .if4 .left, sym (c .before .before .before .before .before .before .before .before .before .before .before .before .before .fits6 .ensures) ∙ c .before .before .before .before .before .before .before .before .before .before .before .before .if5 .left, sym (c .before .before .before .before .before .before .before .before .before .before .fits7 .ensures) ∙ c .before .before .before .before .before .before .before .before .before .if6 .left, sym (c .before .before .before .before .before .before .before .fits8 .ensures) ∙ c .before .before .before .before .before .before .if7 .left, sym (c .before .before .before .before .fits9 .ensures) ∙ c .before .before .before .if8 .taken)
 
 on-units-requires : tie.Need-on-units-requires
 on-units-requires c κs = search needs

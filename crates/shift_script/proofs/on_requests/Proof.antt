@@ -2,13 +2,14 @@
 -- Assumes nothing.
 use Prim.Native.Nat.{ℕ}
 use mathlib.Core.Path.{_≡_, sym, _∙_, ap₂}
+use Rattle.packets.specs.declared.Act.the-variants.{Return}
 use Rattle.shift_script.specs.Script.{said, sayBy, table}
-use Rattle.shift_script.specs.declared.Line.the-variants.{Return, Status}
+use Rattle.shift_script.specs.declared.Line.the-variants.{Status, Do}
 use borrow.Author.Needs.{needs}
 use Rattle.shift_script.proofs.on_requests.Statement.{statement}
 use Rattle.shift_script.proofs.on_requests.Tie as tie
 
-returning : {p q c d u v : ℕ} → p ≡ q → c ≡ d → u ≡ v → said (Return p (record { 0 = c }) (record { 0 = u })) ≡ said (Return q (record { 0 = d }) (record { 0 = v }))
+returning : {p q c d u v : ℕ} → p ≡ q → c ≡ d → u ≡ v → said (Do (Return p (record { 0 = c }) (record { 0 = u }))) ≡ said (Do (Return q (record { 0 = d }) (record { 0 = v })))
 returning e f g = rw (e, f, g)
 
 slice-aggregate-fits : tie.Need-slice-aggregate-fits

@@ -5,8 +5,9 @@ use mathlib.Core.Path.{sym, ap, ap₂, _∙_}
 use mathlib.Core.Bool.{true, false}
 use Rattle.numbers.specs.declared.ChannelNumber.{ChannelNumber}
 use Rattle.numbers.specs.declared.UnitNumber.{UnitNumber}
+use Rattle.packets.specs.declared.Act.the-variants.{End, Mark}
 use Rattle.shift_script.specs.Script.{said, sayBy, table}
-use Rattle.shift_script.specs.declared.Line.the-variants.{End, Mark}
+use Rattle.shift_script.specs.declared.Line.the-variants.{Do}
 use borrow.Author.Needs.{needs}
 use Rattle.shift_script.proofs.on_units.Statement.{statement}
 use Rattle.units.specs.declared.Mark.the-variants as Mark′
@@ -26,7 +27,7 @@ plain-requires c κs = search needs
 
 returns : tie.Need-returns
 unfolding sayBy table
-returns c = c .plain .ensures ∙ ap (λ (p : ℕ). said (End p false)) (c .before .small-at .ensures) ∙ rw (sym (c .before .before .before .fits2 .ensures) ∙ c .before .before .if1 .taken)
+returns c = c .plain .ensures ∙ ap (λ (p : ℕ). said (Do (End p false))) (c .before .small-at .ensures) ∙ rw (sym (c .before .before .before .fits2 .ensures) ∙ c .before .before .if1 .taken)
 
 slice-aggregate-fits-2 : tie.Need-slice-aggregate-fits-2
 slice-aggregate-fits-2 c = search needs
@@ -42,7 +43,7 @@ plain-requires-2 c κs = search needs
 
 returns-2 : tie.Need-returns-2
 unfolding sayBy table
-returns-2 c = c .plain2 .ensures ∙ ap (λ (p : ℕ). said (End p true)) (c .before .small-at2 .ensures) ∙ rw (sym (c .before .before .before .before .before .before .fits2 .ensures) ∙ c .before .before .before .before .before .if1 .left, sym (c .before .before .before .fits3 .ensures) ∙ c .before .before .if2 .taken)
+returns-2 c = c .plain2 .ensures ∙ ap (λ (p : ℕ). said (Do (End p true))) (c .before .small-at2 .ensures) ∙ rw (sym (c .before .before .before .before .before .before .fits2 .ensures) ∙ c .before .before .before .before .before .if1 .left, sym (c .before .before .before .fits3 .ensures) ∙ c .before .before .if2 .taken)
 
 slice-aggregate-fits-3 : tie.Need-slice-aggregate-fits-3
 slice-aggregate-fits-3 c = search needs
@@ -61,7 +62,7 @@ plain-requires-3 c κs = search needs
 
 returns-3 : tie.Need-returns-3
 unfolding sayBy table
-returns-3 c = c .plain3 .ensures ∙ ap₂ (λ (c : ChannelNumber) (u : UnitNumber). said (Mark c u Mark′.Down true)) (c .before .before .channel-at .ensures) (c .before .unit-at .ensures) ∙ rw (sym (c .before .before .before .before .before .before .before .before .before .before .fits2 .ensures) ∙ c .before .before .before .before .before .before .before .before .before .if1 .left, sym (c .before .before .before .before .before .before .before .fits3 .ensures) ∙ c .before .before .before .before .before .before .if2 .left, sym (c .before .before .before .before .fits4 .ensures) ∙ c .before .before .before .if3 .taken)
+returns-3 c = c .plain3 .ensures ∙ ap₂ (λ (c : ChannelNumber) (u : UnitNumber). said (Do (Mark c u Mark′.Down true))) (c .before .before .channel-at .ensures) (c .before .unit-at .ensures) ∙ rw (sym (c .before .before .before .before .before .before .before .before .before .before .fits2 .ensures) ∙ c .before .before .before .before .before .before .before .before .before .if1 .left, sym (c .before .before .before .before .before .before .before .fits3 .ensures) ∙ c .before .before .before .before .before .before .if2 .left, sym (c .before .before .before .before .fits4 .ensures) ∙ c .before .before .before .if3 .taken)
 
 slice-aggregate-fits-4 : tie.Need-slice-aggregate-fits-4
 slice-aggregate-fits-4 c = search needs
@@ -80,7 +81,7 @@ plain-requires-4 c κs = search needs
 
 returns-4 : tie.Need-returns-4
 unfolding sayBy table
-returns-4 c = c .plain4 .ensures ∙ ap₂ (λ (c : ChannelNumber) (u : UnitNumber). said (Mark c u Mark′.Down false)) (c .before .before .channel-at2 .ensures) (c .before .unit-at2 .ensures) ∙ rw (sym (c .before .before .before .before .before .before .before .before .before .before .before .before .before .fits2 .ensures) ∙ c .before .before .before .before .before .before .before .before .before .before .before .before .if1 .left, sym (c .before .before .before .before .before .before .before .before .before .before .fits3 .ensures) ∙ c .before .before .before .before .before .before .before .before .before .if2 .left, sym (c .before .before .before .before .before .before .before .fits4 .ensures) ∙ c .before .before .before .before .before .before .if3 .left, sym (c .before .before .before .before .fits5 .ensures) ∙ c .before .before .before .if4 .taken)
+returns-4 c = c .plain4 .ensures ∙ ap₂ (λ (c : ChannelNumber) (u : UnitNumber). said (Do (Mark c u Mark′.Down false))) (c .before .before .channel-at2 .ensures) (c .before .unit-at2 .ensures) ∙ rw (sym (c .before .before .before .before .before .before .before .before .before .before .before .before .before .fits2 .ensures) ∙ c .before .before .before .before .before .before .before .before .before .before .before .before .if1 .left, sym (c .before .before .before .before .before .before .before .before .before .before .fits3 .ensures) ∙ c .before .before .before .before .before .before .before .before .before .if2 .left, sym (c .before .before .before .before .before .before .before .fits4 .ensures) ∙ c .before .before .before .before .before .before .if3 .left, sym (c .before .before .before .before .fits5 .ensures) ∙ c .before .before .before .if4 .taken)
 
 slice-aggregate-fits-5 : tie.Need-slice-aggregate-fits-5
 slice-aggregate-fits-5 c = search needs
@@ -99,7 +100,7 @@ plain-requires-5 c κs = search needs
 
 returns-5 : tie.Need-returns-5
 unfolding sayBy table
-returns-5 c = c .plain5 .ensures ∙ ap₂ (λ (c : ChannelNumber) (u : UnitNumber). said (Mark c u Mark′.Reserved true)) (c .before .before .channel-at3 .ensures) (c .before .unit-at3 .ensures) ∙ rw (sym (c .before .before .before .before .before .before .before .before .before .before .before .before .before .before .before .before .fits2 .ensures) ∙ c .before .before .before .before .before .before .before .before .before .before .before .before .before .before .before .if1 .left, sym (c .before .before .before .before .before .before .before .before .before .before .before .before .before .fits3 .ensures) ∙ c .before .before .before .before .before .before .before .before .before .before .before .before .if2 .left, sym (c .before .before .before .before .before .before .before .before .before .before .fits4 .ensures) ∙ c .before .before .before .before .before .before .before .before .before .if3 .left, sym (c .before .before .before .before .before .before .before .fits5 .ensures) ∙ c .before .before .before .before .before .before .if4 .left, sym (c .before .before .before .before .fits6 .ensures) ∙ c .before .before .before .if5 .taken)
+returns-5 c = c .plain5 .ensures ∙ ap₂ (λ (c : ChannelNumber) (u : UnitNumber). said (Do (Mark c u Mark′.Reserved true))) (c .before .before .channel-at3 .ensures) (c .before .unit-at3 .ensures) ∙ rw (sym (c .before .before .before .before .before .before .before .before .before .before .before .before .before .before .before .before .fits2 .ensures) ∙ c .before .before .before .before .before .before .before .before .before .before .before .before .before .before .before .if1 .left, sym (c .before .before .before .before .before .before .before .before .before .before .before .before .before .fits3 .ensures) ∙ c .before .before .before .before .before .before .before .before .before .before .before .before .if2 .left, sym (c .before .before .before .before .before .before .before .before .before .before .fits4 .ensures) ∙ c .before .before .before .before .before .before .before .before .before .if3 .left, sym (c .before .before .before .before .before .before .before .fits5 .ensures) ∙ c .before .before .before .before .before .before .if4 .left, sym (c .before .before .before .before .fits6 .ensures) ∙ c .before .before .before .if5 .taken)
 
 slice-aggregate-fits-6 : tie.Need-slice-aggregate-fits-6
 slice-aggregate-fits-6 c = search needs
@@ -118,7 +119,7 @@ plain-requires-6 c κs = search needs
 
 returns-6 : tie.Need-returns-6
 unfolding sayBy table
-returns-6 c = c .plain6 .ensures ∙ ap₂ (λ (c : ChannelNumber) (u : UnitNumber). said (Mark c u Mark′.Reserved false)) (c .before .before .channel-at4 .ensures) (c .before .unit-at4 .ensures) ∙ rw (sym (c .before .before .before .before .before .before .before .before .before .before .before .before .before .before .before .before .before .before .before .fits2 .ensures) ∙ c .before .before .before .before .before .before .before .before .before .before .before .before .before .before .before .before .before .before .if1 .left, sym (c .before .before .before .before .before .before .before .before .before .before .before .before .before .before .before .before .fits3 .ensures) ∙ c .before .before .before .before .before .before .before .before .before .before .before .before .before .before .before .if2 .left, sym (c .before .before .before .before .before .before .before .before .before .before .before .before .before .fits4 .ensures) ∙ c .before .before .before .before .before .before .before .before .before .before .before .before .if3 .left, sym (c .before .before .before .before .before .before .before .before .before .before .fits5 .ensures) ∙ c .before .before .before .before .before .before .before .before .before .if4 .left, sym (c .before .before .before .before .before .before .before .fits6 .ensures) ∙ c .before .before .before .before .before .before .if5 .left, sym (c .before .before .before .before .fits7 .ensures) ∙ c .before .before .before .if6 .taken)
+returns-6 c = c .plain6 .ensures ∙ ap₂ (λ (c : ChannelNumber) (u : UnitNumber). said (Do (Mark c u Mark′.Reserved false))) (c .before .before .channel-at4 .ensures) (c .before .unit-at4 .ensures) ∙ rw (sym (c .before .before .before .before .before .before .before .before .before .before .before .before .before .before .before .before .before .before .before .fits2 .ensures) ∙ c .before .before .before .before .before .before .before .before .before .before .before .before .before .before .before .before .before .before .if1 .left, sym (c .before .before .before .before .before .before .before .before .before .before .before .before .before .before .before .before .fits3 .ensures) ∙ c .before .before .before .before .before .before .before .before .before .before .before .before .before .before .before .if2 .left, sym (c .before .before .before .before .before .before .before .before .before .before .before .before .before .fits4 .ensures) ∙ c .before .before .before .before .before .before .before .before .before .before .before .before .if3 .left, sym (c .before .before .before .before .before .before .before .before .before .before .fits5 .ensures) ∙ c .before .before .before .before .before .before .before .before .before .if4 .left, sym (c .before .before .before .before .before .before .before .fits6 .ensures) ∙ c .before .before .before .before .before .before .if5 .left, sym (c .before .before .before .before .fits7 .ensures) ∙ c .before .before .before .if6 .taken)
 
 on-requests-requires : tie.Need-on-requests-requires
 on-requests-requires c κs = search needs
