@@ -16,7 +16,7 @@ use Rattle.schedule_list.specs.declared.Schedule.{Schedule}
 use Rattle.schedule.specs.Calls.{closing, deleted, released, returned}
 use Rattle.schedule.specs.declared.Changed.{Changed}
 use Rattle.schedule_deck.specs.Reading.{DeckEntered}
-use Rattle.packets.specs.Demand.{fresh}
+use Rattle.packets.specs.History.{fresh}
 use Rattle.packets.specs.Rules.{Do}
 use Rattle.packets.specs.declared.Act.{Act}
 use Rattle.packets.specs.declared.Act.the-variants.{Mark}

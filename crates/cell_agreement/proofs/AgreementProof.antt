@@ -20,7 +20,7 @@ use Rattle.schedule_list.specs.declared.Schedule.{Schedule}
 use Rattle.schedule.specs.Calls as Schedules
 use Rattle.schedule_candidates.specs.Candidates.{candidate, lowerStands, running, runningAlone}
 use Rattle.channels.specs.declared.Configuration.{Configuration}
-use Rattle.packets.specs.Demand.{emptyPlace, fresh}
+use Rattle.packets.specs.History.{emptyPlace, fresh}
 use Rattle.packets.proofs.Inv.{Inv}
 use Rattle.packets.specs.Rules as Rules
 use Rattle.packets.specs.Rules.{accept, answer, refusal, step}

@@ -5,7 +5,7 @@ use lib.ListN.{length, List·getD-eq-default}
 use Rattle.channels.specs.declared.Configuration.{Configuration}
 use Rattle.configuration_units.specs.Fresh.{freshUnits}
 use Rattle.configuration_units.proofs.FreshLaws.{fresh-free}
-use Rattle.packets.specs.Demand.{fresh}
+use Rattle.packets.specs.History.{fresh}
 use Rattle.packets.proofs.Inv.{Inv}
 use Rattle.packets.specs.State.{State, noJob, stateIn}
 use Rattle.packets.proofs.Steps.{fresh-inv}

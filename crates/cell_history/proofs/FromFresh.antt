@@ -9,7 +9,7 @@ use Rattle.numbers.specs.declared.Refusal.{Refusal}
 use Rattle.channels.specs.declared.Configuration.{Configuration}
 use Rattle.configuration_units.specs.Fresh.{freshUnits}
 use Rattle.schedule_list.specs.InSchedule.{inSchedule}
-use Rattle.packets.specs.Demand.{fresh}
+use Rattle.packets.specs.History.{fresh}
 use Rattle.packets.specs.Rules as Rules
 use Rattle.packets.specs.State.{State}
 use Rattle.packets.specs.declared.Verdict.the-variants.{Granted}

@@ -7,7 +7,7 @@ use Rattle.numbers.proofs.Tests.{by-bool, never}
 use Rattle.numbers.specs.declared.Outcome.{Outcome}
 use Rattle.numbers.specs.declared.Outcome.the-variants as Outcomes
 use Rattle.schedule_list.specs.InSchedule.{inSchedule}
-use Rattle.packets.specs.Demand as Told
+use Rattle.packets.specs.History as Told
 use Rattle.packets.specs.Demand.{events}
 use Rattle.packets.specs.Rules as Rules
 use Rattle.packets.specs.State.{State}

@@ -6,7 +6,7 @@ use mathlib.Core.List.{List, [], _∷_, _++_}
 use mathlib.Core.Option.{Option, none, some}
 use Rattle.numbers.specs.declared.Outcome.{Outcome}
 use Rattle.numbers.specs.declared.Outcome.the-variants as Outcomes
-use Rattle.packets.specs.Demand as Told
+use Rattle.packets.specs.History as Told
 use Rattle.packets.specs.Rules as Rules
 use Rattle.packets.specs.State.{State}
 use Rattle.packets.specs.declared.Answer.the-variants.{Done}

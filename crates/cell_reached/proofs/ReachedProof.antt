@@ -12,8 +12,9 @@ use Rattle.packets.specs.Always.{Always}
 use Rattle.packets.proofs.AlwaysProof.{invariants}
 use Rattle.packets.specs.Apart.{Apart, Fits, Fitting, Part, inCore}
 use Rattle.packets.proofs.ApartProof.{disjoint}
-use Rattle.packets.specs.Demand as Told
-use Rattle.packets.specs.Demand.{events, fresh}
+use Rattle.packets.specs.History as Told
+use Rattle.packets.specs.Demand.{events}
+use Rattle.packets.specs.History.{fresh}
 use Rattle.packets.specs.Rules as Rules
 use Rattle.packets.specs.State.{State}
 use Rattle.packets.specs.declared.How.{How}

@@ -19,7 +19,7 @@ use Rattle.units.specs.declared.Unit.{Unit as UnitState}
 use Rattle.channels.specs.declared.Configuration.{Configuration}
 use Rattle.configuration_units.specs.Fresh.{freshUnits}
 use Rattle.schedule.specs.Calls.{deleted, released}
-use Rattle.packets.specs.Demand.{fresh}
+use Rattle.packets.specs.History.{fresh}
 use Rattle.packets.specs.Picks.{All, find}
 use Rattle.packets.specs.Rules as Rules
 use Rattle.packets.specs.Rules.{accept, closed, completed, finished, isDone, isTrouble, locked, returnIfDone, siteOf, startable, started, submitted}

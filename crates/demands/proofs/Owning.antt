@@ -9,7 +9,7 @@ use Rattle.numbers.specs.declared.Outcome.the-variants.{Done}
 use Rattle.units.specs.State.{unitIn}
 use Rattle.channels.specs.declared.Configuration.{Configuration}
 use Rattle.assign_drum.specs.Drum.{noArea}
-use Rattle.packets.specs.Demand as Told
+use Rattle.packets.specs.History as Told
 use Rattle.packets.specs.Rules as Rules
 use Rattle.packets.specs.State.{State, heldBy, inMotion, isEmpty, jobIn, noCore, packetIn, stateIn}
 use Rattle.packets.specs.declared.Assignment.{Assignment}

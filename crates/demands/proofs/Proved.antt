@@ -77,7 +77,7 @@ use Rattle.schedule_list.specs.declared.Schedule.{Schedule}
 use Rattle.schedule_deck.specs.Report.{deckSchedule}
 use Rattle.packets.specs.declared.Lists.{Lists}
 use Rattle.cell.specs.declared.DeckAnswer.{DeckAnswer}
-use Rattle.packets.specs.Demand as Told
+use Rattle.packets.specs.History as Told
 
 -- ---- demand 1
 

@@ -29,7 +29,7 @@ use Rattle.cards_request.specs.declared.Verdict.{Verdict}
 use Rattle.cards_request.specs.declared.Verdict.the-variants.{Good, Wrong}
 use Rattle.cards_full.specs.Full.{fits, takesFull, writeAnswer, written, textOf}
 use Rattle.assign_heads.specs.Sums.{howMany, sumTo}
-use Rattle.packets.specs.Demand.{fresh}
+use Rattle.packets.specs.History.{fresh}
 use Rattle.packets.specs.State.{State}
 use Rattle.cell.specs.Calls.{freshCell}
 use Rattle.cell_history.specs.Heard.{inside}

@@ -1,13 +1,12 @@
 -- The code's outcomes are the steps of the rules: a history of calls of the code is a history of the rules, so that
 -- demand 3, the codes and the invariants, which are of any history of the rules, are of the code. Assumes nothing.
-use mathlib.Core.Path.{_≡_, refl, ap, _∙_}
+use mathlib.Core.Path.{_≡_, refl, subst}
 use mathlib.Core.List.{List, [], _∷_}
-use Rattle.packets.specs.Demand.{Event, events}
-use Rattle.packets.specs.Rules.{Call, Do, Take, accept, decided, refusal, run, step}
+use Rattle.packets.specs.History.{Event, Leads}
+use Rattle.packets.specs.Rules.{Call, Do, Take, accept, decided, refusal, step}
 use Rattle.packets.proofs.ByNumber.{Complete, End, Return, Start, Submit}
 use Rattle.packets.specs.declared.Act.the-variants as Act′
 use Rattle.packets.specs.State.{State}
-use Rattle.packets.specs.declared.Answer.{Answer}
 use Rattle.packets.specs.declared.Lists.{Lists}
 use Rattle.packets.specs.declared.Verdict.{Verdict}
 use Rattle.packets.specs.declared.Verdict.the-variants.{Denied, Granted}
@@ -42,19 +41,16 @@ unfoldable pub runs : Lists → List Call → Lists
 runs r [] = r
 runs r (x ∷ l) = runs (outcome r x .lists) l
 
-pub runs-is : (r : Lists) (l : List Call) → stateOf (runs r l) ≡ run (stateOf r) l
-unfolding runs run
-runs-is r [] = refl
-runs-is r (x ∷ l) = runs-is (outcome r x .lists) l ∙ ap (λ (s : State). run s l) (outcome-is r x .1)
-
 unfoldable pub happened : Lists → List Call → List Event
 happened r [] = []
 happened r (x ∷ l) = record { call = x; answer = outcome r x .answer } ∷ happened (outcome r x .lists) l
 
-pub happened-is : (r : Lists) (l : List Call) → happened r l ≡ events (stateOf r) l
-unfolding happened events
-happened-is r [] = refl
-happened-is r (x ∷ l) =
-    ap (λ (a : Answer). record { call = x; answer = a } ∷ happened (outcome r x .lists) l) (outcome-is r x .0)
-    ∙ ap (λ (m : List Event). record { call = x; answer = step (stateOf r) x .answer } ∷ m)
-    (happened-is (outcome r x .lists) l ∙ ap (λ (s : State). events s l) (outcome-is r x .1))
+-- they lead, by the rules, from what the code held to what it then holds
+pub happened-leads : (r : Lists) (l : List Call) → Leads (stateOf r) (happened r l) (stateOf (runs r l))
+unfolding runs happened
+happened-leads r [] = refl
+happened-leads r (x ∷ l) = (
+  outcome-is r x .0,
+  subst (λ (s : State). Leads s (happened (outcome r x .lists) l) (stateOf (runs (outcome r x .lists) l))) (outcome-is r x .1)
+      (happened-leads (outcome r x .lists) l),
+)

@@ -25,7 +25,7 @@ use units::Units;
 ghost use mathlib.Core.Path.{_≡_};
 ghost use Rattle.packets.specs.Rules.{Take, Do};
 ghost use Rattle.packets.specs.declared.Act.the-variants.{Submit, Start, Complete, End, Return, Mark};
-ghost use Rattle.packets.specs.Demand.{fresh};
+ghost use Rattle.packets.specs.History.{fresh};
 ghost use Rattle.lists.specs.Outcomes.{listsOf, outcome, statusIn};
 
 // A packet's status, or why it is not answered.

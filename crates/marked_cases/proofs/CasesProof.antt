@@ -7,7 +7,7 @@ use mathlib.Core.List.{List, [], _∷_}
 use Rattle.numbers.specs.declared.Refusal.the-variants.{NoAssignment}
 use Rattle.units.specs.State.{unitIn, unitSet, assignable}
 use Rattle.channels.specs.Channels.{noChannels}
-use Rattle.packets.specs.Demand.{fresh}
+use Rattle.packets.specs.History.{fresh}
 use Rattle.cell.specs.Calls.{acted, freshCell}
 use Rattle.cell.specs.declared.Cell.{Cell}
 use Rattle.marked_cases.proofs.Computed.{cellAfter, does-computed, replyOf, sized}

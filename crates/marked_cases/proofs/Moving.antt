@@ -6,7 +6,7 @@ use mathlib.Core.Bool.{true, Bool, false}
 use mathlib.Core.List.{List, [], _∷_, map}
 use Rattle.units.specs.State.{unitIn, assignable, Square, unitsFrom}
 use Rattle.channels.specs.Channels.{noDown}
-use Rattle.packets.specs.Demand.{fresh}
+use Rattle.packets.specs.History.{fresh}
 use Rattle.cell.specs.Calls.{acted, freshCell, cellOf}
 use Rattle.cell.specs.declared.Cell.{Cell}
 use Rattle.marked_cases.proofs.Computed.{cellAfter, does-computed, replyOf, sized, selectOf, selects}

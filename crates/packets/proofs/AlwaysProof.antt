@@ -1,5 +1,5 @@
--- The page Always holds: from the invariant, from soundness and from what closing jobs have, of every cell that
--- calls lead to. Assumes nothing.
+-- The page Always holds of every reached state: from the invariant, from soundness and from what closing jobs have.
+-- Assumes nothing.
 use Prim.Native.Nat.{ℕ, _<_}
 use mathlib.Core.Path.{_≡_, refl, sym, subst}
 use mathlib.Core.Bool.{true, false}
@@ -10,23 +10,22 @@ use borrow.Author.Tests.{eqb-true}
 use Rattle.numbers.proofs.Tests.{by-bool, never}
 use Rattle.numbers.specs.declared.UnitNumber.{UnitNumber}
 use Rattle.units.specs.State.{isReturning, unitIn}
-use Rattle.packets.proofs.Closing.{Halts, fresh-halts, run-halts}
+use Rattle.packets.proofs.Closing.{Halts, reached-halts}
 use Rattle.packets.specs.Always.{Always, Invariants, NoEarlyHandOver, packetAt}
-use Rattle.packets.specs.Demand.{fresh}
 use Rattle.packets.proofs.Inv.{EntryOk, Inv, OkEntry, Owned, OwnedAt, Staying, listed-busy, motion-busy, running-alive}
 use Rattle.packets.specs.State.{inMotion, State, entryOf, heldBy, isBusy, isEmpty, isListed, isStill, packetOf, placeOf, stateIn}
 use Rattle.packets.proofs.InvStores.{entry-packet, entry-place}
 use Rattle.packets.specs.Picks.{All, any}
 use Rattle.packets.proofs.Laws.{all-imp, and-left, and-right}
-use Rattle.packets.specs.Rules.{isAt, run}
+use Rattle.packets.specs.Rules.{isAt}
 use Rattle.packets.proofs.Sound.{Sound, noPacket}
-use Rattle.packets.proofs.SoundSteps.{fresh-sound, run-sound}
-use Rattle.packets.proofs.Steps.{fresh-inv, run-inv}
+use Rattle.packets.proofs.SoundSteps.{reached-sound}
+use Rattle.packets.proofs.Steps.{reached-inv}
 use Rattle.packets.proofs.Store.{busy-in}
 use Rattle.packets.proofs.Handing.{unitSite}
 use Rattle.packets.proofs.Sites.{same-is}
-use Rattle.packets.proofs.Movers.{Opened, fresh-open, run-open}
-use Rattle.packets.proofs.Waiting.{Waits, fresh-waits, run-waits}
+use Rattle.packets.proofs.Movers.{Opened, reached-open}
+use Rattle.packets.proofs.Waiting.{Waits, reached-waits}
 use Rattle.packets.specs.declared.Packet.{Packet}
 use Rattle.packets.specs.declared.Site.{Site}
 use Rattle.packets.specs.declared.Site.the-variants.{AtUnit}
@@ -95,14 +94,7 @@ holds-always s I S H O W =
         (λ l. let k = I .motion (packetAt s j p .channel .0) j p (S .mover j p refl (busy-either (packetAt s j p .status) b l)) in (k .owned, k .alive))
 
 pub invariants : Invariants
-invariants channels codes units free calls =
-    holds-always (run (fresh channels codes units) calls)
-    (run-inv (fresh channels codes units) (fresh-inv channels codes units free) calls)
-    (run-sound (fresh channels codes units) (fresh-inv channels codes units free) (fresh-sound channels codes units) calls)
-    (run-halts (fresh channels codes units) (fresh-inv channels codes units free) (fresh-halts channels codes units) calls)
-    (run-open (fresh channels codes units) (fresh-inv channels codes units free) (fresh-open channels codes units free) calls)
-    (run-waits (fresh channels codes units) (fresh-inv channels codes units free) (fresh-waits channels codes units free) calls)
+invariants l s r = holds-always s (reached-inv l s r) (reached-sound l s r) (reached-halts l s r) (reached-open l s r) (reached-waits l s r)
 
 pub no-early-hand-over : NoEarlyHandOver
-no-early-hand-over channels codes units free calls j p h d =
-    invariants channels codes units free calls .held j p (motion-busy (packetAt (run (fresh channels codes units) calls) j p .status) h) d
+no-early-hand-over l s r j p h u d = invariants l s r .held j p (motion-busy (packetAt s j p .status) h) u d

@@ -2,7 +2,7 @@
 -- Assumes nothing.
 use Prim.Native.Nat.{ℕ, _<_}
 use mathlib.Core.Path.{_≡_, refl, sym, ap, _∙_}
-use mathlib.Core.Bool.{Bool, true, false, not, cond, _&&_}
+use mathlib.Core.Bool.{Bool, true, false, cond, _&&_}
 use mathlib.Core.List.{List, [], _∷_, map}
 use mathlib.Core.Option.{Option, none, some}
 use lib.ListN.{length, set}
@@ -13,14 +13,51 @@ use Rattle.units.specs.declared.Unit.{Unit as UnitState}
 use Rattle.numbers.proofs.Tests.{by-bool, never}
 use Rattle.channels.specs.declared.Channel.{Channel}
 use Rattle.packets.specs.Apart.{Apart, Disjoint, Fits, Fitting, Part, inCore}
-use Rattle.packets.specs.Demand.{emptyPlace, fresh}
+use Rattle.packets.specs.History.{Event, NoneHeld, Reached, emptyPlace, fresh}
+use Rattle.packets.proofs.Reaching.{along-split, by-calls, by-verdict, event, granted-accepted, of-fresh}
 use Rattle.packets.proofs.Inv.{Inv, running-alive}
 use Rattle.packets.proofs.Laws.{and-left, eqb-self, getD-set-keep}
 use Rattle.packets.specs.Picks.{find}
-use Rattle.packets.specs.Rules.{Call, Do, Take, accept, aimed, always, assigned, begun, broken, closed, closing, codeFor, cut, decided, ended, enlist, failed, finished, freeIfReturning, freshJob, handedBack, inArea, isAt, isDone, isTrouble, locked, marked, over, packet, refusal, returnIfDone, returned, run, siteOf, startable, started, step, submitted}
+use Rattle.packets.specs.Rules.{
+  Call,
+  Do,
+  Take,
+  accept,
+  aimed,
+  always,
+  assigned,
+  begun,
+  broken,
+  closed,
+  closing,
+  codeFor,
+  cut,
+  ended,
+  enlist,
+  failed,
+  finished,
+  freeIfReturning,
+  freshJob,
+  handedBack,
+  inArea,
+  isAt,
+  isDone,
+  isTrouble,
+  locked,
+  marked,
+  over,
+  packet,
+  refusal,
+  returnIfDone,
+  returned,
+  siteOf,
+  startable,
+  started,
+  submitted,
+}
 use Rattle.packets.specs.declared.Act.the-variants as Act′
 use Rattle.packets.specs.State.{State, isClosing, isEmpty, isUnit, jobIn, lock, motionOn, move, noJob, packetIn, packetOf, placeOf, put, restatus, restatusAll, setState, stateIn, store, sweep, withPackets, withState, withStatus}
-use Rattle.packets.proofs.Steps.{busy-of, closing-alive, closing-not-running, fresh-inv, fresh-state, step-inv}
+use Rattle.packets.proofs.Steps.{busy-of, closing-alive, closing-not-running, fresh-state, reached-inv}
 use Rattle.packets.proofs.Store.{alive-in, state-fresh, state-put, state-restatus, state-state}
 use Rattle.packets.proofs.Told.{assigns-to, completes-on, ends-of}
 use Rattle.packets.specs.declared.Assignment.{Assignment}
@@ -34,8 +71,7 @@ use Rattle.packets.specs.declared.Site.the-variants.{AtUnit}
 use Rattle.packets.specs.declared.Spot.{Spot}
 use Rattle.packets.specs.declared.Status.{Status}
 use Rattle.packets.specs.declared.Status.the-variants.{Ended, InProgress, Listed}
-use Rattle.packets.specs.declared.Verdict.{Verdict}
-use Rattle.packets.specs.declared.Verdict.the-variants.{Denied, Granted}
+use Rattle.packets.specs.declared.Verdict.the-variants.{Granted}
 
 -- what a part says does not depend on packets or on the job's state
 pub record Lasting (part : Part) : Type 0 where
@@ -168,28 +204,22 @@ module _ (part : Part) (L : Lasting part) where
       apart-same s s₂ (same-trans (same-sweep s j (isAt (c .0) (AtUnit (record { 0 = (u .0) }))) cut) (same-jobs s₁ s₂ refl)) A
   accept-apart s I A (Do (Act′.Mark c u m on)) r k = apart-same s (marked s (c .0) (u .0) m on) (same-jobs s (marked s (c .0) (u .0) m on) refl) A
 
-  step-apart : (s : State) → Inv s → Apart part s → (x : Call) → Fits part s x → Apart part (step s x .state)
-  unfolding step
-  step-apart s I A x f = go (refusal s x) refl
-    where
-      go : (n : Verdict) → refusal s x ≡ n → Apart part (decided s x n .state)
-      go Granted e = accept-apart s I A x e f
-      go (Denied n) e = A
-
-  run-apart : (s : State) → Inv s → Apart part s → (l : List Call) → Fitting part s l → Apart part (run s l)
-  unfolding run
-  run-apart s I A [] f = A
-  run-apart s I A (x ∷ l) f = run-apart (step s x .state) (step-inv s I x) (step-apart s I A x (f .0)) l (f .1)
-
-  fresh-apart : (channels : List Channel) (codes : ℕ) (units : List (List UnitState)) → Apart part (fresh channels codes units)
+  fresh-apart : (channels : List Channel) (codes : ℕ) (units : List (List UnitState)) → NoneHeld units → Apart part (fresh channels codes units)
   unfolding fresh
-  fresh-apart channels codes units i j x a b h g = never {b = isEmpty (stateIn (fresh channels codes units .jobs) i)} (ap isEmpty (fresh-state 16 emptyPlace refl i)) a
+  fresh-apart channels codes units free i j x a b h g =
+      never {b = isEmpty (stateIn (fresh channels codes units .jobs) i)} (ap isEmpty (fresh-state 16 emptyPlace refl i)) a
+
+  -- of a history, as long as its takings fit
+  reached-apart : (l : List Event) (s : State) (r : Reached l s) → Fitting part (r .from) l → Apart part s
+  reached-apart l s r =
+      by-calls (r .from) (λ m t. Fitting part (r .from) m → Apart part t) (λ f. of-fresh (Apart part) fresh-apart (r .from) (r .begins))
+      (λ m t d A x f. let k = along-split (λ before y after. Fits part before y) (r .from) m t (event t x ∷ []) d f in
+      let I = reached-inv m t (record { from = r .from; begins = r .begins; leads = d }) in
+      by-verdict (Apart part) t (A (k .0)) x (λ g. accept-apart t I (A (k .0)) x g (k .1 .0 (granted-accepted t x g))))
+      l s (r .leads)
 
 pub disjoint : Disjoint
-disjoint channels codes units free calls = (
-  λ f. run-apart inArea area (fresh channels codes units) (fresh-inv channels codes units free) (fresh-apart inArea area channels codes units) calls f,
-  λ f. run-apart inCore core (fresh channels codes units) (fresh-inv channels codes units free) (fresh-apart inCore core channels codes units) calls f,
-)
+disjoint l s r = (reached-apart inArea area l s r, reached-apart inCore core l s r)
   where
     area : Lasting inArea
     area = record { packets = λ k ps x. refl; state = λ k t x. refl }

@@ -10,20 +10,41 @@ use borrow.Author.Tests.{eqb-true, not-false}
 use Rattle.numbers.proofs.Tests.{by-bool, never}
 use Rattle.units.specs.declared.Unit.{Unit as UnitState}
 use Rattle.channels.specs.declared.Channel.{Channel}
+use Rattle.packets.proofs.Reaching.{by-history, of-fresh}
 use Rattle.packets.specs.Codes.{afterComplete, codeOf, statusAfter}
 use Rattle.packets.specs.Lone.{endsWith}
 use Rattle.packets.proofs.SimSweep.{failed-ends}
 use Rattle.packets.proofs.CodesProof.{closed-status, finished-status, status-after}
-use Rattle.packets.specs.Demand.{emptyPlace, fresh}
+use Rattle.packets.specs.History.{Event, Reached, emptyPlace, fresh}
 use Rattle.packets.proofs.Inv.{EntryOk, Inv}
 use Rattle.packets.proofs.Laws.{eqb-self, find-holds}
 use Rattle.packets.specs.Picks.{any, find}
-use Rattle.packets.specs.Rules.{Call, Do, Take, accept, closed, closing, completed, cut, decided, failed, finished, freeIfReturning, isAt, isDone, isTrouble, refusal, returnIfDone, returned, run, startable, started, step}
+use Rattle.packets.specs.Rules.{
+  Call,
+  Do,
+  Take,
+  accept,
+  closed,
+  closing,
+  completed,
+  cut,
+  failed,
+  finished,
+  freeIfReturning,
+  isAt,
+  isDone,
+  isTrouble,
+  refusal,
+  returnIfDone,
+  returned,
+  startable,
+  started,
+}
 use Rattle.packets.proofs.ByNumber.{Complete, End, Mark, Return, Start, Submit}
 use Rattle.packets.specs.declared.Act.the-variants as Act′
 use Rattle.packets.specs.State.{State, anyMoves, carrying, inMotion, isClosing, isPacket, isRunning, isUnit, motionOn, moves, packetIn, placeOf, stateIn}
 use Rattle.packets.proofs.States.{states-begun, states-closed, states-finished, states-handed, states-returned, states-submit}
-use Rattle.packets.proofs.Steps.{busy-of, closing-not-running, ending-inv, find-some, finished-inv, fresh-state, step-inv}
+use Rattle.packets.proofs.Steps.{busy-of, closing-not-running, ending-inv, find-some, finished-inv, fresh-state, reached-inv}
 use Rattle.packets.proofs.Store.{state-fresh}
 use Rattle.packets.proofs.Handing.{unitSite}
 use Rattle.packets.proofs.Told.{assigns-to, completes-on, ends-of, returns-of, starts-on, submits}
@@ -35,8 +56,7 @@ use Rattle.packets.specs.declared.Motion.{Motion}
 use Rattle.packets.specs.declared.Motion.the-variants.{Busy, Idle}
 use Rattle.packets.specs.declared.Status.{Status}
 use Rattle.packets.specs.declared.Status.the-variants.{Blank, Ended, InProgress, Listed, Stopping}
-use Rattle.packets.specs.declared.Verdict.{Verdict}
-use Rattle.packets.specs.declared.Verdict.the-variants.{Denied, Granted}
+use Rattle.packets.specs.declared.Verdict.the-variants.{Granted}
 
 -- ---- what is kept
 
@@ -195,19 +215,11 @@ accept-halts s I H (Do (Act′.Return j g u)) r i c =
     (λ d. elsewhere s I H (Return j (g .0) (u .0)) r i e (λ n. rw d) c)
 accept-halts s I H (Do (Act′.Mark g u m on)) r i c = elsewhere s I H (Mark (g .0) (u .0) m on) r i refl (λ n. refl) c
 
-step-halts : (s : State) → Inv s → Halts s → (x : Call) → Halts (step s x .state)
-unfolding step
-step-halts s I H x = go (refusal s x) refl
-  where
-    go : (n : Verdict) → refusal s x ≡ n → Halts (decided s x n .state)
-    go Granted e = accept-halts s I H x e
-    go (Denied n) e = H
-
-pub run-halts : (s : State) → Inv s → Halts s → (l : List Call) → Halts (run s l)
-unfolding run
-run-halts s I H [] = H
-run-halts s I H (x ∷ l) = run-halts (step s x .state) (step-inv s I x) (step-halts s I H x) l
-
-pub fresh-halts : (channels : List Channel) (codes : ℕ) (units : List (List UnitState)) → Halts (fresh channels codes units)
+fresh-halts : (channels : List Channel) (codes : ℕ) (units : List (List UnitState)) → Halts (fresh channels codes units)
 unfolding fresh
 fresh-halts channels codes units i c = never {b = false} (sym (ap isClosing (fresh-state 16 emptyPlace refl i)) ∙ c) refl
+
+pub reached-halts : (l : List Event) (s : State) → Reached l s → Halts s
+reached-halts =
+    by-history Halts (of-fresh Halts (λ channels codes units free. fresh-halts channels codes units))
+    (λ l s r H x e. accept-halts s (reached-inv l s r) H x e)

@@ -7,17 +7,53 @@ use lib.Dec.{eqb}
 use borrow.Author.Tests.{eqb-true}
 use Rattle.numbers.proofs.Tests.{by-bool, never}
 use Rattle.packets.specs.Codes.{Codes, Kept, afterComplete, afterSubmit, codeOf, renews, statusAfter}
-use Rattle.packets.specs.Demand.{fresh}
 use Rattle.packets.proofs.Inv.{EntryOk, Inv, running-alive}
 use Rattle.packets.proofs.InvStores.{sweep-inv}
 use Rattle.packets.proofs.Laws.{and-left, and-right, find-holds}
+use Rattle.packets.proofs.Reaching.{by-verdict}
 use Rattle.packets.specs.Lone.{endsWith, stops}
 use Rattle.packets.specs.Picks.{find}
-use Rattle.packets.specs.Rules.{Call, Do, Take, accept, aimed, always, closed, closing, codeFor, cut, decided, failed, finished, isAt, isDone, isTrouble, locked, over, packet, refusal, returnIfDone, run, siteOf, startable, step, submitted}
+use Rattle.packets.specs.Rules.{
+  Call,
+  Do,
+  Take,
+  accept,
+  aimed,
+  always,
+  closed,
+  closing,
+  codeFor,
+  cut,
+  failed,
+  finished,
+  isAt,
+  isDone,
+  isTrouble,
+  locked,
+  over,
+  packet,
+  refusal,
+  returnIfDone,
+  siteOf,
+  startable,
+  submitted,
+}
 use Rattle.packets.specs.declared.Act.the-variants as Act′
 use Rattle.packets.specs.State.{isPacket, State, isRunning, isUnit, motionOn, packetIn, packetOf, placeOf, put, restatusAll, stateIn, sweep, withStatus}
 use Rattle.packets.proofs.SimSweep.{cut-stops, failed-ends}
-use Rattle.packets.proofs.Steps.{Ready, busy-of, find-some, fresh-inv, over-fits, over-inside, ready-fits, ready-inside, ready-sweep, run-inv, start-fits, startable-on}
+use Rattle.packets.proofs.Steps.{
+  Ready,
+  busy-of,
+  find-some,
+  over-fits,
+  over-inside,
+  reached-inv,
+  ready-fits,
+  ready-inside,
+  ready-sweep,
+  start-fits,
+  startable-on,
+}
 use Rattle.packets.proofs.Store.{alive-in, packet-fresh, packet-put, packet-restatus, packet-state, sizeIn}
 use Rattle.packets.proofs.Told.{Submits, assigns-to, completes-on, cut-going, cut-idle, ends-of, failed-going, failed-idle, returns-of, starts-on, submits}
 use Rattle.packets.proofs.Handing.{returns-inside, unitSite}
@@ -30,8 +66,7 @@ use Rattle.packets.specs.declared.Site.{Site}
 use Rattle.packets.specs.declared.Spot.{Spot}
 use Rattle.packets.specs.declared.Status.{Status}
 use Rattle.packets.specs.declared.Status.the-variants.{Blank, Ended, InProgress, Listed}
-use Rattle.packets.specs.declared.Verdict.{Verdict}
-use Rattle.packets.specs.declared.Verdict.the-variants.{Denied, Granted}
+use Rattle.packets.specs.declared.Verdict.the-variants.{Granted}
 
 -- one packet stored, and the packets of a job changed
 stored-status : (s : State) (j p : ℕ) (q : Packet) → p < sizeIn (s .jobs) j → (i n : ℕ)
@@ -138,8 +173,7 @@ status-after s I (Do (Act′.Return j c u)) r i n =
 status-after s I (Do (Act′.Mark c u m on)) r i n = refl
 
 pub codes : Codes
-codes channels word units free before x r i n =
-    status-after (run (fresh channels word units) before) (run-inv (fresh channels word units) (fresh-inv channels word units free) before) x r i n
+codes l s r x g i n = status-after s (reached-inv l s r) x g i n
 
 -- ---- an ended packet keeps its code
 
@@ -182,15 +216,6 @@ keeps-code s I (Do (Act′.Return j c u)) r i n k e b = rw e (by-bool (eqb i j &
 keeps-code s I (Do (Act′.Mark c u m on)) r i n k e b = e
 
 pub kept : Kept
-unfolding step
-kept channels word units free before x i n k e b = go (refusal s x) refl
-  where
-    s : State
-    s = run (fresh channels word units) before
-
-    I : Inv s
-    I = run-inv (fresh channels word units) (fresh-inv channels word units free) before
-
-    go : (v : Verdict) → refusal s x ≡ v → packetIn (decided s x v .state .jobs) i n .status ≡ Ended k
-    go Granted r = status-after s I x r i n ∙ keeps-code s I x r i n k e b
-    go (Denied m) r = e
+kept l s r x i n k e b =
+    let I = reached-inv l s r in
+    by-verdict (λ (t : State). packetIn (t .jobs) i n .status ≡ Ended k) s e x (λ g. status-after s I x g i n ∙ keeps-code s I x g i n k e b)

@@ -1,9 +1,9 @@
 -- Demand 3 holds: the holding and its lone unit begin alike at the taking, and stay alike through the stretch.
 -- Assumes nothing.
 use Prim.Native.Nat.{ℕ, _<_}
-use mathlib.Core.Path.{_≡_, refl, sym, ap, subst, _∙_}
+use mathlib.Core.Path.{_≡_, refl, sym, ap, _∙_}
 use mathlib.Core.Bool.{Bool, true, false, not, cond, _&&_}
-use mathlib.Core.List.{List, [], _∷_, map}
+use mathlib.Core.List.{List, [], _∷_, _++_, map}
 use mathlib.Core.Option.{Option, none}
 use lib.Dec.{eqb}
 use borrow.Author.Tests.{eqb-true}
@@ -14,20 +14,22 @@ use Rattle.units.specs.declared.Holder.the-variants.{Held}
 use Rattle.packets.proofs.Acts.{Follows, accepted-follows, follows-none}
 use Rattle.packets.proofs.Alone.{Quiet, mover, own-motion, own-start, quiet-after, quiet-held}
 use Rattle.packets.specs.Demand.{Holding, Holds, IsolatedAlways, OwnStarts, Seen, Stretch, acting, asLone}
-use Rattle.packets.specs.Demand.{events, fresh, itsUnit, noneSeen, noted, seenAfter, startsIn, there}
+use Rattle.packets.specs.Demand.{itsUnit, noneSeen, noted, seenAfter, startsIn, there}
 use Rattle.packets.proofs.Inv.{EntryOk, Inv, running-alive}
 use Rattle.packets.proofs.Laws.{all-imp, and-left, and-right, eqb-self, keep-none}
 use Rattle.packets.specs.Lone.{Lone, isAtRest, loneRun, loneStarts, loneTakesAll, newLone, unused}
 use Rattle.packets.proofs.LoneLaws.{run-append, starts-append, takes-append}
-use Rattle.packets.specs.Rules.{Call, Take, accept, answer, assigned, decided, refusal, run, step}
+use Rattle.packets.specs.Rules.{Call, Take, accept, assigned, decided, refusal, step}
 use Rattle.packets.proofs.SeenLaws.{SeenOk, accept-seen, lone-refused, noted-refused}
 use Rattle.packets.proofs.Sim.{Like, Sim, lockThere, movingThere, num, on, returnThere}
-use Rattle.packets.proofs.Stays.{Configured, run-has, step-has}
+use Rattle.packets.proofs.Stays.{Configured, step-has}
+use Rattle.packets.specs.History.{Event, Leads, Reached}
+use Rattle.packets.proofs.Reaching.{event, reached-append, reached-more, step-accepted}
 use Rattle.packets.proofs.There.{is-there, there-unit, unit-held}
 use Rattle.packets.proofs.InvJobs.{held-once}
-use Rattle.packets.proofs.Waiting.{Waits, fresh-waits, run-waits, step-waits}
+use Rattle.packets.proofs.Waiting.{Waits, reached-waits}
 use Rattle.packets.specs.State.{State, blank, heldBy, isEmpty, isRunning, lock, motionOn, packetIn, placeOf, stateIn, takeAll, wanted}
-use Rattle.packets.proofs.Steps.{fresh-inv, run-inv, step-inv}
+use Rattle.packets.proofs.Steps.{reached-inv, step-inv}
 use Rattle.packets.proofs.Store.{packet-fresh, state-fresh, unit-take}
 use Rattle.packets.proofs.Told.{assigns-to}
 use Rattle.packets.specs.declared.Answer.{Answer}
@@ -41,10 +43,6 @@ use Rattle.packets.specs.declared.Verdict.{Verdict}
 use Rattle.packets.specs.declared.Verdict.the-variants.{Denied, Granted}
 
 -- ---- a stretch
-
-pub step-accepted : (s : State) (x : Call) → refusal s x ≡ Granted → step s x ≡ record { answer = answer s x; state = accept s x }
-unfolding step
-step-accepted s x e = ap (decided s x) e
 
 -- what one call of the cell is to the lone unit, and where packets are then
 pub record Next (codes : ℕ) (h : Holding) (l : Lone) (t : Seen) (x : Call) (r : Answer) (s : State) : Type 0 where
@@ -64,37 +62,41 @@ next h s I H l S t k x = go (refusal s x) refl
           seen = rw (noted-refused h t x n) k;
         }
 
-pub record Through (codes : ℕ) (h : Holding) (s : State) (l : Lone) (t : Seen) (during : List Call) : Type 0 where
-  pub inv : Inv (run s during)
-  pub taken : loneTakesAll codes (h .drum) l (acting h t (events s during)) ≡ true
-  pub starts : startsIn h t (events s during) ≡ loneStarts codes (h .drum) l (acting h t (events s during))
-  pub sim : Sim h (run s during) (loneRun codes (h .drum) l (acting h t (events s during)))
-  pub seen : SeenOk h (run s during) (seenAfter h t (events s during))
-  pub own : h .drum ≡ false → OwnStarts h t (events s during)
-  pub quiet : h .drum ≡ false → Quiet h (run s during)
+pub record Through (codes : ℕ) (h : Holding) (l : Lone) (t : Seen) (during : List Event) (end : State) : Type 0 where
+  pub inv : Inv end
+  pub taken : loneTakesAll codes (h .drum) l (acting h t during) ≡ true
+  pub starts : startsIn h t during ≡ loneStarts codes (h .drum) l (acting h t during)
+  pub sim : Sim h end (loneRun codes (h .drum) l (acting h t during))
+  pub seen : SeenOk h end (seenAfter h t during)
+  pub own : h .drum ≡ false → OwnStarts h t during
+  pub quiet : h .drum ≡ false → Quiet h end
 
-pub through : (codes : ℕ) (h : Holding) (s : State) → s .codes ≡ codes → Inv s → (l : Lone) → Sim h s l → (t : Seen) → SeenOk h s t → (h .drum ≡ false → Quiet h s)
-    → (during : List Call) → Stretch h s during → Through codes h s l t during
-unfolding startsIn acting seenAfter events loneStarts loneTakesAll loneRun run
-through codes h s same I l S t k q [] H = record { inv = I; taken = refl; starts = refl; sim = S; seen = k; own = λ d. tt; quiet = q }
-through codes h s same I l S t k q (x ∷ during) H =
+pub through : (codes : ℕ) (h : Holding) (s : State) → s .codes ≡ codes → Inv s → (l : Lone) → Sim h s l → (t : Seen) → SeenOk h s t
+    → (h .drum ≡ false → Quiet h s)
+    → (during : List Event) (end : State) → Leads s during end → Stretch h s during → Through codes h l t during end
+unfolding startsIn acting seenAfter loneStarts loneTakesAll loneRun
+through codes h s same I l S t k q [] end d H =
+    record { inv = rw d I; taken = refl; starts = refl; sim = rw d S; seen = rw d k; own = λ z. tt; quiet = rw d q }
+through codes h s same I l S t k q (e ∷ during) end d H =
+    let x = e .call in
+    let a = e .answer in
     let s′ = step s x .state in
-    let a = step s x .answer in
     let t′ = noted h t x a in
     let xs = asLone h t x a in
     let l′ = loneRun codes (h .drum) l xs in
-    let rest = acting h t′ (events s′ during) in
-    let y : Next codes h l t x a s′ = subst (λ (z : ℕ). Next z h l t x a s′) same (next h s I (H .0) l S t k x) in
+    let rest = acting h t′ during in
+    let y : Next codes h l t x a s′ = rw (d .0, sym same) (next h s I (H .0) l S t k x) in
     let same′ : s′ .codes ≡ codes = ap (λ (z : Configured). z .codes) (step-has s x) ∙ same in
-    let q′ : h .drum ≡ false → Quiet h s′ = λ d. quiet-after h s I (H .0) d x in
-    let r : Through codes h s′ l′ t′ during = through codes h s′ same′ (step-inv s I x) l′ (y .lone .sim) t′ (y .seen) q′ during (H .1) in
+    let q′ : h .drum ≡ false → Quiet h s′ = λ z. quiet-after h s I (H .0) z x in
+    let r : Through codes h l′ t′ during end =
+    through codes h s′ same′ (step-inv s I x) l′ (y .lone .sim) t′ (y .seen) q′ during end (d .1) (H .1) in
     record {
       inv = r .inv;
       taken = takes-append codes (h .drum) l xs rest (y .lone .taken) (r .taken);
       starts = rw (y .lone .starts, r .starts) (sym (starts-append codes (h .drum) l xs rest));
       sim = rw (run-append codes (h .drum) l xs rest) (r .sim);
       seen = r .seen;
-      own = λ d. (own-start h s I (H .0) d t k x, r .own d);
+      own = λ n. (rw (d .0) (own-start h s I (H .0) n t k x), r .own n);
       quiet = r .quiet;
     }
 
@@ -199,19 +201,21 @@ returned-so h s I W l S d r =
         (λ x. rw x)
 
 pub demand3 : IsolatedAlways
-demand3 channels codes units free before j asg r h at-j H during stretch =
-    let s₀ = run (fresh channels codes units) before in
-    let I₀ : Inv s₀ = run-inv (fresh channels codes units) (fresh-inv channels codes units free) before in
+demand3 before s₀ reached j asg r h at-j H during end leads stretch =
+    let I₀ : Inv s₀ = reached-inv before s₀ reached in
+    let taken = before ++ (event s₀ (Take j asg) ∷ []) in
     let s = step s₀ (Take j asg) .state in
-    let I : Inv s = step-inv s₀ I₀ (Take j asg) in
-    let W : Waits s = step-waits s₀ I₀ (run-waits (fresh channels codes units) (fresh-inv channels codes units free) (fresh-waits channels codes units free) before) (Take j asg) in
-    let same : s .codes ≡ codes = ap (λ (z : Configured). z .codes) (step-has s₀ (Take j asg) ∙ run-has (fresh channels codes units) before) ∙ (unfold fresh in refl) in
-    let k = through codes h s same I newLone (assigned-sim s₀ I₀ j asg r h at-j H) noneSeen (assigned-seen s₀ I₀ j asg r h at-j) (quiet-held h s I H) during stretch in
+    let now : Reached taken s = reached-more before s₀ reached (Take j asg) in
+    let I : Inv s = reached-inv taken s now in
+    let same : s .codes ≡ s₀ .codes = ap (λ (z : Configured). z .codes) (step-has s₀ (Take j asg)) in
+    let k = through (s₀ .codes) h s same I newLone (assigned-sim s₀ I₀ j asg r h at-j H) noneSeen (assigned-seen s₀ I₀ j asg r h at-j)
+    (quiet-held h s I H) during end leads stretch in
     record {
       taken = k .taken;
       starts = k .starts;
       status = λ n t. k .sim .table n (k .seen n .0 t) .status;
-      returned = λ d. returned-so h (run s during) (k .inv) (run-waits s I W during) (loneRun codes (h .drum) newLone (acting h noneSeen (events s during))) (k .sim) d;
+      returned = λ d. returned-so h end (k .inv) (reached-waits (taken ++ during) end (reached-append taken s now during end leads))
+          (loneRun (s₀ .codes) (h .drum) newLone (acting h noneSeen during)) (k .sim) d;
       started = k .own;
-      moves = λ d. own-motion h (run s during) (k .inv) d (seenAfter h noneSeen (events s during)) (k .seen) (k .quiet d);
+      moves = λ d. own-motion h end (k .inv) d (seenAfter h noneSeen during) (k .seen) (k .quiet d);
     }

@@ -100,6 +100,10 @@ module _ {A : Type 0} where
   all-append P [] m h k = k
   all-append P (x ∷ l) m h k = (h .0, all-append P l m (h .1) k)
 
+  pub all-split : (P : A → Type 0) (l m : List A) → All P (l ++ m) → All P l × All P m
+  all-split P [] m h = (tt, h)
+  all-split P (x ∷ l) m h = let k = all-split P l m (h .1) in ((h .0, k .0), k .1)
+
   pub all-keep : (P : A → Type 0) (f : A → Bool) (l : List A) → All P l → All (λ (x : A). P x × (f x ≡ true)) (keep f l)
   all-keep P f [] h = tt
   all-keep P f (x ∷ l) h = by-bool (f x) (λ e. rw e ((h .0, e), all-keep P f l (h .1))) (λ e. rw e (all-keep P f l (h .1)))

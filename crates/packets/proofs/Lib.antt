@@ -1,4 +1,5 @@
 pub mod Laws
+pub mod Reaching
 pub mod Store
 pub mod Sites
 pub mod UnitLaws

@@ -1,36 +1,46 @@
 -- What moves stays what it is: only a start and a completion change what a channel carries, and no call changes where a
 -- packet that moves was submitted. So what moves is at a unit without interlock. Assumes nothing.
-use Prim.Native.Nat.{ℕ, _<_}
-use mathlib.Core.Path.{_≡_, refl, sym, ap, subst, _∙_}
-use mathlib.Core.Bool.{Bool, true, false, not, cond, _&&_, _||_}
-use mathlib.Core.List.{List, [], _∷_}
-use mathlib.Core.Option.{Option, none, some}
+use Prim.Native.Nat.{ℕ}
+use mathlib.Core.Path.{_≡_, refl, sym, ap, _∙_}
+use mathlib.Core.Bool.{false, _&&_}
+use mathlib.Core.List.{List}
 use native.Mathlib.Omega.{arith}
-use lib.ListN.{length}
 use lib.Dec.{eqb}
 use borrow.Author.Tests.{eqb-true, eqb-false, ne-eqb, not-true}
 use Rattle.numbers.proofs.Tests.{by-bool, never}
 use Rattle.units.specs.State.{unitIn}
 use Rattle.units.specs.declared.Unit.{Unit as UnitState}
 use Rattle.channels.specs.declared.Channel.{Channel}
+use Rattle.packets.proofs.Reaching.{by-history, of-fresh}
 use Rattle.packets.proofs.Handing.{completed-idle, return-motion, returns-inside, unitSite}
 use Rattle.packets.proofs.InterlocksProof.{lock-after}
-use Rattle.packets.proofs.Inv.{EntryOk, Inv, listed-busy, motion-busy, running-alive}
+use Rattle.packets.proofs.Inv.{EntryOk, Inv, listed-busy, running-alive}
 use Rattle.packets.proofs.InvStores.{motion-move}
 use Rattle.packets.proofs.Laws.{and-left, and-right, eqb-self, find-holds}
 use Rattle.packets.proofs.SeenLaws.{calm-finished, calm-return, calm-same, calm-status, calm-submit, calm-sweep, calm-trans}
-use Rattle.packets.proofs.Steps.{Ready, busy-of, find-some, fresh-inv, fresh-state, ready-still, start-at, start-fits, startable-on, step-inv}
+use Rattle.packets.proofs.Steps.{
+  Ready,
+  busy-of,
+  find-some,
+  fresh-inv,
+  fresh-state,
+  ready-still,
+  start-at,
+  start-fits,
+  startable-on,
+  reached-inv,
+}
 use Rattle.packets.proofs.Store.{alive-in, packet-fresh, packet-state}
 use Rattle.packets.proofs.Told.{assigns-to, completes-on, cut-idle, ends-of, returns-of, starts-on, submits}
 use Rattle.packets.specs.Interlocks.{carriedAt, interlockAfter, isThat}
-use Rattle.packets.specs.Demand.{Holding, NoneHeld, emptyPlace, fresh}
+use Rattle.packets.specs.Demand.{Holding}
+use Rattle.packets.specs.History.{Event, NoneHeld, Reached, emptyPlace, fresh}
 use Rattle.packets.specs.Picks.{find}
 use Rattle.packets.specs.Rules.{
   Call,
   Do,
   Take,
   accept,
-  aimed,
   always,
   assigned,
   begun,
@@ -38,47 +48,34 @@ use Rattle.packets.specs.Rules.{
   closing,
   completed,
   cut,
-  decided,
   ended,
   finished,
-  handedBack,
   isAt,
-  isDone,
   isTrouble,
   locked,
-  movesAt,
   refusal,
   returnIfDone,
-  run,
   siteOf,
   startable,
   started,
-  step,
   submitted,
 }
 use Rattle.packets.proofs.ByNumber.{Complete, End, Mark, Return, Start, Submit}
 use Rattle.packets.specs.declared.Act.the-variants as Act′
 use Rattle.packets.specs.State.{
   State,
-  freedAt,
   heldBy,
-  inMotion,
   isEmpty,
-  isListed,
-  isPacket,
   isUnit,
   motionOn,
   move,
   packetIn,
   packetOf,
   placeOf,
-  release,
   restatusAll,
   stateIn,
   sweep,
   unitAt,
-  wanted,
-  withHolder,
 }
 use Rattle.packets.specs.declared.How.{How}
 use Rattle.packets.specs.declared.Motion.{Motion}
@@ -87,10 +84,8 @@ use Rattle.packets.specs.declared.Packet.{Packet}
 use Rattle.packets.specs.declared.Site.{Site}
 use Rattle.packets.specs.declared.Site.the-variants.{AtAddress, AtUnit}
 use Rattle.packets.specs.declared.Spot.{Spot}
-use Rattle.packets.specs.declared.Status.{Status}
-use Rattle.packets.specs.declared.Status.the-variants.{InProgress, Stopping}
-use Rattle.packets.specs.declared.Verdict.{Verdict}
-use Rattle.packets.specs.declared.Verdict.the-variants.{Denied, Granted}
+use Rattle.packets.specs.declared.Status.the-variants.{InProgress}
+use Rattle.packets.specs.declared.Verdict.the-variants.{Granted}
 
 -- ---- what a channel carries
 
@@ -251,20 +246,10 @@ accept-open s I O (Do (Act′.End i b)) r c j p e = moved-open s I (End i b) r O
 accept-open s I O (Do (Act′.Return i d v)) r c j p e = moved-open s I (Return i (d .0) (v .0)) r O c j p e (λ q. let y : _≡_ {A = ℕ} 0 1 = cc in omega arith) (λ how q. let y : _≡_ {A = ℕ} 0 1 = cc in omega arith)
 accept-open s I O (Do (Act′.Mark d v m on)) r c j p e = moved-open s I (Mark (d .0) (v .0) m on) r O c j p e (λ q. let y : _≡_ {A = ℕ} 0 1 = cc in omega arith) (λ how q. let y : _≡_ {A = ℕ} 0 1 = cc in omega arith)
 
-step-open : (s : State) → Inv s → Opened s → (x : Call) → Opened (step s x .state)
-unfolding step
-step-open s I O x = go (refusal s x) refl
-  where
-    go : (n : Verdict) → refusal s x ≡ n → Opened (decided s x n .state)
-    go Granted e = accept-open s I O x e
-    go (Denied n) e = O
-
-pub run-open : (s : State) → Inv s → Opened s → (l : List Call) → Opened (run s l)
-unfolding run
-run-open s I O [] = O
-run-open s I O (x ∷ l) = run-open (step s x .state) (step-inv s I x) (step-open s I O x) l
-
-pub fresh-open : (channels : List Channel) (codes : ℕ) (units : List (List UnitState)) → NoneHeld units → Opened (fresh channels codes units)
+fresh-open : (channels : List Channel) (codes : ℕ) (units : List (List UnitState)) → NoneHeld units → Opened (fresh channels codes units)
 unfolding fresh
 fresh-open channels codes units free c j p e =
     never {b = isEmpty (stateIn (fresh channels codes units .jobs) j)} (ap isEmpty (fresh-state 16 emptyPlace refl j)) (fresh-inv channels codes units free .motion c j p e .alive)
+
+pub reached-open : (l : List Event) (s : State) → Reached l s → Opened s
+reached-open = by-history Opened (of-fresh Opened fresh-open) (λ l s r O x e. accept-open s (reached-inv l s r) O x e)

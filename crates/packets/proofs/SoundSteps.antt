@@ -11,16 +11,61 @@ use Rattle.numbers.proofs.Stores.{getD-replicate-same}
 use Rattle.units.specs.declared.Unit.{Unit as UnitState}
 use Rattle.numbers.proofs.Tests.{by-bool, never}
 use Rattle.channels.specs.declared.Channel.{Channel}
-use Rattle.packets.specs.Demand.{emptyPlace, fresh}
+use Rattle.packets.proofs.Reaching.{by-history, of-fresh}
+use Rattle.packets.specs.History.{Event, Reached, emptyPlace, fresh}
 use Rattle.packets.proofs.Inv.{EntryOk, Inv, running-alive}
 use Rattle.packets.specs.State.{freedAt, inMotion, isPacket, State, blank, enqueue, entryOf, isIdle, isListed, isUnit, lock, motionOn, move, noJob, packetIn, packetOf, placeOf, releaseAll, setLock, stateIn, store, sweep, withStatus}
 use Rattle.packets.proofs.InvStores.{New, enlisted-is, idle-is, lock-inv, motion-move, sweep-inv}
 use Rattle.packets.proofs.Laws.{eqb-self, find-holds, getD-replicate-const}
 use Rattle.packets.specs.Picks.{any, find}
-use Rattle.packets.specs.Rules.{Call, Do, Take, accept, aimed, always, begun, closed, closing, codeFor, cut, decided, enlist, failed, finished, handedBack, isAt, isDone, isTrouble, locked, marked, over, packet, refusal, returnIfDone, run, siteOf, startable, step, submitted}
+use Rattle.packets.specs.Rules.{
+  Call,
+  Do,
+  Take,
+  accept,
+  aimed,
+  always,
+  begun,
+  closed,
+  closing,
+  codeFor,
+  cut,
+  enlist,
+  failed,
+  finished,
+  handedBack,
+  isAt,
+  isDone,
+  isTrouble,
+  locked,
+  marked,
+  over,
+  packet,
+  refusal,
+  returnIfDone,
+  siteOf,
+  startable,
+  submitted,
+}
 use Rattle.packets.specs.declared.Act.the-variants as Act′
 use Rattle.packets.proofs.Sound.{Sound, assigned-sound, enqueue-sound, move-sound, noPacket, sound-but, sound-whole, state-sound, store-sound, sweep-sound, units-sound}
-use Rattle.packets.proofs.Steps.{Ready, busy-of, find-some, listed-new, over-fits, over-inside, ready-fits, ready-inside, ready-store, ready-sweep, start-at, start-fits, startable-on, step-inv, stored-at}
+use Rattle.packets.proofs.Steps.{
+  Ready,
+  busy-of,
+  find-some,
+  listed-new,
+  over-fits,
+  over-inside,
+  ready-fits,
+  ready-inside,
+  ready-store,
+  ready-sweep,
+  start-at,
+  start-fits,
+  startable-on,
+  reached-inv,
+  stored-at,
+}
 use Rattle.packets.proofs.Store.{alive-in, packet-put, sizeIn}
 use Rattle.packets.proofs.Told.{Submits, assigns-to, completes-on, cut-going, cut-idle, cut-unlisted, ends-of, failed-going, failed-idle, returns-of, starts-on, submits}
 use Rattle.packets.proofs.Handing.{returns-inside, unitSite}
@@ -33,8 +78,7 @@ use Rattle.packets.specs.declared.Site.{Site}
 use Rattle.packets.specs.declared.Spot.{Spot}
 use Rattle.packets.specs.declared.Status.{Status}
 use Rattle.packets.specs.declared.Status.the-variants.{Blank, Ended, InProgress, Listed, Stopping}
-use Rattle.packets.specs.declared.Verdict.{Verdict}
-use Rattle.packets.specs.declared.Verdict.the-variants.{Denied, Granted}
+use Rattle.packets.specs.declared.Verdict.the-variants.{Granted}
 
 failed-moved : (x : Status) → inMotion (failed x) ≡ true → inMotion x ≡ true
 failed-moved Blank e = e
@@ -183,22 +227,9 @@ accept-sound s I S (Do (Act′.Return j c u)) r =
     (sweep-sound s S j (isAt (c .0) (unitSite (u .0))) cut (returns-inside s I j (c .0) (u .0) (returns-of s j (c .0) (u .0) r)) refl cut-moved cut-listed) (handedBack s j (c .0) (unitSite (u .0)) .units)
 accept-sound s I S (Do (Act′.Mark c u m on)) r = units-sound s noPacket S (marked s (c .0) (u .0) m on .units)
 
-step-sound : (s : State) → Inv s → Sound s noPacket → (x : Call) → Sound (step s x .state) noPacket
-unfolding step
-step-sound s I S x = go (refusal s x) refl
-  where
-    go : (n : Verdict) → refusal s x ≡ n → Sound (decided s x n .state) noPacket
-    go Granted e = accept-sound s I S x e
-    go (Denied n) e = S
-
-pub run-sound : (s : State) → Inv s → Sound s noPacket → (l : List Call) → Sound (run s l) noPacket
-unfolding run
-run-sound s I S [] = S
-run-sound s I S (x ∷ l) = run-sound (step s x .state) (step-inv s I x) (step-sound s I S x) l
-
 -- ---- the fresh cell
 
-pub fresh-sound : (channels : List Channel) (codes : ℕ) (units : List (List UnitState)) → Sound (fresh channels codes units) noPacket
+fresh-sound : (channels : List Channel) (codes : ℕ) (units : List (List UnitState)) → Sound (fresh channels codes units) noPacket
 unfolding fresh
 fresh-sound channels codes units =
     record {
@@ -217,3 +248,8 @@ fresh-sound channels codes units =
         few zero i = omega arith
         few (suc m) zero = omega arith
         few (suc m) (suc i) = few m i
+
+pub reached-sound : (l : List Event) (s : State) → Reached l s → Sound s noPacket
+reached-sound =
+    by-history (λ s. Sound s noPacket) (of-fresh (λ s. Sound s noPacket) (λ channels codes units free. fresh-sound channels codes units))
+    (λ l s r S x e. accept-sound s (reached-inv l s r) S x e)

@@ -2,13 +2,34 @@
 use Prim.Native.Nat.{ℕ}
 use mathlib.Core.Path.{_≡_, refl, _∙_}
 use mathlib.Core.Bool.{_&&_}
-use mathlib.Core.List.{List, [], _∷_}
+use mathlib.Core.List.{List}
 use mathlib.Core.Option.{Option, none, some}
 use lib.Dec.{eqb}
 use Rattle.numbers.proofs.Tests.{by-bool}
 use Rattle.channels.specs.declared.Channel.{Channel}
+use Rattle.packets.specs.History.{Event, Leads}
+use Rattle.packets.proofs.Reaching.{by-calls}
 use Rattle.packets.specs.Picks.{find}
-use Rattle.packets.specs.Rules.{Call, Do, Take, accept, closed, completed, decided, finished, isDone, isTrouble, locked, refusal, returnIfDone, run, siteOf, startable, started, step, submitted}
+use Rattle.packets.specs.Rules.{
+  Call,
+  Do,
+  Take,
+  accept,
+  closed,
+  completed,
+  decided,
+  finished,
+  isDone,
+  isTrouble,
+  locked,
+  refusal,
+  returnIfDone,
+  siteOf,
+  startable,
+  started,
+  step,
+  submitted,
+}
 use Rattle.packets.specs.declared.Act.the-variants as Act′
 use Rattle.packets.specs.State.{State, isUnit, motionOn, packetIn}
 use Rattle.packets.specs.declared.How.{How}
@@ -63,7 +84,6 @@ module _ (s : State) where
       go Granted = accept-has x
       go (Denied n) = refl
 
-pub run-has : (s : State) (l : List Call) → has (run s l) ≡ has s
-unfolding run
-run-has s [] = refl
-run-has s (x ∷ l) = run-has (step s x .state) l ∙ step-has s x
+-- calls keep it, one after the other
+pub leads-has : (s : State) (l : List Event) (t : State) → Leads s l t → has t ≡ has s
+leads-has s = by-calls s (λ l t. has t ≡ has s) refl (λ l t d h x. step-has t x ∙ h)

@@ -2,7 +2,7 @@
 use Prim.Native.Nat.{ℕ, _<_}
 use mathlib.Core.Path.{_≡_, refl, sym, ap, _∙_}
 use mathlib.Core.Bool.{Bool, true, false, not, cond, _&&_}
-use mathlib.Core.List.{List, [], _∷_}
+use mathlib.Core.List.{List}
 use mathlib.Core.Option.{Option, none, some}
 use native.Mathlib.Omega.{arith}
 use lib.ListN.{length, replicate}
@@ -13,14 +13,41 @@ use Rattle.units.specs.declared.Unit.{Unit as UnitState}
 use Rattle.numbers.proofs.Tests.{by-bool, never}
 use Rattle.units.specs.State.{unitIn}
 use Rattle.units.specs.declared.Holder.{Holder}
-use Rattle.packets.specs.Demand.{NoneHeld, emptyPlace, fresh}
+use Rattle.packets.specs.History.{Event, Leads, NoneHeld, Reached, emptyPlace, fresh}
+use Rattle.packets.proofs.Reaching.{by-calls, by-history, of-fresh}
 use Rattle.packets.proofs.Inv.{EntryOk, Inv, listed-busy, motion-busy, running-alive}
 use Rattle.packets.specs.State.{inMotion, State, anyMoves, close, entryOf, heldBy, isBusy, isClosing, isEmpty, isIdle, isListed, isKept, isRunning, isUnit, lock, motionOn, move, moves, noJob, packetIn, packetOf, packetsIn, placeOf, put, relist, restatusAll, stateIn, store, sweep, withStatus}
 use Rattle.packets.proofs.InvJobs.{NotOf, assigned-inv, close-inv, returned-inv}
 use Rattle.packets.proofs.InvStores.{New, busy-inv, enqueue-inv, entry-packet, entry-place, idle-inv, lock-inv, marked-inv, motion-move, store-inv, sweep-inv}
 use Rattle.packets.specs.Picks.{All, find, keep}
 use Rattle.packets.proofs.Laws.{all-imp, all-keep, and-left, and-right, any-none, eqb-self, find-holds, getD-replicate-const}
-use Rattle.packets.specs.Rules.{Call, Do, Take, accept, aimed, always, begun, closing, codeFor, cut, decided, failed, finished, isAt, isNone, isTrouble, locked, over, packet, refusal, returnIfDone, run, siteOf, startable, step, submitted}
+use Rattle.packets.specs.Rules.{
+  Call,
+  Do,
+  Take,
+  accept,
+  aimed,
+  always,
+  begun,
+  closing,
+  codeFor,
+  cut,
+  decided,
+  failed,
+  finished,
+  isAt,
+  isNone,
+  isTrouble,
+  locked,
+  over,
+  packet,
+  refusal,
+  returnIfDone,
+  siteOf,
+  startable,
+  step,
+  submitted,
+}
 use Rattle.packets.specs.declared.Act.the-variants as Act′
 use Rattle.packets.proofs.Store.{alive-in, busy-in, packet-put, packet-restatus, sizeIn, state-put, state-restatus}
 use Rattle.packets.proofs.Told.{Submits, assigns-to, completes-on, cut-going, cut-idle, cut-unlisted, ends-of, failed-going, failed-idle, owns-unit, returns-of, starts-on, submits}
@@ -281,10 +308,9 @@ pub step-inv : (s : State) → Inv s → (x : Call) → Inv (step s x .state)
 unfolding step
 step-inv s I x = decided-inv s I x (refusal s x) refl
 
-pub run-inv : (s : State) → Inv s → (l : List Call) → Inv (run s l)
-unfolding run
-run-inv s I [] = I
-run-inv s I (x ∷ l) = run-inv (step s x .state) (step-inv s I x) l
+-- calls keep it, one after the other
+pub leads-inv : (s : State) → Inv s → (l : List Event) (t : State) → Leads s l t → Inv t
+leads-inv s I = by-calls s (λ l t. Inv t) I (λ l t d J x. step-inv t J x)
 
 -- ---- the fresh cell
 
@@ -304,3 +330,7 @@ fresh-inv channels codes units free =
       motion = λ c j p e. absurd (let z : Idle ≡ Busy j p = sym (ap (λ (m : Carrier). m .motion) (getD-replicate-same 16 c (record { motion = Idle }))) ∙ e in let y : _≡_ {A = ℕ} 0 1 = cc in omega arith);
       holders = λ c u j e. never {b = heldBy (unitIn units c u .holder) j} e (ap (λ (h : Holder). heldBy h j) (free c u));
     }
+
+-- every reached state has it
+pub reached-inv : (l : List Event) (s : State) → Reached l s → Inv s
+reached-inv = by-history Inv (of-fresh Inv fresh-inv) (λ l s r I x e. accept-inv s I x e)

@@ -1,9 +1,9 @@
 -- Who holds a unit that is being returned: the completion there frees it, and through every other call it is held as it
 -- was. Assumes nothing.
-use Prim.Native.Nat.{ℕ, _<_}
+use Prim.Native.Nat.{ℕ}
 use mathlib.Core.Path.{_≡_, refl, sym, ap, _∙_}
-use mathlib.Core.Bool.{Bool, true, false, cond, _&&_}
-use mathlib.Core.List.{List, [], _∷_}
+use mathlib.Core.Bool.{true, false, _&&_}
+use mathlib.Core.List.{List, [], _∷_, _++_}
 use mathlib.Core.Option.{Option, none, some}
 use lib.Dec.{eqb}
 use borrow.Author.Tests.{eqb-true, ne-eqb, not-true}
@@ -11,17 +11,19 @@ use Rattle.numbers.proofs.Tests.{by-bool, never}
 use Rattle.units.specs.State.{isReturning, markedUnit, unitIn}
 use Rattle.units.specs.declared.Holder.the-variants.{Free}
 use Rattle.units.specs.declared.Unit.{Unit as UnitState}
+use Rattle.packets.proofs.Reaching.{by-calls, event, reached-append}
+use Rattle.packets.specs.History.{Event, Leads, Reached}
 use Rattle.packets.proofs.Alone.{finish-keeps, submit-keeps}
 use Rattle.packets.proofs.Handing.{held-unit, next, returning-taken, unitSite}
 use Rattle.packets.proofs.Inv.{Inv}
 use Rattle.packets.proofs.InvJobs.{held-once, held-taken, take-held}
 use Rattle.packets.proofs.InvStores.{mark-holder, motion-move}
-use Rattle.packets.proofs.Laws.{and-left, and-right, eqb-self}
-use Rattle.packets.proofs.Steps.{busy-of, none-moving, step-inv}
+use Rattle.packets.proofs.Laws.{all-split, and-left, and-right, eqb-self}
+use Rattle.packets.proofs.Steps.{busy-of, none-moving, reached-inv}
 use Rattle.packets.proofs.Store.{unit-keep, unit-release}
-use Rattle.packets.proofs.Told.{Returns, assigns-to, completes-on, returns-of}
+use Rattle.packets.proofs.Told.{assigns-to, completes-on, returns-of}
 use Rattle.packets.proofs.Movers.{finished-motion}
-use Rattle.packets.proofs.Waiting.{Waiting, Waits, step-waits}
+use Rattle.packets.proofs.Waiting.{Waiting, Waits, reached-waits}
 use Rattle.packets.specs.Picks.{All, find}
 use Rattle.packets.specs.Rules.{
   Call,
@@ -29,23 +31,18 @@ use Rattle.packets.specs.Rules.{
   Take,
   accept,
   closed,
-  completed,
   decided,
   finished,
-  handedBack,
   isDone,
-  movesAt,
   refusal,
   returnIfDone,
-  returned,
-  run,
   startable,
   started,
   step,
 }
 use Rattle.packets.proofs.ByNumber.{Complete}
 use Rattle.packets.specs.declared.Act.the-variants as Act′
-use Rattle.packets.specs.State.{State, freedAt, heldBy, isClosing, motionOn, packetIn, release, stateIn}
+use Rattle.packets.specs.State.{State, freedAt, heldBy, isClosing, motionOn, packetIn, stateIn}
 use Rattle.packets.specs.declared.How.{How}
 use Rattle.packets.specs.declared.Motion.the-variants.{Busy}
 use Rattle.packets.specs.declared.Site.{Site}
@@ -158,10 +155,14 @@ module _ (s : State) (I : Inv s) (W : Waits s) (c u : ℕ) (e : isReturning (uni
       go (Denied n) r = refl
 
 -- and through several
-pub run-until : (s : State) → Inv s → Waits s → (c u : ℕ) → isReturning (unitIn (s .units) c u .holder) ≡ true
-    → (l : List Call) → All (λ (x : Call). (how : How) → x ≡ Complete c how → ⊥) l → unitIn (run s l .units) c u .holder ≡ unitIn (s .units) c u .holder
-unfolding run
-run-until s I W c u e [] o = refl
-run-until s I W c u e (x ∷ l) o =
-    let k = step-until s I W c u e x (o .0) in
-    run-until (step s x .state) (step-inv s I x) (step-waits s I W x) c u (ap isReturning k ∙ e) l (o .1) ∙ k
+pub leads-until : (k : List Event) (s : State) → Reached k s → (c u : ℕ) → isReturning (unitIn (s .units) c u .holder) ≡ true
+    → (l : List Event) (t : State) → Leads s l t → All (λ (x : Event). (how : How) → x .call ≡ Complete c how → ⊥) l
+    → unitIn (t .units) c u .holder ≡ unitIn (s .units) c u .holder
+leads-until k s r c u e =
+    by-calls s (λ l t. All Not l → unitIn (t .units) c u .holder ≡ unitIn (s .units) c u .holder) (λ o. refl)
+    (λ l t d h x o. let p = all-split Not l (event t x ∷ []) o in
+    let q = reached-append k s r l t d in
+    step-until t (reached-inv (k ++ l) t q) (reached-waits (k ++ l) t q) c u (ap isReturning (h (p .0)) ∙ e) x (p .1 .0) ∙ h (p .0))
+  where
+    Not : Event → Type 0
+    Not x = (how : How) → x .call ≡ Complete c how → ⊥

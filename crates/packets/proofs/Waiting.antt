@@ -1,35 +1,35 @@
 -- A unit that is being returned waits for a packet of its job that is stopping there: a return makes it so, no call but
 -- the completion there ends that packet, and the completion gives the unit back. Assumes nothing.
-use Prim.Native.Nat.{ℕ, _<_}
+use Prim.Native.Nat.{ℕ}
 use mathlib.Core.Path.{_≡_, refl, sym, ap, subst, _∙_}
-use mathlib.Core.Bool.{Bool, true, false, not, cond, _&&_, _||_}
-use mathlib.Core.List.{List, [], _∷_}
+use mathlib.Core.Bool.{Bool, true, false, not, cond, _&&_}
+use mathlib.Core.List.{List}
 use mathlib.Core.Option.{Option, none, some}
 use native.Mathlib.Omega.{arith}
-use lib.ListN.{length}
 use lib.Dec.{eqb}
-use borrow.Author.Tests.{eqb-true, eq-eqb, ne-eqb}
+use borrow.Author.Tests.{eqb-true, eq-eqb}
 use Rattle.numbers.proofs.Tests.{by-bool, never}
 use Rattle.units.specs.State.{assignable, isReturning, markedUnit, unitIn}
 use Rattle.units.specs.declared.Holder.{Holder}
-use Rattle.units.specs.declared.Holder.the-variants.{Free, Held, Returning}
+use Rattle.units.specs.declared.Holder.the-variants.{Free}
 use Rattle.units.specs.declared.Unit.{Unit as UnitState}
 use Rattle.channels.specs.declared.Channel.{Channel}
+use Rattle.packets.proofs.Reaching.{by-history, of-fresh}
 use Rattle.packets.proofs.Alone.{finish-keeps, submit-keeps}
 use Rattle.packets.proofs.Closing.{cut-halts}
 use Rattle.packets.proofs.CodesProof.{status-after}
 use Rattle.packets.proofs.Handing.{handed-to, held-unit, next, returning-taken, returns-inside, unitSite}
-use Rattle.packets.proofs.Inv.{EntryOk, Inv, listed-busy, motion-busy, running-alive}
+use Rattle.packets.proofs.Inv.{EntryOk, Inv}
 use Rattle.packets.proofs.InvJobs.{held-taken}
-use Rattle.packets.proofs.InvStores.{idle-is, mark-holder, motion-move}
+use Rattle.packets.proofs.InvStores.{idle-is, mark-holder}
 use Rattle.packets.proofs.Laws.{and-left, and-right, eqb-self, find-holds}
 use Rattle.packets.proofs.Movers.{another, at-kept, motion-kept}
 use Rattle.packets.proofs.Sites.{same-is}
-use Rattle.packets.proofs.Steps.{busy-of, find-some, ready-still, start-fits, startable-on, step-inv}
-use Rattle.packets.proofs.Store.{alive-in, packet-fresh, packet-restatus, packet-state, unit-keep, unit-release, unit-take}
-use Rattle.packets.proofs.Told.{Returns, assigns-to, completes-on, cut-going, cut-idle, ends-of, returns-of, starts-on, submits}
+use Rattle.packets.proofs.Steps.{busy-of, find-some, reached-inv}
+use Rattle.packets.proofs.Store.{packet-restatus, unit-keep, unit-release, unit-take}
+use Rattle.packets.proofs.Told.{Returns, assigns-to, completes-on, cut-going, returns-of, starts-on, submits}
 use Rattle.packets.specs.Codes.{statusAfter}
-use Rattle.packets.specs.Demand.{Holding, NoneHeld, fresh}
+use Rattle.packets.specs.History.{Event, NoneHeld, Reached, fresh}
 use Rattle.packets.specs.Picks.{find}
 use Rattle.packets.specs.Rules.{
   Call,
@@ -37,15 +37,8 @@ use Rattle.packets.specs.Rules.{
   Take,
   accept,
   aimed,
-  always,
-  assigned,
-  begun,
   closed,
-  closing,
-  completed,
   cut,
-  decided,
-  ended,
   finished,
   handedBack,
   isAt,
@@ -55,12 +48,9 @@ use Rattle.packets.specs.Rules.{
   movesAt,
   refusal,
   returnIfDone,
-  run,
   siteOf,
   startable,
   started,
-  step,
-  submitted,
 }
 use Rattle.packets.proofs.ByNumber.{Complete, End, Mark, Return, Start, Submit}
 use Rattle.packets.specs.declared.Act.the-variants as Act′
@@ -68,20 +58,16 @@ use Rattle.packets.specs.State.{
   State,
   freedAt,
   heldBy,
-  inMotion,
   isEmpty,
-  isListed,
   isPacket,
   isUnit,
   motionOn,
-  move,
   packetIn,
   packetOf,
   placeOf,
   release,
   restatusAll,
   stateIn,
-  sweep,
   takeUnit,
   wanted,
   withHolder,
@@ -92,11 +78,8 @@ use Rattle.packets.specs.declared.Motion.the-variants.{Busy, Idle}
 use Rattle.packets.specs.declared.Packet.{Packet}
 use Rattle.packets.specs.declared.Site.{Site}
 use Rattle.packets.specs.declared.Site.the-variants.{AtAddress, AtUnit}
-use Rattle.packets.specs.declared.Spot.{Spot}
-use Rattle.packets.specs.declared.Status.{Status}
-use Rattle.packets.specs.declared.Status.the-variants.{InProgress, Stopping}
-use Rattle.packets.specs.declared.Verdict.{Verdict}
-use Rattle.packets.specs.declared.Verdict.the-variants.{Denied, Granted}
+use Rattle.packets.specs.declared.Status.the-variants.{Stopping}
+use Rattle.packets.specs.declared.Verdict.the-variants.{Granted}
 
 -- ---- what is kept
 
@@ -308,19 +291,9 @@ module _ (s : State) (I : Inv s) (W : Waits s) where
       (sym (unit-keep (λ (o : UnitState). o .holder) (s .units) (d .0) (v .0) (markedUnit m on (unitIn (s .units) (d .0) (v .0))) c u (mark-holder m on (unitIn (s .units) (d .0) (v .0)))))
       (λ w how q. let y : _≡_ {A = ℕ} 0 1 = cc in omega arith)
 
-  pub step-waits : (x : Call) → Waits (step s x .state)
-  unfolding step
-  step-waits x = go (refusal s x) refl
-    where
-      go : (n : Verdict) → refusal s x ≡ n → Waits (decided s x n .state)
-      go Granted e = accept-waits x e
-      go (Denied n) e = W
-
-pub run-waits : (s : State) → Inv s → Waits s → (l : List Call) → Waits (run s l)
-unfolding run
-run-waits s I W [] = W
-run-waits s I W (x ∷ l) = run-waits (step s x .state) (step-inv s I x) (step-waits s I W x) l
-
-pub fresh-waits : (channels : List Channel) (codes : ℕ) (units : List (List UnitState)) → NoneHeld units → Waits (fresh channels codes units)
+fresh-waits : (channels : List Channel) (codes : ℕ) (units : List (List UnitState)) → NoneHeld units → Waits (fresh channels codes units)
 unfolding fresh
 fresh-waits channels codes units free c u e = never {b = false} (sym (ap isReturning (free c u)) ∙ e) refl
+
+pub reached-waits : (l : List Event) (s : State) → Reached l s → Waits s
+reached-waits = by-history Waits (of-fresh Waits fresh-waits) (λ l s r W x e. accept-waits s (reached-inv l s r) W x e)

@@ -1,14 +1,12 @@
--- What holds in every cell that calls lead to from a fresh one. A reader has to believe this page.
+-- What holds in every reached state. A reader has to believe this page.
 use Prim.Native.Nat.{ℕ}
 use mathlib.Core.Path.{_≡_}
 use mathlib.Core.Bool.{true, false, not}
 use mathlib.Core.List.{List}
 use lib.Dec.{eqb}
 use Rattle.numbers.specs.declared.UnitNumber.{UnitNumber}
-use Rattle.units.specs.declared.Unit.{Unit as UnitState}
 use Rattle.units.specs.State.{isReturning, unitIn}
-use Rattle.channels.specs.declared.Channel.{Channel}
-use Rattle.packets.specs.Demand.{NoneHeld, fresh}
+use Rattle.packets.specs.History.{Event, Reached}
 use Rattle.packets.specs.State.{
   inMotion,
   State,
@@ -27,7 +25,7 @@ use Rattle.packets.specs.State.{
   unitAt,
 }
 use Rattle.packets.specs.Picks.{All, Nodup, any}
-use Rattle.packets.specs.Rules.{Call, isAt, run}
+use Rattle.packets.specs.Rules.{isAt}
 use Rattle.packets.specs.declared.Motion.the-variants.{Busy}
 use Rattle.packets.specs.declared.Packet.{Packet}
 use Rattle.packets.specs.declared.Site.the-variants.{AtUnit}
@@ -68,13 +66,11 @@ pub record Always (s : State) : Type 0 where
       → isListed (packetAt s j p .status) ≡ true → isAt c (AtUnit (record { 0 = u })) (packetAt s j p) ≡ false
 
 abbrev pub Invariants : Type 0
-Invariants = (channels : List Channel) (codes : ℕ) (units : List (List UnitState)) → NoneHeld units → (calls : List Call)
-    → Always (run (fresh channels codes units) calls)
+Invariants = (l : List Event) (s : State) → Reached l s → Always s
 
 -- no early hand-over: a unit on which a packet is in progress or stopping is held by that packet's job
 abbrev pub NoEarlyHandOver : Type 0
 NoEarlyHandOver =
-    (channels : List Channel) (codes : ℕ) (units : List (List UnitState)) → NoneHeld units → (calls : List Call) (j p : ℕ)
-    → inMotion (packetAt (run (fresh channels codes units) calls) j p .status) ≡ true
-    → (u : UnitNumber) → packetAt (run (fresh channels codes units) calls) j p .at ≡ AtUnit u
-    → let s = run (fresh channels codes units) calls in heldBy (unitIn (s .units) (packetAt s j p .channel .0) (u .0) .holder) j ≡ true
+    (l : List Event) (s : State) → Reached l s → (j p : ℕ) → inMotion (packetAt s j p .status) ≡ true
+    → (u : UnitNumber) → packetAt s j p .at ≡ AtUnit u
+    → heldBy (unitIn (s .units) (packetAt s j p .channel .0) (u .0) .holder) j ≡ true

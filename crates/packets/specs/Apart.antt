@@ -3,11 +3,9 @@
 use Prim.Native.Nat.{ℕ}
 use mathlib.Core.Path.{_≡_}
 use mathlib.Core.Bool.{Bool, true, false, _||_}
-use mathlib.Core.List.{List, [], _∷_}
-use Rattle.units.specs.declared.Unit.{Unit as UnitState}
-use Rattle.channels.specs.declared.Channel.{Channel}
-use Rattle.packets.specs.Demand.{NoneHeld, fresh}
-use Rattle.packets.specs.Rules.{Call, Do, Take, freshJob, inArea, run, step}
+use mathlib.Core.List.{List}
+use Rattle.packets.specs.History.{Along, Event, Reached}
+use Rattle.packets.specs.Rules.{Call, Do, Take, freshJob, inArea}
 use Rattle.packets.specs.State.{State, isEmpty, inRun, jobIn, stateIn}
 use Rattle.packets.specs.declared.Job.{Job}
 
@@ -31,13 +29,11 @@ Fits part s (Take j asg) =
     (i x : ℕ) → isEmpty (stateIn (s .jobs) i) ≡ false → part (jobIn (s .jobs) i) x ≡ true → part (freshJob asg) x ≡ true → ⊥
 Fits part s (Do x) = Unit {0}
 
--- so is each taking of a history
-abbrev pub Fitting : Part → State → List Call → Type 0
-Fitting part s [] = Unit {0}
-Fitting part s (x ∷ l) = Fits part s x × Fitting part (step s x .state) l
+-- so is each accepted taking of a history
+abbrev pub Fitting : Part → State → List Event → Type 0
+Fitting part s l = Along (λ before x after. Fits part before x) s l
 
 abbrev pub Disjoint : Type 0
 Disjoint =
-    (channels : List Channel) (codes : ℕ) (units : List (List UnitState)) → NoneHeld units → (calls : List Call)
-    → (Fitting inArea (fresh channels codes units) calls → Apart inArea (run (fresh channels codes units) calls))
-    × (Fitting inCore (fresh channels codes units) calls → Apart inCore (run (fresh channels codes units) calls))
+    (l : List Event) (s : State) (r : Reached l s)
+    → (Fitting inArea (r .from) l → Apart inArea s) × (Fitting inCore (r .from) l → Apart inCore s)

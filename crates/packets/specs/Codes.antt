@@ -6,9 +6,7 @@ use mathlib.Core.Bool.{Bool, false, not, cond, _&&_, _||_}
 use mathlib.Core.List.{List}
 use mathlib.Core.Option.{Option, none, some}
 use lib.Dec.{eqb}
-use Rattle.units.specs.declared.Unit.{Unit as UnitState}
-use Rattle.channels.specs.declared.Channel.{Channel}
-use Rattle.packets.specs.Demand.{NoneHeld, fresh}
+use Rattle.packets.specs.History.{Event, Reached}
 use Rattle.packets.specs.Lone.{endsWith, stops}
 use Rattle.packets.specs.Picks.{find}
 use Rattle.packets.specs.Rules.{
@@ -21,7 +19,6 @@ use Rattle.packets.specs.Rules.{
   isTrouble,
   locked,
   refusal,
-  run,
   siteOf,
   startable,
   step,
@@ -84,12 +81,11 @@ statusAfter s (Do (Return j c u)) i n =
     cond (eqb i j && isAt (c .0) (AtUnit u) q) (stops (endsWith 0o16 (q .status))) (q .status)
 statusAfter s (Do (Mark c u m on)) i n = packetIn (s .jobs) i n .status
 
--- over any history: before each accepted call s is a cell that calls led to
+-- of each accepted call in a reached state
 abbrev pub Codes : Type 0
 Codes =
-    (channels : List Channel) (codes : ℕ) (units : List (List UnitState)) → NoneHeld units → (before : List Call) (x : Call)
-    → refusal (run (fresh channels codes units) before) x ≡ Granted → (i n : ℕ)
-    → packetIn (accept (run (fresh channels codes units) before) x .jobs) i n .status ≡ statusAfter (run (fresh channels codes units) before) x i n
+    (l : List Event) (s : State) → Reached l s → (x : Call) → refusal s x ≡ Granted → (i n : ℕ)
+    → packetIn (accept s x .jobs) i n .status ≡ statusAfter s x i n
 
 -- the calls that a packet's ended status does not outlast: its own submission, and a taking of its place
 abbrev pub renews : Call → ℕ → ℕ → Bool
@@ -104,6 +100,5 @@ renews (Do (Mark c u m on)) i n = false
 -- an ended packet keeps its code through every other call, accepted or refused
 abbrev pub Kept : Type 0
 Kept =
-    (channels : List Channel) (codes : ℕ) (units : List (List UnitState)) → NoneHeld units → (before : List Call) (x : Call) (i n k : ℕ)
-    → packetIn (run (fresh channels codes units) before .jobs) i n .status ≡ Ended k → renews x i n ≡ false
-    → packetIn (step (run (fresh channels codes units) before) x .state .jobs) i n .status ≡ Ended k
+    (l : List Event) (s : State) → Reached l s → (x : Call) (i n k : ℕ) → packetIn (s .jobs) i n .status ≡ Ended k
+    → renews x i n ≡ false → packetIn (step s x .state .jobs) i n .status ≡ Ended k

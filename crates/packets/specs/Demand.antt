@@ -4,49 +4,25 @@ use mathlib.Core.Path.{_≡_}
 use mathlib.Core.Bool.{Bool, true, false, not, cond, _&&_}
 use mathlib.Core.List.{List, [], _∷_, _++_}
 use mathlib.Core.Option.{Option, none, some}
-use lib.ListN.{replicate}
 use lib.Dec.{ltb, eqb}
-use Rattle.units.specs.declared.Unit.{Unit as UnitState}
 use Rattle.units.specs.State.{unitIn}
-use Rattle.units.specs.declared.Holder.the-variants.{Free}
+use Rattle.packets.specs.History.{Event, Leads, Reached, isAccepted}
 use Rattle.packets.specs.Lone.{LoneCall, Submits, Starts, Completes, Ends, Returns, LoneStart, Target, Itself, Words}
 use Rattle.packets.specs.Lone.{isAtRest, loneRun, loneStarts, loneTakesAll, newLone}
-use Rattle.packets.specs.Rules.{Call, Do, Take, siteOf, refusal, run, step}
-use Rattle.packets.specs.State.{State, blank, drumOn, heldBy, isEmpty, jobIn, motionOn, noCore, packetIn, stateIn}
+use Rattle.packets.specs.Rules.{Call, Do, Take, siteOf, refusal, step}
+use Rattle.packets.specs.State.{State, drumOn, heldBy, isEmpty, jobIn, motionOn, packetIn, stateIn}
 use Rattle.packets.specs.declared.Act.the-variants.{Submit, Start, Complete, End, Return, Mark}
 use Rattle.packets.specs.declared.Answer.{Answer}
 use Rattle.packets.specs.declared.Answer.the-variants.{Closed, Completed, Done, Refused, Started}
 use Rattle.packets.specs.declared.Assignment.{Assignment}
 use Rattle.packets.specs.declared.Begun.{Begun}
-use Rattle.channels.specs.declared.Channel.{Channel}
-use Rattle.packets.specs.declared.Job.{Job}
-use Rattle.packets.specs.declared.JobState.the-variants.{Empty}
-use Rattle.packets.specs.declared.Motion.the-variants.{Busy, Idle}
+use Rattle.packets.specs.declared.Motion.the-variants.{Busy}
 use Rattle.packets.specs.declared.Packet.{Packet}
 use Rattle.packets.specs.declared.Site.{Site}
 use Rattle.packets.specs.declared.Site.the-variants.{AtAddress, AtUnit}
 use Rattle.packets.specs.declared.Spot.{Spot}
 use Rattle.packets.specs.declared.Spot.the-variants.{OnDrum, OnUnit}
 use Rattle.packets.specs.declared.Verdict.the-variants.{Granted}
-
--- ---- a fresh cell: nothing listed or moving, no job, and no unit held
-
-abbrev pub emptyPlace : Job
-emptyPlace = record { state = Empty; packets = replicate 16 blank; from = 0; words = 0; core = noCore }
-
-unfoldable pub fresh : List Channel → ℕ → List (List UnitState) → State
-fresh channels codes units =
-    record {
-      channels = channels;
-      codes = codes;
-      units = units;
-      queue = [];
-      moving = replicate 16 (record { motion = Idle });
-      jobs = replicate 16 emptyPlace;
-    }
-
-abbrev pub NoneHeld : List (List UnitState) → Type 0
-NoneHeld units = (c u : ℕ) → unitIn units c u .holder ≡ Free
 
 -- ---- a holding: what one job holds
 
@@ -82,21 +58,6 @@ abbrev pub there : Holding → Packet → Bool
 there h p = isThere h (p .channel .0) (p .at)
 
 -- ---- what is seen from outside: the calls and their answers
-
-pub record Event : Type 0 where
-  pub call : Call
-  pub answer : Answer
-
-unfoldable pub events : State → List Call → List Event
-events s [] = []
-events s (x ∷ l) = record { call = x; answer = step s x .answer } ∷ events (step s x .state) l
-
-abbrev pub isAccepted : Answer → Bool
-isAccepted Done = true
-isAccepted (Started b) = true
-isAccepted (Completed j p r) = true
-isAccepted (Closed j r) = true
-isAccepted (Refused n) = false
 
 -- which of the job's packets were, since the taking, last submitted there
 abbrev pub Seen : Type 0
@@ -197,9 +158,9 @@ seenAfter h t (e ∷ l) = seenAfter h (noted h t (e .call) (e .answer)) l
 
 -- before each call of the stretch the job holds it; the last call may return it: "the unit's own return", or with all
 -- facilities of the job
-abbrev pub Stretch : Holding → State → List Call → Type 0
+abbrev pub Stretch : Holding → State → List Event → Type 0
 Stretch h s [] = Unit {0}
-Stretch h s (x ∷ l) = Holds s h × Stretch h (step s x .state) l
+Stretch h s (e ∷ l) = Holds s h × Stretch h (step s (e .call) .state) l
 
 -- every start on the unit is of a packet that this job has submitted there since the taking; t: which packets those
 -- are before the first call
@@ -234,16 +195,12 @@ pub record Isolated (codes : ℕ) (h : Holding) (l : List Event) (end : State) :
   pub started : h .drum ≡ false → OwnStarts h noneSeen l
   pub moves : h .drum ≡ false → OwnMotion h (seenAfter h noneSeen l) end
 
--- in a cell that any calls led to from a fresh one, a job is taken with any assignment; for all that it then holds,
--- up to its return or any earlier moment. "Demand 3's lone unit takes the same section"
+-- in a reached state a job is taken with any assignment; for all that it then holds, up to its return or any earlier
+-- moment. "Demand 3's lone unit takes the same section"
 abbrev pub IsolatedAlways : Type 0
 IsolatedAlways =
-    (channels : List Channel) (codes : ℕ) (units : List (List UnitState)) → NoneHeld units → (before : List Call)
-    (j : ℕ) (asg : Assignment)
-    → refusal (run (fresh channels codes units) before) (Take j asg) ≡ Granted
-    → (h : Holding) → h .place ≡ j
-    → Holds (step (run (fresh channels codes units) before) (Take j asg) .state) h
-    → (during : List Call)
-    → Stretch h (step (run (fresh channels codes units) before) (Take j asg) .state) during
-    → Isolated codes h (events (step (run (fresh channels codes units) before) (Take j asg) .state) during)
-    (run (step (run (fresh channels codes units) before) (Take j asg) .state) during)
+    (before : List Event) (s : State) → Reached before s → (j : ℕ) (asg : Assignment) → refusal s (Take j asg) ≡ Granted
+    → (h : Holding) → h .place ≡ j → Holds (step s (Take j asg) .state) h
+    → (during : List Event) (end : State) → Leads (step s (Take j asg) .state) during end
+    → Stretch h (step s (Take j asg) .state) during
+    → Isolated (s .codes) h during end

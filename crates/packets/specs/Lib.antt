@@ -1,6 +1,7 @@
 pub mod Picks
 pub mod State
 pub mod Rules
+pub mod History
 pub mod Lone
 pub mod Demand
 pub mod Always

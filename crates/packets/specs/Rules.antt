@@ -2,7 +2,7 @@
 -- what each call is refused for, what it leaves, what it answers. A reader has to believe this page. Codes are octal.
 use Prim.Native.Nat.{ℕ, _+_}
 use mathlib.Core.Bool.{Bool, true, false, not, cond, _&&_, _||_}
-use mathlib.Core.List.{List, [], _∷_}
+use mathlib.Core.List.{List}
 use mathlib.Core.Option.{Option, none, some}
 use lib.ListN.{getD, set, replicate}
 use lib.Dec.{ltb, leb, eqb}
@@ -437,7 +437,7 @@ answer s (Do (End j e)) = Closed j (leaving j (closed s j e))
 answer s (Do (Return j c u)) = Done
 answer s (Do (Mark c u m on)) = Done
 
--- ---- a step, a run
+-- ---- a step
 
 pub record Answered : Type 0 where
   pub answer : Answer
@@ -450,7 +450,3 @@ decided s x (Denied n) = record { answer = Refused n; state = s }
 
 unfoldable pub step : State → Call → Answered
 step s x = decided s x (refusal s x)
-
-unfoldable pub run : State → List Call → State
-run s [] = s
-run s (x ∷ l) = run (step s x .state) l

@@ -4,7 +4,7 @@
 use Prim.Native.Nat.{ℕ, _+_, _<_}
 use mathlib.Core.Path.{_≡_, refl, sym, ap, _∙_}
 use mathlib.Core.Bool.{Bool, true, false, cond, _&&_, _||_}
-use mathlib.Core.List.{List, [], _∷_}
+use mathlib.Core.List.{[]}
 use native.Mathlib.Omega.{arith}
 use lib.Dec.{eqb, leb, ltb}
 use lib.ListN.{length}
@@ -14,15 +14,45 @@ use Rattle.units.specs.declared.Holder.{Holder}
 use Rattle.packets.proofs.AlwaysProof.{invariants}
 use Rattle.packets.specs.Codes.{statusAfter}
 use Rattle.packets.proofs.CodesProof.{status-after}
-use Rattle.packets.specs.Demand.{Holding, emptyPlace, fresh}
+use Rattle.packets.specs.Demand.{Holding}
+use Rattle.packets.specs.History.{Begins, emptyPlace, fresh}
+use Rattle.packets.proofs.Reaching.{by-history, reached-first}
 use Rattle.packets.proofs.Inv.{EntryOk, Inv, listed-busy, running-alive}
 use Rattle.packets.proofs.Laws.{and-left, and-right, eqb-self, find-holds, getD-set-keep}
 use Rattle.numbers.proofs.Stores.{getD-set}
 use Rattle.packets.specs.Picks.{find}
-use Rattle.packets.specs.Rules.{Call, Complete, End, Mark, Return, Start, Submit, Take, accept, always, assigned, begun, closed, closing, completed, cut, decided, ended, finished, freshJob, handedBack, inArea, isAt, isDone, isOwn, refusal, returnIfDone, run, startable, siteOf, started, step, submitted}
+use Rattle.packets.specs.Rules.{
+  Call,
+  Do,
+  Take,
+  accept,
+  always,
+  assigned,
+  begun,
+  closed,
+  closing,
+  completed,
+  cut,
+  ended,
+  finished,
+  freshJob,
+  handedBack,
+  inArea,
+  isAt,
+  isDone,
+  isOwn,
+  refusal,
+  returnIfDone,
+  siteOf,
+  startable,
+  started,
+  submitted,
+}
+use Rattle.packets.proofs.ByNumber.{Submit}
+use Rattle.packets.specs.declared.Act.the-variants as Act′
 use Rattle.packets.proofs.SeenLaws.{Calm, calm-finished, calm-return, calm-same, calm-status, calm-submit, calm-sweep, calm-trans, submitted-read}
 use Rattle.packets.specs.State.{State, isBusy, isEmpty, jobIn, motionOn, noJob, packetIn, packetOf, placeOf, restatusAll, setState, stateIn, sweep, unitAt, withState}
-use Rattle.packets.proofs.Steps.{busy-of, find-some, fresh-inv, fresh-state, start-fits, startable-on, step-inv}
+use Rattle.packets.proofs.Steps.{busy-of, find-some, fresh-state, reached-inv, start-fits, startable-on}
 use Rattle.packets.proofs.Store.{alive-in, packet-fresh, packet-state}
 use Rattle.packets.proofs.Told.{assigns-to, completes-on, cut-idle, ends-of, returns-of, starts-on, submits}
 use Rattle.packets.proofs.Handing.{returns-inside, unitSite}
@@ -33,8 +63,7 @@ use Rattle.packets.specs.declared.Site.the-variants.{AtAddress}
 use Rattle.packets.specs.declared.Spot.{Spot}
 use Rattle.packets.specs.declared.Spot.the-variants.{OnDrum, OnUnit}
 use Rattle.packets.specs.declared.Status.the-variants.{Ended, InProgress, Listed}
-use Rattle.packets.specs.declared.Verdict.{Verdict}
-use Rattle.packets.specs.declared.Verdict.the-variants.{Denied, Granted}
+use Rattle.packets.specs.declared.Verdict.the-variants.{Granted}
 use Rattle.packets_given.specs.Given.{AtItsArea, OnItsOwnWords}
 use Rattle.packets_given.proofs.SameLaws.{Share, same-begun, same-closed, same-finished, same-submit, same-swept, share}
 
@@ -103,38 +132,38 @@ accept-good s I K (Take j asg) r i n b x d =
     (λ e. good-calm s (assigned s j asg) i n
     (calm-same (its i) s (assigned s j asg) n (packet-fresh (s .jobs) j asg i inside n ∙ rw e))
     (ap share (getD-set (s .jobs) j (freshJob asg) i noJob inside) ∙ rw e) (K i n) b x d)
-accept-good s I K (Submit j p f c w) r i n b x d =
+accept-good s I K (Do (Act′.Submit j p f c w)) r i n b x d =
     by-bool (eqb i j && eqb n p)
     (λ e. let u : i ≡ j = eqb-true i j (and-left (eqb i j) (eqb n p) e) in
     let v : n ≡ p = eqb-true n p (and-right (eqb i j) (eqb n p) e) in
-    rw u (good-submitted s I j p f c w r (rw (u, v) at b) x (rw (u, v) at d)))
-    (λ e. let s₁ = submitted s j p f c w in
-    good-calm s s₁ i n (calm-submit (its i) s I j p f c w (submits s j p f c w r) n e)
-    (same-submit s j p f c w .shares i) (K i n) b x d)
-accept-good s I K (Start c) r i n b x d =
-    let m = starts-on s c r in
-    let o = find-some (find (startable s c) (s .queue)) (m .2) in
+    rw u (good-submitted s I j p f (c .0) w r (rw (u, v) at b) x (rw (u, v) at d)))
+    (λ e. let s₁ = submitted s j p f (c .0) w in
+    good-calm s s₁ i n (calm-submit (its i) s I j p f (c .0) w (submits s j p f (c .0) w r) n e)
+    (same-submit s j p f (c .0) w .shares i) (K i n) b x d)
+accept-good s I K (Do (Act′.Start c)) r i n b x d =
+    let m = starts-on s (c .0) r in
+    let o = find-some (find (startable s (c .0)) (s .queue)) (m .2) in
     let e = o .0 in
-    let z = find-holds (EntryOk s) (startable s c) (s .queue) e (I .queued) (o .1) in
-    let s₁ = begun s c e in
-    let fits = start-fits s I c (m .0) e (z .0) (startable-on s c e (z .1)) in
+    let z = find-holds (EntryOk s) (startable s (c .0)) (s .queue) e (I .queued) (o .1) in
+    let s₁ = begun s (c .0) e in
+    let fits = start-fits s I (c .0) (m .0) e (z .0) (startable-on s (c .0) e (z .1)) in
     let g : Good s₁ i n =
     good-calm s s₁ i n
     (calm-status (its i) s (placeOf e) (packetOf e) InProgress fits (listed-busy (packetIn (s .jobs) (placeOf e) (packetOf e) .status) (z .0 .listed)) n)
-    (same-begun s c e .shares i) (K i n) in
-    let h : Good (started s c (find (startable s c) (s .queue))) i n = rw (o .1) g in
+    (same-begun s (c .0) e .shares i) (K i n) in
+    let h : Good (started s (c .0) (find (startable s (c .0)) (s .queue))) i n = rw (o .1) g in
     h b x d
-accept-good s I K (Complete c how) r i n b x d =
-    let m = completes-on s c how r in
-    let o = busy-of (motionOn s c) (m .1) in
-    let s₁ = finished s c how (o .0) (o .1) in
+accept-good s I K (Do (Act′.Complete c how)) r i n b x d =
+    let m = completes-on s (c .0) how r in
+    let o = busy-of (motionOn s (c .0)) (m .1) in
+    let s₁ = finished s (c .0) how (o .0) (o .1) in
     let s₂ = returnIfDone (o .0) s₁ in
     let g : Good s₂ i n =
-    good-calm s s₂ i n (calm-finished (its i) s I c (m .0) how (o .0) (o .1) (o .2) n)
-    (return-share s₁ (o .0) i ∙ same-finished s c how (o .0) (o .1) .shares i) (K i n) in
-    let h : Good (completed s c how (motionOn s c)) i n = rw (o .2) g in
+    good-calm s s₂ i n (calm-finished (its i) s I (c .0) (m .0) how (o .0) (o .1) (o .2) n)
+    (return-share s₁ (o .0) i ∙ same-finished s (c .0) how (o .0) (o .1) .shares i) (K i n) in
+    let h : Good (completed s (c .0) how (motionOn s (c .0))) i n = rw (o .2) g in
     h b x d
-accept-good s I K (End j e) r i n b x d =
+accept-good s I K (Do (Act′.End j e)) r i n b x d =
     let a = running-alive (stateIn (s .jobs) j) (ends-of s j e r) in
     let s₁ = sweep s j always cut in
     let s₂ = closed s j e in
@@ -144,31 +173,18 @@ accept-good s I K (End j e) r i n b x d =
     (calm-trans h s s₁ s₃ n (calm-sweep h s j always cut (alive-in (s .jobs) j a) refl cut-idle n)
     (calm-trans h s₁ s₂ s₃ n (calm-same h s₁ s₂ n (packet-state (restatusAll (s .jobs) j always cut) j (closing e) i n)) (calm-return h s₂ j n)))
     (return-share s₂ j i ∙ same-closed s j e a .shares i) (K i n) b x d
-accept-good s I K (Return j c u) r i n b x d =
-    let k = returns-of s j c u r in
-    good-calm s (handedBack s j c (unitSite u)) i n
-    (calm-sweep (its i) s j (isAt c (unitSite u)) cut (returns-inside s I j c u k) refl cut-idle n)
-    (same-swept s j (isAt c (unitSite u)) cut .shares i) (K i n) b x d
-accept-good s I K (Mark c u m on) r i n b x d = K i n b x d
+accept-good s I K (Do (Act′.Return j c u)) r i n b x d =
+    let k = returns-of s j (c .0) (u .0) r in
+    good-calm s (handedBack s j (c .0) (unitSite (u .0))) i n
+    (calm-sweep (its i) s j (isAt (c .0) (unitSite (u .0))) cut (returns-inside s I j (c .0) (u .0) k) refl cut-idle n)
+    (same-swept s j (isAt (c .0) (unitSite (u .0))) cut .shares i) (K i n) b x d
+accept-good s I K (Do (Act′.Mark c u m on)) r i n b x d = K i n b x d
 
-step-good : (s : State) → Inv s → AtItsArea s → (x : Call) → AtItsArea (step s x .state)
-step-good s I K x = unfold step in go (refusal s x) refl
-  where
-    go : (v : Verdict) → refusal s x ≡ v → AtItsArea (decided s x v .state)
-    go Granted r = accept-good s I K x r
-    go (Denied n) r = K
-
-run-good : (s : State) → Inv s → AtItsArea s → (l : List Call) → AtItsArea (run s l)
-unfolding run
-run-good s I K [] = K
-run-good s I K (x ∷ l) = run-good (step s x .state) (step-inv s I x) (step-good s I K x) l
+-- no job is there, so no packet is busy
+begins-good : (s : State) → Begins s → AtItsArea s
+begins-good s b i n k x d =
+    let a : isEmpty (stateIn (s .jobs) i) ≡ true = rw (b .is) (unfold fresh in ap isEmpty (fresh-state 16 emptyPlace refl i)) in
+    never {b = isEmpty (stateIn (s .jobs) i)} a (invariants [] s (reached-first s b) .live i n k)
 
 pub on-its-own-words : OnItsOwnWords
-on-its-own-words channels codes units free calls =
-    run-good (fresh channels codes units) (fresh-inv channels codes units free) none-busy calls
-  where
-    -- no job is there, so no packet is busy
-    none-busy : AtItsArea (fresh channels codes units)
-    none-busy i n b x d =
-        let a : isEmpty (stateIn (fresh channels codes units .jobs) i) ≡ false = unfold run in invariants channels codes units free [] .live i n b in
-        never {b = (isEmpty (stateIn (fresh channels codes units .jobs) i))} (unfold fresh in ap isEmpty (fresh-state 16 emptyPlace refl i)) a
+on-its-own-words = by-history AtItsArea begins-good (λ l s r K x g. accept-good s (reached-inv l s r) K x g)

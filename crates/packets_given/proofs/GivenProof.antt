@@ -4,7 +4,7 @@
 -- Assumes nothing.
 use Prim.Native.Nat.{ℕ, _<_}
 use mathlib.Core.Path.{_≡_, refl, sym, ap, _∙_, subst}
-use mathlib.Core.Bool.{Bool, true, false, not, cond, _&&_, _||_}
+use mathlib.Core.Bool.{Bool, true, false, not, cond, _&&_}
 use mathlib.Core.List.{List, [], _∷_}
 use mathlib.Core.Option.{Option, none, some}
 use lib.ListN.{length}
@@ -12,33 +12,63 @@ use lib.Dec.{eqb}
 use borrow.Author.Tests.{eqb-true, eqb-false, ne-eqb}
 use Rattle.numbers.proofs.Stores.{getD-set}
 use Rattle.numbers.proofs.Tests.{by-bool, never}
-use Rattle.numbers.specs.declared.Refusal.{Refusal}
 use Rattle.units.specs.State.{Square, assignable, isFree, isReturning, unitIn}
 use Rattle.units.specs.declared.Holder.{Holder}
 use Rattle.units.specs.declared.Holder.the-variants.{Free, Held, Returning}
 use Rattle.units.specs.declared.Unit.{Unit as UnitState}
-use Rattle.channels.specs.declared.Channel.{Channel}
-use Rattle.packets.specs.Demand.{emptyPlace, events, fresh, isAccepted}
-use Rattle.packets.proofs.Handing.{unitSite}
+use Rattle.packets.specs.History.{Begins, Event, Leads, emptyPlace, fresh}
+use Rattle.packets.proofs.Reaching.{along-split, by-calls, event, granted-accepted}
 use Rattle.packets.proofs.Inv.{Inv, running-alive}
 use Rattle.packets.proofs.InvJobs.{held-once}
 use Rattle.packets.proofs.Laws.{and-left, and-right, eqb-self, getD-set-keep}
 use Rattle.packets.specs.Picks.{find}
-use Rattle.packets.specs.Rules.{Call, Complete, End, Mark, Return, Start, Submit, Take, accept, answer, assigned, begun, closed, decided, finished, freshJob, isDone, marked, refusal, returnIfDone, returned, run, startable, started, step, submitted}
+use Rattle.packets.specs.Rules.{
+  Call,
+  Do,
+  Take,
+  accept,
+  answer,
+  assigned,
+  begun,
+  closed,
+  decided,
+  finished,
+  freshJob,
+  isDone,
+  marked,
+  refusal,
+  returnIfDone,
+  returned,
+  startable,
+  started,
+  step,
+  submitted,
+}
+use Rattle.packets.specs.declared.Act.the-variants as Act′
 use Rattle.packets.specs.State.{State, heldBy, isClosing, isEmpty, jobIn, motionOn, noJob, packetIn, release, setState, stateIn, takeUnit, wanted, withState}
-use Rattle.packets.proofs.Steps.{busy-of, closing-not-running, fresh-inv, fresh-state, run-inv, step-inv}
+use Rattle.packets.proofs.Steps.{busy-of, closing-not-running, fresh-state, reached-inv}
 use Rattle.packets.proofs.Store.{alive-in, state-fresh, state-state, unit-release}
 use Rattle.packets.proofs.Told.{assigns-to, completes-on, ends-of, returns-of}
 use Rattle.packets.proofs.UnitLaws.{release-square, take-read, take-square}
-use Rattle.packets.proofs.Waiting.{fresh-waits, run-waits}
 use Rattle.packets.specs.declared.Answer.the-variants.{Done, Refused}
 use Rattle.packets.specs.declared.Assignment.{Assignment}
 use Rattle.packets.specs.declared.JobState.the-variants.{Empty, Running}
 use Rattle.packets.specs.declared.Verdict.{Verdict}
 use Rattle.packets.specs.declared.Verdict.the-variants.{Denied, Granted}
-use Rattle.packets_given.specs.Given.{Heads, HoldsWhatItWasGiven, Wanting, Wants, askedBy, askedIn, noHeads, takenBy, takenIn}
+use Rattle.packets_given.specs.Given.{
+  Heads,
+  HoldsWhatItWasGiven,
+  Wanting,
+  Wants,
+  askedBy,
+  asking,
+  noHeads,
+  takenBy,
+  taking,
+}
+use Rattle.packets_given.proofs.Reckoning.{reckoned-append, refused-asks, refused-keeps}
 use Rattle.packets_given.proofs.HeadLaws.{Alike, Has, Kept, exactly, has-asked, has-on, kept-back, kept-handed}
-use Rattle.packets_given.proofs.SameLaws.{Same, Share, same-begun, same-closed, same-finished, same-marked, same-submit, share}
+use Rattle.packets_given.proofs.SameLaws.{Same, same-begun, same-closed, same-finished, same-marked, same-submit, share}
 
 -- ---- calls that leave what a job holds
 
@@ -159,88 +189,79 @@ accept-kept : (given : ℕ → Option Assignment) (asked : ℕ → Heads) (s : S
     → Kept (λ (i : ℕ). takenBy i (given i) x (answer s x)) (λ (i : ℕ). askedBy i (asked i) x (answer s x)) (accept s x)
 unfolding accept answer takenBy askedBy
 accept-kept given asked s I (Take j asg) r f K =
-    kept-taken given asked s I j asg (assigns-to s j asg r .0) (assigns-to s j asg r .1) (f accepted) K
+    kept-taken given asked s I j asg (assigns-to s j asg r .0) (assigns-to s j asg r .1) f K
+accept-kept given asked s I (Do (Act′.Submit j p f c w)) r k K =
+    kept-same given asked s (submitted s j p f (c .0) w) (same-submit s j p f (c .0) w) K
+accept-kept given asked s I (Do (Act′.Start c)) r k K = go (find (startable s (c .0)) (s .queue))
   where
-    accepted : isAccepted (step s (Take j asg) .answer) ≡ true
-    accepted = unfold step in rw r
-accept-kept given asked s I (Submit j p f c w) r k K = kept-same given asked s (submitted s j p f c w) (same-submit s j p f c w) K
-accept-kept given asked s I (Start c) r k K = go (find (startable s c) (s .queue))
-  where
-    go : (o : Option ℕ) → Kept given asked (started s c o)
+    go : (o : Option ℕ) → Kept given asked (started s (c .0) o)
     go none = K
-    go (some e) = kept-same given asked s (begun s c e) (same-begun s c e) K
-accept-kept given asked s I (Complete c how) r k K =
-    let o = busy-of (motionOn s c) (completes-on s c how r .1) in
-    let s₁ = finished s c how (o .0) (o .1) in
+    go (some e) = kept-same given asked s (begun s (c .0) e) (same-begun s (c .0) e) K
+accept-kept given asked s I (Do (Act′.Complete c how)) r k K =
+    let o = busy-of (motionOn s (c .0)) (completes-on s (c .0) how r .1) in
+    let s₁ = finished s (c .0) how (o .0) (o .1) in
     rw (o .2)
-    (kept-back given asked (returnIfDone (o .0) s₁) c (packetIn (s .jobs) (o .0) (o .1) .at)
-    (kept-return given asked s₁ (o .0) (kept-same given asked s s₁ (same-finished s c how (o .0) (o .1)) K)))
-accept-kept given asked s I (End j e) r k K =
+    (kept-back given asked (returnIfDone (o .0) s₁) (c .0) (packetIn (s .jobs) (o .0) (o .1) .at)
+    (kept-return given asked s₁ (o .0) (kept-same given asked s s₁ (same-finished s (c .0) how (o .0) (o .1)) K)))
+accept-kept given asked s I (Do (Act′.End j e)) r k K =
     let a = running-alive (stateIn (s .jobs) j) (ends-of s j e r) in
     kept-return given asked (closed s j e) j (kept-same given asked s (closed s j e) (same-closed s j e a) K)
-accept-kept given asked s I (Return j c u) r k K = kept-handed given asked s I j c u (returns-of s j c u r) K
-accept-kept given asked s I (Mark c u m on) r k K = kept-same given asked s (marked s c u m on) (same-marked s c u m on) K
+accept-kept given asked s I (Do (Act′.Return j c u)) r k K = kept-handed given asked s I j (c .0) (u .0) (returns-of s j (c .0) (u .0) r) K
+accept-kept given asked s I (Do (Act′.Mark c u m on)) r k K =
+    kept-same given asked s (marked s (c .0) (u .0) m on) (same-marked s (c .0) (u .0) m on) K
 
--- a refused call gives nothing, and asks for nothing
-refused-keeps : (j : ℕ) (last : Option Assignment) (x : Call) (n : Refusal) → takenBy j last x (Refused n) ≡ last
-unfolding takenBy
-refused-keeps j last (Take i asg) n = refl
-refused-keeps j last (Submit i p f c w) n = refl
-refused-keeps j last (Start c) n = refl
-refused-keeps j last (Complete c how) n = refl
-refused-keeps j last (End i e) n = refl
-refused-keeps j last (Return i c u) n = refl
-refused-keeps j last (Mark c u m on) n = refl
-
-refused-asks : (j : ℕ) (t : Heads) (x : Call) (n : Refusal) (c u : ℕ) → askedBy j t x (Refused n) c u ≡ t c u
-unfolding askedBy
-refused-asks j t (Take i asg) n c u = refl
-refused-asks j t (Submit i p f d w) n c u = refl
-refused-asks j t (Start d) n c u = refl
-refused-asks j t (Complete d how) n c u = refl
-refused-asks j t (End i e) n c u = refl
-refused-asks j t (Return i d v) n c u = refl
-refused-asks j t (Mark d v m on) n c u = refl
-
-step-kept : (given : ℕ → Option Assignment) (asked : ℕ → Heads) (s : State) → Inv s → (x : Call) → Wants s x → Kept given asked s
+step-kept : (given : ℕ → Option Assignment) (asked : ℕ → Heads) (s : State) → Inv s → (x : Call)
+    → (refusal s x ≡ Granted → Wants s x) → Kept given asked s
     → Kept (λ (i : ℕ). takenBy i (given i) x (step s x .answer)) (λ (i : ℕ). askedBy i (asked i) x (step s x .answer)) (step s x .state)
 step-kept given asked s I x f K = unfold step in go (refusal s x) refl
   where
-    go : (v : Verdict) → refusal s x ≡ v → Kept (λ (i : ℕ). takenBy i (given i) x (decided s x v .answer)) (λ (i : ℕ). askedBy i (asked i) x (decided s x v .answer)) (decided s x v .state)
-    go Granted r = accept-kept given asked s I x r f K
+    go : (v : Verdict) → refusal s x ≡ v
+        → Kept (λ (i : ℕ). takenBy i (given i) x (decided s x v .answer)) (λ (i : ℕ). askedBy i (asked i) x (decided s x v .answer))
+        (decided s x v .state)
+    go Granted r = accept-kept given asked s I x r (f r) K
     go (Denied n) r =
         record {
           square = K .square;
-          live = λ i a. let k = K .live i a in
-              (k .0, refused-keeps i (given i) x n ∙ k .1, has-asked s i (k .0) (asked i) (askedBy i (asked i) x (Refused n)) (refused-asks i (asked i) x n) (k .2));
+          live = λ i a. let k = K .live i a in (
+            k .0,
+            refused-keeps i (given i) x n ∙ k .1,
+            has-asked s i (k .0) (asked i) (askedBy i (asked i) x (Refused n)) (refused-asks i (asked i) x n) (k .2),
+          );
         }
 
-run-kept : (given : ℕ → Option Assignment) (asked : ℕ → Heads) (s : State) → Inv s → (l : List Call) → Wanting s l → Kept given asked s
-    → Kept (λ (i : ℕ). takenIn i (given i) (events s l)) (λ (i : ℕ). askedIn i (asked i) (events s l)) (run s l)
-unfolding run events takenIn askedIn
-run-kept given asked s I [] f K = K
-run-kept given asked s I (x ∷ l) f K =
-    run-kept (λ (i : ℕ). takenBy i (given i) x (step s x .answer)) (λ (i : ℕ). askedBy i (asked i) x (step s x .answer)) (step s x .state) (step-inv s I x) l (f .1)
-    (step-kept given asked s I x (f .0) K)
+-- ---- over a history
 
-fresh-kept : (channels : List Channel) (codes : ℕ) (units : List (List UnitState)) → Square units → Kept (λ (i : ℕ). none) (λ (i : ℕ). noHeads) (fresh channels codes units)
-unfolding fresh
-fresh-kept channels codes units q =
+-- the same gifts and requests
+kept-eq : (given given′ : ℕ → Option Assignment) (asked asked′ : ℕ → Heads) (s : State) → ((i : ℕ) → given′ i ≡ given i)
+    → ((i : ℕ) → asked′ i ≡ asked i) → Kept given asked s → Kept given′ asked′ s
+kept-eq given given′ asked asked′ s e d K =
+    record {
+      square = K .square;
+      live = λ i a. let k = K .live i a in (k .0, e i ∙ k .1, rw (d i) (k .2));
+    }
+
+begins-kept : (s : State) → Begins s → Square (s .units) → Kept (λ (i : ℕ). none) (λ (i : ℕ). noHeads) s
+begins-kept s b q =
     record {
       square = q;
-      live = λ i a. never {b = isEmpty (stateIn (fresh channels codes units .jobs) i)} (ap isEmpty (fresh-state 16 emptyPlace refl i)) a;
+      live = λ i a. never {b = isEmpty (stateIn (s .jobs) i)} (rw (b .is) (unfold fresh in ap isEmpty (fresh-state 16 emptyPlace refl i))) a;
     }
+
+module _ (from : State) (b : Begins from) (q : Square (from .units)) where
+  reached-kept : (l : List Event) (s : State) → Leads from l s → Wanting from l → Kept (taking l) (asking l) s
+  reached-kept =
+      by-calls from (λ l s. Wanting from l → Kept (taking l) (asking l) s) (λ w. begins-kept from b q)
+      (λ l s d K x w. let k = along-split (λ before y after. Wants before y) from l s (event s x ∷ []) d w in
+      let I = reached-inv l s (record { from = from; begins = b; leads = d }) in
+      kept-eq _ _ _ _ (step s x .state)
+      (λ i. reckoned-append (takenBy i) none l (event s x ∷ []))
+      (λ i. reckoned-append (askedBy i) noHeads l (event s x ∷ []))
+      (step-kept (taking l) (asking l) s I x (λ g. k .1 .0 (granted-accepted s x g)) (K (k .0))))
 
 pub holds-what-it-was-given : HoldsWhatItWasGiven
-holds-what-it-was-given channels codes units free q calls f j =
+holds-what-it-was-given l s r q w j =
     record {
-      live = λ a. let k = run-kept (λ (i : ℕ). none) (λ (i : ℕ). noHeads) s₀ I calls f (fresh-kept channels codes units q) .live j a in
-          (k .0, k .1, exactly (run s₀ calls) (run-inv s₀ I calls) (run-waits s₀ I (fresh-waits channels codes units free) calls) j (k .0) (askedIn j noHeads (events s₀ calls)) (k .2));
-      empty = λ a c u. none-held (run s₀ calls) (run-inv s₀ I calls) j a c u;
+      live = λ a. let k = reached-kept (r .from) (r .begins) q l s (r .leads) w .live j a in
+          (k .0, k .1, exactly l s r j (k .0) (k .2));
+      empty = λ a c u. none-held s (reached-inv l s r) j a c u;
     }
-  where
-    s₀ : State
-    s₀ = fresh channels codes units
-
-    I : Inv s₀
-    I = fresh-inv channels codes units free

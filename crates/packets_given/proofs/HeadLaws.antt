@@ -3,7 +3,7 @@
 -- of that, and that it is what the page says. Assumes nothing.
 use Prim.Native.Nat.{ℕ, _<_}
 use mathlib.Core.Path.{_≡_, refl, sym, ap, _∙_}
-use mathlib.Core.Bool.{Bool, true, false, not, cond, _&&_, _||_}
+use mathlib.Core.Bool.{true, false, cond, _&&_}
 use mathlib.Core.List.{List}
 use mathlib.Core.Logic.{_⊎_, inl, inr, ⊎-elim}
 use mathlib.Core.Option.{Option, some}
@@ -20,8 +20,11 @@ use Rattle.packets.proofs.InvJobs.{held-once, held-taken}
 use Rattle.packets.proofs.Laws.{and-both, and-left, and-right, eqb-self, neither}
 use Rattle.packets.proofs.Sites.{same-eq, same-is}
 use Rattle.packets.proofs.Told.{Returns}
-use Rattle.packets.proofs.Waiting.{Waits}
-use Rattle.packets.specs.Rules.{Return, cut, freeIfReturning, handedBack, isAt, movesAt}
+use Rattle.packets.proofs.Steps.{reached-inv}
+use Rattle.packets.proofs.Waiting.{Waits, reached-waits}
+use Rattle.packets.specs.History.{Event, Reached}
+use Rattle.packets.specs.Rules.{cut, freeIfReturning, handedBack, isAt, movesAt}
+use Rattle.packets.proofs.ByNumber.{Return}
 use Rattle.packets.specs.State.{State, freedAt, heldBy, isEmpty, jobIn, motionOn, packetIn, stateIn, wanted, withHolder}
 use Rattle.packets.specs.declared.Answer.the-variants.{Done}
 use Rattle.packets.specs.declared.Assignment.{Assignment}
@@ -29,7 +32,8 @@ use Rattle.packets.specs.declared.Motion.{Motion}
 use Rattle.packets.specs.declared.Motion.the-variants.{Busy, Idle}
 use Rattle.packets.specs.declared.Site.{Site}
 use Rattle.packets.specs.declared.Site.the-variants.{AtAddress, AtUnit}
-use Rattle.packets_given.specs.Given.{Heads, HoldsExactly, askedBy}
+use Rattle.packets_given.specs.Given.{Heads, HoldsExactly, askedBy, asking, hasReturned, isOn, underWay}
+use Rattle.packets_given.proofs.UnderWay.{told-moves}
 use Rattle.packets_given.proofs.SameLaws.{Share, same-swept, share, squared}
 
 -- ---- what is kept
@@ -204,21 +208,33 @@ module _ (s : State) (I : Inv s) (W : Waits s) (i c u : ℕ) where
           let o : OwnedAt s i c (unitSite u) = rw (eqb-true (q .channel .0) c (and-left (eqb (q .channel .0) c) _ y), same-is (q .at) (unitSite u) (and-right (eqb (q .channel .0) c) _ y)) at (I .motion c i p e′ .owned) in
           o .1 refl
 
-pub exactly : (s : State) → Inv s → Waits s → (i : ℕ) (asg : Assignment) (asked : Heads) → Has s i asg asked → HoldsExactly s i asg asked
-exactly s I W i asg asked H =
+pub exactly : (l : List Event) (s : State) → Reached l s → (i : ℕ) (asg : Assignment) → Has s i asg (asking l i)
+    → HoldsExactly s i asg (asking l i) (hasReturned l i)
+exactly l s r i asg H =
     record {
       from = ap (λ (x : Share). x .from) (H .shared);
       words = ap (λ (x : Share). x .words) (H .shared);
       core = ap (λ (x : Share). x .core) (H .shared);
-      units = λ c u h l. by-bool (asked c u)
-          (λ t. let k = H .known c u h l t in
-          rw (t, k .0) (by-bool (heldBy (unitIn (s .units) c u .holder) i)
-          (λ x. x ∙ sym (rw (held-moves s I W i c u x (k .1 x))))
-          (λ x. x ∙ sym (rw (no-move c u x)))))
-          (λ t. rw t (H .unasked c u h l t .0 ∙ by-bool (wanted asg c u) (λ x. rw x) (λ x. rw x)));
-      returning = λ c u h l x. by-bool (asked c u) (λ t. rw t (H .known c u h l t .1 x)) (λ t. rw t (H .unasked c u h l t .1 x));
+      units = λ c u h k. by-bool (asking l i c u)
+          (λ t. let a = H .known c u h k t in
+          rw (t, a .0) (by-bool (heldBy (unitIn (s .units) c u .holder) i)
+          (λ x. x ∙ sym (rw (moving c u (held-moves s I W i c u x (a .1 x)))))
+          (λ x. x ∙ sym (rw (resting c u x)))))
+          (λ t. rw t (H .unasked c u h k t .0 ∙ by-bool (wanted asg c u) (λ x. rw x) (λ x. rw x)));
+      returning = λ c u h k x. by-bool (asking l i c u) (λ t. rw t (H .known c u h k t .1 x)) (λ t. rw t (H .unasked c u h k t .1 x));
     }
   where
-    no-move : (c u : ℕ) → heldBy (unitIn (s .units) c u .holder) i ≡ false → movesAt s i c (unitSite u) (motionOn s c) ≡ false
-    no-move c u x =
-        by-bool (movesAt s i c (unitSite u) (motionOn s c)) (λ m. never {b = heldBy (unitIn (s .units) c u .holder) i} (moves-held s I W i c u m) x) (λ m. m)
+    I : Inv s
+    I = reached-inv l s r
+
+    W : Waits s
+    W = reached-waits l s r
+
+    moving : (c u : ℕ) → movesAt s i c (unitSite u) (motionOn s c) ≡ true → isOn i u (underWay l c) ≡ true
+    moving c u m = sym (told-moves l s r i c u) ∙ m
+
+    resting : (c u : ℕ) → heldBy (unitIn (s .units) c u .holder) i ≡ false → isOn i u (underWay l c) ≡ false
+    resting c u x =
+        by-bool (isOn i u (underWay l c))
+        (λ m. never {b = heldBy (unitIn (s .units) c u .holder) i} (moves-held s I W i c u (told-moves l s r i c u ∙ m)) x)
+        (λ m. m)

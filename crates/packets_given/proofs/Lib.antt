@@ -1,4 +1,6 @@
 pub mod SameLaws
+pub mod Reckoning
+pub mod UnderWay
 pub mod HeadLaws
 pub mod GivenProof
 pub mod DrumProof

@@ -17,7 +17,7 @@ ghost use Rattle.packets.specs.declared.Site.the-variants.{AtUnit};
 ghost use Rattle.packets.specs.declared.Spot.the-variants.{OnDrum};
 ghost use Rattle.packets.specs.State.{isEmpty, isRunning, blank, same, withState, withStatus, restatus};
 ghost use Rattle.packets.specs.Rules.{failed, cut, covers, aimed, isAt};
-ghost use Rattle.packets.specs.Demand.{emptyPlace};
+ghost use Rattle.packets.specs.History.{emptyPlace};
 ghost use Rattle.packets_job.specs.Aims.{testOf, changeOf, statusSet, takenJob};
 
 // A packet that was never submitted.

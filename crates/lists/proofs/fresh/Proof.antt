@@ -1,5 +1,5 @@
 -- `lists::fresh` meets its contract. Assumes nothing.
-use Rattle.packets.specs.Demand.{fresh}
+use Rattle.packets.specs.History.{fresh}
 use borrow.Author.Needs.{needs}
 use Rattle.lists.proofs.fresh.Statement.{statement}
 use Rattle.lists.proofs.fresh.Tie as tie
