@@ -10,7 +10,6 @@ use native.Mathlib.Omega.{arith}
 use lib.ListN.{length}
 use borrow.Author.Tests.{eq-eqb}
 use Rattle.numbers.proofs.Tests.{both}
-use Rattle.numbers.specs.declared.Refusal.{Refusal}
 use Rattle.schedule_entries.specs.Entries.{inPlace, serial, waiting}
 use Rattle.schedule_entries.specs.declared.Entry.{Entry}
 use Rattle.schedule_entries.specs.declared.State.{State as RequestState}
@@ -23,16 +22,15 @@ use Rattle.channels.specs.declared.Configuration.{Configuration}
 use Rattle.packets.specs.History.{emptyPlace, fresh}
 use Rattle.packets.proofs.Inv.{Inv}
 use Rattle.packets.specs.Rules as Rules
-use Rattle.packets.specs.Rules.{accept, answer, refusal, step}
+use Rattle.packets.specs.Rules.{accept, step}
 use Rattle.packets.specs.State.{State, isClosing, stateIn}
-use Rattle.packets.proofs.Steps.{fresh-state, run-inv}
+use Rattle.packets.proofs.Steps.{fresh-state}
 use Rattle.packets.proofs.Store.{state-fresh}
+use Rattle.packets.specs.declared.Act.{Act}
 use Rattle.packets.specs.declared.Answer.{Answer}
-use Rattle.packets.specs.declared.Answer.the-variants.{Refused}
 use Rattle.packets.specs.declared.JobState.{JobState}
 use Rattle.packets.specs.declared.JobState.the-variants.{ClosingError, ClosingNormal, Empty, Running}
 use Rattle.packets.specs.declared.Lists.{Lists}
-use Rattle.packets.specs.declared.Verdict.the-variants.{Granted}
 use Rattle.lists.proofs.History.{outcome-is}
 use Rattle.lists.specs.Outcomes.{outcome, stateOf}
 use Rattle.cell_selection.specs.Selecting as Selecting
@@ -41,17 +39,17 @@ use Rattle.cell_selection.specs.declared.Choice.{Choice}
 use Rattle.cell_selection.specs.declared.Choice.the-variants.{Job, NoPlace, NoCandidates, Lacks}
 use Rattle.cell_selection.proofs.SelectingLaws.{taking-granted}
 use Rattle.cell_selection.specs.declared.Selection.{Selection}
-use Rattle.cell.specs.Calls.{acted, follows, freshCell}
+use Rattle.cell.specs.Calls.{acted, followed, freshCell}
 use Rattle.cell.specs.declared.Cell.{Cell}
 use Rattle.cell_history.proofs.MeantLaws.{Plain, by-meant}
-use Rattle.cell_history.proofs.HeardLaws.{does-heard}
-use Rattle.cell_history.specs.Heard.{heardOf, inside}
-use Rattle.cell_history.specs.History.{Call, Complete, Deck, Delete, Does, End, Event, Key, Leads, Mark, Release, Reply, Return, Select, Start, Status, Submit}
+use Rattle.cell_history.proofs.Reaching.{by-history, reached-inv}
+use Rattle.cell_history.specs.Told.{inside}
+use Rattle.cell_history.specs.History.{Call, Deck, Delete, Do, Does, Key, Release, Reply, Select, Status}
 use Rattle.cell_agreement.specs.Agreement.{AgreesAlways, HasItsJob, standing}
-use Rattle.cell_agreement.proofs.PlaceLaws.{fresh-cell-inv, states-beyond}
+use Rattle.cell_agreement.proofs.PlaceLaws.{states-beyond}
 use Rattle.cell_agreement.proofs.ScheduleLaws.{kept-deck, kept-deleted, kept-released, put-taken, seen}
 use Rattle.cell_agreement.proofs.StandingLaws.{is-alone, not-none}
-use Rattle.cell_agreement.proofs.StepLaws.{Agree, agree-complete, agree-end, agree-kept, agree-mark, agree-put, agree-return, agree-start, agree-step, agree-submit, stands-empty}
+use Rattle.cell_agreement.proofs.StepLaws.{Agree, agree-kept, agree-put, agree-step, stands-empty}
 
 -- ---- a selection
 
@@ -84,14 +82,14 @@ module _ (s : Schedule) (lists : Lists) (I : Inv (stateOf lists)) (A : Agree s (
 abbrev AgreeIn : Cell → Type 0
 AgreeIn c = Agree (c .schedule) (inside c)
 
-agree-acts : (c d : Cell) (x : Rules.Call) → d ≡ acted c x .cell → ((n : Refusal) → follows (c .schedule) x (Refused n) ≡ c .schedule)
-    → (refusal (inside c) x ≡ Granted → Agree (follows (c .schedule) x (answer (inside c) x)) (accept (inside c) x)) → AgreeIn c → AgreeIn d
+agree-acts : (c d : Cell) (x : Act) → d ≡ acted c x .cell → AgreeIn c → AgreeIn d
 unfolding acted
-agree-acts c d x e same f A =
+agree-acts c d x e A =
+    let is = outcome-is (c .lists) (Rules.Do x) in
     subst AgreeIn (sym e)
-    (λ j. ap (λ (a : Answer). seen j (follows (c .schedule) x a)) (outcome-is (c .lists) x .0)
-    ∙ agree-step (c .schedule) (inside c) A x same f j
-    ∙ ap (λ (st : State). standing (stateIn (st .jobs) j) j) (sym (outcome-is (c .lists) x .1)))
+    (λ j. ap (λ (a : Answer). seen j (followed (c .schedule) a)) (is .0)
+    ∙ agree-step (c .schedule) (inside c) A x j
+    ∙ ap (λ (st : State). standing (stateIn (st .jobs) j) j) (sym (is .1)))
 
 plain-agree : (c d : Cell) (x : Call) (reply : Reply) → Plain x → Does c x reply d → Inv (inside c) → AgreeIn c → AgreeIn d
 plain-agree c d (Deck bytes) reply p h I A =
@@ -103,19 +101,7 @@ plain-agree c d Select reply p h I A =
     subst AgreeIn (sym (h .1 .1 .1))
     (subst (λ (t : Schedule × Lists). Agree (t .0) (stateOf (t .1))) (sym (h .1 .0 .takes .leaves))
     (agree-select (c .schedule) (c .lists) I A (r .selection .choice) (r .selection) (h .1 .0 .takes .selects)))
-plain-agree c d (Submit place packet function channel spot) reply p h I A =
-    agree-acts c d (Rules.Submit place packet function channel spot) (h .1) (λ n. refl) (λ r. agree-submit (c .schedule) (inside c) A place packet function channel spot) A
-plain-agree c d (Start channel) reply p h I A =
-    agree-acts c d (Rules.Start channel) (h .1) (λ n. refl) (λ r. agree-start (c .schedule) (inside c) A channel) A
-plain-agree c d (Complete channel how) reply p h I A =
-    agree-acts c d (Rules.Complete channel how) (h .1) (λ n. refl) (agree-complete (c .schedule) (inside c) A channel how) A
-plain-agree c d (End place inError) reply p h I A =
-    agree-acts c d (Rules.End place inError) (h .1) (λ n. refl) (agree-end (c .schedule) (inside c) A place inError) A
-plain-agree c d (Return place channel unit) reply p h I A =
-    agree-acts c d (Rules.Return place channel unit) (h .1) (λ n. refl) (λ r. agree-return (c .schedule) (inside c) A place channel unit) A
-plain-agree c d (Mark channel unit mark on) reply p h I A =
-    agree-acts c d (Rules.Mark channel unit mark on) (h .1) (λ n. refl)
-    (λ r. agree-mark (c .schedule) (inside c) A (Rules.Mark channel unit mark on) (unfold accept in refl)) A
+plain-agree c d (Do x) reply p h I A = agree-acts c d x (h .1) A
 plain-agree c d (Release id) reply p h I A =
     subst AgreeIn (sym (h .1))
     (agree-kept (c .schedule) (Schedules.released (c .schedule) id .schedule) (inside c) (inside c) (λ j. kept-released j (c .schedule) id) (λ j. refl) A)
@@ -130,14 +116,6 @@ agree-does : (c d : Cell) (x : Call) (reply : Reply) → Does c x reply d → In
 agree-does c d x reply h I A = by-meant (λ o. AgreeIn d) c d reply (λ e. subst AgreeIn (sym e) A) (λ y p k. plain-agree c d y reply p k I A) x h
 
 -- ---- a history
-
-inv-does : (c d : Cell) (x : Call) (reply : Reply) → Does c x reply d → Inv (inside c) → Inv (inside d)
-inv-does c d x reply h I = rw (does-heard c d x reply h) (run-inv (inside c) I (heardOf x reply))
-
-agree-leads : (c d : Cell) (es : List Event) → Leads c es d → Inv (inside c) → AgreeIn c → Inv (inside d) × AgreeIn d
-agree-leads c d [] h I A = (subst (λ (m : Cell). Inv (inside m)) (sym h) I, subst AgreeIn (sym h) A)
-agree-leads c d (e ∷ es) h I A =
-    agree-leads (h .0) d es (h .1 .1) (inv-does c (h .0) (e .call) (e .reply) (h .1 .0) I) (agree-does c (h .0) (e .call) (e .reply) (h .1 .0) I A)
 
 agree-fresh : (configuration : Configuration) → AgreeIn (freshCell configuration)
 unfolding freshCell fresh scheduleOf
@@ -188,10 +166,13 @@ module _ (s : Schedule) (st : State) (I : Inv st) (A : Agree s st) (k : ℕ) (h 
       by (Request.Closing p) e = (inside-place p (rw e (eq-eqb p p refl)), closes-there p e)
 
 pub agrees-always : AgreesAlways
-agrees-always configuration es c h =
-    let r = agree-leads (freshCell configuration) c es h (fresh-cell-inv configuration) (agree-fresh configuration) in
+agrees-always configuration es c r =
+    let I = reached-inv configuration es c r in
+    let A : AgreeIn c =
+    by-history configuration AgreeIn (λ d b. subst AgreeIn (sym b) (agree-fresh configuration))
+    (λ before d h B e x reply k. agree-does d e x reply k (reached-inv configuration before d h) B) es c r in
     record {
-      places = λ j k. r .1 j;
-      beyond = λ j k. r .1 j ∙ ap (λ (x : JobState). standing x j) (states-beyond (inside c) (r .0) j k);
-      requests = λ k g. has-its-job (c .schedule) (inside c) (r .0) (r .1) k g;
+      places = λ j k. A j;
+      beyond = λ j k. A j ∙ ap (λ (x : JobState). standing x j) (states-beyond (inside c) I j k);
+      requests = λ k g. has-its-job (c .schedule) (inside c) I A k g;
     }

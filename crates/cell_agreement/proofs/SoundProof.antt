@@ -3,7 +3,7 @@
 use Prim.Native.Nat.{ℕ}
 use mathlib.Core.Path.{_≡_, sym, subst}
 use mathlib.Core.Bool.{Bool, true, false}
-use mathlib.Core.List.{List, [], _∷_}
+use mathlib.Core.List.{List}
 use Rattle.schedule_list.specs.declared.Schedule.{Schedule}
 use Rattle.schedule.specs.Calls.{closing, deleted, released, returned, taken}
 use Rattle.schedule_orderly.specs.Orderly as Orderly
@@ -19,10 +19,11 @@ use Rattle.packets.specs.declared.Lists.{Lists}
 use Rattle.lists.specs.Outcomes.{outcome}
 use Rattle.cell_selection.specs.Selecting as Selecting
 use Rattle.cell_selection.specs.declared.Selection.{Selection}
-use Rattle.cell.specs.Calls.{acted, afterCompletion, afterEnd, follows, freshCell, leftBy}
+use Rattle.cell.specs.Calls.{acted, followed, freshCell, leftBy}
 use Rattle.cell.specs.declared.Cell.{Cell}
 use Rattle.cell_history.proofs.MeantLaws.{Plain, by-meant}
-use Rattle.cell_history.specs.History.{Call, Complete, Deck, Delete, Does, End, Event, Key, Leads, Mark, Release, Reply, Return, Select, Start, Status, Submit}
+use Rattle.cell_history.proofs.Reaching.{by-history}
+use Rattle.cell_history.specs.History.{Call, Deck, Delete, Do, Does, Key, Release, Reply, Select, Status}
 use Rattle.cell_agreement.specs.Agreement.{SoundAlways}
 
 -- ---- the calls on a schedule
@@ -50,28 +51,12 @@ module _ (s : Schedule) (d : Sound s) where
   sound-left AfterNormal place otherwise o = sound-returned place false
   sound-left AfterError place otherwise o = sound-returned place true
 
-  sound-completion : (a : Answer) → Sound (afterCompletion s a)
-  sound-completion Done = d
-  sound-completion (Started b) = d
-  sound-completion (Completed place packet leaving) = sound-left leaving place s d
-  sound-completion (Closed leaving) = d
-  sound-completion (Refused n) = d
-
-  sound-end : (place : ℕ) (a : Answer) → Sound (afterEnd s place a)
-  sound-end place Done = d
-  sound-end place (Started b) = d
-  sound-end place (Completed j p leaving) = d
-  sound-end place (Closed leaving) = sound-left leaving place (closing s place) (sound-closing place)
-  sound-end place (Refused n) = d
-
-  sound-follows : (x : Rules.Call) (a : Answer) → Sound (follows s x a)
-  sound-follows (Rules.Take j asg) a = d
-  sound-follows (Rules.Submit j p f c w) a = d
-  sound-follows (Rules.Start c) a = d
-  sound-follows (Rules.Complete c how) a = sound-completion a
-  sound-follows (Rules.End j e) a = sound-end j a
-  sound-follows (Rules.Return j c u) a = d
-  sound-follows (Rules.Mark c u m on) a = d
+  sound-followed : (a : Answer) → Sound (followed s a)
+  sound-followed Done = d
+  sound-followed (Started b) = d
+  sound-followed (Completed place packet leaving) = sound-left leaving place s d
+  sound-followed (Closed place leaving) = sound-left leaving place (closing s place) (sound-closing place)
+  sound-followed (Refused n) = d
 
   -- a selection
   sound-select : (found : Bool) (lists : Lists) (selection : Selection) → Sound (Selecting.leftBy found s lists selection .0)
@@ -84,10 +69,6 @@ module _ (s : Schedule) (d : Sound s) where
 abbrev SoundIn : Cell → Type 0
 SoundIn c = Sound (c .schedule)
 
-sound-acts : (c d : Cell) (x : Rules.Call) → d ≡ acted c x .cell → SoundIn c → SoundIn d
-unfolding acted
-sound-acts c d x e h = subst SoundIn (sym e) (sound-follows (c .schedule) h x (outcome (c .lists) x .answer))
-
 plain-sound : (c d : Cell) (x : Call) (reply : Reply) → Plain x → Does c x reply d → SoundIn c → SoundIn d
 plain-sound c d (Deck bytes) reply p h s =
     subst SoundIn (sym (h .2 .1 .1 .1)) (subst (λ (t : Schedule). Sound t) (sym (h .2 .1 .0 .deck .then)) (sound-deck (c .schedule) bytes s))
@@ -95,12 +76,8 @@ plain-sound c d Select reply p h s =
     let r = h .0 in
     subst SoundIn (sym (h .1 .1 .1))
     (subst (λ (t : Schedule × Lists). Sound (t .0)) (sym (h .1 .0 .takes .leaves)) (sound-select (c .schedule) s (Selecting.isJob (r .selection .choice)) (c .lists) (r .selection)))
-plain-sound c d (Submit place packet function channel spot) reply p h s = sound-acts c d (Rules.Submit place packet function channel spot) (h .1) s
-plain-sound c d (Start channel) reply p h s = sound-acts c d (Rules.Start channel) (h .1) s
-plain-sound c d (Complete channel how) reply p h s = sound-acts c d (Rules.Complete channel how) (h .1) s
-plain-sound c d (End place inError) reply p h s = sound-acts c d (Rules.End place inError) (h .1) s
-plain-sound c d (Return place channel unit) reply p h s = sound-acts c d (Rules.Return place channel unit) (h .1) s
-plain-sound c d (Mark channel unit mark on) reply p h s = sound-acts c d (Rules.Mark channel unit mark on) (h .1) s
+plain-sound c d (Do x) reply p h s =
+    unfold acted in subst SoundIn (sym (h .1)) (sound-followed (c .schedule) s (outcome (c .lists) (Rules.Do x) .answer))
 plain-sound c d (Release id) reply p h s = subst SoundIn (sym (h .1)) (sound-released (c .schedule) s id)
 plain-sound c d (Delete id) reply p h s = subst SoundIn (sym (h .1)) (sound-deleted (c .schedule) s id)
 plain-sound c d (Status place packet) reply p h s = subst SoundIn (sym (h .1)) s
@@ -110,10 +87,7 @@ plain-sound c d (Key message) reply p h s = absurd p
 sound-does : (c d : Cell) (x : Call) (reply : Reply) → Does c x reply d → SoundIn c → SoundIn d
 sound-does c d x reply h s = by-meant (λ o. SoundIn d) c d reply (λ e. subst SoundIn (sym e) s) (λ y p k. plain-sound c d y reply p k s) x h
 
-sound-leads : (c d : Cell) (es : List Event) → Leads c es d → SoundIn c → SoundIn d
-sound-leads c d [] h s = subst SoundIn (sym h) s
-sound-leads c d (e ∷ es) h s = sound-leads (h .0) d es (h .1 .1) (sound-does c (h .0) (e .call) (e .reply) (h .1 .0) s)
-
 pub sound-always : SoundAlways
-unfolding freshCell
-sound-always configuration es c h = sound-leads (freshCell configuration) c es h sound-empty
+sound-always configuration es c r =
+    by-history configuration SoundIn (λ d b. unfold freshCell in subst SoundIn (sym b) sound-empty)
+    (λ before d h s e x reply k. sound-does d e x reply k s) es c r

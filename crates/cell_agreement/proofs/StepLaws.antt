@@ -8,7 +8,6 @@ use mathlib.Core.Option.{Option, none, some}
 use lib.Dec.{eqb}
 use borrow.Author.Tests.{eqb-true}
 use Rattle.numbers.proofs.Tests.{by-bool, never}
-use Rattle.numbers.specs.declared.Refusal.{Refusal}
 use Rattle.schedule_entries.specs.declared.State.{State as RequestState}
 use Rattle.schedule_entries.specs.declared.State.the-variants as Request
 use Rattle.schedule_list.specs.declared.Schedule.{Schedule}
@@ -16,11 +15,35 @@ use Rattle.schedule.specs.Calls as Schedules
 use Rattle.packets.proofs.Laws.{and-left}
 use Rattle.packets.specs.Picks.{find}
 use Rattle.packets.specs.Rules as Rules
-use Rattle.packets.specs.Rules.{accept, answer, closed, closing, decided, finished, isDone, leaving, leavingAs, refusal, returnIfDone, returned, startable, started, step}
+use Rattle.packets.specs.Rules.{
+  Do,
+  accept,
+  answer,
+  begins,
+  closed,
+  closing,
+  completed,
+  completes,
+  decided,
+  ended,
+  finished,
+  isDone,
+  leaving,
+  leavingAs,
+  refusal,
+  returnIfDone,
+  returned,
+  startable,
+  started,
+  step,
+}
+use Rattle.packets.proofs.ByNumber.{Complete, End}
+use Rattle.packets.specs.declared.Act.{Act}
+use Rattle.packets.specs.declared.Act.the-variants as Act′
 use Rattle.packets.specs.State.{State, isClosing, isEmpty, isRunning, motionOn, stateIn}
 use Rattle.packets.proofs.Steps.{busy-of}
 use Rattle.packets.proofs.Told.{completes-on, ends-of}
-use Rattle.packets.specs.declared.Answer.the-variants.{Refused}
+use Rattle.packets.specs.declared.Answer.the-variants.{Closed}
 use Rattle.packets.specs.declared.How.{How}
 use Rattle.packets.specs.declared.JobState.{JobState}
 use Rattle.packets.specs.declared.JobState.the-variants.{ClosingError, ClosingNormal, Empty, Running}
@@ -28,7 +51,7 @@ use Rattle.packets.specs.declared.Site.the-variants.{AtUnit}
 use Rattle.packets.specs.declared.Spot.{Spot}
 use Rattle.packets.specs.declared.Verdict.{Verdict}
 use Rattle.packets.specs.declared.Verdict.the-variants.{Denied, Granted}
-use Rattle.cell.specs.Calls.{follows, leftBy}
+use Rattle.cell.specs.Calls.{followed, leftBy}
 use Rattle.cell_agreement.specs.Agreement.{standing}
 use Rattle.packets.proofs.States.{states-begun, states-closed, states-finished, states-handed, states-returned, states-submit}
 use Rattle.cell_agreement.proofs.ScheduleLaws.{Put, put-closing, put-returned, seen}
@@ -96,18 +119,12 @@ module _ (s other : Schedule) (st : State) (j : ℕ) (y : RequestState) (one : s
 -- ---- what an accepted call leaves
 
 module _ (s : Schedule) (st : State) (A : Agree s st) where
-  pub agree-submit : (j p f c : ℕ) (w : Spot) → Agree s (accept st (Rules.Submit j p f c w))
-  unfolding accept
-  agree-submit j p f c w =
-      agree-kept s s st (Rules.submitted st j p f c w) (λ i. refl) (states-submit st j p f c w) A
+  agree-submit : (j p f c : ℕ) (w : Spot) → Agree s (Rules.submitted st j p f c w)
+  agree-submit j p f c w = agree-kept s s st (Rules.submitted st j p f c w) (λ i. refl) (states-submit st j p f c w) A
 
-  pub agree-start : (c : ℕ) → Agree s (accept st (Rules.Start c))
-  unfolding accept
-  agree-start c = by (find (startable st c) (st .queue))
-    where
-      by : (o : Option ℕ) → Agree s (started st c o)
-      by none = A
-      by (some e) = agree-kept s s st (Rules.begun st c e) (λ i. refl) (states-begun st c e) A
+  agree-start : (c : ℕ) (o : Option ℕ) → Agree (followed s (begins st o)) (started st c o)
+  agree-start c none = A
+  agree-start c (some e) = agree-kept s s st (Rules.begun st c e) (λ i. refl) (states-begun st c e) A
 
   agree-completed : (c : ℕ) (how : How) (j p : ℕ) → Agree (leftBy (leaving j (finished st c how j p)) s j s) (returnIfDone j (finished st c how j p))
   agree-completed c how j p =
@@ -118,15 +135,13 @@ module _ (s : Schedule) (st : State) (A : Agree s st) where
       (B j ∙ stands-closing (stateIn (after .jobs) j) j (and-left (isClosing (stateIn (after .jobs) j)) _ d)) d (λ i q. B i))
       (λ d. rw d B)
 
-  pub agree-complete : (c : ℕ) (how : How) → refusal st (Rules.Complete c how) ≡ Granted
-      → Agree (follows s (Rules.Complete c how) (answer st (Rules.Complete c how))) (accept st (Rules.Complete c how))
-  unfolding accept answer
+  agree-complete : (c : ℕ) (how : How) → refusal st (Complete c how) ≡ Granted
+      → Agree (followed s (completes st c how (motionOn st c))) (completed st c how (motionOn st c))
   agree-complete c how r =
       let o = busy-of (motionOn st c) (completes-on st c how r .1) in
       rw (o .2) (agree-completed c how (o .0) (o .1))
 
-  pub agree-end : (j : ℕ) (e : Bool) → refusal st (Rules.End j e) ≡ Granted → Agree (follows s (Rules.End j e) (answer st (Rules.End j e))) (accept st (Rules.End j e))
-  unfolding accept answer
+  agree-end : (j : ℕ) (e : Bool) → refusal st (End j e) ≡ Granted → Agree (followed s (Closed j (leaving j (closed st j e)))) (ended st j e)
   agree-end j e r =
       let run = ends-of st j e r in
       let one : seen j s ≡ Request.Running j ∷ [] = A j ∙ stands-running (stateIn (st .jobs) j) j run in
@@ -139,20 +154,21 @@ module _ (s : Schedule) (st : State) (A : Agree s st) where
       (λ i q. A i ∙ ap (λ (x : JobState). standing x i) (sym (rw q at (states-closed st j e run i)))))
       (λ d. rw d B)
 
-  pub agree-return : (j c u : ℕ) → Agree s (accept st (Rules.Return j c u))
-  unfolding accept
-  agree-return j c u =
-      let a = AtUnit (record { 0 = u }) in
-      agree-kept s s st (Rules.handedBack st j c a) (λ i. refl) (states-handed st j c a) A
-
-  pub agree-mark : (x : Rules.Call) → accept st x .jobs ≡ st .jobs → Agree s (accept st x)
-  agree-mark x e = agree-kept s s st (accept st x) (λ i. refl) (λ i. rw e) A
+  -- AN ACCEPTED CALL, and the schedule that follows its answer
+  agree-accept : (x : Act) → refusal st (Do x) ≡ Granted → Agree (followed s (answer st (Do x))) (accept st (Do x))
+  unfolding accept answer
+  agree-accept (Act′.Submit j p f c w) r = agree-submit j p f (c .0) w
+  agree-accept (Act′.Start c) r = agree-start (c .0) (find (startable st (c .0)) (st .queue))
+  agree-accept (Act′.Complete c how) r = agree-complete (c .0) how r
+  agree-accept (Act′.End j e) r = agree-end j e r
+  agree-accept (Act′.Return j c u) r =
+      agree-kept s s st (Rules.handedBack st j (c .0) (AtUnit u)) (λ i. refl) (states-handed st j (c .0) (AtUnit u)) A
+  agree-accept (Act′.Mark c u m on) r = agree-kept s s st (Rules.marked st (c .0) (u .0) m on) (λ i. refl) (λ i. refl) A
 
   -- a refused call changes nothing
-  pub agree-step : (x : Rules.Call) → ((n : Refusal) → follows s x (Refused n) ≡ s)
-      → (refusal st x ≡ Granted → Agree (follows s x (answer st x)) (accept st x)) → Agree (follows s x (step st x .answer)) (step st x .state)
-  agree-step x same f = unfold step in by (refusal st x) refl
+  pub agree-step : (x : Act) → Agree (followed s (step st (Do x) .answer)) (step st (Do x) .state)
+  agree-step x = unfold step in by (refusal st (Do x)) refl
     where
-      by : (v : Verdict) → refusal st x ≡ v → Agree (follows s x (decided st x v .answer)) (decided st x v .state)
-      by Granted r = f r
-      by (Denied n) r = rw (same n) A
+      by : (v : Verdict) → refusal st (Do x) ≡ v → Agree (followed s (decided st (Do x) v .answer)) (decided st (Do x) v .state)
+      by Granted r = agree-accept x r
+      by (Denied n) r = A

@@ -18,9 +18,8 @@ use Rattle.packets.specs.State.{isClosing, stateIn}
 use Rattle.packets.specs.declared.Job.{Job}
 use Rattle.packets.specs.declared.JobState.{JobState}
 use Rattle.packets.specs.declared.JobState.the-variants.{ClosingError, ClosingNormal, Empty, Running}
-use Rattle.cell.specs.Calls.{freshCell}
 use Rattle.cell.specs.declared.Cell.{Cell}
-use Rattle.cell_history.specs.History.{Event, Leads}
+use Rattle.cell_history.specs.History.{Event, Reached}
 
 -- the states of those requests whose job runs or closes in place j
 abbrev pub statesIn : ℕ → List Entry → List RequestState
@@ -47,9 +46,9 @@ pub record Agrees (c : Cell) : Type 0 where
   pub beyond : (j : ℕ) → 16 ≤ j → statesIn j (inSchedule (c .schedule)) ≡ []
   pub requests : (k : ℕ) → k < length (inSchedule (c .schedule)) → HasItsJob (c .lists .jobs) (entryAt (inSchedule (c .schedule)) k .state)
 
--- what holds of every cell that a history leads to from a fresh one
+-- what holds of every reached cell
 abbrev pub Always : (Cell → Type 0) → Type 0
-Always P = (configuration : Configuration) (es : List Event) (c : Cell) → Leads (freshCell configuration) es c → P c
+Always P = (configuration : Configuration) (es : List Event) (c : Cell) → Reached configuration es c → P c
 
 -- THE SCHEDULE IS SOUND: IDs and keys are distinct, the requests stand in selection order, 64 at most, and it is the
 -- one value that holds them

@@ -1,6 +1,5 @@
 pub mod MeantLaws
-pub mod HeardLaws
 pub mod ToldLaws
-pub mod FromFresh
+pub mod Reaching
 pub mod One
 pub mod SpelledProof

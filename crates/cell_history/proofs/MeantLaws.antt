@@ -8,21 +8,17 @@ use Rattle.units.specs.declared.Mark.the-variants.{Down}
 use Rattle.keyboard.specs.Messages.{readMessage}
 use Rattle.keyboard.specs.declared.Asked.{Asked}
 use Rattle.keyboard.specs.declared.Asked.the-variants as Asked′
+use Rattle.packets.specs.declared.Act.the-variants.{Mark}
 use Rattle.cell.specs.Calls.{heeded}
 use Rattle.cell.specs.declared.Cell.{Cell}
 use Rattle.cell.specs.declared.Heeded.{Heeded}
-use Rattle.cell_history.specs.History.{Call, Complete, Deck, Delete, Does, End, Key, Mark, Release, Reply, Return, Select, Start, Status, Submit, callOf, meant, replyOf}
+use Rattle.cell_history.specs.History.{Call, Deck, Delete, Do, Does, Key, Release, Reply, Select, Status, callOf, meant, replyOf}
 
 -- a call that is no message
 abbrev pub Plain : Call → Type 0
 Plain (Deck bytes) = Unit {0}
 Plain Select = Unit {0}
-Plain (Submit place packet function channel spot) = Unit {0}
-Plain (Start channel) = Unit {0}
-Plain (Complete channel how) = Unit {0}
-Plain (End place inError) = Unit {0}
-Plain (Return place channel unit) = Unit {0}
-Plain (Mark channel unit mark on) = Unit {0}
+Plain (Do x) = Unit {0}
 Plain (Release id) = Unit {0}
 Plain (Delete id) = Unit {0}
 Plain (Status place packet) = Unit {0}
@@ -35,19 +31,14 @@ module _ (P : Option Call → Type 0) (c d : Cell) (reply : Reply) (nothing : d 
   by-asked Asked′.Unknown id h e r s = nothing (s ∙ ap (λ (x : Heeded). x .cell) e)
   by-asked (Asked′.Wrong word fault) id h e r s = nothing (s ∙ ap (λ (x : Heeded). x .cell) e)
   by-asked (Asked′.Mark channel unit on) id h e r s =
-      plain (Mark (channel .0) (unit .0) Down on) tt (r ∙ ap (λ (x : Heeded). replyOf (x .told)) e, s ∙ ap (λ (x : Heeded). x .cell) e)
+      plain (Do (Mark channel unit Down on)) tt (r ∙ ap (λ (x : Heeded). replyOf (x .told)) e, s ∙ ap (λ (x : Heeded). x .cell) e)
   by-asked Asked′.Release id h e r s = plain (Release id) tt (r ∙ ap (λ (x : Heeded). replyOf (x .told)) e, s ∙ ap (λ (x : Heeded). x .cell) e)
   by-asked Asked′.Delete id h e r s = plain (Delete id) tt (r ∙ ap (λ (x : Heeded). replyOf (x .told)) e, s ∙ ap (λ (x : Heeded). x .cell) e)
 
   pub by-meant : (x : Call) → Does c x reply d → P (meant x)
   by-meant (Deck bytes) h = plain (Deck bytes) tt h
   by-meant Select h = plain Select tt h
-  by-meant (Submit place packet function channel spot) h = plain (Submit place packet function channel spot) tt h
-  by-meant (Start channel) h = plain (Start channel) tt h
-  by-meant (Complete channel how) h = plain (Complete channel how) tt h
-  by-meant (End place inError) h = plain (End place inError) tt h
-  by-meant (Return place channel unit) h = plain (Return place channel unit) tt h
-  by-meant (Mark channel unit mark on) h = plain (Mark channel unit mark on) tt h
+  by-meant (Do x) h = plain (Do x) tt h
   by-meant (Release id) h = plain (Release id) tt h
   by-meant (Delete id) h = plain (Delete id) tt h
   by-meant (Status place packet) h = plain (Status place packet) tt h

@@ -17,7 +17,7 @@ use Rattle.cell.specs.declared.DeckAnswer.{DeckAnswer}
 use Rattle.cell.specs.declared.Heeded.{Heeded}
 use Rattle.cell.specs.declared.KeyAnswer.{KeyAnswer}
 use Rattle.cell.specs.declared.SelectAnswer.{SelectAnswer}
-use Rattle.cell_history.specs.History.{Call, Chosen, Complete, Deck, Delete, Does, End, Entered, Key, Mark, Release, Reply, Return, Select, Start, Status, Submit, replyOf}
+use Rattle.cell_history.specs.History.{Call, Chosen, Deck, Delete, Do, Does, Entered, Key, Release, Reply, Select, Status, replyOf}
 
 -- two answers to one deck, whatever room was lent: the same outcome and the same cell
 pub enters-one : (c : Cell) (bytes room after room₁ after₁ : List ℕ) (r s : DeckAnswer) → Enters c bytes room after r → Enters c bytes room₁ after₁ s
@@ -60,12 +60,7 @@ does-one c (Deck bytes) r s d e a b =
 does-one c Select r s d e a b =
     let k = selects-in-one c (a .0) (b .0) (a .1 .0) (b .1 .0) in
     (a .1 .1 .0 ∙ ap (λ (y : SelectAnswer). Chosen (y .outcome) (y .selection)) k ∙ sym (b .1 .1 .0), a .1 .1 .1 ∙ ap (λ (y : SelectAnswer). y .cell) k ∙ sym (b .1 .1 .1))
-does-one c (Submit j p f k w) r s d e a b = (a .0 ∙ sym (b .0), a .1 ∙ sym (b .1))
-does-one c (Start k) r s d e a b = (a .0 ∙ sym (b .0), a .1 ∙ sym (b .1))
-does-one c (Complete k how) r s d e a b = (a .0 ∙ sym (b .0), a .1 ∙ sym (b .1))
-does-one c (End j x) r s d e a b = (a .0 ∙ sym (b .0), a .1 ∙ sym (b .1))
-does-one c (Return j k u) r s d e a b = (a .0 ∙ sym (b .0), a .1 ∙ sym (b .1))
-does-one c (Mark k u m on) r s d e a b = (a .0 ∙ sym (b .0), a .1 ∙ sym (b .1))
+does-one c (Do x) r s d e a b = (a .0 ∙ sym (b .0), a .1 ∙ sym (b .1))
 does-one c (Release id) r s d e a b = (a .0 ∙ sym (b .0), a .1 ∙ sym (b .1))
 does-one c (Delete id) r s d e a b = (a .0 ∙ sym (b .0), a .1 ∙ sym (b .1))
 does-one c (Status j p) r s d e a b = (a .0 ∙ sym (b .0), a .1 ∙ sym (b .1))

@@ -3,24 +3,18 @@
 use mathlib.Core.Path.{_≡_, refl, ap, subst, _∙_}
 use mathlib.Core.List.{List, [], _∷_, _++_}
 use mathlib.Core.Option.{Option, some}
-use Rattle.packets.specs.History as Told
-use Rattle.packets.specs.Rules as Rules
+use Rattle.packets.specs.History as Lists
 use Rattle.cell.specs.declared.Cell.{Cell}
 use Rattle.cell_history.proofs.MeantLaws.{Plain, by-meant}
-use Rattle.cell_history.specs.Heard.{heard, heardBy, heardOf, told, toldBy, toldOf}
-use Rattle.cell_history.specs.History.{Call, Complete, Deck, Delete, Does, End, Event, Key, Leads, Mark, Release, Reply, Return, Select, Start, Status, Submit, meant}
+use Rattle.cell_history.specs.Told.{told, toldBy, toldOf}
+use Rattle.cell_history.specs.History.{Call, Deck, Delete, Do, Does, Event, Key, Leads, Release, Reply, Select, Status, meant}
 use Rattle.cell_history.specs.Spelled.{NoMessages, SpelledAlways, eventOf, spelled}
 
 -- a call that is no message means itself
 plain-meant : (x : Call) → Plain x → meant x ≡ some x
 plain-meant (Deck bytes) p = refl
 plain-meant Select p = refl
-plain-meant (Submit place packet function channel spot) p = refl
-plain-meant (Start channel) p = refl
-plain-meant (Complete channel how) p = refl
-plain-meant (End place inError) p = refl
-plain-meant (Return place channel unit) p = refl
-plain-meant (Mark channel unit mark on) p = refl
+plain-meant (Do x) p = refl
 plain-meant (Release id) p = refl
 plain-meant (Delete id) p = refl
 plain-meant (Status place packet) p = refl
@@ -29,25 +23,26 @@ plain-meant (Key message) p = absurd p
 -- what one call comes to, spelled out, in front of a history
 abbrev Spells : Cell → List Event → Cell → Reply → Option Call → Type 0
 Spells c es d reply o =
-    NoMessages (eventOf o reply ++ es)
-    × (Leads c (eventOf o reply ++ es) d
-    × ((heard (eventOf o reply ++ es) ≡ heardBy o reply ++ heard es) × (told (eventOf o reply ++ es) ≡ toldBy o reply ++ told es)))
+    let l = eventOf o reply ++ es in NoMessages l × (Leads c l d × (told l ≡ toldBy o reply ++ told es))
 
-spells : (c m d : Cell) (x : Call) (reply : Reply) (es : List Event) → Does c x reply m → NoMessages es → Leads m es d → Spells c es d reply (meant x)
+spells : (c m d : Cell) (x : Call) (reply : Reply) (es : List Event) → Does c x reply m → NoMessages es → Leads m es d
+    → Spells c es d reply (meant x)
 spells c m d x reply es h n l =
     by-meant (Spells c es d reply) c m reply
-    (λ e. (n, (subst (λ (k : Cell). Leads k es d) e l, (refl, refl))))
-    (λ y p k. ((λ message e. subst Plain e p, n), ((m, (k, l)), (ap (λ (o : Option Call). heardBy o reply ++ heard es) (plain-meant y p), ap (λ (o : Option Call). toldBy o reply ++ told es) (plain-meant y p)))))
+    (λ e. (n, (subst (λ (k : Cell). Leads k es d) e l, refl)))
+    (λ y p k. (
+      (λ message e. subst Plain e p, n),
+      ((m, (k, l)), ap (λ (o : Option Call). toldBy o reply ++ told es) (plain-meant y p)),
+    ))
     x h
 
 pub spelled-out : SpelledAlways
-spelled-out c d [] h = record { plain = tt; leads = h; heards = refl; tolds = refl }
+spelled-out c d [] h = record { plain = tt; leads = h; tolds = refl }
 spelled-out c d (e ∷ es) h =
     let r = spelled-out (h .0) d es (h .1 .1) in
     let s = spells c (h .0) d (e .call) (e .reply) (spelled es) (h .1 .0) (r .plain) (r .leads) in
     record {
       plain = s .0;
       leads = s .1 .0;
-      heards = s .1 .1 .0 ∙ ap (λ (l : List Rules.Call). heardOf (e .call) (e .reply) ++ l) (r .heards);
-      tolds = s .1 .1 .1 ∙ ap (λ (l : List Told.Event). toldOf (e .call) (e .reply) ++ l) (r .tolds);
+      tolds = s .1 .1 ∙ ap (λ (l : List Lists.Event). toldOf (e .call) (e .reply) ++ l) (r .tolds);
     }

@@ -1,3 +1,3 @@
 pub mod History
-pub mod Heard
+pub mod Told
 pub mod Spelled

@@ -4,7 +4,7 @@ use mathlib.Core.Path.{_≡_}
 use mathlib.Core.List.{List, [], _∷_, _++_}
 use mathlib.Core.Option.{Option, none, some}
 use Rattle.cell.specs.declared.Cell.{Cell}
-use Rattle.cell_history.specs.Heard.{heard, told}
+use Rattle.cell_history.specs.Told.{told}
 use Rattle.cell_history.specs.History.{Call, Event, Key, Leads, Reply, meant}
 
 -- a call with what it answered, if there is one
@@ -23,12 +23,10 @@ abbrev pub NoMessages : List Event → Type 0
 NoMessages [] = Unit {0}
 NoMessages (e ∷ es) = ((message : List ℕ) → e .call ≡ Key message → ⊥) × NoMessages es
 
--- THE STATEMENT: the spelled history has no message, it leads to the same cell, and the lists hear and the caller is
--- told the same
+-- THE STATEMENT: the spelled history has no message, it leads to the same cell, and the same is told of it
 pub record SpelledOut (c : Cell) (es : List Event) (d : Cell) : Type 0 where
   pub plain : NoMessages (spelled es)
   pub leads : Leads c (spelled es) d
-  pub heards : heard (spelled es) ≡ heard es
   pub tolds : told (spelled es) ≡ told es
 
 -- and so for every history

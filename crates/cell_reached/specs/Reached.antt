@@ -1,4 +1,4 @@
--- WHAT HOLDS OF EVERY CELL that a history leads to from a fresh one: packets, request list and motions are in
+-- WHAT HOLDS OF EVERY REACHED CELL: packets, request list and motions are in
 -- order; no two jobs hold the same words of drum or blocks of core; a running or closing job holds exactly what it
 -- was given at its selection less what it has returned, and an empty place holds no unit. A reader has to believe this
 -- page.
@@ -8,13 +8,12 @@ use Rattle.channels.specs.declared.Configuration.{Configuration}
 use Rattle.packets.specs.Always.{Always}
 use Rattle.packets.specs.Apart.{Apart, inCore}
 use Rattle.packets.specs.Rules.{inArea}
-use Rattle.packets_given.specs.Given.{AsGiven, AtItsArea, asking, taking}
-use Rattle.cell.specs.Calls.{freshCell}
+use Rattle.packets_given.specs.Given.{AsGiven, AtItsArea}
 use Rattle.cell.specs.declared.Cell.{Cell}
-use Rattle.cell_history.specs.Heard.{inside, told}
-use Rattle.cell_history.specs.History.{Event, Leads}
+use Rattle.cell_history.specs.Told.{inside, told}
+use Rattle.cell_history.specs.History.{Event, Reached}
 
-pub record Reached (es : List Event) (c : Cell) : Type 0 where
+pub record InOrder (es : List Event) (c : Cell) : Type 0 where
   -- listed packets are exactly those in the list, one packet moves per channel, and a listed or moving packet's
   -- unit is held by its job
   pub always : Always (inside c)
@@ -23,8 +22,8 @@ pub record Reached (es : List Event) (c : Cell) : Type 0 where
   pub core : Apart inCore (inside c)
   -- a packet that is listed or moves on the drum is at an address of its job's area
   pub addresses : AtItsArea (inside c)
-  -- what was given, by the reply to the last selection into each place, and asked back, by the replies since then
-  pub given : (place : ℕ) → AsGiven (inside c) place (taking (told es) place) (asking (told es) place)
+  -- what was given, by the reply to the last selection into each place, less what was returned, by the replies since then
+  pub given : (place : ℕ) → AsGiven (told es) (inside c) place
 
 abbrev pub Invariants : Type 0
-Invariants = (configuration : Configuration) (es : List Event) (c : Cell) → Leads (freshCell configuration) es c → Reached es c
+Invariants = (configuration : Configuration) (es : List Event) (c : Cell) → Reached configuration es c → InOrder es c

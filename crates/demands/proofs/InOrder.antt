@@ -20,9 +20,8 @@ use Rattle.schedule_orderly.specs.Orderly.{Ahead, Each, Pairs, requests}
 use Rattle.schedule_orderly.proofs.OrderLaws.{precedes-on}
 use Rattle.cell_selection.specs.Selecting.{Candidate, HasNone, Selected, seenIn}
 use Rattle.cell_selection.specs.declared.Selection.{Selection}
-use Rattle.cell.specs.Calls.{freshCell}
 use Rattle.cell.specs.declared.Cell.{Cell}
-use Rattle.cell_history.specs.History.{Event, Leads}
+use Rattle.cell_history.specs.History.{Event, Reached}
 use Rattle.cell_agreement.proofs.SoundProof.{sound-always}
 
 -- each of a list, and each two of it, by their indices
@@ -66,7 +65,7 @@ module _ (es : List Entry) (keys : Pairs Ahead (requests es)) where
       past l n = omega arith
 
 -- a candidate that comes before the job selected in the selection order has no assignment
-pub first-in-order : (configuration : Configuration) (es : List Event) (c : Cell) → Leads (freshCell configuration) es c
+pub first-in-order : (configuration : Configuration) (es : List Event) (c : Cell) → Reached configuration es c
     → (job : Selection) → Selected (inSchedule (c .schedule)) (c .lists) job
     → (i : ℕ) → Candidate (inSchedule (c .schedule)) i → precedes (keyOf (entryAt (inSchedule (c .schedule)) i .request)) (keyOf (job .request)) ≡ true
     → HasNone (seenIn (c .lists)) (entryAt (inSchedule (c .schedule)) i .request)

@@ -9,21 +9,26 @@ use mathlib.Core.Option.{Option, none, some}
 use native.Mathlib.Omega.{arith}
 use lib.Dec.{eqb}
 use Rattle.numbers.proofs.Tests.{by-bool}
+use Rattle.numbers.specs.declared.ChannelNumber.{ChannelNumber}
 use Rattle.numbers.specs.declared.Outcome.{Outcome}
 use Rattle.numbers.specs.declared.Outcome.the-variants as Outcomes
+use Rattle.numbers.specs.declared.UnitNumber.{UnitNumber}
 use Rattle.units.specs.State.{assignable, isReturning, unitIn}
 use Rattle.units.specs.declared.Holder.{Holder}
 use Rattle.units.specs.declared.Holder.the-variants.{Free}
 use Rattle.units.specs.declared.Mark.{Mark as UnitMark}
 use Rattle.units.specs.declared.Unit.{Unit as UnitState}
 use Rattle.channels.specs.declared.Configuration.{Configuration}
-use Rattle.configuration_units.specs.Fresh.{freshUnits}
 use Rattle.schedule.specs.Calls.{deleted, released}
-use Rattle.packets.specs.History.{fresh}
+use Rattle.packets.specs.History as Lists
+use Rattle.packets.specs.History.{fresh, isAccepted}
+use Rattle.packets.proofs.Reaching.{accepted-granted, step-accepted}
 use Rattle.packets.specs.Picks.{All, find}
 use Rattle.packets.specs.Rules as Rules
 use Rattle.packets.specs.Rules.{accept, closed, completed, finished, isDone, isTrouble, locked, returnIfDone, siteOf, startable, started, submitted}
 use Rattle.packets.specs.State.{State, isUnit, motionOn, packetIn, release, setLock, takeUnit, wanted, withLock, freedAt, setHolder, unitAt, withHolder}
+use Rattle.packets.specs.declared.Act.{Act}
+use Rattle.packets.specs.declared.Act.the-variants as Act′
 use Rattle.packets.specs.declared.Answer.{Answer}
 use Rattle.packets.specs.declared.Answer.the-variants as Answers
 use Rattle.packets.specs.declared.How.{How}
@@ -34,31 +39,29 @@ use Rattle.packets.specs.declared.Site.the-variants.{AtAddress, AtUnit}
 use Rattle.packets.specs.declared.Spot.{Spot}
 use Rattle.packets.specs.declared.Verdict.{Verdict}
 use Rattle.packets.specs.declared.Verdict.the-variants.{Denied, Granted}
-use Rattle.packets.proofs.Stays.{Configured, run-has}
+use Rattle.packets.proofs.Stays.{Configured, leads-has}
 use Rattle.packets.proofs.Store.{unit-keep, unit-release, unit-take}
-use Rattle.lists.proofs.History.{outcome-is}
-use Rattle.cell_selection.specs.Selecting.{isJob}
-use Rattle.cell.specs.Calls.{acted, answerOf, freshCell}
+use Rattle.cell_selection.specs.declared.Selection.{Selection}
+use Rattle.cell.specs.Calls.{answerOf}
 use Rattle.cell.specs.declared.Cell.{Cell}
-use Rattle.cell_history.proofs.FromFresh.{reached}
-use Rattle.cell_history.proofs.MeantLaws.{Plain, by-meant}
-use Rattle.cell_history.proofs.HeardLaws.{does-heard}
-use Rattle.cell_history.specs.Heard.{heard, heardAs, heardBy, heardOf, inside, taken}
-use Rattle.cell_history.specs.History.{Call, Chosen, Complete, Deck, Delete, Does, End, Entered, Event, Key, Leads, Mark, Mistyped, Release, Reply, Return, Said, Select, Shown, Start, Status, Submit, meant}
-use Rattle.demands.specs.Demands.{SameMarks}
+use Rattle.cell_history.proofs.Reaching.{fresh-inside}
+use Rattle.cell_history.proofs.ToldLaws.{does-told, leads-told}
+use Rattle.cell_history.specs.Told.{chosen, doneAs, inside, said, told, toldBy, toldOf}
+use Rattle.cell_history.specs.History.{Call, Chosen, Deck, Delete, Do, Does, Entered, Event, Key, Mistyped, Reached, Release, Reply, Said, Select, Shown, Status, meant}
+use Rattle.demands.specs.Demands.{AnsweredSo, SameMarks}
 use Rattle.demands.specs.Refusing.{refusalIn}
-use Rattle.demands.proofs.Accepted.{heard-granted}
 
 -- ---- the channels and the codes
 
 pub channels-stay : (c d : Cell) (x : Call) (reply : Reply) → Does c x reply d → inside d .channels ≡ inside c .channels
 channels-stay c d x reply h =
-    ap (λ (s : State). s .channels) (does-heard c d x reply h) ∙ ap (λ (z : Configured). z .channels) (run-has (inside c) (heardOf x reply))
+    ap (λ (z : Configured). z .channels) (leads-has (inside c) (toldOf x reply) (inside d) (does-told c d x reply h))
 
-pub codes-stay : (configuration : Configuration) (es : List Event) (c : Cell) → Leads (freshCell configuration) es c → inside c .codes ≡ configuration .codes
-codes-stay configuration es c h =
-    ap (λ (s : State). s .codes) (reached configuration es c h)
-    ∙ ap (λ (z : Configured). z .codes) (run-has (fresh (configuration .channels) (configuration .codes) (freshUnits (configuration .down))) (heard es))
+pub codes-stay : (configuration : Configuration) (es : List Event) (c : Cell) → Reached configuration es c
+    → inside c .codes ≡ configuration .codes
+codes-stay configuration es c r =
+    ap (λ (z : Configured). z .codes) (leads-has (inside (r .from)) (told es) (inside c) (leads-told (r .from) c es (r .leads)))
+    ∙ ap (λ (s : State). s .codes) (ap inside (r .begins) ∙ fresh-inside configuration)
     ∙ (unfold fresh in refl)
 
 -- ---- the marks
@@ -66,12 +69,15 @@ codes-stay configuration es c h =
 -- a call of the lists that marks nothing
 abbrev Unmarking : Rules.Call → Type 0
 Unmarking (Rules.Take j asg) = Unit {0}
-Unmarking (Rules.Submit j p f c w) = Unit {0}
-Unmarking (Rules.Start c) = Unit {0}
-Unmarking (Rules.Complete c how) = Unit {0}
-Unmarking (Rules.End j e) = Unit {0}
-Unmarking (Rules.Return j c u) = Unit {0}
-Unmarking (Rules.Mark c u m on) = ⊥
+Unmarking (Rules.Do (Act′.Submit j p f c w)) = Unit {0}
+Unmarking (Rules.Do (Act′.Start c)) = Unit {0}
+Unmarking (Rules.Do (Act′.Complete c how)) = Unit {0}
+Unmarking (Rules.Do (Act′.End j e)) = Unit {0}
+Unmarking (Rules.Do (Act′.Return j c u)) = Unit {0}
+Unmarking (Rules.Do (Act′.Mark c u m on)) = ⊥
+
+abbrev UnmarkingAs : Lists.Event → Type 0
+UnmarkingAs e = Unmarking (e .call)
 
 -- for anything that is read of a unit and that locks, new holders, returns and takings leave alone
 module _ (f : UnitState → Bool) (locks : (v : UnitState) (b : Bool) → f (withLock v b) ≡ f v) (holds : (v : UnitState) (h : Holder) → f (withHolder v h) ≡ f v)
@@ -115,12 +121,12 @@ module _ (f : UnitState → Bool) (locks : (v : UnitState) (b : Bool) → f (wit
     accept-keeps : (x : Rules.Call) → Unmarking x → read (accept s x) ≡ read s
     unfolding accept
     accept-keeps (Rules.Take j asg) n = let t = unit-take (s .units) j (wanted asg) d w in ap f (t .1) ∙ takes j (t .0) (unitIn (s .units) d w)
-    accept-keeps (Rules.Submit j p g c spot) n = submitted-keeps j p g c spot
-    accept-keeps (Rules.Start c) n = starts-keep c (find (startable s c) (s .queue))
-    accept-keeps (Rules.Complete c how) n = completed-keeps c how (motionOn s c)
-    accept-keeps (Rules.End j e) n = returns-keep j (closed s j e)
-    accept-keeps (Rules.Return j c u) n = hold-keeps (s .units) c (AtUnit (record { 0 = u })) _
-    accept-keeps (Rules.Mark c u m on) n = absurd n
+    accept-keeps (Rules.Do (Act′.Submit j p g c spot)) n = submitted-keeps j p g (c .0) spot
+    accept-keeps (Rules.Do (Act′.Start c)) n = starts-keep (c .0) (find (startable s (c .0)) (s .queue))
+    accept-keeps (Rules.Do (Act′.Complete c how)) n = completed-keeps (c .0) how (motionOn s (c .0))
+    accept-keeps (Rules.Do (Act′.End j e)) n = returns-keep j (closed s j e)
+    accept-keeps (Rules.Do (Act′.Return j c u)) n = hold-keeps (s .units) (c .0) (AtUnit u) _
+    accept-keeps (Rules.Do (Act′.Mark c u m on)) n = absurd n
 
     step-keeps : (x : Rules.Call) → Unmarking x → read (Rules.step s x .state) ≡ read s
     unfolding Rules.step
@@ -130,81 +136,81 @@ module _ (f : UnitState → Bool) (locks : (v : UnitState) (b : Bool) → f (wit
         go Granted = accept-keeps x n
         go (Denied r) = refl
 
-  run-keeps : (s : State) (l : List Rules.Call) → All Unmarking l → read (Rules.run s l) ≡ read s
-  unfolding Rules.run
-  run-keeps s [] a = refl
-  run-keeps s (x ∷ l) a = run-keeps (Rules.step s x .state) l (a .1) ∙ step-keeps s x (a .0)
+  leads-keep : (s : State) (l : List Lists.Event) (t : State) → Lists.Leads s l t → All UnmarkingAs l → read t ≡ read s
+  leads-keep s [] t h a = ap read h
+  leads-keep s (e ∷ l) t h a = leads-keep (Rules.step s (e .call) .state) l t (h .1) (a .1) ∙ step-keeps s (e .call) (a .0)
 
-taken-unmarking : (reply : Reply) → All Unmarking (taken reply)
-taken-unmarking (Entered o) = tt
-taken-unmarking (Chosen o s) = by-bool (isJob (s .choice)) (λ t. rw t (tt, tt)) (λ t. rw t tt)
-taken-unmarking (Said a) = tt
-taken-unmarking (Shown s) = tt
-taken-unmarking (Mistyped f) = tt
+done-unmarking : (o : Outcome) (s : Selection) → All UnmarkingAs (doneAs o s)
+done-unmarking Outcomes.Done s = (tt, tt)
+done-unmarking (Outcomes.Refused n) s = tt
 
-heard-unmarking : (o : Option Call) (reply : Reply) → ((k u : ℕ) (m : UnitMark) (on : Bool) → o ≡ some (Mark k u m on) → ⊥) → All Unmarking (heardBy o reply)
-heard-unmarking none reply n = tt
-heard-unmarking (some (Deck bytes)) reply n = tt
-heard-unmarking (some Select) reply n = taken-unmarking reply
-heard-unmarking (some (Submit j p f c w)) reply n = (tt, tt)
-heard-unmarking (some (Start c)) reply n = (tt, tt)
-heard-unmarking (some (Complete c how)) reply n = (tt, tt)
-heard-unmarking (some (End j e)) reply n = (tt, tt)
-heard-unmarking (some (Return j c u)) reply n = (tt, tt)
-heard-unmarking (some (Mark k u m on)) reply n = absurd (n k u m on refl)
-heard-unmarking (some (Release id)) reply n = tt
-heard-unmarking (some (Delete id)) reply n = tt
-heard-unmarking (some (Status j p)) reply n = tt
-heard-unmarking (some (Key message)) reply n = tt
+chosen-unmarking : (reply : Reply) → All UnmarkingAs (chosen reply)
+chosen-unmarking (Entered o) = tt
+chosen-unmarking (Chosen o s) = done-unmarking o s
+chosen-unmarking (Said a) = tt
+chosen-unmarking (Shown s) = tt
+chosen-unmarking (Mistyped f) = tt
 
-pub marks-stay : (c d : Cell) (x : Call) (reply : Reply) → Does c x reply d → ((k u : ℕ) (m : UnitMark) (on : Bool) → meant x ≡ some (Mark k u m on) → ⊥) → (k u : ℕ)
+said-unmarking : (x : Act) (reply : Reply) → Unmarking (Rules.Do x) → All UnmarkingAs (said x reply)
+said-unmarking x (Entered o) n = tt
+said-unmarking x (Chosen o s) n = tt
+said-unmarking x (Said a) n = (n, tt)
+said-unmarking x (Shown s) n = tt
+said-unmarking x (Mistyped f) n = tt
+
+-- no mark call is meant
+abbrev NoMark : Option Call → Type 0
+NoMark o = (k : ChannelNumber) (u : UnitNumber) (m : UnitMark) (on : Bool) → o ≡ some (Do (Act′.Mark k u m on)) → ⊥
+
+act-unmarking : (x : Act) → NoMark (some (Do x)) → Unmarking (Rules.Do x)
+act-unmarking (Act′.Submit j p f c w) n = tt
+act-unmarking (Act′.Start c) n = tt
+act-unmarking (Act′.Complete c how) n = tt
+act-unmarking (Act′.End j e) n = tt
+act-unmarking (Act′.Return j c u) n = tt
+act-unmarking (Act′.Mark k u m on) n = absurd (n k u m on refl)
+
+told-unmarking : (o : Option Call) (reply : Reply) → NoMark o → All UnmarkingAs (toldBy o reply)
+told-unmarking none reply n = tt
+told-unmarking (some (Deck bytes)) reply n = tt
+told-unmarking (some Select) reply n = chosen-unmarking reply
+told-unmarking (some (Do x)) reply n = said-unmarking x reply (act-unmarking x n)
+told-unmarking (some (Release id)) reply n = tt
+told-unmarking (some (Delete id)) reply n = tt
+told-unmarking (some (Status j p)) reply n = tt
+told-unmarking (some (Key message)) reply n = tt
+
+pub marks-stay : (c d : Cell) (x : Call) (reply : Reply) → Does c x reply d → NoMark (meant x) → (k u : ℕ)
     → SameMarks (unitIn (inside d .units) k u) (unitIn (inside c .units) k u)
-marks-stay c d x reply h n k u =
-    let l = heard-unmarking (meant x) reply n in
-    let is = does-heard c d x reply h in (
-      ap (λ (s : State). unitIn (s .units) k u .down) is
-          ∙ run-keeps (λ v. v .down) (λ v b. refl) (λ v h. refl) (λ j v. refl) (λ j w v. by-bool (w && assignable v) (λ t. rw t refl) (λ t. rw t refl)) k u (inside c) (heardOf x reply) l,
-      ap (λ (s : State). unitIn (s .units) k u .reserved) is
-          ∙ run-keeps (λ v. v .reserved) (λ v b. refl) (λ v h. refl) (λ j v. refl) (λ j w v. by-bool (w && assignable v) (λ t. rw t refl) (λ t. rw t refl)) k u (inside c) (heardOf x reply) l,
-    )
+marks-stay c d x reply h n k u = (
+  kept (λ v. v .down) (λ v b. refl) (λ v h. refl) (λ j v. refl) (λ j w v. by-bool (w && assignable v) (λ t. rw t refl) (λ t. rw t refl)),
+  kept (λ v. v .reserved) (λ v b. refl) (λ v h. refl) (λ j v. refl) (λ j w v. by-bool (w && assignable v) (λ t. rw t refl) (λ t. rw t refl)),
+)
+  where
+    kept : (f : UnitState → Bool) → ((v : UnitState) (b : Bool) → f (withLock v b) ≡ f v)
+        → ((v : UnitState) (h : Holder) → f (withHolder v h) ≡ f v) → ((j : ℕ) (v : UnitState) → f (release j v) ≡ f v)
+        → ((j : ℕ) (w : Bool) (v : UnitState) → f (takeUnit j w v) ≡ f v)
+        → f (unitIn (inside d .units) k u) ≡ f (unitIn (inside c .units) k u)
+    kept f locks holds frees takes =
+        leads-keep f locks holds frees takes k u (inside c) (toldOf x reply) (inside d) (does-told c d x reply h)
+        (told-unmarking (meant x) reply n)
 
 -- ---- the answers
 
 one-answer : {a b : Answer} → Said a ≡ Said b → a ≡ b
 one-answer e = cc
 
-acts-answer : (c : Cell) (x y : Rules.Call) (a : Answer) → Said a ≡ Said (acted c x .answer) → x ∷ [] ≡ y ∷ [] → Rules.refusal (inside c) y ≡ Granted → a ≡ Rules.answer (inside c) y
-unfolding acted Rules.step
-acts-answer c x y a e q g =
-    let p : x ≡ y = cc in
-    one-answer e ∙ outcome-is (c .lists) x .0 ∙ ap (λ (z : Rules.Call). Rules.decided (inside c) z (Rules.refusal (inside c) z) .answer) p
-    ∙ ap (λ (v : Verdict). Rules.decided (inside c) y v .answer) g
+-- each accepted call is answered as the rules say
+answered-so : (s : State) (l : List Lists.Event) (t : State) → Lists.Leads s l t → AnsweredSo s l
+answered-so s [] t h = tt
+answered-so s (e ∷ l) t h = (
+  λ a. h .0 ∙ ap (λ (y : Rules.Answered). y .answer)
+      (step-accepted s (e .call) (accepted-granted s (e .call) (sym (ap isAccepted (h .0)) ∙ a))),
+  answered-so (Rules.step s (e .call) .state) l t (h .1),
+)
 
-not-one : (y : Rules.Call) → _≡_ {A = List Rules.Call} [] (y ∷ []) → ⊥
-not-one y q = let z : _≡_ {A = ℕ} 0 1 = cc in omega arith
-
-pub answers-so : (c d : Cell) (x : Call) (a : Answer) → Does c x (Said a) d → refusalIn (Said a) ≡ none → (y : Rules.Call) → heardOf x (Said a) ≡ y ∷ []
-    → a ≡ Rules.answer (inside c) y
-answers-so c d x a h e y q =
-    by-meant (λ o. heardBy o (Said a) ≡ y ∷ [] → a ≡ Rules.answer (inside c) y) c d (Said a) (λ s q. absurd (not-one y q))
-    (λ z n k q. go z n k q (heard-granted c d x (Said a) h e y p)) x h q
-  where
-    p : heardOf x (Said a) ≡ y ∷ []
-    p = q
-
-    go : (x : Call) → Plain x → Does c x (Said a) d → heardAs x (Said a) ≡ y ∷ [] → Rules.refusal (inside c) y ≡ Granted → a ≡ Rules.answer (inside c) y
-    go (Deck bytes) n h q g = absurd (not-one y q)
-    go Select n h q g = absurd (not-one y q)
-    go (Submit j p f k w) n h q g = acts-answer c (Rules.Submit j p f k w) y a (h .0) q g
-    go (Start k) n h q g = acts-answer c (Rules.Start k) y a (h .0) q g
-    go (Complete k how) n h q g = acts-answer c (Rules.Complete k how) y a (h .0) q g
-    go (End j b) n h q g = acts-answer c (Rules.End j b) y a (h .0) q g
-    go (Return j k u) n h q g = acts-answer c (Rules.Return j k u) y a (h .0) q g
-    go (Mark k u m on) n h q g = acts-answer c (Rules.Mark k u m on) y a (h .0) q g
-    go (Release id) n h q g = absurd (not-one y q)
-    go (Delete id) n h q g = absurd (not-one y q)
-    go (Status j p) n h q g = absurd (not-one y q)
-    go (Key message) n h q g = absurd n
+pub answers-so : (c d : Cell) (x : Call) (reply : Reply) → Does c x reply d → AnsweredSo (inside c) (toldOf x reply)
+answers-so c d x reply h = answered-so (inside c) (toldOf x reply) (inside d) (does-told c d x reply h)
 
 done-only : (o : Outcome) (a : Answer) → Said a ≡ Said (answerOf o) → refusalIn (Said a) ≡ none → a ≡ Answers.Done
 done-only Outcomes.Done a e n = one-answer e

@@ -20,9 +20,9 @@ use Rattle.cell_selection.proofs.SelectingLaws.{not-both}
 use Rattle.cell_selection.specs.declared.Choice.{Choice}
 use Rattle.cell_selection.specs.declared.Choice.the-variants.{Job, NoPlace, NoCandidates, Lacks}
 use Rattle.cell_selection.specs.declared.Selection.{Selection}
-use Rattle.cell.specs.Calls.{freshCell, outcomeOf}
+use Rattle.cell.specs.Calls.{outcomeOf}
 use Rattle.cell.specs.declared.Cell.{Cell}
-use Rattle.cell_history.specs.History.{Chosen, Does, Event, Leads, Select}
+use Rattle.cell_history.specs.History.{Chosen, Does, Event, Reached, Select}
 use Rattle.cell_history.proofs.FromFresh.{chosen-is}
 use Rattle.cell_agreement.proofs.SoundProof.{sound-always}
 use Rattle.demands.specs.Demands.{Missing, RefusedSo}
@@ -96,7 +96,7 @@ refused-so c d o s h = let a = answer-of c d o s h in subst (RefusedSo c) (sym (
 below : {i at : ℕ} → (i ≡ at → ⊥) → i ≤ at → i < at
 below n l = omega arith
 
-module _ (configuration : Configuration) (es : List Event) (c : Cell) (leads : Leads (freshCell configuration) es c) (s : Selection) where
+module _ (configuration : Configuration) (es : List Event) (c : Cell) (leads : Reached configuration es c) (s : Selection) where
   missing-by : (x : Choice) → s .choice ≡ x → Refused Refusals.NoAssignment ≡ outcomeOf x → SelectsBy x (inSchedule (c .schedule)) (c .lists) s → Missing c s
   missing-by Job t e h = absurd (apart e λ q. omega arith)
   missing-by NoPlace t e h = absurd (apart e λ q. omega arith)
@@ -116,7 +116,7 @@ module _ (configuration : Configuration) (es : List Event) (c : Cell) (leads : L
         told = t;
       }
 
-pub missing-so : (configuration : Configuration) (es : List Event) (c : Cell) → Leads (freshCell configuration) es c
+pub missing-so : (configuration : Configuration) (es : List Event) (c : Cell) → Reached configuration es c
     → (d : Cell) (s : Selection) → Does c Select (Chosen (Refused Refusals.NoAssignment) s) d → Missing c s
 missing-so configuration es c l d s h =
     let a = answer-of c d (Refused Refusals.NoAssignment) s h in missing-by configuration es c l s (s .choice) refl (a .0) (a .1)

@@ -49,12 +49,12 @@ use Rattle.packets.specs.declared.Lists.{Lists}
 use Rattle.lists.specs.Outcomes.{outcome}
 use Rattle.cell_selection.specs.Selecting as Selecting
 use Rattle.cell_selection.specs.declared.Selection.{Selection}
-use Rattle.cell.specs.Calls.{acted, afterCompletion, afterEnd, follows, freshCell, leftBy}
+use Rattle.cell.specs.Calls.{acted, followed, freshCell, leftBy}
 use Rattle.cell.specs.declared.Cell.{Cell}
 use Rattle.cell_history.proofs.MeantLaws.{Plain, by-meant}
-use Rattle.cell_history.specs.History.{Call, Complete, Deck, Delete, Does, End, Event, Key, Leads, Mark, Release, Reply, Return, Select, Start, Status, Submit}
+use Rattle.cell_history.proofs.Reaching.{by-history}
+use Rattle.cell_history.specs.History.{Call, Deck, Delete, Do, Does, Event, Key, Reached, Release, Reply, Select, Status}
 use Rattle.cell_agreement.proofs.SoundProof.{sound-always}
-use Rattle.demands.proofs.Owning.{leads-more}
 use Rattle.demands.proofs.Texts.{groups-alike}
 
 -- ---- what holds of each request of a list, and of a schedule
@@ -122,28 +122,12 @@ module _ (P : Request → Type 0) where
     each-left AfterNormal place otherwise o = each-returned (find (isIn place) (inSchedule s)) place false
     each-left AfterError place otherwise o = each-returned (find (isIn place) (inSchedule s)) place true
 
-    each-completion : (a : Answer) → EachIn (afterCompletion s a)
-    each-completion Answers.Done = h
-    each-completion (Answers.Started b) = h
-    each-completion (Answers.Completed place packet leaving) = each-left leaving place s h
-    each-completion (Answers.Closed leaving) = h
-    each-completion (Answers.Refused n) = h
-
-    each-end : (place : ℕ) (a : Answer) → EachIn (afterEnd s place a)
-    each-end place Answers.Done = h
-    each-end place (Answers.Started b) = h
-    each-end place (Answers.Completed j p leaving) = h
-    each-end place (Answers.Closed leaving) = each-left leaving place (closing s place) (each-closing place)
-    each-end place (Answers.Refused n) = h
-
-    each-follows : (x : Rules.Call) (a : Answer) → EachIn (follows s x a)
-    each-follows (Rules.Take j asg) a = h
-    each-follows (Rules.Submit j p f c w) a = h
-    each-follows (Rules.Start c) a = h
-    each-follows (Rules.Complete c how) a = each-completion a
-    each-follows (Rules.End j e) a = each-end j a
-    each-follows (Rules.Return j c u) a = h
-    each-follows (Rules.Mark c u m on) a = h
+    each-followed : (a : Answer) → EachIn (followed s a)
+    each-followed Answers.Done = h
+    each-followed (Answers.Started b) = h
+    each-followed (Answers.Completed place packet leaving) = each-left leaving place s h
+    each-followed (Answers.Closed place leaving) = each-left leaving place (closing s place) (each-closing place)
+    each-followed (Answers.Refused n) = h
 
     each-select : (found : Bool) (lists : Lists) (selection : Selection) → EachIn (Selecting.leftBy found s lists selection .0)
     each-select true lists selection = each-taken (selection .at) (selection .place)
@@ -165,10 +149,6 @@ read-formed g e =
     let w : readFull g ≡ record { verdict = Good; full = v } = ap (λ (x : Verdict). record { verdict = x; full = v }) (a .0 ∙ e) in
     subst Formed (a .1) (full-allowed v (read-takes g v w) .request .id)
 
-named-acts : (c d : Cell) (x : Rules.Call) → d ≡ acted c x .cell → NamedIn c → NamedIn d
-unfolding acted
-named-acts c d x e h = subst NamedIn (sym e) (each-follows Formed (c .schedule) h x (outcome (c .lists) x .answer))
-
 plain-named : (c d : Cell) (x : Call) (reply : Reply) → Plain x → Does c x reply d → Sound (c .schedule) → NamedIn c → NamedIn d
 plain-named c d (Deck bytes) reply p h s n =
     subst NamedIn (sym (h .2 .1 .1 .1))
@@ -177,12 +157,8 @@ plain-named c d Select reply p h s n =
     let r = h .0 in
     subst NamedIn (sym (h .1 .1 .1))
     (subst (λ (t : Schedule × Lists). EachIn Formed (t .0)) (sym (h .1 .0 .takes .leaves)) (each-select Formed (c .schedule) n (Selecting.isJob (r .selection .choice)) (c .lists) (r .selection)))
-plain-named c d (Submit place packet function channel spot) reply p h s n = named-acts c d (Rules.Submit place packet function channel spot) (h .1) n
-plain-named c d (Start channel) reply p h s n = named-acts c d (Rules.Start channel) (h .1) n
-plain-named c d (Complete channel how) reply p h s n = named-acts c d (Rules.Complete channel how) (h .1) n
-plain-named c d (End place inError) reply p h s n = named-acts c d (Rules.End place inError) (h .1) n
-plain-named c d (Return place channel unit) reply p h s n = named-acts c d (Rules.Return place channel unit) (h .1) n
-plain-named c d (Mark channel unit mark on) reply p h s n = named-acts c d (Rules.Mark channel unit mark on) (h .1) n
+plain-named c d (Do x) reply p h s n =
+    unfold acted in subst NamedIn (sym (h .1)) (each-followed Formed (c .schedule) n (outcome (c .lists) (Rules.Do x) .answer))
 plain-named c d (Release id) reply p h s n = subst NamedIn (sym (h .1)) (each-released Formed (c .schedule) n (find (isNamed id) (inSchedule (c .schedule))) id)
 plain-named c d (Delete id) reply p h s n = subst NamedIn (sym (h .1)) (each-deleted Formed (c .schedule) n (find (isNamed id) (inSchedule (c .schedule))) id)
 plain-named c d (Status place packet) reply p h s n = subst NamedIn (sym (h .1)) n
@@ -192,19 +168,12 @@ plain-named c d (Key message) reply p h s n = absurd p
 named-does : (c d : Cell) (x : Call) (reply : Reply) → Does c x reply d → Sound (c .schedule) → NamedIn c → NamedIn d
 named-does c d x reply h s n = by-meant (λ o. NamedIn d) c d reply (λ e. subst NamedIn (sym e) n) (λ y p k. plain-named c d y reply p k s n) x h
 
--- after any calls: those before led to a sound schedule
-named-leads : (configuration : Configuration) (before : List Event) (c d : Cell) (es : List Event) → Leads (freshCell configuration) before c
-    → Leads c es d → NamedIn c → NamedIn d
-named-leads configuration before c d [] l h n = subst NamedIn (sym h) n
-named-leads configuration before c d (e ∷ es) l h n =
-    named-leads configuration (before ++ (e ∷ [])) (h .0) d es (leads-more (freshCell configuration) c (h .0) before e l (h .1 .0)) (h .1 .1)
-    (named-does c (h .0) (e .call) (e .reply) (h .1 .0) (sound-always configuration before c l) n)
-
 -- THE ID OF EVERY REQUEST
-pub named-so : (configuration : Configuration) (es : List Event) (c : Cell) → Leads (freshCell configuration) es c
+pub named-so : (configuration : Configuration) (es : List Event) (c : Cell) → Reached configuration es c
     → Each (λ r. Name isAlnum 1 6 (r .id)) (requests (inSchedule (c .schedule)))
-unfolding freshCell scheduleOf
-named-so configuration es c h = named-leads configuration [] (freshCell configuration) c es refl h tt
+named-so configuration es c r =
+    by-history configuration NamedIn (λ d b. unfold freshCell scheduleOf in subst NamedIn (sym b) tt)
+    (λ before d h n e x reply k. named-does d e x reply k (sound-always configuration before d h) n) es c r
 
 -- ---- words
 
@@ -254,7 +223,7 @@ none-has id n (e ∷ es) h =
     (λ t. rw t (none-has id n es (h .1)))
 
 -- ANY OTHER WORD IS NOBODY'S
-pub nobody-so : (configuration : Configuration) (es : List Event) (c : Cell) → Leads (freshCell configuration) es c
+pub nobody-so : (configuration : Configuration) (es : List Event) (c : Cell) → Reached configuration es c
     → (word : List ℕ) → every (isnt (byte " ")) word ≡ true → (6 < length word) ⊎ (every isAlnum word ≡ false)
     → find (isNamed (idOf word)) (inSchedule (c .schedule)) ≡ none
 nobody-so configuration es c h word p o =

@@ -8,11 +8,11 @@ use mathlib.Core.Logic.{inl, inr}
 use mathlib.Core.Option.{Option, none, some}
 use lib.Dec.{eqb, leb, ltb}
 use lib.ListN.{length}
+use Rattle.numbers.specs.declared.UnitNumber.{UnitNumber}
 use Rattle.numbers.proofs.Tests.{by-bool}
 use Rattle.numbers.specs.declared.Refusal.{Refusal}
 use Rattle.numbers.specs.declared.Refusal.the-variants.{BadDeck, ChannelBusy, JobRuns, NoSuchRequest, NothingStartable, OutOfRange, UnknownMessage}
 use Rattle.units.specs.State.{unitIn}
-use Rattle.units.specs.declared.Mark.{Mark as Mark′}
 use Rattle.units.specs.declared.Mark.the-variants as Mark″
 use Rattle.keyboard.proofs.ReadBack.{isKnown, known-by}
 use Rattle.keyboard.specs.Messages.{readMessage, messageWords}
@@ -31,6 +31,8 @@ use Rattle.schedule.specs.Calls.{deletedBy, releasedBy}
 use Rattle.packets.specs.Picks.{any, find}
 use Rattle.packets.specs.Rules as Rules
 use Rattle.packets.specs.State.{State, configured, fittedOn, isIdle, jobIn, motionOn, packetIn, packetOf, placeOf, stateIn, unitAt}
+use Rattle.packets.specs.declared.Act.{Act}
+use Rattle.packets.specs.declared.Act.the-variants as Act′
 use Rattle.packets.specs.declared.How.{How}
 use Rattle.packets.specs.declared.How.the-variants.{Cut, Failed, Full}
 use Rattle.packets.specs.declared.Motion.{Motion}
@@ -53,10 +55,10 @@ use Rattle.cell.specs.declared.SelectAnswer.{SelectAnswer}
 use Rattle.cell.specs.declared.Cell.{Cell}
 use Rattle.cell.specs.declared.Heeded.{Heeded}
 use Rattle.cell_history.proofs.MeantLaws.{Plain}
-use Rattle.cell_history.specs.Heard.{inside}
-use Rattle.cell_history.specs.History.{Call, Complete, Deck, Delete, Does, End, Key, Mark, Release, Reply, Return, Select, Start, Status, Submit, callOf, replyOf}
+use Rattle.cell_history.specs.Told.{inside}
+use Rattle.cell_history.specs.History.{Call, Deck, Delete, Do, Does, Key, Release, Reply, Select, Status, callOf, replyOf}
 use Rattle.demands.specs.Refusing.{ofAnswer, ofOutcome, ofStatus, refusalIn}
-use Rattle.demands.specs.Table.{RefusedBy, Row, SelectRefused, canStart, has, isActive, isOpen, isSelect, isSuspended, isThere, lowest, meantRows, returnRows, row, rows, rowsIn, submitRows}
+use Rattle.demands.specs.Table.{RefusedBy, Row, SelectRefused, actRows, canStart, has, isActive, isOpen, isSelect, isSuspended, isThere, lowest, meantRows, returnRows, row, rows, submitRows}
 
 -- a verdict as a refusal, if it is one
 abbrev pub ofVerdict : Verdict → Option Refusal
@@ -85,20 +87,20 @@ completes-none s c how (Busy j p) = refl
 accepted-none : (s : State) (x : Rules.Call) → ofAnswer (Rules.answer s x) ≡ none
 unfolding Rules.answer
 accepted-none s (Rules.Take j asg) = refl
-accepted-none s (Rules.Submit j p f c w) = refl
-accepted-none s (Rules.Start c) = begins-none s (find (Rules.startable s c) (s .queue))
-accepted-none s (Rules.Complete c how) = completes-none s c how (motionOn s c)
-accepted-none s (Rules.End j b) = refl
-accepted-none s (Rules.Return j c u) = refl
-accepted-none s (Rules.Mark c u m on) = refl
+accepted-none s (Rules.Do (Act′.Submit j p f c w)) = refl
+accepted-none s (Rules.Do (Act′.Start c)) = begins-none s (find (Rules.startable s (c .0)) (s .queue))
+accepted-none s (Rules.Do (Act′.Complete c how)) = completes-none s (c .0) how (motionOn s (c .0))
+accepted-none s (Rules.Do (Act′.End j b)) = refl
+accepted-none s (Rules.Do (Act′.Return j c u)) = refl
+accepted-none s (Rules.Do (Act′.Mark c u m on)) = refl
 
 -- what is answered is what the rules say
-pub answers-by : (c : Cell) (x : Rules.Call) → ofAnswer (acted c x .answer) ≡ ofVerdict (Rules.refusal (stateOf (c .lists)) x)
+pub answers-by : (c : Cell) (x : Act) → ofAnswer (acted c x .answer) ≡ ofVerdict (Rules.refusal (stateOf (c .lists)) (Rules.Do x))
 unfolding acted outcome
-answers-by c x = go (Rules.refusal (stateOf (c .lists)) x)
+answers-by c x = go (Rules.refusal (stateOf (c .lists)) (Rules.Do x))
   where
-    go : (v : Verdict) → ofAnswer (settled (c .lists) x v .answer) ≡ ofVerdict v
-    go Granted = accepted-none (stateOf (c .lists)) x
+    go : (v : Verdict) → ofAnswer (settled (c .lists) (Rules.Do x) v .answer) ≡ ofVerdict v
+    go Granted = accepted-none (stateOf (c .lists)) (Rules.Do x)
     go (Denied n) = refl
 
 -- the rules' tests of each call are its rows
@@ -110,9 +112,11 @@ submit-is s Nothing j p f k (OnDrum x h) = refl
 submit-is s (With kind n) j p f k (OnUnit u) = refl
 submit-is s (With kind n) j p f k (OnDrum x h) = refl
 
-rules-rows : (s : State) (es : List Entry) (j p f k : ℕ) (w : Spot) → ofVerdict (Rules.refusal s (Rules.Submit j p f k w)) ≡ lowest (rowsIn s es (Submit j p f k w))
-unfolding Rules.refusal
-rules-rows s es j p f k w = ap ofVerdict (submit-is s (fittedOn (s .channels) k) j p f k w) ∙ chained (rowsIn s es (Submit j p f k w))
+submit-rows : (s : State) (j p f k : ℕ) (w : Spot)
+    → ofVerdict (Rules.submitRefusal (fittedOn (s .channels) k) (jobIn (s .jobs) j) (unitAt (s .units) k (Rules.siteOf w)) j p f k w)
+    ≡ lowest (submitRows s (fittedOn (s .channels) k) j p f k w)
+submit-rows s j p f k w =
+    ap ofVerdict (submit-is s (fittedOn (s .channels) k) j p f k w) ∙ chained (submitRows s (fittedOn (s .channels) k) j p f k w)
 
 -- a word of the drum has no interlock in the rules either
 open-is : (s : State) (k : ℕ) (a : Site) → not (unitAt (s .units) k a .interlock) ≡ isOpen s k a
@@ -130,40 +134,34 @@ none-can t u same (e ∷ q) =
     let is = same e in
     by-bool (u e) (λ h. rw (is, h) refl) (λ h. rw (is, h) (none-can t u same q))
 
-start-rows : (s : State) (es : List Entry) (k : ℕ) → ofVerdict (Rules.refusal s (Rules.Start k)) ≡ lowest (rowsIn s es (Start k))
-unfolding Rules.refusal
-start-rows s es k =
-    ap (λ (b : Bool). ofVerdict (Rules.first (not (configured (s .channels) k)) OutOfRange (Rules.first (not (isIdle (motionOn s k))) ChannelBusy (Rules.first b NothingStartable Granted))))
-    (none-can (Rules.startable s k) (canStart s k) (can-is s k) (s .queue))
-    ∙ chained (rowsIn s es (Start k))
-
-complete-rows : (s : State) (es : List Entry) (k : ℕ) (how : How) → ofVerdict (Rules.refusal s (Rules.Complete k how)) ≡ lowest (rowsIn s es (Complete k how))
-unfolding Rules.refusal
-complete-rows s es k Full = chained (rowsIn s es (Complete k Full))
-complete-rows s es k Cut = chained (rowsIn s es (Complete k Cut))
-complete-rows s es k (Failed n) = chained (rowsIn s es (Complete k (Failed n)))
-
-end-rows : (s : State) (es : List Entry) (j : ℕ) (e : Bool) → ofVerdict (Rules.refusal s (Rules.End j e)) ≡ lowest (rowsIn s es (End j e))
-unfolding Rules.refusal
-end-rows s es j e = chained (rowsIn s es (End j e))
-
 -- a return, by what the channel has
 return-is : (s : State) (on : Fitted) (j k u : ℕ) → Rules.returnRefusal on (stateIn (s .jobs) j) (unitIn (s .units) k u) j k u ≡ chain (returnRows s on j k u)
 return-is s Nothing j k u = refl
 return-is s (With kind n) j k u = refl
 
-return-rows : (s : State) (es : List Entry) (j k u : ℕ) → ofVerdict (Rules.refusal s (Rules.Return j k u)) ≡ lowest (rowsIn s es (Return j k u))
-unfolding Rules.refusal
-return-rows s es j k u = ap ofVerdict (return-is s (fittedOn (s .channels) k) j k u) ∙ chained (rowsIn s es (Return j k u))
+reach-is : (f : Fitted) (u : UnitNumber) → Rules.reaches f (OnUnit u) ≡ has f (OnUnit u)
+reach-is Nothing u = refl
+reach-is (With kind n) u = refl
 
-mark-rows : (s : State) (es : List Entry) (k u : ℕ) (m : Mark′) (on : Bool) → ofVerdict (Rules.refusal s (Rules.Mark k u m on)) ≡ lowest (rowsIn s es (Mark k u m on))
+-- the rules' tests of a call on packets, jobs, units or marks are its rows
+rules-rows : (s : State) (x : Act) → ofVerdict (Rules.refusal s (Rules.Do x)) ≡ lowest (actRows s x)
 unfolding Rules.refusal
-mark-rows s es k u m on = go (fittedOn (s .channels) k)
-  where
-    go : (f : Fitted) → ofVerdict (Rules.first (not (ltb k 16 && Rules.reaches f (OnUnit (record { 0 = u })))) OutOfRange Granted)
-        ≡ lowest (row OutOfRange (not (ltb k 16 && has f (OnUnit (record { 0 = u })))) ∷ [])
-    go Nothing = chained (row OutOfRange (not (ltb k 16 && has Nothing (OnUnit (record { 0 = u })))) ∷ [])
-    go (With kind n) = chained (row OutOfRange (not (ltb k 16 && has (With kind n) (OnUnit (record { 0 = u })))) ∷ [])
+rules-rows s (Act′.Submit j p f k w) = submit-rows s j p f (k .0) w
+rules-rows s (Act′.Start k) =
+    ap (λ (b : Bool). ofVerdict (Rules.first (not (configured (s .channels) (k .0))) OutOfRange
+    (Rules.first (not (isIdle (motionOn s (k .0)))) ChannelBusy (Rules.first b NothingStartable Granted))))
+    (none-can (Rules.startable s (k .0)) (canStart s (k .0)) (can-is s (k .0)) (s .queue))
+    ∙ chained (actRows s (Act′.Start k))
+rules-rows s (Act′.Complete k Full) = chained (actRows s (Act′.Complete k Full))
+rules-rows s (Act′.Complete k Cut) = chained (actRows s (Act′.Complete k Cut))
+rules-rows s (Act′.Complete k (Failed n)) = chained (actRows s (Act′.Complete k (Failed n)))
+rules-rows s (Act′.End j e) = chained (actRows s (Act′.End j e))
+rules-rows s (Act′.Return j k u) =
+    let on = fittedOn (s .channels) (k .0) in
+    ap ofVerdict (return-is s on j (k .0) (u .0)) ∙ chained (returnRows s on j (k .0) (u .0))
+rules-rows s (Act′.Mark k u m on) =
+    ap (λ (b : Bool). ofVerdict (Rules.first (not (ltb (k .0) 16 && b)) OutOfRange Granted)) (reach-is (fittedOn (s .channels) (k .0)) u)
+    ∙ chained (actRows s (Act′.Mark k u m on))
 
 -- ---- a deck, release, delete, a status
 
@@ -201,12 +199,7 @@ select-by c r h = subst (SelectRefused c) (sym (ap ofOutcome (h .outcome))) (by-
 plain-numbers : (c d : Cell) (x : Call) (reply : Reply) → Plain x → Does c x reply d → RefusedBy (isSelect x) c x (refusalIn reply)
 plain-numbers c d (Deck bytes) reply z h = ap refusalIn (h .2 .1 .1 .0) ∙ ap ofOutcome (h .2 .1 .0 .deck .outcome) ∙ deck-rows bytes
 plain-numbers c d Select reply z h = subst (SelectRefused c) (sym (ap refusalIn (h .1 .1 .0))) (select-by c (h .0) (h .1 .0))
-plain-numbers c d (Submit j p f k w) reply z h = ap refusalIn (h .0) ∙ answers-by c (Rules.Submit j p f k w) ∙ rules-rows (inside c) (inSchedule (c .schedule)) j p f k w
-plain-numbers c d (Start k) reply z h = ap refusalIn (h .0) ∙ answers-by c (Rules.Start k) ∙ start-rows (inside c) (inSchedule (c .schedule)) k
-plain-numbers c d (Complete k how) reply z h = ap refusalIn (h .0) ∙ answers-by c (Rules.Complete k how) ∙ complete-rows (inside c) (inSchedule (c .schedule)) k how
-plain-numbers c d (End j e) reply z h = ap refusalIn (h .0) ∙ answers-by c (Rules.End j e) ∙ end-rows (inside c) (inSchedule (c .schedule)) j e
-plain-numbers c d (Return j k u) reply z h = ap refusalIn (h .0) ∙ answers-by c (Rules.Return j k u) ∙ return-rows (inside c) (inSchedule (c .schedule)) j k u
-plain-numbers c d (Mark k u m on) reply z h = ap refusalIn (h .0) ∙ answers-by c (Rules.Mark k u m on) ∙ mark-rows (inside c) (inSchedule (c .schedule)) k u m on
+plain-numbers c d (Do x) reply z h = ap refusalIn (h .0) ∙ answers-by c x ∙ rules-rows (stateOf (c .lists)) x
 plain-numbers c d (Release id) reply z h = ap refusalIn (h .0) ∙ release-rows (findNamed (isNamed id) (inSchedule (c .schedule))) (c .schedule) id
 plain-numbers c d (Delete id) reply z h = ap refusalIn (h .0) ∙ delete-rows (findNamed (isNamed id) (inSchedule (c .schedule))) (c .schedule) id
 plain-numbers c d (Status j p) reply z h = ap refusalIn (h .0) ∙ status-rows c j p
@@ -223,7 +216,7 @@ key-numbers c d message reply h =
     go Asked′.Unknown id x e r s k = rw k (ap refusalIn (r ∙ ap (λ (y : Heeded). replyOf (y .told)) e))
     go (Asked′.Wrong word fault) id x e r s k = rw k (ap refusalIn (r ∙ ap (λ (y : Heeded). replyOf (y .told)) e))
     go (Asked′.Mark channel unit on) id x e r s k =
-        rw k (plain-numbers c d (Mark (channel .0) (unit .0) Mark″.Down on) reply tt (r ∙ ap (λ (y : Heeded). replyOf (y .told)) e, s ∙ ap (λ (y : Heeded). y .cell) e))
+        rw k (plain-numbers c d (Do (Act′.Mark channel unit Mark″.Down on)) reply tt (r ∙ ap (λ (y : Heeded). replyOf (y .told)) e, s ∙ ap (λ (y : Heeded). y .cell) e))
     go Asked′.Release id x e r s k = rw k (plain-numbers c d (Release id) reply tt (r ∙ ap (λ (y : Heeded). replyOf (y .told)) e, s ∙ ap (λ (y : Heeded). y .cell) e))
     go Asked′.Delete id x e r s k = rw k (plain-numbers c d (Delete id) reply tt (r ∙ ap (λ (y : Heeded). replyOf (y .told)) e, s ∙ ap (λ (y : Heeded). y .cell) e))
 
@@ -231,12 +224,7 @@ key-numbers c d message reply h =
 pub numbers : (c d : Cell) (x : Call) (reply : Reply) → Does c x reply d → RefusedBy (isSelect x) c x (refusalIn reply)
 numbers c d (Deck bytes) reply h = plain-numbers c d (Deck bytes) reply tt h
 numbers c d Select reply h = plain-numbers c d Select reply tt h
-numbers c d (Submit j p f k w) reply h = plain-numbers c d (Submit j p f k w) reply tt h
-numbers c d (Start k) reply h = plain-numbers c d (Start k) reply tt h
-numbers c d (Complete k how) reply h = plain-numbers c d (Complete k how) reply tt h
-numbers c d (End j e) reply h = plain-numbers c d (End j e) reply tt h
-numbers c d (Return j k u) reply h = plain-numbers c d (Return j k u) reply tt h
-numbers c d (Mark k u m on) reply h = plain-numbers c d (Mark k u m on) reply tt h
+numbers c d (Do x) reply h = plain-numbers c d (Do x) reply tt h
 numbers c d (Release id) reply h = plain-numbers c d (Release id) reply tt h
 numbers c d (Delete id) reply h = plain-numbers c d (Delete id) reply tt h
 numbers c d (Status j p) reply h = plain-numbers c d (Status j p) reply tt h

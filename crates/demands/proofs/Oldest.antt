@@ -13,6 +13,8 @@ use Rattle.packets.specs.Picks.{All, find, keep}
 use Rattle.packets.specs.Rules as Rules
 use Rattle.packets.specs.Rules.{aimed, always, closed, closing, codeFor, cut, failed, finished, freshJob, isAt, isDone, isTrouble, locked, over, packet, returnIfDone, siteOf, startable, started, submitted}
 use Rattle.packets.specs.State.{State, entryOf, isEmpty, isListed, isStill, isUnit, motionOn, packetIn, packetOf, packetsIn, placeOf, put, lock, relist, restatus, restatusAll, stateIn, store, sweep, withStatus}
+use Rattle.packets.specs.declared.Act.the-variants as Act′
+use Rattle.packets.proofs.ByNumber.{Complete, Start}
 use Rattle.packets.specs.declared.Assignment.{Assignment}
 use Rattle.packets.specs.declared.How.{How}
 use Rattle.packets.specs.declared.Job.{Job}
@@ -203,30 +205,30 @@ order-taken s I j asg small none-there =
 pub ordered : (s : State) → Inv s → (x : Rules.Call) → Rules.refusal s x ≡ Granted → Ordered s x (Rules.accept s x)
 unfolding Rules.accept
 ordered s I (Rules.Take j asg) r = order-taken s I j asg (assigns-to s j asg r .0) (assigns-to s j asg r .1)
-ordered s I (Rules.Submit j p f c w) r = order-submit s I j p f c w (submits s j p f c w r)
-ordered s I (Rules.Start c) r =
-    let k = starts-on s c r in
-    let o = find-some (find (startable s c) (s .queue)) (k .2) in
+ordered s I (Rules.Do (Act′.Submit j p f c w)) r = order-submit s I j p f (c .0) w (submits s j p f (c .0) w r)
+ordered s I (Rules.Do (Act′.Start c)) r =
+    let k = starts-on s (c .0) r in
+    let o = find-some (find (startable s (c .0)) (s .queue)) (k .2) in
     let e = o .0 in
-    let z = find-holds (EntryOk s) (startable s c) (s .queue) e (I .queued) (o .1) in
+    let z = find-holds (EntryOk s) (startable s (c .0)) (s .queue) e (I .queued) (o .1) in
     let q = withStatus (packetIn (s .jobs) (placeOf e) (packetOf e)) InProgress in
-    let t = thins-store s (placeOf e) (packetOf e) q (start-fits s I c (k .0) e (z .0) (startable-on s c e (z .1))) refl (still-all s I) in
-    subst (λ (m : Option ℕ). Ordered s (Rules.Start c) (started s c m)) (sym (o .1)) (thinned s (started s c (some e)) (record { queue = t .queue; fewer = t .fewer }))
-ordered s I (Rules.Complete c how) r =
-    let k = completes-on s c how r in
-    let o = busy-of (motionOn s c) (k .1) in
-    let s₁ = finished s c how (o .0) (o .1) in
-    let t = thins-finished s I c (k .0) how (o .0) (o .1) (o .2) in
-    subst (λ m. Ordered s (Rules.Complete c how) (Rules.completed s c how m)) (sym (o .2))
+    let t = thins-store s (placeOf e) (packetOf e) q (start-fits s I (c .0) (k .0) e (z .0) (startable-on s (c .0) e (z .1))) refl (still-all s I) in
+    subst (λ (m : Option ℕ). Ordered s (Start (c .0)) (started s (c .0) m)) (sym (o .1)) (thinned s (started s (c .0) (some e)) (record { queue = t .queue; fewer = t .fewer }))
+ordered s I (Rules.Do (Act′.Complete c how)) r =
+    let k = completes-on s (c .0) how r in
+    let o = busy-of (motionOn s (c .0)) (k .1) in
+    let s₁ = finished s (c .0) how (o .0) (o .1) in
+    let t = thins-finished s I (c .0) (k .0) how (o .0) (o .1) (o .2) in
+    subst (λ m. Ordered s (Complete (c .0) how) (Rules.completed s (c .0) how m)) (sym (o .2))
     (thinned s (returnIfDone (o .0) s₁) (thins-on s s₁ (returnIfDone (o .0) s₁) t (thins-returned s₁ (o .0) (thins-still s s₁ t))))
-ordered s I (Rules.End j e) r =
+ordered s I (Rules.Do (Act′.End j e)) r =
     let inside = alive-in (s .jobs) j (running-alive (stateIn (s .jobs) j) (ends-of s j e r)) in
     let s₁ = sweep s j always cut in
     let t = thins-sweep s j always cut inside refl cut-less (still-all s I) in
     let s₂ = closed s j e in
     let t₂ : Thins s s₂ = thins-on s s₁ s₂ t (thins-same s₁ s₂ refl (λ i n. packet-state (restatusAll (s .jobs) j always cut) j (closing e) i n) (thins-still s s₁ t)) in
     thinned s (returnIfDone j s₂) (thins-on s s₂ (returnIfDone j s₂) t₂ (thins-returned s₂ j (thins-still s s₂ t₂)))
-ordered s I (Rules.Return j c u) r =
-    let a = AtUnit (record { 0 = u }) in
-    thinned s (sweep s j (isAt c a) cut) (thins-sweep s j (isAt c a) cut (returns-inside s I j c u (returns-of s j c u r)) refl cut-less (still-all s I))
-ordered s I (Rules.Mark c u m on) r = thinned s (Rules.marked s c u m on) (thins-same s (Rules.marked s c u m on) refl (λ i n. refl) (still-all s I))
+ordered s I (Rules.Do (Act′.Return j c u)) r =
+    let a = AtUnit u in
+    thinned s (sweep s j (isAt (c .0) a) cut) (thins-sweep s j (isAt (c .0) a) cut (returns-inside s I j (c .0) (u .0) (returns-of s j (c .0) (u .0) r)) refl cut-less (still-all s I))
+ordered s I (Rules.Do (Act′.Mark c u m on)) r = thinned s (Rules.marked s (c .0) (u .0) m on) (thins-same s (Rules.marked s (c .0) (u .0) m on) refl (λ i n. refl) (still-all s I))

@@ -1,4 +1,4 @@
--- WHAT A JOB HAS, shown of every cell that a history leads to: after its selection what was assigned to it, and as long
+-- WHAT A JOB HAS, shown of every reached cell: after its selection what was assigned to it, and as long
 -- as it is in its place just that; an empty place has nothing. Assumes nothing.
 use Prim.Native.Nat.{ℕ}
 use mathlib.Core.Path.{_≡_, refl, sym, ap, subst, _∙_}
@@ -9,41 +9,38 @@ use Rattle.numbers.specs.declared.Outcome.the-variants.{Done}
 use Rattle.units.specs.State.{unitIn}
 use Rattle.channels.specs.declared.Configuration.{Configuration}
 use Rattle.assign_drum.specs.Drum.{noArea}
-use Rattle.packets.specs.History as Told
+use Rattle.packets.specs.History as Lists
 use Rattle.packets.specs.Rules as Rules
 use Rattle.packets.specs.State.{State, heldBy, inMotion, isEmpty, jobIn, noCore, packetIn, stateIn}
+use Rattle.packets.specs.declared.Answer.the-variants as Answers
 use Rattle.packets.specs.declared.Assignment.{Assignment}
 use Rattle.packets.specs.declared.JobState.the-variants.{Running}
 use Rattle.packets.specs.declared.Verdict.{Verdict}
-use Rattle.packets.proofs.Inv.{Inv, motion-busy}
+use Rattle.packets.proofs.Inv.{motion-busy}
 use Rattle.packets.proofs.InvJobs.{held-once}
 use Rattle.packets.proofs.Laws.{eqb-self}
 use Rattle.packets.proofs.Store.{state-fresh}
-use Rattle.packets.proofs.Steps.{run-inv}
-use Rattle.packets_given.specs.Given.{Heads, OnItsOwn, StillOwn, askedBy, askedIn, asking, noHeads, takenBy, takenIn, taking}
+use Rattle.packets_given.specs.Given.{Heads, OnItsOwn, StillOwn, askedBy, asking, hasReturned, noHeads, takenBy, taking}
+use Rattle.packets_given.proofs.Reckoning.{reckoned-append}
 use Rattle.packets_given.proofs.OwnLaws.{is-own}
 use Rattle.cell_taken.specs.Taken.{areaOf, coreOf}
 use Rattle.cell_selection.specs.Selecting.{assignmentOf, takingOf}
 use Rattle.cell_selection.specs.declared.Selection.{Selection}
-use Rattle.cell.specs.Calls.{freshCell}
 use Rattle.cell.specs.declared.Cell.{Cell}
-use Rattle.cell_history.proofs.FromFresh.{selected-of, taking-of}
-use Rattle.cell_history.proofs.HeardLaws.{leads-heard}
-use Rattle.cell_history.specs.Heard.{heard, inside, told, toldOf}
-use Rattle.cell_history.specs.History.{Chosen, Does, Event, Leads, Select}
-use Rattle.cell_agreement.proofs.PlaceLaws.{fresh-cell-inv}
+use Rattle.cell_history.proofs.Reaching.{reached-inv, reached-more, selected-of, taking-of}
+use Rattle.cell_history.proofs.ToldLaws.{told-more}
+use Rattle.cell_history.specs.Told.{inside, told}
+use Rattle.cell_history.specs.History.{Chosen, Does, Event, Reached, Select}
 use Rattle.cell_reached.proofs.ReachedProof.{every-cell}
 
-module _ (configuration : Configuration) (es : List Event) (c : Cell) (l : Leads (freshCell configuration) es c) where
-  pub reached-inv : Inv (inside c)
-  reached-inv = rw (leads-heard (freshCell configuration) c es l) (run-inv (inside (freshCell configuration)) (fresh-cell-inv configuration) (heard es))
-
+module _ (configuration : Configuration) (es : List Event) (c : Cell) (l : Reached configuration es c) where
   -- a job of which a packet moves is in its place
   pub still-there : (place packet : ℕ) → inMotion (packetIn (inside c .jobs) place packet .status) ≡ true → isEmpty (stateIn (inside c .jobs) place) ≡ false
   still-there place packet m = every-cell configuration es c l .always .live place packet (motion-busy (packetIn (inside c .jobs) place packet .status) m)
 
   pub still-own : (place : ℕ) → isEmpty (stateIn (inside c .jobs) place) ≡ false
-      → (given : Assignment) × (taking (told es) place ≡ some given) × StillOwn (inside c) place given (asking (told es) place)
+      → (given : Assignment) × (taking (told es) place ≡ some given)
+      × StillOwn (inside c) place given (asking (told es) place) (hasReturned (told es) place)
   still-own place alive =
       let r = every-cell configuration es c l in
       let g = r .given place .live alive in (
@@ -67,38 +64,33 @@ module _ (configuration : Configuration) (es : List Event) (c : Cell) (l : Leads
 
 -- ---- one call more
 
-pub leads-more : (c d e : Cell) (es : List Event) (x : Event) → Leads c es d → Does d (x .call) (x .reply) e → Leads c (es ++ (x ∷ [])) e
-leads-more c d e [] x h k = (e, (subst (λ (m : Cell). Does m (x .call) (x .reply) e) h k, refl))
-leads-more c d e (y ∷ es) x h k = (h .0, (h .1 .0, leads-more (h .0) d e es x (h .1 .1) k))
+-- after a taking it has that assignment, and has asked for nothing back
+module _ (es : List Lists.Event) (j : ℕ) (asg : Assignment) where
+  abbrev after : List Lists.Event
+  after = es ++ (record { call = Rules.Take j asg; answer = Answers.Done } ∷ [])
 
-told-more : (es : List Event) (x : Event) (t : Told.Event) → toldOf (x .call) (x .reply) ≡ t ∷ [] → told (es ++ (x ∷ [])) ≡ told es ++ (t ∷ [])
-told-more [] x t e = rw e refl
-told-more (y ∷ es) x t e = ap (λ (r : List Told.Event). toldOf (y .call) (y .reply) ++ r) (told-more es x t e) ∙ joined (toldOf (y .call) (y .reply)) (told es) (t ∷ [])
-  where
-    joined : (a b m : List Told.Event) → a ++ (b ++ m) ≡ (a ++ b) ++ m
-    joined [] b m = refl
-    joined (z ∷ a) b m = ap (λ (r : List Told.Event). z ∷ r) (joined a b m)
+  taken-then : taking after j ≡ some asg
+  unfolding takenBy
+  taken-then = reckoned-append (takenBy j) none es _ ∙ rw (eqb-self j) refl
 
-taken-more : (j : ℕ) (last : Option Assignment) (es : List Told.Event) (t : Told.Event) → takenIn j last (es ++ (t ∷ [])) ≡ takenBy j (takenIn j last es) (t .call) (t .answer)
-unfolding takenIn
-taken-more j last [] t = refl
-taken-more j last (y ∷ es) t = taken-more j (takenBy j last (y .call) (y .answer)) es t
+  none-asked : (c u : ℕ) → asking after j c u ≡ false
+  unfolding askedBy
+  none-asked c u = ap (λ (f : Heads). f c u) (reckoned-append (askedBy j) noHeads es _) ∙ rw (eqb-self j) refl
 
-asked-more : (j : ℕ) (t : Heads) (es : List Told.Event) (e : Told.Event) → askedIn j t (es ++ (e ∷ [])) ≡ askedBy j (askedIn j t es) (e .call) (e .answer)
-unfolding askedIn
-asked-more j t [] e = refl
-asked-more j t (y ∷ es) e = asked-more j (askedBy j t (y .call) (y .answer)) es e
+  none-returned : (c u : ℕ) → hasReturned after j c u ≡ false
+  none-returned c u = rw (none-asked c u) refl
 
--- the same units asked for
-own-asked : (s : State) (j : ℕ) (asg : Assignment) (asked asked′ : Heads) → ((c u : ℕ) → asked c u ≡ asked′ c u) → StillOwn s j asg asked → StillOwn s j asg asked′
-own-asked s j asg asked asked′ e o =
+-- the same units asked for, and the same returned
+own-as : (s : State) (j : ℕ) (asg : Assignment) (asked back asked′ back′ : Heads) → ((c u : ℕ) → asked c u ≡ asked′ c u)
+    → ((c u : ℕ) → back c u ≡ back′ c u) → StillOwn s j asg asked back → StillOwn s j asg asked′ back′
+own-as s j asg asked back asked′ back′ e f o =
     record {
       there = o .there;
       holds = record {
         from = o .holds .from;
         words = o .holds .words;
         core = o .holds .core;
-        units = λ c u h l. rw (← e c u) (o .holds .units c u h l);
+        units = λ c u h l. rw (← f c u) (o .holds .units c u h l);
         returning = λ c u h l x. o .holds .returning c u h l x ∙ e c u;
       };
       heads = o .heads;
@@ -107,7 +99,8 @@ own-asked s j asg asked asked′ e o =
     }
 
 -- WHAT WAS ASSIGNED the job holds after its selection
-module _ (configuration : Configuration) (es : List Event) (c : Cell) (l : Leads (freshCell configuration) es c) (d : Cell) (s : Selection) (k : Does c Select (Chosen Done s) d) where
+module _ (configuration : Configuration) (es : List Event) (c : Cell) (l : Reached configuration es c) (d : Cell) (s : Selection)
+    (k : Does c Select (Chosen Done s) d) where
   abbrev event : Event
   event = record { call = Select; reply = Chosen Done s }
 
@@ -119,28 +112,24 @@ module _ (configuration : Configuration) (es : List Event) (c : Cell) (l : Leads
   runs-there =
       let t = taking-of c d s k in
       let p = selected-of c d s k .place .0 in
-      ap (λ (x : State). stateIn (x .jobs) (s .place)) (t .1 ∙ ap (λ (v : Verdict). Rules.decided (inside c) (takingOf s) v .state) (t .0))
-      ∙ state-fresh (inside c .jobs) (s .place) assigned (s .place) (rw (reached-inv configuration es c l .places) p) ∙ rw (eqb-self (s .place)) refl
-
-  given-then : taking (told (es ++ (event ∷ []))) (s .place) ≡ some assigned
-  unfolding takenBy
-  given-then =
-      ap (λ (m : List Told.Event). taking m (s .place)) (told-more es event _ refl)
-      ∙ taken-more (s .place) none (told es) _
+      ap (λ (x : State). stateIn (x .jobs) (s .place))
+      (t .1 ∙ ap (λ (v : Verdict). Rules.decided (inside c) (takingOf s) v .state) (t .0))
+      ∙ state-fresh (inside c .jobs) (s .place) assigned (s .place) (rw (reached-inv configuration es c l .places) p)
       ∙ rw (eqb-self (s .place)) refl
 
-  -- and it has asked for nothing back yet
-  none-asked : (k u : ℕ) → asking (told (es ++ (event ∷ []))) (s .place) k u ≡ false
-  unfolding askedBy
-  none-asked k u =
-      ap (λ (m : List Told.Event). asking m (s .place) k u) (told-more es event _ refl)
-      ∙ ap (λ (f : Heads). f k u) (asked-more (s .place) noHeads (told es) _)
-      ∙ rw (eqb-self (s .place)) refl
+  -- all that is told by then
+  abbrev all : List Lists.Event
+  all = after (told es) (s .place) assigned
 
-  pub holds-then : StillOwn (inside d) (s .place) assigned noHeads
+  pub holds-then : StillOwn (inside d) (s .place) assigned noHeads noHeads
   holds-then =
-      let g = still-own configuration (es ++ (event ∷ [])) d (leads-more (freshCell configuration) c d es event l k) (s .place) (ap isEmpty runs-there) in
-      let e : some (g .0) ≡ some assigned = sym (g .1) ∙ given-then in
+      let j = s .place in
+      let g = still-own configuration (es ++ (event ∷ [])) d (reached-more configuration es c d event l k) j (ap isEmpty runs-there) in
+      let m : told (es ++ (event ∷ [])) ≡ all = told-more es event in
+      let e : some (g .0) ≡ some assigned = sym (g .1) ∙ ap (λ (x : List Lists.Event). taking x j) m ∙ taken-then (told es) j assigned in
       let i : g .0 ≡ assigned = cc in
-      own-asked (inside d) (s .place) assigned (asking (told (es ++ (event ∷ []))) (s .place)) noHeads none-asked
-      (subst (λ (a : Assignment). StillOwn (inside d) (s .place) a (asking (told (es ++ (event ∷ []))) (s .place))) i (g .2))
+      own-as (inside d) j assigned (asking all j) (hasReturned all j) noHeads noHeads
+      (none-asked (told es) j assigned) (none-returned (told es) j assigned)
+      (subst (λ (x : List Lists.Event). StillOwn (inside d) j assigned (asking x j) (hasReturned x j)) m
+      (subst (λ (a : Assignment). StillOwn (inside d) j a (asking (told (es ++ (event ∷ []))) j) (hasReturned (told (es ++ (event ∷ []))) j)) i
+      (g .2)))

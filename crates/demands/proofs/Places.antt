@@ -13,16 +13,24 @@ use lib.ListN.{getD, set}
 use lib.Seq.{getD-set-other}
 use borrow.Author.Tests.{eqb-true}
 use Rattle.numbers.proofs.Tests.{by-bool, never, both}
+use Rattle.numbers.specs.declared.ChannelNumber.{ChannelNumber}
+use Rattle.numbers.specs.declared.Outcome.the-variants as Outcomes
 use Rattle.numbers.specs.declared.Refusal.{Refusal}
+use Rattle.numbers.specs.declared.UnitNumber.{UnitNumber}
 use Rattle.units.specs.State.{markedUnit, unitIn, unitSet}
 use Rattle.units.specs.declared.Mark.{Mark as UnitMark}
 use Rattle.schedule_list.specs.declared.Schedule.{Schedule}
 use Rattle.schedule_list.specs.InSchedule.{inSchedule}
 use Rattle.schedule.specs.Calls as Schedules
+use Rattle.packets.specs.History as Lists
+use Rattle.packets.specs.History.{isAccepted}
+use Rattle.packets.proofs.Reaching.{accepted-granted, step-accepted}
 use Rattle.packets.specs.Picks.{find}
 use Rattle.packets.specs.Rules as Rules
 use Rattle.packets.specs.Rules.{closed, closing, finished, freshJob, isDone, leaving, leavingAs, returnIfDone}
 use Rattle.packets.specs.State.{State, isClosing, isEmpty, isRunning, motionOn, noJob, stateIn}
+use Rattle.packets.specs.declared.Act.{Act}
+use Rattle.packets.specs.declared.Act.the-variants as Act′
 use Rattle.packets.specs.declared.Assignment.{Assignment}
 use Rattle.packets.specs.declared.How.{How}
 use Rattle.packets.specs.declared.Job.{Job}
@@ -39,18 +47,17 @@ use Rattle.packets.proofs.Steps.{busy-of}
 use Rattle.packets.proofs.Told.{assigns-to, completes-on, ends-of}
 use Rattle.lists.proofs.History.{outcome-is}
 use Rattle.lists.specs.Outcomes.{outcome, settled}
-use Rattle.cell_selection.specs.Selecting.{SelectsBy, assignmentOf, isJob, takingOf}
+use Rattle.cell_selection.specs.Selecting.{assignmentOf, takingOf}
 use Rattle.cell_selection.specs.declared.Selection.{Selection}
-use Rattle.cell_selection.proofs.SelectingLaws.{is-selected, taking-granted}
-use Rattle.cell.specs.Calls.{acted, cellOf, follows, leftBy}
+use Rattle.cell.specs.Calls.{acted, cellOf, followed, leftBy}
 use Rattle.cell.specs.declared.Cell.{Cell}
 use Rattle.keyboard.specs.Messages.{readMessage}
 use Rattle.keyboard.specs.declared.Asked.{Asked}
 use Rattle.keyboard.specs.declared.Asked.the-variants as Asked′
 use Rattle.cell_history.proofs.MeantLaws.{Plain, by-meant}
-use Rattle.cell_history.proofs.HeardLaws.{does-heard}
-use Rattle.cell_history.specs.Heard.{inside}
-use Rattle.cell_history.specs.History.{Call, Complete, Deck, Delete, Does, End, Key, Mark, Release, Reply, Return, Select, Start, Status, Submit, callOf, meant}
+use Rattle.cell_history.proofs.ToldLaws.{does-told}
+use Rattle.cell_history.specs.Told.{chosen, doneAs, inside}
+use Rattle.cell_history.specs.History.{Call, Chosen, Deck, Delete, Do, Does, Entered, Key, Mistyped, Release, Reply, Said, Select, Shown, Status, callOf, meant}
 use Rattle.demands.specs.Demands.{Ends, withUnits}
 use Rattle.demands.specs.Refusing.{refusalIn}
 use Rattle.demands.proofs.Accepted.{accepted-is}
@@ -87,25 +94,36 @@ states-left s j i n = by-bool (isDone s j) (λ d. rw d (states-returned s j d i 
 abbrev given : Selection → Assignment
 given r = assignmentOf (r .request .facilities) (r .assigned)
 
-select-keeps : (c : Cell) (r : Selection) (i : ℕ) → SelectsBy (r .choice) (inSchedule (c .schedule)) (c .lists) r → isEmpty (stateIn (inside c .jobs) i) ≡ false
-    → stateIn (Rules.run (inside c) (cond (isJob (r .choice)) (takingOf r ∷ []) []) .jobs) i ≡ stateIn (inside c .jobs) i
-unfolding Rules.run Rules.step Rules.accept
-select-keeps c r i w a =
-    by-bool (isJob (r .choice))
-    (λ t. let g = taking-granted (c .schedule) (c .lists) r (is-selected (inSchedule (c .schedule)) (c .lists) r (r .choice) t w) in
-    rw t (ap (λ (v : Verdict). stateIn (Rules.decided (inside c) (takingOf r) v .state .jobs) i) g ∙ states-taken (inside c) (r .place) (given r) i (assigns-to (inside c) (r .place) (given r) g .1) a))
-    (λ t. rw t refl)
+done-keeps : (c : Cell) (r : Selection) (i : ℕ) (s : State) → Lists.Leads (inside c) (doneAs Outcomes.Done r) s
+    → isEmpty (stateIn (inside c .jobs) i) ≡ false → stateIn (s .jobs) i ≡ stateIn (inside c .jobs) i
+done-keeps c r i s h a =
+    let y = takingOf r in
+    let g = accepted-granted (inside c) y (sym (ap isAccepted (h .0))) in
+    ap (λ (t : State). stateIn (t .jobs) i) (h .1 ∙ ap (λ (z : Rules.Answered). z .state) (step-accepted (inside c) y g))
+    ∙ (unfold Rules.accept in states-taken (inside c) (r .place) (given r) i (assigns-to (inside c) (r .place) (given r) g .1) a)
+
+select-keeps : (c : Cell) (reply : Reply) (i : ℕ) (s : State) → Lists.Leads (inside c) (chosen reply) s
+    → isEmpty (stateIn (inside c .jobs) i) ≡ false → stateIn (s .jobs) i ≡ stateIn (inside c .jobs) i
+select-keeps c (Entered o) i s h a = ap (λ (t : State). stateIn (t .jobs) i) h
+select-keeps c (Chosen Outcomes.Done r) i s h a = done-keeps c r i s h a
+select-keeps c (Chosen (Outcomes.Refused n) r) i s h a = ap (λ (t : State). stateIn (t .jobs) i) h
+select-keeps c (Said x) i s h a = ap (λ (t : State). stateIn (t .jobs) i) h
+select-keeps c (Shown x) i s h a = ap (λ (t : State). stateIn (t .jobs) i) h
+select-keeps c (Mistyped f) i s h a = ap (λ (t : State). stateIn (t .jobs) i) h
 
 -- what leaves the state of every live place: all calls but completions and ends
+abbrev OtherAct : Act → Type 0
+OtherAct (Act′.Submit j p f k w) = Unit {0}
+OtherAct (Act′.Start k) = Unit {0}
+OtherAct (Act′.Complete k how) = ⊥
+OtherAct (Act′.End j e) = ⊥
+OtherAct (Act′.Return j k u) = Unit {0}
+OtherAct (Act′.Mark k u m on) = Unit {0}
+
 abbrev Other : Call → Type 0
 Other (Deck bytes) = Unit {0}
 Other Select = Unit {0}
-Other (Submit j p f k w) = Unit {0}
-Other (Start k) = Unit {0}
-Other (Complete k how) = ⊥
-Other (End j e) = ⊥
-Other (Return j k u) = Unit {0}
-Other (Mark k u m on) = Unit {0}
+Other (Do x) = OtherAct x
 Other (Release id) = Unit {0}
 Other (Delete id) = Unit {0}
 Other (Status j p) = Unit {0}
@@ -127,31 +145,25 @@ module _ (c d : Cell) (i : ℕ) (alive : isEmpty (stateIn (inside c .jobs) i) �
   abbrev Same : Cell → Type 0
   Same x = stateIn (inside x .jobs) i ≡ stateIn (inside c .jobs) i
 
-  acted-same : (x : Call) (reply : Reply) → Does c x reply d → (y : Rules.Call) → (refusalIn reply ≡ none → inside d ≡ Rules.accept (inside c) y)
-      → stateIn (Rules.accept (inside c) y .jobs) i ≡ stateIn (inside c .jobs) i → Same d
-  acted-same x reply h y is e = by-refusal c d x reply h Same refl (λ n. ap (λ (s : State). stateIn (s .jobs) i) (is n) ∙ e)
+  -- what an accepted call leaves
+  accept-same : (x : Act) → OtherAct x → stateIn (Rules.accept (inside c) (Rules.Do x) .jobs) i ≡ stateIn (inside c .jobs) i
+  unfolding Rules.accept
+  accept-same (Act′.Submit j p f k w) o = states-submit (inside c) j p f (k .0) w i
+  accept-same (Act′.Start k) o = states-started (inside c) (k .0) i
+  accept-same (Act′.Complete k how) o = absurd o
+  accept-same (Act′.End j e) o = absurd o
+  accept-same (Act′.Return j k u) o = states-handed (inside c) j (k .0) (AtUnit u) i
+  accept-same (Act′.Mark k u m on) o = refl
 
   plain-keep : (x : Call) (reply : Reply) → Plain x → Does c x reply d → Other x → Same d
-  unfolding Rules.run Rules.accept
-  plain-keep (Deck bytes) reply z h o = ap (λ (s : State). stateIn (s .jobs) i) (does-heard c d (Deck bytes) reply h)
-  plain-keep Select reply z h o =
-      ap (λ (s : State). stateIn (s .jobs) i) (does-heard c d Select reply h)
-      ∙ rw (h .1 .1 .0) (select-keeps c (h .0 .selection) i (h .1 .0 .takes .selects) alive)
-  plain-keep (Submit j p f k w) reply z h o =
-      let y = Rules.Submit j p f k w in
-      acted-same (Submit j p f k w) reply h y (λ n. accepted-is c d (Submit j p f k w) reply h n y refl .1) (states-submit (inside c) j p f k w i)
-  plain-keep (Start k) reply z h o = acted-same (Start k) reply h (Rules.Start k) (λ n. accepted-is c d (Start k) reply h n (Rules.Start k) refl .1) (states-started (inside c) k i)
-  plain-keep (Complete k how) reply z h o = absurd o
-  plain-keep (End j e) reply z h o = absurd o
-  plain-keep (Return j k u) reply z h o =
-      let y = Rules.Return j k u in
-      acted-same (Return j k u) reply h y (λ n. accepted-is c d (Return j k u) reply h n y refl .1) (states-handed (inside c) j k (AtUnit (record { 0 = u })) i)
-  plain-keep (Mark k u m on) reply z h o =
-      let y = Rules.Mark k u m on in
-      acted-same (Mark k u m on) reply h y (λ n. accepted-is c d (Mark k u m on) reply h n y refl .1) refl
-  plain-keep (Release id) reply z h o = ap (λ (s : State). stateIn (s .jobs) i) (does-heard c d (Release id) reply h)
-  plain-keep (Delete id) reply z h o = ap (λ (s : State). stateIn (s .jobs) i) (does-heard c d (Delete id) reply h)
-  plain-keep (Status j p) reply z h o = ap (λ (s : State). stateIn (s .jobs) i) (does-heard c d (Status j p) reply h)
+  plain-keep (Deck bytes) reply z h o = ap (λ (s : State). stateIn (s .jobs) i) (does-told c d (Deck bytes) reply h)
+  plain-keep Select reply z h o = select-keeps c reply i (inside d) (does-told c d Select reply h) alive
+  plain-keep (Do x) reply z h o =
+      by-refusal c d (Do x) reply h Same refl
+      (λ n. ap (λ (s : State). stateIn (s .jobs) i) (accepted-is c d x reply h n .1) ∙ accept-same x o)
+  plain-keep (Release id) reply z h o = ap (λ (s : State). stateIn (s .jobs) i) (does-told c d (Release id) reply h)
+  plain-keep (Delete id) reply z h o = ap (λ (s : State). stateIn (s .jobs) i) (does-told c d (Delete id) reply h)
+  plain-keep (Status j p) reply z h o = ap (λ (s : State). stateIn (s .jobs) i) (does-told c d (Status j p) reply h)
   plain-keep (Key message) reply z h o = absurd z
 
   others-keep : (x : Call) (reply : Reply) → Does c x reply d → OtherBy (meant x) → Same d
@@ -161,11 +173,13 @@ module _ (c d : Cell) (i : ℕ) (alive : isEmpty (stateIn (inside c .jobs) i) �
 -- ---- what a completion and an end leave
 
 -- the schedule after an accepted call of the lists
-pub schedule-after : (c d : Cell) (y : Rules.Call) → d ≡ acted c y .cell → Rules.refusal (inside c) y ≡ Granted → d .schedule ≡ follows (c .schedule) y (Rules.answer (inside c) y)
+pub schedule-after : (c d : Cell) (x : Act) → d ≡ acted c x .cell → Rules.refusal (inside c) (Rules.Do x) ≡ Granted
+    → d .schedule ≡ followed (c .schedule) (Rules.answer (inside c) (Rules.Do x))
 unfolding acted Rules.step
-schedule-after c d y e g =
-    ap (λ (x : Cell). x .schedule) e
-    ∙ ap (follows (c .schedule) y) (outcome-is (c .lists) y .0 ∙ ap (λ (v : Verdict). Rules.decided (inside c) y v .answer) g)
+schedule-after c d x e g =
+    let y = Rules.Do x in
+    ap (λ (z : Cell). z .schedule) e
+    ∙ ap (followed (c .schedule)) (outcome-is (c .lists) y .0 ∙ ap (λ (v : Verdict). Rules.decided (inside c) y v .answer) g)
 
 -- what is left of a request, by how its job is closing
 left-as : (e : Bool) (s other : Schedule) (j : ℕ) → leftBy (leavingAs (closing e)) s j other ≡ Schedules.returned s j e
@@ -195,32 +209,33 @@ module _ (c d : Cell) (reply : Reply) (ok : refusalIn reply ≡ none) (place : �
   abbrev Is : Type 0
   Is = Over c place inError (inside d) (d .schedule)
 
-  ended-complete : (k : ℕ) (how : How) → Does c (Complete k how) reply d → stateIn (inside c .jobs) place ≡ closing inError → Is
+  ended-complete : (q : ChannelNumber) (how : How) → Does c (Do (Act′.Complete q how)) reply d → stateIn (inside c .jobs) place ≡ closing inError → Is
   unfolding Rules.accept Rules.answer
-  ended-complete k how h e =
+  ended-complete q how h e =
       let s = inside c in
-      let a = accepted-is c d (Complete k how) reply h ok (Rules.Complete k how) refl in
+      let k = q .0 in
+      let a = accepted-is c d (Act′.Complete q how) reply h ok in
       let o = busy-of (motionOn s k) (completes-on s k how (a .0) .1) in
       let j = o .0 in
       let s₁ = finished s k how j (o .1) in
       let i : inside d ≡ Rules.completed s k how (Busy j (o .1)) = a .1 ∙ ap (Rules.completed s k how) (o .2) in
       let g : d .schedule ≡ leftBy (leaving j s₁) (c .schedule) j (c .schedule) =
-      schedule-after c d (Rules.Complete k how) (h .1) (a .0) ∙ ap (λ (m : Motion). follows (c .schedule) (Rules.Complete k how) (Rules.completes s k how m)) (o .2) in
+      schedule-after c d (Act′.Complete q how) (h .1) (a .0) ∙ ap (λ (m : Motion). followed (c .schedule) (Rules.completes s k how m)) (o .2) in
       by-bool (eqb place j)
-      (λ t. let q : j ≡ place = sym (eqb-true place j t) in
-      let v : stateIn (s₁ .jobs) j ≡ closing inError = states-finished s k how j (o .1) j ∙ ap (stateIn (s .jobs)) q ∙ e in
-      subst (λ (n : ℕ). Over c n inError (inside d) (d .schedule)) q
+      (λ t. let r : j ≡ place = sym (eqb-true place j t) in
+      let v : stateIn (s₁ .jobs) j ≡ closing inError = states-finished s k how j (o .1) j ∙ ap (stateIn (s .jobs)) r ∙ e in
+      subst (λ (n : ℕ). Over c n inError (inside d) (d .schedule)) r
       (over-as c j inError (sym i) (sym g) (over-left c s₁ j inError (c .schedule) v)))
       (λ t. inl (ap (λ (x : State). stateIn (x .jobs) place) i ∙ states-left s₁ j place t ∙ states-finished s k how j (o .1) place ∙ e))
 
-  ended-end : (j : ℕ) (b : Bool) → Does c (End j b) reply d → Ends c (End j b) place inError → Is
+  ended-end : (j : ℕ) (b : Bool) → Does c (Do (Act′.End j b)) reply d → Ends c (Do (Act′.End j b)) place inError → Is
   unfolding Rules.accept Rules.answer
   ended-end j b h en =
       let s = inside c in
-      let a = accepted-is c d (End j b) reply h ok (Rules.End j b) refl in
+      let a = accepted-is c d (Act′.End j b) reply h ok in
       let run = ends-of s j b (a .0) in
       let s₁ = closed s j b in
-      let g : d .schedule ≡ leftBy (leaving j s₁) (c .schedule) j (Schedules.closing (c .schedule) j) = schedule-after c d (Rules.End j b) (h .1) (a .0) in
+      let g : d .schedule ≡ leftBy (leaving j s₁) (c .schedule) j (Schedules.closing (c .schedule) j) = schedule-after c d (Act′.End j b) (h .1) (a .0) in
       ⊎-elim
       (λ q. let v : stateIn (s₁ .jobs) j ≡ closing b = states-closed s j b run j ∙ rw (eqb-self j) refl in
       let w : Over c j b (inside d) (d .schedule) = over-as c j b (sym (a .1)) (sym g) (over-left c s₁ j b (Schedules.closing (c .schedule) j) v) in
@@ -235,19 +250,20 @@ module _ (c d : Cell) (reply : Reply) (ok : refusalIn reply ≡ none) (place : �
       en
 
   -- any other call leaves a closing place as it is
-  ended-kept : (x : Call) → Does c x reply d → OtherBy (meant x) → (x ≡ End place inError → ⊥) → Ends c x place inError → Is
+  ended-kept : (x : Call) → Does c x reply d → OtherBy (meant x) → (x ≡ Do (Act′.End place inError) → ⊥) → Ends c x place inError → Is
   ended-kept x h o not-it en =
       ⊎-elim (λ q. absurd (not-it q)) (λ e. inl (others-keep c d place (ap isEmpty e ∙ closing-live inError .0) x reply h o ∙ e)) en
 
   pub ended-so : (x : Call) → Does c x reply d → Ends c x place inError → Is
   ended-so (Deck bytes) h en = ended-kept (Deck bytes) h tt (λ q. let z : _≡_ {A = ℕ} 0 1 = cc in omega arith) en
   ended-so Select h en = ended-kept Select h tt (λ q. let z : _≡_ {A = ℕ} 0 1 = cc in omega arith) en
-  ended-so (Submit j p f k w) h en = ended-kept (Submit j p f k w) h tt (λ q. let z : _≡_ {A = ℕ} 0 1 = cc in omega arith) en
-  ended-so (Start k) h en = ended-kept (Start k) h tt (λ q. let z : _≡_ {A = ℕ} 0 1 = cc in omega arith) en
-  ended-so (Complete k how) h en = ⊎-elim (λ q. absurd (let z : _≡_ {A = ℕ} 0 1 = cc in omega arith)) (λ e. ended-complete k how h e) en
-  ended-so (End j b) h en = ended-end j b h en
-  ended-so (Return j k u) h en = ended-kept (Return j k u) h tt (λ q. let z : _≡_ {A = ℕ} 0 1 = cc in omega arith) en
-  ended-so (Mark k u m on) h en = ended-kept (Mark k u m on) h tt (λ q. let z : _≡_ {A = ℕ} 0 1 = cc in omega arith) en
+  ended-so (Do (Act′.Submit j p f k w)) h en = ended-kept (Do (Act′.Submit j p f k w)) h tt (λ q. let z : _≡_ {A = ℕ} 0 1 = cc in omega arith) en
+  ended-so (Do (Act′.Start k)) h en = ended-kept (Do (Act′.Start k)) h tt (λ q. let z : _≡_ {A = ℕ} 0 1 = cc in omega arith) en
+  ended-so (Do (Act′.Complete k how)) h en =
+      ⊎-elim (λ q. absurd (let z : _≡_ {A = ℕ} 0 1 = cc in omega arith)) (λ e. ended-complete k how h e) en
+  ended-so (Do (Act′.End j b)) h en = ended-end j b h en
+  ended-so (Do (Act′.Return j k u)) h en = ended-kept (Do (Act′.Return j k u)) h tt (λ q. let z : _≡_ {A = ℕ} 0 1 = cc in omega arith) en
+  ended-so (Do (Act′.Mark k u m on)) h en = ended-kept (Do (Act′.Mark k u m on)) h tt (λ q. let z : _≡_ {A = ℕ} 0 1 = cc in omega arith) en
   ended-so (Release id) h en = ended-kept (Release id) h tt (λ q. let z : _≡_ {A = ℕ} 0 1 = cc in omega arith) en
   ended-so (Delete id) h en = ended-kept (Delete id) h tt (λ q. let z : _≡_ {A = ℕ} 0 1 = cc in omega arith) en
   ended-so (Status j p) h en = ended-kept (Status j p) h tt (λ q. let z : _≡_ {A = ℕ} 0 1 = cc in omega arith) en
@@ -269,36 +285,37 @@ module _ (c d : Cell) (reply : Reply) (place : ℕ) (e : stateIn (inside c .jobs
   kept : (x : Call) → Does c x reply d → OtherBy (meant x) → stateIn (inside d .jobs) place ≡ Running
   kept x h o = others-keep c d place (ap isEmpty e) x reply h o ∙ e
 
-  runs-complete : (k : ℕ) (how : How) → Does c (Complete k how) reply d → stateIn (inside d .jobs) place ≡ Running
+  runs-complete : (q : ChannelNumber) (how : How) → Does c (Do (Act′.Complete q how)) reply d → stateIn (inside d .jobs) place ≡ Running
   unfolding Rules.accept
-  runs-complete k how h =
-      by-refusal c d (Complete k how) reply h (λ x. stateIn (inside x .jobs) place ≡ Running) e
+  runs-complete q how h =
+      let k = q .0 in
+      by-refusal c d (Do (Act′.Complete q how)) reply h (λ x. stateIn (inside x .jobs) place ≡ Running) e
       (λ ok. let s = inside c in
-      let a = accepted-is c d (Complete k how) reply h ok (Rules.Complete k how) refl in
+      let a = accepted-is c d (Act′.Complete q how) reply h ok in
       let o = busy-of (motionOn s k) (completes-on s k how (a .0) .1) in
       let s₁ = finished s k how (o .0) (o .1) in
       let i : inside d ≡ Rules.completed s k how (Busy (o .0) (o .1)) = a .1 ∙ ap (Rules.completed s k how) (o .2) in
       let v : stateIn (s₁ .jobs) place ≡ Running = states-finished s k how (o .0) (o .1) place ∙ e in
       ap (λ (x : State). stateIn (x .jobs) place) i ∙ runs-left s₁ (o .0) v)
 
-  runs-end : (j : ℕ) (b : Bool) → Does c (End j b) reply d → (End j b ≡ End place b → ⊥) → stateIn (inside d .jobs) place ≡ Running
+  runs-end : (j : ℕ) (b : Bool) → Does c (Do (Act′.End j b)) reply d → (Do (Act′.End j b) ≡ Do (Act′.End place b) → ⊥) → stateIn (inside d .jobs) place ≡ Running
   unfolding Rules.accept
   runs-end j b h n =
-      by-refusal c d (End j b) reply h (λ x. stateIn (inside x .jobs) place ≡ Running) e
+      by-refusal c d (Do (Act′.End j b)) reply h (λ x. stateIn (inside x .jobs) place ≡ Running) e
       (λ ok. let s = inside c in
-      let a = accepted-is c d (End j b) reply h ok (Rules.End j b) refl in
-      let f : eqb place j ≡ false = by-bool (eqb place j) (λ t. absurd (n (ap (λ (m : ℕ). End m b) (sym (eqb-true place j t))))) (λ t. t) in
+      let a = accepted-is c d (Act′.End j b) reply h ok in
+      let f : eqb place j ≡ false = by-bool (eqb place j) (λ t. absurd (n (ap (λ (m : ℕ). Do (Act′.End m b)) (sym (eqb-true place j t))))) (λ t. t) in
       ap (λ (x : State). stateIn (x .jobs) place) (a .1) ∙ states-left (closed s j b) j place f ∙ states-closed s j b (ends-of s j b (a .0)) place ∙ rw f e)
 
-  pub runs-on : (x : Call) → Does c x reply d → ((inError : Bool) → x ≡ End place inError → ⊥) → stateIn (inside d .jobs) place ≡ Running
+  pub runs-on : (x : Call) → Does c x reply d → ((inError : Bool) → x ≡ Do (Act′.End place inError) → ⊥) → stateIn (inside d .jobs) place ≡ Running
   runs-on (Deck bytes) h n = kept (Deck bytes) h tt
   runs-on Select h n = kept Select h tt
-  runs-on (Submit j p f k w) h n = kept (Submit j p f k w) h tt
-  runs-on (Start k) h n = kept (Start k) h tt
-  runs-on (Complete k how) h n = runs-complete k how h
-  runs-on (End j b) h n = runs-end j b h (n b)
-  runs-on (Return j k u) h n = kept (Return j k u) h tt
-  runs-on (Mark k u m on) h n = kept (Mark k u m on) h tt
+  runs-on (Do (Act′.Submit j p f k w)) h n = kept (Do (Act′.Submit j p f k w)) h tt
+  runs-on (Do (Act′.Start k)) h n = kept (Do (Act′.Start k)) h tt
+  runs-on (Do (Act′.Complete k how)) h n = runs-complete k how h
+  runs-on (Do (Act′.End j b)) h n = runs-end j b h (n b)
+  runs-on (Do (Act′.Return j k u)) h n = kept (Do (Act′.Return j k u)) h tt
+  runs-on (Do (Act′.Mark k u m on)) h n = kept (Do (Act′.Mark k u m on)) h tt
   runs-on (Release id) h n = kept (Release id) h tt
   runs-on (Delete id) h n = kept (Delete id) h tt
   runs-on (Status j p) h n = kept (Status j p) h tt
@@ -306,9 +323,13 @@ module _ (c d : Cell) (reply : Reply) (place : ℕ) (e : stateIn (inside c .jobs
 
 -- ---- a mark
 
-pub marked-so : (c d : Cell) (k u : ℕ) (m : UnitMark) (on : Bool) (reply : Reply) → Does c (Mark k u m on) reply d → refusalIn reply ≡ none
-    → d ≡ withUnits c (unitSet (c .lists .units .of) k u (markedUnit m on (unitIn (c .lists .units .of) k u)))
-unfolding acted outcome Rules.accept
+pub marked-so : (c d : Cell) (k : ChannelNumber) (u : UnitNumber) (m : UnitMark) (on : Bool) (reply : Reply)
+    → Does c (Do (Act′.Mark k u m on)) reply d → refusalIn reply ≡ none
+    → let units = c .lists .units .of in
+    d ≡ withUnits c (unitSet units (k .0) (u .0) (markedUnit m on (unitIn units (k .0) (u .0))))
+unfolding acted outcome Rules.accept Rules.answer
 marked-so c d k u m on reply h ok =
-    let g = accepted-is c d (Mark k u m on) reply h ok (Rules.Mark k u m on) refl .0 in
-    h .1 ∙ ap (λ (v : Verdict). cellOf (follows (c .schedule) (Rules.Mark k u m on) (settled (c .lists) (Rules.Mark k u m on) v .answer)) (settled (c .lists) (Rules.Mark k u m on) v .lists)) g
+    let y = Rules.Do (Act′.Mark k u m on) in
+    h .1
+    ∙ ap (λ (v : Verdict). cellOf (followed (c .schedule) (settled (c .lists) y v .answer)) (settled (c .lists) y v .lists))
+    (accepted-is c d (Act′.Mark k u m on) reply h ok .0)

@@ -3,7 +3,7 @@
 use Prim.Native.Nat.{ℕ}
 use mathlib.Core.Path.{_≡_, refl, sym, ap, subst, _∙_}
 use mathlib.Core.Bool.{Bool, true, false, _&&_}
-use mathlib.Core.List.{List, [], _∷_, _++_}
+use mathlib.Core.List.{List, [], _∷_, _++_, append-assoc}
 use mathlib.Core.Option.{Option, none, some}
 use native.Mathlib.Omega.{arith}
 use lib.Dec.{ltb}
@@ -31,7 +31,14 @@ use Rattle.desk_hearing.proofs.Program.{program}
 use Rattle.units.specs.State.{unitIn}
 use Rattle.packets.specs.Codes.{statusAfter}
 use Rattle.packets.proofs.CodesProof.{codes}
-use Rattle.packets.specs.Demand.{Holds, Isolated, Stretch, Holding, events}
+use Rattle.packets.specs.Demand.{Holds, Isolated, Stretch, Holding}
+use Rattle.packets.specs.History as Lists
+use Rattle.packets.specs.History.{Along, isAccepted}
+use Rattle.packets.proofs.Reaching.{accepted-granted, along, leads-append, leads-once, leads-split, reached-append}
+use Rattle.packets.proofs.Stays.{Configured, leads-has}
+use Rattle.packets.proofs.Steps as Lists′
+use Rattle.packets.specs.Interlocks.{interlockAfter}
+use Rattle.packets.specs.declared.Assignment.{Assignment}
 use Rattle.packets.proofs.DemandProof.{demand3}
 use Rattle.packets.proofs.BeforeProof.{all-listed, as-before, only-completions}
 use Rattle.packets.proofs.InterlocksProof.{lock-after}
@@ -42,18 +49,16 @@ use Rattle.packets.specs.declared.Verdict.the-variants.{Granted}
 use Rattle.assign.proofs.LackingLaws.{exists-exactly}
 use Rattle.cell_selection.specs.Selecting.{isJob, takingOf, leftBy}
 use Rattle.cell_selection.specs.declared.Selection.{Selection}
-use Rattle.cell.specs.Calls.{freshCell, Enters}
+use Rattle.cell.specs.Calls.{Enters}
 use Rattle.cell.specs.declared.Cell.{Cell}
 use Rattle.lists.specs.declared.StatusAnswer.the-variants.{Is}
-use Rattle.cell_history.proofs.HeardLaws.{does-heard, leads-heard}
-use Rattle.cell_history.specs.Heard.{heard, heardBy, heardOf, inside, taken, told}
-use Rattle.cell_history.specs.History.{Call, Chosen, Does, Event, Leads, Reply, Return, Said, Select, Shown, Complete, Deck, Delete, End, Mark, Release, Start, Submit, meant}
-use Rattle.demands.specs.Demands.{Demand1, Demand2, Demand3, WhileHeld, joins}
-use Rattle.demands.proofs.Accepted.{accepted-is, heard-granted}
+use Rattle.cell_history.specs.Told.{inside, told, toldOf}
+use Rattle.cell_history.specs.History.{Call, Chosen, Does, Event, Leads, Reached, Reply, Select, Shown}
+use Rattle.demands.specs.Demands.{Demand1, Demand2, Demand3, joins, taken}
 use Rattle.demands.proofs.InOrder.{first-in-order}
 use Rattle.demands.proofs.Named.{named-so, nobody-so}
 use Rattle.demands.proofs.Oldest.{ordered}
-use Rattle.demands.proofs.Owning.{free-place, holds-then, on-its-own, reached-inv, still-own, still-there}
+use Rattle.demands.proofs.Owning.{free-place, holds-then, on-its-own, still-own, still-there}
 use Rattle.demands.proofs.Marks.{answers-so, changes-so, channels-stay, codes-stay, marks-stay}
 use Rattle.demands.proofs.Missing.{refused-so, missing-so, alone-so}
 use Rattle.demands.proofs.Places.{ended-so, marked-so, runs-on}
@@ -64,10 +69,9 @@ use Rattle.demands.proofs.Texts.{counted-fresh, group-first, groups-ali
 use Rattle.demands.specs.Refusing.{refusalIn}
 use Rattle.demands.proofs.Numbers.{numbers}
 use Rattle.demands.proofs.Standing.{deck-lent, stands}
-use Rattle.packets_given.specs.Given.{taking}
-use Rattle.cell_history.proofs.FromFresh.{chosen-is, done-job, reached, selected-of, taking-of}
+use Rattle.cell_history.proofs.Reaching.{chosen-is, done-job, reached-lists, selected-of}
 use Rattle.cell_history.proofs.SpelledProof.{spelled-out}
-use Rattle.cell_history.proofs.ToldLaws.{leads-told}
+use Rattle.cell_history.proofs.ToldLaws.{does-told, leads-told}
 use Rattle.cell_agreement.proofs.AgreementProof.{agrees-always}
 use Rattle.cell_reached.proofs.ReachedProof.{every-cell}
 use Rattle.packets.specs.Rules as Rules
@@ -77,7 +81,6 @@ use Rattle.schedule_list.specs.declared.Schedule.{Schedule}
 use Rattle.schedule_deck.specs.Report.{deckSchedule}
 use Rattle.packets.specs.declared.Lists.{Lists}
 use Rattle.cell.specs.declared.DeckAnswer.{DeckAnswer}
-use Rattle.packets.specs.History as Told
 
 -- ---- demand 1
 
@@ -116,29 +119,16 @@ demand-1 =
 
 -- ---- demand 2
 
-codes-at : (configuration : Configuration) (es : List Event) (c : Cell) → Leads (freshCell configuration) es c
-    → (x : Rules.Call) → Rules.refusal (inside c) x ≡ Granted → (place packet : ℕ)
-    → packetIn (Rules.step (inside c) x .state .jobs) place packet .status ≡ statusAfter (inside c) x place packet
-unfolding Rules.step
-codes-at configuration es c h x =
-    subst (λ (s : State). Rules.refusal s x ≡ Granted → (place packet : ℕ) → packetIn (Rules.decided s x (Rules.refusal s x) .state .jobs) place packet .status ≡ statusAfter s x place packet)
-    (sym (reached configuration es c h))
-    (λ g place packet. rw g (codes (configuration .channels) (configuration .codes) (freshUnits (configuration .down)) (fresh-free (configuration .down)) (heard es) x g place packet))
+-- what is so of each call that the rules grant in a reached state is so of each accepted call that is told
+told-so : (P : State → Rules.Call → State → Type 0)
+    → ((l : List Lists.Event) (s : State) (y : Rules.Call) → Lists.Reached l s → Rules.refusal s y ≡ Granted → P s y (Rules.accept s y))
+    → (configuration : Configuration) (es : List Event) (c : Cell) → Reached configuration es c
+    → (d : Cell) (x : Call) (reply : Reply) → Does c x reply d → Along P (inside c) (toldOf x reply)
+told-so P f configuration es c r d x reply h =
+    along P f (told es) (inside c) (reached-lists configuration es c r) (toldOf x reply) (inside d) (does-told c d x reply h)
 
--- the stated codes, in the cell that follows
-codes-in : (configuration : Configuration) (es : List Event) (c : Cell) → Leads (freshCell configuration) es c
-    → (d : Cell) (x : Call) (reply : Reply) → Does c x reply d → refusalIn reply ≡ none
-    → (y : Rules.Call) → heardOf x reply ≡ y ∷ []
-    → (place packet : ℕ) → packetIn (inside d .jobs) place packet .status ≡ statusAfter (inside c) y place packet
-unfolding Rules.run
-codes-in configuration es c h d x reply k e y q place packet =
-    let i : inside d ≡ Rules.step (inside c) y .state = does-heard c d x reply k ∙ ap (Rules.run (inside c)) q in
-    ap (λ (s : State). packetIn (s .jobs) place packet .status) i
-    ∙ codes-at configuration es c h y (heard-granted c d x reply k e y q) place packet
-
-others-stay : (c d : Cell) (x : Call) (reply : Reply) → Does c x reply d → heardOf x reply ≡ [] → inside d ≡ inside c
-unfolding Rules.run
-others-stay c d x reply k q = does-heard c d x reply k ∙ ap (Rules.run (inside c)) q
+others-stay : (c d : Cell) (x : Call) (reply : Reply) → Does c x reply d → toldOf x reply ≡ [] → inside d ≡ inside c
+others-stay c d x reply k q = subst (λ (l : List Lists.Event). Lists.Leads (inside c) l (inside d)) q (does-told c d x reply k)
 
 -- a status that is shown is the packet's
 shown-is : (c d : Cell) (place packet : ℕ) (status : Status) → Does c (Call.Status place packet) (Shown (Is status)) d
@@ -209,20 +199,17 @@ demand-2 =
       exists = exists-exactly;
       alone = alone-so;
       busy = λ configuration es c h channel place packet. (every-cell configuration es c h .always .moving channel place packet, every-cell configuration es c h .always .movers place packet);
-      codes = codes-in;
-      interlocks = λ configuration es c h d x reply k e y q channel unit.
-          let a = accepted-is c d x reply k e y q in
-          ap (λ (s : State). unitIn (s .units) channel unit .interlock) (a .1)
-          ∙ lock-after (inside c) (reached-inv configuration es c h) channel unit y (a .0);
+      told = does-told;
+      codes = told-so (λ before y after. (place packet : ℕ) → packetIn (after .jobs) place packet .status ≡ statusAfter before y place packet)
+          (λ l s y r g. codes l s r y g);
+      interlocks = told-so (λ before y after. (channel unit : ℕ) → unitIn (after .units) channel unit .interlock ≡ interlockAfter before y channel unit)
+          (λ l s y r g channel unit. lock-after s (Lists′.reached-inv l s r) channel unit y g);
       before = (all-listed, as-before);
       elsewhere = only-completions;
       answers = answers-so;
       changes = changes-so;
-      order = λ configuration es c h d x reply k e y q.
-          let a = accepted-is c d x reply k e y q in
-          ap (λ (s : State). s .queue) (a .1)
-          ∙ ordered (inside c) (reached-inv configuration es c h) y (a .0)
-          ∙ ap (λ (s : State). keep (isStill (s .jobs)) (inside c .queue) ++ joins y) (sym (a .1));
+      order = told-so (λ before y after. after .queue ≡ keep (isStill (after .jobs)) (before .queue) ++ joins y)
+          (λ l s y r g. ordered s (Lists′.reached-inv l s r) y g);
       others = others-stay;
       shown = λ c d place packet status h. (shown-is c d place packet status h, h .1);
       listing = listed;
@@ -231,74 +218,54 @@ demand-2 =
 
 -- ---- demand 3
 
--- a stretch of the cell is a history, and for the lists a stretch of the rules
-held-leads : (h : Holding) (c d : Cell) (es : List Event) → WhileHeld h c es d → Leads c es d
-held-leads h c d [] w = w
-held-leads h c d (e ∷ es) w = (w .1 .0, (w .1 .1 .0, held-leads h (w .1 .0) d es (w .1 .1 .1)))
+-- a holding that begins with a taking, whatever call it is of
+module _ (configuration : Configuration) (before : List Event) (c : Cell) (r : Reached configuration before c) (d : Cell) (x : Call)
+    (reply : Reply) (k : Does c x reply d) (early late : List Lists.Event) (place : ℕ) (given : Assignment)
+    (is : toldOf x reply ≡ early ++ (taken place given ∷ late)) (s : State)
+    (leads : Lists.Leads (inside c) (early ++ (taken place given ∷ [])) s) where
+  abbrev taking : Rules.Call
+  taking = Rules.Take place given
 
-stretch-append : (h : Holding) (s : State) (l m : List Rules.Call) → Stretch h s l → Stretch h (Rules.run s l) m → Stretch h s (l ++ m)
-unfolding Rules.run
-stretch-append h s [] m a b = b
-stretch-append h s (x ∷ l) m a b = (a .0, stretch-append h (Rules.step s x .state) l m (a .1) b)
+  -- the lists before the taking, and after it
+  between : (t : State) × Lists.Leads (inside c) early t × Lists.Leads t (taken place given ∷ []) s
+  between = leads-split (inside c) early (taken place given ∷ []) s leads
 
-taken-stretch : (h : Holding) (s : State) (reply : Reply) → Holds s h → Stretch h s (taken reply)
-taken-stretch h s (Reply.Entered o) H = tt
-taken-stretch h s (Chosen o selection) H = by-bool (isJob (selection .choice)) (λ t. rw t (H, tt)) (λ t. rw t tt)
-taken-stretch h s (Reply.Said a) H = tt
-taken-stretch h s (Reply.Shown x) H = tt
-taken-stretch h s (Reply.Mistyped f) H = tt
+  abbrev free : State
+  free = between .0
 
-heard-stretch : (h : Holding) (s : State) (o : Option Call) (reply : Reply) → Holds s h → Stretch h s (heardBy o reply)
-heard-stretch h s none reply H = tt
-heard-stretch h s (some (Deck bytes)) reply H = tt
-heard-stretch h s (some Select) reply H = taken-stretch h s reply H
-heard-stretch h s (some (Submit place packet function channel spot)) reply H = (H, tt)
-heard-stretch h s (some (Start channel)) reply H = (H, tt)
-heard-stretch h s (some (Complete channel how)) reply H = (H, tt)
-heard-stretch h s (some (End place inError)) reply H = (H, tt)
-heard-stretch h s (some (Return place channel unit)) reply H = (H, tt)
-heard-stretch h s (some (Mark channel unit mark on)) reply H = (H, tt)
-heard-stretch h s (some (Release id)) reply H = tt
-heard-stretch h s (some (Delete id)) reply H = tt
-heard-stretch h s (some (Call.Status place packet)) reply H = tt
-heard-stretch h s (some (Call.Key message)) reply H = tt
+  reached-free : Lists.Reached (told before ++ early) free
+  reached-free = reached-append (told before) (inside c) (reached-lists configuration before c r) early free (between .1)
 
-held-stretch : (h : Holding) (c d : Cell) (es : List Event) → WhileHeld h c es d → Stretch h (inside c) (heard es)
-held-stretch h c d [] w = tt
-held-stretch h c d (e ∷ es) w =
-    stretch-append h (inside c) (heardOf (e .call) (e .reply)) (heard es)
-    (heard-stretch h (inside c) (meant (e .call)) (e .reply) (w .0))
-    (subst (λ (s : State). Stretch h s (heard es)) (does-heard c (w .1 .0) (e .call) (e .reply) (w .1 .1 .0)) (held-stretch h (w .1 .0) d es (w .1 .1 .1)))
+  granted : Rules.refusal free taking ≡ Granted
+  granted = accepted-granted free taking (sym (ap isAccepted (between .2 .0)))
 
--- the calls that the lists heard, from the cell after the selection, and what the rules answer to them
-module _ (configuration : Configuration) (before : List Event) (c : Cell) (l : Leads (freshCell configuration) before c)
-    (d : Cell) (job : Selection) (k : Does c Select (Chosen Done job) d) (h : Holding) (at : h .place ≡ job .place) (H : Holds (inside d) h) where
-  by-the-rules : (calls : List Rules.Call) → Stretch h (inside d) calls → Isolated (configuration .codes) h (events (inside d) calls) (Rules.run (inside d) calls)
-  by-the-rules calls stretch =
-      let t = taking-of c d job k in
-      subst (λ (s : State). Isolated (configuration .codes) h (events s calls) (Rules.run s calls)) (sym (t .1))
-      (subst (λ (s : State). Rules.refusal s (takingOf job) ≡ Granted → Holds (Rules.step s (takingOf job) .state) h
-      → Stretch h (Rules.step s (takingOf job) .state) calls
-      → Isolated (configuration .codes) h (events (Rules.step s (takingOf job) .state) calls) (Rules.run (Rules.step s (takingOf job) .state) calls))
-      (sym (reached configuration before c l))
-      (λ g o u. demand3 (configuration .channels) (configuration .codes) (freshUnits (configuration .down)) (fresh-free (configuration .down)) (heard before) (job .place) _ g h at o calls u)
-      (t .0)
-      (subst (λ (s : State). Holds s h) (t .1) H)
-      (subst (λ (s : State). Stretch h s calls) (t .1) stretch))
+  same-codes : free .codes ≡ configuration .codes
+  same-codes =
+      ap (λ (z : Configured). z .codes) (leads-has (inside c) early free (between .1)) ∙ codes-stay configuration before c r
 
-  -- what the caller was told is what the rules answer, and the lists at the end are what the rules lead to
-  as-told : (during : List Event) (e : Cell) → WhileHeld h d during e → Isolated (configuration .codes) h (told during) (inside e)
-  as-told during e w =
-      let m = held-leads h d e during w in
-      subst (λ (x : List Told.Event). Isolated (configuration .codes) h x (inside e)) (sym (leads-told d e during m))
-      (subst (λ (s : State). Isolated (configuration .codes) h (events (inside d) (heard during)) s) (sym (leads-heard d e during m))
-      (by-the-rules (heard during) (held-stretch h d e during w)))
+  as-told : (h : Holding) → h .place ≡ place → Holds s h → (during : List Event) (e : Cell) → Leads d during e
+      → Stretch h s (late ++ told during) → Isolated (configuration .codes) h (late ++ told during) (inside e)
+  as-told h at H during e l stretch =
+      let after : s ≡ Rules.step free taking .state = between .2 .1 in
+      let all : Lists.Leads (inside c) ((early ++ (taken place given ∷ [])) ++ late) (inside d) =
+      subst (λ (m : List Lists.Event). Lists.Leads (inside c) m (inside d))
+      (is ∙ sym (append-assoc early (taken place given ∷ []) late)) (does-told c d x reply k) in
+      let rest = leads-split (inside c) (early ++ (taken place given ∷ [])) late (inside d) all in
+      let q : rest .0 ≡ s = leads-once (inside c) (early ++ (taken place given ∷ [])) (rest .0) s (rest .1) leads in
+      let m : Lists.Leads s (late ++ told during) (inside e) =
+      leads-append s late (inside d) (told during) (inside e)
+      (subst (λ (t : State). Lists.Leads t late (inside d)) q (rest .2)) (leads-told d e during l) in
+      subst (λ (n : ℕ). Isolated n h (late ++ told during) (inside e)) same-codes
+      (demand3 (told before ++ early) free reached-free place given granted h at (subst (λ (t : State). Holds t h) after H)
+      (late ++ told during) (inside e) (subst (λ (t : State). Lists.Leads t (late ++ told during) (inside e)) after m)
+      (subst (λ (t : State). Stretch h t (late ++ told during)) after stretch))
 
 pub demand-3 : Demand3
 demand-3 =
     record {
       spelled = spelled-out;
-      alike = as-told;
+      alike = λ configuration before c r d x reply k early late place given is s leads h at H during e l stretch.
+          as-told configuration before c r d x reply k early late place given is s leads h at H during e l stretch;
       moving = still-there;
       own = still-own;
       free = free-place;

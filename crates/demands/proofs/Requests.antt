@@ -3,27 +3,35 @@
 use Prim.Native.Nat.{ℕ}
 use mathlib.Core.Path.{_≡_, refl, sym, ap, _∙_}
 use mathlib.Core.Bool.{Bool, true, false, cond}
-use mathlib.Core.Option.{none}
+use mathlib.Core.Option.{Option, none, some}
 use Rattle.numbers.proofs.Tests.{by-bool, never, both}
+use Rattle.numbers.specs.declared.ChannelNumber.{ChannelNumber}
+use Rattle.numbers.specs.declared.UnitNumber.{UnitNumber}
 use Rattle.schedule_list.specs.declared.Schedule.{Schedule}
 use Rattle.schedule.specs.Calls as Schedules
+use Rattle.packets.specs.Picks.{find}
 use Rattle.packets.specs.Rules as Rules
 use Rattle.packets.specs.Rules.{closed, closing, finished, isDone, leavingAs, returnIfDone}
 use Rattle.packets.specs.State.{State, isClosing, isEmpty, motionOn, stateIn}
+use Rattle.packets.specs.declared.Act.{Act}
+use Rattle.packets.specs.declared.Act.the-variants as Act′
 use Rattle.packets.specs.declared.How.{How}
 use Rattle.packets.specs.declared.JobState.the-variants.{Empty}
 use Rattle.packets.specs.declared.Leaving.the-variants.{Stays}
 use Rattle.packets.specs.declared.Motion.{Motion}
 use Rattle.packets.specs.declared.Motion.the-variants.{Busy}
 use Rattle.packets.specs.declared.Spot.{Spot}
+use Rattle.packets.specs.declared.Verdict.{Verdict}
+use Rattle.packets.specs.declared.Verdict.the-variants.{Denied, Granted}
+use Rattle.lists.specs.Outcomes.{outcome, settled}
 use Rattle.packets.proofs.Laws.{eqb-self}
 use Rattle.packets.proofs.States.{states-finished, states-returned}
 use Rattle.packets.proofs.Steps.{busy-of, closing-not-running}
 use Rattle.packets.proofs.Told.{completes-on}
-use Rattle.cell.specs.Calls.{acted, follows, leftBy}
+use Rattle.cell.specs.Calls.{acted, followed, leftBy}
 use Rattle.cell.specs.declared.Cell.{Cell}
-use Rattle.cell_history.specs.Heard.{inside}
-use Rattle.cell_history.specs.History.{Complete, Does, End, Reply, Return, Start, Submit}
+use Rattle.cell_history.specs.Told.{inside}
+use Rattle.cell_history.specs.History.{Do, Does, Reply}
 use Rattle.demands.specs.Refusing.{refusalIn}
 use Rattle.demands.proofs.Accepted.{accepted-is}
 use Rattle.demands.proofs.Places.{by-refusal, closing-live, schedule-after}
@@ -37,27 +45,42 @@ not-returned s j e c =
     absurd (never (ap isEmpty z) (ap isEmpty y ∙ closing-live e .0)))
     (λ t. t)
 
-pub closes-so : (c d : Cell) (j : ℕ) (e : Bool) (reply : Reply) → Does c (End j e) reply d → stateIn (inside d .jobs) j ≡ closing e → refusalIn reply ≡ none
+pub closes-so : (c d : Cell) (j : ℕ) (e : Bool) (reply : Reply) → Does c (Do (Act′.End j e)) reply d → stateIn (inside d .jobs) j ≡ closing e → refusalIn reply ≡ none
     → d .schedule ≡ Schedules.closing (c .schedule) j
 unfolding Rules.accept Rules.answer
 closes-so c d j e reply h is ok =
-    let a = accepted-is c d (End j e) reply h ok (Rules.End j e) refl in
+    let a = accepted-is c d (Act′.End j e) reply h ok in
     let s₁ = closed (inside c) j e in
     let n : isDone s₁ j ≡ false = not-returned s₁ j e (sym (ap (λ (x : State). stateIn (x .jobs) j) (a .1)) ∙ is) in
-    schedule-after c d (Rules.End j e) (h .1) (a .0)
+    schedule-after c d (Act′.End j e) (h .1) (a .0)
     ∙ ap (λ (b : Bool). leftBy (cond b (leavingAs (stateIn (s₁ .jobs) j)) Stays) (c .schedule) j (Schedules.closing (c .schedule) j)) n
 
-pub submits-so : (c d : Cell) (j p f k : ℕ) (w : Spot) (reply : Reply) → Does c (Submit j p f k w) reply d → d .schedule ≡ c .schedule
-unfolding acted
-submits-so c d j p f k w reply h = ap (λ (x : Cell). x .schedule) (h .1)
+-- a call that the schedule does not follow, whatever it answers
+unmoved : (c d : Cell) (x : Act) → d ≡ acted c x .cell → ((s : Schedule) → followed s (Rules.answer (inside c) (Rules.Do x)) ≡ s)
+    → d .schedule ≡ c .schedule
+unfolding acted outcome
+unmoved c d x e same = ap (λ (z : Cell). z .schedule) e ∙ go (Rules.refusal (inside c) (Rules.Do x))
+  where
+    go : (v : Verdict) → followed (c .schedule) (settled (c .lists) (Rules.Do x) v .answer) ≡ c .schedule
+    go Granted = same (c .schedule)
+    go (Denied n) = refl
 
-pub starts-so : (c d : Cell) (k : ℕ) (reply : Reply) → Does c (Start k) reply d → d .schedule ≡ c .schedule
-unfolding acted
-starts-so c d k reply h = ap (λ (x : Cell). x .schedule) (h .1)
+begins-unmoved : (t : State) (o : Option ℕ) (s : Schedule) → followed s (Rules.begins t o) ≡ s
+begins-unmoved t none s = refl
+begins-unmoved t (some e) s = refl
 
-pub returns-so : (c d : Cell) (j k u : ℕ) (reply : Reply) → Does c (Return j k u) reply d → d .schedule ≡ c .schedule
-unfolding acted
-returns-so c d j k u reply h = ap (λ (x : Cell). x .schedule) (h .1)
+pub submits-so : (c d : Cell) (j p f : ℕ) (k : ChannelNumber) (w : Spot) (reply : Reply) → Does c (Do (Act′.Submit j p f k w)) reply d
+    → d .schedule ≡ c .schedule
+submits-so c d j p f k w reply h = unmoved c d (Act′.Submit j p f k w) (h .1) (unfold Rules.answer in λ s. refl)
+
+pub starts-so : (c d : Cell) (k : ChannelNumber) (reply : Reply) → Does c (Do (Act′.Start k)) reply d → d .schedule ≡ c .schedule
+starts-so c d k reply h =
+    unmoved c d (Act′.Start k) (h .1)
+    (unfold Rules.answer in begins-unmoved (inside c) (find (Rules.startable (inside c) (k .0)) (inside c .queue)))
+
+pub returns-so : (c d : Cell) (j : ℕ) (k : ChannelNumber) (u : UnitNumber) (reply : Reply) → Does c (Do (Act′.Return j k u)) reply d
+    → d .schedule ≡ c .schedule
+returns-so c d j k u reply h = unmoved c d (Act′.Return j k u) (h .1) (unfold Rules.answer in λ s. refl)
 
 -- a place that is done was closing, and is empty when it has returned
 left-alone : (s : State) (j : ℕ) → isEmpty (stateIn (returnIfDone j s .jobs) j) ≡ isEmpty (stateIn (s .jobs) j) → isDone s j ≡ false
@@ -69,19 +92,20 @@ left-alone s j e =
     absurd (never (sym y ∙ z) (closing-not-running (stateIn (s .jobs) j) (both (isClosing (stateIn (s .jobs) j)) _ t .0) .1)))
     (λ t. t)
 
-pub completes-so : (c d : Cell) (k : ℕ) (how : How) (reply : Reply) → Does c (Complete k how) reply d
+pub completes-so : (c d : Cell) (q : ChannelNumber) (how : How) (reply : Reply) → Does c (Do (Act′.Complete q how)) reply d
     → ((place : ℕ) → isEmpty (stateIn (inside d .jobs) place) ≡ isEmpty (stateIn (inside c .jobs) place)) → d .schedule ≡ c .schedule
 unfolding Rules.accept Rules.answer
-completes-so c d k how reply h same =
-    by-refusal c d (Complete k how) reply h (λ x. x .schedule ≡ c .schedule) refl
+completes-so c d q how reply h same =
+    let k = q .0 in
+    by-refusal c d (Do (Act′.Complete q how)) reply h (λ x. x .schedule ≡ c .schedule) refl
     (λ ok. let s = inside c in
-    let a = accepted-is c d (Complete k how) reply h ok (Rules.Complete k how) refl in
+    let a = accepted-is c d (Act′.Complete q how) reply h ok in
     let o = busy-of (motionOn s k) (completes-on s k how (a .0) .1) in
     let j = o .0 in
     let s₁ = finished s k how j (o .1) in
     let i : inside d ≡ Rules.completed s k how (Busy j (o .1)) = a .1 ∙ ap (Rules.completed s k how) (o .2) in
     let n : isDone s₁ j ≡ false =
     left-alone s₁ j (sym (ap (λ (x : State). isEmpty (stateIn (x .jobs) j)) i) ∙ same j ∙ ap isEmpty (sym (states-finished s k how j (o .1) j))) in
-    schedule-after c d (Rules.Complete k how) (h .1) (a .0)
-    ∙ ap (λ (m : Motion). follows (c .schedule) (Rules.Complete k how) (Rules.completes s k how m)) (o .2)
+    schedule-after c d (Act′.Complete q how) (h .1) (a .0)
+    ∙ ap (λ (m : Motion). followed (c .schedule) (Rules.completes s k how m)) (o .2)
     ∙ ap (λ (b : Bool). leftBy (cond b (leavingAs (stateIn (s₁ .jobs) j)) Stays) (c .schedule) j (c .schedule)) n)

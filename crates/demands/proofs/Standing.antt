@@ -23,7 +23,8 @@ use Rattle.schedule_deck.specs.Report.{notesBy, outcomeBy, scheduleBy}
 use Rattle.packets.specs.Picks.{find}
 use Rattle.packets.specs.Rules as Rules
 use Rattle.packets.specs.State.{State, motionOn}
-use Rattle.packets.specs.declared.Answer.the-variants as Answers
+use Rattle.packets.specs.declared.Act.{Act}
+use Rattle.packets.specs.declared.Act.the-variants as Act′
 use Rattle.packets.specs.declared.How.{How}
 use Rattle.packets.specs.declared.Lists.{Lists}
 use Rattle.packets.specs.declared.Motion.{Motion}
@@ -34,12 +35,12 @@ use Rattle.lists.specs.Outcomes.{outcome, settled, stateOf}
 use Rattle.cell_selection.specs.Selecting.{isJob, leftBy}
 use Rattle.cell_selection.specs.declared.Choice.{Choice}
 use Rattle.cell_selection.specs.declared.Choice.the-variants.{Job, NoPlace, NoCandidates, Lacks}
-use Rattle.cell.specs.Calls.{acted, answerOf, cellOf, follows, outcomeOf, Enters, SelectsIn}
+use Rattle.cell.specs.Calls.{acted, answerOf, cellOf, followed, outcomeOf, Enters, SelectsIn}
 use Rattle.cell.specs.declared.Cell.{Cell}
 use Rattle.cell.specs.declared.DeckAnswer.{DeckAnswer}
 use Rattle.cell.specs.declared.SelectAnswer.{SelectAnswer}
 use Rattle.cell_history.proofs.MeantLaws.{Plain, by-meant}
-use Rattle.cell_history.specs.History.{Call, Complete, Deck, Delete, Does, End, Key, Mark, Release, Reply, Return, Select, Start, Status, Submit}
+use Rattle.cell_history.specs.History.{Call, Deck, Delete, Do, Does, Key, Release, Reply, Select, Status}
 use Rattle.demands.specs.Refusing.{ofAnswer, ofOutcome, refusalIn}
 
 -- an option is not both
@@ -63,31 +64,24 @@ completes-some s c how (Busy j p) n e = not-some e
 accepted : (s : State) (x : Rules.Call) (n : Refusal) → ofAnswer (Rules.answer s x) ≡ some n → ⊥
 unfolding Rules.answer
 accepted s (Rules.Take j asg) n e = not-some e
-accepted s (Rules.Submit j p f c w) n e = not-some e
-accepted s (Rules.Start c) n e = begins-some s (find (Rules.startable s c) (s .queue)) n e
-accepted s (Rules.Complete c how) n e = completes-some s c how (motionOn s c) n e
-accepted s (Rules.End j b) n e = not-some e
-accepted s (Rules.Return j c u) n e = not-some e
-accepted s (Rules.Mark c u m on) n e = not-some e
+accepted s (Rules.Do (Act′.Submit j p f c w)) n e = not-some e
+accepted s (Rules.Do (Act′.Start c)) n e = begins-some s (find (Rules.startable s (c .0)) (s .queue)) n e
+accepted s (Rules.Do (Act′.Complete c how)) n e = completes-some s (c .0) how (motionOn s (c .0)) n e
+accepted s (Rules.Do (Act′.End j b)) n e = not-some e
+accepted s (Rules.Do (Act′.Return j c u)) n e = not-some e
+accepted s (Rules.Do (Act′.Mark c u m on)) n e = not-some e
 
--- a refusal moves the schedule nowhere
-follows-refused : (s : Schedule) (x : Rules.Call) (n : Refusal) → follows s x (Answers.Refused n) ≡ s
-follows-refused s (Rules.Take j asg) n = refl
-follows-refused s (Rules.Submit j p f c w) n = refl
-follows-refused s (Rules.Start c) n = refl
-follows-refused s (Rules.Complete c how) n = refl
-follows-refused s (Rules.End j b) n = refl
-follows-refused s (Rules.Return j c u) n = refl
-follows-refused s (Rules.Mark c u m on) n = refl
-
-acts-stand : (c : Cell) (x : Rules.Call) (n : Refusal) → ofAnswer (acted c x .answer) ≡ some n → acted c x .cell ≡ c
+acts-stand : (c : Cell) (x : Act) (n : Refusal) → ofAnswer (acted c x .answer) ≡ some n → acted c x .cell ≡ c
 unfolding acted outcome
-acts-stand c x n e = go (Rules.refusal (stateOf (c .lists)) x) e
+acts-stand c x n e = go (Rules.refusal (stateOf (c .lists)) y) e
   where
-    go : (v : Verdict) → ofAnswer (settled (c .lists) x v .answer) ≡ some n
-        → cellOf (follows (c .schedule) x (settled (c .lists) x v .answer)) (settled (c .lists) x v .lists) ≡ c
-    go Granted k = absurd (accepted (stateOf (c .lists)) x n k)
-    go (Denied m) k = ap (λ (s : Schedule). cellOf s (c .lists)) (follows-refused (c .schedule) x m)
+    y : Rules.Call
+    y = Rules.Do x
+
+    go : (v : Verdict) → ofAnswer (settled (c .lists) y v .answer) ≡ some n
+        → cellOf (followed (c .schedule) (settled (c .lists) y v .answer)) (settled (c .lists) y v .lists) ≡ c
+    go Granted k = absurd (accepted (stateOf (c .lists)) y n k)
+    go (Denied m) k = refl
 
 -- ---- release and delete
 
@@ -145,12 +139,7 @@ select-stands c r n h e =
 plain-stands : (c d : Cell) (x : Call) (reply : Reply) (n : Refusal) → Plain x → Does c x reply d → refusalIn reply ≡ some n → d ≡ c
 plain-stands c d (Deck bytes) reply n z h e = h .2 .1 .1 .1 ∙ deck-stands c bytes (h .0) (h .1) (h .2 .0) n (h .2 .1 .0) (sym (ap refusalIn (h .2 .1 .1 .0)) ∙ e)
 plain-stands c d Select reply n z h e = h .1 .1 .1 ∙ select-stands c (h .0) n (h .1 .0) (sym (ap refusalIn (h .1 .1 .0)) ∙ e)
-plain-stands c d (Submit j p f k w) reply n z h e = h .1 ∙ acts-stand c (Rules.Submit j p f k w) n (sym (ap refusalIn (h .0)) ∙ e)
-plain-stands c d (Start k) reply n z h e = h .1 ∙ acts-stand c (Rules.Start k) n (sym (ap refusalIn (h .0)) ∙ e)
-plain-stands c d (Complete k how) reply n z h e = h .1 ∙ acts-stand c (Rules.Complete k how) n (sym (ap refusalIn (h .0)) ∙ e)
-plain-stands c d (End j b) reply n z h e = h .1 ∙ acts-stand c (Rules.End j b) n (sym (ap refusalIn (h .0)) ∙ e)
-plain-stands c d (Return j k u) reply n z h e = h .1 ∙ acts-stand c (Rules.Return j k u) n (sym (ap refusalIn (h .0)) ∙ e)
-plain-stands c d (Mark k u m on) reply n z h e = h .1 ∙ acts-stand c (Rules.Mark k u m on) n (sym (ap refusalIn (h .0)) ∙ e)
+plain-stands c d (Do x) reply n z h e = h .1 ∙ acts-stand c x n (sym (ap refusalIn (h .0)) ∙ e)
 plain-stands c d (Release id) reply n z h e = h .1 ∙ release-stands c id n (findRequest (isNamed id) (inSchedule (c .schedule))) (sym (ap refusalIn (h .0)) ∙ e)
 plain-stands c d (Delete id) reply n z h e = h .1 ∙ delete-stands c id n (findRequest (isNamed id) (inSchedule (c .schedule))) (sym (ap refusalIn (h .0)) ∙ e)
 plain-stands c d (Status j p) reply n z h e = h .1

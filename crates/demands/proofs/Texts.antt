@@ -32,7 +32,7 @@ use Rattle.assign_heads.specs.Sums.{howMany, sumTo}
 use Rattle.packets.specs.History.{fresh}
 use Rattle.packets.specs.State.{State}
 use Rattle.cell.specs.Calls.{freshCell}
-use Rattle.cell_history.specs.Heard.{inside}
+use Rattle.cell_history.specs.Told.{inside}
 use Rattle.cell_history.proofs.FromFresh.{fresh-inside}
 use Rattle.cards_full.specs.declared.Wrote.the-variants as Wrote′
 

@@ -12,6 +12,7 @@ use lib.Dec.{eqb}
 use lib.ListN.{length, getD, take, drop}
 use Rattle.numbers.specs.Quoted.{byte, bytes}
 use Rattle.numbers.specs.declared.ChannelNumber.{ChannelNumber}
+use Rattle.numbers.specs.declared.UnitNumber.{UnitNumber}
 use Rattle.numbers.specs.declared.Outcome.{Outcome}
 use Rattle.numbers.specs.declared.Outcome.the-variants.{Done, Refused}
 use Rattle.numbers.specs.declared.Refusal.{Refusal}
@@ -66,11 +67,14 @@ use Rattle.assign_drum.specs.Drum.{noArea}
 use Rattle.assign_heads.specs.Sums.{howMany}
 use Rattle.packets.specs.Before.{AllListed, AsBefore, OnlyCompletions, all60}
 use Rattle.packets.specs.Codes.{statusAfter}
-use Rattle.packets.specs.Demand.{Holding, Holds, Isolated}
+use Rattle.packets.specs.Demand.{Holding, Holds, Isolated, Stretch}
+use Rattle.packets.specs.History as Lists
+use Rattle.packets.specs.History.{Along, isAccepted}
 use Rattle.packets.specs.Interlocks.{interlockAfter}
 use Rattle.packets.specs.Picks.{keep}
-use Rattle.packets.specs.State.{entryOf, heldBy, inMotion, isClosing, isEmpty, isStill, jobIn, motionOn, noCore, packetIn, stateIn}
+use Rattle.packets.specs.State.{State, entryOf, heldBy, inMotion, isClosing, isEmpty, isStill, jobIn, motionOn, noCore, packetIn, stateIn}
 use Rattle.packets.specs.Rules.{closing, isAt}
+use Rattle.packets.specs.declared.Act.the-variants.{Complete, End, Mark, Return, Start, Submit}
 use Rattle.packets.specs.declared.Answer.{Answer}
 use Rattle.packets.specs.declared.Answer.the-variants as Answers
 use Rattle.packets.specs.declared.How.{How}
@@ -92,28 +96,24 @@ use Rattle.cell.specs.declared.Cell.{Cell}
 use Rattle.cell.specs.declared.DeckAnswer.{DeckAnswer}
 use Rattle.cell.specs.declared.KeyAnswer.{KeyAnswer}
 use Rattle.lists.specs.declared.StatusAnswer.the-variants.{Is}
-use Rattle.cell_history.specs.Heard.{heardOf, inside, told}
+use Rattle.cell_history.specs.Told.{inside, told, toldOf}
 use Rattle.cell_history.specs.Spelled.{SpelledAlways}
 use Rattle.cell_history.specs.History.{
   Call,
   Chosen,
-  Complete,
   Delete,
+  Do,
   Does,
-  End,
   Event,
   Key,
   Leads,
-  Mark,
   Mistyped,
+  Reached,
   Release,
   Reply,
-  Return,
   Said,
   Select,
   Shown,
-  Start,
-  Submit,
   meant,
 }
 use Rattle.cell_agreement.specs.Agreement.{standing, statesIn}
@@ -121,7 +121,7 @@ use Rattle.demands.specs.Refusing.{refusalIn}
 use Rattle.demands.specs.Table.{RefusedBy, isSelect}
 use Rattle.packets.specs.declared.Assignment.{Assignment}
 use Rattle.packets.specs.declared.Status.the-variants.{Stopping}
-use Rattle.packets_given.specs.Given.{OnItsOwn, StillOwn, asking, noHeads, taking}
+use Rattle.packets_given.specs.Given.{OnItsOwn, StillOwn, asking, hasReturned, noHeads, taking}
 use Rattle.cards_full.specs.declared.Wrote.the-variants as Wrote′
 use Rattle.packets.specs.Rules as Rules
 
@@ -225,17 +225,23 @@ SameMarks u v = (u .down ≡ v .down) × (u .reserved ≡ v .reserved)
 
 -- a job ends by this call, or is closing since its end: in error or not
 abbrev pub Ends : Cell → Call → ℕ → Bool → Type 0
-Ends c x place inError = (x ≡ End place inError) ⊎ (stateIn (inside c .jobs) place ≡ closing inError)
+Ends c x place inError = (x ≡ Do (End place inError)) ⊎ (stateIn (inside c .jobs) place ≡ closing inError)
 
 -- what joins the list of listed packets: one that is submitted with a function other than 07 and 23
 abbrev pub joins : Rules.Call → List ℕ
 joins (Rules.Take place given) = []
-joins (Rules.Submit place packet function channel spot) = cond (eqb function 0o07 || eqb function 0o23) [] (entryOf place packet ∷ [])
-joins (Rules.Start channel) = []
-joins (Rules.Complete channel how) = []
-joins (Rules.End place inError) = []
-joins (Rules.Return place channel unit) = []
-joins (Rules.Mark channel unit mark on) = []
+joins (Rules.Do (Submit place packet function channel spot)) = cond (eqb function 0o07 || eqb function 0o23) [] (entryOf place packet ∷ [])
+joins (Rules.Do (Start channel)) = []
+joins (Rules.Do (Complete channel how)) = []
+joins (Rules.Do (End place inError)) = []
+joins (Rules.Do (Return place channel unit)) = []
+joins (Rules.Do (Mark channel unit mark on)) = []
+
+-- each accepted call of a history of the request lists is answered as the rules say, from the state before it
+abbrev pub AnsweredSo : State → List Lists.Event → Type 0
+AnsweredSo s [] = Unit {0}
+AnsweredSo s (e ∷ l) =
+    (isAccepted (e .answer) ≡ true → e .answer ≡ Rules.answer s (e .call)) × AnsweredSo (Rules.step s (e .call) .state) l
 
 -- a selection "refused" is "these three together", each exactly when its sentence holds
 pub record RefusedSo (c : Cell) (o : Outcome) : Type 0 where
@@ -304,11 +310,11 @@ pub record Demand2 : Type 0 where
   pub deleted : (c d : Cell) (id : List ℕ) (reply : Reply) → Does c (Delete id) reply d
       → d .schedule ≡ Schedule.deleted (c .schedule) id .schedule
   -- "ID, 1-6 letters or digits": such is the ID of every request in a schedule that any calls lead to,
-  pub identified : (configuration : Configuration) (es : List Event) (c : Cell) → Leads (freshCell configuration) es c
+  pub identified : (configuration : Configuration) (es : List Event) (c : Cell) → Reached configuration es c
       → Each (λ r. Name isAlnum 1 6 (r .id)) (requests (inSchedule (c .schedule)))
   -- so that a word is no request's ID if it has over six bytes or one that is no letter or digit: "15 no such ID"
   -- answers it
-  pub nobody : (configuration : Configuration) (es : List Event) (c : Cell) → Leads (freshCell configuration) es c
+  pub nobody : (configuration : Configuration) (es : List Event) (c : Cell) → Reached configuration es c
       → (word : List ℕ) → IsWord word → (6 < length word) ⊎ (every isAlnum word ≡ false)
       → find (isNamed (idOf word)) (inSchedule (c .schedule)) ≡ none
   -- the answer to a deck, "errors .. in deck order" and "the last good ID", is the first bytes of the lent room, cut
@@ -322,20 +328,20 @@ pub record Demand2 : Type 0 where
       → d .schedule ≡ Schedule.taken (c .schedule) (s .at) (s .place)
   -- and it is "the first in order": by letter, then precedence, then sequence no candidate with an assignment comes
   -- before it
-  pub first : (configuration : Configuration) (es : List Event) (c : Cell) → Leads (freshCell configuration) es c
+  pub first : (configuration : Configuration) (es : List Event) (c : Cell) → Reached configuration es c
       → (d : Cell) (s : Selection) → Does c Select (Chosen Done s) d
       → (i : ℕ) → Candidate (inSchedule (c .schedule)) i
       → precedes (keyOf (entryAt (inSchedule (c .schedule)) i .request)) (keyOf (s .request)) ≡ true
       → HasNone (seenIn (c .lists)) (entryAt (inSchedule (c .schedule)) i .request)
   -- "taken into the lowest free place": what was assigned it then holds, exactly those units, that drum area and that
   -- core, none of it being returned, and no other job has any of it
-  pub holds : (configuration : Configuration) (es : List Event) (c : Cell) → Leads (freshCell configuration) es c
+  pub holds : (configuration : Configuration) (es : List Event) (c : Cell) → Reached configuration es c
       → (d : Cell) (s : Selection) → Does c Select (Chosen Done s) d
-      → StillOwn (inside d) (s .place) (assignmentOf (s .request .facilities) (s .assigned)) noHeads
+      → StillOwn (inside d) (s .place) (assignmentOf (s .request .facilities) (s .assigned)) noHeads noHeads
   -- "selection is refused exactly when no place is free or no such job exists", with 18, 19 or 20;
   pub refused : (c d : Cell) (o : Outcome) (s : Selection) → Does c Select (Chosen o s) d → RefusedSo c o
   -- 20 says what was missing, and something is missing exactly when there is no assignment;
-  pub missing : (configuration : Configuration) (es : List Event) (c : Cell) → Leads (freshCell configuration) es c
+  pub missing : (configuration : Configuration) (es : List Event) (c : Cell) → Reached configuration es c
       → (d : Cell) (s : Selection) → Does c Select (Chosen (Refused NoAssignment) s) d → Missing c s
   pub exists : ExistsExactly
   -- but for that "a refused call returns the number alone"
@@ -345,16 +351,17 @@ pub record Demand2 : Type 0 where
   pub typed : (c d : Cell) (message : List ℕ) (reply : Reply) (x : Call) → Does c (Key message) reply d → meant (Key message) ≡ some x
       → Does c x reply d
   -- "Marks may change at any time": the unit is marked or the mark cleared, and nothing else changes
-  pub marked : (c d : Cell) (channel unit : ℕ) (mark : UnitMark) (on : Bool) (reply : Reply)
-      → Does c (Mark channel unit mark on) reply d → refusalIn reply ≡ none
-      → d ≡ withUnits c (unitSet (c .lists .units .of) channel unit (markedUnit mark on (unitIn (c .lists .units .of) channel unit)))
+  pub marked : (c d : Cell) (channel : ChannelNumber) (unit : UnitNumber) (mark : UnitMark) (on : Bool) (reply : Reply)
+      → Does c (Do (Mark channel unit mark on)) reply d → refusalIn reply ≡ none
+      → let units = c .lists .units .of in
+      d ≡ withUnits c (unitSet units (channel .0) (unit .0) (markedUnit mark on (unitIn units (channel .0) (unit .0))))
   -- by no other call, typed or not, does a mark change, nor by any call what "a channel has"
   pub marks : (c d : Cell) (x : Call) (reply : Reply) → Does c x reply d
-      → ((channel unit : ℕ) (mark : UnitMark) (on : Bool) → meant x ≡ some (Mark channel unit mark on) → ⊥) → (channel unit : ℕ)
-      → SameMarks (unitIn (inside d .units) channel unit) (unitIn (inside c .units) channel unit)
+      → ((channel : ChannelNumber) (unit : UnitNumber) (mark : UnitMark) (on : Bool) → meant x ≡ some (Do (Mark channel unit mark on)) → ⊥)
+      → (channel unit : ℕ) → SameMarks (unitIn (inside d .units) channel unit) (unitIn (inside c .units) channel unit)
   pub channels : (c d : Cell) (x : Call) (reply : Reply) → Does c x reply d → inside d .channels ≡ inside c .channels
   -- and the codes that set interlock are those of the configuration through any calls
-  pub sectionStays : (configuration : Configuration) (es : List Event) (c : Cell) → Leads (freshCell configuration) es c
+  pub sectionStays : (configuration : Configuration) (es : List Event) (c : Cell) → Reached configuration es c
       → inside c .codes ≡ configuration .codes
   -- "only then a normal end removes its request; an error end suspends it if its sequence is 1 or more, else removes
   -- it": a job that ends is closing so, until a call empties its place; that call does this to its request
@@ -364,61 +371,63 @@ pub record Demand2 : Type 0 where
       ⊎ ((stateIn (inside d .jobs) place ≡ Empty) × (d .schedule ≡ Schedule.returned (c .schedule) place inError))
   -- while it is closing its request is, and nothing else in the schedule changes; nor does anything there change by a
   -- submission, a start, a unit's return, or a completion that empties no place
-  pub closes : (c d : Cell) (place : ℕ) (inError : Bool) (reply : Reply) → Does c (End place inError) reply d
+  pub closes : (c d : Cell) (place : ℕ) (inError : Bool) (reply : Reply) → Does c (Do (End place inError)) reply d
       → stateIn (inside d .jobs) place ≡ closing inError → refusalIn reply ≡ none → d .schedule ≡ Schedule.closing (c .schedule) place
-  pub submits : (c d : Cell) (place packet function channel : ℕ) (spot : Spot) (reply : Reply)
-      → Does c (Submit place packet function channel spot) reply d → d .schedule ≡ c .schedule
-  pub starts : (c d : Cell) (channel : ℕ) (reply : Reply) → Does c (Start channel) reply d → d .schedule ≡ c .schedule
-  pub returns : (c d : Cell) (place channel unit : ℕ) (reply : Reply) → Does c (Return place channel unit) reply d → d .schedule ≡ c .schedule
-  pub completes : (c d : Cell) (channel : ℕ) (how : How) (reply : Reply) → Does c (Complete channel how) reply d
+  pub submits : (c d : Cell) (place packet function : ℕ) (channel : ChannelNumber) (spot : Spot) (reply : Reply)
+      → Does c (Do (Submit place packet function channel spot)) reply d → d .schedule ≡ c .schedule
+  pub starts : (c d : Cell) (channel : ChannelNumber) (reply : Reply) → Does c (Do (Start channel)) reply d → d .schedule ≡ c .schedule
+  pub returns : (c d : Cell) (place : ℕ) (channel : ChannelNumber) (unit : UnitNumber) (reply : Reply)
+      → Does c (Do (Return place channel unit)) reply d → d .schedule ≡ c .schedule
+  pub completes : (c d : Cell) (channel : ChannelNumber) (how : How) (reply : Reply) → Does c (Do (Complete channel how)) reply d
       → ((place : ℕ) → isEmpty (stateIn (inside d .jobs) place) ≡ isEmpty (stateIn (inside c .jobs) place)) → d .schedule ≡ c .schedule
   -- a job runs until its end is called,
   pub runsOn : (c d : Cell) (x : Call) (reply : Reply) → Does c x reply d → (place : ℕ)
-      → stateIn (inside c .jobs) place ≡ Running → ((inError : Bool) → x ≡ End place inError → ⊥)
+      → stateIn (inside c .jobs) place ≡ Running → ((inError : Bool) → x ≡ Do (End place inError) → ⊥)
       → stateIn (inside d .jobs) place ≡ Running
   -- and as long as it runs or closes, its request stands in the schedule once, running or closing there
-  pub stays : (configuration : Configuration) (es : List Event) (c : Cell) → Leads (freshCell configuration) es c
+  pub stays : (configuration : Configuration) (es : List Event) (c : Cell) → Reached configuration es c
       → (place : ℕ) → place < 16
       → statesIn place (inSchedule (c .schedule)) ≡ standing (stateIn (inside c .jobs) place) place
   -- "one in progress per channel", and a stopping one counts as such: what a channel is taken to carry is a packet
   -- that is in progress or stopping there, and each such packet is what its channel carries
-  pub busy : (configuration : Configuration) (es : List Event) (c : Cell) → Leads (freshCell configuration) es c
+  pub busy : (configuration : Configuration) (es : List Event) (c : Cell) → Reached configuration es c
       → (channel place packet : ℕ)
       → (motionOn (inside c) channel ≡ Busy place packet
       → (inMotion (packetIn (inside c .jobs) place packet .status) ≡ true) × (packetIn (inside c .jobs) place packet .channel .0 ≡ channel))
       × (inMotion (packetIn (inside c .jobs) place packet .status) ≡ true
       → motionOn (inside c) (packetIn (inside c .jobs) place packet .channel .0) ≡ Busy place packet)
-  -- "packets end with the stated codes": over any history, after an accepted call each packet's status is the
-  -- stated one,
-  pub codes : (configuration : Configuration) (es : List Event) (c : Cell) → Leads (freshCell configuration) es c
-      → (d : Cell) (x : Call) (reply : Reply) → Does c x reply d → refusalIn reply ≡ none
-      → (y : Rules.Call) → heardOf x reply ≡ y ∷ []
-      → (place packet : ℕ) → packetIn (inside d .jobs) place packet .status ≡ statusAfter (inside c) y place packet
+  -- Of a call the request lists are told none, one or several calls of theirs: these, each answered so, lead from the
+  -- lists before it to the lists after it
+  pub told : (c d : Cell) (x : Call) (reply : Reply) → Does c x reply d → Lists.Leads (inside c) (toldOf x reply) (inside d)
+  -- "packets end with the stated codes": over any history, after each of these that is accepted each packet's status is
+  -- the stated one,
+  pub codes : (configuration : Configuration) (es : List Event) (c : Cell) → Reached configuration es c
+      → (d : Cell) (x : Call) (reply : Reply) → Does c x reply d
+      → Along (λ before y after. (place packet : ℕ)
+      → packetIn (after .jobs) place packet .status ≡ statusAfter before y place packet) (inside c) (toldOf x reply)
   -- and each unit's interlock is what such a call makes of it: set by a failure there with one of the codes of the
   -- section, "any other failure code sets none"; cleared by 07 there, and for the job that gets the unit,
-  pub interlocks : (configuration : Configuration) (es : List Event) (c : Cell) → Leads (freshCell configuration) es c
-      → (d : Cell) (x : Call) (reply : Reply) → Does c x reply d → refusalIn reply ≡ none
-      → (y : Rules.Call) → heardOf x reply ≡ y ∷ []
-      → (channel unit : ℕ) → unitIn (inside d .units) channel unit .interlock ≡ interlockAfter (inside c) y channel unit
+  pub interlocks : (configuration : Configuration) (es : List Event) (c : Cell) → Reached configuration es c
+      → (d : Cell) (x : Call) (reply : Reply) → Does c x reply d
+      → Along (λ before y after. (channel unit : ℕ)
+      → unitIn (after .units) channel unit .interlock ≡ interlockAfter before y channel unit) (inside c) (toldOf x reply)
   -- so that where all 60 codes are listed, and a section can list all, a completion leaves and answers what it did when
   -- document 01 "had every failure set it"; and nothing else goes by the section
   pub before : AllListed all60 × AsBefore
   pub elsewhere : OnlyCompletions
   -- what an accepted call answers: "a completion answers the place and number of the packet it ends", and like an end
   -- whether the job's facilities returned; a start what begins; a submission, a unit's return and a mark are done,
-  pub answers : (c d : Cell) (x : Call) (a : Answer) → Does c x (Said a) d → refusalIn (Said a) ≡ none
-      → (y : Rules.Call) → heardOf x (Said a) ≡ y ∷ [] → a ≡ Rules.answer (inside c) y
+  pub answers : (c d : Cell) (x : Call) (reply : Reply) → Does c x reply d → AnsweredSo (inside c) (toldOf x reply)
   -- and so are a release and a deletion
   pub changes : (c d : Cell) (id : List ℕ) (a : Answer) → Does c (Release id) (Said a) d ⊎ Does c (Delete id) (Said a) d
       → refusalIn (Said a) ≡ none → a ≡ Answers.Done
   -- "the oldest listed packet" is meant of an order of submission: those still listed keep their order, and what is
   -- submitted and listed joins at the list's end,
-  pub order : (configuration : Configuration) (es : List Event) (c : Cell) → Leads (freshCell configuration) es c
-      → (d : Cell) (x : Call) (reply : Reply) → Does c x reply d → refusalIn reply ≡ none
-      → (y : Rules.Call) → heardOf x reply ≡ y ∷ []
-      → inside d .queue ≡ keep (isStill (inside d .jobs)) (inside c .queue) ++ joins y
-  -- and a call that is no call of the request lists leaves all packets as they are,
-  pub others : (c d : Cell) (x : Call) (reply : Reply) → Does c x reply d → heardOf x reply ≡ [] → inside d ≡ inside c
+  pub order : (configuration : Configuration) (es : List Event) (c : Cell) → Reached configuration es c
+      → (d : Cell) (x : Call) (reply : Reply) → Does c x reply d
+      → Along (λ before y after. after .queue ≡ keep (isStill (after .jobs)) (before .queue) ++ joins y) (inside c) (toldOf x reply)
+  -- and a call of which the request lists are told nothing leaves all packets as they are,
+  pub others : (c d : Cell) (x : Call) (reply : Reply) → Does c x reply d → toldOf x reply ≡ [] → inside d ≡ inside c
   -- and that is the status that is shown, and nothing changes by it
   pub shown : (c d : Cell) (place packet : ℕ) (status : Status) → Does c (Call.Status place packet) (Shown (Is status)) d
       → (status ≡ packetIn (inside c .jobs) place packet .status) × (d ≡ c)
@@ -438,15 +447,14 @@ pub record Demand2 : Type 0 where
       && assignable (unitIn (inside (freshCell configuration) .units) (channel .0) u))
 
 -- a packet of the job in a place is in progress or stopping on a unit
-abbrev pub MovesThere : Cell → ℕ → ℕ → ℕ → Type 0
+abbrev pub MovesThere : Cell → ℕ → ChannelNumber → UnitNumber → Type 0
 MovesThere c place channel unit =
     (packet : ℕ) × (inMotion (packetIn (inside c .jobs) place packet .status) ≡ true)
-    × (isAt channel (AtUnit (record { 0 = unit })) (packetIn (inside c .jobs) place packet) ≡ true)
+    × (isAt (channel .0) (AtUnit unit) (packetIn (inside c .jobs) place packet) ≡ true)
 
--- calls one after the other, as `Leads` has them, before each of which the job has the holding; the last may return it
-abbrev pub WhileHeld : Holding → Cell → List Event → Cell → Type 0
-WhileHeld h c [] d = d ≡ c
-WhileHeld h c (e ∷ es) d = Holds (inside c) h × ((m : Cell) × (Does c (e .call) (e .reply) m × WhileHeld h m es d))
+-- a job was taken into a place with an assignment
+abbrev pub taken : ℕ → Assignment → Lists.Event
+taken place given = record { call = Rules.Take place given; answer = Answers.Done }
 
 -- "3. Take any sequence of calls from a fresh cell and one job's holding of one unit or piece of drum: the accepted
 -- calls that acted on it, given to a lone unit written separately, make the same starts in the same order and leave
@@ -456,63 +464,68 @@ pub record Demand3 : Type 0 where
   pub spelled : SpelledAlways
   pub alike :
       -- any sequence of calls from a fresh cell
-      (configuration : Configuration) (before : List Event) (c : Cell) → Leads (freshCell configuration) before c
-      -- then a job is selected
-      → (d : Cell) (job : Selection) → Does c Select (Chosen Done job) d
+      (configuration : Configuration) (before : List Event) (c : Cell) → Reached configuration before c
+      -- then a call by which, after others that it is told as or not, a job is taken; the lists are then s
+      → (d : Cell) (x : Call) (reply : Reply) → Does c x reply d
+      → (early late : List Lists.Event) (place : ℕ) (given : Assignment) → toldOf x reply ≡ early ++ (taken place given ∷ late)
+      → (s : State) → Lists.Leads (inside c) (early ++ (taken place given ∷ [])) s
       -- one holding of it: a unit, or its piece of the drum
-      → (h : Holding) → h .place ≡ job .place → Holds (inside d) h
-      -- and any calls while it has it, up to its return, "the unit's own" or with the rest of the job's facilities, or any
-      -- earlier moment
-      → (during : List Event) (e : Cell) → WhileHeld h d during e
+      → (h : Holding) → h .place ≡ place → Holds s h
+      -- what is left of that call and any calls after it, before each of which it has it: up to its return, "the unit's
+      -- own" or with the rest of the job's facilities, or any earlier moment
+      → (during : List Event) (e : Cell) → Leads d during e → Stretch h s (late ++ told during)
       -- by what the caller was told: the lone unit, which "takes the same section", takes every call that acted, makes
       -- the same starts in the same order and leaves the same statuses; what starts or moves on a unit this job has
-      -- submitted there since its selection, so that it is of no other job, nor of one that had the same place before; and a
+      -- submitted there since its taking, so that it is of no other job, nor of one that had the same place before; and a
       -- unit whose return was asked for is the job's exactly as long as the lone unit moves
-      → Isolated (configuration .codes) h (told during) (inside e)
+      → Isolated (configuration .codes) h (late ++ told during) (inside e)
   -- "the head is handed on at once" cannot happen: while a packet of a job is in progress or stopping, on whatever
   -- channel, the job is in its place,
-  pub moving : (configuration : Configuration) (es : List Event) (c : Cell) → Leads (freshCell configuration) es c
+  pub moving : (configuration : Configuration) (es : List Event) (c : Cell) → Reached configuration es c
       → (place packet : ℕ) → inMotion (packetIn (inside c .jobs) place packet .status) ≡ true
       → isEmpty (stateIn (inside c .jobs) place) ≡ false
   -- and as long as it is, everything that its selection gave it (units, drum area, core) less what it has returned is its
   -- own, and nothing else: the rest "return together". It has returned a unit when it asked for that and nothing moves there
-  pub own : (configuration : Configuration) (es : List Event) (c : Cell) → Leads (freshCell configuration) es c
+  pub own : (configuration : Configuration) (es : List Event) (c : Cell) → Reached configuration es c
       → (place : ℕ) → isEmpty (stateIn (inside c .jobs) place) ≡ false
-      → (given : Assignment) × (taking (told es) place ≡ some given) × StillOwn (inside c) place given (asking (told es) place)
+      → (given : Assignment) × (taking (told es) place ≡ some given) × StillOwn (inside c) place given (asking (told es) place) (hasReturned (told es) place)
   -- among it the unit, or on the drum the address, that the packet is on
-  pub head : (configuration : Configuration) (es : List Event) (c : Cell) → Leads (freshCell configuration) es c
+  pub head : (configuration : Configuration) (es : List Event) (c : Cell) → Reached configuration es c
       → (place packet : ℕ) → inMotion (packetIn (inside c .jobs) place packet .status) ≡ true
       → OnItsOwn (inside c) place (packetIn (inside c .jobs) place packet)
   -- With one head back early: its return leaves a unit being returned while a packet of the job is in progress or stopping
   -- there, and frees it "at once if nothing moves",
-  pub back : (configuration : Configuration) (es : List Event) (c : Cell) → Leads (freshCell configuration) es c
-      → (d : Cell) (place channel unit : ℕ) (reply : Reply) → Does c (Return place channel unit) reply d → refusalIn reply ≡ none
-      → (MovesThere c place channel unit → unitIn (inside d .units) channel unit .holder ≡ Returning place)
-      × ((MovesThere c place channel unit → ⊥) → unitIn (inside d .units) channel unit .holder ≡ Free)
+  pub back : (configuration : Configuration) (es : List Event) (c : Cell) → Reached configuration es c
+      → (d : Cell) (place : ℕ) (channel : ChannelNumber) (unit : UnitNumber) (reply : Reply)
+      → Does c (Do (Return place channel unit)) reply d → refusalIn reply ≡ none
+      → (MovesThere c place channel unit → unitIn (inside d .units) (channel .0) (unit .0) .holder ≡ Returning place)
+      × ((MovesThere c place channel unit → ⊥) → unitIn (inside d .units) (channel .0) (unit .0) .holder ≡ Free)
   -- on a unit that is being returned a packet of the job that holds it is stopping,
-  pub waits : (configuration : Configuration) (es : List Event) (c : Cell) → Leads (freshCell configuration) es c
+  pub waits : (configuration : Configuration) (es : List Event) (c : Cell) → Reached configuration es c
       → (channel unit : ℕ) → isReturning (unitIn (inside c .units) channel unit .holder) ≡ true
       → (place packet : ℕ) × (heldBy (unitIn (inside c .units) channel unit .holder) place ≡ true)
       × (motionOn (inside c) channel ≡ Busy place packet)
       × (packetIn (inside c .jobs) place packet .at ≡ AtUnit (record { 0 = unit }))
       × (packetIn (inside c .jobs) place packet .status ≡ Stopping)
   -- "the unit is free when that completion comes", full, cut or failed,
-  pub frees : (configuration : Configuration) (es : List Event) (c : Cell) → Leads (freshCell configuration) es c
-      → (d : Cell) (channel unit : ℕ) (how : How) (reply : Reply) → Does c (Complete channel how) reply d → refusalIn reply ≡ none
-      → isReturning (unitIn (inside c .units) channel unit .holder) ≡ true → unitIn (inside d .units) channel unit .holder ≡ Free
+  pub frees : (configuration : Configuration) (es : List Event) (c : Cell) → Reached configuration es c
+      → (d : Cell) (channel : ChannelNumber) (unit : ℕ) (how : How) (reply : Reply)
+      → Does c (Do (Complete channel how)) reply d → refusalIn reply ≡ none
+      → isReturning (unitIn (inside c .units) (channel .0) unit .holder) ≡ true
+      → unitIn (inside d .units) (channel .0) unit .holder ≡ Free
   -- and no other call, the job's end among them, changes who holds it
-  pub until : (configuration : Configuration) (es : List Event) (c : Cell) → Leads (freshCell configuration) es c
+  pub until : (configuration : Configuration) (es : List Event) (c : Cell) → Reached configuration es c
       → (d : Cell) (x : Call) (reply : Reply) → Does c x reply d
       → (channel unit : ℕ) → isReturning (unitIn (inside c .units) channel unit .holder) ≡ true
-      → ((how : How) → x ≡ Complete channel how → ⊥)
+      → ((how : How) → x ≡ Do (Complete (record { 0 = channel }) how) → ⊥)
       → unitIn (inside d .units) channel unit .holder ≡ unitIn (inside c .units) channel unit .holder
   -- and a closing job always has a packet stopping, so that nothing of it, a unit given back early apart, is handed on
   -- before the last completion
-  pub closing : (configuration : Configuration) (es : List Event) (c : Cell) → Leads (freshCell configuration) es c
+  pub closing : (configuration : Configuration) (es : List Event) (c : Cell) → Reached configuration es c
       → (place : ℕ) → isClosing (stateIn (inside c .jobs) place) ≡ true
       → (packet : ℕ) × (packetIn (inside c .jobs) place packet .status ≡ Stopping)
   -- and what returned is free: an empty place has no unit, no word of drum and no block of core
-  pub free : (configuration : Configuration) (es : List Event) (c : Cell) → Leads (freshCell configuration) es c
+  pub free : (configuration : Configuration) (es : List Event) (c : Cell) → Reached configuration es c
       → (place : ℕ) → isEmpty (stateIn (inside c .jobs) place) ≡ true
       → ((channel unit : ℕ) → heldBy (unitIn (inside c .units) channel unit .holder) place ≡ false)
       × ((areaOf (jobIn (inside c .jobs) place) ≡ noArea) × (coreOf (jobIn (inside c .jobs) place) ≡ noCore))

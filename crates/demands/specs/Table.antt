@@ -59,6 +59,8 @@ use Rattle.packets.specs.State.{
   placeOf,
   stateIn,
 }
+use Rattle.packets.specs.declared.Act.{Act}
+use Rattle.packets.specs.declared.Act.the-variants.{Complete, End, Mark, Return, Start, Submit}
 use Rattle.packets.specs.declared.How.{How}
 use Rattle.packets.specs.declared.How.the-variants.{Cut, Failed, Full}
 use Rattle.packets.specs.declared.Site.{Site}
@@ -68,8 +70,8 @@ use Rattle.packets.specs.declared.Spot.the-variants.{OnDrum, OnUnit}
 use Rattle.packets.specs.declared.Status.{Status as PacketStatus}
 use Rattle.cell_selection.specs.Selecting.{AllHeld, NoCandidate, NoFit, seenIn}
 use Rattle.cell.specs.declared.Cell.{Cell}
-use Rattle.cell_history.specs.Heard.{inside}
-use Rattle.cell_history.specs.History.{Call, Complete, Deck, Delete, End, Key, Mark, Release, Return, Select, Start, Status, Submit, meant}
+use Rattle.cell_history.specs.Told.{inside}
+use Rattle.cell_history.specs.History.{Call, Deck, Delete, Do, Key, Release, Select, Status, meant}
 
 -- a sentence of the table: its refusal, and whether it holds
 pub record Row : Type 0 where
@@ -162,31 +164,35 @@ abbrev pub isActive : Option Entry → Bool
 isActive none = false
 isActive (some e) = active (e .state)
 
+-- the sentences of a call on packets, jobs, units and marks
+abbrev pub actRows : State → Act → List Row
+actRows s (Submit j p f k w) = submitRows s (fittedOn (s .channels) (k .0)) j p f (k .0) w
+-- 1; 6: start on a busy channel; 7: start with nothing startable
+actRows s (Start k) =
+    row OutOfRange (not (configured (s .channels) (k .0)))
+    ∷ row ChannelBusy (not (isIdle (motionOn s (k .0))))
+    ∷ row NothingStartable (not (any (canStart s (k .0)) (s .queue)))
+    ∷ []
+-- 1; 8: completion with nothing in progress; 9: cut for a packet not stopping, failure code 00, 01, 16o, 17o or
+-- over 77o
+actRows s (Complete k how) =
+    row OutOfRange (not (configured (s .channels) (k .0)))
+    ∷ row NothingInProgress (isIdle (motionOn s (k .0)))
+    ∷ row WrongCompletion (cannotEnd (movingStatus s (motionOn s (k .0))) how)
+    ∷ []
+-- 1; 2: no job in that place, or it is closing
+actRows s (End j inError) = row OutOfRange (not (ltb j 16)) ∷ row NoJob (not (isRunning (stateIn (s .jobs) j))) ∷ []
+actRows s (Return j k u) = returnRows s (fittedOn (s .channels) (k .0)) j (k .0) (u .0)
+-- 1, on the drum channel too
+actRows s (Mark k u mark on) = row OutOfRange (not (ltb (k .0) 16 && has (fittedOn (s .channels) (k .0)) (OnUnit u))) ∷ []
+
 -- the sentences of each call
 abbrev pub rowsIn : State → List Entry → Call → List Row
 -- 11: deck too long or without termination card
 rowsIn s es (Deck bytes) = row BadDeck (not (leb (length bytes) 16384 && terminated (cardsOf bytes))) ∷ []
 -- a selection: stated by itself, below (`SelectRefused`)
 rowsIn s es Select = []
-rowsIn s es (Submit j p f k w) = submitRows s (fittedOn (s .channels) k) j p f k w
--- 1; 6: start on a busy channel; 7: start with nothing startable
-rowsIn s es (Start k) =
-    row OutOfRange (not (configured (s .channels) k))
-    ∷ row ChannelBusy (not (isIdle (motionOn s k)))
-    ∷ row NothingStartable (not (any (canStart s k) (s .queue)))
-    ∷ []
--- 1; 8: completion with nothing in progress; 9: cut for a packet not stopping, failure code 00, 01, 16o, 17o or
--- over 77o
-rowsIn s es (Complete k how) =
-    row OutOfRange (not (configured (s .channels) k))
-    ∷ row NothingInProgress (isIdle (motionOn s k))
-    ∷ row WrongCompletion (cannotEnd (movingStatus s (motionOn s k)) how)
-    ∷ []
--- 1; 2: no job in that place, or it is closing
-rowsIn s es (End j inError) = row OutOfRange (not (ltb j 16)) ∷ row NoJob (not (isRunning (stateIn (s .jobs) j))) ∷ []
-rowsIn s es (Return j k u) = returnRows s (fittedOn (s .channels) k) j k u
--- 1, on the drum channel too
-rowsIn s es (Mark k u mark on) = row OutOfRange (not (ltb k 16 && has (fittedOn (s .channels) k) (OnUnit (record { 0 = u })))) ∷ []
+rowsIn s es (Do x) = actRows s x
 -- 15: no such ID, or not suspended
 rowsIn s es (Release id) = row NoSuchRequest (not (isSuspended (find (isNamed id) es))) ∷ []
 -- 15: no such ID; 16: the job runs or closes
@@ -205,12 +211,7 @@ meantRows s es (some x) = rowsIn s es x
 abbrev pub unknownRows : Call → List Row
 unknownRows (Deck bytes) = []
 unknownRows Select = []
-unknownRows (Submit j p f k w) = []
-unknownRows (Start k) = []
-unknownRows (Complete k how) = []
-unknownRows (End j inError) = []
-unknownRows (Return j k u) = []
-unknownRows (Mark k u mark on) = []
+unknownRows (Do x) = []
 unknownRows (Release id) = []
 unknownRows (Delete id) = []
 unknownRows (Status j p) = []
@@ -224,12 +225,7 @@ rows c x = unknownRows x ++ meantRows (inside c) (inSchedule (c .schedule)) (mea
 abbrev pub isSelect : Call → Bool
 isSelect (Deck bytes) = false
 isSelect Select = true
-isSelect (Submit j p f k w) = false
-isSelect (Start k) = false
-isSelect (Complete k how) = false
-isSelect (End j inError) = false
-isSelect (Return j k u) = false
-isSelect (Mark k u mark on) = false
+isSelect (Do x) = false
 isSelect (Release id) = false
 isSelect (Delete id) = false
 isSelect (Status j p) = false
