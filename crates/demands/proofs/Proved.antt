@@ -79,7 +79,7 @@ use Rattle.lists.specs.declared.StatusAnswer.the-variants as Statuses
 use Rattle.schedule.specs.Calls.{taken as taken′}
 use Rattle.schedule_list.specs.declared.Schedule.{Schedule}
 use Rattle.schedule_deck.specs.Report.{deckSchedule}
-use Rattle.packets.specs.declared.Lists.{Lists}
+use Rattle.packets.specs.declared.Lists.{Lists as Held}
 use Rattle.cell.specs.declared.DeckAnswer.{DeckAnswer}
 
 -- ---- demand 1
@@ -154,7 +154,7 @@ runs-then c d s h =
     let e = chosen-is (h .1 .1 .0) in
     let f : isJob (h .0 .selection .choice) ≡ true = done-job (h .0 .selection .choice) (sym (h .1 .0 .outcome) ∙ sym (e .0)) in
     ap (λ (x : Cell). x .schedule) (h .1 .1 .1)
-    ∙ ap (λ (x : Schedule × Lists). x .0) (h .1 .0 .takes .leaves ∙ ap (λ (b : Bool). leftBy b (c .schedule) (c .lists) (h .0 .selection)) f)
+    ∙ ap (λ (x : Schedule × Held). x .0) (h .1 .0 .takes .leaves ∙ ap (λ (b : Bool). leftBy b (c .schedule) (c .lists) (h .0 .selection)) f)
     ∙ ap (λ (x : Selection). taken′ (c .schedule) (x .at) (x .place)) (sym (e .1))
 
 pub demand-2 : Demand2

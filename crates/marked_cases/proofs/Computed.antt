@@ -25,7 +25,6 @@ use Rattle.assign.specs.declared.Assigned.{Assigned}
 use Rattle.assign.specs.declared.Lacking.{Lacking}
 use Rattle.assign.specs.declared.Lacking.the-variants.{Nothing, First}
 use Rattle.assign.specs.declared.Part.{Part}
-use Rattle.packets.specs.Rules as Rules
 use Rattle.packets.specs.State.{isEmpty, stateIn}
 use Rattle.packets.specs.declared.Job.{Job}
 use Rattle.packets.specs.declared.Lists.{Lists}
@@ -46,7 +45,7 @@ use Rattle.cell.specs.declared.Cell.{Cell}
 use Rattle.cell.specs.declared.Heeded.{Heeded}
 use Rattle.cell.specs.declared.SelectAnswer.{SelectAnswer}
 use Rattle.cell_history.proofs.One.{selects-in-one}
-use Rattle.cell_history.specs.History.{Call, Chosen, Complete, Deck, Delete, Does, End, Entered, Key, Mark, Release, Reply, Return, Said, Select, Shown, Start, Status, Submit, replyOf as toldReply}
+use Rattle.cell_history.specs.History.{Call, Chosen, Deck, Delete, Do, Does, Entered, Key, Release, Reply, Said, Select, Shown, Status, replyOf as toldReply}
 
 -- ---- the first candidate with an assignment, or what the first of all lacks, of n from index k on
 
@@ -174,12 +173,7 @@ module _ (c : Cell) (s : sized c ≡ true) where
 abbrev pub replyOf : Cell → Call → Reply
 replyOf c (Deck bytes) = Entered (deckOutcome bytes)
 replyOf c Select = Chosen (selectOf c .outcome) (selectOf c .selection)
-replyOf c (Submit j p f k w) = Said (acted c (Rules.Submit j p f k w) .answer)
-replyOf c (Start k) = Said (acted c (Rules.Start k) .answer)
-replyOf c (Complete k how) = Said (acted c (Rules.Complete k how) .answer)
-replyOf c (End j e) = Said (acted c (Rules.End j e) .answer)
-replyOf c (Return j k u) = Said (acted c (Rules.Return j k u) .answer)
-replyOf c (Mark k u m on) = Said (acted c (Rules.Mark k u m on) .answer)
+replyOf c (Do x) = Said (acted c x .answer)
 replyOf c (Release id) = Said (releasing c id .answer)
 replyOf c (Delete id) = Said (deleting c id .answer)
 replyOf c (Status j p) = Shown (statusOf c j p)
@@ -188,12 +182,7 @@ replyOf c (Key message) = toldReply (heeded c (readMessage message .asks) (readM
 abbrev pub cellAfter : Cell → Call → Cell
 cellAfter c (Deck bytes) = cellOf (deckSchedule (c .schedule) bytes) (c .lists)
 cellAfter c Select = selectOf c .cell
-cellAfter c (Submit j p f k w) = acted c (Rules.Submit j p f k w) .cell
-cellAfter c (Start k) = acted c (Rules.Start k) .cell
-cellAfter c (Complete k how) = acted c (Rules.Complete k how) .cell
-cellAfter c (End j e) = acted c (Rules.End j e) .cell
-cellAfter c (Return j k u) = acted c (Rules.Return j k u) .cell
-cellAfter c (Mark k u m on) = acted c (Rules.Mark k u m on) .cell
+cellAfter c (Do x) = acted c x .cell
 cellAfter c (Release id) = releasing c id .cell
 cellAfter c (Delete id) = deleting c id .cell
 cellAfter c (Status j p) = c
@@ -209,12 +198,7 @@ does-computed c d (Deck bytes) reply s h =
 does-computed c d Select reply s h =
     let e = selects-in-one c (h .0) (selectOf c) (h .1 .0) (selects c s) in
     (h .1 .1 .0 ∙ ap (λ (r : SelectAnswer). Chosen (r .outcome) (r .selection)) e, h .1 .1 .1 ∙ ap (λ (r : SelectAnswer). r .cell) e)
-does-computed c d (Submit j p f k w) reply s h = h
-does-computed c d (Start k) reply s h = h
-does-computed c d (Complete k how) reply s h = h
-does-computed c d (End j e) reply s h = h
-does-computed c d (Return j k u) reply s h = h
-does-computed c d (Mark k u m on) reply s h = h
+does-computed c d (Do x) reply s h = h
 does-computed c d (Release id) reply s h = h
 does-computed c d (Delete id) reply s h = h
 does-computed c d (Status j p) reply s h = h

@@ -6,6 +6,7 @@ use mathlib.Core.Bool.{cond, false}
 use mathlib.Core.List.{List, [], _∷_, _++_}
 use lib.Dec.{eqb}
 use lib.ListN.{set}
+use Rattle.numbers.specs.declared.ChannelNumber.{ChannelNumber}
 use Rattle.numbers.specs.Quoted.{bytes}
 use Rattle.numbers.specs.Kinds.{orderOf}
 use Rattle.numbers.specs.declared.Kind.the-variants.{Mt, Md}
@@ -30,6 +31,7 @@ use Rattle.assign.specs.Assignment.{channelsOf}
 use Rattle.assign.specs.declared.Part.{Part}
 use Rattle.assign.specs.declared.Part.the-variants.{Units}
 use Rattle.packets.specs.declared.Answer.{Answer}
+use Rattle.packets.specs.declared.Act.the-variants.{Complete, End, Start, Submit}
 use Rattle.packets.specs.declared.Answer.the-variants.{Closed, Completed, Done, Started}
 use Rattle.packets.specs.declared.How.the-variants.{Full}
 use Rattle.packets.specs.declared.Leaving.the-variants.{AfterNormal, Stays}
@@ -43,7 +45,7 @@ use Rattle.cell.specs.declared.Cell.{Cell}
 use Rattle.lists.specs.declared.StatusAnswer.the-variants as StatusAnswers
 use Rattle.cell_history.specs.Heard.{inside}
 use Rattle.keyboard.specs.declared.Fault.{Fault}
-use Rattle.cell_history.specs.History.{Call, Chosen, Complete, Deck, Does, End, Entered, Reply, Said, Select, Start, Submit}
+use Rattle.cell_history.specs.History.{Call, Chosen, Deck, Do, Does, Entered, Reply, Said, Select}
 
 -- ---- what is seen of a reply
 
@@ -188,22 +190,25 @@ k4Steps =
     ∷ step Select (Given 1 5 0 0 0 0 0)
     ∷ step Select (Given 2 8 0 0 0 0 0)
     ∷ step Select (Given 3 10 0 0 0 0 0)
-    ∷ step (End 0 false) (Answered (Closed AfterNormal))
-    ∷ step (End 2 false) (Answered (Closed AfterNormal))
+    ∷ step (Do (End 0 false)) (Answered (Closed 0 AfterNormal))
+    ∷ step (Do (End 2 false)) (Answered (Closed 2 AfterNormal))
     ∷ step Select (Given 0 8 2 0 0 0 0)
     ∷ []
 
 abbrev pub watched : Call → Seen → Holder → Watched
 watched call seen holder = record { call = call; seen = seen; holder = holder }
 
+abbrev three : ChannelNumber
+three = record { 0 = 3 }
+
 -- the job's packet 5 is submitted for unit 0 of channel 3 with function 02 (octal) and starts; then the job ends, and
 -- last the packet completes
 abbrev pub k9Ending : List Watched
 k9Ending =
-    watched (Submit 0 5 0o02 3 (OnUnit (record { 0 = 0 }))) (Answered Done) (Held 0)
-    ∷ watched (Start 3) (Answered (Started (record { place = 0; packet = 5; function = 0o02; at = AtUnit (record { 0 = 0 }) }))) (Held 0)
-    ∷ watched (End 0 false) (Answered (Closed Stays)) (Held 0)
-    ∷ watched (Complete 3 Full) (Answered (Completed 0 5 AfterNormal)) Free
+    watched (Do (Submit 0 5 0o02 three (OnUnit (record { 0 = 0 })))) (Answered Done) (Held 0)
+    ∷ watched (Do (Start three)) (Answered (Started (record { place = 0; packet = 5; function = 0o02; at = AtUnit (record { 0 = 0 }) }))) (Held 0)
+    ∷ watched (Do (End 0 false)) (Answered (Closed 0 Stays)) (Held 0)
+    ∷ watched (Do (Complete three Full)) (Answered (Completed 0 5 AfterNormal)) Free
     ∷ []
 
 -- before, a request for one unit is entered and selected
