@@ -62,7 +62,7 @@ unfolding freshCell
 fresh-inside configuration = state-of (fresh (configuration .channels) (configuration .codes) (freshUnits (configuration .down)))
 
 -- they are reached by what is told
-pub reached-lists : (configuration : Configuration) (es : List Event) (c : Cell) → Reached configuration es c
+abbrev pub reached-lists : (configuration : Configuration) (es : List Event) (c : Cell) → Reached configuration es c
     → Lists.Reached (told es) (inside c)
 reached-lists configuration es c r =
     record {

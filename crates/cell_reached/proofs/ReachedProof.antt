@@ -96,7 +96,8 @@ every-cell configuration es c r =
     let lists = reached-lists configuration es c r in
     let apart = disjoint (told es) (inside c) lists in
     let square : Square (inside (r .from) .units) =
-    subst (λ (s : State). Square (s .units)) (sym (ap inside (r .begins) ∙ fresh-inside configuration)) (fresh-square (configuration .down)) in
+    subst (λ (s : State). Square (s .units)) (sym (ap inside (r .begins) ∙ fresh-inside configuration))
+    (unfold Lists.fresh in fresh-square (configuration .down)) in
     record {
       always = invariants (told es) (inside c) lists;
       drum = apart .0 (leads-each (Fits Rules.inArea) area-takings (r .from) c es (r .leads));

@@ -96,11 +96,12 @@ given r = assignmentOf (r .request .facilities) (r .assigned)
 
 done-keeps : (c : Cell) (r : Selection) (i : ℕ) (s : State) → Lists.Leads (inside c) (doneAs Outcomes.Done r) s
     → isEmpty (stateIn (inside c .jobs) i) ≡ false → stateIn (s .jobs) i ≡ stateIn (inside c .jobs) i
+unfolding Rules.accept
 done-keeps c r i s h a =
     let y = takingOf r in
     let g = accepted-granted (inside c) y (sym (ap isAccepted (h .0))) in
     ap (λ (t : State). stateIn (t .jobs) i) (h .1 ∙ ap (λ (z : Rules.Answered). z .state) (step-accepted (inside c) y g))
-    ∙ (unfold Rules.accept in states-taken (inside c) (r .place) (given r) i (assigns-to (inside c) (r .place) (given r) g .1) a)
+    ∙ states-taken (inside c) (r .place) (given r) i (assigns-to (inside c) (r .place) (given r) g .1) a
 
 select-keeps : (c : Cell) (reply : Reply) (i : ℕ) (s : State) → Lists.Leads (inside c) (chosen reply) s
     → isEmpty (stateIn (inside c .jobs) i) ≡ false → stateIn (s .jobs) i ≡ stateIn (inside c .jobs) i

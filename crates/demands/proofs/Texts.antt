@@ -33,7 +33,7 @@ use Rattle.packets.specs.History.{fresh}
 use Rattle.packets.specs.State.{State}
 use Rattle.cell.specs.Calls.{freshCell}
 use Rattle.cell_history.specs.Told.{inside}
-use Rattle.cell_history.proofs.FromFresh.{fresh-inside}
+use Rattle.cell_history.proofs.Reaching.{fresh-inside}
 use Rattle.cards_full.specs.declared.Wrote.the-variants as Wrote′
 
 -- the writer keeps every byte where it refuses

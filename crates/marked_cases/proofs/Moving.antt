@@ -73,7 +73,7 @@ use Rattle.configuration_units.proofs.FreshLaws.{fresh-square}
 use Rattle.assign.specs.declared.KindChannels.{KindChannels}
 use Rattle.packets.proofs.UnitLaws.{take-read, take-square}
 use Rattle.packets.specs.declared.Assignment.{Assignment}
-use Rattle.cell_history.specs.Heard.{inside}
+use Rattle.cell_history.specs.Told.{inside}
 use Rattle.assign.specs.Assignment as Assign
 
 -- what computing has to show, of each call its reply and who then holds the unit

@@ -43,7 +43,7 @@ use Rattle.cell_selection.specs.declared.Selection.{Selection}
 use Rattle.cell.specs.Calls.{freshCell}
 use Rattle.cell.specs.declared.Cell.{Cell}
 use Rattle.lists.specs.declared.StatusAnswer.the-variants as StatusAnswers
-use Rattle.cell_history.specs.Heard.{inside}
+use Rattle.cell_history.specs.Told.{inside}
 use Rattle.keyboard.specs.declared.Fault.{Fault}
 use Rattle.cell_history.specs.History.{Call, Chosen, Deck, Do, Does, Entered, Reply, Said, Select}
 
