@@ -32,7 +32,7 @@ use Rattle.packets.specs.declared.Lists.{Lists}
 use Rattle.lists.specs.Outcomes.{stateOf}
 use Rattle.cell_taken.specs.Taken.{anyHas, areaOf, coreOf, inBlocks, occupancy}
 use Rattle.cell_taken.proofs.TakenLaws.{occupancy-bit}
-use Rattle.cell_selection.specs.Selecting.{Selected, assignmentOf, isTaken, runOf, seenIn, takingOf}
+use Rattle.cell_selection.specs.Selecting.{Selected, assignmentOf, isTaken, runOf, supplyIn, takingOf}
 use Rattle.cell_selection.specs.declared.Selection.{Selection}
 
 -- some element of a list passes a test
@@ -64,8 +64,8 @@ module _ (es : List Entry) (lists : Lists) (s : Selection) (d : Selected es list
   asks = s .request .facilities
 
   -- the chosen assignment is one
-  is : IsAssignment (seenIn lists) asks (s .assigned)
-  is = subst (λ (r : Request). IsAssignment (seenIn lists) (r .facilities) (s .assigned)) (sym (d .request)) (d .fit .chosen .is)
+  is : IsAssignment (supplyIn lists) asks (s .assigned)
+  is = subst (λ (r : Request). IsAssignment (supplyIn lists) (r .facilities) (s .assigned)) (sym (d .request)) (d .fit .chosen .is)
 
   -- words of drum that no job holds
   pub area-fits : Fits Rules.inArea (stateOf lists) (takingOf s)

@@ -84,7 +84,7 @@ use Rattle.assign.specs.Parts.{FirstLacking}
 use Rattle.assign.specs.Chosen.{ExistsExactly}
 use Rattle.assign.specs.declared.Lacking.the-variants.{First}
 use Rattle.assign.specs.declared.Part.{Part}
-use Rattle.cell_selection.specs.Selecting.{AllHeld, Candidate, HasNone, NoCandidate, NoFit, Selected, assignmentOf, noId, seenIn, unselected}
+use Rattle.cell_selection.specs.Selecting.{AllHeld, Candidate, HasNone, NoCandidate, NoFit, Selected, assignmentOf, noId, supplyIn, unselected}
 use Rattle.cell_selection.specs.declared.Choice.the-variants.{Lacks}
 use Rattle.cell_selection.specs.declared.Selection.{Selection}
 use Rattle.cell.specs.Calls.{Enters, Keys, cellOf, freshCell, outcomeOf}
@@ -245,9 +245,9 @@ pub record RefusedSo (c : Cell) (o : Outcome) : Type 0 where
   pub noCandidates : Exactly (o ≡ Refused NoCandidates) ((AllHeld (c .lists) → ⊥) × NoCandidate (inSchedule (c .schedule)))
   -- else "20 that there are some", and none of them has an assignment;
   pub noAssignment : Exactly (o ≡ Refused NoAssignment)
-      ((AllHeld (c .lists) → ⊥) × ((NoCandidate (inSchedule (c .schedule)) → ⊥) × NoFit (inSchedule (c .schedule)) (seenIn (c .lists))))
+      ((AllHeld (c .lists) → ⊥) × ((NoCandidate (inSchedule (c .schedule)) → ⊥) × NoFit (inSchedule (c .schedule)) (supplyIn (c .lists))))
   -- and it is refused "exactly when no place is free or no such job exists"
-  pub together : Exactly (o ≡ Done → ⊥) (AllHeld (c .lists) ⊎ NoFit (inSchedule (c .schedule)) (seenIn (c .lists)))
+  pub together : Exactly (o ≡ Done → ⊥) (AllHeld (c .lists) ⊎ NoFit (inSchedule (c .schedule)) (supplyIn (c .lists)))
 
 -- what comes with 20: "the first candidate's ID and the first facility lacking for it, in the order core, drum, MA, MT,
 -- PR", and "20 names the new kinds after PR": MC, CR, PT
@@ -258,7 +258,7 @@ pub record Missing (c : Cell) (s : Selection) : Type 0 where
       → precedes (keyOf (entryAt (inSchedule (c .schedule)) at .request)) (keyOf (entryAt (inSchedule (c .schedule)) i .request)) ≡ true
   pub id : s .first ≡ entryAt (inSchedule (c .schedule)) at .request .id
   pub part : Part
-  pub lacking : FirstLacking (seenIn (c .lists)) (entryAt (inSchedule (c .schedule)) at .request .facilities) (First part)
+  pub lacking : FirstLacking (supplyIn (c .lists)) (entryAt (inSchedule (c .schedule)) at .request .facilities) (First part)
   pub told : s .choice ≡ Lacks part
 
 -- "2. It is right: cards written are read back as the same request; the job selected is the first in order, of
@@ -326,7 +326,7 @@ pub record Demand2 : Type 0 where
       → (d : Cell) (s : Selection) → Does c Select (Chosen Done s) d
       → (i : ℕ) → Candidate (inSchedule (c .schedule)) i
       → precedes (keyOf (entryAt (inSchedule (c .schedule)) i .request)) (keyOf (s .request)) ≡ true
-      → HasNone (seenIn (c .lists)) (entryAt (inSchedule (c .schedule)) i .request)
+      → HasNone (supplyIn (c .lists)) (entryAt (inSchedule (c .schedule)) i .request)
   -- "taken into the lowest free place": what was assigned it then holds, exactly those units, that drum area and that
   -- core, none of it being returned, and no other job has any of it
   pub holds : (configuration : Configuration) (es : List Event) (c : Cell) → Leads (freshCell configuration) es c

@@ -66,7 +66,7 @@ use Rattle.packets.specs.declared.Site.the-variants.{AtAddress, AtUnit}
 use Rattle.packets.specs.declared.Spot.{Spot}
 use Rattle.packets.specs.declared.Spot.the-variants.{OnDrum, OnUnit}
 use Rattle.packets.specs.declared.Status.{Status as PacketStatus}
-use Rattle.cell_selection.specs.Selecting.{AllHeld, NoCandidate, NoFit, seenIn}
+use Rattle.cell_selection.specs.Selecting.{AllHeld, NoCandidate, NoFit, supplyIn}
 use Rattle.cell.specs.declared.Cell.{Cell}
 use Rattle.cell_history.specs.Heard.{inside}
 use Rattle.cell_history.specs.History.{Call, Complete, Deck, Delete, End, Key, Mark, Release, Return, Select, Start, Status, Submit, meant}
@@ -245,7 +245,7 @@ abbrev pub SelectRefused : Cell → Option Refusal → Type 0
 SelectRefused c =
     orElse NoPlaceFree (AllHeld (c .lists))
     (orElse NoCandidates (NoCandidate (inSchedule (c .schedule)))
-    (orElse NoAssignment (NoFit (inSchedule (c .schedule)) (seenIn (c .lists)))
+    (orElse NoAssignment (NoFit (inSchedule (c .schedule)) (supplyIn (c .lists)))
     (λ o. o ≡ none)))
 
 -- WHICH REFUSAL ANSWERS, if any: the first of the call's sentences that hold

@@ -63,7 +63,7 @@ use Rattle.cards_request.specs.declared.Facilities.{Facilities}
 use Rattle.cards_request.specs.declared.Request.{Request}
 use Rattle.schedule_entries.specs.declared.State.the-variants.{Waiting}
 use Rattle.packets.specs.declared.Lists.{Lists}
-use Rattle.cell_selection.specs.Selecting.{isJob, isTaken, noId, seenIn, SelectsBy, leftBy, runOf}
+use Rattle.cell_selection.specs.Selecting.{isJob, isTaken, noId, supplyIn, SelectsBy, leftBy, runOf}
 use Rattle.cell_selection.specs.declared.Choice.{Choice}
 use Rattle.cell_selection.specs.declared.Choice.the-variants.{Job}
 use Rattle.cell_selection.specs.declared.Selection.{Selection}
@@ -157,7 +157,7 @@ module _ (section : ℕ) where
       (λ t. let z : _≡_ {A = ℕ} (one (f n)) 0 = rw t refl in some-of n f (omega (arith, sum-suc n (λ i. one (f i)))))
 
   abbrev seen₁ : Assign.Cell
-  seen₁ = seenIn lists₁
+  seen₁ = supplyIn lists₁
 
   free-48 : freeOf seen₁ 1 48 ≡ true
   unfolding assignable fresh freshUnits isFreeOf unitIn
