@@ -88,17 +88,17 @@ module _ (supply : Supply) (wanted : Facilities) where
   lacks : (part : Part) → FirstLacking supply wanted (Lacking.First part) → {r : Provision} → r ≡ without part → Assigns supply wanted r
   lacks part f e = subst (Assigns supply wanted) (sym e) (f, refl)
 
-  pub no-core : Core.Answers (supply .occupancy) (wanted .ib) (wanted .db) C.Nothing → {r : Provision} → r ≡ without Part.Core → Assigns supply wanted r
+  pub no-core : Core.LeastPair (supply .occupancy) (wanted .ib) (wanted .db) C.Nothing → {r : Provision} → r ≡ without Part.Core → Assigns supply wanted r
   no-core c = lacks Part.Core (inl (λ h. c (h .ib) (h .db) (h .fits), refl))
 
-  module _ {p : Pair} (c : Core.Answers (supply .occupancy) (wanted .ib) (wanted .db) (C.At p)) where
+  module _ {p : Pair} (c : Core.LeastPair (supply .occupancy) (wanted .ib) (wanted .db) (C.At p)) where
     has-core : HasCore (supply .occupancy) wanted
     has-core = record { ib = p .0; db = p .1; fits = c .0 }
 
-    pub no-drum : Drum.Answers (supply .areas) (drumLength (supply .channels)) (wanted .md) D.Nothing → {r : Provision} → r ≡ without Part.Drum → Assigns supply wanted r
+    pub no-drum : Drum.LowestStart (supply .areas) (drumLength (supply .channels)) (wanted .md) D.Nothing → {r : Provision} → r ≡ without Part.Drum → Assigns supply wanted r
     no-drum d = lacks Part.Drum (inr (has-core, inl (λ h. d (h .start) (h .fits), refl)))
 
-    pub no-kind : {s : ℕ} → Drum.Answers (supply .areas) (drumLength (supply .channels)) (wanted .md) (D.At s)
+    pub no-kind : {s : ℕ} → Drum.LowestStart (supply .areas) (drumLength (supply .channels)) (wanted .md) (D.At s)
         → {order : ℕ} → KindLacking (freeOf supply) (wanted .units) order → {r : Provision} → r ≡ without (Part.Units (kindAt order)) → Assigns supply wanted r
     no-kind {s} d {order} k = lacks (Part.Units (kindAt order))
         (inr (
@@ -111,7 +111,7 @@ module _ (supply : Supply) (wanted : Facilities) where
 
   -- ---- all parts
   module _ (p : Pair) (s : ℕ) (named : List KindChannels) (heads : List Head)
-      (c : Core.Answers (supply .occupancy) (wanted .ib) (wanted .db) (C.At p)) (d : Drum.Answers (supply .areas) (drumLength (supply .channels)) (wanted .md) (D.At s))
+      (c : Core.LeastPair (supply .occupancy) (wanted .ib) (wanted .db) (C.At p)) (d : Drum.LowestStart (supply .areas) (drumLength (supply .channels)) (wanted .md) (D.At s))
       (k : KindsDone (freeOf supply) (wanted .units) named heads unitKinds) where
     abbrev all : Assigned
     all = record { ib = p .0; db = p .1; drum = s; channels = named; heads = heads }
@@ -232,5 +232,5 @@ pub kinds-lacking : {free : ℕ → ℕ → Bool} {asked : List ℕ} (r : Kinds)
 kinds-lacking {free} {asked} r e s = subst (λ (b : Bool). KindsAnswer b free asked r) e s
 
 -- the drum's answer for the length that was worked out
-pub for-length : (areas : List Area) (words : ℕ) {n m : ℕ} {r s : Start} → n ≡ m → r ≡ s → Drum.Answers areas n words r → Drum.Answers areas m words s
-for-length areas words {n} {m} {r} {s} e f a = subst (λ (x : ℕ). Drum.Answers areas x words s) e (subst (Drum.Answers areas n words) f a)
+pub for-length : (areas : List Area) (words : ℕ) {n m : ℕ} {r s : Start} → n ≡ m → r ≡ s → Drum.LowestStart areas n words r → Drum.LowestStart areas m words s
+for-length areas words {n} {m} {r} {s} e f a = subst (λ (x : ℕ). Drum.LowestStart areas x words s) e (subst (Drum.LowestStart areas n words) f a)

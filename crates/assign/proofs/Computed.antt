@@ -106,18 +106,18 @@ unfoldable pub assignOf : Supply → Facilities → Provision
 assignOf supply wanted = withCore supply wanted (searchOf (supply .occupancy) (wanted .ib) (wanted .db))
 
 module _ (supply : Supply) (wanted : Facilities) (size : length (supply .channels) ≡ 16) (full : length (wanted .units) ≡ counts) where
-  with-kinds : (p : Pair) (s : ℕ) → Core.Answers (supply .occupancy) (wanted .ib) (wanted .db) (C.At p) → Drum.Answers (supply .areas) (drumLength (supply .channels)) (wanted .md) (D.At s)
+  with-kinds : (p : Pair) (s : ℕ) → Core.LeastPair (supply .occupancy) (wanted .ib) (wanted .db) (C.At p) → Drum.LowestStart (supply .areas) (drumLength (supply .channels)) (wanted .md) (D.At s)
       → (k : Kinds) (b : Bool) → k .ok ≡ b → KindsAnswer b (freeOf supply) (wanted .units) k → Assigns supply wanted (withKinds p s k)
   with-kinds p s c d k true e a = rw e (assigned supply wanted p s (k .channels) (k .heads) c d a)
   with-kinds p s c d k false e a = rw e (no-kind supply wanted c d a refl)
 
-  with-drum : (p : Pair) → Core.Answers (supply .occupancy) (wanted .ib) (wanted .db) (C.At p) → (r : Start) → Drum.Answers (supply .areas) (drumLength (supply .channels)) (wanted .md) r → Assigns supply wanted (withDrum supply wanted p r)
+  with-drum : (p : Pair) → Core.LeastPair (supply .occupancy) (wanted .ib) (wanted .db) (C.At p) → (r : Start) → Drum.LowestStart (supply .areas) (drumLength (supply .channels)) (wanted .md) r → Assigns supply wanted (withDrum supply wanted p r)
   with-drum p c (D.At s) d =
       let k = kindsOf (supply .units) (supply .channels) (wanted .units) in
       with-kinds p s c d k (k .ok) refl (kinds-answer (supply .units) (supply .channels) (wanted .units) size full)
   with-drum p c D.Nothing d = no-drum supply wanted c d refl
 
-  with-core : (r : Found) → Core.Answers (supply .occupancy) (wanted .ib) (wanted .db) r → Assigns supply wanted (withCore supply wanted r)
+  with-core : (r : Found) → Core.LeastPair (supply .occupancy) (wanted .ib) (wanted .db) r → Assigns supply wanted (withCore supply wanted r)
   with-core (C.At p) c = with-drum p c (startOf (supply .areas) (drumLength (supply .channels)) (wanted .md)) (start-answers (supply .areas) (drumLength (supply .channels)) (wanted .md))
   with-core C.Nothing c = no-core supply wanted c refl
 

@@ -13,7 +13,7 @@ use Rattle.numbers.proofs.Tests.{by-bool, both, or-true}
 use Rattle.assign_core.specs.declared.Found.{Found}
 use Rattle.assign_core.specs.declared.Found.the-variants.{At, Nothing}
 use Rattle.numbers.specs.Bits.{bit}
-use Rattle.assign_core.specs.Core.{Run, Beside, Fits, Answers}
+use Rattle.assign_core.specs.Core.{Run, Beside, Fits, LeastPair}
 use Rattle.assign_core.proofs.CoreLaws.{answers-one}
 
 either : (a b : Bool) → (a || b) ≡ true → (a ≡ true) ⊎ (b ≡ true)
@@ -115,7 +115,7 @@ module _ (w ib db a : ℕ) where
       let m : (a * 32 + b) % 32 ≡ b = omega arith in
       ap (λ (x : ℕ). fitsB w ib db x ((a * 32 + b) % 32)) d ∙ ap (λ (x : ℕ). fitsB w ib db a x) m ∙ fits-complete w ib db a b f
 
-answers-of : (w ib db : ℕ) (h : Hit) → First (test w ib db) 1024 0 h → Answers w ib db (found h)
+answers-of : (w ib db : ℕ) (h : Hit) → First (test w ib db) 1024 0 h → LeastPair w ib db (found h)
 answers-of w ib db (hit m) p = (
   fits-sound w ib db (m / 32) (m % 32) (p .0),
   λ a b f before.
@@ -126,11 +126,11 @@ answers-of w ib db none p = λ a b f.
     let t = tried w ib db a b f in
     p (a * 32 + t .at) (omega arith) (omega (arith, f .instructions, t)) (passes w ib db a (t .at) (t .small) (t .fits))
 
-pub computed : (w ib db : ℕ) (r : Found) → Answers w ib db r → r ≡ searchOf w ib db
+pub computed : (w ib db : ℕ) (r : Found) → LeastPair w ib db r → r ≡ searchOf w ib db
 unfolding searchOf
 computed w ib db r p = answers-one w ib db r (found (find (test w ib db) 1024 0)) p (answers-of w ib db (find (test w ib db) 1024 0) (first (test w ib db) 1024 0))
 
 -- the computed search is an answer
-pub search-answers : (w ib db : ℕ) → Answers w ib db (searchOf w ib db)
+pub search-answers : (w ib db : ℕ) → LeastPair w ib db (searchOf w ib db)
 unfolding searchOf
 search-answers w ib db = answers-of w ib db (find (test w ib db) 1024 0) (first (test w ib db) 1024 0)

@@ -30,6 +30,6 @@ Before a b i j = (a < i) ⊎ ((a ≡ i) × (b < j))
 
 -- the pair that is found fits and none before it does (so a DB that is not asked for starts at 0); nothing is found
 -- where none fits
-abbrev pub Answers : ℕ → ℕ → ℕ → Found → Type 0
-Answers w ib db (At p) = Fits w ib db (p .0) (p .1) × ((a b : ℕ) → Fits w ib db a b → Before a b (p .0) (p .1) → ⊥)
-Answers w ib db Nothing = (a b : ℕ) → Fits w ib db a b → ⊥
+abbrev pub LeastPair : ℕ → ℕ → ℕ → Found → Type 0
+LeastPair w ib db (At p) = Fits w ib db (p .0) (p .1) × ((a b : ℕ) → Fits w ib db a b → Before a b (p .0) (p .1) → ⊥)
+LeastPair w ib db Nothing = (a b : ℕ) → Fits w ib db a b → ⊥

@@ -1,7 +1,7 @@
 // The core that a job gets: two runs of free blocks, found in the occupancy word.
 ghost use Prim.Native.Nat.{_+_, _≤_};
 ghost use Rattle.numbers.specs.Decides.{Decides};
-ghost use Rattle.assign_core.specs.Core.{Run, Beside, Answers};
+ghost use Rattle.assign_core.specs.Core.{Run, Beside, LeastPair};
 
 // The starts of a job's two runs of blocks, IB's and DB's.
 pub struct Pair(pub u32, pub u32);
@@ -51,7 +51,7 @@ fn is_beside(word: u32, i: u32, ib: u32, db: u32, j: u32) -> bool
 
 // The least pair of starts at which ib blocks and db blocks are free and apart.
 pub fn search(word: u32, ib: u32, db: u32) -> Found
-    ensures { λ r. ⌜ Answers word ib db r ⌝ }
+    ensures { λ r. ⌜ LeastPair word ib db r ⌝ }
 {
     let mut i: u32 = 2;
     let found = 'search: loop {

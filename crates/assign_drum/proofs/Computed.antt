@@ -14,7 +14,7 @@ use Rattle.numbers.proofs.Tests.{by-bool, never, both}
 use Rattle.assign_drum.specs.declared.Area.{Area}
 use Rattle.assign_drum.specs.declared.Start.{Start}
 use Rattle.assign_drum.specs.declared.Start.the-variants.{At, Nothing}
-use Rattle.assign_drum.specs.Drum.{lowest, noArea, IsArea, Answers}
+use Rattle.assign_drum.specs.Drum.{lowest, noArea, IsArea, LowestStart}
 use Rattle.assign_drum.specs.Blocks.{endOf, Meets}
 use Rattle.assign_drum.proofs.BlocksLaws.{shared, clear-free}
 
@@ -71,7 +71,7 @@ found none = Nothing
 unfoldable pub startOf : List Area → ℕ → ℕ → Start
 startOf held size n = cond (eqb n 0) (At 0) (found (find (areaB held size n) (size - lowest) lowest))
 
-found-answers : (held : List Area) (size n : ℕ) → 1 ≤ n → (h : Hit) → First (areaB held size n) (size - lowest) lowest h → Answers held size n (found h)
+found-answers : (held : List Area) (size n : ℕ) → 1 ≤ n → (h : Hit) → First (areaB held size n) (size - lowest) lowest h → LowestStart held size n (found h)
 found-answers held size n p (hit s) f = (
   (λ o. area-sound held size n p s (f .0)),
   λ b h a. f .1 b (a p .low) h (area-complete held size n p b (a p)),
@@ -79,7 +79,7 @@ found-answers held size n p (hit s) f = (
 found-answers held size n p none f = λ b a. f b (a p .low) (omega (arith, a p .high, a p .low)) (area-complete held size n p b (a p))
 
 -- the computed start is an answer
-pub start-answers : (held : List Area) (size n : ℕ) → Answers held size n (startOf held size n)
+pub start-answers : (held : List Area) (size n : ℕ) → LowestStart held size n (startOf held size n)
 unfolding startOf
 start-answers held size n =
     by-bool (eqb n 0)

@@ -35,6 +35,6 @@ abbrev pub Fits : List Area → ℕ → ℕ → ℕ → Type 0
 Fits held size n s = 1 ≤ n → IsArea held size n s
 
 -- the lowest start (so an area that is not asked for starts at 0); nothing is found where none fits
-abbrev pub Answers : List Area → ℕ → ℕ → Start → Type 0
-Answers held size n (At s) = Fits held size n s × ((b : ℕ) → b < s → Fits held size n b → ⊥)
-Answers held size n Nothing = (b : ℕ) → Fits held size n b → ⊥
+abbrev pub LowestStart : List Area → ℕ → ℕ → Start → Type 0
+LowestStart held size n (At s) = Fits held size n s × ((b : ℕ) → b < s → Fits held size n b → ⊥)
+LowestStart held size n Nothing = (b : ℕ) → Fits held size n b → ⊥

@@ -1,6 +1,6 @@
 // The drum area that a job gets: the lowest one that is free.
 ghost use Prim.Native.Nat.{_+_, _≤_};
-ghost use Rattle.assign_drum.specs.Drum.{Answers};
+ghost use Rattle.assign_drum.specs.Drum.{LowestStart};
 ghost use Rattle.numbers.specs.Decides.{Decides};
 ghost use Rattle.assign_drum.specs.Blocks.{EndIs, Meets, Seen};
 
@@ -66,7 +66,7 @@ fn in_the_way(held: [Area; 16], s: u64, n: u64) -> Way
 // The lowest start of n free words on a drum of the size given. An area that is in the way of one start is in the way
 // of every start up to its end, so the search goes on there.
 pub fn lowest_start(held: [Area; 16], size: u32, n: u32) -> Start
-    ensures { λ r. ⌜ Answers held size n r ⌝ }
+    ensures { λ r. ⌜ LowestStart held size n r ⌝ }
 {
     if n == 0 {
         return Start::At(0);

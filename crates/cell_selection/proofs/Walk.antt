@@ -28,7 +28,7 @@ use Rattle.assign.specs.declared.Part.{Part}
 use Rattle.assign.specs.declared.Provision.{Provision}
 use Rattle.assign.proofs.ChosenLaws.{none-lacking}
 use Rattle.assign.proofs.LackingLaws.{chosen-when}
-use Rattle.assign_lacking.specs.ByCounts.{Answers, HasBy}
+use Rattle.assign_lacking.specs.ByCounts.{LackingByCounts, HasBy}
 use Rattle.assign_lacking.proofs.InCellLaws.{in-cell}
 use Rattle.packets.specs.declared.Lists.{Lists}
 use Rattle.cell_taken.specs.Taken.{LowestFree}
@@ -102,7 +102,7 @@ module _ (es : List Entry) (supply : Supply) (k : ℕ) where
 
 -- what the counts tell of a cell
 pub told : (units : List (List Unit)) (occupancy : ℕ) (areas : List Area) (channels : List Channel) (wanted : Facilities) (counts : List ℕ) {drum : ℕ} {l m : Lacking} → length channels ≡ 16
-    → Counted units channels counts → drum ≡ drumLength channels → Answers counts occupancy areas drum wanted l → l ≡ m → FirstLacking (supplyOf units occupancy areas channels) wanted m
+    → Counted units channels counts → drum ≡ drumLength channels → LackingByCounts counts occupancy areas drum wanted l → l ≡ m → FirstLacking (supplyOf units occupancy areas channels) wanted m
 told units occupancy areas channels wanted counts {drum} {l} {m} size c e a q =
     in-cell units occupancy areas channels wanted counts size (a .full) c m
     (subst (λ (x : ℕ). FirstOf (HasBy counts occupancy areas x wanted) parts m) e (subst (FirstOf (HasBy counts occupancy areas drum wanted) parts) q (a .first)))

@@ -28,8 +28,8 @@ legalBy Unknown code = false
 
 -- the starts of a job's core: where a pair fits, the least is put in place of i and j; where none fits, both are kept
 pub record Placed (taken ib db i j i′ j′ : ℕ) (r : Bool) : Type 0 where
-  pub found : r ≡ true → Core.Answers taken ib db (At (record { 0 = i′; 1 = j′ }))
-  pub none : r ≡ false → Core.Answers taken ib db Nothing × (i′ ≡ i) × (j′ ≡ j)
+  pub found : r ≡ true → Core.LeastPair taken ib db (At (record { 0 = i′; 1 = j′ }))
+  pub none : r ≡ false → Core.LeastPair taken ib db Nothing × (i′ ≡ i) × (j′ ≡ j)
 
 -- "0, 11 or 22": a refusal's number, 0 where a deck has the group
 abbrev pub refusalOf : Which → ℕ

@@ -18,7 +18,7 @@ use Rattle.text.proofs.RoomLaws.{none, andThen, entire}
 use Rattle.text.proofs.Undo.{few-digits}
 use Rattle.cards_fields.proofs.Groups.{ends}
 use Rattle.shift_pieces.specs.Pieces.{noText, noLine}
-use Rattle.desk_show.specs.Showing.{IsRead, Answers, bad, ofRepair, ofDay, nobody, partIn, partOf, Shows}
+use Rattle.desk_show.specs.Showing.{IsRead, ShowsFrom, bad, ofRepair, ofDay, nobody, partIn, partOf, Shows}
 use Rattle.desk_show.specs.declared.Extent.{Extent}
 use Rattle.desk_show.specs.declared.Which.{Which}
 use Rattle.desk_show.specs.declared.Which.the-variants.{Repair, Day, Refused}
@@ -45,7 +45,7 @@ module _ {id repair day : List ℕ} {r : Extent} {part : List ℕ} (w : Shows id
   few : length part ≤ 16384
   few = by (w .answers)
     where
-      by : Answers id repair day (r .which) (r .from) part → length part ≤ 16384
+      by : ShowsFrom id repair day (r .which) (r .from) part → length part ≤ 16384
       by (bad e b z n) = omega (arith, ap length n)
       by (ofRepair e d f) = omega (arith, ap length (there-by Repair e), part-few repair (r .from) (r .len) (d .0))
       by (ofDay e d n f) = omega (arith, ap length (there-by Day e), part-few day (r .from) (r .len) (d .1))

@@ -26,7 +26,7 @@ begunText Good = []
 begunText (Bad line) = errorText line
 
 -- what `kept` bytes begin, and the answer from the room's start on, cut at its end
-pub record Answers (beginning : Beginning) (kept : ℕ) (out after : List ℕ) (r : Opening) : Type 0 where
+pub record AnswersOpening (beginning : Beginning) (kept : ℕ) (out after : List ℕ) (r : Opening) : Type 0 where
   pub begins : r .beginning ≡ beginning
   pub keeps : r .kept ≡ kept
   pub put : Written out 0 (begunText (beginning .begun)) after (r .at)
@@ -35,7 +35,7 @@ pub record Answers (beginning : Beginning) (kept : ℕ) (out after : List ℕ) (
 pub record Opens (kept : ℕ) (line room room′ out after : List ℕ) (r : Opening) : Type 0 where
   pub n : ℕ
   pub keeps : Keeps room kept (lineText line) room′ n
-  pub answers : Answers (openingOf (ltb n 2048) (take n room′)) n out after r
+  pub answers : AnswersOpening (openingOf (ltb n 2048) (take n room′)) n out after r
 
 -- a configuration that is not complete at the input's end: what there is of it is all, a last line without LF too
 pub record Unfinished (kept : ℕ) (rest room room′ out after : List ℕ) (r : ℕ) : Type 0 where

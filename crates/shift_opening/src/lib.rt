@@ -8,7 +8,7 @@ ghost use lib.ListN.{length, take};
 ghost use Rattle.text.specs.Room.{Written};
 ghost use Rattle.words.specs.Lines.{lineText};
 ghost use Rattle.shift_begin.specs.Opening.{openingOf};
-ghost use Rattle.shift_opening.specs.Openings.{Keeps, begunText, Answers, Opens, Unfinished};
+ghost use Rattle.shift_opening.specs.Openings.{Keeps, begunText, AnswersOpening, Opens, Unfinished};
 
 // What the lines so far begin, how many bytes of them are kept in the room, and where the answer ends in the room for
 // it.
@@ -57,7 +57,7 @@ fn put_begun(out: &mut [u8], begun: Begun) -> usize
 
 // What is answered to what the text so far begins.
 fn answered(beginning: Beginning, kept: usize, out: &mut [u8]) -> Opening
-    ensures { λ r. ⌜ Answers beginning kept (now (out .entry)) (now (out .exit)) r ⌝ }
+    ensures { λ r. ⌜ AnswersOpening beginning kept (now (out .entry)) (now (out .exit)) r ⌝ }
 {
     let begun = beginning.begun;
     let at = put_begun(out, begun);
