@@ -10,7 +10,7 @@ ghost use Rattle.configuration_listing.specs.Listing.{Listed};
 ghost use Rattle.schedule_deck.specs.Reading.{Reported};
 ghost use Rattle.numbers.specs.Kinds.{kindOf};
 ghost use Rattle.configuration.specs.Configured.{configurationOf};
-ghost use Rattle.controller.specs.Answers.{badLineOf, legalBy, Placed, Located};
+ghost use Rattle.controller.specs.Exports.{badLineOf, legalBy, Placed, Located};
 
 // Puts the listing of a configuration into lent room and answers its length. 96 bytes are enough; a smaller room gets
 // what fits.

@@ -31,7 +31,7 @@ use Rattle.keyboard.specs.Typed.{known}
 use Rattle.keyboard.specs.declared.Asked.the-variants.{Wrong}
 use Rattle.keyboard.specs.declared.Fault.{Fault}
 use Rattle.keyboard.specs.declared.Word.{Word}
-use Rattle.keyboard_answers.specs.Answers.{answerText}
+use Rattle.keyboard_answers.specs.MessageAnswers.{answerText}
 use Rattle.configuration.specs.Configured.{configurationOf, good, refused}
 use Rattle.configuration_form.specs.Form.{FirstBad, InForm, listsCode}
 use Rattle.configuration_form.specs.Means.{Means}

@@ -5,8 +5,8 @@ use packets::Site;
 use packets::Status;
 ghost use mathlib.Core.Path.{_≡_};
 ghost use Rattle.text.specs.Room.{Written};
-ghost use Rattle.shift_answers.specs.Answers.{doneText, numberAt, startedText, completedText};
-ghost use Rattle.shift_answers.specs.Answers.{statusWord, statusText, noCallText};
+ghost use Rattle.shift_answers.specs.AnswerLines.{doneText, numberAt, startedText, completedText};
+ghost use Rattle.shift_answers.specs.AnswerLines.{statusWord, statusText, noCallText};
 
 // A call that answers nothing else.
 pub fn put_done(out: &mut [u8], at: usize) -> usize

@@ -14,14 +14,14 @@ use Rattle.cell_selection.specs.declared.Choice.{Choice}
 use Rattle.cell_selection.specs.declared.Choice.the-variants.{Job, NoPlace, NoCandidates, Lacks}
 use Rattle.cell_selection.specs.declared.Selection.{Selection}
 use Rattle.keyboard.specs.Messages.{readMessage}
-use Rattle.keyboard_answers.specs.Answers.{answerText as keyText}
+use Rattle.keyboard_answers.specs.MessageAnswers.{answerText as keyText}
 use Rattle.cell.specs.Calls.{cellOf, acted, releasing, deleting, statusOf, heeded, SelectsIn}
 use Rattle.cell.specs.declared.Answered.{Answered}
 use Rattle.cell.specs.declared.Cell.{Cell}
 use Rattle.cell.specs.declared.Heeded.{Heeded}
 use Rattle.cell.specs.declared.SelectAnswer.{SelectAnswer}
 use Rattle.shift_pieces.specs.Pieces.{noText, noLine}
-use Rattle.shift_answers.specs.Answers.{noCallText}
+use Rattle.shift_answers.specs.AnswerLines.{noCallText}
 use Rattle.shift_packets.specs.Texts.{answerText, statusAnswerText, submission}
 use Rattle.shift_selected.specs.Selected.{selectedText, partText}
 use Rattle.board.specs.Board.{boardText}

@@ -1,4 +1,4 @@
--- What the definitions of Answers mean: 0 is the answer for a configuration and for nothing else, any other number is
+-- What the definitions of Exports mean: 0 is the answer for a configuration and for nothing else, any other number is
 -- that of the first bad or missing line, and `Placed` and `Located` leave one outcome. Assumes nothing.
 use Prim.Native.Nat.{ℕ, _≤_}
 use mathlib.Core.Path.{_≡_, refl, sym, ap, subst, _∙_}
@@ -19,7 +19,7 @@ use Rattle.desk_show.specs.Showing.{partOf, Shows}
 use Rattle.desk_show.specs.declared.Extent.{Extent}
 use Rattle.desk_show.specs.declared.Which.{Which}
 use Rattle.desk_show.proofs.Unique.{shows-one}
-use Rattle.controller.specs.Answers.{badLineOf, Placed, refusalOf, deckOr, putOr, Located}
+use Rattle.controller.specs.Exports.{badLineOf, Placed, refusalOf, deckOr, putOr, Located}
 
 -- one answer of the reader has one line
 same-line : {a b : Answer} → a ≡ b → badLineOf (a .verdict) ≡ badLineOf (b .verdict)
