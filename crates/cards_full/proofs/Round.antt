@@ -25,7 +25,7 @@ use Rattle.cards_fac.specs.Fac.{nothing, entriesError, allEntered, coreError, f
 use Rattle.cards_group.specs.Group.{mark, requestOf}
 use Rattle.cards_pty.specs.declared.Priority.{Priority}
 use Rattle.cards_request.specs.declared.Request.{Request}
-use Rattle.cards_request.specs.declared.Verdict.the-variants.{Good}
+use Rattle.cards_request.specs.declared.CardVerdict.the-variants.{Good}
 use Rattle.cards_writing.specs.Writing.{priorityText, markText, ptyFields, trimmed, facFields, ptyText, facText, formed, numbersFit, namesFormed, rangesGood, takes}
 use Rattle.cards_writing.proofs.PutLaws.{trimmed-at, some-written}
 use Rattle.cards_fields.proofs.CardLaws.{plain, AllPlain, fields-back, card-good, card-line, alnum-plain, digit-plain, number-back, number-digits}

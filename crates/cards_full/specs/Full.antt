@@ -17,7 +17,7 @@ use Rattle.cards_writing.specs.Writing.{ptyText, facText, takes}
 use Rattle.cards_request.specs.declared.FurtherCard.{FurtherCard}
 use Rattle.cards_request.specs.declared.Further.{Further}
 use Rattle.cards_request.specs.declared.FullRequest.{FullRequest}
-use Rattle.cards_request.specs.declared.Verdict.{Verdict}
+use Rattle.cards_request.specs.declared.CardVerdict.{CardVerdict}
 use Rattle.cards_full.specs.declared.Wrote.{Wrote}
 use Rattle.cards_full.specs.declared.Wrote.the-variants.{Cards, Refused}
 
@@ -39,7 +39,7 @@ abbrev pub textOf : FullRequest → List ℕ
 textOf v = linesText (cardsIn v)
 
 -- the errors that further cards have by themselves, whatever their ID
-unfoldable pub furtherError : List (List ℕ) → Verdict
+unfoldable pub furtherError : List (List ℕ) → CardVerdict
 furtherError cs = firstOf (typesError cs ∷ togetherError cs ∷ contentsError false cs ∷ [])
 
 -- the further cards as they stand behind an ID that is left out

@@ -1,9 +1,9 @@
 // Whether a request with its further cards is one that cards can hold.
 use crate::put;
+use cards_request::CardVerdict;
 use cards_request::FullRequest;
 use cards_request::Further;
 use cards_request::FurtherCard;
-use cards_request::Verdict;
 ghost use mathlib.Core.Path.{_≡_};
 ghost use mathlib.Core.Bool.{_&&_};
 ghost use lib.Dec.{eqb};
@@ -12,7 +12,7 @@ ghost use Rattle.cards_fields.specs.Deck.{cardsOf};
 ghost use Rattle.cards_full.specs.Full.{furtherError, sameCards, takesFurther, takesFull};
 
 // The errors that further cards have by themselves.
-fn further_error(cards: &[u8]) -> Verdict
+fn further_error(cards: &[u8]) -> CardVerdict
     ensures { λ r. ⌜ r ≡ furtherError (cardsOf (now (cards .entry))) ⌝ }
 {
     let types = cards_further::types_error(cards);

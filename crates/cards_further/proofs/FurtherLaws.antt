@@ -23,8 +23,8 @@ use Rattle.cards_request.proofs.ErrorLaws.{good-is, or-else-some}
 use Rattle.cards_request.specs.Requests.{noCard}
 use Rattle.cards_pm.specs.Pm.{isPm, digitOf, rising}
 use Rattle.cards_trn.specs.Trn.{isTrn, hasCount}
-use Rattle.cards_request.specs.declared.Verdict.{Verdict}
-use Rattle.cards_request.specs.declared.Verdict.the-variants.{Good}
+use Rattle.cards_request.specs.declared.CardVerdict.{CardVerdict}
+use Rattle.cards_request.specs.declared.CardVerdict.the-variants.{Good}
 use Rattle.cards_request.specs.declared.FurtherCard.{FurtherCard}
 use Rattle.cards_request.specs.declared.Further.{Further}
 use Rattle.cards_further.specs.Together.{any, past}
@@ -82,7 +82,7 @@ module _ (least : ℕ) (c : List ℕ) (cs : List (List ℕ)) where
       (λ t. rw t)
 
 -- the content errors
-module _ (counted : Bool) (c : List ℕ) (cs : List (List ℕ)) (e : Verdict) (is : e ≡ contentError counted c) where
+module _ (counted : Bool) (c : List ℕ) (cs : List (List ℕ)) (e : CardVerdict) (is : e ≡ contentError counted c) where
   pub content-wrong : good e ≡ false → contentsError counted (c ∷ cs) ≡ e
   content-wrong h = rw (← is) (or-else-some e _ h)
 

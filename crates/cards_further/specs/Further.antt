@@ -11,8 +11,8 @@ use Rattle.cards_pm.specs.Pm.{isPm, numbered, pmFault, pmText, rising}
 use Rattle.cards_request.specs.Errors.{errorIf, orElse, firstOf}
 use Rattle.cards_request.specs.Requests.{noCard}
 use Rattle.cards_request.specs.declared.CardError.the-variants.{LaterFac, UnknownCard, PmNumber, PmWrong, TalApart, TrnApart}
-use Rattle.cards_request.specs.declared.Verdict.{Verdict}
-use Rattle.cards_request.specs.declared.Verdict.the-variants.{Good}
+use Rattle.cards_request.specs.declared.CardVerdict.{CardVerdict}
+use Rattle.cards_request.specs.declared.CardVerdict.the-variants.{Good}
 use Rattle.cards_request.specs.declared.FurtherCard.{FurtherCard}
 use Rattle.cards_request.specs.declared.Further.{Further}
 use Rattle.cards_further.specs.Together.{any, apart}
@@ -33,7 +33,7 @@ faulty c = isPm c && pmFault c
 
 -- the types' errors as the code looks for them, in the order of the group's (`Group: orderedError`): "22 is any later FAC";
 -- "Error 3 remains for unknown types only"
-unfoldable pub typesError : List (List ℕ) → Verdict
+unfoldable pub typesError : List (List ℕ) → CardVerdict
 typesError cs = orElse (errorIf (any isFac cs) LaterFac) (errorIf (any unknown cs) UnknownCard)
 
 -- "4 is PM cards apart, malformed, digits not rising or text over 66"
@@ -41,7 +41,7 @@ unfoldable pub pmWrong : List (List ℕ) → Bool
 pmWrong cs = apart isPm cs || (any faulty cs || not (rising 0 cs))
 
 -- and those behind 25, "30, 4, 23 and 24 in that order"
-unfoldable pub togetherError : List (List ℕ) → Verdict
+unfoldable pub togetherError : List (List ℕ) → CardVerdict
 togetherError cs =
     firstOf
     (errorIf (any unnumbered cs) PmNumber
@@ -51,11 +51,11 @@ togetherError cs =
     ∷ [])
 
 -- the content errors of a card: TAL's, or TRN's; of a PM card "nothing is left to find"
-abbrev pub contentError : Bool → List ℕ → Verdict
+abbrev pub contentError : Bool → List ℕ → CardVerdict
 contentError counted c = cond (isTal c) (talError c) (cond (isTrn c) (trnError counted c) Good)
 
 -- "which are looked for card by card": the first; `counted`: an earlier TRN card has a count
-abbrev pub contentsError : Bool → List (List ℕ) → Verdict
+abbrev pub contentsError : Bool → List (List ℕ) → CardVerdict
 contentsError counted [] = Good
 contentsError counted (c ∷ cs) = orElse (contentError counted c) (contentsError (counted || (isTrn c && hasCount c)) cs)
 

@@ -3,9 +3,9 @@
 use cards_fields::card;
 use cards_fields::deck;
 use cards_request::CardError;
+use cards_request::CardVerdict;
 use cards_request::Further;
 use cards_request::FurtherCard;
-use cards_request::Verdict;
 ghost use mathlib.Core.Path.{_≡_};
 ghost use mathlib.Core.Bool.{false, cond, _&&_, _||_};
 ghost use mathlib.Core.List.{[]};
@@ -154,16 +154,16 @@ pub fn is_other_id(rest: &[u8], id: &[u8]) -> bool
 }
 
 // The errors of the cards' types: a FAC card, then one of unknown type.
-pub fn types_error(rest: &[u8]) -> Verdict
+pub fn types_error(rest: &[u8]) -> CardVerdict
     ensures { λ r. ⌜ r ≡ typesError (cardsOf (now (rest .entry))) ⌝ }
 {
     if is_any(rest, b"", Question::Fac) {
-        return Verdict::Wrong(CardError::LaterFac);
+        return CardVerdict::Wrong(CardError::LaterFac);
     }
     if is_any(rest, b"", Question::Unknown) {
-        return Verdict::Wrong(CardError::UnknownCard);
+        return CardVerdict::Wrong(CardError::UnknownCard);
     }
-    Verdict::Good
+    CardVerdict::Good
 }
 
 // Whether the PM cards stand apart, one is malformed or too long, or their digits do not rise.
@@ -180,26 +180,26 @@ fn is_pm_wrong(rest: &[u8]) -> bool
 }
 
 // The errors of the cards as they stand together: 30, 4, 23, 24.
-pub fn together_error(rest: &[u8]) -> Verdict
+pub fn together_error(rest: &[u8]) -> CardVerdict
     ensures { λ r. ⌜ r ≡ togetherError (cardsOf (now (rest .entry))) ⌝ }
 {
     if is_any(rest, b"", Question::Unnumbered) {
-        return Verdict::Wrong(CardError::PmNumber);
+        return CardVerdict::Wrong(CardError::PmNumber);
     }
     if is_pm_wrong(rest) {
-        return Verdict::Wrong(CardError::PmWrong);
+        return CardVerdict::Wrong(CardError::PmWrong);
     }
     if is_apart(rest, Question::Tal) {
-        return Verdict::Wrong(CardError::TalApart);
+        return CardVerdict::Wrong(CardError::TalApart);
     }
     if is_apart(rest, Question::Trn) {
-        return Verdict::Wrong(CardError::TrnApart);
+        return CardVerdict::Wrong(CardError::TrnApart);
     }
-    Verdict::Good
+    CardVerdict::Good
 }
 
 // The content error of a card; `counted`: an earlier TRN card has a count.
-fn content_error(card: &[u8], counted: bool) -> Verdict
+fn content_error(card: &[u8], counted: bool) -> CardVerdict
     ensures { λ r. ⌜ r ≡ contentError counted (now (card .entry)) ⌝ }
 {
     if cards_tal::is_tal(card) {
@@ -208,7 +208,7 @@ fn content_error(card: &[u8], counted: bool) -> Verdict
     if cards_trn::is_trn(card) {
         return cards_trn::trn_error(card, counted);
     }
-    Verdict::Good
+    CardVerdict::Good
 }
 
 // Whether a TRN card has a count, up to this card.
@@ -225,7 +225,7 @@ fn is_counted(card: &[u8], counted: bool) -> bool
 }
 
 // The first content error, card by card.
-pub fn contents_error(rest: &[u8]) -> Verdict
+pub fn contents_error(rest: &[u8]) -> CardVerdict
     ensures { λ r. ⌜ r ≡ contentsError false (cardsOf (now (rest .entry))) ⌝ }
 {
     let mut counted = false;
@@ -234,7 +234,7 @@ pub fn contents_error(rest: &[u8]) -> Verdict
         let len = deck::card_len(&rest[at..]);
         let end = at + len;
         if end == rest.len() {
-            return Verdict::Good;
+            return CardVerdict::Good;
         }
         let card = &rest[at..end];
         let e = content_error(card, counted);
@@ -244,7 +244,7 @@ pub fn contents_error(rest: &[u8]) -> Verdict
         counted = is_counted(card, counted);
         at = end + 1;
     }
-    Verdict::Good
+    CardVerdict::Good
 }
 
 // Puts a card from its type on.

@@ -26,8 +26,8 @@ use Rattle.cards_request.specs.declared.CardError.the-variants.{
   TalApart,
   TrnApart,
 }
-use Rattle.cards_request.specs.declared.Verdict.{Verdict}
-use Rattle.cards_request.specs.declared.Verdict.the-variants.{Good, Wrong}
+use Rattle.cards_request.specs.declared.CardVerdict.{CardVerdict}
+use Rattle.cards_request.specs.declared.CardVerdict.the-variants.{Good, Wrong}
 use Rattle.cards_request.specs.declared.Request.{Request}
 use Rattle.cards_request.specs.declared.Further.{Further}
 use Rattle.cards_group.specs.declared.Reading.{Reading}
@@ -43,7 +43,7 @@ otherId pty c = not (same (field c 0) (field pty 0))
 
 -- THE ORDER OF ERRORS, "the first answering", of a group of n cards: PTY, FAC and the further cards, those from the
 -- third on; a card that is absent is empty, and so neither PTY nor FAC
-unfoldable pub orderedError : ℕ → List ℕ → List ℕ → List (List ℕ) → Verdict
+unfoldable pub orderedError : ℕ → List ℕ → List ℕ → List (List ℕ) → CardVerdict
 orderedError n pty fac further =
     firstOf
     -- 25, 17 and its fields': "25 the group's first card isn't PTY; 17 PTY card malformed or over 14 fields; then its
@@ -99,12 +99,12 @@ requestOf pty asks = record {
 }
 
 -- an error alone, or the request
-abbrev pub answer : Verdict → Request → Reading
+abbrev pub answer : CardVerdict → Request → Reading
 answer Good r = record { verdict = Good; request = r }
 answer (Wrong e) r = record { verdict = Wrong e; request = noRequest }
 
 -- an error alone, or the request with its further cards
-abbrev pub fullAnswer : Verdict → Request → Further → FullReading
+abbrev pub fullAnswer : CardVerdict → Request → Further → FullReading
 fullAnswer Good r f = record { verdict = Good; full = record { request = r; further = f } }
 fullAnswer (Wrong e) r f = record { verdict = Wrong e; full = noFullRequest }
 

@@ -1,7 +1,7 @@
 // The PTY card: each field's length and content, the priority, and the card's errors.
 use cards_fields::card;
 use cards_request::CardError;
-use cards_request::Verdict;
+use cards_request::CardVerdict;
 use words::Class;
 ghost use mathlib.Core.Path.{_≡_};
 ghost use Prim.Native.Nat.{_≤_, _<_};
@@ -167,44 +167,44 @@ fn content_error(k: usize) -> CardError
 
 // What is wrong with the text of a field: its length first, then its content. Past the fourteenth a field has to be
 // empty.
-pub fn field_error(k: usize, t: &[u8]) -> Verdict
+pub fn field_error(k: usize, t: &[u8]) -> CardVerdict
     ensures { λ r. ⌜ r ≡ fieldError k (ruleAt k) (now (t .entry)) ⌝ }
 {
     let n = t.len();
     if 13 < k {
         if n == 0 {
-            return Verdict::Good;
+            return CardVerdict::Good;
         }
-        return Verdict::Wrong(length_error(k));
+        return CardVerdict::Wrong(length_error(k));
     }
     if n < LEAST[k] {
-        return Verdict::Wrong(length_error(k));
+        return CardVerdict::Wrong(length_error(k));
     }
     if MOST[k] < n {
-        return Verdict::Wrong(length_error(k));
+        return CardVerdict::Wrong(length_error(k));
     }
     if is_right(k, t) {
-        return Verdict::Good;
+        return CardVerdict::Good;
     }
-    Verdict::Wrong(content_error(k))
+    CardVerdict::Wrong(content_error(k))
 }
 
 // The same of a card's field; one that was not gathered whole is longer than any may be.
-fn error_at(card: &[u8], k: usize) -> Verdict
+fn error_at(card: &[u8], k: usize) -> CardVerdict
     requires { ⌜ k < 14 ⌝ }
     ensures { λ r. ⌜ r ≡ fieldError k (ruleAt k) (field (now (card .entry)) k) ⌝ }
 {
     let f = card::field_at(card, k);
     let n = f.len;
     if 12 < n {
-        return Verdict::Wrong(length_error(k));
+        return CardVerdict::Wrong(length_error(k));
     }
     let bytes = f.bytes;
     field_error(k, &bytes[..n])
 }
 
 // The first error of a card's fields, left to right.
-fn fields_error(card: &[u8]) -> Verdict
+fn fields_error(card: &[u8]) -> CardVerdict
     ensures { λ r. ⌜ r ≡ fieldsError (fields (now (card .entry))) ⌝ }
 {
     let mut k: usize = 0;
@@ -215,21 +215,21 @@ fn fields_error(card: &[u8]) -> Verdict
         }
         k += 1;
     }
-    Verdict::Good
+    CardVerdict::Good
 }
 
 // The errors of the PTY card by itself.
-pub fn pty_error(card: &[u8]) -> Verdict
+pub fn pty_error(card: &[u8]) -> CardVerdict
     ensures { λ r. ⌜ r ≡ ptyError (now (card .entry)) ⌝ }
 {
     if !card::field_is(card, 1, b"PTY") {
-        return Verdict::Wrong(CardError::NotPty);
+        return CardVerdict::Wrong(CardError::NotPty);
     }
     if card::is_malformed(card) {
-        return Verdict::Wrong(CardError::PtyMalformed);
+        return CardVerdict::Wrong(CardError::PtyMalformed);
     }
     if 13 < card::last_field(card) {
-        return Verdict::Wrong(CardError::PtyMalformed);
+        return CardVerdict::Wrong(CardError::PtyMalformed);
     }
     fields_error(card)
 }

@@ -21,8 +21,8 @@ use Rattle.cards_table.specs.Table.{place, tableSize}
 use Rattle.cards_full.specs.Full.{textOf, writeAnswer}
 use Rattle.cards_full.specs.declared.Wrote.{Wrote}
 use Rattle.cards_full.specs.declared.Wrote.the-variants as Written
-use Rattle.cards_request.specs.declared.Verdict.{Verdict}
-use Rattle.cards_request.specs.declared.Verdict.the-variants.{Good, Wrong}
+use Rattle.cards_request.specs.declared.CardVerdict.{CardVerdict}
+use Rattle.cards_request.specs.declared.CardVerdict.the-variants.{Good, Wrong}
 use Rattle.cards_request.specs.declared.Further.{Further}
 use Rattle.cards_request.specs.declared.FullRequest.{FullRequest}
 use Rattle.cards_report.specs.declared.Phase.{Phase}
@@ -61,7 +61,7 @@ abbrev pub cardsRoom : ℕ
 cardsRoom = 1296
 
 -- "with a card error: `SP id ER n`, as the deck program prints it"
-abbrev pub textBy : Verdict → FullRequest → List ℕ → List ℕ
+abbrev pub textBy : CardVerdict → FullRequest → List ℕ → List ℕ
 textBy Good v shown = goodText (writeAnswer v cardsRoom) v shown
 textBy (Wrong e) v shown = errorLine shown e
 

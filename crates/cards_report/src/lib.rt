@@ -4,9 +4,9 @@ use cards_fields::DeckEnd;
 use cards_fields::deck;
 use cards_fields::parts;
 use cards_full::Wrote;
+use cards_request::CardVerdict;
 use cards_request::FullRequest;
 use cards_request::Further;
-use cards_request::Verdict;
 use numbers::Refusal;
 ghost use mathlib.Core.Path.{_≡_};
 ghost use Prim.Native.Nat.{_-_};
@@ -76,7 +76,7 @@ fn put_refusal(out: &mut [u8], at: usize, id: [u8; 6], refusal: Refusal) -> usiz
 
 // Puts a request's cards and its table.
 fn put_good(out: &mut [u8], at: usize, shown: [u8; 6], full: FullRequest) -> usize
-    ensures { λ r. ⌜ Written (now (out .entry)) at (textBy Verdict.Good full shown) (now (out .exit)) r ⌝ }
+    ensures { λ r. ⌜ Written (now (out .entry)) at (textBy CardVerdict.Good full shown) (now (out .exit)) r ⌝ }
 {
     // sixteen cards of 80 characters and LF
     let mut room = [0u8; 1296];
@@ -96,8 +96,8 @@ fn put_group(out: &mut [u8], at: usize, shown: [u8; 6], group: &[u8]) -> usize
     let reading = cards_group::read_full(group);
     let verdict = reading.verdict;
     match verdict {
-        Verdict::Good => put_good(out, at, shown, reading.full),
-        Verdict::Wrong(e) => cards_lines::put_error(out, at, shown, e),
+        CardVerdict::Good => put_good(out, at, shown, reading.full),
+        CardVerdict::Wrong(e) => cards_lines::put_error(out, at, shown, e),
     }
 }
 

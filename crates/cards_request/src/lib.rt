@@ -38,7 +38,7 @@ pub enum CardError {
 }
 
 // Nothing wrong, or what is.
-pub enum Verdict {
+pub enum CardVerdict {
     Good,
     Wrong(CardError),
 }
@@ -140,12 +140,12 @@ pub fn number_of(error: CardError) -> u8
 }
 
 // Whether nothing is wrong.
-pub fn is_good(verdict: Verdict) -> bool
+pub fn is_good(verdict: CardVerdict) -> bool
     ensures { λ r. ⌜ r ≡ good verdict ⌝ }
 {
     match verdict {
-        Verdict::Good => true,
-        Verdict::Wrong(_) => false,
+        CardVerdict::Good => true,
+        CardVerdict::Wrong(_) => false,
     }
 }
 

@@ -20,7 +20,7 @@ use Rattle.cards_request.specs.Errors.{errorIf, good}
 use Rattle.cards_request.proofs.ErrorLaws.{not-error, or-else-none}
 use Rattle.cards_request.specs.declared.CardError.the-variants.{NoIb, TooMuchCore}
 use Rattle.cards_request.specs.declared.Request.{Request}
-use Rattle.cards_request.specs.declared.Verdict.the-variants.{Good}
+use Rattle.cards_request.specs.declared.CardVerdict.the-variants.{Good}
 use Rattle.cards_pty.specs.Pty.{fieldError, fieldsError, lastOfAll, oneOf, programName, ruleAt, rules}
 use Rattle.cards_pty.specs.declared.Priority.{Priority}
 use Rattle.cards_pty.proofs.PtyLaws.{good-field, right, right-at}

@@ -22,8 +22,8 @@ use Rattle.cards_request.specs.declared.CardError.the-variants.{FacMalformed, N
 use Rattle.cards_request.specs.declared.Request.{Request}
 use Rattle.cards_request.specs.declared.Further.{Further}
 use Rattle.cards_request.specs.declared.FullRequest.{FullRequest}
-use Rattle.cards_request.specs.declared.Verdict.{Verdict}
-use Rattle.cards_request.specs.declared.Verdict.the-variants.{Good}
+use Rattle.cards_request.specs.declared.CardVerdict.{CardVerdict}
+use Rattle.cards_request.specs.declared.CardVerdict.the-variants.{Good}
 use Rattle.cards_pty.specs.Pty.{rules, ruleAt, ptyError}
 use Rattle.cards_pty.proofs.PtyLaws.{right-at, good-field, fields-good}
 use Rattle.cards_fac.specs.Fac.{nothing, entriesError, coreError, isFac, entriesOf, asked, facError}
@@ -184,10 +184,10 @@ module _ (n : ℕ) (pty fac : List ℕ) (further : List (List ℕ)) (e : ordered
 
 -- ---- what was read
 
-full-answered : (w : Verdict) (q : Request) (f : Further) (v : FullRequest) → fullAnswer (answer w q .verdict) (answer w q .request) f ≡ record { verdict = Good; full = v }
+full-answered : (w : CardVerdict) (q : Request) (f : Further) (v : FullRequest) → fullAnswer (answer w q .verdict) (answer w q .request) f ≡ record { verdict = Good; full = v }
     → (w ≡ Good) × _≡_ {A = FullRequest} (record { request = q; further = f }) v
 full-answered Good q f v e = (refl, ap (λ (x : FullReading). x .full) e)
-full-answered (Verdict.Wrong x) q f v e = not-good (ap (λ (y : FullReading). y .verdict) e)
+full-answered (CardVerdict.Wrong x) q f v e = not-good (ap (λ (y : FullReading). y .verdict) e)
 
 -- a group that reads as a request has no error, and the request is what its cards say
 pub answered : (group : List (List ℕ)) (v : FullRequest) → readFull group ≡ record { verdict = Good; full = v }

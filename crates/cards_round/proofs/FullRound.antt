@@ -17,7 +17,7 @@ use Rattle.cards_request.specs.Requests.{texts}
 use Rattle.cards_request.specs.declared.Request.{Request}
 use Rattle.cards_request.specs.declared.Further.{Further}
 use Rattle.cards_request.specs.declared.FullRequest.{FullRequest}
-use Rattle.cards_request.specs.declared.Verdict.the-variants.{Good}
+use Rattle.cards_request.specs.declared.CardVerdict.the-variants.{Good}
 use Rattle.cards_fac.specs.Fac.{asked}
 use Rattle.cards_further.specs.Together.{any}
 use Rattle.cards_further.specs.Further.{canonicals, held}

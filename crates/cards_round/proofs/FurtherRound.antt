@@ -21,7 +21,7 @@ use Rattle.cards_fields.proofs.CardLaws.{plain}
 use Rattle.cards_request.specs.Errors.{errorIf, orElse}
 use Rattle.cards_request.proofs.ErrorLaws.{or-else-none, not-error}
 use Rattle.cards_request.specs.declared.CardError.the-variants.{LaterFac, UnknownCard, PmNumber, PmWrong, TalApart, TrnApart}
-use Rattle.cards_request.specs.declared.Verdict.the-variants.{Good}
+use Rattle.cards_request.specs.declared.CardVerdict.the-variants.{Good}
 use Rattle.cards_fac.specs.Fac.{isFac}
 use Rattle.cards_tal.specs.Tal.{isTal}
 use Rattle.cards_trn.specs.Trn.{isTrn, hasCount}

@@ -20,7 +20,7 @@ use Rattle.cards_fields.proofs.FieldLaws.{too-long}
 use Rattle.cards_request.specs.Errors.{errorIf}
 use Rattle.cards_request.proofs.ErrorLaws.{or-else-none, not-error}
 use Rattle.cards_request.specs.declared.CardError.the-variants.{TalWrong, TrnWrong}
-use Rattle.cards_request.specs.declared.Verdict.the-variants.{Good}
+use Rattle.cards_request.specs.declared.CardVerdict.the-variants.{Good}
 use Rattle.cards_fac.specs.Fac.{isFac}
 use Rattle.cards_tal.specs.Tal.{isTal, talError}
 use Rattle.cards_tal.proofs.TalRound.{tal-written, tal-text, tal-proper, tal-short, meantIncrements}

@@ -19,7 +19,7 @@ use Rattle.cards_request.specs.Requests.{textsIn, texts}
 use Rattle.cards_request.proofs.ErrorLaws.{good-is, or-else-none}
 use Rattle.cards_request.specs.declared.FurtherCard.{FurtherCard}
 use Rattle.cards_request.specs.declared.Further.{Further}
-use Rattle.cards_request.specs.declared.Verdict.the-variants.{Good}
+use Rattle.cards_request.specs.declared.CardVerdict.the-variants.{Good}
 use Rattle.cards_further.specs.Further.{typesError, togetherError, contentsError, canonicals, heldIn, held}
 use Rattle.words.specs.Lines.{linesText}
 use Rattle.cards_full.specs.Full.{behindId, short, furtherError, bare, sameCards, takesFurther}

@@ -23,7 +23,7 @@ use Rattle.cards_fields.proofs.RoundLaws.{has-not, leading-join, Named, named, 
 use Rattle.cards_request.specs.Errors.{errorIf, firstOf}
 use Rattle.cards_request.proofs.ErrorLaws.{or-else-none, or-else-good, not-error}
 use Rattle.cards_request.specs.declared.CardError.the-variants.{TalWrong, TalLong}
-use Rattle.cards_request.specs.declared.Verdict.the-variants.{Good}
+use Rattle.cards_request.specs.declared.CardVerdict.the-variants.{Good}
 use Rattle.cards_tal.specs.Tal.{isTal, nameOf, numberOf, slashed, numberError, entryError, entriesError, entriesOf, talError, entryText, entryTexts, talText}
 use Rattle.cards_tal.specs.Increments.{Increment, ProperIncrement, EachIncrement, ProperIncrements, incrementText, incrementTexts, talOf}
 

@@ -25,7 +25,7 @@ use Rattle.cards_fields.proofs.RoundLaws.{has-not, pieces-join, pieces-one, joi
 use Rattle.cards_request.specs.Errors.{errorIf, firstOf}
 use Rattle.cards_request.proofs.ErrorLaws.{or-else-none, or-else-good, not-error}
 use Rattle.cards_request.specs.declared.CardError.the-variants.{TrnWrong, TrnLong}
-use Rattle.cards_request.specs.declared.Verdict.the-variants.{Good}
+use Rattle.cards_request.specs.declared.CardVerdict.the-variants.{Good}
 use Rattle.cards_trn.specs.Trn.{isTrn, isCount, hasCount, countError, isType, isSuccessor, partsOf, part, mostAt, rightAt, partError, partsError, transferError, thirdError, transfersError, trnError, thirdText, fieldTexts, trnText}
 use Rattle.cards_trn.specs.Transfers.{Transfer, ProperTransfer, EachTransfer, isThere, transferText, transferTexts, trnFields, ProperTrn, trnOf}
 

@@ -18,8 +18,8 @@ use Rattle.cards_request.specs.Errors.{errorIf}
 use Rattle.cards_request.proofs.ErrorLaws.{not-good, or-else-none}
 use Rattle.cards_group.specs.Group.{readGroup}
 use Rattle.cards_request.specs.declared.CardError.the-variants.{InSchedule}
-use Rattle.cards_request.specs.declared.Verdict.{Verdict}
-use Rattle.cards_request.specs.declared.Verdict.the-variants.{Good, Wrong}
+use Rattle.cards_request.specs.declared.CardVerdict.{CardVerdict}
+use Rattle.cards_request.specs.declared.CardVerdict.the-variants.{Good, Wrong}
 use Rattle.cards_request.specs.declared.Request.{Request}
 use Rattle.schedule_entries.specs.Entries.{active, blank, firstState, inPlace, isNamed, suspended, waiting}
 use Rattle.schedule_entries.specs.declared.Entry.{Entry}
@@ -93,7 +93,7 @@ module _ (j : ℕ) where
       by true e = not-good e
       by false e = refl
 
-  kept-entering : (s : Schedule) (r : Request) (v : Verdict) → enterError (inSchedule s) r ≡ v → seen j (enteringBy v s r .schedule) ≡ seen j s
+  kept-entering : (s : Schedule) (r : Request) (v : CardVerdict) → enterError (inSchedule s) r ≡ v → seen j (enteringBy v s r .schedule) ≡ seen j s
   kept-entering s r Good e =
       let es = inSchedule s in
       let k = ofName (r .id) es in
@@ -103,7 +103,7 @@ module _ (j : ℕ) where
       ∙ without-apart j k es (open-idle k es (barred-at (r .id) es ∙ not-barred es r e))
   kept-entering s r (Wrong x) e = refl
 
-  kept-tried : (v : Verdict) (s : Schedule) (r : Request) → seen j (triedBy v s r .schedule) ≡ seen j s
+  kept-tried : (v : CardVerdict) (s : Schedule) (r : Request) → seen j (triedBy v s r .schedule) ≡ seen j s
   kept-tried Good s r = kept-entering s r (enterError (inSchedule s) r) refl
   kept-tried (Wrong e) s r = refl
 

@@ -10,7 +10,7 @@ use Rattle.channels.specs.declared.Channel.{Channel}
 use Rattle.configuration.specs.declared.section.Channels.{Channels}
 use Rattle.configuration.specs.declared.section.Downs.{Downs}
 use Rattle.configuration.specs.declared.section.Codes.{Codes}
-use Rattle.configuration.specs.declared.Verdict.the-variants.{Good, Bad}
+use Rattle.configuration.specs.declared.TextVerdict.the-variants.{Good, Bad}
 use Rattle.configuration.specs.declared.Answer.{Answer}
 use Rattle.configuration.specs.Lines.{onNumber, lastNumber}
 use Rattle.channels.specs.Channels.{noChannels, noDown, noCodes}

@@ -11,14 +11,14 @@ ghost use lib.ListN.{length};
 ghost use Rattle.configuration.specs.Configured.{refused, thirdSection, configurationOf};
 
 // Good, or refusal 14 with the first bad or missing line.
-pub enum Verdict {
+pub enum TextVerdict {
     Good,
     Bad(usize),
 }
 
 // The answer to a text; the configuration is empty where the text is bad.
 pub struct Answer {
-    pub verdict: Verdict,
+    pub verdict: TextVerdict,
     pub configuration: Configuration,
 }
 
@@ -27,7 +27,7 @@ fn refuse(line: usize) -> Answer
     ensures { λ r. ⌜ r ≡ refused line ⌝ }
 {
     Answer {
-        verdict: Verdict::Bad(line),
+        verdict: TextVerdict::Bad(line),
         configuration: Configuration {
             channels: channels::no_channels(),
             down: [false; 256],
@@ -80,7 +80,7 @@ pub fn read(s: &[u8]) -> Answer
     }
     let down = second.of;
     Answer {
-        verdict: Verdict::Good,
+        verdict: TextVerdict::Good,
         configuration: Configuration {
             channels,
             down,

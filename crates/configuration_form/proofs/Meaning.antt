@@ -16,8 +16,8 @@ use Rattle.channels.specs.Channels.{noChannels, noDown, noCodes}
 use Rattle.configuration.specs.declared.section.Channels.{Channels}
 use Rattle.configuration.specs.declared.section.Downs.{Downs}
 use Rattle.configuration.specs.declared.section.Codes.{Codes}
-use Rattle.configuration.specs.declared.Verdict.{Verdict}
-use Rattle.configuration.specs.declared.Verdict.the-variants as Verdict′
+use Rattle.configuration.specs.declared.TextVerdict.{TextVerdict}
+use Rattle.configuration.specs.declared.TextVerdict.the-variants as Verdict′
 use Rattle.configuration.specs.declared.Answer.{Answer}
 use Rattle.configuration.specs.Sections.{badCodes, channelsFrom, downsFrom, codesFrom}
 use Rattle.configuration.specs.Configured.{refused, good, andNoMore, thirdSection, withCodes, afterDowns, afterChannels, configurationOf}
@@ -30,11 +30,11 @@ use Rattle.configuration_form.proofs.ChannelLaws.{channelsDue, channel-
 use Rattle.configuration_form.proofs.DownLaws.{downsDue, down-step}
 use Rattle.configuration_form.proofs.CodeLaws.{codesDue, code-step}
 
-abbrev isGood : Verdict → Bool
+abbrev isGood : TextVerdict → Bool
 isGood Verdict′.Good = true
 isGood (Verdict′.Bad line) = false
 
-abbrev lineOf : Verdict → ℕ
+abbrev lineOf : TextVerdict → ℕ
 lineOf Verdict′.Good = 0
 lineOf (Verdict′.Bad line) = line
 

@@ -6,8 +6,8 @@ use mathlib.Core.List.{List}
 use Rattle.numbers.specs.Refusals.{numberOf}
 use Rattle.numbers.specs.declared.Coded.{Coded}
 use Rattle.numbers.specs.declared.Coded.the-variants.{Is, Unknown}
-use Rattle.configuration.specs.declared.Verdict.{Verdict}
-use Rattle.configuration.specs.declared.Verdict.the-variants.{Good, Bad}
+use Rattle.configuration.specs.declared.TextVerdict.{TextVerdict}
+use Rattle.configuration.specs.declared.TextVerdict.the-variants.{Good, Bad}
 use Rattle.functions.specs.Legal.{legalOf}
 use Rattle.assign_core.specs.declared.Found.the-variants.{At, Nothing}
 use Rattle.assign_core.specs.Core as Core
@@ -17,7 +17,7 @@ use Rattle.desk_show.specs.declared.Which.{Which}
 use Rattle.desk_show.specs.declared.Which.the-variants.{Repair, Day, Refused}
 
 -- a verdict as one number: the line of a bad configuration, 0 for a good one
-abbrev pub badLineOf : Verdict → ℕ
+abbrev pub badLineOf : TextVerdict → ℕ
 badLineOf Good = 0
 badLineOf (Bad line) = line
 

@@ -2,7 +2,7 @@
 // arguments on and keeps the promise of the function that it calls. None has a state of its own or a `requires`; what
 // no contract can ask of a caller in another language is in docs/LINKING.md.
 use assign_core::Found;
-use configuration::Verdict;
+use configuration::TextVerdict;
 use desk_show::Which;
 use numbers::Coded;
 ghost use mathlib.Core.Path.{_≡_};
@@ -31,12 +31,12 @@ pub extern "C" fn luffgravel_deck(deck: &[u8], out: &mut [u8; 53248]) -> usize
 }
 
 // The number by which a verdict goes.
-fn bad_line_of(verdict: Verdict) -> usize
+fn bad_line_of(verdict: TextVerdict) -> usize
     ensures { λ r. ⌜ r ≡ badLineOf verdict ⌝ }
 {
     match verdict {
-        Verdict::Good => 0,
-        Verdict::Bad(line) => line,
+        TextVerdict::Good => 0,
+        TextVerdict::Bad(line) => line,
     }
 }
 

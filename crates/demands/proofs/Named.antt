@@ -24,8 +24,8 @@ use Rattle.channels.specs.declared.Configuration.{Configuration}
 use Rattle.cards_fields.specs.Fields.{padded, spaceless}
 use Rattle.cards_group.specs.Group.{readFull, readGroup}
 use Rattle.cards_request.specs.declared.Request.{Request}
-use Rattle.cards_request.specs.declared.Verdict.{Verdict}
-use Rattle.cards_request.specs.declared.Verdict.the-variants.{Good}
+use Rattle.cards_request.specs.declared.CardVerdict.{CardVerdict}
+use Rattle.cards_request.specs.declared.CardVerdict.the-variants.{Good}
 use Rattle.cards_round.specs.Allowed.{Name}
 use Rattle.cards_round.proofs.AllowingFull.{full-allowed}
 use Rattle.cards_round.proofs.Fits.{read-takes}
@@ -162,7 +162,7 @@ read-formed : (g : List (List ℕ)) → readGroup g .verdict ≡ Good → Formed
 read-formed g e =
     let v = readFull g .full in
     let a = groups-alike g in
-    let w : readFull g ≡ record { verdict = Good; full = v } = ap (λ (x : Verdict). record { verdict = x; full = v }) (a .0 ∙ e) in
+    let w : readFull g ≡ record { verdict = Good; full = v } = ap (λ (x : CardVerdict). record { verdict = x; full = v }) (a .0 ∙ e) in
     subst Formed (a .1) (full-allowed v (read-takes g v w) .request .id)
 
 named-acts : (c d : Cell) (x : Rules.Call) → d ≡ acted c x .cell → NamedIn c → NamedIn d

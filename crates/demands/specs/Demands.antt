@@ -43,7 +43,7 @@ use Rattle.cards_fac.specs.Fac.{entriesOf}
 use Rattle.cards_further.specs.Further.{canonicals, held}
 use Rattle.cards_group.specs.Group.{orderedError, readFull, readGroup}
 use Rattle.cards_request.specs.declared.FullRequest.{FullRequest}
-use Rattle.cards_request.specs.declared.Verdict.the-variants.{Good}
+use Rattle.cards_request.specs.declared.CardVerdict.the-variants.{Good}
 use Rattle.cards_full.specs.Full.{behindId, cardsIn, fits, textOf, writeAnswer, written}
 use Rattle.cards_report.specs.Cards.{begin, cardsText, turns}
 use Rattle.cards_table.specs.Table.{place, tableSize}

@@ -22,8 +22,8 @@ use Rattle.words.specs.Lines.{lf}
 use Rattle.cards_fields.specs.Deck.{termination}
 use Rattle.cards_request.specs.Errors.{errorNumber}
 use Rattle.cards_group.specs.Group.{readGroup}
-use Rattle.cards_request.specs.declared.Verdict.{Verdict}
-use Rattle.cards_request.specs.declared.Verdict.the-variants.{Good, Wrong}
+use Rattle.cards_request.specs.declared.CardVerdict.{CardVerdict}
+use Rattle.cards_request.specs.declared.CardVerdict.the-variants.{Good, Wrong}
 use Rattle.schedule_deck.specs.Report.{deckText}
 use Rattle.assign_channels.specs.Choice.{on}
 use Rattle.assign.specs.Assignment.{channelsOf}
@@ -112,7 +112,7 @@ pub data Case : Type 0 where
   Keeps : Configuration → (channel unit : ℕ) → List Watched → Case
 
 -- the number of a group's card error; 0 without
-abbrev pub numberIn : Verdict → ℕ
+abbrev pub numberIn : CardVerdict → ℕ
 numberIn Good = 0
 numberIn (Wrong e) = errorNumber e
 

@@ -11,7 +11,7 @@ use Rattle.numbers.specs.declared.Refusal.the-variants.{NoSuchRequest, JobRuns}
 use Rattle.cards_request.specs.Errors.{errorIf, orElse}
 use Rattle.cards_request.proofs.ErrorLaws.{not-good}
 use Rattle.cards_request.specs.declared.CardError.the-variants.{SamePriority, SameSequence, ScheduleFull}
-use Rattle.cards_request.specs.declared.Verdict.the-variants.{Good}
+use Rattle.cards_request.specs.declared.CardVerdict.the-variants.{Good}
 use Rattle.cards_request.specs.declared.Request.{Request}
 use Rattle.schedule_entries.specs.Entries.{keyOf, sameKey, suspended, active, blank}
 use Rattle.schedule_entries.specs.Questions.{answers}

@@ -6,7 +6,7 @@ use mathlib.Core.List.{List}
 use lib.Dec.{eqb, ltb}
 use lib.ListN.{length}
 use borrow.Author.Tests.{ne-eqb}
-use Rattle.cards_request.specs.declared.Verdict.{Verdict}
+use Rattle.cards_request.specs.declared.CardVerdict.{CardVerdict}
 use Rattle.cards_request.specs.declared.Request.{Request}
 use Rattle.schedule_entries.specs.Questions.{answers}
 use Rattle.schedule_entries.specs.declared.Entry.{Entry}
@@ -38,5 +38,5 @@ module _ (es : List Entry) (r : Request) {n : ℕ} (long : n ≡ length es) wher
   unfolding clashBy clashError sameThere
   met = refl
 
-  pub clash-found : {x y : ℕ} → x ≡ first (answers Ranked (ofKey Ranked r)) es → y ≡ first (answers Keyed (ofKey Keyed r)) es → {v : Verdict} → v ≡ clashBy (ltb x n) (ltb y n) (r .sequence) n → v ≡ clashError es r
+  pub clash-found : {x y : ℕ} → x ≡ first (answers Ranked (ofKey Ranked r)) es → y ≡ first (answers Keyed (ofKey Keyed r)) es → {v : CardVerdict} → v ≡ clashBy (ltb x n) (ltb y n) (r .sequence) n → v ≡ clashError es r
   clash-found e f g = g ∙ rw (asked (ofKey Ranked r) e, asked (ofKey Keyed r) f, long) met

@@ -7,7 +7,7 @@ use lib.Dec.{eqb, leb}
 use Rattle.numbers.specs.declared.Refusal.the-variants.{NoSuchRequest, JobRuns}
 use Rattle.cards_request.specs.Errors.{errorIf, firstOf}
 use Rattle.cards_request.specs.declared.CardError.the-variants.{SamePriority, SameSequence, ScheduleFull}
-use Rattle.cards_request.specs.declared.Verdict.{Verdict}
+use Rattle.cards_request.specs.declared.CardVerdict.{CardVerdict}
 use Rattle.schedule_entries.specs.Entries.{isNamed, suspended, active}
 use Rattle.schedule_entries.specs.declared.State.the-variants.{Waiting, Suspended}
 use Rattle.schedule_entries.specs.declared.Entry.{Entry}
@@ -49,7 +49,7 @@ returnedAt k s inError =
     s
 
 -- what bars a request, by what it meets
-unfoldable pub clashBy : Bool → Bool → ℕ → ℕ → Verdict
+unfoldable pub clashBy : Bool → Bool → ℕ → ℕ → CardVerdict
 clashBy ranked keyed sequence count =
     firstOf
     (errorIf (eqb sequence 0 && ranked) SamePriority

@@ -1,7 +1,7 @@
 // What the calls make of the schedule: what bars a request from entering, a request released or deleted; its job is
 // taken, closes, has returned.
 use cards_request::CardError;
-use cards_request::Verdict;
+use cards_request::CardVerdict;
 use numbers::Outcome;
 use numbers::Refusal;
 use schedule_entries::State;
@@ -13,7 +13,7 @@ ghost use Rattle.schedule.specs.ByIndex.{clashBy};
 // What entering a request comes to: an error and the schedule as it was, or the schedule with the request. Decks are
 // entered in two steps, by an outline.
 pub struct Entering {
-    pub verdict: Verdict,
+    pub verdict: CardVerdict,
     pub schedule: Schedule,
 }
 
@@ -24,21 +24,21 @@ pub struct Changed {
 }
 
 // What bars a request, by what it meets: the same priority, the same sequence as well, or that there are 64.
-pub fn clash_by(ranked: bool, keyed: bool, sequence: u8, count: usize) -> Verdict
+pub fn clash_by(ranked: bool, keyed: bool, sequence: u8, count: usize) -> CardVerdict
     ensures { λ r. ⌜ r ≡ clashBy ranked keyed sequence count ⌝ }
 {
     if ranked {
         if sequence == 0 {
-            return Verdict::Wrong(CardError::SamePriority);
+            return CardVerdict::Wrong(CardError::SamePriority);
         }
     }
     if keyed {
-        return Verdict::Wrong(CardError::SameSequence);
+        return CardVerdict::Wrong(CardError::SameSequence);
     }
     if 64 <= count {
-        return Verdict::Wrong(CardError::ScheduleFull);
+        return CardVerdict::Wrong(CardError::ScheduleFull);
     }
-    Verdict::Good
+    CardVerdict::Good
 }
 
 // A refusal, and the schedule as it was.

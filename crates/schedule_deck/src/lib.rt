@@ -2,8 +2,8 @@
 use cards_fields::DeckEnd;
 use cards_fields::deck;
 use cards_fields::parts;
+use cards_request::CardVerdict;
 use cards_request::Request;
-use cards_request::Verdict;
 use cards_writing::put;
 use numbers::Outcome;
 use schedule_list::Schedule;
@@ -73,22 +73,22 @@ fn put_last(out: &mut [u8], at: usize, id: [u8; 6]) -> usize
 }
 
 // Puts the line of an error, nothing where there is none.
-fn put_verdict(out: &mut [u8], at: usize, shown: [u8; 6], verdict: Verdict) -> usize
+fn put_verdict(out: &mut [u8], at: usize, shown: [u8; 6], verdict: CardVerdict) -> usize
     ensures { λ r. ⌜ Written (now (out .entry)) at (lineBy verdict shown) (now (out .exit)) r ⌝ }
 {
     match verdict {
-        Verdict::Good => at,
-        Verdict::Wrong(e) => cards_lines::put_error(out, at, shown, e),
+        CardVerdict::Good => at,
+        CardVerdict::Wrong(e) => cards_lines::put_error(out, at, shown, e),
     }
 }
 
 // The last good ID: that of a request without error, else the one before.
-fn last_by(verdict: Verdict, last: [u8; 6], id: [u8; 6]) -> [u8; 6]
+fn last_by(verdict: CardVerdict, last: [u8; 6], id: [u8; 6]) -> [u8; 6]
     ensures { λ r. ⌜ r ≡ lastBy verdict last id ⌝ }
 {
     match verdict {
-        Verdict::Good => id,
-        Verdict::Wrong(_) => last,
+        CardVerdict::Good => id,
+        CardVerdict::Wrong(_) => last,
     }
 }
 

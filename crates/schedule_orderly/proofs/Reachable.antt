@@ -14,8 +14,8 @@ use Rattle.numbers.proofs.Tests.{by-bool}
 use Rattle.cards_request.specs.Errors.{errorIf}
 use Rattle.cards_request.proofs.ErrorLaws.{or-else-none}
 use Rattle.cards_request.specs.declared.CardError.the-variants.{InSchedule}
-use Rattle.cards_request.specs.declared.Verdict.{Verdict}
-use Rattle.cards_request.specs.declared.Verdict.the-variants.{Good, Wrong}
+use Rattle.cards_request.specs.declared.CardVerdict.{CardVerdict}
+use Rattle.cards_request.specs.declared.CardVerdict.the-variants.{Good, Wrong}
 use Rattle.cards_request.specs.declared.Request.{Request}
 use Rattle.schedule_entries.specs.Entries.{isNamed, suspended, active, firstState}
 use Rattle.schedule_entries.specs.declared.State.{State}
@@ -79,7 +79,7 @@ module _ (s : Schedule) (d : Sound s) where
       orderly-inserted (record { request = r; state = firstState r }) others (none-named r (inSchedule s) (d .orderly .names)) (none-same r others (c .0))
       (leb-false most (length others) (c .1)) (orderly-removed (isNamed (r .id)) (inSchedule s) (d .orderly))
 
-  sound-entering : (r : Request) (v : Verdict) → enterError (inSchedule s) r ≡ v → Sound (enteringBy v s r .schedule)
+  sound-entering : (r : Request) (v : CardVerdict) → enterError (inSchedule s) r ≡ v → Sound (enteringBy v s r .schedule)
   sound-entering r Good e = sound-of _ (orderly-entered r e)
   sound-entering r (Wrong x) e = d
 
@@ -90,7 +90,7 @@ module _ (s : Schedule) (d : Sound s) where
   pub each-enter : (P : Request → Type 0) (r : Request) → P r → Each P (requests (inSchedule s)) → Each P (requests (inSchedule (entering s r .schedule)))
   each-enter P r p h = by (enterError (inSchedule s) r)
     where
-      by : (v : Verdict) → Each P (requests (inSchedule (enteringBy v s r .schedule)))
+      by : (v : CardVerdict) → Each P (requests (inSchedule (enteringBy v s r .schedule)))
       by Good =
           subst (λ (l : List Entry). Each P (requests l)) (sym (in-of (entered (inSchedule s) r)))
           (each-inserted P (record { request = r; state = firstState r }) (removed (isNamed (r .id)) (inSchedule s)) p (each-removed P (isNamed (r .id)) (inSchedule s) h))
