@@ -25,8 +25,8 @@ use Rattle.cards_request.specs.declared.CardVerdict.{CardVerdict}
 use Rattle.cards_request.specs.declared.CardVerdict.the-variants.{Good, Wrong}
 use Rattle.cards_request.specs.declared.Further.{Further}
 use Rattle.cards_request.specs.declared.FullRequest.{FullRequest}
-use Rattle.cards_report.specs.declared.Phase.{Phase}
-use Rattle.cards_report.specs.declared.Phase.the-variants.{Groups, Refused, Over}
+use Rattle.cards_report.specs.declared.Coming.{Coming}
+use Rattle.cards_report.specs.declared.Coming.the-variants.{Groups, Refused, Over}
 use Rattle.cards_report.specs.declared.Printing.{Printing}
 use Rattle.cards_report.specs.declared.Printed.{Printed}
 
@@ -88,8 +88,8 @@ cardsText s = cardsBy (deckEnd s) s
 
 -- PIECE BY PIECE: before the first, the whole deck is to come
 abbrev pub beginBy : DeckEnd → Printing
-beginBy (Ends.At n) = record { phase = Groups; from = 0; end = n; shown = bytes "------" }
-beginBy (Ends.Refused refusal) = record { phase = Refused refusal; from = 0; end = 0; shown = bytes "------" }
+beginBy (Ends.At n) = record { coming = Groups; from = 0; end = n; shown = bytes "------" }
+beginBy (Ends.Refused refusal) = record { coming = Refused refusal; from = 0; end = 0; shown = bytes "------" }
 
 abbrev pub begin : List ℕ → Printing
 begin s = beginBy (deckEnd s)
@@ -99,28 +99,28 @@ abbrev pub left : List ℕ → Printing → List (List (List ℕ))
 left s p = groupsOf (cardsOf (take (p .end - p .from) (drop (p .from) s)))
 
 -- the next piece is one group's, or the last line, or that of a refused deck
-abbrev pub pieceBy : Phase → List (List (List ℕ)) → List ℕ → List ℕ
+abbrev pub pieceBy : Coming → List (List (List ℕ)) → List ℕ → List ℕ
 pieceBy Groups [] shown = endText
 pieceBy Groups (g ∷ gs) shown = groupText shown g
 pieceBy (Refused refusal) gs shown = refusedText refusal
 pieceBy Over gs shown = []
 
 abbrev pub piece : List ℕ → Printing → List ℕ
-piece s p = pieceBy (p .phase) (left s p) (p .shown)
+piece s p = pieceBy (p .coming) (left s p) (p .shown)
 
 -- nothing more is to come
 abbrev pub over : Printing → Printing
-over p = record { phase = Over; from = p .from; end = p .end; shown = p .shown }
+over p = record { coming = Over; from = p .from; end = p .end; shown = p .shown }
 
 -- what is to come behind it
-abbrev pub nextBy : Phase → List (List (List ℕ)) → Printing → Printing
+abbrev pub nextBy : Coming → List (List (List ℕ)) → Printing → Printing
 nextBy Groups [] p = over p
-nextBy Groups (g ∷ gs) p = record { phase = Groups; from = p .from + size g; end = p .end; shown = shownBy (getD g 0 []) (p .shown) }
+nextBy Groups (g ∷ gs) p = record { coming = Groups; from = p .from + size g; end = p .end; shown = shownBy (getD g 0 []) (p .shown) }
 nextBy (Refused refusal) gs p = over p
 nextBy Over gs p = over p
 
 abbrev pub after : List ℕ → Printing → Printing
-after s p = nextBy (p .phase) (left s p) p
+after s p = nextBy (p .coming) (left s p) p
 
 -- so many pieces, one behind the other
 abbrev pub turns : ℕ → List ℕ → Printing → List ℕ

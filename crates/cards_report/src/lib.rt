@@ -20,7 +20,7 @@ ghost use Rattle.cards_report.specs.Cards.{tableText, refusalLine, textB
 pub const TURNS: usize = 65537;
 
 // What is to come: groups, the line of a refused deck, or nothing.
-pub enum Phase {
+pub enum Coming {
     Groups,
     Refused(Refusal),
     Over,
@@ -29,7 +29,7 @@ pub enum Phase {
 // How far a deck is printed: the groups from `from` up to `end` are to come, and `shown` is the ID that an error line
 // shows.
 pub struct Printing {
-    pub phase: Phase,
+    pub coming: Coming,
     pub from: usize,
     pub end: usize,
     pub shown: [u8; 6],
@@ -107,7 +107,7 @@ fn over(p: Printing) -> Printing
 {
     let shown = p.shown;
     Printing {
-        phase: Phase::Over,
+        coming: Coming::Over,
         from: p.from,
         end: p.end,
         shown,
@@ -121,13 +121,13 @@ pub fn begin(deck: &[u8]) -> Printing
     let end = deck::deck_end(deck);
     match end {
         DeckEnd::At(n) => Printing {
-            phase: Phase::Groups,
+            coming: Coming::Groups,
             from: 0,
             end: n,
             shown: *b"------",
         },
         DeckEnd::Refused(refusal) => Printing {
-            phase: Phase::Refused(refusal),
+            coming: Coming::Refused(refusal),
             from: 0,
             end: 0,
             shown: *b"------",
@@ -155,7 +155,7 @@ fn rest(deck: &[u8], p: Printing) -> &[u8]
 
 // Puts the next group, or the last line where there is none.
 fn put_next(out: &mut [u8; 2048], deck: &[u8], p: Printing) -> Printed
-    requires { ⌜ p .phase ≡ Phase.Groups ⌝ }
+    requires { ⌜ p .coming ≡ Coming.Groups ⌝ }
     ensures { λ r. ⌜ Prints (now (deck .entry)) p (now (out .entry)) (now (out .exit)) r ⌝ }
 {
     let group = deck::first_group(rest(deck, p));
@@ -169,7 +169,7 @@ fn put_next(out: &mut [u8; 2048], deck: &[u8], p: Printing) -> Printed
     let shown = cards_lines::shown_by(deck::card_at(group, 0), before);
     let at = put_group(out, 0, shown, group);
     let printing = Printing {
-        phase: Phase::Groups,
+        coming: Coming::Groups,
         from: p.from + n,
         end: p.end,
         shown,
@@ -181,15 +181,15 @@ fn put_next(out: &mut [u8; 2048], deck: &[u8], p: Printing) -> Printed
 pub fn next(deck: &[u8], printing: Printing, out: &mut [u8; 2048]) -> Printed
     ensures { λ r. ⌜ Prints (now (deck .entry)) printing (now (out .entry)) (now (out .exit)) r ⌝ }
 {
-    let phase = printing.phase;
-    match phase {
-        Phase::Groups => put_next(out, deck, printing),
-        Phase::Refused(refusal) => {
+    let coming = printing.coming;
+    match coming {
+        Coming::Groups => put_next(out, deck, printing),
+        Coming::Refused(refusal) => {
             let at = cards_lines::put_refused(out, 0, refusal);
             let last = over(printing);
             Printed { at, printing: last }
         }
-        Phase::Over => {
+        Coming::Over => {
             let last = over(printing);
             Printed {
                 at: 0,

@@ -1,13 +1,13 @@
 // Runs each case of data/ and compares: the arguments are the names of the decks, each before what must come out. A deck
 // is printed piece by piece, and each piece is compared with what is left of the wanted text.
-use cards_report::Phase;
+use cards_report::Coming;
 
 // Whether nothing more is to be printed.
-fn is_over(phase: Phase) -> bool {
-    match phase {
-        Phase::Groups => false,
-        Phase::Refused(_) => false,
-        Phase::Over => true,
+fn is_over(coming: Coming) -> bool {
+    match coming {
+        Coming::Groups => false,
+        Coming::Refused(_) => false,
+        Coming::Over => true,
     }
 }
 
@@ -18,8 +18,8 @@ fn prints(deck: &[u8], wanted: &[u8]) -> bool {
     let mut from: usize = 0;
     let mut left = cards_report::TURNS;
     while 0 < left {
-        let phase = printing.phase;
-        if is_over(phase) {
+        let coming = printing.coming;
+        if is_over(coming) {
             return from == wanted.len();
         }
         let printed = cards_report::next(deck, printing, &mut room);

@@ -204,7 +204,7 @@ pub record Demand1 : Type 0 where
       → part ≡ partOf r repair day
   -- and the desk program prints what is due for its input, in whatever pieces that comes
   pub deskPrints : (s t : Desk.Standing) (calls : List Desk.Call) (last : List ℕ) → Desk.Begins s → Desk.Runs s calls t
-      → Desk.Ends (t .desk .phase) t last → Prints (Desk.inputOf calls) (Desk.printed calls ++ last)
+      → Desk.Ends (t .desk .stage) t last → Prints (Desk.inputOf calls) (Desk.printed calls ++ last)
 
 -- the cell with other units
 abbrev pub withUnits : Cell → List (List UnitState) → Cell

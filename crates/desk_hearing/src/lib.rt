@@ -14,7 +14,7 @@ ghost use Rattle.desk_hearing.specs.Hearing.{deskOf, fresh, standing, He
 ghost use Rattle.desk_hearing.specs.Putting.{Answered};
 
 // What the next line belongs to: the repair deck, the day's deck, or the IDs that are asked for.
-pub enum Phase {
+pub enum Stage {
     GathersRepair,
     GathersDay,
     Asks,
@@ -23,7 +23,7 @@ pub enum Phase {
 // What the next line belongs to, and how many bytes of the repair deck, of the day's deck and of that line stand in
 // their rooms.
 pub struct Desk {
-    pub phase: Phase,
+    pub stage: Stage,
     pub repair: usize,
     pub day: usize,
     pub line: usize,
@@ -37,11 +37,11 @@ pub struct Hearing {
 }
 
 // A desk of these parts.
-fn desk_of(phase: Phase, repair: usize, day: usize, line: usize) -> Desk
-    ensures { λ r. ⌜ r ≡ deskOf phase repair day line ⌝ }
+fn desk_of(stage: Stage, repair: usize, day: usize, line: usize) -> Desk
+    ensures { λ r. ⌜ r ≡ deskOf stage repair day line ⌝ }
 {
     Desk {
-        phase,
+        stage,
         repair,
         day,
         line,
@@ -59,7 +59,7 @@ fn what_was_heard(desk: Desk, taken: usize, at: usize) -> Hearing
 pub fn fresh() -> Desk
     ensures { λ r. ⌜ r ≡ fresh ⌝ }
 {
-    desk_of(Phase::GathersRepair, 0, 0, 0)
+    desk_of(Stage::GathersRepair, 0, 0, 0)
 }
 
 // Puts a card with its LF behind the bytes of its deck; what is past the room's end is cut off. The room has a byte more
@@ -72,7 +72,7 @@ fn put_card(room: &mut [u8], kept: usize, card: &[u8]) -> usize
 }
 
 // What the line behind a card belongs to: what is next, if that was the termination card.
-fn behind_card(card: &[u8], gathers: Phase, next: Phase) -> Phase
+fn behind_card(card: &[u8], gathers: Stage, next: Stage) -> Stage
     ensures { λ r. ⌜ r ≡ cond (isTermination (now (card .entry))) next gathers ⌝ }
 {
     if deck::is_termination(card) {
@@ -121,27 +121,27 @@ pub fn hear(
     let cut = shift_lines::take_up(line, desk.line, piece);
     let kept = cut.kept;
     let taken = cut.taken;
-    let phase = desk.phase;
+    let stage = desk.stage;
     if !cut.whole {
-        return what_was_heard(desk_of(phase, desk.repair, desk.day, kept), taken, 0);
+        return what_was_heard(desk_of(stage, desk.repair, desk.day, kept), taken, 0);
     }
     let whole = shift_lines::front(line, kept);
-    match phase {
-        Phase::GathersRepair => {
+    match stage {
+        Stage::GathersRepair => {
             let n = put_card(repair, desk.repair, whole);
-            let next = behind_card(whole, Phase::GathersRepair, Phase::GathersDay);
+            let next = behind_card(whole, Stage::GathersRepair, Stage::GathersDay);
             what_was_heard(desk_of(next, n, desk.day, 0), taken, 0)
         }
-        Phase::GathersDay => {
+        Stage::GathersDay => {
             let n = put_card(day, desk.day, whole);
-            let next = behind_card(whole, Phase::GathersDay, Phase::Asks);
+            let next = behind_card(whole, Stage::GathersDay, Stage::Asks);
             what_was_heard(desk_of(next, desk.repair, n, 0), taken, 0)
         }
-        Phase::Asks => {
+        Stage::Asks => {
             let first = shift_lines::front(repair, desk.repair);
             let second = shift_lines::front(day, desk.day);
             let at = put_answer(out, whole, first, second);
-            what_was_heard(desk_of(Phase::Asks, desk.repair, desk.day, 0), taken, at)
+            what_was_heard(desk_of(Stage::Asks, desk.repair, desk.day, 0), taken, at)
         }
     }
 }
@@ -157,11 +157,11 @@ pub fn finish<'a>(
     ensures { λ r. ⌜ Ended (standing desk (now (line .entry)) (now (repair .entry)) (now (day .entry)))
         (now (out .entry)) (now (out .exit)) r ⌝ }
 {
-    let phase = desk.phase;
-    match phase {
-        Phase::GathersRepair => shift_pieces::put_refused(out, 0, Refusal::BadDeck),
-        Phase::GathersDay => shift_pieces::put_refused(out, 0, Refusal::BadDeck),
-        Phase::Asks => {
+    let stage = desk.stage;
+    match stage {
+        Stage::GathersRepair => shift_pieces::put_refused(out, 0, Refusal::BadDeck),
+        Stage::GathersDay => shift_pieces::put_refused(out, 0, Refusal::BadDeck),
+        Stage::Asks => {
             if desk.line == 0 {
                 return 0;
             }
