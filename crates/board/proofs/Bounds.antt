@@ -37,8 +37,8 @@ use Rattle.packets.specs.declared.Packet.{Packet}
 use Rattle.packets.specs.declared.Motion.{Motion}
 use Rattle.packets.specs.declared.Motion.the-variants.{Idle, Busy}
 use Rattle.packets.specs.declared.Lists.{Lists}
-use Rattle.shift_pieces.specs.Pieces.{packetText, spanText, wordText, eachOf}
-use Rattle.shift_pieces.proofs.PieceLaws.{each-bound, of-bound}
+use Rattle.answer_pieces.specs.Pieces.{packetText, spanText, wordText, eachOf}
+use Rattle.answer_pieces.proofs.PieceLaws.{each-bound, of-bound}
 use Rattle.board_jobs.specs.Places.{idIn, jobText, placeText, placesText}
 use Rattle.board_jobs.specs.Blocks.{blockByte, blocksText, coreText}
 use Rattle.board_units.specs.Units.{holderText, isLocked, stateText, unitLine, channelText, unitsText}

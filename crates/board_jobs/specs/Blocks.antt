@@ -9,7 +9,7 @@ use Rattle.packets.specs.State.{inRun, isEmpty}
 use Rattle.packets.specs.declared.Core.{Core}
 use Rattle.packets.specs.declared.Job.{Job}
 use Rattle.packets.specs.declared.JobState.{JobState}
-use Rattle.shift_pieces.specs.Pieces.{each}
+use Rattle.answer_pieces.specs.Pieces.{each}
 
 -- a place that is not empty holds the blocks of its job's core
 unfoldable pub holdsBlock : JobState → Core → ℕ → Bool

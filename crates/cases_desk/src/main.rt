@@ -29,20 +29,20 @@ fn play(input: &[u8], size: usize, out: &mut [u8; 16396], said: &mut [u8; 65536]
         let heard = desk_hearing::hear(desk, piece, &mut line, &mut repair, &mut day, out);
         desk = heard.desk;
         at += heard.taken;
-        len = text::put_bytes(said, len, shift_lines::front(out, heard.at));
+        len = text::put_bytes(said, len, input_lines::front(out, heard.at));
     }
     let last = desk_hearing::finish(desk, &line, &repair, &day, out);
-    text::put_bytes(said, len, shift_lines::front(out, last))
+    text::put_bytes(said, len, input_lines::front(out, last))
 }
 
 // Whether all that is printed of an input, whole and in pieces, is this text.
 fn prints(input: &[u8], out: &mut [u8; 16396], said: &mut [u8; 65536], wanted: &[u8]) -> bool {
     let whole = play(input, 65536, out, said);
-    if !check::same(shift_lines::front(said, whole), wanted) {
+    if !check::same(input_lines::front(said, whole), wanted) {
         return false;
     }
     let pieces = play(input, 7, out, said);
-    check::same(shift_lines::front(said, pieces), wanted)
+    check::same(input_lines::front(said, pieces), wanted)
 }
 
 // Whether what is printed of file i is file j; a missing one is a failure.

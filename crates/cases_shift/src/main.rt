@@ -12,7 +12,7 @@ fn finish(
     len: usize,
 ) -> usize {
     let n = shift_hearing::finish(shift, kept, line, room, answer);
-    text::put_bytes(said, len, shift_lines::front(answer, n))
+    text::put_bytes(said, len, input_lines::front(answer, n))
 }
 
 // Plays a script, its lines taken up in the room for one: all that is answered, and how long that is.
@@ -41,7 +41,7 @@ fn play(
         shift = heard.shift;
         kept = heard.len;
         at += heard.taken;
-        len = text::put_bytes(said, len, shift_lines::front(out, heard.at));
+        len = text::put_bytes(said, len, input_lines::front(out, heard.at));
     }
     finish(shift, kept, line, &mut room, &mut answer, said, len)
 }
@@ -55,7 +55,7 @@ fn says(
     wanted: &[u8],
 ) -> bool {
     let length = play(script, line, out, said);
-    check::same(shift_lines::front(said, length), wanted)
+    check::same(input_lines::front(said, length), wanted)
 }
 
 // Whether the answers to the script in file i are file j; a missing one is a failure.

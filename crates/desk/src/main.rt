@@ -13,7 +13,7 @@ struct Talked {
 
 // Writes the first n bytes, and answers whether that went well; where it did not, says so on standard error.
 fn written(out: &[u8], n: usize) -> bool {
-    let well = io::write_all(STDOUT_FILENO, shift_lines::front(out, n));
+    let well = io::write_all(STDOUT_FILENO, input_lines::front(out, n));
     if !well {
         io::write_all(STDERR_FILENO, b"desk: an answer could not be written\n");
     }

@@ -17,7 +17,7 @@ use Rattle.text.specs.Writing.{decimalText}
 use Rattle.text.proofs.RoomLaws.{none, andThen, entire}
 use Rattle.text.proofs.Undo.{few-digits}
 use Rattle.cards_fields.proofs.Groups.{ends}
-use Rattle.shift_pieces.specs.Pieces.{noText, noLine}
+use Rattle.answer_pieces.specs.Pieces.{noText, noLine}
 use Rattle.desk_show.specs.Showing.{IsRead, ShowsFrom, bad, ofRepair, ofDay, nobody, partIn, partOf, Shows}
 use Rattle.desk_show.specs.declared.Extent.{Extent}
 use Rattle.desk_show.specs.declared.Which.{Which}

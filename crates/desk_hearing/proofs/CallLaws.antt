@@ -11,10 +11,10 @@ use Rattle.numbers.specs.declared.Refusal.the-variants.{BadDeck}
 use Rattle.text.specs.Room.{Written, Whole}
 use Rattle.words.specs.Lines.{lineText}
 use Rattle.cards_fields.specs.Deck.{isTermination}
-use Rattle.shift_lines.specs.Lines.{TakesUp}
-use Rattle.shift_lines.specs.declared.Cut.{Cut}
-use Rattle.shift_lines.proofs.LineLaws.{taken-within as lines-within}
-use Rattle.shift_pieces.specs.Pieces.{noLine}
+use Rattle.input_lines.specs.Lines.{TakesUp}
+use Rattle.input_lines.specs.declared.Cut.{Cut}
+use Rattle.input_lines.proofs.LineLaws.{taken-within as lines-within}
+use Rattle.answer_pieces.specs.Pieces.{noLine}
 use Rattle.desk_hearing.specs.Printing.{Says}
 use Rattle.desk_hearing.specs.Hearing.{deskOf, Standing, standing, lineIn, repairIn, dayIn, Turns, TurnsIf, Heard, EndsIf, Ends, Ended}
 use Rattle.desk_hearing.specs.Putting.{Answered}

@@ -9,8 +9,8 @@ use lib.ListN.{length, take}
 use Rattle.numbers.proofs.Tests.{never}
 use Rattle.text.specs.Room.{Whole}
 use Rattle.text.proofs.RoomLaws.{written-one, whole-one}
-use Rattle.shift_lines.specs.Lines.{TakesUp}
-use Rattle.shift_lines.specs.declared.Cut.{Cut}
+use Rattle.input_lines.specs.Lines.{TakesUp}
+use Rattle.input_lines.specs.declared.Cut.{Cut}
 use Rattle.desk_show.specs.declared.Extent.{Extent}
 use Rattle.desk_show.proofs.Unique.{shows-one}
 use Rattle.desk_hearing.specs.Printing.{deckOf, behindDeck, asked, closing, Says, SaysAll, Prints, unread, read}

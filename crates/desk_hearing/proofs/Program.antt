@@ -14,8 +14,8 @@ use Rattle.words.specs.Lines.{lf, lineOf, lineText}
 use Rattle.words.proofs.WordLaws.{leading-front}
 use Rattle.words.proofs.LineLaws.{NoLf, no-lf-append, line-clean, line-split}
 use Rattle.cards_fields.specs.Deck.{isTermination}
-use Rattle.shift_lines.specs.Lines.{TakesUp}
-use Rattle.shift_lines.specs.declared.Cut.{Cut}
+use Rattle.input_lines.specs.Lines.{TakesUp}
+use Rattle.input_lines.specs.declared.Cut.{Cut}
 use Rattle.desk_hearing.specs.Printing.{lastLine, Says, SaysAll, Prints}
 use Rattle.desk_hearing.specs.Hearing.{Standing, lineIn, repairIn, dayIn, Turns, TurnsIf, Hears, EndsIf, Ends, Call, Runs, inputOf, printed, Begins}
 use Rattle.desk_hearing.specs.declared.Stage.{Stage}

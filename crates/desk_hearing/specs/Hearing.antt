@@ -11,9 +11,9 @@ use Rattle.numbers.specs.declared.Refusal.the-variants.{BadDeck}
 use Rattle.text.specs.Room.{Written, Whole}
 use Rattle.words.specs.Lines.{lineText}
 use Rattle.cards_fields.specs.Deck.{isTermination}
-use Rattle.shift_lines.specs.Lines.{TakesUp}
-use Rattle.shift_lines.specs.declared.Cut.{Cut}
-use Rattle.shift_pieces.specs.Pieces.{noLine}
+use Rattle.input_lines.specs.Lines.{TakesUp}
+use Rattle.input_lines.specs.declared.Cut.{Cut}
+use Rattle.answer_pieces.specs.Pieces.{noLine}
 use Rattle.desk_hearing.specs.Printing.{Says}
 use Rattle.desk_hearing.specs.declared.Stage.{Stage}
 use Rattle.desk_hearing.specs.declared.Stage.the-variants.{GathersRepair, GathersDay, Asks}

@@ -88,7 +88,7 @@ fn put_closing(out: &mut [u8], at: usize, which: Which) -> usize
     match which {
         Which::Repair => text::put_bytes(out, at, b"FROM REPAIR\n"),
         Which::Day => text::put_bytes(out, at, b"FROM DAY\n"),
-        Which::Refused(refusal) => shift_pieces::put_refused(out, at, refusal),
+        Which::Refused(refusal) => answer_pieces::put_refused(out, at, refusal),
     }
 }
 
@@ -118,14 +118,14 @@ pub fn hear(
         (standing (r .desk) (now (line .exit)) (now (repair .exit)) (now (day .exit)))
         (r .taken) (now (out .entry)) (now (out .exit)) (r .at) ⌝ }
 {
-    let cut = shift_lines::take_up(line, desk.line, piece);
+    let cut = input_lines::take_up(line, desk.line, piece);
     let kept = cut.kept;
     let taken = cut.taken;
     let stage = desk.stage;
     if !cut.whole {
         return what_was_heard(desk_of(stage, desk.repair, desk.day, kept), taken, 0);
     }
-    let whole = shift_lines::front(line, kept);
+    let whole = input_lines::front(line, kept);
     match stage {
         Stage::GathersRepair => {
             let n = put_card(repair, desk.repair, whole);
@@ -138,8 +138,8 @@ pub fn hear(
             what_was_heard(desk_of(next, desk.repair, n, 0), taken, 0)
         }
         Stage::Asks => {
-            let first = shift_lines::front(repair, desk.repair);
-            let second = shift_lines::front(day, desk.day);
+            let first = input_lines::front(repair, desk.repair);
+            let second = input_lines::front(day, desk.day);
             let at = put_answer(out, whole, first, second);
             what_was_heard(desk_of(Stage::Asks, desk.repair, desk.day, 0), taken, at)
         }
@@ -159,15 +159,15 @@ pub fn finish<'a>(
 {
     let stage = desk.stage;
     match stage {
-        Stage::GathersRepair => shift_pieces::put_refused(out, 0, Refusal::BadDeck),
-        Stage::GathersDay => shift_pieces::put_refused(out, 0, Refusal::BadDeck),
+        Stage::GathersRepair => answer_pieces::put_refused(out, 0, Refusal::BadDeck),
+        Stage::GathersDay => answer_pieces::put_refused(out, 0, Refusal::BadDeck),
         Stage::Asks => {
             if desk.line == 0 {
                 return 0;
             }
-            let first = shift_lines::front(repair, desk.repair);
-            let second = shift_lines::front(day, desk.day);
-            put_answer(out, shift_lines::front(line, desk.line), first, second)
+            let first = input_lines::front(repair, desk.repair);
+            let second = input_lines::front(day, desk.day);
+            put_answer(out, input_lines::front(line, desk.line), first, second)
         }
     }
 }

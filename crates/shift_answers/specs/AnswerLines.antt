@@ -8,7 +8,7 @@ use Rattle.packets.specs.declared.Site.{Site}
 use Rattle.packets.specs.declared.Site.the-variants.{AtAddress, AtUnit}
 use Rattle.packets.specs.declared.Status.{Status}
 use Rattle.packets.specs.declared.Status.the-variants.{Blank, Listed, InProgress, Stopping, Ended}
-use Rattle.shift_pieces.specs.Pieces.{packetText}
+use Rattle.answer_pieces.specs.Pieces.{packetText}
 
 -- a call that answers nothing else: `ACK`
 abbrev pub doneText : List ℕ

@@ -99,7 +99,7 @@ fn answer_call(
     let handled = shift_packets::reply(lists, call, answer);
     let after = handled.lists;
     let said = handled.answer;
-    let end = text::put_bytes(out, at, shift_lines::front(answer, handled.at));
+    let end = text::put_bytes(out, at, input_lines::front(answer, handled.at));
     Handled {
         lists: after,
         answer: said,
@@ -121,7 +121,7 @@ fn answer_line(
 {
     let turn = shift_turns::take_line(shift, line, room, answer);
     let after = turn.shift;
-    let end = text::put_bytes(out, at, shift_lines::front(answer, turn.at));
+    let end = text::put_bytes(out, at, input_lines::front(answer, turn.at));
     Turn {
         shift: after,
         at: end,
@@ -153,11 +153,11 @@ pub fn hear(
     let mut taken: usize = 0;
     let mut at: usize = 0;
     while taken < piece.len() && at <= 12288 {
-        let cut = shift_lines::take_up(line, kept, &piece[taken..]);
+        let cut = input_lines::take_up(line, kept, &piece[taken..]);
         taken += cut.taken;
         kept = cut.kept;
         if cut.whole {
-            let call = asked(phase, shift_lines::front(line, kept));
+            let call = asked(phase, input_lines::front(line, kept));
             if shift_packets::is_for_lists(call) {
                 let handled = answer_call(lists, call, answer, out, at);
                 let said = handled.answer;
@@ -168,7 +168,7 @@ pub fn hear(
                 }
             } else {
                 let now = shift_of(phase, schedule, lists);
-                let turn = answer_line(now, shift_lines::front(line, kept), room, answer, out, at);
+                let turn = answer_line(now, input_lines::front(line, kept), room, answer, out, at);
                 let next = turn.shift;
                 let after = next.cell;
                 phase = next.phase;
@@ -193,5 +193,5 @@ pub fn finish(
     ensures { λ r. ⌜ Ends (shift .phase) (shift .cell) (take len (now (line .entry))) (now (room .entry)) (now (room .exit))
         (now (answer .entry)) (now (answer .exit)) r ⌝ }
 {
-    shift_turns::end_of_input(shift, shift_lines::front(line, len), room, answer)
+    shift_turns::end_of_input(shift, input_lines::front(line, len), room, answer)
 }

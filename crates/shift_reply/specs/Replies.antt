@@ -20,7 +20,7 @@ use Rattle.cell.specs.declared.Answered.{Answered}
 use Rattle.cell.specs.declared.Cell.{Cell}
 use Rattle.cell.specs.declared.Heeded.{Heeded}
 use Rattle.cell.specs.declared.SelectAnswer.{SelectAnswer}
-use Rattle.shift_pieces.specs.Pieces.{noText, noLine}
+use Rattle.answer_pieces.specs.Pieces.{noText, noLine}
 use Rattle.shift_answers.specs.AnswerLines.{noCallText}
 use Rattle.shift_packets.specs.Texts.{answerText, statusAnswerText, submission}
 use Rattle.shift_selected.specs.Selected.{selectedText, partText}

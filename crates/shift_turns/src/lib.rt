@@ -131,7 +131,7 @@ fn passes(cell: Cell, line: &[u8], out: &mut [u8; 53248]) -> Turn
         return turned(
             Phase::Talks,
             cell,
-            shift_pieces::put_refused(out, 0, Refusal::BadDeck),
+            answer_pieces::put_refused(out, 0, Refusal::BadDeck),
         );
     }
     turned(Phase::Passes, cell, 0)
@@ -190,8 +190,8 @@ fn close(phase: Phase, at: usize, out: &mut [u8; 53248]) -> usize
     match phase {
         Phase::Begins(_) => at,
         Phase::Talks => at,
-        Phase::Gathers(_) => shift_pieces::put_refused(out, at, Refusal::BadDeck),
-        Phase::Passes => shift_pieces::put_refused(out, at, Refusal::BadDeck),
+        Phase::Gathers(_) => answer_pieces::put_refused(out, at, Refusal::BadDeck),
+        Phase::Passes => answer_pieces::put_refused(out, at, Refusal::BadDeck),
         Phase::Over => at,
     }
 }

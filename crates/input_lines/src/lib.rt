@@ -2,7 +2,7 @@
 // came before.
 ghost use mathlib.Core.Path.{_≡_};
 ghost use lib.ListN.{take};
-ghost use Rattle.shift_lines.specs.Lines.{TakesUp};
+ghost use Rattle.input_lines.specs.Lines.{TakesUp};
 
 // How many bytes of the line stand in its room, how many of the piece were taken up, the LF with them, and whether
 // that came: the line is whole.

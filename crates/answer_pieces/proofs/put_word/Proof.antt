@@ -1,8 +1,8 @@
--- `shift_pieces::put_word` meets its contract: the word, or nothing. Assumes nothing.
+-- `answer_pieces::put_word` meets its contract: the word, or nothing. Assumes nothing.
 use Rattle.text.proofs.RoomLaws.{none}
 use borrow.Author.Needs.{needs}
-use Rattle.shift_pieces.proofs.put_word.Statement.{statement}
-use Rattle.shift_pieces.proofs.put_word.Tie as tie
+use Rattle.answer_pieces.proofs.put_word.Statement.{statement}
+use Rattle.answer_pieces.proofs.put_word.Tie as tie
 
 put-bytes-requires : tie.Need-put-bytes-requires
 put-bytes-requires c κs = search needs

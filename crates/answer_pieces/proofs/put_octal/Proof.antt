@@ -1,8 +1,8 @@
--- `shift_pieces::put_octal` meets its contract: one digit and then the other. Assumes nothing.
+-- `answer_pieces::put_octal` meets its contract: one digit and then the other. Assumes nothing.
 use Rattle.text.proofs.RoomLaws.{andThen}
 use borrow.Author.Needs.{needs}
-use Rattle.shift_pieces.proofs.put_octal.Statement.{statement}
-use Rattle.shift_pieces.proofs.put_octal.Tie as tie
+use Rattle.answer_pieces.proofs.put_octal.Statement.{statement}
+use Rattle.answer_pieces.proofs.put_octal.Tie as tie
 
 add-put-byte : tie.Need-add-put-byte
 add-put-byte c = search needs

@@ -11,8 +11,8 @@ use Rattle.numbers.proofs.Tests.{by-bool}
 use Rattle.words.specs.Words.{leading, isnt}
 use Rattle.words.proofs.WordLaws.{leading-most}
 use Rattle.words.specs.Lines.{lineOf}
-use Rattle.shift_lines.specs.Lines.{isWhole, TakesUp}
-use Rattle.shift_lines.specs.declared.Cut.{Cut}
+use Rattle.input_lines.specs.Lines.{isWhole, TakesUp}
+use Rattle.input_lines.specs.declared.Cut.{Cut}
 
 module _ {line piece after : List ℕ} {kept : ℕ} {r : Cut} (t : TakesUp line kept piece after r) where
   -- NO MORE THAN THERE IS

@@ -1,8 +1,8 @@
--- `shift_pieces::put_refused` meets its contract: one piece after the other. Assumes nothing.
+-- `answer_pieces::put_refused` meets its contract: one piece after the other. Assumes nothing.
 use Rattle.text.proofs.RoomLaws.{andThen}
 use borrow.Author.Needs.{needs}
-use Rattle.shift_pieces.proofs.put_refused.Statement.{statement}
-use Rattle.shift_pieces.proofs.put_refused.Tie as tie
+use Rattle.answer_pieces.proofs.put_refused.Statement.{statement}
+use Rattle.answer_pieces.proofs.put_refused.Tie as tie
 
 put-no-requires : tie.Need-put-no-requires
 put-no-requires c κs = search needs

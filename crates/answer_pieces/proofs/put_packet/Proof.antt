@@ -1,8 +1,8 @@
--- `shift_pieces::put_packet` meets its contract: number, space, number. Assumes nothing.
+-- `answer_pieces::put_packet` meets its contract: number, space, number. Assumes nothing.
 use Rattle.text.proofs.RoomLaws.{andThen}
 use borrow.Author.Needs.{needs}
-use Rattle.shift_pieces.proofs.put_packet.Statement.{statement}
-use Rattle.shift_pieces.proofs.put_packet.Tie as tie
+use Rattle.answer_pieces.proofs.put_packet.Statement.{statement}
+use Rattle.answer_pieces.proofs.put_packet.Tie as tie
 
 put-decimal-requires : tie.Need-put-decimal-requires
 put-decimal-requires c κs = search needs

@@ -10,7 +10,7 @@ use lib.ListN.{length, getD, drop, drop-of-length-le, length-append}
 use lib.Seq.{drop-cons}
 use Rattle.text.specs.Room.{Written}
 use Rattle.text.proofs.RoomLaws.{Going, turn, end}
-use Rattle.shift_pieces.specs.Pieces.{eachFrom, eachOf}
+use Rattle.answer_pieces.specs.Pieces.{eachFrom, eachOf}
 
 each-turn : (piece : ℕ → List ℕ) (n k : ℕ) → k < n → eachFrom piece (n - k) k ≡ piece k ++ eachFrom piece (n - (k + 1)) (k + 1)
 unfolding eachFrom

@@ -1,10 +1,10 @@
--- `shift_lines::front` meets its contract: what is lent is as long as it says. Assumes nothing.
+-- `input_lines::front` meets its contract: what is lent is as long as it says. Assumes nothing.
 use native.Mathlib.Omega.{arith}
 use mathlib.Core.Path.{sym}
 use lib.Seq.{length-take-le, take-all}
 use borrow.Author.Needs.{needs}
-use Rattle.shift_lines.proofs.front.Statement.{statement}
-use Rattle.shift_lines.proofs.front.Tie as tie
+use Rattle.input_lines.proofs.front.Statement.{statement}
+use Rattle.input_lines.proofs.front.Tie as tie
 
 slice-aggregate-result : tie.Need-slice-aggregate-result
 slice-aggregate-result c = sym (length-take-le (c .before .before .args .n) (c .before .before .args .s .now) (c .before .if1 .taken))

@@ -1,8 +1,8 @@
--- `shift_pieces::put_unit` meets its contract: number, slash, number. Assumes nothing.
+-- `answer_pieces::put_unit` meets its contract: number, slash, number. Assumes nothing.
 use Rattle.text.proofs.RoomLaws.{andThen}
 use borrow.Author.Needs.{needs}
-use Rattle.shift_pieces.proofs.put_unit.Statement.{statement}
-use Rattle.shift_pieces.proofs.put_unit.Tie as tie
+use Rattle.answer_pieces.proofs.put_unit.Statement.{statement}
+use Rattle.answer_pieces.proofs.put_unit.Tie as tie
 
 put-two-requires : tie.Need-put-two-requires
 put-two-requires c κs = search needs

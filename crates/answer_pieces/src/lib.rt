@@ -6,8 +6,8 @@ use numbers::UnitNumber;
 ghost use mathlib.Core.Path.{_≡_};
 ghost use Rattle.text.specs.Room.{Written};
 ghost use Rattle.text.specs.Writing.{octalText};
-ghost use Rattle.shift_pieces.specs.Pieces.{unitText, packetText, lastOf, spanText, wordText};
-ghost use Rattle.shift_pieces.specs.Pieces.{noText, noLine};
+ghost use Rattle.answer_pieces.specs.Pieces.{unitText, packetText, lastOf, spanText, wordText};
+ghost use Rattle.answer_pieces.specs.Pieces.{noText, noLine};
 
 // Puts a number as two octal digits.
 pub fn put_octal(room: &mut [u8], at: usize, n: u8) -> usize

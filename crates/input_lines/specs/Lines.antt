@@ -7,7 +7,7 @@ use lib.Dec.{ltb}
 use lib.ListN.{length}
 use Rattle.text.specs.Room.{Written}
 use Rattle.words.specs.Lines.{lineOf}
-use Rattle.shift_lines.specs.declared.Cut.{Cut}
+use Rattle.input_lines.specs.declared.Cut.{Cut}
 
 -- the line is whole: its LF is in the piece
 abbrev pub isWhole : List ℕ → Bool

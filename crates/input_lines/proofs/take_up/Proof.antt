@@ -1,13 +1,13 @@
--- `shift_lines::take_up` meets its contract: by whether the piece has an LF. Assumes nothing.
+-- `input_lines::take_up` meets its contract: by whether the piece has an LF. Assumes nothing.
 use native.Mathlib.Omega.{arith}
 use mathlib.Core.Path.{sym}
 use lib.Seq.{length-take-le}
 use Rattle.words.specs.Words.{isnt}
 use Rattle.words.proofs.WordLaws.{leading-most}
-use Rattle.shift_lines.proofs.Cuts.{cut-short, cut-whole}
+use Rattle.input_lines.proofs.Cuts.{cut-short, cut-whole}
 use borrow.Author.Needs.{needs}
-use Rattle.shift_lines.proofs.take_up.Statement.{statement}
-use Rattle.shift_lines.proofs.take_up.Tie as tie
+use Rattle.input_lines.proofs.take_up.Statement.{statement}
+use Rattle.input_lines.proofs.take_up.Tie as tie
 
 until-requires : tie.Need-until-requires
 until-requires c κs = search needs

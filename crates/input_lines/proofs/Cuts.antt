@@ -10,7 +10,7 @@ use Rattle.text.specs.Room.{Written}
 use Rattle.words.specs.Words.{isnt}
 use Rattle.words.proofs.WordLaws.{leading-most, leading-front}
 use Rattle.words.specs.Lines.{lineOf}
-use Rattle.shift_lines.specs.Lines.{TakesUp}
+use Rattle.input_lines.specs.Lines.{TakesUp}
 
 module _ {line after : List ℕ} {kept n end : ℕ} (piece : List ℕ) (e : n ≡ length (lineOf piece)) (w : Written line kept (take n piece) after end) where
   put : Written line kept (lineOf piece) after end

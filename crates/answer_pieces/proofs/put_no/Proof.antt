@@ -1,8 +1,8 @@
--- `shift_pieces::put_no` meets its contract: one piece after the other. Assumes nothing.
+-- `answer_pieces::put_no` meets its contract: one piece after the other. Assumes nothing.
 use Rattle.text.proofs.RoomLaws.{andThen}
 use borrow.Author.Needs.{needs}
-use Rattle.shift_pieces.proofs.put_no.Statement.{statement}
-use Rattle.shift_pieces.proofs.put_no.Tie as tie
+use Rattle.answer_pieces.proofs.put_no.Statement.{statement}
+use Rattle.answer_pieces.proofs.put_no.Tie as tie
 
 slice-aggregate-put-bytes : tie.Need-slice-aggregate-put-bytes
 slice-aggregate-put-bytes c = search needs
