@@ -8,7 +8,7 @@ use native.Mathlib.Nat.{eq-zero-or-pos, eq-or-lt-of-le}
 use native.Mathlib.Omega.{arith}
 use lib.Dec.{leb, eqb}
 use borrow.Author.Tests.{eq-eqb, eqb-true, eqb-false, le-leb, leb-true}
-use Rattle.numbers.proofs.Find.{Hit, hit, none, find, First, first}
+use Rattle.numbers.proofs.Find.{Hit, hit, none, seek, First, first}
 use Rattle.numbers.proofs.Tests.{by-bool, both, or-true}
 use Rattle.assign_core.specs.declared.Found.{Found}
 use Rattle.assign_core.specs.declared.Found.the-variants.{At, Nothing}
@@ -93,7 +93,7 @@ abbrev pub test : ℕ → ℕ → ℕ → ℕ → Bool
 test w ib db p = fitsB w ib db (p / 32) (p % 32)
 
 unfoldable pub searchOf : ℕ → ℕ → ℕ → Found
-searchOf w ib db = found (find (test w ib db) 1024 0)
+searchOf w ib db = found (seek (test w ib db) 1024 0)
 
 -- a pair that fits has one that is tried and comes no later
 pub record Tried (w ib db a b : ℕ) : Type 0 where
@@ -128,9 +128,9 @@ answers-of w ib db none p = λ a b f.
 
 pub computed : (w ib db : ℕ) (r : Found) → LeastPair w ib db r → r ≡ searchOf w ib db
 unfolding searchOf
-computed w ib db r p = answers-one w ib db r (found (find (test w ib db) 1024 0)) p (answers-of w ib db (find (test w ib db) 1024 0) (first (test w ib db) 1024 0))
+computed w ib db r p = answers-one w ib db r (found (seek (test w ib db) 1024 0)) p (answers-of w ib db (seek (test w ib db) 1024 0) (first (test w ib db) 1024 0))
 
 -- the computed search is an answer
 pub search-answers : (w ib db : ℕ) → LeastPair w ib db (searchOf w ib db)
 unfolding searchOf
-search-answers w ib db = answers-of w ib db (find (test w ib db) 1024 0) (first (test w ib db) 1024 0)
+search-answers w ib db = answers-of w ib db (seek (test w ib db) 1024 0) (first (test w ib db) 1024 0)

@@ -9,7 +9,7 @@ use native.Mathlib.Omega.{arith}
 use lib.Dec.{leb, ltb, eqb}
 use lib.ListN.{getD}
 use borrow.Author.Tests.{leb-true, le-leb, ltb-true, lt-ltb, eqb-true, eqb-false, not-true}
-use Rattle.numbers.proofs.Find.{Hit, hit, none, find, First, first}
+use Rattle.numbers.proofs.Find.{Hit, hit, none, seek, First, first}
 use Rattle.numbers.proofs.Tests.{by-bool, never, both}
 use Rattle.assign_drum.specs.declared.Area.{Area}
 use Rattle.assign_drum.specs.declared.Start.{Start}
@@ -69,7 +69,7 @@ found (hit s) = At s
 found none = Nothing
 
 unfoldable pub startOf : List Area → ℕ → ℕ → Start
-startOf held size n = cond (eqb n 0) (At 0) (found (find (areaB held size n) (size - lowest) lowest))
+startOf held size n = cond (eqb n 0) (At 0) (found (seek (areaB held size n) (size - lowest) lowest))
 
 found-answers : (held : List Area) (size n : ℕ) → 1 ≤ n → (h : Hit) → First (areaB held size n) (size - lowest) lowest h → LowestStart held size n (found h)
 found-answers held size n p (hit s) f = (
@@ -84,4 +84,4 @@ unfolding startOf
 start-answers held size n =
     by-bool (eqb n 0)
     (λ t. rw t ((λ h. absurd (omega (arith, eqb-true n 0 t))), λ b h a. omega arith))
-    (λ t. rw t (found-answers held size n (⊎-elim (λ e. absurd (eqb-false n 0 t e)) (λ p. p) (eq-zero-or-pos n)) (find (areaB held size n) (size - lowest) lowest) (first (areaB held size n) (size - lowest) lowest)))
+    (λ t. rw t (found-answers held size n (⊎-elim (λ e. absurd (eqb-false n 0 t e)) (λ p. p) (eq-zero-or-pos n)) (seek (areaB held size n) (size - lowest) lowest) (first (areaB held size n) (size - lowest) lowest)))

@@ -10,6 +10,7 @@ use lib.Seq.{sets}
 use lib.Dec.{eqb, ltb}
 use borrow.Author.Tests.{eqb-true, eqb-false, le-leb, lt-leb, ltb-true, ltb-false}
 use Rattle.numbers.proofs.Tests.{both, by-bool, never}
+use Rattle.numbers.specs.Elements.{any}
 use Rattle.text.specs.Room.{Written}
 use Rattle.cards_fields.specs.Fields.{padded}
 use Rattle.cards_fields.proofs.FieldLaws.{rest-is, set-padded}
@@ -27,7 +28,7 @@ use Rattle.cards_request.specs.declared.CardVerdict.{CardVerdict}
 use Rattle.cards_request.specs.declared.CardVerdict.the-variants.{Good}
 use Rattle.cards_request.specs.declared.FurtherCard.{FurtherCard}
 use Rattle.cards_request.specs.declared.Further.{Further}
-use Rattle.cards_further.specs.Together.{any, past}
+use Rattle.cards_further.specs.Together.{past}
 use Rattle.cards_further.specs.Further.{contentError, contentsError, canonical, canonicals, heldCard, heldIn, held}
 
 -- two answers differ, or do not

@@ -3,6 +3,7 @@ use Prim.Native.Nat.{ℕ, zero, suc, min}
 use mathlib.Core.Bool.{Bool, cond, _&&_, _||_, not}
 use mathlib.Core.List.{List, [], _∷_}
 use lib.ListN.{length}
+use Rattle.numbers.specs.Elements.{any}
 use Rattle.cards_fields.specs.Fields.{fieldIs, padded}
 use Rattle.cards_fac.specs.Fac.{isFac}
 use Rattle.cards_tal.specs.Tal.{isTal, talError, talText}
@@ -15,7 +16,7 @@ use Rattle.cards_request.specs.declared.CardVerdict.{CardVerdict}
 use Rattle.cards_request.specs.declared.CardVerdict.the-variants.{Good}
 use Rattle.cards_request.specs.declared.FurtherCard.{FurtherCard}
 use Rattle.cards_request.specs.declared.Further.{Further}
-use Rattle.cards_further.specs.Together.{any, apart}
+use Rattle.cards_further.specs.Together.{apart}
 use Rattle.cards_further.specs.declared.Question.{Question}
 use Rattle.cards_further.specs.declared.Question.the-variants as Asks
 

@@ -12,12 +12,13 @@ ghost use mathlib.Core.List.{[]};
 ghost use Prim.Native.Nat.{_+_, _≤_};
 ghost use lib.Dec.{ltb};
 ghost use lib.ListN.{length, take, drop};
+ghost use Rattle.numbers.specs.Elements.{any};
 ghost use Rattle.text.specs.Room.{Written};
 ghost use Rattle.cards_fields.specs.Deck.{cardsOf};
 ghost use Rattle.cards_request.specs.Requests.{texts};
 ghost use Rattle.cards_pm.specs.Pm.{isPm, digitOf, rising};
 ghost use Rattle.cards_trn.specs.Trn.{isTrn, hasCount};
-ghost use Rattle.cards_further.specs.Together.{any, past, apart};
+ghost use Rattle.cards_further.specs.Together.{past, apart};
 ghost use Rattle.cards_further.specs.Further.{answer, unknown, typesError, pmWrong, togetherError};
 ghost use Rattle.cards_further.specs.Further.{contentError, contentsError, canonical, canonicals, heldCard, held};
 

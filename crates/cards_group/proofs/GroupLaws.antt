@@ -7,6 +7,7 @@ use lib.Dec.{eqb}
 use lib.ListN.{length, getD, drop}
 use borrow.Author.Tests.{le-leb, le-ltb, lt-ltb, eq-eqb, ne-eqb}
 use Rattle.numbers.proofs.Tests.{never}
+use Rattle.numbers.specs.Elements.{any}
 use Rattle.words.specs.Words.{same, value}
 use Rattle.cards_fields.specs.Fields.{field, fieldIs, padded}
 use Rattle.cards_request.specs.Errors.{errorIf, good, firstOf, orElse}
@@ -17,7 +18,7 @@ use Rattle.cards_request.specs.Requests.{noFurther, noRequest}
 use Rattle.cards_pty.specs.Pty.{ptyError}
 use Rattle.cards_tal.specs.Tal.{isTal}
 use Rattle.cards_trn.specs.Trn.{isTrn}
-use Rattle.cards_further.specs.Together.{any, apart}
+use Rattle.cards_further.specs.Together.{apart}
 use Rattle.cards_further.specs.Further.{answer as asking, typesError, togetherError, contentsError, pmWrong, unknown, unnumbered}
 use Rattle.cards_further.specs.declared.Question.the-variants as Asks
 pub use Rattle.cards_group.specs.Steps.{frontError, orderError}

@@ -5,6 +5,7 @@ use mathlib.Core.List.{List, [], _∷_}
 use lib.Dec.{eqb, ltb}
 use lib.ListN.{length, getD, drop}
 use Rattle.numbers.specs.Quoted.{byte}
+use Rattle.numbers.specs.Elements.{any}
 use Rattle.words.specs.Words.{same, value}
 use Rattle.cards_fields.specs.Fields.{field, padded}
 use Rattle.cards_request.specs.Errors.{errorIf, firstOf}
@@ -13,7 +14,7 @@ use Rattle.cards_pty.specs.Pty.{priorityOf, ptyError}
 use Rattle.cards_fac.specs.Fac.{facilitiesOf, isFac, asked, facError}
 use Rattle.cards_tal.specs.Tal.{isTal}
 use Rattle.cards_trn.specs.Trn.{isTrn}
-use Rattle.cards_further.specs.Together.{any, apart}
+use Rattle.cards_further.specs.Together.{apart}
 use Rattle.cards_further.specs.Further.{unknown, unnumbered, pmWrong, contentsError, canonicals, held}
 use Rattle.cards_request.specs.declared.CardError.the-variants.{
   WrongCount,

@@ -3,10 +3,10 @@
 use Prim.Native.Nat.{ℕ}
 use mathlib.Core.Bool.{_||_, not}
 use mathlib.Core.List.{List, [], _∷_}
+use Rattle.numbers.specs.Elements.{any}
 use Rattle.cards_request.specs.Errors.{errorIf, firstOf}
 use Rattle.cards_pty.specs.Pty.{ptyError}
 use Rattle.cards_fac.specs.Fac.{isFac}
-use Rattle.cards_further.specs.Together.{any}
 use Rattle.cards_further.specs.Further.{typesError, togetherError}
 use Rattle.cards_request.specs.declared.CardError.the-variants.{WrongCount, NoFac, OtherId}
 use Rattle.cards_request.specs.declared.CardVerdict.{CardVerdict}

@@ -11,6 +11,7 @@ ghost use mathlib.Core.Path.{_≡_};
 ghost use mathlib.Core.Bool.{false, _||_};
 ghost use Prim.Native.Nat.{_≤_};
 ghost use lib.ListN.{length};
+ghost use Rattle.numbers.specs.Elements.{any};
 ghost use Rattle.words.specs.Words.{same, value};
 ghost use Rattle.cards_fields.specs.Fields.{field, fields, padded};
 ghost use Rattle.cards_fields.specs.Deck.{cardsOf};
@@ -18,7 +19,6 @@ ghost use Rattle.cards_request.specs.Errors.{good};
 ghost use Rattle.cards_request.specs.Requests.{noRequest};
 ghost use Rattle.cards_pty.specs.Pty.{priorityOf, fieldsError};
 ghost use Rattle.cards_fac.specs.Fac.{asksOf};
-ghost use Rattle.cards_further.specs.Together.{any};
 ghost use Rattle.cards_group.specs.Steps.{frontError, orderError};
 ghost use Rattle.cards_group.specs.Group.{otherId, mark, requestOf, answer, readCards, readGroup, readFull};
 

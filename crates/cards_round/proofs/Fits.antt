@@ -11,6 +11,7 @@ use lib.ListN.{length, getD, drop, take, length-append}
 use borrow.Author.Tests.{le-leb, ltb-true, ltb-false, not-false}
 use Rattle.numbers.specs.Quoted.{bytes}
 use Rattle.numbers.proofs.Tests.{by-bool, never, both}
+use Rattle.numbers.specs.Elements.{any}
 use Rattle.words.specs.Words.{same, value}
 use Rattle.words.proofs.WordLaws.{same-equal}
 use Rattle.cards_fields.specs.Deck.{cardsOf}
@@ -27,7 +28,6 @@ use Rattle.cards_request.specs.declared.CardVerdict.the-variants.{Good}
 use Rattle.cards_pty.specs.Pty.{rules, ruleAt, ptyError}
 use Rattle.cards_pty.proofs.PtyLaws.{right-at, good-field, fields-good}
 use Rattle.cards_fac.specs.Fac.{nothing, entriesError, coreError, isFac, entriesOf, asked, facError}
-use Rattle.cards_further.specs.Together.{any}
 use Rattle.cards_further.specs.Further.{typesError, togetherError, contentsError, canonical, canonicals, held}
 use Rattle.cards_group.specs.Group.{wrongCount, otherId, orderedError, requestOf, answer, fullAnswer, readCards, readFull}
 use Rattle.cards_group.specs.declared.FullReading.{FullReading}

@@ -10,6 +10,7 @@ use lib.ListN.{length, take, drop}
 use lib.Seq.{take-append-seam}
 use borrow.Author.Tests.{leb-true, le-ltb, eq-eqb}
 use Rattle.numbers.proofs.Tests.{both}
+use Rattle.numbers.specs.Elements.{any}
 use Rattle.words.specs.Words.{value}
 use Rattle.cards_fields.specs.Deck.{cardsOf}
 use Rattle.cards_fields.specs.Fields.{field, spaceless}
@@ -19,7 +20,6 @@ use Rattle.cards_request.specs.declared.Further.{Further}
 use Rattle.cards_request.specs.declared.FullRequest.{FullRequest}
 use Rattle.cards_request.specs.declared.CardVerdict.the-variants.{Good}
 use Rattle.cards_fac.specs.Fac.{asked}
-use Rattle.cards_further.specs.Together.{any}
 use Rattle.cards_further.specs.Further.{canonicals, held}
 use Rattle.cards_group.specs.Group.{otherId, orderedError, requestOf, readCards, readFull}
 use Rattle.cards_group.proofs.GroupLaws.{frontError, orderError, in-steps}

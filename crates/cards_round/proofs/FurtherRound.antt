@@ -11,6 +11,7 @@ use lib.Dec.{leb}
 use lib.ListN.{length}
 use borrow.Author.Tests.{leb-true}
 use Rattle.numbers.proofs.Tests.{by-bool, never, both}
+use Rattle.numbers.specs.Elements.{any}
 use Rattle.words.specs.Words.{every}
 use Rattle.words.specs.Lines.{lf, linesText}
 use Rattle.words.proofs.WordLaws.{same-self}
@@ -26,7 +27,7 @@ use Rattle.cards_fac.specs.Fac.{isFac}
 use Rattle.cards_tal.specs.Tal.{isTal}
 use Rattle.cards_trn.specs.Trn.{isTrn, hasCount}
 use Rattle.cards_pm.specs.Pm.{isPm, rising}
-use Rattle.cards_further.specs.Together.{any, apart}
+use Rattle.cards_further.specs.Together.{apart}
 use Rattle.cards_further.specs.Further.{unknown, unnumbered, faulty, typesError, pmWrong, togetherError, contentError, contentsError, canonical, canonicals}
 use Rattle.cards_group.specs.Group.{otherId}
 use Rattle.cards_full.specs.Full.{behindId, short}

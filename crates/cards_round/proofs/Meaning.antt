@@ -11,6 +11,7 @@ use lib.ListN.{length, take, getD}
 use borrow.Author.Tests.{le-leb, lt-leb, leb-true, leb-false, ltb-true, ltb-false}
 use Rattle.numbers.specs.Quoted.{bytes}
 use Rattle.numbers.proofs.Tests.{by-bool, never}
+use Rattle.numbers.specs.Elements.{any}
 use Rattle.words.specs.Words.{every, same}
 use Rattle.words.proofs.WordLaws.{same-equal}
 use Rattle.words.proofs.LineLaws.{NoLf}
@@ -29,7 +30,7 @@ use Rattle.cards_trn.specs.Transfers.{isThere}
 use Rattle.cards_trn.proofs.TrnRound.{trn-written, trn-text, trn-proper, trn-short, trn-counts, trn-first, meantCount, meantTransfers}
 use Rattle.cards_pm.specs.Pm.{isPm, numbered, digitOf, pmFault, pmMalformed, rising}
 use Rattle.cards_pm.proofs.PmRound.{sheetIn, read-back, held}
-use Rattle.cards_further.specs.Together.{any, past, apart}
+use Rattle.cards_further.specs.Together.{past, apart}
 use Rattle.cards_further.specs.Further.{unknown, unnumbered, faulty, contentError, canonical}
 use Rattle.cards_round.specs.AllowedFurther.{Card, tal, trn, pm, textIn, Proper, ofTal, ofTrn, ofPm, digitsRise}
 

@@ -11,6 +11,7 @@ use borrow.Author.Tests.{eqb-true, eqb-false, ltb-true, ltb-false, lt-ltb, ne-eq
 use Rattle.packets.proofs.Laws.{eqb-self}
 use Rattle.numbers.specs.Quoted.{byte}
 use Rattle.numbers.proofs.Tests.{both, by-bool, never}
+use Rattle.numbers.specs.Elements.{find}
 use Rattle.cards_fields.specs.Deck.{deckEnd, deckGroups}
 use Rattle.cards_fields.specs.declared.DeckEnd.{DeckEnd}
 use Rattle.cards_fields.specs.declared.DeckEnd.the-variants.{At, Refused}
@@ -25,7 +26,7 @@ use Rattle.schedule_entries.specs.Entries.{active, blank, firstState, inPlace, 
 use Rattle.schedule_entries.specs.declared.Entry.{Entry}
 use Rattle.schedule_entries.specs.declared.State.{State}
 use Rattle.schedule_entries.specs.declared.State.the-variants.{Closing, Running, Suspended, Waiting}
-use Rattle.schedule_list.specs.InSchedule.{changedAt, entryAt, find, inSchedule, removed, scheduleOf, there, withState}
+use Rattle.schedule_list.specs.InSchedule.{changedAt, entryAt, inSchedule, removed, scheduleOf, there, withState}
 use Rattle.schedule_list.specs.Queries.{without}
 use Rattle.schedule_list.proofs.InScheduleLaws.{in-of}
 use Rattle.schedule_list.proofs.IndexLaws.{removed-at}

@@ -22,7 +22,7 @@ use Rattle.cards_request.specs.declared.Request.{Request}
 use Rattle.schedule_entries.specs.declared.Entry.{Entry}
 use Rattle.assign.specs.Assignment.{IsAssignment}
 use Rattle.packets.specs.Apart.{Fits, inCore}
-use Rattle.packets.specs.Picks.{any}
+use Rattle.numbers.specs.Elements.{any}
 use Rattle.packets.specs.Rules as Rules
 use Rattle.packets.specs.State.{inRun, isEmpty, jobIn, noJob, stateIn, wanted}
 use Rattle.packets.proofs.Store.{alive-in}

@@ -10,7 +10,7 @@ use native.Mathlib.Numerals.{add-one}
 use native.Mathlib.Omega.{arith}
 use lib.ListN.{length, getD, drop, drop-of-length-le}
 use lib.Seq.{drop-cons}
-use Rattle.packets.specs.Picks.{any}
+use Rattle.numbers.specs.Elements.{any}
 use Rattle.packets.specs.State.{isEmpty, stateIn}
 use Rattle.packets.specs.declared.Job.{Job}
 use Rattle.cell_taken.specs.Taken.{wordFrom}

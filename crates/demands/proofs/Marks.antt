@@ -20,7 +20,7 @@ use Rattle.channels.specs.declared.Configuration.{Configuration}
 use Rattle.configuration_units.specs.Fresh.{freshUnits}
 use Rattle.schedule.specs.Calls.{deleted, released}
 use Rattle.packets.specs.Demand.{fresh}
-use Rattle.packets.specs.Picks.{All, find}
+use Rattle.numbers.specs.Elements.{All, find}
 use Rattle.packets.specs.Rules as Rules
 use Rattle.packets.specs.Rules.{accept, closed, completed, finished, isDone, isTrouble, locked, returnIfDone, siteOf, startable, started, submitted}
 use Rattle.packets.specs.State.{State, isUnit, motionOn, packetIn, release, setLock, takeUnit, wanted, withLock, freedAt, setHolder, unitAt, withHolder}

@@ -16,6 +16,7 @@ use lib.Seq.{set-split, map-set-same}
 use borrow.Author.Tests.{eqb-true, lt-ltb, ltb-false, ltb-true}
 use Rattle.numbers.specs.Quoted.{byte}
 use Rattle.numbers.proofs.Tests.{both, by-bool, never}
+use Rattle.numbers.specs.Elements.{any, find}
 use Rattle.text.specs.Class.{isAlnum, isDigit, isLetter}
 use Rattle.words.specs.Words.{every, isnt, same}
 use Rattle.words.proofs.WordLaws.{every-weaker, same-equal}
@@ -33,7 +34,7 @@ use Rattle.schedule_entries.specs.Entries.{active, blank, isNamed, suspended}
 use Rattle.schedule_entries.specs.declared.Entry.{Entry}
 use Rattle.schedule_entries.specs.declared.State.{State}
 use Rattle.schedule_entries.specs.declared.State.the-variants as States
-use Rattle.schedule_list.specs.InSchedule.{any, changedAt, find, inSchedule, removed, scheduleOf, setState, there, withState}
+use Rattle.schedule_list.specs.InSchedule.{changedAt, inSchedule, removed, scheduleOf, setState, there, withState}
 use Rattle.schedule_list.proofs.InScheduleLaws.{in-of}
 use Rattle.schedule_list.specs.declared.Schedule.{Schedule}
 use Rattle.schedule.specs.Calls.{closing, deletedBy, isIn, releasedBy, returnedBy, taken}

@@ -24,11 +24,11 @@ use Rattle.channels.specs.declared.Fitted.the-variants.{Nothing, With}
 use Rattle.cards_fields.specs.Deck.{cardsOf, deckEnd, terminated}
 use Rattle.schedule_entries.specs.Entries.{active, isNamed, suspended}
 use Rattle.schedule_entries.specs.declared.Entry.{Entry}
-use Rattle.schedule_list.specs.InSchedule.{find as findNamed, inSchedule}
+use Rattle.schedule_list.specs.InSchedule.{inSchedule}
 use Rattle.schedule_list.specs.declared.Schedule.{Schedule}
 use Rattle.schedule_deck.specs.Report.{outcomeBy}
 use Rattle.schedule.specs.Calls.{deletedBy, releasedBy}
-use Rattle.packets.specs.Picks.{any, find}
+use Rattle.numbers.specs.Elements.{any, find}
 use Rattle.packets.specs.Rules as Rules
 use Rattle.packets.specs.State.{State, configured, fittedOn, isIdle, jobIn, motionOn, packetIn, packetOf, placeOf, stateIn, unitAt}
 use Rattle.packets.specs.declared.How.{How}
@@ -207,8 +207,8 @@ plain-numbers c d (Complete k how) reply z h = ap refusalIn (h .0) ∙ answers-b
 plain-numbers c d (End j e) reply z h = ap refusalIn (h .0) ∙ answers-by c (Rules.End j e) ∙ end-rows (inside c) (inSchedule (c .schedule)) j e
 plain-numbers c d (Return j k u) reply z h = ap refusalIn (h .0) ∙ answers-by c (Rules.Return j k u) ∙ return-rows (inside c) (inSchedule (c .schedule)) j k u
 plain-numbers c d (Mark k u m on) reply z h = ap refusalIn (h .0) ∙ answers-by c (Rules.Mark k u m on) ∙ mark-rows (inside c) (inSchedule (c .schedule)) k u m on
-plain-numbers c d (Release id) reply z h = ap refusalIn (h .0) ∙ release-rows (findNamed (isNamed id) (inSchedule (c .schedule))) (c .schedule) id
-plain-numbers c d (Delete id) reply z h = ap refusalIn (h .0) ∙ delete-rows (findNamed (isNamed id) (inSchedule (c .schedule))) (c .schedule) id
+plain-numbers c d (Release id) reply z h = ap refusalIn (h .0) ∙ release-rows (find (isNamed id) (inSchedule (c .schedule))) (c .schedule) id
+plain-numbers c d (Delete id) reply z h = ap refusalIn (h .0) ∙ delete-rows (find (isNamed id) (inSchedule (c .schedule))) (c .schedule) id
 plain-numbers c d (Status j p) reply z h = ap refusalIn (h .0) ∙ status-rows c j p
 plain-numbers c d (Key message) reply z h = absurd z
 

@@ -19,7 +19,7 @@ use Rattle.units.specs.declared.Mark.{Mark as UnitMark}
 use Rattle.schedule_list.specs.declared.Schedule.{Schedule}
 use Rattle.schedule_list.specs.InSchedule.{inSchedule}
 use Rattle.schedule.specs.Calls as Schedules
-use Rattle.packets.specs.Picks.{find}
+use Rattle.numbers.specs.Elements.{find}
 use Rattle.packets.specs.Rules as Rules
 use Rattle.packets.specs.Rules.{closed, closing, finished, freshJob, isDone, leaving, leavingAs, returnIfDone}
 use Rattle.packets.specs.State.{State, isClosing, isEmpty, isRunning, motionOn, noJob, stateIn}

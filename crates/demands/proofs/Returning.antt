@@ -21,7 +21,7 @@ use Rattle.packets.proofs.Laws.{and-left, and-right, eqb-self}
 use Rattle.packets.proofs.Told.{returns-of}
 use Rattle.packets.proofs.Until.{completion-frees, run-until}
 use Rattle.packets.proofs.Waiting.{Waits}
-use Rattle.packets.specs.Picks.{All}
+use Rattle.numbers.specs.Elements.{All}
 use Rattle.packets.specs.Rules as Rules
 use Rattle.packets.specs.State.{State, motionOn, packetIn}
 use Rattle.packets.specs.declared.How.{How}

@@ -14,13 +14,13 @@ use Rattle.cards_fields.specs.declared.DeckEnd.{DeckEnd}
 use Rattle.cards_fields.specs.declared.DeckEnd.the-variants as Ends
 use Rattle.schedule_entries.specs.Entries.{active, isNamed, suspended}
 use Rattle.schedule_entries.specs.declared.Entry.{Entry}
-use Rattle.schedule_list.specs.InSchedule.{find as findRequest, inSchedule}
+use Rattle.schedule_list.specs.InSchedule.{inSchedule}
 use Rattle.schedule_list.specs.declared.Schedule.{Schedule}
 use Rattle.schedule.specs.Calls.{deletedBy, releasedBy}
 use Rattle.schedule.specs.declared.Changed.{Changed}
 use Rattle.text.specs.Room.{Whole}
 use Rattle.schedule_deck.specs.Report.{notesBy, outcomeBy, scheduleBy}
-use Rattle.packets.specs.Picks.{find}
+use Rattle.numbers.specs.Elements.{find}
 use Rattle.packets.specs.Rules as Rules
 use Rattle.packets.specs.State.{State, motionOn}
 use Rattle.packets.specs.declared.Answer.the-variants as Answers
@@ -151,8 +151,8 @@ plain-stands c d (Complete k how) reply n z h e = h .1 ∙ acts-stand c (Rules.C
 plain-stands c d (End j b) reply n z h e = h .1 ∙ acts-stand c (Rules.End j b) n (sym (ap refusalIn (h .0)) ∙ e)
 plain-stands c d (Return j k u) reply n z h e = h .1 ∙ acts-stand c (Rules.Return j k u) n (sym (ap refusalIn (h .0)) ∙ e)
 plain-stands c d (Mark k u m on) reply n z h e = h .1 ∙ acts-stand c (Rules.Mark k u m on) n (sym (ap refusalIn (h .0)) ∙ e)
-plain-stands c d (Release id) reply n z h e = h .1 ∙ release-stands c id n (findRequest (isNamed id) (inSchedule (c .schedule))) (sym (ap refusalIn (h .0)) ∙ e)
-plain-stands c d (Delete id) reply n z h e = h .1 ∙ delete-stands c id n (findRequest (isNamed id) (inSchedule (c .schedule))) (sym (ap refusalIn (h .0)) ∙ e)
+plain-stands c d (Release id) reply n z h e = h .1 ∙ release-stands c id n (find (isNamed id) (inSchedule (c .schedule))) (sym (ap refusalIn (h .0)) ∙ e)
+plain-stands c d (Delete id) reply n z h e = h .1 ∙ delete-stands c id n (find (isNamed id) (inSchedule (c .schedule))) (sym (ap refusalIn (h .0)) ∙ e)
 plain-stands c d (Status j p) reply n z h e = h .1
 plain-stands c d (Key message) reply n z h e = absurd z
 

@@ -57,7 +57,7 @@ use Rattle.desk_show.specs.declared.Which.the-variants as Which′
 use Rattle.desk_hearing.specs.Hearing as Desk
 use Rattle.desk_hearing.specs.Printing.{Prints}
 use Rattle.schedule_entries.specs.Entries.{isNamed, keyOf, precedes}
-use Rattle.schedule_list.specs.InSchedule.{entryAt, find, inSchedule}
+use Rattle.schedule_list.specs.InSchedule.{entryAt, inSchedule}
 use Rattle.schedule.specs.Calls as Schedule
 use Rattle.schedule_orderly.specs.Orderly.{Each, requests}
 use Rattle.schedule_deck.specs.Report.{deckNotes, deckSchedule}
@@ -68,7 +68,7 @@ use Rattle.packets.specs.Before.{AllListed, AsBefore, OnlyCompletions, all60}
 use Rattle.packets.specs.Codes.{statusAfter}
 use Rattle.packets.specs.Demand.{Holding, Holds, Isolated}
 use Rattle.packets.specs.Interlocks.{interlockAfter}
-use Rattle.packets.specs.Picks.{keep}
+use Rattle.numbers.specs.Elements.{find, keep}
 use Rattle.packets.specs.State.{entryOf, heldBy, inMotion, isClosing, isEmpty, isStill, jobIn, motionOn, noCore, packetIn, stateIn}
 use Rattle.packets.specs.Rules.{closing, isAt}
 use Rattle.packets.specs.declared.Answer.{Answer}

@@ -38,8 +38,8 @@ use Rattle.keyboard.specs.Typed.{known}
 use Rattle.cards_fields.specs.Deck.{cardsOf, terminated}
 use Rattle.schedule_entries.specs.Entries.{active, isNamed, suspended}
 use Rattle.schedule_entries.specs.declared.Entry.{Entry}
-use Rattle.schedule_list.specs.InSchedule.{find, inSchedule}
-use Rattle.packets.specs.Picks.{any}
+use Rattle.schedule_list.specs.InSchedule.{inSchedule}
+use Rattle.numbers.specs.Elements.{any, find}
 use Rattle.packets.specs.State.{
   State,
   blank,

@@ -13,7 +13,7 @@ use Rattle.numbers.specs.declared.Refusal.the-variants.{ChannelBusy, NothingSta
 use Rattle.channels.specs.declared.Channel.{Channel}
 use Rattle.channels.specs.declared.Fitted.the-variants.{Nothing}
 use Rattle.packets.proofs.Laws.{passes}
-use Rattle.packets.specs.Picks.{find}
+use Rattle.numbers.specs.Elements.{find}
 use Rattle.packets.specs.Rules.{Start, accept, answer, begins, begun, first, isNone, refusal, startable, startableOn, started}
 use Rattle.packets.specs.State.{State, carrying, configured, isIdle, isThereOf, jobIn, motionOn, move, noJob, packetIn, packetOf, placeOf, relist, store, withPackets, withStatus}
 use Rattle.packets.proofs.Told.{configured-in}

@@ -3,4 +3,5 @@ pub mod Kinds
 pub mod Refusals
 pub mod Decides
 pub mod Values
+pub mod Elements
 pub mod Bits

@@ -11,7 +11,7 @@ use Rattle.packets.specs.Demand.{Holding, Holds, isThere, startIn, there
 use Rattle.packets.proofs.Inv.{Inv}
 use Rattle.packets.proofs.Laws.{and-left, and-right}
 use Rattle.packets.specs.Lone.{Lone, loneStart, loneStep, loneDoes, loneTakes, startBy}
-use Rattle.packets.specs.Picks.{find}
+use Rattle.numbers.specs.Elements.{find}
 use Rattle.packets.specs.Rules.{Call, Complete, End, Mark, Return, Start, Submit, Take, accept, answer, siteOf, isWrong, refusal, startable}
 use Rattle.packets.proofs.Sim.{Sim}
 use Rattle.packets.proofs.SimEnd.{sim-assign-away, sim-complete, sim-complete-away, sim-end, sim-end-away, sim-mark, takes-complete, takes-end}

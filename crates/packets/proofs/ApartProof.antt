@@ -16,7 +16,7 @@ use Rattle.packets.specs.Apart.{Apart, Disjoint, Fits, Fitting, Part, in
 use Rattle.packets.specs.Demand.{emptyPlace, fresh}
 use Rattle.packets.proofs.Inv.{Inv, running-alive}
 use Rattle.packets.proofs.Laws.{and-left, eqb-self, getD-set-keep}
-use Rattle.packets.specs.Picks.{find}
+use Rattle.numbers.specs.Elements.{find}
 use Rattle.packets.specs.Rules.{Call, Complete, End, Mark, Return, Start, Submit, Take, accept, aimed, always, assigned, siteOf, isAt, begun, broken, closed, closing, codeFor, cut, decided, ended, enlist, failed, finished, freshJob, freeIfReturning, handedBack, inArea, isDone, isTrouble, locked, marked, over, packet, refusal, returnIfDone, returned, run, startable, started, step, submitted}
 use Rattle.packets.specs.State.{State, isClosing, isEmpty, isUnit, jobIn, lock, motionOn, move, noJob, packetIn, packetOf, placeOf, put, restatus, restatusAll, setState, stateIn, store, sweep, withPackets, withState, withStatus}
 use Rattle.packets.proofs.Steps.{busy-of, closing-alive, closing-not-running, fresh-inv, fresh-state, step-inv}

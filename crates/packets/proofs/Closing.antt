@@ -17,7 +17,7 @@ use Rattle.packets.proofs.CodesProof.{closed-status, finished-status, s
 use Rattle.packets.specs.Demand.{emptyPlace, fresh}
 use Rattle.packets.proofs.Inv.{EntryOk, Inv}
 use Rattle.packets.proofs.Laws.{eqb-self, find-holds}
-use Rattle.packets.specs.Picks.{any, find}
+use Rattle.numbers.specs.Elements.{any, find}
 use Rattle.packets.specs.Rules.{Call, Complete, End, Mark, Return, Start, Submit, Take, accept, isAt, closed, closing, completed, cut, decided, failed, finished, freeIfReturning, isDone, isTrouble, refusal, returnIfDone, returned, run, startable, started, step}
 use Rattle.packets.specs.State.{State, anyMoves, carrying, inMotion, isClosing, isPacket, isRunning, isUnit, motionOn, moves, packetIn, placeOf, stateIn}
 use Rattle.packets.proofs.States.{states-begun, states-closed, states-finished, states-handed, states-returned, states-submit}

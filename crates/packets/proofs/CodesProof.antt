@@ -12,7 +12,7 @@ use Rattle.packets.proofs.Inv.{EntryOk, Inv, running-alive}
 use Rattle.packets.proofs.InvStores.{sweep-inv}
 use Rattle.packets.proofs.Laws.{and-left, and-right, find-holds}
 use Rattle.packets.specs.Lone.{endsWith, stops}
-use Rattle.packets.specs.Picks.{find}
+use Rattle.numbers.specs.Elements.{find}
 use Rattle.packets.specs.Rules.{Call, Complete, End, Mark, Return, Start, Submit, Take, accept, aimed, always, siteOf, isAt, closed, closing, codeFor, cut, decided, failed, finished, isDone, isTrouble, locked, over, packet, refusal, returnIfDone, run, startable, step, submitted}
 use Rattle.packets.specs.State.{isPacket, State, isRunning, isUnit, motionOn, packetIn, packetOf, placeOf, put, restatusAll, stateIn, sweep, withStatus}
 use Rattle.packets.proofs.SimSubmit.{cut-stops, failed-ends}

@@ -24,7 +24,7 @@ use Rattle.packets.proofs.Store.{alive-in, packet-fresh, packet-state}
 use Rattle.packets.proofs.Told.{assigns-to, completes-on, cut-idle, ends-of, returns-of, starts-on, submits}
 use Rattle.packets.specs.Interlocks.{carriedAt, interlockAfter, isThat}
 use Rattle.packets.specs.Demand.{Holding, NoneHeld, emptyPlace, fresh}
-use Rattle.packets.specs.Picks.{find}
+use Rattle.numbers.specs.Elements.{find}
 use Rattle.packets.specs.Rules.{
   Call,
   Complete,

@@ -14,7 +14,7 @@ use Rattle.packets.specs.Demand.{Holding, Holds, Seen, acts, endedThere,
 use Rattle.packets.proofs.Inv.{EntryOk, Inv, listed-busy, motion-busy, running-alive}
 use Rattle.packets.proofs.InvStores.{lock-inv, sweep-inv}
 use Rattle.packets.proofs.Laws.{and-left, and-right, find-holds}
-use Rattle.packets.specs.Picks.{find}
+use Rattle.numbers.specs.Elements.{find}
 use Rattle.packets.specs.Rules.{Call, Complete, End, Mark, Return, Start, Submit, Take, accept, aimed, always, answer, assigned, siteOf, isAt, begins, begun, broken, closing, codeFor, completes, cut, ended, failed, finished, handedBack, isTrouble, locked, over, packet, refusal, returnIfDone, returned, startable, submitted, terminate, unlock}
 use Rattle.packets.proofs.SimSubmit.{eqb-flip, holder-alive}
 use Rattle.packets.specs.State.{State, anyMoves, close, isBusy, isClosing, isEmpty, isUnit, lock, motionOn, packetIn, packetOf, placeOf, put, restatus, restatusAll, stateIn, store, sweep, withStatus}

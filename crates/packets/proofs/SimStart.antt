@@ -13,7 +13,7 @@ use Rattle.packets.proofs.Inv.{EntryOk, Inv}
 use Rattle.packets.proofs.InvStores.{idle-is}
 use Rattle.packets.proofs.Laws.{all-imp, and-left, and-right, eqb-self, find-holds, find-keep}
 use Rattle.packets.specs.Lone.{Lone, become, carries, setsOff, startOf, stores, loneDoes, loneTakes, startBy}
-use Rattle.packets.specs.Picks.{find, keep}
+use Rattle.numbers.specs.Elements.{find, keep}
 use Rattle.packets.specs.Rules.{Start, answer, begun, returnIfDone, startable}
 use Rattle.packets.proofs.Sim.{Sim, lockThere, movingThere, num, on, sim-store, sim-store-away}
 use Rattle.packets.proofs.SimRest.{Stays, sim-move, sim-move-away, sim-same, stays-free, stays-held}

@@ -16,7 +16,7 @@ use Rattle.packets.proofs.Inv.{EntryOk, Inv, running-alive}
 use Rattle.packets.specs.State.{freedAt, inMotion, isPacket, State, blank, enqueue, entryOf, isIdle, isListed, isUnit, lock, motionOn, move, noJob, packetIn, packetOf, placeOf, releaseAll, setLock, stateIn, store, sweep, withStatus}
 use Rattle.packets.proofs.InvStores.{New, enlisted-is, idle-is, lock-inv, motion-move, sweep-inv}
 use Rattle.packets.proofs.Laws.{eqb-self, find-holds, getD-replicate-const}
-use Rattle.packets.specs.Picks.{any, find}
+use Rattle.numbers.specs.Elements.{any, find}
 use Rattle.packets.specs.Rules.{Call, Complete, End, Mark, Return, Start, Submit, Take, accept, aimed, always, siteOf, isAt, begun, closed, closing, codeFor, cut, decided, enlist, failed, finished, handedBack, isDone, isTrouble, locked, marked, over, packet, refusal, returnIfDone, run, startable, step, submitted}
 use Rattle.packets.proofs.Sound.{Sound, assigned-sound, enqueue-sound, move-sound, noPacket, sound-but, sound-whole, state-sound, store-sound, sweep-sound, units-sound}
 use Rattle.packets.proofs.Steps.{Ready, busy-of, find-some, listed-new, over-fits, over-inside, ready-fits, ready-inside, ready-store, ready-sweep, start-at, start-fits, startable-on, step-inv, stored-at}

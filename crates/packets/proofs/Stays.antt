@@ -7,7 +7,7 @@ use mathlib.Core.Option.{Option, none, some}
 use lib.Dec.{eqb}
 use Rattle.numbers.proofs.Tests.{by-bool}
 use Rattle.channels.specs.declared.Channel.{Channel}
-use Rattle.packets.specs.Picks.{find}
+use Rattle.numbers.specs.Elements.{find}
 use Rattle.packets.specs.Rules.{Call, Complete, End, Mark, Return, Start, Submit, Take, accept, closed, completed, decided, finished, isDone, isTrouble, locked, refusal, returnIfDone, run, siteOf, startable, started, step, submitted}
 use Rattle.packets.specs.State.{State, isUnit, motionOn, packetIn}
 use Rattle.packets.specs.declared.How.{How}

@@ -22,7 +22,7 @@ use Rattle.packets.proofs.Store.{unit-keep, unit-release}
 use Rattle.packets.proofs.Told.{Returns, assigns-to, completes-on, returns-of}
 use Rattle.packets.proofs.Movers.{finished-motion}
 use Rattle.packets.proofs.Waiting.{Waiting, Waits, step-waits}
-use Rattle.packets.specs.Picks.{All, find}
+use Rattle.numbers.specs.Elements.{All, find}
 use Rattle.packets.specs.Rules.{
   Call,
   Complete,

@@ -30,7 +30,7 @@ use Rattle.packets.proofs.Store.{alive-in, packet-fresh, packet-restatu
 use Rattle.packets.proofs.Told.{Returns, assigns-to, completes-on, cut-going, cut-idle, ends-of, returns-of, starts-on, submits}
 use Rattle.packets.specs.Codes.{statusAfter}
 use Rattle.packets.specs.Demand.{Holding, NoneHeld, fresh}
-use Rattle.packets.specs.Picks.{find}
+use Rattle.numbers.specs.Elements.{find}
 use Rattle.packets.specs.Rules.{
   Call,
   Complete,

@@ -26,7 +26,7 @@ use Rattle.packets.specs.State.{
   stateIn,
   unitAt,
 }
-use Rattle.packets.specs.Picks.{All, Nodup, any}
+use Rattle.numbers.specs.Elements.{All, Nodup, any}
 use Rattle.packets.specs.Rules.{Call, isAt, run}
 use Rattle.packets.specs.declared.Motion.the-variants.{Busy}
 use Rattle.packets.specs.declared.Packet.{Packet}

@@ -18,7 +18,7 @@ use Rattle.packets.specs.Demand.{Holding, emptyPlace, fresh}
 use Rattle.packets.proofs.Inv.{EntryOk, Inv, listed-busy, running-alive}
 use Rattle.packets.proofs.Laws.{and-left, and-right, eqb-self, find-holds, getD-set-keep}
 use Rattle.numbers.proofs.Stores.{getD-set}
-use Rattle.packets.specs.Picks.{find}
+use Rattle.numbers.specs.Elements.{find}
 use Rattle.packets.specs.Rules.{Call, Complete, End, Mark, Return, Start, Submit, Take, accept, always, assigned, begun, closed, closing, completed, cut, decided, ended, finished, freshJob, handedBack, inArea, isAt, isDone, isOwn, refusal, returnIfDone, run, startable, siteOf, started, step, submitted}
 use Rattle.packets.proofs.SeenLaws.{Calm, calm-finished, calm-return, calm-same, calm-status, calm-submit, calm-sweep, calm-trans, submitted-read}
 use Rattle.packets.specs.State.{State, isBusy, isEmpty, jobIn, motionOn, noJob, packetIn, packetOf, placeOf, restatusAll, setState, stateIn, sweep, unitAt, withState}

@@ -23,7 +23,7 @@ use Rattle.packets.proofs.Handing.{unitSite}
 use Rattle.packets.proofs.Inv.{Inv, running-alive}
 use Rattle.packets.proofs.InvJobs.{held-once}
 use Rattle.packets.proofs.Laws.{and-left, and-right, eqb-self, getD-set-keep}
-use Rattle.packets.specs.Picks.{find}
+use Rattle.numbers.specs.Elements.{find}
 use Rattle.packets.specs.Rules.{Call, Complete, End, Mark, Return, Start, Submit, Take, accept, answer, assigned, begun, closed, decided, finished, freshJob, isDone, marked, refusal, returnIfDone, returned, run, startable, started, step, submitted}
 use Rattle.packets.specs.State.{State, heldBy, isClosing, isEmpty, jobIn, motionOn, noJob, packetIn, release, setState, stateIn, takeUnit, wanted, withState}
 use Rattle.packets.proofs.Steps.{busy-of, closing-not-running, fresh-inv, fresh-state, run-inv, step-inv}

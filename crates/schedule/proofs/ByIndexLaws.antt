@@ -6,10 +6,11 @@ use mathlib.Core.List.{List}
 use lib.ListN.{length}
 use borrow.Author.Tests.{ltb-true, ltb-false}
 use Rattle.numbers.proofs.Tests.{by-bool}
+use Rattle.numbers.specs.Elements.{find}
 use Rattle.schedule_entries.specs.Entries.{isNamed}
 use Rattle.schedule_entries.specs.declared.State.the-variants.{Waiting, Suspended, Closing}
 use Rattle.schedule_entries.specs.declared.Entry.{Entry}
-use Rattle.schedule_list.specs.InSchedule.{inSchedule, find, there, changedAt}
+use Rattle.schedule_list.specs.InSchedule.{inSchedule, there, changedAt}
 use Rattle.schedule_list.specs.declared.Schedule.{Schedule}
 use Rattle.schedule_list.proofs.InScheduleLaws.{any-first}
 use Rattle.schedule_list.proofs.IndexLaws.{find-here, find-none, removed-at, state-at}

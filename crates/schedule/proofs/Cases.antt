@@ -8,6 +8,7 @@ use lib.Dec.{leb}
 use lib.ListN.{length, getD}
 use borrow.Author.Tests.{lt-ltb, le-ltb, le-leb, lt-leb}
 use Rattle.numbers.specs.declared.Refusal.the-variants.{NoSuchRequest, JobRuns}
+use Rattle.numbers.specs.Elements.{any}
 use Rattle.cards_request.specs.Errors.{errorIf, orElse}
 use Rattle.cards_request.proofs.ErrorLaws.{not-good}
 use Rattle.cards_request.specs.declared.CardError.the-variants.{SamePriority, SameSequence, ScheduleFull}
@@ -19,7 +20,7 @@ use Rattle.schedule_entries.specs.declared.State.{State}
 use Rattle.schedule_entries.specs.declared.State.the-variants.{Waiting, Suspended, Closing}
 use Rattle.schedule_entries.specs.declared.Entry.{Entry}
 use Rattle.schedule_entries.specs.declared.Query.{Query}
-use Rattle.schedule_list.specs.InSchedule.{most, inSchedule, scheduleOf, any, there, withState, changedAt}
+use Rattle.schedule_list.specs.InSchedule.{most, inSchedule, scheduleOf, there, withState, changedAt}
 use Rattle.schedule_list.specs.Queries.{first, without, ofId, ofPlace}
 use Rattle.schedule_list.proofs.IndexLaws.{first-by}
 use Rattle.schedule_list.specs.declared.Schedule.{Schedule}

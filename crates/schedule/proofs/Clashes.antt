@@ -6,13 +6,13 @@ use mathlib.Core.List.{List}
 use lib.Dec.{eqb, ltb}
 use lib.ListN.{length}
 use borrow.Author.Tests.{ne-eqb}
+use Rattle.numbers.specs.Elements.{any}
 use Rattle.cards_request.specs.declared.CardVerdict.{CardVerdict}
 use Rattle.cards_request.specs.declared.Request.{Request}
 use Rattle.schedule_entries.specs.Questions.{answers}
 use Rattle.schedule_entries.specs.declared.Entry.{Entry}
 use Rattle.schedule_entries.specs.declared.Question.the-variants.{Ranked, Keyed}
 use Rattle.schedule_entries.specs.declared.Query.{Query}
-use Rattle.schedule_list.specs.InSchedule.{any}
 use Rattle.schedule_list.specs.Queries.{first, ofKey}
 use Rattle.schedule_list.proofs.InScheduleLaws.{any-first}
 use Rattle.schedule.specs.Calls.{sameThere, clashError}

@@ -8,10 +8,11 @@ use lib.ListN.{length, getD, take, drop, set, replicate, length-set, drop-of-len
 use lib.Seq.{getD-set-other}
 use Rattle.numbers.proofs.Stores.{stored}
 use Rattle.numbers.proofs.Tests.{or-assoc, or-false}
+use Rattle.numbers.specs.Elements.{any}
 use Rattle.schedule_entries.specs.Entries.{keyOf, lowerSequence, active, serial}
 use Rattle.schedule_entries.specs.declared.Entry.{Entry}
 use Rattle.schedule_entries.specs.declared.Key.{Key}
-use Rattle.schedule_list.specs.InSchedule.{inSchedule, any, entryAt}
+use Rattle.schedule_list.specs.InSchedule.{inSchedule, entryAt}
 use Rattle.schedule_list.specs.Queries.{noKey}
 use Rattle.schedule_list.proofs.InScheduleLaws.{entry-step, schedule-at, schedule-few, schedule-sized}
 use Rattle.schedule_list.specs.declared.Schedule.{Schedule}

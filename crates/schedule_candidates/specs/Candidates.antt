@@ -4,9 +4,10 @@ use mathlib.Core.Path.{_≡_}
 use mathlib.Core.Bool.{Bool, false, _&&_, not}
 use mathlib.Core.List.{List}
 use lib.ListN.{length, getD}
+use Rattle.numbers.specs.Elements.{any}
 use Rattle.schedule_entries.specs.Entries.{keyOf, lowerSequence, waiting, active, serial}
 use Rattle.schedule_entries.specs.declared.Entry.{Entry}
-use Rattle.schedule_list.specs.InSchedule.{most, any, entryAt}
+use Rattle.schedule_list.specs.InSchedule.{most, entryAt}
 
 -- some job runs or closes: "an S-type job is a candidate only when no job runs or closes"
 abbrev pub running : List Entry → Bool

@@ -9,13 +9,14 @@ use native.Mathlib.Omega.{arith}
 use lib.ListN.{length, getD, take, drop, set, length-map}
 use lib.Seq.{set-split, map-set-same}
 use Rattle.numbers.proofs.Tests.{never}
+use Rattle.numbers.specs.Elements.{any}
 use Rattle.words.specs.Words.{same}
 use Rattle.words.proofs.WordLaws.{same-equal, same-self}
 use Rattle.cards_request.specs.declared.Request.{Request}
 use Rattle.schedule_entries.specs.Entries.{keyOf, precedes, sameKey, isNamed, blank}
 use Rattle.schedule_entries.specs.declared.State.{State}
 use Rattle.schedule_entries.specs.declared.Entry.{Entry}
-use Rattle.schedule_list.specs.InSchedule.{most, any, removed, setState, inserted, withState}
+use Rattle.schedule_list.specs.InSchedule.{most, removed, setState, inserted, withState}
 use Rattle.schedule_orderly.specs.Orderly.{Each, Pairs, Unlike, Ahead, requests, Orderly}
 use Rattle.schedule_orderly.proofs.OrderLaws.{precedes-on, precedes-other}
 

@@ -11,6 +11,7 @@ use lib.Dec.{leb}
 use lib.ListN.{length}
 use borrow.Author.Tests.{ltb-true, leb-false}
 use Rattle.numbers.proofs.Tests.{by-bool}
+use Rattle.numbers.specs.Elements.{any, find}
 use Rattle.cards_request.specs.Errors.{errorIf}
 use Rattle.cards_request.proofs.ErrorLaws.{or-else-none}
 use Rattle.cards_request.specs.declared.CardError.the-variants.{InSchedule}
@@ -21,7 +22,7 @@ use Rattle.schedule_entries.specs.Entries.{isNamed, suspended, active, firstSta
 use Rattle.schedule_entries.specs.declared.State.{State}
 use Rattle.schedule_entries.specs.declared.State.the-variants.{Waiting, Suspended, Running, Closing}
 use Rattle.schedule_entries.specs.declared.Entry.{Entry}
-use Rattle.schedule_list.specs.InSchedule.{most, inSchedule, scheduleOf, any, find, removed, setState, there, withState, changedAt}
+use Rattle.schedule_list.specs.InSchedule.{most, inSchedule, scheduleOf, removed, setState, there, withState, changedAt}
 use Rattle.schedule_list.proofs.InScheduleLaws.{in-of}
 use Rattle.schedule_list.specs.declared.Schedule.{Schedule}
 use Rattle.schedule.specs.Calls.{barred, clashError, enterError, entered, enteringBy, entering}
