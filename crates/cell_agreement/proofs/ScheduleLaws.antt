@@ -31,10 +31,13 @@ use Rattle.schedule_list.specs.Queries.{without}
 use Rattle.schedule_list.proofs.InScheduleLaws.{in-of}
 use Rattle.schedule_list.proofs.IndexLaws.{removed-at}
 use Rattle.schedule_list.specs.declared.Schedule.{Schedule}
-use Rattle.schedule.specs.Calls.{barred, clashError, closing, deleted, enterError, entered, enteringBy, released, returned, taken}
-use Rattle.schedule.specs.ByIndex.{barredAt, deletedAt, ofJob, ofName, releasedAt, returnedAt}
+use Rattle.schedule.specs.Calls.{closing, deleted, released, returned, taken}
+use Rattle.schedule.specs.ByIndex.{deletedAt, ofJob, ofName, releasedAt, returnedAt}
 use Rattle.schedule.specs.declared.Changed.{Changed}
-use Rattle.schedule.proofs.ByIndexLaws.{barred-at, closing-at, deleted-at, released-at, returned-at}
+use Rattle.schedule.proofs.ByIndexLaws.{closing-at, deleted-at, released-at, returned-at}
+use Rattle.schedule_entering.specs.Entering.{barred, clashError, enterError, entered, enteringBy}
+use Rattle.schedule_entering.specs.Outlines.{barredAt}
+use Rattle.schedule_entering.proofs.Clashes.{barred-at}
 use Rattle.schedule_deck.specs.Report.{after, begin, deckSchedule, endFrom, scheduleBy, triedBy}
 use Rattle.schedule_deck.specs.declared.Progress.{Progress}
 use Rattle.cell_agreement.specs.Agreement.{statesIn}

@@ -14,7 +14,7 @@ use Rattle.cell_history.specs.History.{Deck, Select}
 use Rattle.cards_lines.specs.Shown.{shownBy}
 use Rattle.schedule_deck.specs.Report.{after}
 use Rattle.cards_fac.specs.Fac.{askedOf, codeError, codes, entryOf, formError, facError, facOf}
-use Rattle.schedule.specs.Calls.{clashError, enterError, sameThere, taken}
+use Rattle.schedule.specs.Calls.{taken}
 use Rattle.schedule_candidates.specs.Candidates.{candidate}
 use Rattle.cards_fields.specs.Fields.{cardByte, fields, isName, malformed}
 use Rattle.cards_fields.specs.Deck.{deckEnd}
@@ -62,6 +62,7 @@ use Rattle.cards_request.specs.Requests.{noUnits}
 use Rattle.cards_request.specs.declared.Facilities.{Facilities}
 use Rattle.cards_request.specs.declared.Request.{Request}
 use Rattle.schedule_entries.specs.declared.State.the-variants.{Waiting}
+use Rattle.schedule_entering.specs.Entering.{clashError, enterError, sameThere}
 use Rattle.packets.specs.declared.Lists.{Lists}
 use Rattle.cell_selection.specs.Selecting.{isJob, isTaken, noId, supplyIn, SelectsBy, leftBy, runOf}
 use Rattle.cell_selection.specs.declared.Choice.{Choice}

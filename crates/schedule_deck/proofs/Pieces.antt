@@ -19,8 +19,7 @@ use Rattle.cards_group.specs.declared.Reading.{Reading}
 use Rattle.schedule_entries.specs.Entries.{blank}
 use Rattle.schedule_entries.specs.declared.Entry.{Entry}
 use Rattle.schedule_list.specs.declared.Schedule.{Schedule}
-use Rattle.schedule.specs.Calls.{entering}
-use Rattle.schedule.specs.declared.Entering.{Entering}
+use Rattle.schedule_entering.specs.Entering.{entering, Entering}
 use Rattle.cards_lines.specs.Shown.{shownBy}
 use Rattle.schedule_deck.specs.Report.{requestLine, scheduleText, triedBy, tried, lineBy, lastBy, shownAt, triedAt, groupText, after}
 use Rattle.schedule_deck.specs.declared.Step.{Step}

@@ -19,8 +19,7 @@ use Rattle.cards_writing.specs.Writing.{priorityText}
 use Rattle.schedule_entries.specs.declared.Entry.{Entry}
 use Rattle.schedule_list.specs.InSchedule.{inSchedule, scheduleOf}
 use Rattle.schedule_list.specs.declared.Schedule.{Schedule}
-use Rattle.schedule.specs.Calls.{entering}
-use Rattle.schedule.specs.declared.Entering.{Entering}
+use Rattle.schedule_entering.specs.Entering.{entering, Entering}
 use Rattle.schedule_deck.specs.declared.Progress.{Progress}
 
 -- a request of the schedule: its ID and its priority

@@ -121,7 +121,7 @@ fn put_groups(out: &mut [u8], part: &[u8], start: Progress) -> Step
     ensures { λ r. ⌜ ReadAll (now (out .entry)) start (groupsOf (cardsOf (now (part .entry)))) (now (out .exit)) r ⌝ }
 {
     let mut schedule = start.schedule;
-    let mut outline = schedule_outline::outline_of(schedule);
+    let mut outline = schedule_entering::outline_of(schedule);
     let mut shown = start.shown;
     let mut last = start.last;
     let mut at: usize = 0;
@@ -137,14 +137,14 @@ fn put_groups(out: &mut [u8], part: &[u8], start: Progress) -> Step
         let verdict = reading.verdict;
         if cards_request::is_good(verdict) {
             let request = reading.request;
-            let judged = schedule_outline::judge(outline, request);
+            let judged = schedule_entering::judge(outline, request);
             let entered = judged.verdict;
             at = put_verdict(out, at, own, entered);
             let id = request.id;
             let good = last_by(entered, last, id);
             last = good;
             if cards_request::is_good(entered) {
-                let next = schedule_outline::placed(schedule, request, judged.from, judged.at);
+                let next = schedule_entering::placed(schedule, request, judged.from, judged.at);
                 schedule = next.schedule;
                 outline = next.outline;
             }

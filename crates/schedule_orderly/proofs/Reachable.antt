@@ -25,9 +25,9 @@ use Rattle.schedule_entries.specs.declared.Entry.{Entry}
 use Rattle.schedule_list.specs.InSchedule.{most, inSchedule, scheduleOf, removed, setState, there, withState, changedAt}
 use Rattle.schedule_list.proofs.InScheduleLaws.{in-of}
 use Rattle.schedule_list.specs.declared.Schedule.{Schedule}
-use Rattle.schedule.specs.Calls.{barred, clashError, enterError, entered, enteringBy, entering}
 use Rattle.schedule.specs.Calls.{releasedBy, deletedBy, taken, isIn, closing, returnedBy}
-use Rattle.schedule.proofs.Cases.{clash-clear}
+use Rattle.schedule_entering.specs.Entering.{barred, clashError, enterError, entered, enteringBy, entering}
+use Rattle.schedule_entering.proofs.Clashes.{clash-clear}
 use Rattle.schedule_orderly.specs.Orderly.{Call, after, afterAll, Each, requests, Orderly, Sound}
 use Rattle.schedule_orderly.proofs.ListLaws.{each-removed, orderly-removed, orderly-state, orderly-set, each-inserted, orderly-inserted, none-same, none-named}
 

@@ -9,7 +9,8 @@ use Rattle.schedule_entries.specs.Entries.{keyOf, precedes}
 use Rattle.schedule_entries.specs.declared.Entry.{Entry}
 use Rattle.schedule_list.specs.InSchedule.{most, inSchedule, scheduleOf}
 use Rattle.schedule_list.specs.declared.Schedule.{Schedule}
-use Rattle.schedule.specs.Calls.{entering, released, deleted, taken, closing, returned}
+use Rattle.schedule.specs.Calls.{released, deleted, taken, closing, returned}
+use Rattle.schedule_entering.specs.Entering.{entering}
 
 -- the calls on a schedule
 pub data Call : Type 0 where
