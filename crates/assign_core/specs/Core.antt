@@ -4,14 +4,15 @@ use Prim.Native.Nat.{ℕ, _+_, _≤_, _<_}
 use mathlib.Core.Path.{_≡_}
 use mathlib.Core.Logic.{_⊎_}
 use Rattle.numbers.specs.Bits.{bit}
+use Rattle.numbers.specs.Limits.{firstBlock, lastBlock}
 use Rattle.assign_core.specs.declared.Found.{Found}
 use Rattle.assign_core.specs.declared.Found.the-variants.{At, Nothing}
 
 -- a run of n blocks from i of the occupancy word w, whose bit b is 1 where block b is taken: assignable blocks, and all
 -- free
 pub record Run (w n i : ℕ) : Type 0 where
-  pub low : 2 ≤ i
-  pub high : i + n ≤ 30
+  pub low : firstBlock ≤ i
+  pub high : i + n ≤ lastBlock + 1
   pub free : (b : ℕ) → b < i + n → i ≤ b → bit w b ≡ 0
 
 -- a run of db blocks from j, disjoint from the ib blocks from i

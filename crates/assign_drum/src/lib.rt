@@ -1,4 +1,5 @@
 // The drum area that a job gets: the lowest one that is free.
+use numbers::limits;
 ghost use Prim.Native.Nat.{_+_, _≤_};
 ghost use Rattle.assign_drum.specs.Drum.{LowestStart};
 ghost use Rattle.numbers.specs.Decides.{Decides};
@@ -21,8 +22,8 @@ enum Way {
     Clear,
 }
 
-// The lowest assignable address, 105001 octal.
-const LOWEST: u64 = 35329;
+// The lowest assignable address.
+const LOWEST: u64 = limits::LOWEST_ADDRESS as u64;
 
 // An area's end, the address after its last. It may lie past any u32.
 fn end_of(a: Area) -> u64

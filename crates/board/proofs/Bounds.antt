@@ -10,6 +10,7 @@ use lib.ListN.{length, getD, length-append, length-take}
 use lib.Seq.{getD-take}
 use Rattle.numbers.specs.Quoted.{bytes, byte}
 use Rattle.numbers.proofs.Tests.{by-bool}
+use Rattle.numbers.specs.Limits.{mostRequests}
 use Rattle.text.specs.Writing.{twoText, decimalText}
 use Rattle.text.proofs.Undo.{few-digits}
 use Rattle.cards_fields.specs.Fields.{spaceless}
@@ -59,7 +60,7 @@ ByteMotion Idle = Unit {0}
 ByteMotion (Busy p k) = (p < 256) × (k < 256)
 
 pub record InTypes (lists : Lists) (schedule : Schedule) : Type 0 where
-  pub entries : length (schedule .entries) ≤ 64
+  pub entries : length (schedule .entries) ≤ mostRequests
   pub ids : (i : ℕ) → length (getD (schedule .entries) i blank .request .id) ≤ 6
   pub holders : (c u : ℕ) → ByteHolder (unitIn (lists .units .of) c u .holder)
   pub areas : (p : ℕ) → (jobIn (lists .jobs) p .from < 2 ^ 32) × (jobIn (lists .jobs) p .words < 2 ^ 32)

@@ -17,7 +17,7 @@ fn is_over(coming: Coming) -> bool {
 fn main() {
     let mut deck = io::large_buffer();
     let n = io::read_full(STDIN_FILENO, &mut deck);
-    let mut room = [0u8; 2048];
+    let mut room = [0u8; cards_report::ROOM];
     let mut printing = cards_report::begin(&deck[..n]);
     let mut left = cards_report::TURNS;
     while 0 < left {

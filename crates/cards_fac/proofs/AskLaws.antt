@@ -11,6 +11,7 @@ use lib.ListN.{length, getD, drop, set, drop-of-length-le}
 use lib.Seq.{drop-cons}
 use borrow.Author.Tests.{le-ltb, lt-ltb, eq-eqb, ne-eqb}
 use Rattle.numbers.proofs.Tests.{never}
+use Rattle.numbers.specs.Limits.{mostBlocks}
 use Rattle.words.specs.Words.{value}
 use Rattle.cards_fields.specs.Fields.{malformed}
 use Rattle.cards_request.specs.Errors.{good, errorIf, orElse}
@@ -115,14 +116,14 @@ set-past-md f (suc (suc (suc k))) n a b c = let e : suc (suc (suc k)) - 3 ≡ k 
 
 -- the core that is asked for, by the tests that the code makes
 module _ (asks : List ℕ) where
-  pub core-many : 28 < getD asks 0 0 + getD asks 1 0 → coreError asks ≡ Wrong TooMuchCore
-  core-many h = rw (lt-ltb 28 (getD asks 0 0 + getD asks 1 0) h)
+  pub core-many : mostBlocks < getD asks 0 0 + getD asks 1 0 → coreError asks ≡ Wrong TooMuchCore
+  core-many h = rw (lt-ltb mostBlocks (getD asks 0 0 + getD asks 1 0) h)
 
-  pub core-none : getD asks 0 0 + getD asks 1 0 ≤ 28 → getD asks 0 0 ≡ 0 → coreError asks ≡ Wrong NoIb
-  core-none h e = rw (le-ltb 28 (getD asks 0 0 + getD asks 1 0) h, eq-eqb (getD asks 0 0) 0 e)
+  pub core-none : getD asks 0 0 + getD asks 1 0 ≤ mostBlocks → getD asks 0 0 ≡ 0 → coreError asks ≡ Wrong NoIb
+  core-none h e = rw (le-ltb mostBlocks (getD asks 0 0 + getD asks 1 0) h, eq-eqb (getD asks 0 0) 0 e)
 
-  pub core-good : getD asks 0 0 + getD asks 1 0 ≤ 28 → (getD asks 0 0 ≡ 0 → ⊥) → coreError asks ≡ Good
-  core-good h e = rw (le-ltb 28 (getD asks 0 0 + getD asks 1 0) h, ne-eqb (getD asks 0 0) 0 e)
+  pub core-good : getD asks 0 0 + getD asks 1 0 ≤ mostBlocks → (getD asks 0 0 ≡ 0 → ⊥) → coreError asks ≡ Good
+  core-good h e = rw (le-ltb mostBlocks (getD asks 0 0 + getD asks 1 0) h, ne-eqb (getD asks 0 0) 0 e)
 
 -- the FAC card
 module _ (s : List ℕ) where

@@ -8,6 +8,7 @@ use lib.ListN.{length, getD, drop, set}
 use Rattle.numbers.specs.Quoted.{byte, bytes}
 use Rattle.numbers.specs.Kinds.{codeOf as kindCode, inOrder, unitKinds}
 use Rattle.numbers.specs.declared.Kind.the-variants.{Md}
+use Rattle.numbers.specs.Limits.{mostBlocks}
 use Rattle.text.specs.Class.{isDigit, isLetter}
 use Rattle.words.specs.Words.{every, same, value, leading, isnt}
 use Rattle.cards_fields.specs.Fields.{field, fields, malformed}
@@ -121,7 +122,7 @@ allEntered asks (t ∷ ts) = allEntered (entered asks t) ts
 
 -- "14 IB plus DB over 28; 27 no IB"
 abbrev pub coreError : List ℕ → CardVerdict
-coreError asks = orElse (errorIf (ltb 28 (getD asks 0 0 + getD asks 1 0)) TooMuchCore) (errorIf (eqb (getD asks 0 0) 0) NoIb)
+coreError asks = orElse (errorIf (ltb mostBlocks (getD asks 0 0 + getD asks 1 0)) TooMuchCore) (errorIf (eqb (getD asks 0 0) 0) NoIb)
 
 -- an entry as the code holds it: its error, or its slot and its number
 abbrev pub entryAnswer : CardVerdict → ℕ → ℕ → Entry

@@ -3,6 +3,7 @@ use cards_fields::card;
 use cards_request::CardError;
 use cards_request::CardVerdict;
 use cards_request::Facilities;
+use numbers::limits;
 use words::Class;
 ghost use mathlib.Core.Path.{_≡_};
 ghost use mathlib.Core.Bool.{false};
@@ -264,10 +265,10 @@ pub fn core_error(f: Facilities) -> CardVerdict
     ensures { λ r. ⌜ r ≡ coreError (asksOf f) ⌝ }
 {
     let ib = f.ib;
-    if 28 < ib {
+    if limits::MOST_BLOCKS < ib {
         return CardVerdict::Wrong(CardError::TooMuchCore);
     }
-    if 28 - ib < f.db {
+    if limits::MOST_BLOCKS - ib < f.db {
         return CardVerdict::Wrong(CardError::TooMuchCore);
     }
     if ib == 0 {

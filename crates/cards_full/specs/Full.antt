@@ -6,6 +6,7 @@ use lib.Dec.{eqb, leb}
 use lib.ListN.{length, drop}
 use Rattle.numbers.specs.Quoted.{byte}
 use Rattle.numbers.specs.declared.Refusal.the-variants.{NoRoom, WrongRequest}
+use Rattle.numbers.specs.Limits.{cardLength}
 use Rattle.words.specs.Words.{same}
 use Rattle.words.specs.Lines.{linesText}
 use Rattle.cards_fields.specs.Fields.{spaceless}
@@ -66,7 +67,7 @@ takesFull v = takesFurther (v .further) && takes (cardCount v) (v .request)
 -- each card has at most 80 characters
 abbrev pub short : List (List ℕ) → Bool
 short [] = true
-short (c ∷ cs) = leb (length c) 80 && short cs
+short (c ∷ cs) = leb (length c) cardLength && short cs
 
 -- 12: "card to write over 80 characters, or lent room too short"; the need is that of all cards, each with its LF
 unfoldable pub fits : FullRequest → ℕ → Bool

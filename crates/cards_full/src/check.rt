@@ -4,6 +4,7 @@ use cards_request::CardVerdict;
 use cards_request::FullRequest;
 use cards_request::Further;
 use cards_request::FurtherCard;
+use numbers::limits;
 ghost use mathlib.Core.Path.{_≡_};
 ghost use mathlib.Core.Bool.{_&&_};
 ghost use lib.Dec.{eqb};
@@ -45,7 +46,7 @@ fn are_same_cards(f: Further, g: Further) -> bool
     let c = f.cards;
     let d = g.cards;
     let mut k: usize = 0;
-    while k < cards_request::FURTHER {
+    while k < limits::MOST_FURTHER {
         if !is_same_card(c[k], d[k]) {
             return false;
         }
@@ -58,8 +59,8 @@ fn are_same_cards(f: Further, g: Further) -> bool
 fn is_taken_further(further: Further) -> bool
     ensures { λ r. ⌜ r ≡ takesFurther further ⌝ }
 {
-    // fourteen cards of a comma, 78 characters and LF
-    let mut lines = [0u8; 1120];
+    // so many cards of a comma, a text and LF
+    let mut lines = [0u8; limits::MOST_FURTHER * (limits::TEXT_LENGTH + 2)];
     let n = put::put_further(&mut lines, 0, b"", further);
     let cards = &lines[..n];
     if !cards_request::is_good(further_error(cards)) {

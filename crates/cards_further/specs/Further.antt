@@ -4,6 +4,7 @@ use mathlib.Core.Bool.{Bool, cond, _&&_, _||_, not}
 use mathlib.Core.List.{List, [], _∷_}
 use lib.ListN.{length}
 use Rattle.numbers.specs.Elements.{any}
+use Rattle.numbers.specs.Limits.{mostFurther, textLength}
 use Rattle.cards_fields.specs.Fields.{fieldIs, padded}
 use Rattle.cards_fac.specs.Fac.{isFac}
 use Rattle.cards_tal.specs.Tal.{isTal, talError, talText}
@@ -71,7 +72,7 @@ canonicals (c ∷ cs) = canonical c ∷ canonicals cs
 
 -- a text as it is held: blanks behind it, and its length
 abbrev pub heldCard : List ℕ → FurtherCard
-heldCard t = record { text = padded 78 t; len = min (length t) 78 }
+heldCard t = record { text = padded textLength t; len = min (length t) textLength }
 
 -- in so many places, blank cards behind the last
 abbrev pub heldIn : ℕ → List (List ℕ) → List FurtherCard
@@ -81,7 +82,7 @@ heldIn (suc n) (t ∷ ts) = heldCard t ∷ heldIn n ts
 
 -- "its further cards in the order read, at most 14", blank cards behind them, and how many they are
 unfoldable pub held : List (List ℕ) → Further
-held ts = record { cards = heldIn 14 ts; count = min (length ts) 14 }
+held ts = record { cards = heldIn mostFurther ts; count = min (length ts) mostFurther }
 
 -- what the code asks of a card; `id` is the PTY card's
 abbrev pub answer : Question → List ℕ → List ℕ → Bool

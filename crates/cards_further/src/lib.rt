@@ -6,6 +6,7 @@ use cards_request::CardError;
 use cards_request::CardVerdict;
 use cards_request::Further;
 use cards_request::FurtherCard;
+use numbers::limits;
 ghost use mathlib.Core.Path.{_≡_};
 ghost use mathlib.Core.Bool.{false, cond, _&&_, _||_};
 ghost use mathlib.Core.List.{[]};
@@ -265,7 +266,7 @@ fn put_canonical(room: &mut [u8], at: usize, card: &[u8]) -> usize
 fn held_card(card: &[u8]) -> FurtherCard
     ensures { λ r. ⌜ r ≡ heldCard (canonical (now (card .entry))) ⌝ }
 {
-    let mut text = [b' '; cards_request::TEXT];
+    let mut text = [b' '; limits::TEXT_LENGTH];
     let len = put_canonical(&mut text, 0, card);
     FurtherCard { text, len }
 }
@@ -284,7 +285,7 @@ pub fn held(rest: &[u8]) -> Further
         if end == rest.len() {
             return Further { cards, count };
         }
-        if count == cards_request::FURTHER {
+        if count == limits::MOST_FURTHER {
             return Further { cards, count };
         }
         cards[count] = held_card(&rest[at..end]);
@@ -299,8 +300,8 @@ pub fn count_of(further: Further) -> usize
     ensures { λ r. ⌜ r ≡ length (texts further) ⌝ }
 {
     let n = further.count;
-    if cards_request::FURTHER < n {
-        return cards_request::FURTHER;
+    if limits::MOST_FURTHER < n {
+        return limits::MOST_FURTHER;
     }
     n
 }
@@ -310,8 +311,8 @@ pub fn len_of(card: FurtherCard) -> usize
     ensures { λ r. ⌜ r ≡ length (take (card .len) (card .text)) ⌝ }
 {
     let n = card.len;
-    if cards_request::TEXT < n {
-        return cards_request::TEXT;
+    if limits::TEXT_LENGTH < n {
+        return limits::TEXT_LENGTH;
     }
     n
 }

@@ -8,6 +8,7 @@ use lib.ListN.{length, getD, drop}
 use borrow.Author.Tests.{le-leb, le-ltb, lt-ltb, eq-eqb, ne-eqb}
 use Rattle.numbers.proofs.Tests.{never}
 use Rattle.numbers.specs.Elements.{any}
+use Rattle.numbers.specs.Limits.{mostCards}
 use Rattle.words.specs.Words.{same, value}
 use Rattle.cards_fields.specs.Fields.{field, fieldIs, padded}
 use Rattle.cards_request.specs.Errors.{errorIf, good, firstOf, orElse}
@@ -53,22 +54,22 @@ module _ (n : ℕ) (pty fac : List ℕ) where
   front-pty e is h = rw (← is) (sym (or-else-some e _ h))
 
   module _ (p : ptyError pty ≡ Good) where
-    pub front-many : 16 < n → frontError n pty fac ≡ Wrong WrongCount
-    front-many h = rw (p, lt-ltb 16 n h)
+    pub front-many : mostCards < n → frontError n pty fac ≡ Wrong WrongCount
+    front-many h = rw (p, lt-ltb mostCards n h)
 
-    module _ (m : n ≤ 16) where
+    module _ (m : n ≤ mostCards) where
       pub front-count : (value (field pty 2) ≡ n → ⊥) → frontError n pty fac ≡ Wrong WrongCount
-      front-count h = rw (p, le-ltb 16 n m, ne-eqb (value (field pty 2)) n h)
+      front-count h = rw (p, le-ltb mostCards n m, ne-eqb (value (field pty 2)) n h)
 
       module _ (c : value (field pty 2) ≡ n) where
         counted : eqb (value (field pty 2)) n ≡ true
         counted = eq-eqb (value (field pty 2)) n c
 
         pub front-other : isFac fac ≡ false → frontError n pty fac ≡ Wrong NoFac
-        front-other h = rw (p, le-ltb 16 n m, counted, h)
+        front-other h = rw (p, le-ltb mostCards n m, counted, h)
 
         pub front-good : isFac fac ≡ true → frontError n pty fac ≡ Good
-        front-good h = rw (p, le-ltb 16 n m, counted, h)
+        front-good h = rw (p, le-ltb mostCards n m, counted, h)
 
 -- a word of at most twelve bytes is the PTY card's ID
 pub other-id : (pty c id : List ℕ) → id ≡ field pty 0 → length (field pty 0) ≤ 12 → not (fieldIs c 0 id) ≡ otherId pty c

@@ -6,6 +6,7 @@ use lib.Dec.{eqb, ltb}
 use lib.ListN.{length, getD, drop}
 use Rattle.numbers.specs.Quoted.{byte}
 use Rattle.numbers.specs.Elements.{any}
+use Rattle.numbers.specs.Limits.{mostCards}
 use Rattle.words.specs.Words.{same, value}
 use Rattle.cards_fields.specs.Fields.{field, padded}
 use Rattle.cards_request.specs.Errors.{errorIf, firstOf}
@@ -36,7 +37,7 @@ use Rattle.cards_group.specs.declared.FullReading.{FullReading}
 
 -- "20 count differs from the cards in the group"; "up to 16 cards; a larger group gets error 20"
 abbrev pub wrongCount : ℕ → List ℕ → Bool
-wrongCount n pty = ltb 16 n || not (eqb (value (field pty 2)) n)
+wrongCount n pty = ltb mostCards n || not (eqb (value (field pty 2)) n)
 
 -- "25 any differing ID"
 abbrev pub otherId : List ℕ → List ℕ → Bool

@@ -7,6 +7,7 @@ use cards_request::CardVerdict;
 use cards_request::Facilities;
 use cards_request::FullRequest;
 use cards_request::Request;
+use numbers::limits;
 ghost use mathlib.Core.Path.{_≡_};
 ghost use mathlib.Core.Bool.{false, _||_};
 ghost use Prim.Native.Nat.{_≤_};
@@ -130,7 +131,7 @@ fn front_error(n: usize, pty: &[u8], fac: &[u8]) -> CardVerdict
     if !cards_request::is_good(e) {
         return e;
     }
-    if 16 < n {
+    if limits::MOST_CARDS < n {
         return CardVerdict::Wrong(CardError::WrongCount);
     }
     if number_at(pty, 2) as usize != n {

@@ -5,6 +5,7 @@ use mathlib.Core.List.{List, [], _∷_}
 use lib.Dec.{eqb, ltb, leb}
 use lib.ListN.{length, getD, take, drop}
 use Rattle.numbers.specs.Quoted.{byte, bytes}
+use Rattle.numbers.specs.Limits.{lastSequence, lastPrecedence}
 use Rattle.text.specs.Class.{isDigit, isLetter, isAlnum}
 use Rattle.words.specs.Words.{passes, every, has, same, value}
 use Rattle.words.specs.declared.Class.the-variants.{Hyphened}
@@ -45,19 +46,19 @@ precedenceText t = drop (lead t + 1) t
 abbrev pub sequenceGood : List ℕ → Bool
 sequenceGood t =
     every isDigit (sequenceText t)
-    && (isLetter (getD t 0 0) || (leb 1 (value (sequenceText t)) && leb (value (sequenceText t)) 63))
+    && (isLetter (getD t 0 0) || (leb 1 (value (sequenceText t)) && leb (value (sequenceText t)) lastSequence))
 
 -- "left out, .. precedence [is] 63"
 abbrev pub precedence : List ℕ → ℕ
-precedence p = cond (eqb (length p) 0) 63 (value p)
+precedence p = cond (eqb (length p) 0) lastPrecedence (value p)
 
 -- a precedence is 0-63, of at most two digits
 abbrev pub precedenceGood : List ℕ → Bool
-precedenceGood p = leb (length p) 2 && (every isDigit p && leb (precedence p) 63)
+precedenceGood p = leb (length p) 2 && (every isDigit p && leb (precedence p) lastPrecedence)
 
 -- "Z with precedence 63, written or implied, is wrong content"
 abbrev pub lastOfAll : ℕ → ℕ → Bool
-lastOfAll l p = eqb l (byte "Z") && eqb p 63
+lastOfAll l p = eqb l (byte "Z") && eqb p lastPrecedence
 
 -- a priority of wrong content is all zeros
 abbrev pub noPriority : Priority

@@ -2,6 +2,7 @@
 use cards_fields::card;
 use cards_request::CardError;
 use cards_request::CardVerdict;
+use numbers::limits;
 use words::Class;
 ghost use mathlib.Core.Path.{_≡_};
 ghost use Prim.Native.Nat.{_≤_, _<_};
@@ -45,13 +46,19 @@ fn no_priority() -> Priority
     }
 }
 
-// The precedence that a text of at most two bytes writes, 63 if it is empty.
+// The last sequence.
+const LAST_SEQUENCE: u32 = limits::LAST_SEQUENCE as u32;
+
+// The last precedence.
+const LAST_PRECEDENCE: u32 = limits::LAST_PRECEDENCE as u32;
+
+// The precedence that a text of at most two bytes writes, the last if it is empty.
 fn precedence_of(p: &[u8]) -> u32
     requires { ⌜ length (now p) ≤ 2 ⌝ }
     ensures { λ r. ⌜ r ≡ precedence (now (p .entry)) ⌝ }
 {
     if p.len() == 0 {
-        return 63;
+        return LAST_PRECEDENCE;
     }
     words::number(p)
 }
@@ -60,7 +67,7 @@ fn precedence_of(p: &[u8]) -> u32
 fn is_last(letter: u8, n: u32) -> bool
     ensures { λ r. ⌜ r ≡ lastOfAll letter n ⌝ }
 {
-    letter == b'Z' && n == 63
+    letter == b'Z' && n == LAST_PRECEDENCE
 }
 
 // The priority of a letter and a precedence behind a sequence.
@@ -77,7 +84,7 @@ fn rank(sequence: u8, letter: u8, p: &[u8]) -> Priority
         return no_priority();
     }
     let n = precedence_of(p);
-    if 63 < n {
+    if LAST_PRECEDENCE < n {
         return no_priority();
     }
     if is_last(letter, n) {
@@ -113,7 +120,7 @@ pub fn priority_of(t: &[u8]) -> Priority
     if sequence < 1 {
         return no_priority();
     }
-    if 63 < sequence {
+    if LAST_SEQUENCE < sequence {
         return no_priority();
     }
     rank(sequence as u8, t[2], &t[3..])

@@ -15,6 +15,7 @@ use Rattle.numbers.specs.Quoted.{bytes}
 use Rattle.numbers.specs.Refusals.{numberOf}
 use Rattle.numbers.specs.declared.Refusal.{Refusal}
 use Rattle.numbers.specs.declared.Refusal.the-variants.{NoRoom, WrongRequest}
+use Rattle.numbers.specs.Limits.{cardsRoom}
 use Rattle.text.specs.Writing.{decimalText}
 use Rattle.text.specs.Room.{Written}
 use Rattle.text.proofs.RoomLaws.{andThen}
@@ -31,7 +32,7 @@ use Rattle.cards_group.specs.declared.FullReading.{FullReading}
 use Rattle.cards_full.specs.Full.{textOf, fits, short, cardsIn, takesFull, writeAnswer, written}
 use Rattle.cards_full.specs.declared.Wrote.{Wrote}
 use Rattle.cards_full.specs.declared.Wrote.the-variants.{Cards, Refused}
-use Rattle.cards_report.specs.Cards.{tableText, refusalLine, goodText, textBy, cardsRoom}
+use Rattle.cards_report.specs.Cards.{tableText, refusalLine, goodText, textBy}
 use Rattle.cards_report.proofs.TableLines.{table-short}
 
 pub refused-short : (r : Refusal) → length (refusedText r) ≤ 10

@@ -8,6 +8,7 @@ use lib.ListN.{getD, take, drop}
 use Rattle.numbers.specs.Quoted.{byte, bytes}
 use Rattle.numbers.specs.Refusals.{numberOf}
 use Rattle.numbers.specs.declared.Refusal.{Refusal}
+use Rattle.numbers.specs.Limits.{cardsRoom, pmLength}
 use Rattle.text.specs.Room.{Whole}
 use Rattle.text.specs.Writing.{decimalText}
 use Rattle.words.specs.Lines.{lineText, size}
@@ -38,14 +39,14 @@ placesFrom f i (suc n) = place f i ∷ placesFrom f (suc i) n
 -- "lines, each `=` and 66 characters of the table, digit 0 first": n of them, from digit d on
 abbrev pub rowLines : Further → ℕ → ℕ → List ℕ
 rowLines f d zero = []
-rowLines f d (suc n) = lineText (byte "=" ∷ placesFrom f (66 * d) 66) ++ rowLines f (suc d) n
+rowLines f d (suc n) = lineText (byte "=" ∷ placesFrom f (pmLength * d) pmLength) ++ rowLines f (suc d) n
 
 -- "good, with PM cards: behind them the line `PMT n`, n = 66(N+1) the number of characters in its parameter table, and
 -- N+1 lines"
 unfoldable pub tableText : Further → List ℕ
 tableText f =
     cond (eqb (tableSize f) 0) []
-    (bytes "PMT " ++ (decimalText (tableSize f) ++ (bytes "\n" ++ rowLines f 0 (tableSize f / 66))))
+    (bytes "PMT " ++ (decimalText (tableSize f) ++ (bytes "\n" ++ rowLines f 0 (tableSize f / pmLength))))
 
 -- "good, but not to be written: `SP id NO 12`"
 abbrev pub refusalLine : List ℕ → Refusal → List ℕ
@@ -55,10 +56,6 @@ refusalLine id refusal = bytes "SP " ++ (spaceless id ++ (bytes " NO " ++ (decim
 abbrev pub goodText : Wrote → FullRequest → List ℕ → List ℕ
 goodText (Written.Cards n) v shown = textOf v ++ tableText (v .further)
 goodText (Written.Refused refusal) v shown = refusalLine shown refusal
-
--- how many bytes the cards of a request take at most: sixteen of 80 characters and an LF
-abbrev pub cardsRoom : ℕ
-cardsRoom = 1296
 
 -- "with a card error: `SP id ER n`, as the deck program prints it"
 abbrev pub textBy : CardVerdict → FullRequest → List ℕ → List ℕ

@@ -1,5 +1,5 @@
-// What the cards program prints, piece by piece in lent room: a piece is the text of one group, so that a room of 2,048
-// bytes holds each, however long the whole is.
+// What the cards program prints, piece by piece in lent room: a piece is the text of one group, so that a small room
+// holds each, however long the whole is.
 use cards_fields::DeckEnd;
 use cards_fields::deck;
 use cards_fields::parts;
@@ -8,6 +8,7 @@ use cards_request::CardVerdict;
 use cards_request::FullRequest;
 use cards_request::Further;
 use numbers::Refusal;
+use numbers::limits;
 ghost use mathlib.Core.Path.{_≡_};
 ghost use Prim.Native.Nat.{_-_};
 ghost use lib.ListN.{take, drop};
@@ -18,6 +19,9 @@ ghost use Rattle.cards_report.specs.Cards.{tableText, refusalLine, textB
 
 // How many turns print whatever a buffer of 65,536 bytes holds: a group has a byte at least, and one turn more ends it.
 pub const TURNS: usize = 65537;
+
+// How many bytes hold each piece: a request's cards, the line before its table and that table's lines.
+pub const ROOM: usize = 2048;
 
 // What is to come: groups, the line of a refused deck, or nothing.
 pub enum Coming {
@@ -45,7 +49,7 @@ pub struct Printed {
 fn put_table(out: &mut [u8], at: usize, further: Further) -> usize
     ensures { λ r. ⌜ Written (now (out .entry)) at (tableText further) (now (out .exit)) r ⌝ }
 {
-    let mut table = [b' '; cards_table::MOST];
+    let mut table = [b' '; limits::TABLE_LENGTH];
     let n = cards_table::put_table(&mut table, further);
     if n == 0 {
         return at;
@@ -56,9 +60,9 @@ fn put_table(out: &mut [u8], at: usize, further: Further) -> usize
     let mut from: usize = 0;
     while from < n {
         let mark = text::put_byte(out, next, b'=');
-        let row = text::put_bytes(out, mark, &table[from..from + 66]);
+        let row = text::put_bytes(out, mark, &table[from..from + limits::PM_LENGTH]);
         next = text::put_byte(out, row, b'\n');
-        from += 66;
+        from += limits::PM_LENGTH;
     }
     next
 }
@@ -78,8 +82,7 @@ fn put_refusal(out: &mut [u8], at: usize, id: [u8; 6], refusal: Refusal) -> usiz
 fn put_good(out: &mut [u8], at: usize, shown: [u8; 6], full: FullRequest) -> usize
     ensures { λ r. ⌜ Written (now (out .entry)) at (textBy CardVerdict.Good full shown) (now (out .exit)) r ⌝ }
 {
-    // sixteen cards of 80 characters and LF
-    let mut room = [0u8; 1296];
+    let mut room = [0u8; limits::CARDS_ROOM];
     match cards_full::write(&mut room, full) {
         Wrote::Cards(n) => {
             let next = text::put_bytes(out, at, &room[..n]);
@@ -154,7 +157,7 @@ fn rest(deck: &[u8], p: Printing) -> &[u8]
 }
 
 // Puts the next group, or the last line where there is none.
-fn put_next(out: &mut [u8; 2048], deck: &[u8], p: Printing) -> Printed
+fn put_next(out: &mut [u8; ROOM], deck: &[u8], p: Printing) -> Printed
     requires { ⌜ p .coming ≡ Coming.Groups ⌝ }
     ensures { λ r. ⌜ Prints (now (deck .entry)) p (now (out .entry)) (now (out .exit)) r ⌝ }
 {
@@ -178,7 +181,7 @@ fn put_next(out: &mut [u8; 2048], deck: &[u8], p: Printing) -> Printed
 }
 
 // Puts the next piece into lent room, which holds each, and answers how long it is and what is to come behind it.
-pub fn next(deck: &[u8], printing: Printing, out: &mut [u8; 2048]) -> Printed
+pub fn next(deck: &[u8], printing: Printing, out: &mut [u8; ROOM]) -> Printed
     ensures { λ r. ⌜ Prints (now (deck .entry)) printing (now (out .entry)) (now (out .exit)) r ⌝ }
 {
     let coming = printing.coming;

@@ -13,7 +13,7 @@ fn is_over(coming: Coming) -> bool {
 
 // Whether what is printed of a deck is a text; the loop counts its turns down, as the program's does.
 fn prints(deck: &[u8], wanted: &[u8]) -> bool {
-    let mut room = [0u8; 2048];
+    let mut room = [0u8; cards_report::ROOM];
     let mut printing = cards_report::begin(deck);
     let mut from: usize = 0;
     let mut left = cards_report::TURNS;

@@ -23,6 +23,7 @@ use Rattle.schedule_entries.specs.declared.Entry.{Entry}
 use Rattle.assign.specs.Assignment.{IsAssignment}
 use Rattle.packets.specs.Apart.{Fits, inCore}
 use Rattle.numbers.specs.Elements.{any}
+use Rattle.numbers.specs.Limits.{blocks}
 use Rattle.packets.specs.Rules as Rules
 use Rattle.packets.specs.State.{inRun, isEmpty, jobIn, noJob, stateIn, wanted}
 use Rattle.packets.proofs.Store.{alive-in}
@@ -81,14 +82,14 @@ module _ (es : List Entry) (lists : Lists) (s : Selection) (d : Selected es list
       (subst (λ (a : Area). In a x) (sym there) (record { from = leb-true (jobIn jobs i .from) x (k .0); below = ltb-true x (jobIn jobs i .from + jobIn jobs i .words) (k .1) }))
 
   -- a block that a live job holds is not free in the occupancy word
-  held-bit : (i b : ℕ) → isEmpty (stateIn jobs i) ≡ false → inCore (jobIn jobs i) b ≡ true → b < 32 → bit (occupancy (anyHas (map coreOf jobs)) 32) b ≡ 0 → ⊥
+  held-bit : (i b : ℕ) → isEmpty (stateIn jobs i) ≡ false → inCore (jobIn jobs i) b ≡ true → b < blocks → bit (occupancy (anyHas (map coreOf jobs)) blocks) b ≡ 0 → ⊥
   unfolding stateIn
   held-bit i b alive hold h z =
       let f : Core → Bool = λ (core : Core). inBlocks core b in
       let a : any f (map coreOf jobs) ≡ true =
       any-here f (map coreOf jobs) i (coreOf noJob) (subst (λ (n : ℕ). i < n) (sym (length-map jobs coreOf)) (alive-in jobs i (unfold stateIn in alive)))
       (ap f (List·getD-map coreOf jobs i noJob ∙ live-core (jobIn jobs i) alive) ∙ hold) in
-      let o : bit (occupancy (anyHas (map coreOf jobs)) 32) b ≡ cond (anyHas (map coreOf jobs) b) 1 0 = occupancy-bit (anyHas (map coreOf jobs)) 32 b h in
+      let o : bit (occupancy (anyHas (map coreOf jobs)) blocks) b ≡ cond (anyHas (map coreOf jobs) b) 1 0 = occupancy-bit (anyHas (map coreOf jobs)) blocks b h in
       let one : _≡_ {A = ℕ} (cond (anyHas (map coreOf jobs) b) 1 0) 1 = ap (λ (t : Bool). cond t 1 0) a in
       let n : _≡_ {A = ℕ} 0 1 = sym z ∙ o ∙ one in
       absurd (omega arith)

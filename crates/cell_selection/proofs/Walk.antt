@@ -8,6 +8,7 @@ use lib.Dec.{eqb}
 use lib.ListN.{length, getD, take}
 use borrow.Author.Tests.{eqb-false, eqb-true}
 use Rattle.numbers.proofs.Tests.{by-bool, never}
+use Rattle.numbers.specs.Limits.{mostRequests}
 use Rattle.units.specs.declared.Unit.{Unit}
 use Rattle.channels.specs.declared.Channel.{Channel}
 use Rattle.cards_request.specs.declared.Facilities.{Facilities}
@@ -108,11 +109,11 @@ told units occupancy areas channels wanted counts {drum} {l} {m} size c e a q =
     (subst (λ (x : ℕ). FirstOf (HasBy counts occupancy areas x wanted) parts m) e (subst (FirstOf (HasBy counts occupancy areas drum wanted) parts) q (a .first)))
 
 -- ---- the walk over a schedule's array, by the marks of its candidates
-module _ (s : Schedule) (wide : length (s .entries) ≡ 64) {n : ℕ} (size : n ≡ length (inSchedule s)) {may : List Bool} (marks : Marks (inSchedule s) may) (supply : Supply) where
+module _ (s : Schedule) (wide : length (s .entries) ≡ mostRequests) {n : ℕ} (size : n ≡ length (inSchedule s)) {may : List Bool} (marks : Marks (inSchedule s) may) (supply : Supply) where
   part : take n (s .entries) ≡ inSchedule s
   part = schedule-sized s size
 
-  pub few : n ≤ 64
+  pub few : n ≤ mostRequests
   few = omega (arith, schedule-few s wide)
 
   module _ {k : ℕ} (so-far : Noted) (w : Walked (take n (s .entries)) supply (so-far .lacking) (so-far .at) k) where

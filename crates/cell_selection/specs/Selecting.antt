@@ -7,6 +7,7 @@ use mathlib.Core.List.{List, map}
 use lib.Dec.{eqb}
 use lib.ListN.{length, replicate}
 use Rattle.numbers.specs.Quoted.{byte}
+use Rattle.numbers.specs.Limits.{blocks}
 use Rattle.cards_request.specs.declared.Facilities.{Facilities}
 use Rattle.cards_request.specs.declared.Request.{Request}
 use Rattle.schedule_entries.specs.Entries.{blank}
@@ -37,7 +38,7 @@ use Rattle.cell_selection.specs.declared.Taking.{Taking}
 
 -- what the assigner looks at: the units, the blocks and drum areas that jobs hold, the configured channels
 abbrev pub supplyIn : Lists → Supply
-supplyIn lists = supplyOf (lists .units .of) (occupancy (anyHas (map coreOf (lists .jobs))) 32) (map areaOf (lists .jobs)) (lists .channels)
+supplyIn lists = supplyOf (lists .units .of) (occupancy (anyHas (map coreOf (lists .jobs))) blocks) (map areaOf (lists .jobs)) (lists .channels)
 
 -- a request has no assignment
 abbrev pub HasNone : Supply → Request → Type 0
@@ -135,8 +136,8 @@ assignmentOf wanted a =
 
 -- the starts of blocks that are asked for are numbers of blocks, as those of an assignment are
 pub record Starts (wanted : Facilities) (a : Assigned) : Type 0 where
-  pub ib : (wanted .ib ≡ 0 → ⊥) → a .ib < 32
-  pub db : (wanted .db ≡ 0 → ⊥) → a .db < 32
+  pub ib : (wanted .ib ≡ 0 → ⊥) → a .ib < blocks
+  pub db : (wanted .db ≡ 0 → ⊥) → a .db < blocks
 
 -- ---- what selection leaves
 

@@ -21,6 +21,7 @@ use units::Units;
 ghost use mathlib.Core.Path.{_≡_};
 ghost use mathlib.Core.List.{map};
 ghost use Prim.Native.Nat.{_<_};
+ghost use Rattle.numbers.specs.Limits.{blocks};
 ghost use Rattle.assign.specs.Assignment.{supplyOf};
 ghost use Rattle.schedule_list.specs.InSchedule.{inSchedule};
 ghost use Rattle.cell_selection.specs.Selecting.{isJob, Selects, supplyIn, unselected, isTaken, runOf, assignmentOf, Starts, Takes};
@@ -251,7 +252,7 @@ fn units_of(heads: [Head; 256]) -> [bool; 256]
 
 // A run of blocks; none where none are asked for.
 fn run_of(start: u32, count: u8) -> Blocks
-    requires { ⌜ ((count ≡ 0 → ⊥) → start < 32) ⌝ }
+    requires { ⌜ ((count ≡ 0 → ⊥) → start < blocks) ⌝ }
     ensures { λ r. ⌜ r ≡ runOf start count ⌝ }
 {
     if count == 0 {

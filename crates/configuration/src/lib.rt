@@ -4,6 +4,7 @@ mod section;
 
 use crate::section::Codes;
 use channels::Configuration;
+use numbers::limits;
 use text::Number;
 ghost use Prim.Native.Nat.{_≤_, _<_};
 ghost use mathlib.Core.Path.{_≡_};
@@ -41,7 +42,7 @@ fn read_third(s: &[u8], line: usize, at: usize) -> Codes
     requires { ⌜ (at ≤ length (now s)) × (line < 17179869184) ⌝ }
     ensures { λ r. ⌜ r ≡ thirdSection (now (s .entry)) line at ⌝ }
 {
-    let Number::Is(n, k) = line::last_number(&s[at..], 0, 60) else {
+    let Number::Is(n, k) = line::last_number(&s[at..], 0, limits::MOST_CODES) else {
         return section::bad_codes(line);
     };
     let third = section::read_codes(s, n, line + 1, at + k);

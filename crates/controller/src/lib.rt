@@ -24,7 +24,7 @@ pub extern "C" fn luffgravel_listing(config: &[u8], out: &mut [u8]) -> usize
 // Puts what the deck program prints into lent room and answers its length. The room holds every report, so nothing is
 // cut.
 #[no_mangle]
-pub extern "C" fn luffgravel_deck(deck: &[u8], out: &mut [u8; 53248]) -> usize
+pub extern "C" fn luffgravel_deck(deck: &[u8], out: &mut [u8; schedule_deck::ROOM]) -> usize
     ensures { λ r. ⌜ Reported (now (deck .entry)) (now (out .entry)) (now (out .exit)) r ⌝ }
 {
     schedule_deck::report(deck, out)

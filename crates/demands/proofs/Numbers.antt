@@ -29,6 +29,7 @@ use Rattle.schedule_list.specs.declared.Schedule.{Schedule}
 use Rattle.schedule_deck.specs.Report.{outcomeBy}
 use Rattle.schedule.specs.Calls.{deletedBy, releasedBy}
 use Rattle.numbers.specs.Elements.{any, find}
+use Rattle.numbers.specs.Limits.{deckBytes}
 use Rattle.packets.specs.Rules as Rules
 use Rattle.packets.specs.State.{State, configured, fittedOn, isIdle, jobIn, motionOn, packetIn, packetOf, placeOf, stateIn, unitAt}
 use Rattle.packets.specs.declared.How.{How}
@@ -167,9 +168,9 @@ mark-rows s es k u m on = go (fittedOn (s .channels) k)
 
 -- ---- a deck, release, delete, a status
 
-deck-rows : (bytes : List ℕ) → ofOutcome (outcomeBy (deckEnd bytes)) ≡ cond (not (leb (length bytes) 16384 && terminated (cardsOf bytes))) (some BadDeck) none
+deck-rows : (bytes : List ℕ) → ofOutcome (outcomeBy (deckEnd bytes)) ≡ cond (not (leb (length bytes) deckBytes && terminated (cardsOf bytes))) (some BadDeck) none
 unfolding deckEnd
-deck-rows bytes = by-bool (leb (length bytes) 16384 && terminated (cardsOf bytes)) (λ e. rw e refl) (λ e. rw e refl)
+deck-rows bytes = by-bool (leb (length bytes) deckBytes && terminated (cardsOf bytes)) (λ e. rw e refl) (λ e. rw e refl)
 
 release-rows : (o : Option Entry) (s : Schedule) (id : List ℕ) → ofAnswer (answerOf (releasedBy o s id .outcome)) ≡ cond (not (isSuspended o)) (some NoSuchRequest) none
 release-rows none s id = refl

@@ -40,6 +40,7 @@ use Rattle.schedule_entries.specs.Entries.{active, isNamed, suspended}
 use Rattle.schedule_entries.specs.declared.Entry.{Entry}
 use Rattle.schedule_list.specs.InSchedule.{inSchedule}
 use Rattle.numbers.specs.Elements.{any, find}
+use Rattle.numbers.specs.Limits.{deckBytes}
 use Rattle.packets.specs.State.{
   State,
   blank,
@@ -165,7 +166,7 @@ isActive (some e) = active (e .state)
 -- the sentences of each call
 abbrev pub rowsIn : State → List Entry → Call → List Row
 -- 11: deck too long or without termination card
-rowsIn s es (Deck bytes) = row BadDeck (not (leb (length bytes) 16384 && terminated (cardsOf bytes))) ∷ []
+rowsIn s es (Deck bytes) = row BadDeck (not (leb (length bytes) deckBytes && terminated (cardsOf bytes))) ∷ []
 -- a selection: stated by itself, below (`SelectRefused`)
 rowsIn s es Select = []
 rowsIn s es (Submit j p f k w) = submitRows s (fittedOn (s .channels) k) j p f k w

@@ -11,6 +11,7 @@ use lib.ListN.{length, take, length-take}
 use lib.Seq.{take-all}
 use Rattle.numbers.specs.declared.Refusal.{Refusal}
 use Rattle.numbers.specs.declared.Refusal.the-variants.{BadDeck}
+use Rattle.numbers.specs.Limits.{deckBytes}
 use Rattle.words.proofs.WordLaws.{same-long}
 use Rattle.cards_fields.specs.Deck.{isTermination, termination, deckGroups}
 use Rattle.cards_fields.proofs.DeckLaws.{deck-long}
@@ -61,7 +62,7 @@ refused-part w refusal e from len a b c d = rw e
 
 -- ---- cut somewhere behind 16,384 bytes
 
-module _ (k : ℕ) (big : 16384 < k) where
+module _ (k : ℕ) (big : deckBytes < k) where
   -- the termination card has 80 characters
   pub ends-cut : (line : List ℕ) → isTermination (take k line) ≡ isTermination line
   ends-cut line =

@@ -9,6 +9,7 @@ use lib.Dec.{eqb}
 use lib.ListN.{length, take, drop}
 use lib.Seq.{take-append-add}
 use borrow.Author.Tests.{ltb-true, eq-eqb, ne-eqb}
+use Rattle.numbers.specs.Limits.{deckBytes}
 use Rattle.words.specs.Words.{isnt}
 use Rattle.words.specs.Lines.{lf, lineOf, lineText}
 use Rattle.words.proofs.WordLaws.{leading-front}
@@ -57,7 +58,7 @@ Claims Asks repair day rest text = AsksFrom text repair day rest
 kept-same : {k n m : ℕ} {room after text : List ℕ} → Kept k room text n → (after ≡ room) × (m ≡ n) → Kept k after text m
 kept-same {k} {text = text} w e = subst₂ (λ (l : List ℕ) (i : ℕ). Kept k l text i) (sym (e .0)) (sym (e .1)) w
 
-module _ (k : ℕ) (big : 16384 < k) where
+module _ (k : ℕ) (big : deckBytes < k) where
   -- what the rooms answer is what the whole texts answer
   says : {s : Standing} {part repair day line text : List ℕ} → Stands k s part repair day
       → Says (take k line) (repairIn s) (dayIn s) text → Says line repair day text
@@ -149,7 +150,7 @@ module _ (k : ℕ) (big : 16384 < k) where
 pub program : (s t : Standing) (cs : List Call) (last : List ℕ) → Begins s → Runs s cs t → Ends (t .desk .stage) t last
     → Prints (inputOf cs) (printed cs ++ last)
 program s t cs last b r e =
-    let w : Stands 16385 s [] [] [] =
+    let w : Stands (deckBytes + 1) s [] [] [] =
     record {
       line = kept-none (s .line) (b .line) (ap (λ (d : Desk). d .line) (b .desk));
       clean = tt;
@@ -158,4 +159,4 @@ program s t cs last b r e =
     } in
     prints (inputOf cs) (printed cs ++ last)
     (subst (λ (p : Stage). Claims p [] [] (inputOf cs) (printed cs ++ last)) (ap (λ (d : Desk). d .stage) (b .desk))
-    (all 16385 (omega arith) cs s t last [] [] [] w r e))
+    (all (deckBytes + 1) (omega arith) cs s t last [] [] [] w r e))

@@ -1,13 +1,14 @@
 -- The desk, heard line by line in lent rooms: what each call leaves and answers, for whatever it is handed. A reader has
 -- to believe this page. That the calls together print what the page Printing says is proved (proofs/Program), for any
 -- pieces in which the input comes.
-use Prim.Native.Nat.{ℕ}
+use Prim.Native.Nat.{ℕ, _+_}
 use mathlib.Core.Path.{_≡_}
 use mathlib.Core.Bool.{Bool, true, false, cond}
 use mathlib.Core.List.{List, [], _∷_, _++_}
 use lib.Dec.{eqb}
 use lib.ListN.{length, take}
 use Rattle.numbers.specs.declared.Refusal.the-variants.{BadDeck}
+use Rattle.numbers.specs.Limits.{deckBytes}
 use Rattle.text.specs.Room.{Written, Whole}
 use Rattle.words.specs.Lines.{lineText}
 use Rattle.cards_fields.specs.Deck.{isTermination}
@@ -121,6 +122,6 @@ printed (c ∷ cs) = c .text ++ printed cs
 -- rooms of the length that is lent, and a desk before the first byte
 pub record Begins (s : Standing) : Type 0 where
   pub desk : s .desk ≡ fresh
-  pub line : length (s .line) ≡ 16385
-  pub repair : length (s .repair) ≡ 16385
-  pub day : length (s .day) ≡ 16385
+  pub line : length (s .line) ≡ (deckBytes + 1)
+  pub repair : length (s .repair) ≡ (deckBytes + 1)
+  pub day : length (s .day) ≡ (deckBytes + 1)

@@ -3,6 +3,7 @@
 use cards_fields::deck;
 use desk_show::Which;
 use numbers::Refusal;
+use numbers::limits;
 ghost use mathlib.Core.Path.{_≡_};
 ghost use mathlib.Core.Bool.{cond};
 ghost use lib.ListN.{take};
@@ -12,6 +13,12 @@ ghost use Rattle.cards_fields.specs.Deck.{isTermination};
 ghost use Rattle.desk_hearing.specs.Printing.{closing};
 ghost use Rattle.desk_hearing.specs.Hearing.{deskOf, fresh, standing, Heard, Ended};
 ghost use Rattle.desk_hearing.specs.Putting.{Answered};
+
+// How many bytes are kept of a deck, and of a line: one more than a deck may have.
+pub const KEPT: usize = limits::DECK_BYTES + 1;
+
+// How many bytes hold each answer: a part, and the line after it.
+pub const ROOM: usize = limits::DECK_BYTES + 12;
 
 // What the next line belongs to: the repair deck, the day's deck, or the IDs that are asked for.
 pub enum Stage {
@@ -94,7 +101,7 @@ fn put_closing(out: &mut [u8], at: usize, which: Which) -> usize
 
 // Puts the answer to an ID that is asked for into lent room, which holds each: at most the 16,384 bytes of a deck, and the
 // 12 of `FROM REPAIR` with its LF.
-fn put_answer<'a>(out: &mut [u8; 16396], id: &[u8], repair: &'a [u8], day: &'a [u8]) -> usize
+fn put_answer<'a>(out: &mut [u8; ROOM], id: &[u8], repair: &'a [u8], day: &'a [u8]) -> usize
     ensures { λ r. ⌜ Answered (now (id .entry)) (now (repair .entry)) (now (day .entry)) (now (out .entry)) (now (out .exit)) r ⌝ }
 {
     let found = desk_show::find(id, repair, day);
@@ -109,10 +116,10 @@ fn put_answer<'a>(out: &mut [u8; 16396], id: &[u8], repair: &'a [u8], day: &'a [
 pub fn hear(
     desk: Desk,
     piece: &[u8],
-    line: &mut [u8; 16385],
-    repair: &mut [u8; 16385],
-    day: &mut [u8; 16385],
-    out: &mut [u8; 16396],
+    line: &mut [u8; KEPT],
+    repair: &mut [u8; KEPT],
+    day: &mut [u8; KEPT],
+    out: &mut [u8; ROOM],
 ) -> Hearing
     ensures { λ r. ⌜ Heard (standing desk (now (line .entry)) (now (repair .entry)) (now (day .entry))) (now (piece .entry))
         (standing (r .desk) (now (line .exit)) (now (repair .exit)) (now (day .exit)))
@@ -149,10 +156,10 @@ pub fn hear(
 // The end of the input: a last line without LF is answered; before both decks have come nothing can be asked.
 pub fn finish<'a>(
     desk: Desk,
-    line: &[u8; 16385],
-    repair: &'a [u8; 16385],
-    day: &'a [u8; 16385],
-    out: &mut [u8; 16396],
+    line: &[u8; KEPT],
+    repair: &'a [u8; KEPT],
+    day: &'a [u8; KEPT],
+    out: &mut [u8; ROOM],
 ) -> usize
     ensures { λ r. ⌜ Ended (standing desk (now (line .entry)) (now (repair .entry)) (now (day .entry)))
         (now (out .entry)) (now (out .exit)) r ⌝ }

@@ -12,6 +12,7 @@ use Rattle.numbers.specs.declared.Kind.the-variants.{Mt, Md}
 use Rattle.numbers.specs.declared.Outcome.the-variants as Outcomes
 use Rattle.numbers.specs.declared.Refusal.{Refusal}
 use Rattle.numbers.specs.declared.Refusal.the-variants.{NoAssignment}
+use Rattle.numbers.specs.Limits.{mostWords}
 use Rattle.units.specs.State.{unitIn}
 use Rattle.units.specs.declared.Holder.{Holder}
 use Rattle.units.specs.declared.Holder.the-variants.{Free, Held}
@@ -163,7 +164,7 @@ oneChannel = set noChannels 3 (fitted Mt 4)
 
 -- a drum
 abbrev pub drumChannels : List Channel
-drumChannels = set noChannels 7 (fitted Md 1000000)
+drumChannels = set noChannels 7 (fitted Md mostWords)
 
 abbrev pub step : Call → Seen → Step
 step call seen = record { call = call; seen = seen }

@@ -1,4 +1,5 @@
 pub mod Quoted
+pub mod Limits
 pub mod Kinds
 pub mod Refusals
 pub mod Decides

@@ -28,6 +28,9 @@ pub struct Step {
     pub progress: Progress,
 }
 
+// How many bytes hold every report, and what entering any deck puts.
+pub const ROOM: usize = 53248;
+
 // What entering a deck answers: a refusal and the schedule as it was, or the schedule that follows and where the text
 // in the lent room ends.
 pub struct Entered {
@@ -187,7 +190,7 @@ fn put_entered(out: &mut [u8], part: &[u8], schedule: Schedule) -> Entered
 
 // Puts what the deck program prints into lent room and answers its length. The room holds every report, so nothing is
 // cut.
-pub fn report(deck: &[u8], out: &mut [u8; 53248]) -> usize
+pub fn report(deck: &[u8], out: &mut [u8; ROOM]) -> usize
     ensures { λ r. ⌜ Reported (now (deck .entry)) (now (out .entry)) (now (out .exit)) r ⌝ }
 {
     let end = deck::deck_end(deck);
@@ -199,7 +202,7 @@ pub fn report(deck: &[u8], out: &mut [u8; 53248]) -> usize
 
 // Reads a deck into a schedule and puts its error lines and the last line into lent room, which holds all of them. A
 // refused deck leaves the schedule and the room as they were.
-pub fn enter_deck(schedule: Schedule, deck: &[u8], out: &mut [u8; 53248]) -> Entered
+pub fn enter_deck(schedule: Schedule, deck: &[u8], out: &mut [u8; ROOM]) -> Entered
     ensures { λ r. ⌜ DeckEntered schedule (now (deck .entry)) (now (out .entry)) (now (out .exit)) r ⌝ }
 {
     let end = deck::deck_end(deck);

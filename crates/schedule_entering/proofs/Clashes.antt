@@ -9,6 +9,7 @@ use lib.ListN.{length}
 use borrow.Author.Tests.{ltb-true, ltb-false, ne-eqb}
 use Rattle.numbers.proofs.Tests.{by-bool}
 use Rattle.numbers.specs.Elements.{any, find}
+use Rattle.numbers.specs.Limits.{mostRequests}
 use Rattle.cards_request.specs.Errors.{errorIf, orElse}
 use Rattle.cards_request.proofs.ErrorLaws.{not-good}
 use Rattle.cards_request.specs.declared.CardError.the-variants.{SamePriority, SameSequence, ScheduleFull}
@@ -20,7 +21,7 @@ use Rattle.schedule_entries.specs.Questions.{answers}
 use Rattle.schedule_entries.specs.declared.Entry.{Entry}
 use Rattle.schedule_entries.specs.declared.Question.the-variants.{Ranked, Keyed}
 use Rattle.schedule_entries.specs.declared.Query.{Query}
-use Rattle.schedule_list.specs.InSchedule.{most, there}
+use Rattle.schedule_list.specs.InSchedule.{there}
 use Rattle.schedule_list.specs.Queries.{first, ofKey}
 use Rattle.schedule_list.proofs.InScheduleLaws.{any-first}
 use Rattle.schedule_list.proofs.IndexLaws.{find-here, find-none}
@@ -61,9 +62,9 @@ module _ (es : List Entry) (r : Request) {n : ℕ} (long : n ≡ length es) wher
   clash-found e f g = g ∙ rw (asked (ofKey Ranked r) e, asked (ofKey Keyed r) f, long) met
 
 -- where no error answers, each of the others has another key, and they leave room
-pub clash-clear : (es : List Entry) (r : Request) → clashError es r ≡ Good → (any (λ e. sameKey (keyOf (e .request)) (keyOf r)) es ≡ false) × (leb most (length es) ≡ false)
+pub clash-clear : (es : List Entry) (r : Request) → clashError es r ≡ Good → (any (λ e. sameKey (keyOf (e .request)) (keyOf r)) es ≡ false) × (leb mostRequests (length es) ≡ false)
 unfolding clashError
-clash-clear es r e = by (sameThere es r) (any (λ e. sameKey (keyOf (e .request)) (keyOf r)) es) (leb most (length es)) e
+clash-clear es r e = by (sameThere es r) (any (λ e. sameKey (keyOf (e .request)) (keyOf r)) es) (leb mostRequests (length es)) e
   where
     by : (a b c : Bool) → orElse (errorIf a SamePriority) (orElse (errorIf b SameSequence) (orElse (errorIf c ScheduleFull) Good)) ≡ Good → (b ≡ false) × (c ≡ false)
     by true b c e = not-good e

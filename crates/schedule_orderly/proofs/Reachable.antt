@@ -12,6 +12,7 @@ use lib.ListN.{length}
 use borrow.Author.Tests.{ltb-true, leb-false}
 use Rattle.numbers.proofs.Tests.{by-bool}
 use Rattle.numbers.specs.Elements.{any, find}
+use Rattle.numbers.specs.Limits.{mostRequests}
 use Rattle.cards_request.specs.Errors.{errorIf}
 use Rattle.cards_request.proofs.ErrorLaws.{or-else-none}
 use Rattle.cards_request.specs.declared.CardError.the-variants.{InSchedule}
@@ -22,7 +23,7 @@ use Rattle.schedule_entries.specs.Entries.{isNamed, suspended, active, firstSta
 use Rattle.schedule_entries.specs.declared.State.{State}
 use Rattle.schedule_entries.specs.declared.State.the-variants.{Waiting, Suspended, Running, Closing}
 use Rattle.schedule_entries.specs.declared.Entry.{Entry}
-use Rattle.schedule_list.specs.InSchedule.{most, inSchedule, scheduleOf, removed, setState, there, withState, changedAt}
+use Rattle.schedule_list.specs.InSchedule.{inSchedule, scheduleOf, removed, setState, there, withState, changedAt}
 use Rattle.schedule_list.proofs.InScheduleLaws.{in-of}
 use Rattle.schedule_list.specs.declared.Schedule.{Schedule}
 use Rattle.schedule.specs.Calls.{releasedBy, deletedBy, taken, isIn, closing, returnedBy}
@@ -78,7 +79,7 @@ module _ (s : Schedule) (d : Sound s) where
       let others = removed (isNamed (r .id)) (inSchedule s) in
       let c = clash-clear others r (or-else-none (errorIf (barred (find (isNamed (r .id)) (inSchedule s))) InSchedule) (clashError others r) e .1) in
       orderly-inserted (record { request = r; state = firstState r }) others (none-named r (inSchedule s) (d .orderly .names)) (none-same r others (c .0))
-      (leb-false most (length others) (c .1)) (orderly-removed (isNamed (r .id)) (inSchedule s) (d .orderly))
+      (leb-false mostRequests (length others) (c .1)) (orderly-removed (isNamed (r .id)) (inSchedule s) (d .orderly))
 
   sound-entering : (r : Request) (v : CardVerdict) → enterError (inSchedule s) r ≡ v → Sound (enteringBy v s r .schedule)
   sound-entering r Good e = sound-of _ (orderly-entered r e)

@@ -2,6 +2,7 @@
 // answers stand in lent room one behind the other. The schedule stands by itself meanwhile: most lines are calls on the
 // request lists alone, and it is not copied for these.
 use cell::Cell;
+use numbers::limits;
 use packets::Answer;
 use packets::Leaving;
 use packets::Lists;
@@ -19,6 +20,15 @@ ghost use Rattle.schedule_list.specs.declared.Schedule.{Schedule};
 ghost use Rattle.shift_turns.specs.Turns.{shiftOf, Ends};
 ghost use Rattle.shift_hearing.specs.Behind.{askedIn, AnswersBehind, HandlesBehind};
 ghost use Rattle.shift_hearing.specs.Hearing.{standing, HearsPiece};
+
+// How many bytes of a line are kept.
+pub const LINE: usize = 20480;
+
+// How many bytes the answers of a piece have room for.
+pub const OUT: usize = 65536;
+
+// So many bytes of answers leave room for one more.
+const ENOUGH: usize = OUT - schedule_deck::ROOM;
 
 // The shift after what was heard, how many bytes of the next line stand in the room for it, how many bytes of the
 // piece were taken, and how many the answers have.
@@ -89,8 +99,8 @@ fn is_returning(answer: Answer) -> bool
 fn answer_call(
     lists: Lists,
     call: Line,
-    answer: &mut [u8; 53248],
-    out: &mut [u8; 65536],
+    answer: &mut [u8; schedule_deck::ROOM],
+    out: &mut [u8; OUT],
     at: usize,
 ) -> Handled
     ensures { λ r. ⌜ HandlesBehind lists call (now (answer .entry)) (now (answer .exit))
@@ -111,9 +121,9 @@ fn answer_call(
 fn answer_line(
     shift: Shift,
     line: &[u8],
-    room: &mut [u8; 16384],
-    answer: &mut [u8; 53248],
-    out: &mut [u8; 65536],
+    room: &mut [u8; limits::DECK_BYTES],
+    answer: &mut [u8; schedule_deck::ROOM],
+    out: &mut [u8; OUT],
     at: usize,
 ) -> Turn
     ensures { λ r. ⌜ AnswersBehind shift (now (line .entry)) (now (room .entry)) (now (room .exit))
@@ -135,10 +145,10 @@ pub fn hear(
     first: Shift,
     len: usize,
     piece: &[u8],
-    line: &mut [u8; 20480],
-    room: &mut [u8; 16384],
-    answer: &mut [u8; 53248],
-    out: &mut [u8; 65536],
+    line: &mut [u8; LINE],
+    room: &mut [u8; limits::DECK_BYTES],
+    answer: &mut [u8; schedule_deck::ROOM],
+    out: &mut [u8; OUT],
 ) -> Heard
     ensures { λ r. ⌜ HearsPiece (standing first len (now (line .entry)) (now (room .entry)) (now (answer .entry)))
         (now (piece .entry)) (now (out .entry))
@@ -152,7 +162,7 @@ pub fn hear(
     let mut kept = len;
     let mut taken: usize = 0;
     let mut at: usize = 0;
-    while taken < piece.len() && at <= 12288 {
+    while taken < piece.len() && at <= ENOUGH {
         let cut = input_lines::take_up(line, kept, &piece[taken..]);
         taken += cut.taken;
         kept = cut.kept;
@@ -186,9 +196,9 @@ pub fn hear(
 pub fn finish(
     shift: Shift,
     len: usize,
-    line: &[u8; 20480],
-    room: &mut [u8; 16384],
-    answer: &mut [u8; 53248],
+    line: &[u8; LINE],
+    room: &mut [u8; limits::DECK_BYTES],
+    answer: &mut [u8; schedule_deck::ROOM],
 ) -> usize
     ensures { λ r. ⌜ Ends (shift .phase) (shift .cell) (take len (now (line .entry))) (now (room .entry)) (now (room .exit))
         (now (answer .entry)) (now (answer .exit)) r ⌝ }

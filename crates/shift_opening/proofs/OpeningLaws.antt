@@ -7,6 +7,7 @@ use mathlib.Core.List.{List}
 use native.Mathlib.Omega.{arith}
 use lib.Dec.{ltb}
 use lib.ListN.{length, take}
+use Rattle.numbers.specs.Limits.{deckBytes}
 use Rattle.text.specs.Room.{Written}
 use Rattle.text.proofs.RoomLaws.{written-one}
 use Rattle.shift_begin.specs.Opening.{openingOf}
@@ -15,7 +16,7 @@ use Rattle.shift_opening.specs.Openings.{Keeps, begunText, AnswersOpenin
 use Rattle.shift_opening.specs.declared.Opening.{Opening}
 
 -- a text kept in the room stays within it
-pub kept-within : (room : List ℕ) (kept from : ℕ) (text after : List ℕ) (n : ℕ) → length room ≡ 16384 → from ≡ min kept 16384 → Written room from text after n → Keeps room kept text after n
+pub kept-within : (room : List ℕ) (kept from : ℕ) (text after : List ℕ) (n : ℕ) → length room ≡ deckBytes → from ≡ min kept deckBytes → Written room from text after n → Keeps room kept text after n
 kept-within room kept from text after n l e w =
     record { put = subst (λ (m : ℕ). Written room m text after n) e w; within = omega (arith, w .reached) }
 

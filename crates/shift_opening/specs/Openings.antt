@@ -5,6 +5,7 @@ use mathlib.Core.Bool.{false}
 use mathlib.Core.List.{List, []}
 use lib.Dec.{ltb}
 use lib.ListN.{take}
+use Rattle.numbers.specs.Limits.{deckBytes}
 use Rattle.text.specs.Room.{Written}
 use Rattle.words.specs.Lines.{lineText}
 use Rattle.configuration_listing.specs.Listing.{errorText}
@@ -16,8 +17,8 @@ use Rattle.shift_opening.specs.declared.Opening.{Opening}
 
 -- a text behind what is kept at the room's start, cut at the room's end, and how many bytes are kept then
 pub record Keeps (room : List ℕ) (kept : ℕ) (text after : List ℕ) (n : ℕ) : Type 0 where
-  pub put : Written room (min kept 16384) text after n
-  pub within : n ≤ 16384
+  pub put : Written room (min kept deckBytes) text after n
+  pub within : n ≤ deckBytes
 
 -- "A bad one prints `ER 14 LINE n`"
 abbrev pub begunText : Begun → List ℕ

@@ -116,7 +116,7 @@ fn put_refusal(out: &mut [u8], at: usize, outcome: Outcome) -> usize
 }
 
 // Enters a deck that has been gathered.
-pub fn reply_deck(cell: Cell, deck: &[u8], out: &mut [u8; 53248]) -> Replied
+pub fn reply_deck(cell: Cell, deck: &[u8], out: &mut [u8; schedule_deck::ROOM]) -> Replied
     ensures { λ r. ⌜ EntersDeck cell (now (deck .entry)) (now (out .entry)) (now (out .exit)) r ⌝ }
 {
     let entered = cell::enter(cell, deck, out);

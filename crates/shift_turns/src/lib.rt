@@ -3,6 +3,7 @@
 use cell::Cell;
 use channels::Configuration;
 use numbers::Refusal;
+use numbers::limits;
 use shift_begin::Begun;
 use shift_deck::Gathered;
 use shift_opening::Opening;
@@ -81,8 +82,8 @@ fn begins(
     cell: Cell,
     kept: usize,
     line: &[u8],
-    room: &mut [u8; 16384],
-    out: &mut [u8; 53248],
+    room: &mut [u8; limits::DECK_BYTES],
+    out: &mut [u8; schedule_deck::ROOM],
 ) -> Turn
     ensures { λ r. ⌜ Begins cell kept (now (line .entry)) (now (room .entry)) (now (room .exit)) (now (out .entry)) (now (out .exit)) r ⌝ }
 {
@@ -113,7 +114,7 @@ fn after_line(call: Line) -> Phase
 }
 
 // A line that is answered.
-fn talks(cell: Cell, line: &[u8], out: &mut [u8; 53248]) -> Turn
+fn talks(cell: Cell, line: &[u8], out: &mut [u8; schedule_deck::ROOM]) -> Turn
     ensures { λ r. ⌜ Talks cell (now (line .entry)) (now (out .entry)) (now (out .exit)) r ⌝ }
 {
     let said = shift_script::read_line(line);
@@ -124,7 +125,7 @@ fn talks(cell: Cell, line: &[u8], out: &mut [u8; 53248]) -> Turn
 }
 
 // A card of a deck that is too long.
-fn passes(cell: Cell, line: &[u8], out: &mut [u8; 53248]) -> Turn
+fn passes(cell: Cell, line: &[u8], out: &mut [u8; schedule_deck::ROOM]) -> Turn
     ensures { λ r. ⌜ PassSays (isTermination (now (line .entry))) cell (now (out .entry)) (now (out .exit)) r ⌝ }
 {
     if shift_deck::is_last_card(line) {
@@ -138,7 +139,7 @@ fn passes(cell: Cell, line: &[u8], out: &mut [u8; 53248]) -> Turn
 }
 
 // A deck that is complete: the first n bytes of the room.
-fn entered(cell: Cell, room: &[u8], n: usize, out: &mut [u8; 53248]) -> Turn
+fn entered(cell: Cell, room: &[u8], n: usize, out: &mut [u8; schedule_deck::ROOM]) -> Turn
     requires { ⌜ n ≤ length (now room) ⌝ }
     ensures { λ r. ⌜ Entered cell (take n (now (room .entry))) (now (out .entry)) (now (out .exit)) r ⌝ }
 {
@@ -152,8 +153,8 @@ fn gathers(
     cell: Cell,
     kept: usize,
     line: &[u8],
-    room: &mut [u8; 16384],
-    out: &mut [u8; 53248],
+    room: &mut [u8; limits::DECK_BYTES],
+    out: &mut [u8; schedule_deck::ROOM],
 ) -> Turn
     ensures { λ r. ⌜ Gathers cell kept (now (line .entry)) (now (room .entry))
         (now (room .exit)) (now (out .entry)) (now (out .exit)) r ⌝ }
@@ -168,7 +169,12 @@ fn gathers(
 }
 
 // The next line, without its LF, and what is answered to it.
-pub fn take_line(shift: Shift, line: &[u8], room: &mut [u8; 16384], out: &mut [u8; 53248]) -> Turn
+pub fn take_line(
+    shift: Shift,
+    line: &[u8],
+    room: &mut [u8; limits::DECK_BYTES],
+    out: &mut [u8; schedule_deck::ROOM],
+) -> Turn
     ensures { λ r. ⌜ Turns (shift .phase) (shift .cell) (now (line .entry))
         (now (room .entry)) (now (room .exit)) (now (out .entry)) (now (out .exit)) r ⌝ }
 {
@@ -184,7 +190,7 @@ pub fn take_line(shift: Shift, line: &[u8], room: &mut [u8; 16384], out: &mut [u
 }
 
 // The answer to a deck whose termination card did not come.
-fn close(phase: Phase, at: usize, out: &mut [u8; 53248]) -> usize
+fn close(phase: Phase, at: usize, out: &mut [u8; schedule_deck::ROOM]) -> usize
     ensures { λ r. ⌜ Written (now (out .entry)) at (endText phase) (now (out .exit)) r ⌝ }
 {
     match phase {
@@ -197,7 +203,12 @@ fn close(phase: Phase, at: usize, out: &mut [u8; 53248]) -> usize
 }
 
 // A last line without LF, or none, and what its shift leaves unanswered.
-fn closes(shift: Shift, rest: &[u8], room: &mut [u8; 16384], out: &mut [u8; 53248]) -> usize
+fn closes(
+    shift: Shift,
+    rest: &[u8],
+    room: &mut [u8; limits::DECK_BYTES],
+    out: &mut [u8; schedule_deck::ROOM],
+) -> usize
     ensures { λ r. ⌜ Closes (shift .phase) (shift .cell) (now (rest .entry))
         (now (room .entry)) (now (room .exit)) (now (out .entry)) (now (out .exit)) r ⌝ }
 {
@@ -215,8 +226,8 @@ fn closes(shift: Shift, rest: &[u8], room: &mut [u8; 16384], out: &mut [u8; 5324
 pub fn end_of_input(
     shift: Shift,
     rest: &[u8],
-    room: &mut [u8; 16384],
-    out: &mut [u8; 53248],
+    room: &mut [u8; limits::DECK_BYTES],
+    out: &mut [u8; schedule_deck::ROOM],
 ) -> usize
     ensures { λ r. ⌜ Ends (shift .phase) (shift .cell) (now (rest .entry))
         (now (room .entry)) (now (room .exit)) (now (out .entry)) (now (out .exit)) r ⌝ }
