@@ -41,7 +41,7 @@ use Rattle.assign.specs.declared.Part.{Part}
 use Rattle.assign.specs.declared.Part.the-variants as Part
 use Rattle.assign.specs.declared.Provision.{Provision}
 use Rattle.assign.specs.Parts.{parts, FirstLacking, Has, HasCore, HasKind}
-use Rattle.assign.specs.Assignment.{Cell, drumLength, wantsOf, noChannels, channelsOf, freeOf, given, givenOf, IsAssignment}
+use Rattle.assign.specs.Assignment.{Supply, drumLength, wantsOf, noChannels, channelsOf, freeOf, given, givenOf, IsAssignment}
 use Rattle.assign.specs.Kinds.{Possible, KindsDone, KindLacking, KindsAnswer, ServesKinds}
 use Rattle.assign.specs.Chosen.{Chosen, without, Answer, Assigns}
 use Rattle.assign.proofs.FirstLaws.{first-one, not-nothing, first-kind, every-kind}
@@ -65,58 +65,58 @@ module _ (free : ℕ → Bool) (wants : ℕ → ℕ) (its : ℕ → ℕ) (to : �
     none = λ l h k e. same l k ∙ s .none l h k e;
   }
 
-module _ (cell : Cell) (wanted : Facilities) where
+module _ (supply : Supply) (wanted : Facilities) where
   -- an assignment's channels are possible for each kind
-  possible : {b : Assigned} {kind : ℕ} → kind < unitKinds → IsAssignment cell wanted b → Possible (freeOf cell) (wanted .units) kind (channelsOf b kind)
-  possible {b} {kind} h i = record { long = i .shaped .entries kind h; to = givenOf cell kind b; served = i .kinds kind h }
+  possible : {b : Assigned} {kind : ℕ} → kind < unitKinds → IsAssignment supply wanted b → Possible (freeOf supply) (wanted .units) kind (channelsOf b kind)
+  possible {b} {kind} h i = record { long = i .shaped .entries kind h; to = givenOf supply kind b; served = i .kinds kind h }
 
   -- a kind that is served in some way has channels that are possible, and the other way round
-  pub kind-possible : (order : ℕ) → HasKind cell wanted order → (others : List ChannelNumber) × Possible (freeOf cell) (wanted .units) order others
+  pub kind-possible : (order : ℕ) → HasKind supply wanted order → (others : List ChannelNumber) × Possible (freeOf supply) (wanted .units) order others
   kind-possible order h = (
     listed (h .on),
     record {
       long = refl;
       to = h .to;
-      served = by-list (freeOf cell order) (want (wantsOf (wanted .units) order)) (h .on) (h .to) (h .served);
+      served = by-list (freeOf supply order) (want (wantsOf (wanted .units) order)) (h .on) (h .to) (h .served);
     },
   )
 
-  pub possible-kind : (order : ℕ) → (others : List ChannelNumber) × Possible (freeOf cell) (wanted .units) order others → HasKind cell wanted order
+  pub possible-kind : (order : ℕ) → (others : List ChannelNumber) × Possible (freeOf supply) (wanted .units) order others → HasKind supply wanted order
   possible-kind order p = record { on = on (p .0); to = p .1 .to; served = p .1 .served }
 
   -- ---- a part that is lacking
-  lacks : (part : Part) → FirstLacking cell wanted (Lacking.First part) → {r : Provision} → r ≡ without part → Assigns cell wanted r
-  lacks part f e = subst (Assigns cell wanted) (sym e) (f, refl)
+  lacks : (part : Part) → FirstLacking supply wanted (Lacking.First part) → {r : Provision} → r ≡ without part → Assigns supply wanted r
+  lacks part f e = subst (Assigns supply wanted) (sym e) (f, refl)
 
-  pub no-core : Core.Answers (cell .occupancy) (wanted .ib) (wanted .db) C.Nothing → {r : Provision} → r ≡ without Part.Core → Assigns cell wanted r
+  pub no-core : Core.LeastPair (supply .occupancy) (wanted .ib) (wanted .db) C.Nothing → {r : Provision} → r ≡ without Part.Core → Assigns supply wanted r
   no-core c = lacks Part.Core (inl (λ h. c (h .ib) (h .db) (h .fits), refl))
 
-  module _ {p : Pair} (c : Core.Answers (cell .occupancy) (wanted .ib) (wanted .db) (C.At p)) where
-    has-core : HasCore (cell .occupancy) wanted
+  module _ {p : Pair} (c : Core.LeastPair (supply .occupancy) (wanted .ib) (wanted .db) (C.At p)) where
+    has-core : HasCore (supply .occupancy) wanted
     has-core = record { ib = p .0; db = p .1; fits = c .0 }
 
-    pub no-drum : Drum.Answers (cell .areas) (drumLength (cell .channels)) (wanted .md) D.Nothing → {r : Provision} → r ≡ without Part.Drum → Assigns cell wanted r
+    pub no-drum : Drum.LowestStart (supply .areas) (drumLength (supply .channels)) (wanted .md) D.Nothing → {r : Provision} → r ≡ without Part.Drum → Assigns supply wanted r
     no-drum d = lacks Part.Drum (inr (has-core, inl (λ h. d (h .start) (h .fits), refl)))
 
-    pub no-kind : {s : ℕ} → Drum.Answers (cell .areas) (drumLength (cell .channels)) (wanted .md) (D.At s)
-        → {order : ℕ} → KindLacking (freeOf cell) (wanted .units) order → {r : Provision} → r ≡ without (Part.Units (kindAt order)) → Assigns cell wanted r
+    pub no-kind : {s : ℕ} → Drum.LowestStart (supply .areas) (drumLength (supply .channels)) (wanted .md) (D.At s)
+        → {order : ℕ} → KindLacking (freeOf supply) (wanted .units) order → {r : Provision} → r ≡ without (Part.Units (kindAt order)) → Assigns supply wanted r
     no-kind {s} d {order} k = lacks (Part.Units (kindAt order))
         (inr (
           has-core,
           inr (
             record { start = s; fits = d .0 },
-            first-kind (Has cell wanted) (HasKind cell wanted) (λ m x. x) (λ m x. x) order (k .is-kind) (λ kind h. possible-kind kind (k .before kind h)) (λ h. let p = kind-possible order h in k .never (p .0) (p .1)),
+            first-kind (Has supply wanted) (HasKind supply wanted) (λ m x. x) (λ m x. x) order (k .is-kind) (λ kind h. possible-kind kind (k .before kind h)) (λ h. let p = kind-possible order h in k .never (p .0) (p .1)),
           ),
         ))
 
   -- ---- all parts
   module _ (p : Pair) (s : ℕ) (named : List KindChannels) (heads : List Head)
-      (c : Core.Answers (cell .occupancy) (wanted .ib) (wanted .db) (C.At p)) (d : Drum.Answers (cell .areas) (drumLength (cell .channels)) (wanted .md) (D.At s))
-      (k : KindsDone (freeOf cell) (wanted .units) named heads unitKinds) where
+      (c : Core.LeastPair (supply .occupancy) (wanted .ib) (wanted .db) (C.At p)) (d : Drum.LowestStart (supply .areas) (drumLength (supply .channels)) (wanted .md) (D.At s))
+      (k : KindsDone (freeOf supply) (wanted .units) named heads unitKinds) where
     abbrev all : Assigned
     all = record { ib = p .0; db = p .1; drum = s; channels = named; heads = heads }
 
-    is-one : IsAssignment cell wanted all
+    is-one : IsAssignment supply wanted all
     is-one = record {
       shaped = record { kinds = k .count; entries = λ kind h. k .each kind h .long; units = k .wide };
       core = c .0;
@@ -125,7 +125,7 @@ module _ (cell : Cell) (wanted : Facilities) where
       kinds = λ kind h. k .each kind h .served;
     }
 
-    pub assigned : Chosen cell wanted all
+    pub assigned : Chosen supply wanted all
     assigned = record {
       is = is-one;
       core = λ b i. c .1 (b .ib) (b .db) (i .core);
@@ -135,7 +135,7 @@ module _ (cell : Cell) (wanted : Facilities) where
     }
 
   -- ---- one answer
-  module _ (a b : Assigned) (p : Chosen cell wanted a) (q : Chosen cell wanted b) where
+  module _ (a b : Assigned) (p : Chosen supply wanted a) (q : Chosen supply wanted b) where
     core-one : (a .ib ≡ b .ib) × (a .db ≡ b .db)
     core-one =
         ⊎-elim (λ l. absurd (q .core a (p .is) l))
@@ -154,16 +154,16 @@ module _ (cell : Cell) (wanted : Facilities) where
         let e = named-one kind (omega (arith, p .is .shaped .kinds)) in λ i. record { on = e i }
 
     -- a unit is of one of the kinds, or of none
-    of-kind : (n i : ℕ) → ((kind : ℕ) × ((kind < n) × (freeOf cell kind i ≡ true))) ⊎ ((kind : ℕ) → kind < n → freeOf cell kind i ≡ false)
+    of-kind : (n i : ℕ) → ((kind : ℕ) × ((kind < n) × (freeOf supply kind i ≡ true))) ⊎ ((kind : ℕ) → kind < n → freeOf supply kind i ≡ false)
     of-kind zero i = inr (λ kind h. absurd (omega arith))
     of-kind (suc n) i =
-        by-bool (freeOf cell n i) (λ t. inl (n, (omega arith, t)))
-        (λ f. ⊎-elim (λ r. inl (r .0, (omega (arith, r .1 .0), r .1 .1))) (λ g. inr (λ kind h. one-more (λ (x : ℕ). freeOf cell x i ≡ false) n g f kind (omega arith))) (of-kind n i))
+        by-bool (freeOf supply n i) (λ t. inl (n, (omega arith, t)))
+        (λ f. ⊎-elim (λ r. inl (r .0, (omega (arith, r .1 .0), r .1 .1))) (λ g. inr (λ kind h. one-more (λ (x : ℕ). freeOf supply x i ≡ false) n g f kind (omega arith))) (of-kind n i))
 
-    of-free : (x : Assigned) (kind i : ℕ) → freeOf cell kind i ≡ true → givenOf cell kind x i ≡ given x i
+    of-free : (x : Assigned) (kind i : ℕ) → freeOf supply kind i ≡ true → givenOf supply kind x i ≡ given x i
     of-free x kind i t = ap (λ (z : Bool). cond z (given x i) Nothing) t
 
-    not-given : (x : Assigned) → IsAssignment cell wanted x → (i : ℕ) → ((kind : ℕ) → kind < unitKinds → freeOf cell kind i ≡ false) → given x i ≡ Nothing
+    not-given : (x : Assigned) → IsAssignment supply wanted x → (i : ℕ) → ((kind : ℕ) → kind < unitKinds → freeOf supply kind i ≡ false) → given x i ≡ Nothing
     not-given x e i none = nothing-else (given x i) (λ t. let r = e .only i t in never (r .free) (none (r .kind) (r .is-kind)))
       where
         nothing-else : (g : Given) → (isGiven g ≡ true → ⊥) → g ≡ Nothing
@@ -176,9 +176,9 @@ module _ (cell : Cell) (wanted : Facilities) where
         (λ r.
         let kind = r .0 in
         let m : kind < unitKinds = r .1 .0 in
-        let s : Served (freeOf cell kind) (want (wantsOf (wanted .units) kind)) (on (channelsOf b kind)) (givenOf cell kind a) =
-        subst (λ (cs : List ChannelNumber). Served (freeOf cell kind) (want (wantsOf (wanted .units) kind)) (on cs) (givenOf cell kind a)) (named-one kind m) (p .is .kinds kind m) in
-        let e = units-one (freeOf cell kind) (want (wantsOf (wanted .units) kind)) (on (channelsOf b kind)) (givenOf cell kind a) (givenOf cell kind b) s (p .units kind m) (q .is .kinds kind m) (q .units kind m) i h in
+        let s : Served (freeOf supply kind) (want (wantsOf (wanted .units) kind)) (on (channelsOf b kind)) (givenOf supply kind a) =
+        subst (λ (cs : List ChannelNumber). Served (freeOf supply kind) (want (wantsOf (wanted .units) kind)) (on cs) (givenOf supply kind a)) (named-one kind m) (p .is .kinds kind m) in
+        let e = units-one (freeOf supply kind) (want (wantsOf (wanted .units) kind)) (on (channelsOf b kind)) (givenOf supply kind a) (givenOf supply kind b) s (p .units kind m) (q .is .kinds kind m) (q .units kind m) i h in
         sym (of-free a kind i (r .1 .1)) ∙ e ∙ of-free b kind i (r .1 .1))
         (λ none. not-given a (p .is) i none ∙ sym (not-given b (q .is) i none))
         (of-kind unitKinds i)
@@ -194,32 +194,32 @@ module _ (cell : Cell) (wanted : Facilities) where
         λ i. record { ib = c .0 i; db = c .1 i; drum = d i; channels = n i; heads = u i }
 
   -- ---- an assignment has every part
-  module _ (b : Assigned) (i : IsAssignment cell wanted b) where
-    kind-of : (order : ℕ) → order < unitKinds → HasKind cell wanted order
+  module _ (b : Assigned) (i : IsAssignment supply wanted b) where
+    kind-of : (order : ℕ) → order < unitKinds → HasKind supply wanted order
     kind-of order h = possible-kind order (channelsOf b order, possible h i)
 
-    pub all-there : FirstLacking cell wanted Lacking.Nothing
+    pub all-there : FirstLacking supply wanted Lacking.Nothing
     all-there =
         inr (
           record { ib = b .ib; db = b .db; fits = i .core },
           inr (
             record { start = b .drum; fits = i .drum },
-            every-kind (Has cell wanted) (HasKind cell wanted) (λ m x. x) (λ m x. x) kind-of,
+            every-kind (Has supply wanted) (HasKind supply wanted) (λ m x. x) (λ m x. x) kind-of,
           ),
         )
 
-    pub none-lacking : {part : Part} → FirstLacking cell wanted (Lacking.First part) → ⊥
-    none-lacking {part} f = not-nothing (first-one (Has cell wanted) parts Lacking.Nothing (Lacking.First part) all-there f)
+    pub none-lacking : {part : Part} → FirstLacking supply wanted (Lacking.First part) → ⊥
+    none-lacking {part} f = not-nothing (first-one (Has supply wanted) parts Lacking.Nothing (Lacking.First part) all-there f)
 
-  one-of : (f g : Lacking) (a b : Assigned) → Answer f cell wanted a → Answer g cell wanted b → (f ≡ g) × (a ≡ b)
+  one-of : (f g : Lacking) (a b : Assigned) → Answer f supply wanted a → Answer g supply wanted b → (f ≡ g) × (a ≡ b)
   one-of Lacking.Nothing Lacking.Nothing a b p q = (refl, chosen-one a b p q)
   one-of Lacking.Nothing (Lacking.First x) a b p q = absurd (none-lacking a (p .is) (q .0))
   one-of (Lacking.First x) Lacking.Nothing a b p q = absurd (none-lacking b (q .is) (p .0))
   one-of (Lacking.First x) (Lacking.First y) a b p q =
-      (first-one (Has cell wanted) parts (Lacking.First x) (Lacking.First y) (p .0) (q .0), p .1 ∙ sym (q .1))
+      (first-one (Has supply wanted) parts (Lacking.First x) (Lacking.First y) (p .0) (q .0), p .1 ∙ sym (q .1))
 
   -- two answers are one
-  pub assigns-one : (r s : Provision) → Assigns cell wanted r → Assigns cell wanted s → r ≡ s
+  pub assigns-one : (r s : Provision) → Assigns supply wanted r → Assigns supply wanted s → r ≡ s
   assigns-one r s p q =
       let e = one-of (r .lacking) (s .lacking) (r .assigned) (s .assigned) p q in
       λ i. record { lacking = e .0 i; assigned = e .1 i }
@@ -232,5 +232,5 @@ pub kinds-lacking : {free : ℕ → ℕ → Bool} {asked : List ℕ} (r : Kinds)
 kinds-lacking {free} {asked} r e s = subst (λ (b : Bool). KindsAnswer b free asked r) e s
 
 -- the drum's answer for the length that was worked out
-pub for-length : (areas : List Area) (words : ℕ) {n m : ℕ} {r s : Start} → n ≡ m → r ≡ s → Drum.Answers areas n words r → Drum.Answers areas m words s
-for-length areas words {n} {m} {r} {s} e f a = subst (λ (x : ℕ). Drum.Answers areas x words s) e (subst (Drum.Answers areas n words) f a)
+pub for-length : (areas : List Area) (words : ℕ) {n m : ℕ} {r s : Start} → n ≡ m → r ≡ s → Drum.LowestStart areas n words r → Drum.LowestStart areas m words s
+for-length areas words {n} {m} {r} {s} e f a = subst (λ (x : ℕ). Drum.LowestStart areas x words s) e (subst (Drum.LowestStart areas n words) f a)

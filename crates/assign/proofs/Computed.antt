@@ -38,7 +38,7 @@ use Rattle.assign.specs.declared.Kinds.{Kinds}
 use Rattle.assign.specs.declared.Lacking.the-variants as Lacking
 use Rattle.assign.specs.declared.Part.the-variants as Part
 use Rattle.assign.specs.declared.Provision.{Provision}
-use Rattle.assign.specs.Assignment.{Cell, drumLength, wantsOf, noChannels, freeOf}
+use Rattle.assign.specs.Assignment.{Supply, drumLength, wantsOf, noChannels, freeOf}
 use Rattle.assign.specs.Kinds.{KindsDone, KindsAnswer, ServesKinds}
 use Rattle.assign.proofs.KindsLaws.{none-yet, one-more, unasked, lacking, all-done}
 use Rattle.assign.specs.Chosen.{without, Assigns}
@@ -94,37 +94,37 @@ withKinds p s k =
       assigned = record { ib = p .0; db = p .1; drum = s; channels = k .channels; heads = k .heads };
     }) (without (Part.Units (kindAt (k .order))))
 
-abbrev pub withDrum : Cell → Facilities → Pair → Start → Provision
-withDrum cell wanted p (D.At s) = withKinds p s (kindsOf (cell .units) (cell .channels) (wanted .units))
-withDrum cell wanted p D.Nothing = without Part.Drum
+abbrev pub withDrum : Supply → Facilities → Pair → Start → Provision
+withDrum supply wanted p (D.At s) = withKinds p s (kindsOf (supply .units) (supply .channels) (wanted .units))
+withDrum supply wanted p D.Nothing = without Part.Drum
 
-abbrev pub withCore : Cell → Facilities → Found → Provision
-withCore cell wanted (C.At p) = withDrum cell wanted p (startOf (cell .areas) (drumLength (cell .channels)) (wanted .md))
-withCore cell wanted C.Nothing = without Part.Core
+abbrev pub withCore : Supply → Facilities → Found → Provision
+withCore supply wanted (C.At p) = withDrum supply wanted p (startOf (supply .areas) (drumLength (supply .channels)) (wanted .md))
+withCore supply wanted C.Nothing = without Part.Core
 
-unfoldable pub assignOf : Cell → Facilities → Provision
-assignOf cell wanted = withCore cell wanted (searchOf (cell .occupancy) (wanted .ib) (wanted .db))
+unfoldable pub assignOf : Supply → Facilities → Provision
+assignOf supply wanted = withCore supply wanted (searchOf (supply .occupancy) (wanted .ib) (wanted .db))
 
-module _ (cell : Cell) (wanted : Facilities) (size : length (cell .channels) ≡ 16) (full : length (wanted .units) ≡ counts) where
-  with-kinds : (p : Pair) (s : ℕ) → Core.Answers (cell .occupancy) (wanted .ib) (wanted .db) (C.At p) → Drum.Answers (cell .areas) (drumLength (cell .channels)) (wanted .md) (D.At s)
-      → (k : Kinds) (b : Bool) → k .ok ≡ b → KindsAnswer b (freeOf cell) (wanted .units) k → Assigns cell wanted (withKinds p s k)
-  with-kinds p s c d k true e a = rw e (assigned cell wanted p s (k .channels) (k .heads) c d a)
-  with-kinds p s c d k false e a = rw e (no-kind cell wanted c d a refl)
+module _ (supply : Supply) (wanted : Facilities) (size : length (supply .channels) ≡ 16) (full : length (wanted .units) ≡ counts) where
+  with-kinds : (p : Pair) (s : ℕ) → Core.LeastPair (supply .occupancy) (wanted .ib) (wanted .db) (C.At p) → Drum.LowestStart (supply .areas) (drumLength (supply .channels)) (wanted .md) (D.At s)
+      → (k : Kinds) (b : Bool) → k .ok ≡ b → KindsAnswer b (freeOf supply) (wanted .units) k → Assigns supply wanted (withKinds p s k)
+  with-kinds p s c d k true e a = rw e (assigned supply wanted p s (k .channels) (k .heads) c d a)
+  with-kinds p s c d k false e a = rw e (no-kind supply wanted c d a refl)
 
-  with-drum : (p : Pair) → Core.Answers (cell .occupancy) (wanted .ib) (wanted .db) (C.At p) → (r : Start) → Drum.Answers (cell .areas) (drumLength (cell .channels)) (wanted .md) r → Assigns cell wanted (withDrum cell wanted p r)
+  with-drum : (p : Pair) → Core.LeastPair (supply .occupancy) (wanted .ib) (wanted .db) (C.At p) → (r : Start) → Drum.LowestStart (supply .areas) (drumLength (supply .channels)) (wanted .md) r → Assigns supply wanted (withDrum supply wanted p r)
   with-drum p c (D.At s) d =
-      let k = kindsOf (cell .units) (cell .channels) (wanted .units) in
-      with-kinds p s c d k (k .ok) refl (kinds-answer (cell .units) (cell .channels) (wanted .units) size full)
-  with-drum p c D.Nothing d = no-drum cell wanted c d refl
+      let k = kindsOf (supply .units) (supply .channels) (wanted .units) in
+      with-kinds p s c d k (k .ok) refl (kinds-answer (supply .units) (supply .channels) (wanted .units) size full)
+  with-drum p c D.Nothing d = no-drum supply wanted c d refl
 
-  with-core : (r : Found) → Core.Answers (cell .occupancy) (wanted .ib) (wanted .db) r → Assigns cell wanted (withCore cell wanted r)
-  with-core (C.At p) c = with-drum p c (startOf (cell .areas) (drumLength (cell .channels)) (wanted .md)) (start-answers (cell .areas) (drumLength (cell .channels)) (wanted .md))
-  with-core C.Nothing c = no-core cell wanted c refl
+  with-core : (r : Found) → Core.LeastPair (supply .occupancy) (wanted .ib) (wanted .db) r → Assigns supply wanted (withCore supply wanted r)
+  with-core (C.At p) c = with-drum p c (startOf (supply .areas) (drumLength (supply .channels)) (wanted .md)) (start-answers (supply .areas) (drumLength (supply .channels)) (wanted .md))
+  with-core C.Nothing c = no-core supply wanted c refl
 
   -- there is always an answer, and it is the computed one
-  pub assign-answers : Assigns cell wanted (assignOf cell wanted)
+  pub assign-answers : Assigns supply wanted (assignOf supply wanted)
   unfolding assignOf
-  assign-answers = with-core (searchOf (cell .occupancy) (wanted .ib) (wanted .db)) (search-answers (cell .occupancy) (wanted .ib) (wanted .db))
+  assign-answers = with-core (searchOf (supply .occupancy) (wanted .ib) (wanted .db)) (search-answers (supply .occupancy) (wanted .ib) (wanted .db))
 
-  pub computed : (a : Provision) → Assigns cell wanted a → a ≡ assignOf cell wanted
-  computed a p = assigns-one cell wanted a (assignOf cell wanted) p assign-answers
+  pub computed : (a : Provision) → Assigns supply wanted a → a ≡ assignOf supply wanted
+  computed a p = assigns-one supply wanted a (assignOf supply wanted) p assign-answers

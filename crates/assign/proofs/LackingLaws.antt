@@ -8,26 +8,26 @@ use Rattle.assign.specs.declared.Assigned.{Assigned}
 use Rattle.assign.specs.declared.Lacking.{Lacking}
 use Rattle.assign.specs.declared.Lacking.the-variants as Lacking
 use Rattle.assign.specs.declared.Provision.{Provision}
-use Rattle.assign.specs.Assignment.{Cell, IsAssignment}
+use Rattle.assign.specs.Assignment.{Supply, IsAssignment}
 use Rattle.assign.specs.Parts.{parts, FirstLacking, Has}
 use Rattle.assign.specs.Chosen.{Answer, Assigns, Chosen, ExistsExactly}
 use Rattle.assign.proofs.FirstLaws.{first-one, not-nothing}
 use Rattle.assign.proofs.ChosenLaws.{all-there}
 use Rattle.assign.proofs.Computed.{assignOf, assign-answers}
 
-module _ (cell : Cell) (wanted : Facilities) where
+module _ (supply : Supply) (wanted : Facilities) where
   -- where nothing is lacking the assigner's answer is the chosen assignment
-  pub chosen-when : FirstLacking cell wanted Lacking.Nothing → (r : Provision) → Assigns cell wanted r → Chosen cell wanted (r .assigned)
+  pub chosen-when : FirstLacking supply wanted Lacking.Nothing → (r : Provision) → Assigns supply wanted r → Chosen supply wanted (r .assigned)
   chosen-when f r = by-answer (r .lacking)
     where
-      by-answer : (l : Lacking) → Answer l cell wanted (r .assigned) → Chosen cell wanted (r .assigned)
+      by-answer : (l : Lacking) → Answer l supply wanted (r .assigned) → Chosen supply wanted (r .assigned)
       by-answer Lacking.Nothing p = p
-      by-answer (Lacking.First x) p = absurd (not-nothing (first-one (Has cell wanted) parts Lacking.Nothing (Lacking.First x) f (p .0)))
+      by-answer (Lacking.First x) p = absurd (not-nothing (first-one (Has supply wanted) parts Lacking.Nothing (Lacking.First x) f (p .0)))
 
   -- so there is an assignment
-  pub exists-when : length (cell .channels) ≡ 16 → length (wanted .units) ≡ counts → FirstLacking cell wanted Lacking.Nothing
-      → (b : Assigned) × IsAssignment cell wanted b
-  exists-when size full f = (assignOf cell wanted .assigned, chosen-when f (assignOf cell wanted) (assign-answers cell wanted size full) .is)
+  pub exists-when : length (supply .channels) ≡ 16 → length (wanted .units) ≡ counts → FirstLacking supply wanted Lacking.Nothing
+      → (b : Assigned) × IsAssignment supply wanted b
+  exists-when size full f = (assignOf supply wanted .assigned, chosen-when f (assignOf supply wanted) (assign-answers supply wanted size full) .is)
 
 pub exists-exactly : ExistsExactly
 exists-exactly = record { only = all-there; when = exists-when }

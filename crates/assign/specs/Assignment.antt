@@ -25,15 +25,15 @@ use Rattle.assign.specs.declared.Assigned.{Assigned}
 
 -- what the assigner looks at: the units, the core blocks that are taken, the drum areas held by the 16 places, the
 -- configured channels
-pub record Cell : Type 0 where
+pub record Supply : Type 0 where
   pub units : List (List Unit)
   pub occupancy : ℕ
   pub areas : List Area
   pub channels : List Channel
 
 -- the same, from its four parts
-abbrev pub cellOf : List (List Unit) → ℕ → List Area → List Channel → Cell
-cellOf units occupancy areas channels = record { units = units; occupancy = occupancy; areas = areas; channels = channels }
+abbrev pub supplyOf : List (List Unit) → ℕ → List Area → List Channel → Supply
+supplyOf units occupancy areas channels = record { units = units; occupancy = occupancy; areas = areas; channels = channels }
 
 -- the drum's length, where a channel is the drum's
 abbrev pub lengthIn : Fitted → ℕ → ℕ
@@ -58,22 +58,22 @@ abbrev pub channelsOf : Assigned → ℕ → List ChannelNumber
 channelsOf a kind = getD (a .channels) kind noChannels .on
 
 -- unit i is of the kind and assignable
-abbrev pub freeOf : Cell → ℕ → ℕ → Bool
-freeOf cell kind i = isFreeOf (cell .units) (cell .channels) kind i
+abbrev pub freeOf : Supply → ℕ → ℕ → Bool
+freeOf supply kind i = isFreeOf (supply .units) (supply .channels) kind i
 
 -- to which entry unit i is given
 abbrev pub given : Assigned → ℕ → Given
 given a i = getD (a .heads) i blank .to
 
 -- to which entry of the kind unit i is given, nothing where it is of another kind
-abbrev pub givenOf : Cell → ℕ → Assigned → ℕ → Given
-givenOf cell kind a i = cond (freeOf cell kind i) (given a i) Nothing
+abbrev pub givenOf : Supply → ℕ → Assigned → ℕ → Given
+givenOf supply kind a i = cond (freeOf supply kind i) (given a i) Nothing
 
 -- a unit is of one of the kinds, and assignable
-pub record Assignable (cell : Cell) (i : ℕ) : Type 0 where
+pub record Assignable (supply : Supply) (i : ℕ) : Type 0 where
   pub kind : ℕ
   pub is-kind : kind < unitKinds
-  pub free : freeOf cell kind i ≡ true
+  pub free : freeOf supply kind i ≡ true
 
 -- the lists have an entry for every kind, logical channel and unit
 pub record Shaped (a : Assigned) : Type 0 where
@@ -84,10 +84,10 @@ pub record Shaped (a : Assigned) : Type 0 where
 -- An assignment: a run of IB blocks and, if DB is asked for, a disjoint run of DB blocks; a drum area if asked for;
 -- for each kind, every entry with logical channel 1-15 on a channel of its own, all its units there; the logical
 -- channel 0 entry on any remaining units of that kind.
-pub record IsAssignment (cell : Cell) (wanted : Facilities) (a : Assigned) : Type 0 where
+pub record IsAssignment (supply : Supply) (wanted : Facilities) (a : Assigned) : Type 0 where
   pub shaped : Shaped a
-  pub core : Core.Fits (cell .occupancy) (wanted .ib) (wanted .db) (a .ib) (a .db)
-  pub drum : Drum.Fits (cell .areas) (drumLength (cell .channels)) (wanted .md) (a .drum)
-  pub only : (i : ℕ) → isGiven (given a i) ≡ true → Assignable cell i
+  pub core : Core.Fits (supply .occupancy) (wanted .ib) (wanted .db) (a .ib) (a .db)
+  pub drum : Drum.Fits (supply .areas) (drumLength (supply .channels)) (wanted .md) (a .drum)
+  pub only : (i : ℕ) → isGiven (given a i) ≡ true → Assignable supply i
   pub kinds : (kind : ℕ) → kind < unitKinds
-      → Served (freeOf cell kind) (want (wantsOf (wanted .units) kind)) (on (channelsOf a kind)) (givenOf cell kind a)
+      → Served (freeOf supply kind) (want (wantsOf (wanted .units) kind)) (on (channelsOf a kind)) (givenOf supply kind a)

@@ -15,7 +15,7 @@ use Rattle.assign.specs.declared.Lacking.{Lacking}
 use Rattle.assign.specs.declared.Lacking.the-variants.{Nothing, First}
 use Rattle.assign.specs.declared.Part.{Part}
 use Rattle.assign.specs.declared.Part.the-variants.{Core, Drum, Units}
-use Rattle.assign.specs.Assignment.{Cell, drumLength, wantsOf, freeOf}
+use Rattle.assign.specs.Assignment.{Supply, drumLength, wantsOf, freeOf}
 
 -- core: a pair of starts fits
 pub record HasCore (occupancy : ℕ) (wanted : Facilities) : Type 0 where
@@ -29,16 +29,16 @@ pub record HasDrum (areas : List Area) (length : ℕ) (wanted : Facilities) : Ty
   pub fits : Drums.Fits areas length (wanted .md) start
 
 -- a kind: its entries are served in some way, whatever the other kinds
-pub record HasKind (cell : Cell) (wanted : Facilities) (order : ℕ) : Type 0 where
+pub record HasKind (supply : Supply) (wanted : Facilities) (order : ℕ) : Type 0 where
   pub on : ℕ → ℕ
   pub to : ℕ → Given
-  pub served : Served (freeOf cell order) (want (wantsOf (wanted .units) order)) on to
+  pub served : Served (freeOf supply order) (want (wantsOf (wanted .units) order)) on to
 
 -- a part alone has a solution in this cell; it is lacking where it has none
-abbrev pub Has : Cell → Facilities → Part → Type 0
-Has cell wanted Core = HasCore (cell .occupancy) wanted
-Has cell wanted Drum = HasDrum (cell .areas) (drumLength (cell .channels)) wanted
-Has cell wanted (Units kind) = HasKind cell wanted (orderOf kind)
+abbrev pub Has : Supply → Facilities → Part → Type 0
+Has supply wanted Core = HasCore (supply .occupancy) wanted
+Has supply wanted Drum = HasDrum (supply .areas) (drumLength (supply .channels)) wanted
+Has supply wanted (Units kind) = HasKind supply wanted (orderOf kind)
 
 -- the kinds that have units, as parts
 abbrev pub kinds : List Part
@@ -54,5 +54,5 @@ FirstOf has [] r = r ≡ Nothing
 FirstOf has (p ∷ ps) r = ((has p → ⊥) × (r ≡ First p)) ⊎ (has p × FirstOf has ps r)
 
 -- what is lacking first in this cell for what a job asks for
-abbrev pub FirstLacking : Cell → Facilities → Lacking → Type 0
-FirstLacking cell wanted r = FirstOf (Has cell wanted) parts r
+abbrev pub FirstLacking : Supply → Facilities → Lacking → Type 0
+FirstLacking supply wanted r = FirstOf (Has supply wanted) parts r

@@ -16,7 +16,7 @@ ghost use Prim.Native.Nat.{_<_, _*_};
 ghost use lib.ListN.{take, drop};
 ghost use Rattle.numbers.specs.Kinds.{unitKinds};
 ghost use Rattle.assign_free.specs.Assignable.{isFreeOf};
-ghost use Rattle.assign.specs.Assignment.{drumLength, cellOf};
+ghost use Rattle.assign.specs.Assignment.{drumLength, supplyOf};
 ghost use Rattle.assign.specs.Kinds.{ServesKinds};
 ghost use Rattle.assign.specs.Chosen.{nothing, without, Assigns};
 
@@ -164,7 +164,7 @@ fn find(
     channels: [Channel; 16],
     wanted: Facilities,
 ) -> Provision
-    ensures { λ r. ⌜ Assigns (cellOf (units .of) occupancy areas channels) wanted r ⌝ }
+    ensures { λ r. ⌜ Assigns (supplyOf (units .of) occupancy areas channels) wanted r ⌝ }
 {
     let Found::At(pair) = assign_core::search(occupancy, wanted.ib as u32, wanted.db as u32) else {
         return without(Part::Core);
@@ -199,7 +199,7 @@ pub fn assign(
     channels: [Channel; 16],
     request: Request,
 ) -> Provision
-    ensures { λ r. ⌜ Assigns (cellOf (units .of) occupancy areas channels) (request .facilities) r ⌝ }
+    ensures { λ r. ⌜ Assigns (supplyOf (units .of) occupancy areas channels) (request .facilities) r ⌝ }
 {
     let wanted = request.facilities;
     find(units, occupancy, areas, channels, wanted)

@@ -13,7 +13,7 @@ use borrow.Author.Tests.{leb-true, leb-false}
 use Rattle.numbers.proofs.Tests.{by-bool, never}
 use Rattle.numbers.specs.declared.ChannelNumber.{ChannelNumber}
 use Rattle.assign_channels.specs.declared.Picks.{Picks}
-use Rattle.assign_channels.specs.Choice.{channel, want, on, total, Placed, LexLe, Least, NoList, Answer, Answers}
+use Rattle.assign_channels.specs.Choice.{channel, want, on, total, Placed, LexLe, Least, NoList, Answer, LeastList}
 use Rattle.assign_channels.specs.Greedy.{hallB, picks, chooseOf}
 use Rattle.assign_channels.proofs.HallLaws.{hall-sound, hall-complete, channel-below}
 use Rattle.assign_channels.proofs.GreedyLaws.{Choice, choice-hall, picks-choice, picks-least}
@@ -161,7 +161,7 @@ module _ (counts : List ℕ) (n : ℕ) (ns : List ℕ) (wide : length counts ≡
       least [] p = absurd (omega (arith, p .long))
       least (d ∷ ds) p = inr (sym (p .none-0), picks-least ns counts (omega arith) (hall-sound counts ns u) ds (each-choice ns ds counts (placed-each counts n ns d ds long p)))
 
-  pub chosen-cons : Answers counts (n ∷ ns) (chooseOf counts (n ∷ ns))
+  pub chosen-cons : LeastList counts (n ∷ ns) (chooseOf counts (n ∷ ns))
   unfolding chooseOf
   chosen-cons =
       by-bool (leb (total (n ∷ ns)) (total counts))
@@ -170,7 +170,7 @@ module _ (counts : List ℕ) (n : ℕ) (ns : List ℕ) (wide : length counts ≡
       (λ u. rw (t, u) (no-list (λ c cs p. never (placed-hall counts n ns c cs long p) u))))
       (λ t. rw t (no-list (λ c cs p. omega (arith, p .rest, leb-false (total (n ∷ ns)) (total counts) t))))
 
-pub chosen : (counts wants : List ℕ) → length counts ≡ 16 → length wants ≡ 16 → Answers counts wants (chooseOf counts wants)
+pub chosen : (counts wants : List ℕ) → length counts ≡ 16 → length wants ≡ 16 → LeastList counts wants (chooseOf counts wants)
 chosen counts [] w l = absurd (omega arith)
 chosen counts (n ∷ ns) w l = chosen-cons counts n ns w (omega arith)
 
@@ -184,23 +184,23 @@ lex-both (x ∷ xs) (y ∷ ys) p q =
     (λ e. ⊎-elim (λ m. absurd (omega arith)) (λ m. let h : x ≡ y = λ i. record { 0 = e .0 i } in cc (h, lex-both xs ys (e .1) (m .1))) q)
     p
 
-one-of : (counts wants : List ℕ) (a b : Bool) (p q : List ChannelNumber) → Answers counts wants (record { ok = a; on = p }) → Answers counts wants (record { ok = b; on = q })
+one-of : (counts wants : List ℕ) (a b : Bool) (p q : List ChannelNumber) → LeastList counts wants (record { ok = a; on = p }) → LeastList counts wants (record { ok = b; on = q })
     → _≡_ {A = Picks} (record { ok = a; on = p }) (record { ok = b; on = q })
 one-of counts wants true true p q h k = let e = lex-both p q (h .least q (k .placed)) (k .least p (h .placed)) in λ i. record { ok = true; on = e i }
 one-of counts wants true false p q h k = absurd (k .never p (h .placed))
 one-of counts wants false true p q h k = absurd (h .never q (k .placed))
 one-of counts wants false false p q h k = let e = h .blank ∙ sym (k .blank) in λ i. record { ok = false; on = e i }
 
-pub answers-one : (counts wants : List ℕ) (r s : Picks) → Answers counts wants r → Answers counts wants s → r ≡ s
+pub answers-one : (counts wants : List ℕ) (r s : Picks) → LeastList counts wants r → LeastList counts wants s → r ≡ s
 answers-one counts wants r s = one-of counts wants (r .ok) (s .ok) (r .on) (s .on)
 
 -- so an answer is what the definition computes
-pub computed : (counts wants : List ℕ) (r : Picks) → length counts ≡ 16 → length wants ≡ 16 → Answers counts wants r → r ≡ chooseOf counts wants
+pub computed : (counts wants : List ℕ) (r : Picks) → length counts ≡ 16 → length wants ≡ 16 → LeastList counts wants r → r ≡ chooseOf counts wants
 computed counts wants r w l a = answers-one counts wants r (chooseOf counts wants) a (chosen counts wants w l)
 
 -- ---- an answer by what it says of itself
-pub found-least : (counts wants : List ℕ) (r : Picks) → r .ok ≡ true → Answers counts wants r → Least counts wants (r .on)
+pub found-least : (counts wants : List ℕ) (r : Picks) → r .ok ≡ true → LeastList counts wants r → Least counts wants (r .on)
 found-least counts wants r e a = subst (λ (b : Bool). Answer b counts wants (r .on)) e a
 
-pub found-none : (counts wants : List ℕ) (r : Picks) → r .ok ≡ false → Answers counts wants r → NoList counts wants (r .on)
+pub found-none : (counts wants : List ℕ) (r : Picks) → r .ok ≡ false → LeastList counts wants r → NoList counts wants (r .on)
 found-none counts wants r e a = subst (λ (b : Bool). Answer b counts wants (r .on)) e a

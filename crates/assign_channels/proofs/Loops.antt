@@ -10,7 +10,7 @@ use lib.ListN.{length, getD, set, take, drop, replicate, length-set, length-drop
 use lib.Seq.{drop-cons, take-all, take-suc, take-suc-set, getD-set-other}
 use borrow.Author.Tests.{le-leb, lt-leb, eq-eqb, ne-eqb}
 use Rattle.numbers.specs.declared.ChannelNumber.{ChannelNumber}
-use Rattle.assign_channels.specs.Choice.{channel, total, Answers}
+use Rattle.assign_channels.specs.Choice.{channel, total, LeastList}
 use Rattle.assign_channels.specs.Greedy.{cnt, Hall, testsB, hallB, lowestFrom, lowestOf, picks, chooseOf}
 use Rattle.assign_channels.proofs.HallLaws.{hall-zero, hall-sound}
 use Rattle.assign_channels.proofs.ChoiceLaws.{chosen}
@@ -154,7 +154,7 @@ end {counts} {wants} {on} {left} {l} size h g =
 
 -- ---- the three answers
 module _ (counts wants : List ℕ) (wide : length counts ≡ 16) (size : length wants ≡ 16) where
-  pub too-many : total counts < total wants → Answers counts wants (record { ok = false; on = replicate 16 (channel 0) })
+  pub too-many : total counts < total wants → LeastList counts wants (record { ok = false; on = replicate 16 (channel 0) })
   unfolding chooseOf
   too-many h = rw (lt-leb (total wants) (total counts) h) at (chosen counts wants wide size)
 
@@ -165,15 +165,15 @@ module _ (counts wants : List ℕ) (wide : length counts ≡ 16) (size : length 
   lent-is : lent ≡ drop 1 wants
   lent-is = take-all (16 - 1) (drop 1 wants) (simp length-drop (omega arith))
 
-  pub not-served : total wants ≤ total counts → hallB counts lent ≡ false → Answers counts wants (record { ok = false; on = replicate 16 (channel 0) })
+  pub not-served : total wants ≤ total counts → hallB counts lent ≡ false → LeastList counts wants (record { ok = false; on = replicate 16 (channel 0) })
   unfolding chooseOf
   not-served h f = rw (le-leb (total wants) (total counts) h, sym (ap (hallB counts) lent-is) ∙ f) at (chosen counts wants wide size)
 
   pub served : hallB counts lent ≡ true → Hall counts (drop 1 wants)
   served t = hall-sound counts (drop 1 wants) (sym (ap (hallB counts) lent-is) ∙ t)
 
-  pub found : {on : List ChannelNumber} → total wants ≤ total counts → hallB counts lent ≡ true → on ≡ channel 0 ∷ picks counts (drop 1 wants) → Answers counts wants (record { ok = true; on = on })
+  pub found : {on : List ChannelNumber} → total wants ≤ total counts → hallB counts lent ≡ true → on ≡ channel 0 ∷ picks counts (drop 1 wants) → LeastList counts wants (record { ok = true; on = on })
   unfolding chooseOf
   found {on} h t e =
-      let a : Answers counts wants (record { ok = true; on = channel 0 ∷ picks counts (drop 1 wants) }) = rw (le-leb (total wants) (total counts) h, sym (ap (hallB counts) lent-is) ∙ t) at (chosen counts wants wide size) in
-      subst (λ (x : List ChannelNumber). Answers counts wants (record { ok = true; on = x })) (sym e) a
+      let a : LeastList counts wants (record { ok = true; on = channel 0 ∷ picks counts (drop 1 wants) }) = rw (le-leb (total wants) (total counts) h, sym (ap (hallB counts) lent-is) ∙ t) at (chosen counts wants wide size) in
+      subst (λ (x : List ChannelNumber). LeastList counts wants (record { ok = true; on = x })) (sym e) a

@@ -61,5 +61,5 @@ Answer true counts wants channels = Least counts wants channels
 Answer false counts wants channels = NoList counts wants channels
 
 -- the least list is found, or there is none
-abbrev pub Answers : List ℕ → List ℕ → Picks → Type 0
-Answers counts wants r = Answer (r .ok) counts wants (r .on)
+abbrev pub LeastList : List ℕ → List ℕ → Picks → Type 0
+LeastList counts wants r = Answer (r .ok) counts wants (r .on)

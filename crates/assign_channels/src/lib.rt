@@ -2,7 +2,7 @@
 use numbers::ChannelNumber;
 ghost use mathlib.Core.Path.{_≡_};
 ghost use Prim.Native.Nat.{_<_};
-ghost use Rattle.assign_channels.specs.Choice.{total, Answers};
+ghost use Rattle.assign_channels.specs.Choice.{total, LeastList};
 ghost use Rattle.assign_channels.specs.Greedy.{cnt, hallB, lowestOf};
 
 // Whether there is a list of channels, and the one chosen, by logical channel.
@@ -86,7 +86,7 @@ pub fn sum(xs: [u8; 16]) -> u16
 // The least list of channels, one for each entry with logical channel 1 to 15, that leaves the entry with logical
 // channel 0 its units.
 pub fn choose(counts: [u8; 16], wants: [u8; 16]) -> Picks
-    ensures { λ r. ⌜ Answers counts wants r ⌝ }
+    ensures { λ r. ⌜ LeastList counts wants r ⌝ }
 {
     let mut on = [ChannelNumber(0); 16];
     if sum(counts) < sum(wants) {

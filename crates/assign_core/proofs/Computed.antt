@@ -8,12 +8,13 @@ use native.Mathlib.Nat.{eq-zero-or-pos, eq-or-lt-of-le}
 use native.Mathlib.Omega.{arith}
 use lib.Dec.{leb, eqb}
 use borrow.Author.Tests.{eq-eqb, eqb-true, eqb-false, le-leb, leb-true}
-use Rattle.numbers.proofs.Find.{Hit, hit, none, find, First, first}
+use Rattle.numbers.proofs.Find.{Hit, hit, none, seek, First, first}
 use Rattle.numbers.proofs.Tests.{by-bool, both, or-true}
 use Rattle.assign_core.specs.declared.Found.{Found}
 use Rattle.assign_core.specs.declared.Found.the-variants.{At, Nothing}
 use Rattle.numbers.specs.Bits.{bit}
-use Rattle.assign_core.specs.Core.{Run, Beside, Fits, Answers}
+use Rattle.numbers.specs.Limits.{firstBlock, lastBlock}
+use Rattle.assign_core.specs.Core.{Run, Beside, Fits, LeastPair}
 use Rattle.assign_core.proofs.CoreLaws.{answers-one}
 
 either : (a b : Bool) → (a || b) ≡ true → (a ≡ true) ⊎ (b ≡ true)
@@ -36,18 +37,18 @@ free-complete w i zero f = refl
 free-complete w i (suc n) f = rw (eq-eqb (bit w i) 0 (f i (omega arith) (omega arith)), free-complete w (suc i) n (λ b h l. f b (omega arith) (omega arith)))
 
 unfoldable pub runB : ℕ → ℕ → ℕ → Bool
-runB w n i = leb 2 i && (leb (i + n) 30 && freeB w i n)
+runB w n i = leb firstBlock i && (leb (i + n) (lastBlock + 1) && freeB w i n)
 
 run-sound : (w n i : ℕ) → runB w n i ≡ true → Run w n i
 unfolding runB
 run-sound w n i t =
-    let p = both (leb 2 i) (leb (i + n) 30 && freeB w i n) t in
-    let q = both (leb (i + n) 30) (freeB w i n) (p .1) in
-    record { low = leb-true 2 i (p .0); high = leb-true (i + n) 30 (q .0); free = free-sound w i n (q .1) }
+    let p = both (leb firstBlock i) (leb (i + n) (lastBlock + 1) && freeB w i n) t in
+    let q = both (leb (i + n) (lastBlock + 1)) (freeB w i n) (p .1) in
+    record { low = leb-true firstBlock i (p .0); high = leb-true (i + n) (lastBlock + 1) (q .0); free = free-sound w i n (q .1) }
 
 run-complete : (w n i : ℕ) → Run w n i → runB w n i ≡ true
 unfolding runB
-run-complete w n i r = rw (le-leb 2 i (r .low), le-leb (i + n) 30 (r .high), free-complete w i n (r .free))
+run-complete w n i r = rw (le-leb firstBlock i (r .low), le-leb (i + n) (lastBlock + 1) (r .high), free-complete w i n (r .free))
 
 unfoldable pub fitsB : ℕ → ℕ → ℕ → ℕ → ℕ → Bool
 fitsB w ib db i j = runB w ib i && (eqb db 0 || (runB w db j && (leb (j + db) i || leb (i + ib) j)))
@@ -93,13 +94,13 @@ abbrev pub test : ℕ → ℕ → ℕ → ℕ → Bool
 test w ib db p = fitsB w ib db (p / 32) (p % 32)
 
 unfoldable pub searchOf : ℕ → ℕ → ℕ → Found
-searchOf w ib db = found (find (test w ib db) 1024 0)
+searchOf w ib db = found (seek (test w ib db) 1024 0)
 
 -- a pair that fits has one that is tried and comes no later
 pub record Tried (w ib db a b : ℕ) : Type 0 where
   pub at : ℕ
   pub low : at ≤ b
-  pub small : at ≤ 30
+  pub small : at ≤ lastBlock + 1
   pub fits : Fits w ib db a at
 
 tried : (w ib db a b : ℕ) → Fits w ib db a b → Tried w ib db a b
@@ -109,13 +110,13 @@ tried w ib db a b f =
     (eq-zero-or-pos db)
 
 module _ (w ib db a : ℕ) where
-  passes : (b : ℕ) → b ≤ 30 → Fits w ib db a b → test w ib db (a * 32 + b) ≡ true
+  passes : (b : ℕ) → b ≤ lastBlock + 1 → Fits w ib db a b → test w ib db (a * 32 + b) ≡ true
   passes b l f =
       let d : (a * 32 + b) / 32 ≡ a = omega arith in
       let m : (a * 32 + b) % 32 ≡ b = omega arith in
       ap (λ (x : ℕ). fitsB w ib db x ((a * 32 + b) % 32)) d ∙ ap (λ (x : ℕ). fitsB w ib db a x) m ∙ fits-complete w ib db a b f
 
-answers-of : (w ib db : ℕ) (h : Hit) → First (test w ib db) 1024 0 h → Answers w ib db (found h)
+answers-of : (w ib db : ℕ) (h : Hit) → First (test w ib db) 1024 0 h → LeastPair w ib db (found h)
 answers-of w ib db (hit m) p = (
   fits-sound w ib db (m / 32) (m % 32) (p .0),
   λ a b f before.
@@ -126,11 +127,11 @@ answers-of w ib db none p = λ a b f.
     let t = tried w ib db a b f in
     p (a * 32 + t .at) (omega arith) (omega (arith, f .instructions, t)) (passes w ib db a (t .at) (t .small) (t .fits))
 
-pub computed : (w ib db : ℕ) (r : Found) → Answers w ib db r → r ≡ searchOf w ib db
+pub computed : (w ib db : ℕ) (r : Found) → LeastPair w ib db r → r ≡ searchOf w ib db
 unfolding searchOf
-computed w ib db r p = answers-one w ib db r (found (find (test w ib db) 1024 0)) p (answers-of w ib db (find (test w ib db) 1024 0) (first (test w ib db) 1024 0))
+computed w ib db r p = answers-one w ib db r (found (seek (test w ib db) 1024 0)) p (answers-of w ib db (seek (test w ib db) 1024 0) (first (test w ib db) 1024 0))
 
 -- the computed search is an answer
-pub search-answers : (w ib db : ℕ) → Answers w ib db (searchOf w ib db)
+pub search-answers : (w ib db : ℕ) → LeastPair w ib db (searchOf w ib db)
 unfolding searchOf
-search-answers w ib db = answers-of w ib db (find (test w ib db) 1024 0) (first (test w ib db) 1024 0)
+search-answers w ib db = answers-of w ib db (seek (test w ib db) 1024 0) (first (test w ib db) 1024 0)

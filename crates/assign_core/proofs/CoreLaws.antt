@@ -8,7 +8,7 @@ use native.Mathlib.Omega.{arith}
 use Rattle.assign_core.specs.declared.Pair.{Pair}
 use Rattle.assign_core.specs.declared.Found.{Found}
 use Rattle.assign_core.specs.declared.Found.the-variants.{At, Nothing}
-use Rattle.assign_core.specs.Core.{Before, Answers}
+use Rattle.assign_core.specs.Core.{Before, LeastPair}
 
 -- of two pairs one comes before the other, or they are one
 pub three : (p q : Pair) → Before (p .0) (p .1) (q .0) (q .1) ⊎ ((p ≡ q) ⊎ Before (q .0) (q .1) (p .0) (p .1))
@@ -27,7 +27,7 @@ three p q =
         (eq-zero-or-pos (a - b))
 
 -- two answers are one
-pub answers-one : (w ib db : ℕ) (r s : Found) → Answers w ib db r → Answers w ib db s → r ≡ s
+pub answers-one : (w ib db : ℕ) (r s : Found) → LeastPair w ib db r → LeastPair w ib db s → r ≡ s
 answers-one w ib db Nothing Nothing p q = refl
 answers-one w ib db Nothing (At b) p q = absurd (p (b .0) (b .1) (q .0))
 answers-one w ib db (At a) Nothing p q = absurd (q (a .0) (a .1) (p .0))
@@ -37,7 +37,7 @@ answers-one w ib db (At a) (At b) p q =
     (three a b)
 
 -- a DB that is not asked for starts at 0
-pub no-data : (w ib : ℕ) (p : Pair) → Answers w ib 0 (At p) → p .1 ≡ 0
+pub no-data : (w ib : ℕ) (p : Pair) → LeastPair w ib 0 (At p) → p .1 ≡ 0
 no-data w ib p a =
     ⊎-elim (λ e. e)
     (λ h. absurd (a .1 (p .0) 0 (record { instructions = a .0 .instructions; data-run = λ o. absurd (omega arith) }) (inr (refl, h))))

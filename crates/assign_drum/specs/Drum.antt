@@ -3,13 +3,10 @@
 use Prim.Native.Nat.{ℕ, _+_, _≤_, _<_}
 use mathlib.Core.List.{List}
 use lib.ListN.{getD}
+use Rattle.numbers.specs.Limits.{lowestAddress}
 use Rattle.assign_drum.specs.declared.Area.{Area}
 use Rattle.assign_drum.specs.declared.Start.{Start}
 use Rattle.assign_drum.specs.declared.Start.the-variants.{At, Nothing}
-
--- the lowest assignable address
-abbrev pub lowest : ℕ
-lowest = 0o105001
 
 -- an area that has no words: the one of a place that holds none
 abbrev pub noArea : Area
@@ -26,7 +23,7 @@ Free held n s = (x : ℕ) → s ≤ x → x < s + n → (k : ℕ) → In (getD h
 
 -- a contiguous area of n free words from s: assignable addresses, on a drum with the addresses 0 to size - 1
 pub record IsArea (held : List Area) (size n s : ℕ) : Type 0 where
-  pub low : lowest ≤ s
+  pub low : lowestAddress ≤ s
   pub high : s + n ≤ size
   pub free : Free held n s
 
@@ -35,6 +32,6 @@ abbrev pub Fits : List Area → ℕ → ℕ → ℕ → Type 0
 Fits held size n s = 1 ≤ n → IsArea held size n s
 
 -- the lowest start (so an area that is not asked for starts at 0); nothing is found where none fits
-abbrev pub Answers : List Area → ℕ → ℕ → Start → Type 0
-Answers held size n (At s) = Fits held size n s × ((b : ℕ) → b < s → Fits held size n b → ⊥)
-Answers held size n Nothing = (b : ℕ) → Fits held size n b → ⊥
+abbrev pub LowestStart : List Area → ℕ → ℕ → Start → Type 0
+LowestStart held size n (At s) = Fits held size n s × ((b : ℕ) → b < s → Fits held size n b → ⊥)
+LowestStart held size n Nothing = (b : ℕ) → Fits held size n b → ⊥

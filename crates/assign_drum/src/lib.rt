@@ -1,6 +1,7 @@
 // The drum area that a job gets: the lowest one that is free.
+use numbers::limits;
 ghost use Prim.Native.Nat.{_+_, _≤_};
-ghost use Rattle.assign_drum.specs.Drum.{Answers};
+ghost use Rattle.assign_drum.specs.Drum.{LowestStart};
 ghost use Rattle.numbers.specs.Decides.{Decides};
 ghost use Rattle.assign_drum.specs.Blocks.{EndIs, Meets, Seen};
 
@@ -21,8 +22,8 @@ enum Way {
     Clear,
 }
 
-// The lowest assignable address, 105001 octal.
-const LOWEST: u64 = 35329;
+// The lowest assignable address.
+const LOWEST: u64 = limits::LOWEST_ADDRESS as u64;
 
 // An area's end, the address after its last. It may lie past any u32.
 fn end_of(a: Area) -> u64
@@ -66,7 +67,7 @@ fn in_the_way(held: [Area; 16], s: u64, n: u64) -> Way
 // The lowest start of n free words on a drum of the size given. An area that is in the way of one start is in the way
 // of every start up to its end, so the search goes on there.
 pub fn lowest_start(held: [Area; 16], size: u32, n: u32) -> Start
-    ensures { λ r. ⌜ Answers held size n r ⌝ }
+    ensures { λ r. ⌜ LowestStart held size n r ⌝ }
 {
     if n == 0 {
         return Start::At(0);

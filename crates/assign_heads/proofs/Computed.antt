@@ -7,7 +7,7 @@ use native.Mathlib.Omega.{arith}
 use lib.Dec.{eqb, ltb}
 use lib.ListN.{length, getD, set}
 use borrow.Author.Tests.{eqb-true, ltb-true, lt-ltb, eq-eqb}
-use Rattle.numbers.proofs.Find.{Hit, hit, none, find, First, first}
+use Rattle.numbers.proofs.Find.{Hit, hit, none, seek, First, first}
 use Rattle.numbers.specs.Values.{values}
 use Rattle.numbers.proofs.ValuesLaws.{values-at}
 use Rattle.numbers.proofs.Tests.{by-bool, both}
@@ -46,7 +46,7 @@ ownerAt (hit l) = l
 ownerAt none = 0
 
 abbrev pub ownersOf : List ℕ → List ChannelNumber → List LogicalChannel
-ownersOf wants channels = values 16 (λ c. logical (ownerAt (find (owned wants channels c) 16 0)))
+ownersOf wants channels = values 16 (λ c. logical (ownerAt (seek (owned wants channels c) 16 0)))
 
 module _ (wants : List ℕ) (channels : List ChannelNumber) (c : ℕ) where
   owner-of : (h : Hit) → First (owned wants channels c) 16 0 h → OwnerIs wants channels c (ownerAt h)
@@ -69,8 +69,8 @@ module _ (wants : List ℕ) (channels : List ChannelNumber) (c : ℕ) where
 
 owners-are : (wants : List ℕ) (channels : List ChannelNumber) → Owners wants channels (ownersOf wants channels)
 owners-are wants channels = record {
-  each = λ c h. subst (λ (o : LogicalChannel). OwnerIs wants channels c (o .0)) (sym (values-at 16 (λ d. logical (ownerAt (find (owned wants channels d) 16 0))) c (logical 0) h))
-      (owner-of wants channels c (find (owned wants channels c) 16 0) (first (owned wants channels c) 16 0));
+  each = λ c h. subst (λ (o : LogicalChannel). OwnerIs wants channels c (o .0)) (sym (values-at 16 (λ d. logical (ownerAt (seek (owned wants channels d) 16 0))) c (logical 0) h))
+      (owner-of wants channels c (seek (owned wants channels c) 16 0) (first (owned wants channels c) 16 0));
 }
 
 -- ---- units, n of them from i on

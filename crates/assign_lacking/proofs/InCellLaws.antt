@@ -11,7 +11,7 @@ use Rattle.channels.specs.declared.Channel.{Channel}
 use Rattle.assign_drum.specs.declared.Area.{Area}
 use Rattle.assign_counts.specs.Assignable.{Counted}
 use Rattle.cards_request.specs.declared.Facilities.{Facilities}
-use Rattle.assign.specs.Assignment.{Cell, cellOf, drumLength, wantsOf}
+use Rattle.assign.specs.Assignment.{Supply, supplyOf, drumLength, wantsOf}
 use Rattle.assign.specs.Parts.{kinds, parts, FirstOf, FirstLacking, Has, HasKind}
 use Rattle.assign.specs.declared.Lacking.{Lacking}
 use Rattle.assign.specs.declared.Part.{Part}
@@ -22,25 +22,25 @@ use Rattle.assign_lacking.proofs.KindLaws.{kind-servable, servable-kind
 
 module _ (units : List (List Unit)) (occupancy : ℕ) (areas : List Area) (channels : List Channel) (wanted : Facilities) (counts : List ℕ) (size : length channels ≡ 16)
     (full : length (wanted .units) ≡ many) (c : Counted units channels counts) where
-  abbrev cell : Cell
-  cell = cellOf units occupancy areas channels
+  abbrev supply : Supply
+  supply = supplyOf units occupancy areas channels
 
   abbrev counted : Part → Type 0
   counted = HasBy counts occupancy areas (drumLength channels) wanted
 
-  to-kind : (order : ℕ) → order < unitKinds → Servable (wantsOf counts order) (wantsOf (wanted .units) order) → HasKind cell wanted order
+  to-kind : (order : ℕ) → order < unitKinds → Servable (wantsOf counts order) (wantsOf (wanted .units) order) → HasKind supply wanted order
   to-kind order h s = let k = servable-kind units channels size order h counts (wanted .units) full c s in record { on = k .0; to = k .1 .0; served = k .1 .1 }
 
-  from-kind : (order : ℕ) → order < unitKinds → HasKind cell wanted order → Servable (wantsOf counts order) (wantsOf (wanted .units) order)
+  from-kind : (order : ℕ) → order < unitKinds → HasKind supply wanted order → Servable (wantsOf counts order) (wantsOf (wanted .units) order)
   from-kind order h k = kind-servable units channels size order h counts (wanted .units) full c (k .on) (k .to) (k .served)
 
   abbrev servable : ℕ → Type 0
   servable order = Servable (wantsOf counts order) (wantsOf (wanted .units) order)
 
-  pub in-cell : (r : Lacking) → FirstOf counted parts r → FirstLacking cell wanted r
+  pub in-cell : (r : Lacking) → FirstOf counted parts r → FirstLacking supply wanted r
   in-cell r =
-      first-next counted (Has cell wanted) Core (Drum ∷ kinds) r (λ h. h) (λ h. h)
-      (first-next counted (Has cell wanted) Drum kinds r (λ h. h) (λ h. h)
-      (first-same counted (Has cell wanted) Core kinds r
-      (λ i l h. kind-there (Has cell wanted) (HasKind cell wanted) (λ k x. x) (λ k x. x) i l (to-kind i l (kind-here counted servable (λ k x. x) (λ k x. x) i l h)))
-      (λ i l h. kind-there counted servable (λ k x. x) (λ k x. x) i l (from-kind i l (kind-here (Has cell wanted) (HasKind cell wanted) (λ k x. x) (λ k x. x) i l h)))))
+      first-next counted (Has supply wanted) Core (Drum ∷ kinds) r (λ h. h) (λ h. h)
+      (first-next counted (Has supply wanted) Drum kinds r (λ h. h) (λ h. h)
+      (first-same counted (Has supply wanted) Core kinds r
+      (λ i l h. kind-there (Has supply wanted) (HasKind supply wanted) (λ k x. x) (λ k x. x) i l (to-kind i l (kind-here counted servable (λ k x. x) (λ k x. x) i l h)))
+      (λ i l h. kind-there counted servable (λ k x. x) (λ k x. x) i l (from-kind i l (kind-here (Has supply wanted) (HasKind supply wanted) (λ k x. x) (λ k x. x) i l h)))))

@@ -25,22 +25,22 @@ use Rattle.cards_request.specs.declared.Facilities.{Facilities}
 use Rattle.assign.specs.declared.Lacking.{Lacking}
 use Rattle.assign.specs.Parts.{parts, HasCore, HasDrum}
 use Rattle.assign.proofs.FirstLaws.{first-one}
-use Rattle.assign_lacking.specs.ByCounts.{Servable, HasBy, Answers}
+use Rattle.assign_lacking.specs.ByCounts.{Servable, HasBy, LackingByCounts}
 
 -- ---- the core and the drum
-module _ (occupancy : ℕ) (wanted : Facilities) {r : Found} (a : C.Answers occupancy (wanted .ib) (wanted .db) r) where
+module _ (occupancy : ℕ) (wanted : Facilities) {r : Found} (a : C.LeastPair occupancy (wanted .ib) (wanted .db) r) where
   pub no-core : r ≡ F.Nothing → HasCore occupancy wanted → ⊥
-  no-core e h = subst (C.Answers occupancy (wanted .ib) (wanted .db)) e a (h .ib) (h .db) (h .fits)
+  no-core e h = subst (C.LeastPair occupancy (wanted .ib) (wanted .db)) e a (h .ib) (h .db) (h .fits)
 
   pub core-there : (p : Pair) → r ≡ F.At p → HasCore occupancy wanted
-  core-there p e = record { ib = p .0; db = p .1; fits = subst (C.Answers occupancy (wanted .ib) (wanted .db)) e a .0 }
+  core-there p e = record { ib = p .0; db = p .1; fits = subst (C.LeastPair occupancy (wanted .ib) (wanted .db)) e a .0 }
 
-module _ (areas : List Area) (size : ℕ) (wanted : Facilities) {r : Start} (a : D.Answers areas size (wanted .md) r) where
+module _ (areas : List Area) (size : ℕ) (wanted : Facilities) {r : Start} (a : D.LowestStart areas size (wanted .md) r) where
   pub no-drum : r ≡ S.Nothing → HasDrum areas size wanted → ⊥
-  no-drum e h = subst (D.Answers areas size (wanted .md)) e a (h .start) (h .fits)
+  no-drum e h = subst (D.LowestStart areas size (wanted .md)) e a (h .start) (h .fits)
 
   pub drum-there : (s : ℕ) → r ≡ S.At s → HasDrum areas size wanted
-  drum-there s e = record { start = s; fits = subst (D.Answers areas size (wanted .md)) e a .0 }
+  drum-there s e = record { start = s; fits = subst (D.LowestStart areas size (wanted .md)) e a .0 }
 
 -- ---- a kind: where nothing is asked for, no channel is needed
 pub none-asked : (counts wants : List ℕ) → total wants ≡ 0 → Decides (Servable counts wants) true
@@ -73,6 +73,6 @@ module _ (counts wants : List ℕ) (wide : length counts ≡ 16) (size : length 
   )
 
 -- two answers are one
-pub answers-one : (counts : List ℕ) (occupancy : ℕ) (areas : List Area) (size : ℕ) (wanted : Facilities) (r s : Lacking) → Answers counts occupancy areas size wanted r
-    → Answers counts occupancy areas size wanted s → r ≡ s
+pub answers-one : (counts : List ℕ) (occupancy : ℕ) (areas : List Area) (size : ℕ) (wanted : Facilities) (r s : Lacking) → LackingByCounts counts occupancy areas size wanted r
+    → LackingByCounts counts occupancy areas size wanted s → r ≡ s
 answers-one counts occupancy areas size wanted r s a b = first-one (HasBy counts occupancy areas size wanted) parts r s (a .first) (b .first)

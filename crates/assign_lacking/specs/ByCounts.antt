@@ -35,6 +35,6 @@ HasBy counts occupancy areas length wanted (Units kind) = HasUnits counts (wante
 
 -- what is answered: the first part that is lacking. (And a fact of what is handed over, which callers need: the
 -- request's table has a number for each logical channel of each kind.)
-pub record Answers (counts : List ℕ) (occupancy : ℕ) (areas : List Area) (length : ℕ) (wanted : Facilities) (r : Lacking) : Type 0 where
+pub record LackingByCounts (counts : List ℕ) (occupancy : ℕ) (areas : List Area) (length : ℕ) (wanted : Facilities) (r : Lacking) : Type 0 where
   pub first : FirstOf (HasBy counts occupancy areas length wanted) parts r
   pub full : N.length (wanted .units) ≡ many

@@ -13,7 +13,7 @@ ghost use Rattle.numbers.specs.Decides.{Decides};
 ghost use Rattle.numbers.specs.Kinds.{unitKinds};
 ghost use Rattle.assign.specs.Assignment.{wantsOf};
 ghost use Rattle.assign.specs.Parts.{FirstOf, kinds};
-ghost use Rattle.assign_lacking.specs.ByCounts.{Servable, HasUnits, Answers};
+ghost use Rattle.assign_lacking.specs.ByCounts.{Servable, HasUnits, LackingByCounts};
 
 // A kind's part of a table by kind and channel, or by kind and logical channel.
 fn part_at(table: [u8; cards_request::COUNTS], order: usize) -> [u8; 16]
@@ -74,7 +74,7 @@ pub fn first_lacking(
     drum: u32,
     wanted: Facilities,
 ) -> Lacking
-    ensures { λ r. ⌜ Answers (counts .of) occupancy areas drum wanted r ⌝ }
+    ensures { λ r. ⌜ LackingByCounts (counts .of) occupancy areas drum wanted r ⌝ }
 {
     let of = counts.of;
     let asked = wanted.units;

@@ -10,6 +10,7 @@ use lib.ListN.{length, getD, length-append, length-take}
 use lib.Seq.{getD-take}
 use Rattle.numbers.specs.Quoted.{bytes, byte}
 use Rattle.numbers.proofs.Tests.{by-bool}
+use Rattle.numbers.specs.Limits.{mostRequests}
 use Rattle.text.specs.Writing.{twoText, decimalText}
 use Rattle.text.proofs.Undo.{few-digits}
 use Rattle.cards_fields.specs.Fields.{spaceless}
@@ -37,8 +38,8 @@ use Rattle.packets.specs.declared.Packet.{Packet}
 use Rattle.packets.specs.declared.Motion.{Motion}
 use Rattle.packets.specs.declared.Motion.the-variants.{Idle, Busy}
 use Rattle.packets.specs.declared.Lists.{Lists}
-use Rattle.shift_pieces.specs.Pieces.{packetText, spanText, wordText, eachOf}
-use Rattle.shift_pieces.proofs.PieceLaws.{each-bound, of-bound}
+use Rattle.answer_pieces.specs.Pieces.{packetText, spanText, wordText, eachOf}
+use Rattle.answer_pieces.proofs.PieceLaws.{each-bound, of-bound}
 use Rattle.board_jobs.specs.Places.{idIn, jobText, placeText, placesText}
 use Rattle.board_jobs.specs.Blocks.{blockByte, blocksText, coreText}
 use Rattle.board_units.specs.Units.{holderText, isLocked, stateText, unitLine, channelText, unitsText}
@@ -59,7 +60,7 @@ ByteMotion Idle = Unit {0}
 ByteMotion (Busy p k) = (p < 256) × (k < 256)
 
 pub record InTypes (lists : Lists) (schedule : Schedule) : Type 0 where
-  pub entries : length (schedule .entries) ≤ 64
+  pub entries : length (schedule .entries) ≤ mostRequests
   pub ids : (i : ℕ) → length (getD (schedule .entries) i blank .request .id) ≤ 6
   pub holders : (c u : ℕ) → ByteHolder (unitIn (lists .units .of) c u .holder)
   pub areas : (p : ℕ) → (jobIn (lists .jobs) p .from < 2 ^ 32) × (jobIn (lists .jobs) p .words < 2 ^ 32)

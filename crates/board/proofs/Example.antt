@@ -27,7 +27,7 @@ use Rattle.packets.specs.declared.JobState.the-variants.{Running}
 use Rattle.packets.specs.declared.Job.{Job}
 use Rattle.packets.specs.declared.Motion.the-variants.{Busy}
 use Rattle.packets.specs.declared.Lists.{Lists}
-use Rattle.shift_pieces.specs.Pieces.{eachFrom, eachOf}
+use Rattle.answer_pieces.specs.Pieces.{eachFrom, eachOf}
 use Rattle.board_jobs.specs.Places.{idIn}
 use Rattle.board_jobs.specs.Blocks.{holdsBlock, holderIn, blockByte}
 use Rattle.board_units.specs.Units.{stateText, unitLine, channelText}

@@ -7,6 +7,7 @@ use lib.ListN.{length, getD}
 use mir.Val.{Val}
 use denote.Laws.{Is}
 use denote.Struct.Field.{array-field, u8-field}
+use Rattle.numbers.specs.Limits.{mostRequests}
 use Rattle.schedule_entries.specs.Entries.{blank}
 use Rattle.schedule_entries.specs.declared.Entry.{Entry}
 use Rattle.schedule_entries.proofs.Entry as Entry′
@@ -62,13 +63,13 @@ short e s = let l = long u8-field 6 (e .request .id) _ (s .1 .1 .1 .0 .1 .1 .0) 
 -- ---- and the whole
 pub typed : (lists : Lists) (schedule : Schedule) (vs us : List Val) → Is Lists′.the-row lists vs → Is Schedule′.the-row schedule us → InTypes lists schedule
 typed lists schedule vs us p q =
-    let entries = long Entry′.the-field 64 (schedule .entries) (q .0 .0) (q .1 .1 .0) in
+    let entries = long Entry′.the-field mostRequests (schedule .entries) (q .0 .0) (q .1 .1 .0) in
     let jobs = p .1 .1 .1 .1 .0 in
     let list = p .1 .1 .1 .1 .1 .0 in
     let moving = p .1 .1 .1 .1 .1 .1 .0 in
     record {
       entries = omega arith;
-      ids = everywhere Entry′.the-field 64 (λ e. length (e .request .id) ≤ 6) (schedule .entries) _ (q .1 .1 .0) short blank (omega arith);
+      ids = everywhere Entry′.the-field mostRequests (λ e. length (e .request .id) ≤ 6) (schedule .entries) _ (q .1 .1 .0) short blank (omega arith);
       holders = grid-bytes (lists .units) _ (p .1 .1 .1 .1 .1 .1 .1 .0);
       areas = everywhere Job′.the-field 16 (λ j. (j .from < 2 ^ 32) × (j .words < 2 ^ 32)) (lists .jobs) _ jobs (λ j s. (s .1 .1 .1 .1 .1 .0 .1, s .1 .1 .1 .1 .1 .1 .0 .1)) noJob (omega arith, omega arith);
       motions = everywhere Carrier′.the-field 16 (λ c. ByteMotion (c .motion)) (lists .moving) _ moving (λ c s. motion-bytes (c .motion) (s .1 .0 .0, s .1 .1 .1 .0)) idle tt;

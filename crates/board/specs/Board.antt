@@ -1,9 +1,10 @@
 -- What the board shows, "for a reader at three in the morning", part after part.
-use Prim.Native.Nat.{ℕ, _+_, _≤_}
+use Prim.Native.Nat.{ℕ, _+_, _≤_, _*_}
 use mathlib.Core.Path.{_≡_}
 use mathlib.Core.List.{List, _++_}
 use lib.ListN.{length, take, drop}
 use Rattle.numbers.specs.Quoted.{bytes}
+use Rattle.numbers.specs.Limits.{mostRequests}
 use Rattle.text.specs.Room as Room
 use Rattle.schedule_list.specs.InSchedule.{inSchedule}
 use Rattle.schedule_list.specs.declared.Schedule.{Schedule}
@@ -29,9 +30,10 @@ boardText lists schedule =
     ++ (listedText (lists .jobs) (queueOf lists)
     ++ (requestsText (inSchedule schedule) ++ bytes "END OF BOARD\n"))))))
 
--- how many bytes hold every board
+-- how many bytes hold every board: 16 places, 256 units, core, 16 areas, 16 moving packets, 256 listed ones, the requests, the
+-- end
 abbrev pub most : ℕ
-most = 19795
+most = 16 * 23 + 256 * 51 + 38 + 16 * 30 + 16 * 17 + 256 * 16 + mostRequests * 23 + 13
 
 -- what the board leaves in lent room: its text from a position on, cut at the room's end; where there are that many
 -- bytes, all of it, and the rest of the room is kept

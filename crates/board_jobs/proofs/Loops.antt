@@ -8,6 +8,7 @@ use native.Mathlib.Numerals.{add-one}
 use native.Mathlib.Omega.{arith}
 use lib.ListN.{length, getD, take, drop, replicate, length-take, drop-of-length-le}
 use lib.Seq.{drop-cons, getD-take}
+use Rattle.numbers.specs.Limits.{mostRequests}
 use Rattle.schedule_entries.specs.Entries.{inPlace}
 use Rattle.schedule_entries.specs.declared.Entry.{Entry}
 use Rattle.packets.specs.State.{jobIn, noJob}
@@ -17,13 +18,13 @@ use Rattle.board_jobs.specs.Blocks.{holdsBlock, digit, holderIn}
 
 -- `i` entries of the schedule's first `count` have been looked at
 pub record AtEntries (entries : List Entry) (count place i : ℕ) : Type 0 where
-  pub within : i ≤ 64
+  pub within : i ≤ mostRequests
   pub same : idIn (drop i (take count entries)) place ≡ idIn (take count entries) place
 
 pub entries-start : (entries : List Entry) (count place : ℕ) → AtEntries entries count place 0
 entries-start entries count place = record { within = omega arith; same = refl }
 
-module _ {entries : List Entry} {count place i : ℕ} (full : length entries ≡ 64) (w : AtEntries entries count place i) where
+module _ {entries : List Entry} {count place i : ℕ} (full : length entries ≡ mostRequests) (w : AtEntries entries count place i) where
   over : length (take count entries) ≤ i → replicate 6 32 ≡ idIn (take count entries) place
   unfolding idIn
   over h = rw (drop-of-length-le (take count entries) h) at (w .same)
@@ -31,10 +32,10 @@ module _ {entries : List Entry} {count place i : ℕ} (full : length entries ≡
   pub entries-over : count ≤ i → replicate 6 32 ≡ idIn (take count entries) place
   entries-over h = over (omega (arith, length-take count entries))
 
-  pub entries-end : 64 ≤ i → replicate 6 32 ≡ idIn (take count entries) place
+  pub entries-end : mostRequests ≤ i → replicate 6 32 ≡ idIn (take count entries) place
   entries-end h = over (omega (arith, length-take count entries))
 
-  module _ (h : i < count) (k : i < 64) (d : Entry) {b : Bool} (is : b ≡ inPlace place (getD entries i d .state)) where
+  module _ (h : i < count) (k : i < mostRequests) (d : Entry) {b : Bool} (is : b ≡ inPlace place (getD entries i d .state)) where
     here : idIn (take count entries) place ≡ cond (inPlace place (getD entries i d .state)) (getD entries i d .request .id) (idIn (drop (suc i) (take count entries)) place)
     unfolding idIn
     here =

@@ -5,11 +5,12 @@ use mathlib.Core.Bool.{Bool, false, cond, _||_}
 use mathlib.Core.List.{List, [], _∷_, _++_}
 use lib.Dec.{ltb}
 use Rattle.numbers.specs.Quoted.{byte, bytes}
+use Rattle.numbers.specs.Limits.{blocks, firstBlock, lastBlock}
 use Rattle.packets.specs.State.{inRun, isEmpty}
 use Rattle.packets.specs.declared.Core.{Core}
 use Rattle.packets.specs.declared.Job.{Job}
 use Rattle.packets.specs.declared.JobState.{JobState}
-use Rattle.shift_pieces.specs.Pieces.{each}
+use Rattle.answer_pieces.specs.Pieces.{each}
 
 -- a place that is not empty holds the blocks of its job's core
 unfoldable pub holdsBlock : JobState → Core → ℕ → Bool
@@ -26,13 +27,13 @@ holderIn p (j ∷ js) block = cond (holdsBlock (j .state) (j .core) block) (digi
 
 -- "Core: 32 blocks ..; 2 to 29 are assignable, the rest the executive's"
 abbrev pub isExecutive : ℕ → Bool
-isExecutive block = ltb block 2 || ltb 29 block
+isExecutive block = ltb block firstBlock || ltb lastBlock block
 
 unfoldable pub blockByte : List Job → ℕ → ℕ
 blockByte jobs block = cond (isExecutive block) (byte "X") (holderIn 0 jobs block)
 
 abbrev pub blocksText : List Job → List ℕ
-blocksText jobs = each (λ block. blockByte jobs block ∷ []) 32
+blocksText jobs = each (λ block. blockByte jobs block ∷ []) blocks
 
 -- THE LINE OF CORE
 abbrev pub coreText : List Job → List ℕ

@@ -12,7 +12,7 @@ use Rattle.packets.specs.State.{jobIn}
 use Rattle.packets.specs.declared.Job.{Job}
 use Rattle.packets.specs.declared.JobState.{JobState}
 use Rattle.packets.specs.declared.JobState.the-variants.{Empty, Running, ClosingNormal, ClosingError}
-use Rattle.shift_pieces.specs.Pieces.{each}
+use Rattle.answer_pieces.specs.Pieces.{each}
 
 -- the ID of the request whose job runs or closes in a place; blanks where there is none, which no calls lead to
 unfoldable pub idIn : List Entry → ℕ → List ℕ

@@ -1,5 +1,6 @@
 // The board's lines of places and of core.
 use cards_fields::parts;
+use numbers::limits;
 use packets::Blocks;
 use packets::Core;
 use packets::Job;
@@ -14,11 +15,11 @@ ghost use Rattle.board_jobs.specs.Places.{jobText, placeText, idIn, plac
 ghost use Rattle.board_jobs.specs.Blocks.{holdsBlock, digit, holderIn, blockByte, blocksText, coreText};
 
 // The ID of the request whose job is in a place; blanks where there is none.
-fn id_in(entries: [Entry; 64], count: usize, place: u8) -> [u8; 6]
+fn id_in(entries: [Entry; limits::MOST_REQUESTS], count: usize, place: u8) -> [u8; 6]
     ensures { λ r. ⌜ r ≡ idIn (take count entries) place ⌝ }
 {
     let mut i: usize = 0;
-    while i < 64 {
+    while i < limits::MOST_REQUESTS {
         if count <= i {
             return [b' '; 6];
         }
@@ -61,7 +62,7 @@ pub fn put_places(
     out: &mut [u8],
     at: usize,
     jobs: [Job; 16],
-    entries: [Entry; 64],
+    entries: [Entry; limits::MOST_REQUESTS],
     count: usize,
 ) -> usize
     ensures { λ r. ⌜ Written (now (out .entry)) at (placesText jobs (take count entries)) (now (out .exit)) r ⌝ }
@@ -129,10 +130,10 @@ fn holder_in(jobs: [Job; 16], block: u8) -> u8
 fn block_byte(jobs: [Job; 16], block: u8) -> u8
     ensures { λ r. ⌜ r ≡ blockByte jobs block ⌝ }
 {
-    if block < 2 {
+    if block < limits::FIRST_BLOCK {
         return b'X';
     }
-    if 29 < block {
+    if limits::LAST_BLOCK < block {
         return b'X';
     }
     holder_in(jobs, block)
@@ -144,7 +145,7 @@ fn put_blocks(out: &mut [u8], at: usize, jobs: [Job; 16]) -> usize
 {
     let mut next = at;
     let mut b: u8 = 0;
-    while b < 32 {
+    while b < limits::BLOCKS {
         next = text::put_byte(out, next, block_byte(jobs, b));
         b += 1;
     }

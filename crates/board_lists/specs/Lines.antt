@@ -15,7 +15,7 @@ use Rattle.packets.specs.declared.Job.{Job}
 use Rattle.packets.specs.declared.Motion.{Motion}
 use Rattle.packets.specs.declared.Motion.the-variants.{Idle, Busy}
 use Rattle.packets.specs.declared.Carrier.{Carrier}
-use Rattle.shift_pieces.specs.Pieces.{packetText, each, eachOf}
+use Rattle.answer_pieces.specs.Pieces.{packetText, each, eachOf}
 
 -- `cc p k` behind a word: a packet on a channel
 abbrev pub lineText : List ℕ → ℕ → ℕ → ℕ → List ℕ

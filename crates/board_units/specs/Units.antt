@@ -14,7 +14,7 @@ use Rattle.units.specs.declared.Holder.the-variants.{Free, Held, Returning}
 use Rattle.units.specs.declared.Unit.{Unit}
 use Rattle.channels.specs.Channels.{noChannel, unitsOf}
 use Rattle.channels.specs.declared.Channel.{Channel}
-use Rattle.shift_pieces.specs.Pieces.{unitText, wordText, each}
+use Rattle.answer_pieces.specs.Pieces.{unitText, wordText, each}
 
 -- ` HELD p`
 abbrev pub heldText : ℕ → List ℕ

@@ -52,14 +52,14 @@ fn put_state(
     ensures { λ r. ⌜ Written (now (out .entry)) at (stateText (channel .0) (number .0) unit) (now (out .exit)) r ⌝ }
 {
     let word = text::put_bytes(out, at, b"UNIT ");
-    let named = shift_pieces::put_unit(out, word, channel, number);
+    let named = answer_pieces::put_unit(out, word, channel, number);
     let holder = unit.holder;
     let held = put_holder(out, named, holder);
     let returning = units::is_returning(holder);
-    let back = shift_pieces::put_word(out, held, returning, b" RETURNING");
-    let down = shift_pieces::put_word(out, back, unit.down, b" DOWN");
-    let reserved = shift_pieces::put_word(out, down, unit.reserved, b" RESERVED");
-    let locked = shift_pieces::put_word(out, reserved, is_locked(unit), b" LOCKED");
+    let back = answer_pieces::put_word(out, held, returning, b" RETURNING");
+    let down = answer_pieces::put_word(out, back, unit.down, b" DOWN");
+    let reserved = answer_pieces::put_word(out, down, unit.reserved, b" RESERVED");
+    let locked = answer_pieces::put_word(out, reserved, is_locked(unit), b" LOCKED");
     text::put_byte(out, locked, b'\n')
 }
 

@@ -1,14 +1,14 @@
 // Reads a deck on standard input and prints each request's cards as they are written, and its parameter table.
-use cards_report::Phase;
+use cards_report::Coming;
 use libc::STDIN_FILENO;
 use libc::STDOUT_FILENO;
 
 // Whether nothing more is to be printed.
-fn is_over(phase: Phase) -> bool {
-    match phase {
-        Phase::Groups => false,
-        Phase::Refused(_) => false,
-        Phase::Over => true,
+fn is_over(coming: Coming) -> bool {
+    match coming {
+        Coming::Groups => false,
+        Coming::Refused(_) => false,
+        Coming::Over => true,
     }
 }
 
@@ -17,12 +17,12 @@ fn is_over(phase: Phase) -> bool {
 fn main() {
     let mut deck = io::large_buffer();
     let n = io::read_full(STDIN_FILENO, &mut deck);
-    let mut room = [0u8; 2048];
+    let mut room = [0u8; cards_report::ROOM];
     let mut printing = cards_report::begin(&deck[..n]);
     let mut left = cards_report::TURNS;
     while 0 < left {
-        let phase = printing.phase;
-        if is_over(phase) {
+        let coming = printing.coming;
+        if is_over(coming) {
             return;
         }
         let printed = cards_report::next(&deck[..n], printing, &mut room);

@@ -11,6 +11,7 @@ use lib.ListN.{length, getD, drop, set, drop-of-length-le}
 use lib.Seq.{drop-cons}
 use borrow.Author.Tests.{le-ltb, lt-ltb, eq-eqb, ne-eqb}
 use Rattle.numbers.proofs.Tests.{never}
+use Rattle.numbers.specs.Limits.{mostBlocks}
 use Rattle.words.specs.Words.{value}
 use Rattle.cards_fields.specs.Fields.{malformed}
 use Rattle.cards_request.specs.Errors.{good, errorIf, orElse}
@@ -19,13 +20,13 @@ use Rattle.cards_request.proofs.ErrorLaws.{good-is, or-else-some, or-else-good}
 use Rattle.cards_fac.specs.Fac.{numberText, slotOf, formError, nothing, entryAnswer, entryOf, entered, entriesError, allEntered, asksOf, askedAnswer, askedOf, coreError, entriesOf, asked, facError, facOf}
 use Rattle.cards_fac.proofs.EntryLaws.{small-number}
 use Rattle.cards_request.specs.declared.CardError.the-variants.{FacMalformed, WrongEntry, TooMuchCore, NoIb}
-use Rattle.cards_request.specs.declared.Verdict.{Verdict}
-use Rattle.cards_request.specs.declared.Verdict.the-variants.{Good, Wrong}
+use Rattle.cards_request.specs.declared.CardVerdict.{CardVerdict}
+use Rattle.cards_request.specs.declared.CardVerdict.the-variants.{Good, Wrong}
 use Rattle.cards_fac.specs.declared.Entry.{Entry}
 use Rattle.cards_fac.specs.declared.Asked.{Asked}
 use Rattle.cards_request.specs.declared.Facilities.{Facilities}
 
-answer-verdict : (v : Verdict) (k n : ℕ) → entryAnswer v k n .verdict ≡ v
+answer-verdict : (v : CardVerdict) (k n : ℕ) → entryAnswer v k n .verdict ≡ v
 answer-verdict Good k n = refl
 answer-verdict (Wrong e) k n = refl
 
@@ -40,7 +41,7 @@ module _ (t : List ℕ) (e : Entry) (is : e ≡ entryOf t) where
 
     whole-entry : e ≡ entryAnswer Good (slotOf t) (value (numberText t))
     unfolding entryOf
-    whole-entry = is ∙ ap (λ (v : Verdict). entryAnswer v (slotOf t) (value (numberText t))) form-good
+    whole-entry = is ∙ ap (λ (v : CardVerdict). entryAnswer v (slotOf t) (value (numberText t))) form-good
 
     pub slot-is : e .slot ≡ slotOf t
     slot-is = ap (λ (x : Entry). x .slot) whole-entry
@@ -52,11 +53,11 @@ module _ (t : List ℕ) (e : Entry) (is : e ≡ entryOf t) where
 pub small-entry : (t : List ℕ) (e : Entry) → e ≡ entryOf t → good (e .verdict) ≡ true → (e .slot ≡ 2 → ⊥) → e .number < 100
 small-entry t e is z n = rw (number-is t e is z) (small-number t (form-good t e is z) (λ q. n (slot-is t e is z ∙ q)))
 
-pub asked-verdict : (v : Verdict) (asks : List ℕ) → askedAnswer v asks .verdict ≡ v
+pub asked-verdict : (v : CardVerdict) (asks : List ℕ) → askedAnswer v asks .verdict ≡ v
 asked-verdict Good asks = refl
 asked-verdict (Wrong e) asks = refl
 
-pub asked-alone : (v : Verdict) (asks : List ℕ) → good v ≡ false → askedAnswer v asks ≡ askedAnswer v nothing
+pub asked-alone : (v : CardVerdict) (asks : List ℕ) → good v ≡ false → askedAnswer v asks ≡ askedAnswer v nothing
 asked-alone Good asks h = never refl h
 asked-alone (Wrong e) asks h = refl
 
@@ -91,11 +92,11 @@ unfolding askedOf
 entries-done asks ts k h = rw (drop-of-length-le ts {i = k} h)
 
 -- an error alone, as the code makes it
-pub none-alone : (v : Verdict) (f : Facilities) → good v ≡ false → f ≡ noFacilities → _≡_ {A = Asked} (record { verdict = v; facilities = f }) (askedAnswer v nothing)
+pub none-alone : (v : CardVerdict) (f : Facilities) → good v ≡ false → f ≡ noFacilities → _≡_ {A = Asked} (record { verdict = v; facilities = f }) (askedAnswer v nothing)
 none-alone Good f h e = never refl h
 none-alone (Wrong x) f h e = rw e
 
-pub entry-alone : (v : Verdict) → good v ≡ false → _≡_ {A = Entry} (record { verdict = v; slot = 0; number = 0 }) (entryAnswer v 0 0)
+pub entry-alone : (v : CardVerdict) → good v ≡ false → _≡_ {A = Entry} (record { verdict = v; slot = 0; number = 0 }) (entryAnswer v 0 0)
 entry-alone Good h = never refl h
 entry-alone (Wrong e) h = refl
 
@@ -115,14 +116,14 @@ set-past-md f (suc (suc (suc k))) n a b c = let e : suc (suc (suc k)) - 3 ≡ k 
 
 -- the core that is asked for, by the tests that the code makes
 module _ (asks : List ℕ) where
-  pub core-many : 28 < getD asks 0 0 + getD asks 1 0 → coreError asks ≡ Wrong TooMuchCore
-  core-many h = rw (lt-ltb 28 (getD asks 0 0 + getD asks 1 0) h)
+  pub core-many : mostBlocks < getD asks 0 0 + getD asks 1 0 → coreError asks ≡ Wrong TooMuchCore
+  core-many h = rw (lt-ltb mostBlocks (getD asks 0 0 + getD asks 1 0) h)
 
-  pub core-none : getD asks 0 0 + getD asks 1 0 ≤ 28 → getD asks 0 0 ≡ 0 → coreError asks ≡ Wrong NoIb
-  core-none h e = rw (le-ltb 28 (getD asks 0 0 + getD asks 1 0) h, eq-eqb (getD asks 0 0) 0 e)
+  pub core-none : getD asks 0 0 + getD asks 1 0 ≤ mostBlocks → getD asks 0 0 ≡ 0 → coreError asks ≡ Wrong NoIb
+  core-none h e = rw (le-ltb mostBlocks (getD asks 0 0 + getD asks 1 0) h, eq-eqb (getD asks 0 0) 0 e)
 
-  pub core-good : getD asks 0 0 + getD asks 1 0 ≤ 28 → (getD asks 0 0 ≡ 0 → ⊥) → coreError asks ≡ Good
-  core-good h e = rw (le-ltb 28 (getD asks 0 0 + getD asks 1 0) h, ne-eqb (getD asks 0 0) 0 e)
+  pub core-good : getD asks 0 0 + getD asks 1 0 ≤ mostBlocks → (getD asks 0 0 ≡ 0 → ⊥) → coreError asks ≡ Good
+  core-good h e = rw (le-ltb mostBlocks (getD asks 0 0 + getD asks 1 0) h, ne-eqb (getD asks 0 0) 0 e)
 
 -- the FAC card
 module _ (s : List ℕ) where
@@ -145,16 +146,16 @@ module _ (s : List ℕ) where
 
       whole : f ≡ askedAnswer Good (asked s)
       unfolding askedOf
-      whole = is ∙ ap (λ (v : Verdict). askedAnswer v (asked s)) none
+      whole = is ∙ ap (λ (v : CardVerdict). askedAnswer v (asked s)) none
 
       -- IB and DB are among what is held
       core-is : coreError (asksOf (f .facilities)) ≡ coreError (asked s)
       core-is = ap (λ (x : Asked). coreError (asksOf (x .facilities))) whole
 
-      pub fac-core : (e : Verdict) → e ≡ coreError (asksOf (f .facilities)) → good e ≡ false → facOf s ≡ askedAnswer e nothing
+      pub fac-core : (e : CardVerdict) → e ≡ coreError (asksOf (f .facilities)) → good e ≡ false → facOf s ≡ askedAnswer e nothing
       unfolding facOf facError
       fac-core e c n = rw (m, none, ← core-is, ← c, or-else-good e) (asked-alone e (asked s) n)
 
-      pub fac-good : (e : Verdict) → e ≡ coreError (asksOf (f .facilities)) → good e ≡ true → f ≡ facOf s
+      pub fac-good : (e : CardVerdict) → e ≡ coreError (asksOf (f .facilities)) → good e ≡ true → f ≡ facOf s
       unfolding facOf facError
       fac-good e c q = whole ∙ rw (m, none, ← core-is, ← c, good-is e q) refl

@@ -22,8 +22,8 @@ use Rattle.cards_request.specs.Errors.{good, errorIf}
 use Rattle.cards_request.proofs.ErrorLaws.{not-good, or-else-none}
 use Rattle.cards_fac.specs.Fac.{codes, lastCode, indexIn, codeText, channelText, slashAt, numberText, channelGood, most, numberGood, entryGood, slot, codeOf, slotOf, codeError, formError, entryAnswer, entryOf}
 use Rattle.cards_request.specs.declared.CardError.the-variants.{LongCode, UnknownCode, WrongEntry}
-use Rattle.cards_request.specs.declared.Verdict.{Verdict}
-use Rattle.cards_request.specs.declared.Verdict.the-variants.{Good, Wrong}
+use Rattle.cards_request.specs.declared.CardVerdict.{CardVerdict}
+use Rattle.cards_request.specs.declared.CardVerdict.the-variants.{Good, Wrong}
 use Rattle.cards_fac.specs.declared.Entry.{Entry}
 
 codes-many : length codes ≡ suc lastCode
@@ -193,7 +193,7 @@ entry-long t known h = entry-bad t known (test (entryGood (codeOf t) t) refl)
         let q = both (channelGood (codeOf t) (channelText t)) (numberGood (codeOf t) (numberText t)) (p .1) in
         absurd (omega (arith, code-short t known, channel-short (codeOf t) (channelText t) (q .0), number-few (codeOf t) (numberText t) (q .1), length-drop (slashAt t + 1) t))
 
-pub entry-error : (t : List ℕ) (e : Verdict) → e ≡ codeError t → good e ≡ false → entryOf t ≡ entryAnswer e 0 0
+pub entry-error : (t : List ℕ) (e : CardVerdict) → e ≡ codeError t → good e ≡ false → entryOf t ≡ entryAnswer e 0 0
 unfolding entryOf formError
 entry-error t Good is h = never refl h
 entry-error t (Wrong e) is h = rw (← is)

@@ -8,14 +8,15 @@ use lib.ListN.{length, getD, drop, set}
 use Rattle.numbers.specs.Quoted.{byte, bytes}
 use Rattle.numbers.specs.Kinds.{codeOf as kindCode, inOrder, unitKinds}
 use Rattle.numbers.specs.declared.Kind.the-variants.{Md}
+use Rattle.numbers.specs.Limits.{mostBlocks}
 use Rattle.text.specs.Class.{isDigit, isLetter}
 use Rattle.words.specs.Words.{every, same, value, leading, isnt}
 use Rattle.cards_fields.specs.Fields.{field, fields, malformed}
 use Rattle.cards_request.specs.Errors.{errorIf, orElse, firstOf}
 use Rattle.cards_request.specs.Requests.{counts, noFacilities}
 use Rattle.cards_request.specs.declared.CardError.the-variants.{FacMalformed, LongCode, UnknownCode, WrongEntry, TooMuchCore, NoIb}
-use Rattle.cards_request.specs.declared.Verdict.{Verdict}
-use Rattle.cards_request.specs.declared.Verdict.the-variants.{Good, Wrong}
+use Rattle.cards_request.specs.declared.CardVerdict.{CardVerdict}
+use Rattle.cards_request.specs.declared.CardVerdict.the-variants.{Good, Wrong}
 use Rattle.cards_fac.specs.declared.Entry.{Entry}
 use Rattle.cards_request.specs.declared.Facilities.{Facilities}
 use Rattle.cards_fac.specs.declared.Asked.{Asked}
@@ -94,15 +95,15 @@ abbrev pub slotOf : List ℕ → ℕ
 slotOf t = slot (codeOf t) (value (channelText t))
 
 -- "9 a code of over two letters, 11 an unknown or empty code"
-unfoldable pub codeError : List ℕ → Verdict
+unfoldable pub codeError : List ℕ → CardVerdict
 codeError t = orElse (errorIf (ltb 2 (length (codeText t))) LongCode) (errorIf (ltb lastCode (codeOf t)) UnknownCode)
 
 -- "13 anything else"
-unfoldable pub formError : List ℕ → Verdict
+unfoldable pub formError : List ℕ → CardVerdict
 formError t = orElse (codeError t) (errorIf (not (entryGood (codeOf t) t)) WrongEntry)
 
 -- "No two entries have the same code and logical channel"
-abbrev pub entryError : List ℕ → List ℕ → Verdict
+abbrev pub entryError : List ℕ → List ℕ → CardVerdict
 entryError asks t = orElse (formError t) (errorIf (ltb 0 (getD asks (slotOf t) 0)) WrongEntry)
 
 -- what is asked for with one entry more
@@ -110,7 +111,7 @@ abbrev pub entered : List ℕ → List ℕ → List ℕ
 entered asks t = set asks (slotOf t) (value (numberText t))
 
 -- "its entries left to right": the first error
-abbrev pub entriesError : List ℕ → List (List ℕ) → Verdict
+abbrev pub entriesError : List ℕ → List (List ℕ) → CardVerdict
 entriesError asks [] = Good
 entriesError asks (t ∷ ts) = orElse (entryError asks t) (entriesError (entered asks t) ts)
 
@@ -120,11 +121,11 @@ allEntered asks [] = asks
 allEntered asks (t ∷ ts) = allEntered (entered asks t) ts
 
 -- "14 IB plus DB over 28; 27 no IB"
-abbrev pub coreError : List ℕ → Verdict
-coreError asks = orElse (errorIf (ltb 28 (getD asks 0 0 + getD asks 1 0)) TooMuchCore) (errorIf (eqb (getD asks 0 0) 0) NoIb)
+abbrev pub coreError : List ℕ → CardVerdict
+coreError asks = orElse (errorIf (ltb mostBlocks (getD asks 0 0 + getD asks 1 0)) TooMuchCore) (errorIf (eqb (getD asks 0 0) 0) NoIb)
 
 -- an entry as the code holds it: its error, or its slot and its number
-abbrev pub entryAnswer : Verdict → ℕ → ℕ → Entry
+abbrev pub entryAnswer : CardVerdict → ℕ → ℕ → Entry
 entryAnswer Good k n = record { verdict = Good; slot = k; number = n }
 entryAnswer (Wrong e) k n = record { verdict = Wrong e; slot = 0; number = 0 }
 
@@ -139,7 +140,7 @@ pub record EntryRead (t : List ℕ) (r : Entry) : Type 0 where
   pub small : (r .slot ≡ 2 → ⊥) → r .number < 100
 
 -- all entries as the code holds them: the error, or what they ask for
-abbrev pub askedAnswer : Verdict → List ℕ → Asked
+abbrev pub askedAnswer : CardVerdict → List ℕ → Asked
 askedAnswer Good asks = record { verdict = Good; facilities = facilitiesOf asks }
 askedAnswer (Wrong e) asks = record { verdict = Wrong e; facilities = noFacilities }
 
@@ -160,7 +161,7 @@ abbrev pub asked : List ℕ → List ℕ
 asked fac = allEntered nothing (entriesOf fac)
 
 -- "12 FAC malformed; its entries left to right: ..; 14 IB plus DB over 28; 27 no IB"
-unfoldable pub facError : List ℕ → Verdict
+unfoldable pub facError : List ℕ → CardVerdict
 facError fac =
     firstOf
     (errorIf (malformed fac) FacMalformed

@@ -1,8 +1,9 @@
 // The FAC card: its entries, what they ask for, and the card's errors.
 use cards_fields::card;
 use cards_request::CardError;
+use cards_request::CardVerdict;
 use cards_request::Facilities;
-use cards_request::Verdict;
+use numbers::limits;
 use words::Class;
 ghost use mathlib.Core.Path.{_≡_};
 ghost use mathlib.Core.Bool.{false};
@@ -34,14 +35,14 @@ pub const SLOTS: usize = 3 + cards_request::COUNTS;
 
 // An entry of a FAC card: the slot that it fills and its number, both 0 beside an error.
 pub struct Entry {
-    pub verdict: Verdict,
+    pub verdict: CardVerdict,
     pub slot: usize,
     pub number: u32,
 }
 
 // What the entries of a FAC card ask for, nothing beside an error.
 pub struct Asked {
-    pub verdict: Verdict,
+    pub verdict: CardVerdict,
     pub facilities: Facilities,
 }
 
@@ -111,7 +112,7 @@ fn slot_of(code: usize, channel: u32) -> usize
 }
 
 // An entry of an error alone.
-fn no_entry(verdict: Verdict) -> Entry
+fn no_entry(verdict: CardVerdict) -> Entry
     requires { ⌜ good verdict ≡ false ⌝ }
     ensures { λ r. ⌜ (r ≡ entryAnswer verdict 0 0) × ((r .slot ≡ 0) × (r .number ≡ 0)) ⌝ }
 {
@@ -123,38 +124,38 @@ fn no_entry(verdict: Verdict) -> Entry
 }
 
 // What is wrong with an entry's code.
-fn code_error(t: &[u8]) -> Verdict
+fn code_error(t: &[u8]) -> CardVerdict
     ensures { λ r. ⌜ r ≡ codeError (now (t .entry)) ⌝ }
 {
     let n = words::leading_of(Class::Letter, t);
     if 2 < n {
-        return Verdict::Wrong(CardError::LongCode);
+        return CardVerdict::Wrong(CardError::LongCode);
     }
     if LAST_CODE < code_index(&t[..n]) {
-        return Verdict::Wrong(CardError::UnknownCode);
+        return CardVerdict::Wrong(CardError::UnknownCode);
     }
-    Verdict::Good
+    CardVerdict::Good
 }
 
 // An entry whose code is known: a slash, a good channel before it and a good number behind it.
 fn known_entry(t: &[u8]) -> Entry
-    requires { ⌜ codeError (now t) ≡ Verdict.Good ⌝ }
+    requires { ⌜ codeError (now t) ≡ CardVerdict.Good ⌝ }
     ensures { λ r. ⌜ EntryRead (now (t .entry)) r ⌝ }
 {
     let n = words::leading_of(Class::Letter, t);
     let code = code_index(&t[..n]);
     let at = n + words::until(&t[n..], b'/');
     if t.len() <= at {
-        return no_entry(Verdict::Wrong(CardError::WrongEntry));
+        return no_entry(CardVerdict::Wrong(CardError::WrongEntry));
     }
     if !is_channel(code, &t[n..at]) {
-        return no_entry(Verdict::Wrong(CardError::WrongEntry));
+        return no_entry(CardVerdict::Wrong(CardError::WrongEntry));
     }
     if !is_number(code, &t[at + 1..]) {
-        return no_entry(Verdict::Wrong(CardError::WrongEntry));
+        return no_entry(CardVerdict::Wrong(CardError::WrongEntry));
     }
     Entry {
-        verdict: Verdict::Good,
+        verdict: CardVerdict::Good,
         slot: slot_of(code, words::number(&t[n..at])),
         number: words::number(&t[at + 1..]),
     }
@@ -179,11 +180,11 @@ fn entry_at(card: &[u8], k: usize) -> Entry
     if !cards_request::is_good(e) {
         return no_entry(e);
     }
-    no_entry(Verdict::Wrong(CardError::WrongEntry))
+    no_entry(CardVerdict::Wrong(CardError::WrongEntry))
 }
 
 // An error alone.
-fn none_asked(verdict: Verdict) -> Asked
+fn none_asked(verdict: CardVerdict) -> Asked
     requires { ⌜ good verdict ≡ false ⌝ }
     ensures { λ r. ⌜ r ≡ askedAnswer verdict nothing ⌝ }
 {
@@ -249,31 +250,31 @@ fn facilities(card: &[u8]) -> Asked
         }
         let slot = e.slot;
         if 0 < number_at(asks, slot) {
-            return none_asked(Verdict::Wrong(CardError::WrongEntry));
+            return none_asked(CardVerdict::Wrong(CardError::WrongEntry));
         }
         asks = with_number(asks, slot, e.number);
     }
     Asked {
-        verdict: Verdict::Good,
+        verdict: CardVerdict::Good,
         facilities: asks,
     }
 }
 
 // What is wrong with the core that is asked for.
-pub fn core_error(f: Facilities) -> Verdict
+pub fn core_error(f: Facilities) -> CardVerdict
     ensures { λ r. ⌜ r ≡ coreError (asksOf f) ⌝ }
 {
     let ib = f.ib;
-    if 28 < ib {
-        return Verdict::Wrong(CardError::TooMuchCore);
+    if limits::MOST_BLOCKS < ib {
+        return CardVerdict::Wrong(CardError::TooMuchCore);
     }
-    if 28 - ib < f.db {
-        return Verdict::Wrong(CardError::TooMuchCore);
+    if limits::MOST_BLOCKS - ib < f.db {
+        return CardVerdict::Wrong(CardError::TooMuchCore);
     }
     if ib == 0 {
-        return Verdict::Wrong(CardError::NoIb);
+        return CardVerdict::Wrong(CardError::NoIb);
     }
-    Verdict::Good
+    CardVerdict::Good
 }
 
 // The FAC card by itself: its first error, or what it asks for.
@@ -281,7 +282,7 @@ pub fn read_fac(card: &[u8]) -> Asked
     ensures { λ r. ⌜ r ≡ facOf (now (card .entry)) ⌝ }
 {
     if card::is_malformed(card) {
-        return none_asked(Verdict::Wrong(CardError::FacMalformed));
+        return none_asked(CardVerdict::Wrong(CardError::FacMalformed));
     }
     let f = facilities(card);
     let verdict = f.verdict;

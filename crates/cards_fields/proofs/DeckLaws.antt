@@ -8,6 +8,7 @@ use lib.ListN.{length, getD, drop, take, length-drop, drop-of-length-le}
 use lib.Seq.{drop-drop, length-take-le}
 use borrow.Author.Tests.{le-leb, lt-leb}
 use Rattle.numbers.specs.declared.Refusal.the-variants.{BadDeck}
+use Rattle.numbers.specs.Limits.{deckBytes}
 use Rattle.words.specs.Words.{isnt}
 use Rattle.words.specs.Lines.{lineOf}
 use Rattle.words.proofs.WordLaws.{leading-front, leading-most}
@@ -111,17 +112,17 @@ no-group s at e = rw e
 
 -- what a deck's end is
 module _ (s : List ℕ) where
-  pub deck-long : 16384 < length s → deckEnd s ≡ Refused BadDeck
+  pub deck-long : deckBytes < length s → deckEnd s ≡ Refused BadDeck
   unfolding deckEnd
-  deck-long h = rw (lt-leb (length s) 16384 h)
+  deck-long h = rw (lt-leb (length s) deckBytes h)
 
-  pub deck-open : length s ≤ 16384 → terminated (cardsOf s) ≡ false → deckEnd s ≡ Refused BadDeck
+  pub deck-open : length s ≤ deckBytes → terminated (cardsOf s) ≡ false → deckEnd s ≡ Refused BadDeck
   unfolding deckEnd
-  deck-open h t = rw (le-leb (length s) 16384 h, t)
+  deck-open h t = rw (le-leb (length s) deckBytes h, t)
 
-  pub deck-ends : (n : ℕ) → length s ≤ 16384 → terminated (cardsOf s) ≡ true → n ≡ size (before (cardsOf s)) → At n ≡ deckEnd s
+  pub deck-ends : (n : ℕ) → length s ≤ deckBytes → terminated (cardsOf s) ≡ true → n ≡ size (before (cardsOf s)) → At n ≡ deckEnd s
   unfolding deckEnd
-  deck-ends n h t e = rw (le-leb (length s) 16384 h, t, e)
+  deck-ends n h t e = rw (le-leb (length s) deckBytes h, t, e)
 
 -- the first card of a text, as it is lent
 pub opens-none : (s : List ℕ) (len : ℕ) → len ≡ length (lineOf s) → len ≡ length s → opens (cardsOf s) ≡ true

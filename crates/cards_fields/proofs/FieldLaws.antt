@@ -12,6 +12,7 @@ use lib.ListN.{length, getD, drop, take, set, drop-of-length-le, length-drop, le
 use lib.Seq.{take-all}
 use borrow.Author.Tests.{eq-eqb, ne-eqb, eqb-true, eqb-false, le-ltb, lt-ltb, le-leb, lt-leb}
 use Rattle.numbers.proofs.Tests.{by-bool}
+use Rattle.numbers.specs.Limits.{cardLength}
 use Rattle.words.specs.Words.{same}
 use Rattle.words.proofs.WordLaws.{drop-step, and-false, same-long}
 use Rattle.cards_fields.specs.Fields.{fields, field, fieldIs, fieldOf, pieces, spaceless, upToPeriod, onto, padded, closed, cardByte, malformed}
@@ -167,13 +168,13 @@ pub closed-end : (s : List ℕ) (i : ℕ) (over : Bool) → length s ≤ i → c
 closed-end s i over h = rw (drop-of-length-le s h)
 
 -- a card of at most 80 characters goes by its form, a longer one is malformed
-pub by-form : (s : List ℕ) (t : Bool) → length s ≤ 80 → closed false s ≡ t → malformed s ≡ not t
+pub by-form : (s : List ℕ) (t : Bool) → length s ≤ cardLength → closed false s ≡ t → malformed s ≡ not t
 unfolding malformed
-by-form s t h e = rw (le-ltb 80 (length s) h, e)
+by-form s t h e = rw (le-ltb cardLength (length s) h, e)
 
-pub too-long : (s : List ℕ) → 80 < length s → malformed s ≡ true
+pub too-long : (s : List ℕ) → cardLength < length s → malformed s ≡ true
 unfolding malformed
-too-long s h = rw (lt-ltb 80 (length s) h)
+too-long s h = rw (lt-ltb cardLength (length s) h)
 
 pub pushed-len : (f : Field) (b : ℕ) → pushed f b .len ≤ f .len + 1
 pushed-len f b = dropped (eqb b 32)

@@ -16,6 +16,7 @@ use borrow.Author.Tests.{leb-true}
 use Rattle.numbers.proofs.Tests.{by-bool, both, never}
 use Rattle.numbers.specs.declared.Refusal.{Refusal}
 use Rattle.numbers.specs.declared.Refusal.the-variants.{BadDeck}
+use Rattle.numbers.specs.Limits.{deckBytes, cardLength}
 use Rattle.words.specs.Lines.{lineOf, lf, ontoLine}
 use Rattle.words.proofs.WordLaws.{same-equal}
 use Rattle.words.proofs.LineLaws.{NoLf, first-ended, no-line, first-line, line-split, line-clean}
@@ -149,35 +150,35 @@ before-front (c ∷ cs) = test (isTermination c) (before-front cs)
     test false ih = ap (λ (l : List (List ℕ)). c ∷ l) ih
 
 -- the termination card stands among the cards of a deck that has one
-size-before : (cs : List (List ℕ)) → terminated cs ≡ true → size (before cs) + 81 ≤ size cs
+size-before : (cs : List (List ℕ)) → terminated cs ≡ true → size (before cs) + (cardLength + 1) ≤ size cs
 size-before [] t = never t refl
 size-before (c ∷ cs) t = by (isTermination c) refl t (size-before cs)
   where
-    by : (x : Bool) → isTermination c ≡ x → cond x true (terminated cs) ≡ true → (terminated cs ≡ true → size (before cs) + 81 ≤ size cs) → size (cond x [] (c ∷ before cs)) + 81 ≤ length c + 1 + size cs
-    by true e t h = let l : length c ≡ 80 = ap length (same-equal c termination e) in omega arith
+    by : (x : Bool) → isTermination c ≡ x → cond x true (terminated cs) ≡ true → (terminated cs ≡ true → size (before cs) + (cardLength + 1) ≤ size cs) → size (cond x [] (c ∷ before cs)) + (cardLength + 1) ≤ length c + 1 + size cs
+    by true e t h = let l : length c ≡ cardLength = ap length (same-equal c termination e) in omega arith
     by false e t h = omega (arith, h t)
 
 -- WHERE A DECK ENDS that is read
 pub record Ends (s : List ℕ) (n : ℕ) : Type 0 where
   pub is : n ≡ size (before (cardsOf s))
-  pub within : n + 81 ≤ length s
-  pub most : length s ≤ 16384
+  pub within : n + (cardLength + 1) ≤ length s
+  pub most : length s ≤ deckBytes
 
 pub ends : (s : List ℕ) (n : ℕ) → deckEnd s ≡ At n → Ends s n
 unfolding deckEnd
 ends s n e =
-    by-bool (leb (length s) 16384 && terminated (cardsOf s))
+    by-bool (leb (length s) deckBytes && terminated (cardsOf s))
     (λ t. let i : At (size (before (cardsOf s))) ≡ At n = rw t at e in
     let k : size (before (cardsOf s)) ≡ n = cc in
-    let p = both (leb (length s) 16384) (terminated (cardsOf s)) t in
-    record { is = cc; within = omega (arith, size-before (cardsOf s) (p .1), size-cards s); most = leb-true (length s) 16384 (p .0) })
+    let p = both (leb (length s) deckBytes) (terminated (cardsOf s)) t in
+    record { is = cc; within = omega (arith, size-before (cardsOf s) (p .1), size-cards s); most = leb-true (length s) deckBytes (p .0) })
     (λ t. let i : Refused BadDeck ≡ At n = rw t at e in let z : _≡_ {A = ℕ} 0 1 = cc in absurd (omega arith))
 
 -- and one that is not has one refusal
 pub refused-bad : (s : List ℕ) (refusal : Refusal) → deckEnd s ≡ Refused refusal → refusal ≡ BadDeck
 unfolding deckEnd
 refused-bad s refusal e =
-    by-bool (leb (length s) 16384 && terminated (cardsOf s))
+    by-bool (leb (length s) deckBytes && terminated (cardsOf s))
     (λ t. let i : At (size (before (cardsOf s))) ≡ Refused refusal = rw t at e in let z : _≡_ {A = ℕ} 0 1 = cc in absurd (omega arith))
     (λ t. let i : Refused BadDeck ≡ Refused refusal = rw t at e in cc)
 

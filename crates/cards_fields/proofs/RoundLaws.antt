@@ -12,6 +12,7 @@ use lib.Dec.{eqb, leb, ltb}
 use lib.ListN.{length, getD, drop, length-append}
 use borrow.Author.Tests.{eqb-true, eqb-false, ne-eqb, leb-true}
 use Rattle.numbers.proofs.Tests.{by-bool, never, both}
+use Rattle.numbers.specs.Limits.{cardLength}
 use Rattle.text.specs.Class.{isDigit, isAlnum}
 use Rattle.text.specs.Writing.{decimalText}
 use Rattle.text.proofs.Tens.{one-digit, more-digits}
@@ -147,7 +148,7 @@ closed-length (b ∷ s) e =
 pub fields-total : (s : List ℕ) → malformed s ≡ false → total (fields s) ≤ length s
 unfolding malformed fields
 fields-total s m =
-    by-bool (ltb 80 (length s))
+    by-bool (ltb cardLength (length s))
     (λ t. never refl (rw t at m))
     (λ t. by-bool (closed false s)
     (λ c. omega (arith, split-total (spaceless (upToPeriod s)), spaceless-short (upToPeriod s), closed-length s c))

@@ -6,6 +6,7 @@ use lib.Dec.{leb}
 use lib.ListN.{length, getD, replicate}
 use Rattle.numbers.specs.Quoted.{byte}
 use Rattle.numbers.specs.declared.Refusal.the-variants.{BadDeck}
+use Rattle.numbers.specs.Limits.{deckBytes}
 use Rattle.words.specs.Words.{same}
 use Rattle.words.specs.Lines.{linesOf}
 pub use Rattle.words.specs.Lines.{lf, ontoLine, size}
@@ -38,7 +39,7 @@ terminated (c ∷ cs) = cond (isTermination c) true (terminated cs)
 -- "Deck: at most 16,384 bytes in all": where the termination card starts, or the refusal of a deck too long or
 -- without one
 unfoldable pub deckEnd : List ℕ → DeckEnd
-deckEnd s = cond (leb (length s) 16384 && terminated (cardsOf s)) (At (size (before (cardsOf s)))) (Refused BadDeck)
+deckEnd s = cond (leb (length s) deckBytes && terminated (cardsOf s)) (At (size (before (cardsOf s)))) (Refused BadDeck)
 
 -- the next card opens a group, or there is none
 abbrev pub opens : List (List ℕ) → Bool

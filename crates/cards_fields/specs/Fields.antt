@@ -5,6 +5,7 @@ use mathlib.Core.List.{List, [], _∷_, _++_}
 use lib.Dec.{eqb, ltb, leb}
 use lib.ListN.{length, getD}
 use Rattle.numbers.specs.Quoted.{byte, bytes}
+use Rattle.numbers.specs.Limits.{cardLength}
 use Rattle.text.specs.Class.{isAlnum, isDigit}
 use Rattle.words.specs.Words.{every, has, same}
 use Rattle.cards_fields.specs.declared.Field.{Field}
@@ -65,7 +66,7 @@ closed false (b ∷ s) = cardByte b && closed (eqb b (byte ".")) s
 
 -- "a card is at most 80 characters of .., with a period and only spaces after it; else it is malformed"
 unfoldable pub malformed : List ℕ → Bool
-malformed s = ltb 80 (length s) || not (closed false s)
+malformed s = ltb cardLength (length s) || not (closed false s)
 
 -- digits, and at least one
 abbrev pub digits : List ℕ → Bool

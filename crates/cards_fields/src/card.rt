@@ -1,5 +1,6 @@
 // One card: its fields, read loosely, and whether it is malformed.
 use crate::Field;
+use numbers::limits;
 ghost use mathlib.Core.Path.{_≡_};
 ghost use Prim.Native.Nat.{_+_, _<_, _^_};
 ghost use lib.ListN.{length};
@@ -98,11 +99,11 @@ pub fn is_card_byte(b: u8) -> bool
     words::is_in(b" -/*=:,.", b)
 }
 
-// Whether a card is malformed: over 80 characters, another character, no period, or more than spaces after it.
+// Whether a card is malformed: too long, another character, no period, or more than spaces after it.
 pub fn is_malformed(card: &[u8]) -> bool
     ensures { λ r. ⌜ r ≡ malformed (now (card .entry)) ⌝ }
 {
-    if 80 < card.len() {
+    if limits::CARD_LENGTH < card.len() {
         return true;
     }
     let mut over = false;

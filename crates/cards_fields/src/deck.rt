@@ -2,6 +2,7 @@
 use crate::DeckEnd;
 use crate::card;
 use numbers::Refusal;
+use numbers::limits;
 ghost use mathlib.Core.Path.{_≡_};
 ghost use mathlib.Core.List.{[]};
 ghost use Prim.Native.Nat.{_≤_};
@@ -89,7 +90,7 @@ pub fn is_termination(card: &[u8]) -> bool
 pub fn deck_end(deck: &[u8]) -> DeckEnd
     ensures { λ r. ⌜ r ≡ deckEnd (now (deck .entry)) ⌝ }
 {
-    if 16384 < deck.len() {
+    if limits::DECK_BYTES < deck.len() {
         return DeckEnd::Refused(Refusal::BadDeck);
     }
     let mut at: usize = 0;

@@ -6,6 +6,7 @@ use lib.ListN.{length, length-map}
 use mir.Val.{Val}
 use denote.Laws.{Is}
 use denote.Struct.Laws as LL
+use Rattle.numbers.specs.Limits.{mostFurther}
 use Rattle.cards_request.specs.declared.FullRequest.{FullRequest}
 use Rattle.cards_request.proofs.Request as R
 use Rattle.cards_request.proofs.Request.Laws as R′
@@ -13,7 +14,7 @@ use Rattle.cards_request.proofs.FullRequest as T
 use Rattle.cards_request.proofs.FullRequest.Laws as T′
 use Rattle.cards_further.proofs.Fourteen.{fourteen}
 
-pub fourteen-in : (v : FullRequest) (vs : List Val) → Is T.the-row v vs → length (v .further .cards) ≡ 14
+pub fourteen-in : (v : FullRequest) (vs : List Val) → Is T.the-row v vs → length (v .further .cards) ≡ mostFurther
 fourteen-in v vs g = fourteen (v .further) _ (LL.owed T.the-type T′.the-laws v vs g .1 .0)
 
 pub six-in : (v : FullRequest) (vs : List Val) → Is T.the-row v vs → length (v .request .id) ≡ 6

@@ -11,6 +11,7 @@ use native.Mathlib.Numerals.{add-one}
 use borrow.Author.Tests.{eq-eqb, ne-eqb, eqb-true, le-leb, lt-leb}
 use Rattle.numbers.proofs.Tests.{both, by-bool}
 use Rattle.numbers.specs.Quoted.{byte}
+use Rattle.numbers.specs.Limits.{cardLength, mostFurther, textLength}
 use Rattle.text.specs.Room.{Written}
 use Rattle.text.proofs.RoomLaws.{Going, andThen, same-room, turn}
 use Rattle.words.specs.Words.{same}
@@ -55,16 +56,16 @@ module _ (id : List ℕ) (cards : List FurtherCard) (n : ℕ) (w : n ≤ length 
 
   -- whether each has at most 80 characters
   module _ (before len : ℕ) (b : before ≡ length id + 1) (l : len ≡ length (textOf (getD cards i past))) (h : i < n) where
-    here : short (behindId id (textsIn (drop i (take n cards)))) ≡ leb (before + len) 80 && short (behindId id (textsIn (drop (i + 1) (take n cards))))
+    here : short (behindId id (textsIn (drop i (take n cards)))) ≡ leb (before + len) cardLength && short (behindId id (textsIn (drop (i + 1) (take n cards))))
     here =
         let c : length (id ++ (byte "," ∷ textOf (getD cards i past))) ≡ before + len = omega (arith, length-append id (byte "," ∷ textOf (getD cards i past))) in
         rw (cards-step cards n w i past h, c)
 
-    pub short-long : before ≤ 80 → 80 - before < len → short (behindId id (textsIn (drop i (take n cards)))) ≡ false
-    short-long m g = here ∙ rw (lt-leb (before + len) 80 (omega arith))
+    pub short-long : before ≤ cardLength → cardLength - before < len → short (behindId id (textsIn (drop i (take n cards)))) ≡ false
+    short-long m g = here ∙ rw (lt-leb (before + len) cardLength (omega arith))
 
-    pub short-on : before ≤ 80 → len ≤ 80 - before → short (behindId id (textsIn (drop i (take n cards)))) ≡ short (behindId id (textsIn (drop (i + 1) (take n cards))))
-    short-on m g = here ∙ rw (le-leb (before + len) 80 (omega arith))
+    pub short-on : before ≤ cardLength → len ≤ cardLength - before → short (behindId id (textsIn (drop i (take n cards)))) ≡ short (behindId id (textsIn (drop (i + 1) (take n cards))))
+    short-on m g = here ∙ rw (le-leb (before + len) cardLength (omega arith))
 
   pub short-end : n ≤ i → short (behindId id (textsIn (drop i (take n cards)))) ≡ true
   short-end h = rw (cards-end cards n i h)
@@ -109,20 +110,20 @@ line-put c n e {room} {after = after} {id = id} {at = at} {next = next} w₁ w�
     (ap (λ (x : List ℕ). id ++ (44 ∷ (x ++ (10 ∷ [])))) e ∙ sym (append-assoc id (44 ∷ textOf c) (10 ∷ []))) w
 
 -- the further cards without an ID, as they stand in their room of 1,120 bytes
-bare-few : (ts : List (List ℕ)) (m : ℕ) → length ts ≤ m → ((k : ℕ) → length (getD ts k []) ≤ 78) → length (linesText (behindId [] ts)) ≤ 80 * m
+bare-few : (ts : List (List ℕ)) (m : ℕ) → length ts ≤ m → ((k : ℕ) → length (getD ts k []) ≤ textLength) → length (linesText (behindId [] ts)) ≤ cardLength * m
 bare-few [] m h g = omega arith
 bare-few (t ∷ ts) zero h g = absurd (omega arith)
 bare-few (t ∷ ts) (suc m) h g =
-    let a : length t ≤ 78 = g 0 in
+    let a : length t ≤ textLength = g 0 in
     omega (arith, bare-few ts m (omega arith) (λ k. g (suc k)), length-append (lineText (byte "," ∷ t)) (linesText (behindId [] ts)), length-append t (10 ∷ []))
 
-texts-few : (cs : List FurtherCard) → ((c : ℕ) → length (getD cs c past .text) ≤ 78) → (k : ℕ) → length (getD (textsIn cs) k []) ≤ 78
+texts-few : (cs : List FurtherCard) → ((c : ℕ) → length (getD cs c past .text) ≤ textLength) → (k : ℕ) → length (getD (textsIn cs) k []) ≤ textLength
 texts-few [] g zero = omega arith
 texts-few [] g (suc k) = omega arith
 texts-few (c ∷ cs) g zero = omega (arith, g 0, length-take (c .len) (c .text))
 texts-few (c ∷ cs) g (suc k) = texts-few cs (λ j. g (suc j)) k
 
-taken-78 : (n : ℕ) (cs : List FurtherCard) → ((c : ℕ) → length (getD cs c past .text) ≤ 78) → (c : ℕ) → length (getD (take n cs) c past .text) ≤ 78
+taken-78 : (n : ℕ) (cs : List FurtherCard) → ((c : ℕ) → length (getD cs c past .text) ≤ textLength) → (c : ℕ) → length (getD (take n cs) c past .text) ≤ textLength
 taken-78 zero cs g zero = omega arith
 taken-78 zero cs g (suc c) = omega arith
 taken-78 (suc n) [] g zero = omega arith
@@ -131,12 +132,12 @@ taken-78 (suc n) (x ∷ cs) g zero = g 0
 taken-78 (suc n) (x ∷ cs) g (suc c) = taken-78 n cs (λ j. g (suc j)) c
 
 -- read without an ID: they stand in the room whole
-module _ (f : Further) (l : length (f .cards) ≡ 14) (w : (c : ℕ) → length (getD (f .cards) c past .text) ≤ 78) {after : List ℕ} {n : ℕ}
-    (p : Written (replicate 1120 0) 0 (linesText (behindId [] (texts f))) after n) where
+module _ (f : Further) (l : length (f .cards) ≡ mostFurther) (w : (c : ℕ) → length (getD (f .cards) c past .text) ≤ textLength) {after : List ℕ} {n : ℕ}
+    (p : Written (replicate (mostFurther * (textLength + 2)) 0) 0 (linesText (behindId [] (texts f))) after n) where
   whole : take n after ≡ linesText (behindId [] (texts f))
   whole =
-      let b = bare-few (texts f) 14 (omega (arith, texts-many (f .count) (f .cards))) (texts-few (take (f .count) (f .cards)) (taken-78 (f .count) (f .cards) w)) in
-      put-whole 1120 p (omega arith) .1
+      let b = bare-few (texts f) mostFurther (omega (arith, texts-many (f .count) (f .cards))) (texts-few (take (f .count) (f .cards)) (taken-78 (f .count) (f .cards) w)) in
+      put-whole (mostFurther * (textLength + 2)) p (omega arith) .1
 
   cards-are : cardsOf (take n after) ≡ bare f
   cards-are = ap cardsOf whole
@@ -166,12 +167,12 @@ module _ (f : Further) (l : length (f .cards) ≡ 14) (w : (c : ℕ) → length 
         h ∙ ap (λ (x : Further). sameCards (x .cards) (f .cards)) again-is ∙ rw (g, c)
 
 -- a value that is taken has at most fourteen cards
-pub few-taken : (f : Further) → takesFurther f ≡ true → f .count ≤ 14
+pub few-taken : (f : Further) → takesFurther f ≡ true → f .count ≤ mostFurther
 unfolding takesFurther held
 few-taken f e =
     let a = both (good (furtherError (bare f))) _ e .1 in
-    let b = both (eqb (min (length (canonicals (bare f))) 14) (f .count)) _ a .0 in
-    omega (arith, eqb-true (min (length (canonicals (bare f))) 14) (f .count) b)
+    let b = both (eqb (min (length (canonicals (bare f))) mostFurther) (f .count)) _ a .0 in
+    omega (arith, eqb-true (min (length (canonicals (bare f))) mostFurther) (f .count) b)
 
 -- what was put ends within its room
 pub put-most : {room p after : List ℕ} {n : ℕ} → Written room 0 p after n → n ≤ length after

@@ -30,8 +30,8 @@ use Rattle.cards_group.specs.Group.{mark, requestOf}
 use Rattle.cards_request.specs.declared.CardError.the-variants.{WrongEntry, FacMalformed}
 use Rattle.cards_pty.specs.declared.Priority.{Priority}
 use Rattle.cards_request.specs.declared.Request.{Request}
-use Rattle.cards_request.specs.declared.Verdict.{Verdict}
-use Rattle.cards_request.specs.declared.Verdict.the-variants.{Good}
+use Rattle.cards_request.specs.declared.CardVerdict.{CardVerdict}
+use Rattle.cards_request.specs.declared.CardVerdict.the-variants.{Good}
 use Rattle.cards_writing.specs.Writing.{priorityText, markText, ptyFields, formedFrom, formed, limit, numbersFit, takes}
 use Rattle.cards_writing.proofs.PutLaws.{number-some}
 use Rattle.cards_fields.proofs.CardLaws.{plain, clean, alnum-plain, number-digits}
@@ -147,7 +147,7 @@ asks-held (a ∷ b ∷ []) f = never (both (ltb b 100) false (both (ltb a 100) (
 asks-held (a ∷ b ∷ c ∷ ns) f = refl
 
 -- one field more
-pub more : {v w : Verdict} → v ≡ Good → w ≡ Good → orElse v w ≡ Good
+pub more : {v w : CardVerdict} → v ≡ Good → w ≡ Good → orElse v w ≡ Good
 more e g = rw e g
 
 -- the text of a good priority is a good field

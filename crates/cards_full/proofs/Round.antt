@@ -11,6 +11,7 @@ use lib.ListN.{length, getD, drop}
 use borrow.Author.Tests.{eqb-true, ltb-true}
 use Rattle.numbers.specs.Quoted.{bytes}
 use Rattle.numbers.proofs.Tests.{both, by-bool}
+use Rattle.numbers.specs.Limits.{cardLength}
 use Rattle.text.specs.Class.{isDigit, isLetter, isAlnum}
 use Rattle.text.specs.Writing.{decimalText}
 use Rattle.words.specs.Words.{every, same, value}
@@ -25,7 +26,7 @@ use Rattle.cards_fac.specs.Fac.{nothing, entriesError, allEntered, coreError, f
 use Rattle.cards_group.specs.Group.{mark, requestOf}
 use Rattle.cards_pty.specs.declared.Priority.{Priority}
 use Rattle.cards_request.specs.declared.Request.{Request}
-use Rattle.cards_request.specs.declared.Verdict.the-variants.{Good}
+use Rattle.cards_request.specs.declared.CardVerdict.the-variants.{Good}
 use Rattle.cards_writing.specs.Writing.{priorityText, markText, ptyFields, trimmed, facFields, ptyText, facText, formed, numbersFit, namesFormed, rangesGood, takes}
 use Rattle.cards_writing.proofs.PutLaws.{trimmed-at, some-written}
 use Rattle.cards_fields.proofs.CardLaws.{plain, AllPlain, fields-back, card-good, card-line, alnum-plain, digit-plain, number-back, number-digits}
@@ -139,7 +140,7 @@ module _ (n : ℕ) (r : Request) (t : Taken n r) where
   card-fields [] h p = absurd (omega arith)
   card-fields (f ∷ fs) h p = fields-back f fs p
 
-  pub card-form : (fs : List (List ℕ)) → 0 < length fs → AllPlain fs → length (cardText fs) ≤ 80 → malformed (cardText fs) ≡ false
+  pub card-form : (fs : List (List ℕ)) → 0 < length fs → AllPlain fs → length (cardText fs) ≤ cardLength → malformed (cardText fs) ≡ false
   card-form [] h p l = absurd (omega arith)
   card-form (f ∷ fs) h p l = card-good f fs p l
 
@@ -164,7 +165,7 @@ module _ (n : ℕ) (r : Request) (t : Taken n r) where
   is-pty = ap (λ (f : List ℕ). same f (bytes "PTY")) (at 1)
 
   -- it has no error
-  pub pty-right : length (ptyText n r) ≤ 80 → ptyError (ptyText n r) ≡ Good
+  pub pty-right : length (ptyText n r) ≤ cardLength → ptyError (ptyText n r) ≡ Good
   unfolding ptyText
   pty-right h =
       pty-fields (ptyText n r) is-pty (card-form kept some-kept (trimmed-plain (ptyFields n r) pty-plain) h) (omega (arith, ap (length {A = List ℕ}) pty-fields-are, trimmed-few (ptyFields n r), fourteen))
@@ -191,7 +192,7 @@ module _ (n : ℕ) (r : Request) (t : Taken n r) where
   pub asked-back : asked (facText r) ≡ asks
   asked-back = ap (λ (es : List (List ℕ)). allEntered nothing es) entries-are ∙ entries-back asks (t .numbers) .sum
 
-  pub fac-right : length (facText r) ≤ 80 → facError (facText r) ≡ Good
+  pub fac-right : length (facText r) ≤ cardLength → facError (facText r) ≡ Good
   unfolding facError facText
   fac-right h =
       let m = card-form (facFields r) (omega arith) fac-plain h in

@@ -9,6 +9,7 @@ use lib.ListN.{length, drop, take, replicate, length-append}
 use borrow.Author.Tests.{le-leb, leb-true, lt-leb}
 use Rattle.numbers.proofs.Tests.{both}
 use Rattle.numbers.specs.declared.Refusal.the-variants.{NoRoom, WrongRequest}
+use Rattle.numbers.specs.Limits.{cardLength, mostFurther}
 use Rattle.text.specs.Room.{Written}
 use Rattle.text.proofs.RoomLaws.{andThen, fitted}
 use Rattle.words.specs.Lines.{lf, lineText, linesText}
@@ -22,11 +23,11 @@ use Rattle.cards_full.specs.Full.{cardCount, behindId, cardsIn, textOf, 
 use Rattle.cards_full.specs.declared.Wrote.the-variants.{Cards, Refused}
 
 -- cards of at most 80 characters, each with its LF
-pub lines-few : (cs : List (List ℕ)) → short cs ≡ true → length (linesText cs) ≤ 81 * length cs
+pub lines-few : (cs : List (List ℕ)) → short cs ≡ true → length (linesText cs) ≤ (cardLength + 1) * length cs
 lines-few [] s = omega arith
 lines-few (c ∷ cs) s =
-    let q = both (leb (length c) 80) (short cs) s in
-    omega (arith, leb-true (length c) 80 (q .0), lines-few cs (q .1), length-append (lineText c) (linesText cs), length-append c (lf ∷ []))
+    let q = both (leb (length c) cardLength) (short cs) s in
+    omega (arith, leb-true (length c) cardLength (q .0), lines-few cs (q .1), length-append (lineText c) (linesText cs), length-append c (lf ∷ []))
 
 pub behind-many : (id : List ℕ) (ts : List (List ℕ)) → length (behindId id ts) ≡ length ts
 behind-many id [] = refl
@@ -58,41 +59,41 @@ module _ (v : FullRequest) (room : List ℕ) where
     unfolding writeAnswer written
     not-fit e = (rw (t, e), rw (t, e))
 
-    module _ {pty : List ℕ} {p : ℕ} (wp : Written (replicate 81 0) 0 (ptyText n (v .request)) pty p) where
-      pub pty-long : 80 < p → (Refused NoRoom ≡ writeAnswer v (length room)) × (room ≡ written v room)
+    module _ {pty : List ℕ} {p : ℕ} (wp : Written (replicate (cardLength + 1) 0) 0 (ptyText n (v .request)) pty p) where
+      pub pty-long : cardLength < p → (Refused NoRoom ≡ writeAnswer v (length room)) × (room ≡ written v room)
       unfolding fits cardsIn
-      pty-long h = let e = put-reached 81 wp in not-fit (rw (lt-leb (length (ptyText n (v .request))) 80 (omega arith)))
+      pty-long h = let e = put-reached (cardLength + 1) wp in not-fit (rw (lt-leb (length (ptyText n (v .request))) cardLength (omega arith)))
 
-      module _ (hp : p ≤ 80) {fac : List ℕ} {f : ℕ} (wf : Written (replicate 81 0) 0 (facText (v .request)) fac f) where
-        pty-is : length (ptyText n (v .request)) ≤ 80
-        pty-is = let e = put-reached 81 wp in omega arith
+      module _ (hp : p ≤ cardLength) {fac : List ℕ} {f : ℕ} (wf : Written (replicate (cardLength + 1) 0) 0 (facText (v .request)) fac f) where
+        pty-is : length (ptyText n (v .request)) ≤ cardLength
+        pty-is = let e = put-reached (cardLength + 1) wp in omega arith
 
-        pub fac-long : 80 < f → (Refused NoRoom ≡ writeAnswer v (length room)) × (room ≡ written v room)
+        pub fac-long : cardLength < f → (Refused NoRoom ≡ writeAnswer v (length room)) × (room ≡ written v room)
         unfolding fits cardsIn
-        fac-long h = let e = put-reached 81 wf in not-fit (rw (le-leb (length (ptyText n (v .request))) 80 pty-is, lt-leb (length (facText (v .request))) 80 (omega arith)))
+        fac-long h = let e = put-reached (cardLength + 1) wf in not-fit (rw (le-leb (length (ptyText n (v .request))) cardLength pty-is, lt-leb (length (facText (v .request))) cardLength (omega arith)))
 
-        module _ (hf : f ≤ 80) where
-          fac-is : length (facText (v .request)) ≤ 80
-          fac-is = let e = put-reached 81 wf in omega arith
+        module _ (hf : f ≤ cardLength) where
+          fac-is : length (facText (v .request)) ≤ cardLength
+          fac-is = let e = put-reached (cardLength + 1) wf in omega arith
 
           pub card-long : short further ≡ false → (Refused NoRoom ≡ writeAnswer v (length room)) × (room ≡ written v room)
           unfolding fits cardsIn
-          card-long h = not-fit (rw (le-leb (length (ptyText n (v .request))) 80 pty-is, le-leb (length (facText (v .request))) 80 fac-is, h))
+          card-long h = not-fit (rw (le-leb (length (ptyText n (v .request))) cardLength pty-is, le-leb (length (facText (v .request))) cardLength fac-is, h))
 
-          module _ (hs : short further ≡ true) (room-14 : length (v .further .cards) ≡ 14) {lines : List ℕ} {k : ℕ} (wl : Written (replicate 1134 0) 0 (linesText further) lines k) where
-            lines-fit : length (linesText further) ≤ 1134
+          module _ (hs : short further ≡ true) (room-14 : length (v .further .cards) ≡ mostFurther) {lines : List ℕ} {k : ℕ} (wl : Written (replicate (mostFurther * (cardLength + 1)) 0) 0 (linesText further) lines k) where
+            lines-fit : length (linesText further) ≤ (mostFurther * (cardLength + 1))
             lines-fit = omega (arith, lines-few further hs, behind-many (spaceless (v .request .id)) (texts (v .further)), texts-many (v .further .count) (v .further .cards))
 
             all-short : short (cardsIn v) ≡ true
             unfolding cardsIn
-            all-short = rw (le-leb (length (ptyText n (v .request))) 80 pty-is, le-leb (length (facText (v .request))) 80 fac-is, hs)
+            all-short = rw (le-leb (length (ptyText n (v .request))) cardLength pty-is, le-leb (length (facText (v .request))) cardLength fac-is, hs)
 
             text-long : length (textOf v) ≡ p + f + 2 + k
             unfolding cardsIn
             text-long =
-                let a = put-whole 81 wp (omega (arith, pty-is)) .0 in
-                let b = put-whole 81 wf (omega (arith, fac-is)) .0 in
-                let c = put-whole 1134 wl lines-fit .0 in
+                let a = put-whole (cardLength + 1) wp (omega (arith, pty-is)) .0 in
+                let b = put-whole (cardLength + 1) wf (omega (arith, fac-is)) .0 in
+                let c = put-whole (mostFurther * (cardLength + 1)) wl lines-fit .0 in
                 omega (
                   arith,
                   length-append (lineText (ptyText n (v .request))) (lineText (facText (v .request)) ++ linesText further),
@@ -112,9 +113,9 @@ module _ (v : FullRequest) (room : List ℕ) where
                 → (Cards end ≡ writeAnswer v (length room)) × (after ≡ written v room)
             unfolding writeAnswer written fits cardsIn
             all-put h {after = after} {end = end} w₁ w₂ w₃ w₄ w₅ =
-                let x = put-whole 81 wp (omega (arith, pty-is)) .1 in
-                let y = put-whole 81 wf (omega (arith, fac-is)) .1 in
-                let z = put-whole 1134 wl lines-fit .1 in
+                let x = put-whole (cardLength + 1) wp (omega (arith, pty-is)) .1 in
+                let y = put-whole (cardLength + 1) wf (omega (arith, fac-is)) .1 in
+                let z = put-whole (mostFurther * (cardLength + 1)) wl lines-fit .1 in
                 let w : Written room 0 (textOf v) after end = rw (x, y, z) at (andThen (andThen w₁ w₂) (andThen (andThen w₃ w₄) w₅)) in
                 let g = fitted w (omega (arith, text-long)) in
                 let e : end ≡ length (textOf v) = omega (arith, g .0) in

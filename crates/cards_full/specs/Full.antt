@@ -6,6 +6,7 @@ use lib.Dec.{eqb, leb}
 use lib.ListN.{length, drop}
 use Rattle.numbers.specs.Quoted.{byte}
 use Rattle.numbers.specs.declared.Refusal.the-variants.{NoRoom, WrongRequest}
+use Rattle.numbers.specs.Limits.{cardLength}
 use Rattle.words.specs.Words.{same}
 use Rattle.words.specs.Lines.{linesText}
 use Rattle.cards_fields.specs.Fields.{spaceless}
@@ -17,7 +18,7 @@ use Rattle.cards_writing.specs.Writing.{ptyText, facText, takes}
 use Rattle.cards_request.specs.declared.FurtherCard.{FurtherCard}
 use Rattle.cards_request.specs.declared.Further.{Further}
 use Rattle.cards_request.specs.declared.FullRequest.{FullRequest}
-use Rattle.cards_request.specs.declared.Verdict.{Verdict}
+use Rattle.cards_request.specs.declared.CardVerdict.{CardVerdict}
 use Rattle.cards_full.specs.declared.Wrote.{Wrote}
 use Rattle.cards_full.specs.declared.Wrote.the-variants.{Cards, Refused}
 
@@ -39,7 +40,7 @@ abbrev pub textOf : FullRequest → List ℕ
 textOf v = linesText (cardsIn v)
 
 -- the errors that further cards have by themselves, whatever their ID
-unfoldable pub furtherError : List (List ℕ) → Verdict
+unfoldable pub furtherError : List (List ℕ) → CardVerdict
 furtherError cs = firstOf (typesError cs ∷ togetherError cs ∷ contentsError false cs ∷ [])
 
 -- the further cards as they stand behind an ID that is left out
@@ -66,7 +67,7 @@ takesFull v = takesFurther (v .further) && takes (cardCount v) (v .request)
 -- each card has at most 80 characters
 abbrev pub short : List (List ℕ) → Bool
 short [] = true
-short (c ∷ cs) = leb (length c) 80 && short cs
+short (c ∷ cs) = leb (length c) cardLength && short cs
 
 -- 12: "card to write over 80 characters, or lent room too short"; the need is that of all cards, each with its LF
 unfoldable pub fits : FullRequest → ℕ → Bool

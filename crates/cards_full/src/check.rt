@@ -1,9 +1,10 @@
 // Whether a request with its further cards is one that cards can hold.
 use crate::put;
+use cards_request::CardVerdict;
 use cards_request::FullRequest;
 use cards_request::Further;
 use cards_request::FurtherCard;
-use cards_request::Verdict;
+use numbers::limits;
 ghost use mathlib.Core.Path.{_≡_};
 ghost use mathlib.Core.Bool.{_&&_};
 ghost use lib.Dec.{eqb};
@@ -12,7 +13,7 @@ ghost use Rattle.cards_fields.specs.Deck.{cardsOf};
 ghost use Rattle.cards_full.specs.Full.{furtherError, sameCards, takesFurther, takesFull};
 
 // The errors that further cards have by themselves.
-fn further_error(cards: &[u8]) -> Verdict
+fn further_error(cards: &[u8]) -> CardVerdict
     ensures { λ r. ⌜ r ≡ furtherError (cardsOf (now (cards .entry))) ⌝ }
 {
     let types = cards_further::types_error(cards);
@@ -45,7 +46,7 @@ fn are_same_cards(f: Further, g: Further) -> bool
     let c = f.cards;
     let d = g.cards;
     let mut k: usize = 0;
-    while k < cards_request::FURTHER {
+    while k < limits::MOST_FURTHER {
         if !is_same_card(c[k], d[k]) {
             return false;
         }
@@ -58,8 +59,8 @@ fn are_same_cards(f: Further, g: Further) -> bool
 fn is_taken_further(further: Further) -> bool
     ensures { λ r. ⌜ r ≡ takesFurther further ⌝ }
 {
-    // fourteen cards of a comma, 78 characters and LF
-    let mut lines = [0u8; 1120];
+    // so many cards of a comma, a text and LF
+    let mut lines = [0u8; limits::MOST_FURTHER * (limits::TEXT_LENGTH + 2)];
     let n = put::put_further(&mut lines, 0, b"", further);
     let cards = &lines[..n];
     if !cards_request::is_good(further_error(cards)) {

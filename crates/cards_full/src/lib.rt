@@ -5,6 +5,7 @@ mod put;
 use cards_fields::parts;
 use cards_request::FullRequest;
 use numbers::Refusal;
+use numbers::limits;
 ghost use mathlib.Core.Path.{_≡_};
 ghost use lib.ListN.{length};
 ghost use Rattle.cards_full.specs.Full.{writeAnswer, written};
@@ -27,14 +28,14 @@ pub fn write(room: &mut [u8], full: FullRequest) -> Wrote
     }
     let request = full.request;
     let further = full.further;
-    let mut pty = [0u8; 81];
+    let mut pty = [0u8; limits::CARD_LENGTH + 1];
     let p = cards_writing::put::put_pty(&mut pty, 0, request, 2 + further.count);
-    if 80 < p {
+    if limits::CARD_LENGTH < p {
         return Wrote::Refused(Refusal::NoRoom);
     }
-    let mut fac = [0u8; 81];
+    let mut fac = [0u8; limits::CARD_LENGTH + 1];
     let f = cards_writing::put::put_fac(&mut fac, 0, request);
-    if 80 < f {
+    if limits::CARD_LENGTH < f {
         return Wrote::Refused(Refusal::NoRoom);
     }
     let id = request.id;
@@ -42,8 +43,8 @@ pub fn write(room: &mut [u8], full: FullRequest) -> Wrote
     if !put::are_short(before, further) {
         return Wrote::Refused(Refusal::NoRoom);
     }
-    // fourteen cards of 80 characters and LF
-    let mut lines = [0u8; 1134];
+    // so many cards, each with its LF
+    let mut lines = [0u8; limits::MOST_FURTHER * (limits::CARD_LENGTH + 1)];
     let n = put::put_further(&mut lines, 0, &id, further);
     if room.len() < p + f + 2 + n {
         return Wrote::Refused(Refusal::NoRoom);

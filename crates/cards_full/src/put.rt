@@ -2,11 +2,13 @@
 use cards_fields::parts;
 use cards_request::Further;
 use cards_request::FurtherCard;
+use numbers::limits;
 ghost use mathlib.Core.Path.{_≡_};
 ghost use Prim.Native.Nat.{ℕ, _+_, _≤_};
 ghost use mathlib.Core.List.{List, _∷_, _++_};
 ghost use lib.ListN.{length, take};
 ghost use Rattle.numbers.specs.Quoted.{byte};
+ghost use Rattle.numbers.specs.Limits.{cardLength};
 ghost use Rattle.words.specs.Lines.{lineText, linesText};
 ghost use Rattle.text.specs.Room.{Written};
 ghost use Rattle.cards_fields.specs.Fields.{spaceless};
@@ -40,16 +42,16 @@ pub(crate) fn put_further(room: &mut [u8], at: usize, id: &[u8], further: Furthe
     next
 }
 
-// Whether each further card has at most 80 characters, with so many before its type: an ID and a comma.
+// Whether no further card is too long, with so many before its type: an ID and a comma.
 pub(crate) fn are_short(before: usize, further: Further) -> bool
-    requires { ⌜ before ≤ 80 ⌝ }
+    requires { ⌜ before ≤ cardLength ⌝ }
     ensures { λ r. ⌜ ((id : List ℕ) → length id + 1 ≡ before → r ≡ short (behindId id (texts further))) ⌝ }
 {
     let n = cards_further::count_of(further);
     let cards = further.cards;
     let mut i: usize = 0;
     while i < n {
-        if 80 - before < cards_further::len_of(cards[i]) {
+        if limits::CARD_LENGTH - before < cards_further::len_of(cards[i]) {
             return false;
         }
         i += 1;

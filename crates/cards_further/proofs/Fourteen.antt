@@ -12,6 +12,7 @@ use mir.Val.{Val}
 use denote.Laws.{Is}
 use denote.Struct.Laws as LL
 use denote.Struct.Field.{u8-field}
+use Rattle.numbers.specs.Limits.{mostFurther, textLength}
 use Rattle.cards_request.specs.Requests.{textsIn}
 use Rattle.cards_request.specs.declared.FurtherCard.{FurtherCard}
 use Rattle.cards_request.specs.declared.Further as S
@@ -20,7 +21,7 @@ use Rattle.cards_request.proofs.Further as T
 use Rattle.cards_request.proofs.Further.Laws as T′
 use Rattle.cards_further.proofs.Elements.{Some, everywhere, long}
 
-pub fourteen : (f : S.Further) (vs : List Val) → Is T.the-row f vs → length (f .cards) ≡ 14
+pub fourteen : (f : S.Further) (vs : List Val) → Is T.the-row f vs → length (f .cards) ≡ mostFurther
 fourteen f vs g = sym (length-map (f .cards) _) ∙ LL.owed T.the-type T′.the-laws f vs g .0 .1 .0 .1
 
 pub count-less {ℓ} : {A : Type ℓ} (len : ℕ) (l : List A) → len ≤ length l → len ≡ length (take len l)
@@ -67,8 +68,8 @@ pub cards-end : (cards : List FurtherCard) (n i : ℕ) → n ≤ i → textsIn (
 cards-end cards n i h = ap textsIn (drop-of-length-le (take n cards) {i = i} (omega (arith, length-take n cards)))
 
 -- each card's text has 78 bytes at most
-card-78 : (c : FurtherCard) → Some C.the-field c → length (c .text) ≤ 78
-card-78 c s = let l = long u8-field 78 (c .text) _ (s .1 .1 .1 .0) in omega arith
+card-78 : (c : FurtherCard) → Some C.the-field c → length (c .text) ≤ textLength
+card-78 c s = let l = long u8-field textLength (c .text) _ (s .1 .1 .1 .0) in omega arith
 
-pub texts-78 : (f : S.Further) (vs : List Val) → Is T.the-row f vs → (i : ℕ) → length (getD (f .cards) i past .text) ≤ 78
-texts-78 f vs g = everywhere C.the-field 14 (λ c. length (c .text) ≤ 78) (f .cards) _ (g .1 .1 .0) card-78 past (omega arith)
+pub texts-78 : (f : S.Further) (vs : List Val) → Is T.the-row f vs → (i : ℕ) → length (getD (f .cards) i past .text) ≤ textLength
+texts-78 f vs g = everywhere C.the-field mostFurther (λ c. length (c .text) ≤ textLength) (f .cards) _ (g .1 .1 .0) card-78 past (omega arith)

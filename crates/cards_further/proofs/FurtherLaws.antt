@@ -10,6 +10,8 @@ use lib.Seq.{sets}
 use lib.Dec.{eqb, ltb}
 use borrow.Author.Tests.{eqb-true, eqb-false, le-leb, lt-leb, ltb-true, ltb-false}
 use Rattle.numbers.proofs.Tests.{both, by-bool, never}
+use Rattle.numbers.specs.Elements.{any}
+use Rattle.numbers.specs.Limits.{mostFurther, textLength}
 use Rattle.text.specs.Room.{Written}
 use Rattle.cards_fields.specs.Fields.{padded}
 use Rattle.cards_fields.proofs.FieldLaws.{rest-is, set-padded}
@@ -23,11 +25,11 @@ use Rattle.cards_request.proofs.ErrorLaws.{good-is, or-else-some}
 use Rattle.cards_request.specs.Requests.{noCard}
 use Rattle.cards_pm.specs.Pm.{isPm, digitOf, rising}
 use Rattle.cards_trn.specs.Trn.{isTrn, hasCount}
-use Rattle.cards_request.specs.declared.Verdict.{Verdict}
-use Rattle.cards_request.specs.declared.Verdict.the-variants.{Good}
+use Rattle.cards_request.specs.declared.CardVerdict.{CardVerdict}
+use Rattle.cards_request.specs.declared.CardVerdict.the-variants.{Good}
 use Rattle.cards_request.specs.declared.FurtherCard.{FurtherCard}
 use Rattle.cards_request.specs.declared.Further.{Further}
-use Rattle.cards_further.specs.Together.{any, past}
+use Rattle.cards_further.specs.Together.{past}
 use Rattle.cards_further.specs.Further.{contentError, contentsError, canonical, canonicals, heldCard, heldIn, held}
 
 -- two answers differ, or do not
@@ -82,7 +84,7 @@ module _ (least : ℕ) (c : List ℕ) (cs : List (List ℕ)) where
       (λ t. rw t)
 
 -- the content errors
-module _ (counted : Bool) (c : List ℕ) (cs : List (List ℕ)) (e : Verdict) (is : e ≡ contentError counted c) where
+module _ (counted : Bool) (c : List ℕ) (cs : List (List ℕ)) (e : CardVerdict) (is : e ≡ contentError counted c) where
   pub content-wrong : good e ≡ false → contentsError counted (c ∷ cs) ≡ e
   content-wrong h = rw (← is) (or-else-some e _ h)
 
@@ -112,35 +114,35 @@ full-held (suc n) (t ∷ ts) us h = ap (λ (l : List FurtherCard). heldCard t �
 -- the cards held so far are those passed: with those that are left they are all
 pub record Holding (cards : List FurtherCard) (count : ℕ) (left whole : List (List ℕ)) : Type 0 where
   pub done : List (List ℕ)
-  pub is : cards ≡ heldIn 14 done
+  pub is : cards ≡ heldIn mostFurther done
   pub many : count ≡ length done
   pub joined : done ++ left ≡ whole
 
-pub hold-start : (whole : List (List ℕ)) → Holding (replicate 14 noCard) 0 whole whole
-hold-start whole = record { done = []; is = sym (none-held 14); many = refl; joined = refl }
+pub hold-start : (whole : List (List ℕ)) → Holding (replicate mostFurther noCard) 0 whole whole
+hold-start whole = record { done = []; is = sym (none-held mostFurther); many = refl; joined = refl }
 
 pub hold-turn : {cards : List FurtherCard} {count : ℕ} {t : List ℕ} {left whole : List (List ℕ)} → Holding cards count (t ∷ left) whole → Holding (set cards count (heldCard t)) (count + 1) left whole
 hold-turn {cards} {count} {t} {left} {whole} h = record {
   done = h .done ++ (t ∷ []);
-  is = rw (h .is, h .many) (set-held 14 (h .done) t);
+  is = rw (h .is, h .many) (set-held mostFurther (h .done) t);
   many = omega (arith, h .many, length-append (h .done) (t ∷ []));
   joined = append-assoc (h .done) (t ∷ []) left ∙ h .joined;
 }
 
-pub hold-end : {cards : List FurtherCard} {count : ℕ} {whole : List (List ℕ)} → count ≤ 14 → Holding cards count [] whole → _≡_ {A = Further} (record { cards = cards; count = count }) (held whole)
+pub hold-end : {cards : List FurtherCard} {count : ℕ} {whole : List (List ℕ)} → count ≤ mostFurther → Holding cards count [] whole → _≡_ {A = Further} (record { cards = cards; count = count }) (held whole)
 unfolding held
 hold-end {cards} {count} {whole} c h =
     let e : h .done ≡ whole = sym (append-nil (h .done)) ∙ h .joined in
-    let a : cards ≡ heldIn 14 whole = h .is ∙ ap (heldIn 14) e in
-    let b : count ≡ min (length whole) 14 = omega (arith, h .many, ap length e) in
+    let a : cards ≡ heldIn mostFurther whole = h .is ∙ ap (heldIn mostFurther) e in
+    let b : count ≡ min (length whole) mostFurther = omega (arith, h .many, ap length e) in
     cc
 
-pub hold-full : {cards : List FurtherCard} {count : ℕ} {left whole : List (List ℕ)} → count ≡ 14 → Holding cards count left whole → _≡_ {A = Further} (record { cards = cards; count = count }) (held whole)
+pub hold-full : {cards : List FurtherCard} {count : ℕ} {left whole : List (List ℕ)} → count ≡ mostFurther → Holding cards count left whole → _≡_ {A = Further} (record { cards = cards; count = count }) (held whole)
 unfolding held
 hold-full {cards} {count} {left} {whole} c h =
-    let a : cards ≡ heldIn 14 whole = h .is ∙ full-held 14 (h .done) left (omega (arith, h .many)) ∙ ap (heldIn 14) (h .joined) in
+    let a : cards ≡ heldIn mostFurther whole = h .is ∙ full-held mostFurther (h .done) left (omega (arith, h .many)) ∙ ap (heldIn mostFurther) (h .joined) in
     let l : length whole ≡ length (h .done) + length left = ap length (sym (h .joined)) ∙ length-append (h .done) left in
-    let b : count ≡ min (length whole) 14 = omega (arith, h .many) in
+    let b : count ≡ min (length whole) mostFurther = omega (arith, h .many) in
     cc
 
 -- the cards in front, from a position on: none is left, the first stays, or it is passed
@@ -165,10 +167,10 @@ blanks-padded : (w : ℕ) → replicate w 32 ≡ padded w []
 blanks-padded zero = refl
 blanks-padded (suc w) = ap (λ (l : List ℕ). 32 ∷ l) (blanks-padded w)
 
-pub card-held : {t after : List ℕ} {r : ℕ} → Written (replicate 78 32) 0 t after r → _≡_ {A = FurtherCard} (record { text = after; len = r }) (heldCard t)
+pub card-held : {t after : List ℕ} {r : ℕ} → Written (replicate textLength 32) 0 t after r → _≡_ {A = FurtherCard} (record { text = after; len = r }) (heldCard t)
 card-held {t} {after} {r} w =
-    let a : after ≡ padded 78 t = w .bytes ∙ ap (λ (l : List ℕ). sets l 0 t) (blanks-padded 78) ∙ sets-padded 78 [] t in
-    let b : r ≡ min (length t) 78 = omega (arith, w .reached, length-replicate {A = ℕ} 78 32) in
+    let a : after ≡ padded textLength t = w .bytes ∙ ap (λ (l : List ℕ). sets l 0 t) (blanks-padded textLength) ∙ sets-padded textLength [] t in
+    let b : r ≡ min (length t) textLength = omega (arith, w .reached, length-replicate {A = ℕ} textLength 32) in
     cc
 
 -- a card is left exactly where an LF is left

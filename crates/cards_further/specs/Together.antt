@@ -1,11 +1,7 @@
--- Cards in a list: whether one is of a kind, and whether those of a kind stand apart.
-use mathlib.Core.Bool.{Bool, true, false, cond, _||_, not}
+-- Cards in a list: whether those of a kind stand apart.
+use mathlib.Core.Bool.{Bool, true, false, cond}
 use mathlib.Core.List.{List, [], _∷_}
-
--- one of a list is of a kind
-abbrev pub any : {A : Type 0} → (A → Bool) → List A → Bool
-any p [] = false
-any p (c ∷ cs) = p c || any p cs
+use Rattle.numbers.specs.Elements.{any}
 
 -- the list without those in front that are of a kind, or that are not
 abbrev pub past : {A : Type 0} → Bool → (A → Bool) → List A → List A

@@ -3,21 +3,23 @@
 use cards_fields::card;
 use cards_fields::deck;
 use cards_request::CardError;
+use cards_request::CardVerdict;
 use cards_request::Further;
 use cards_request::FurtherCard;
-use cards_request::Verdict;
+use numbers::limits;
 ghost use mathlib.Core.Path.{_≡_};
 ghost use mathlib.Core.Bool.{false, cond, _&&_, _||_};
 ghost use mathlib.Core.List.{[]};
 ghost use Prim.Native.Nat.{_+_, _≤_};
 ghost use lib.Dec.{ltb};
 ghost use lib.ListN.{length, take, drop};
+ghost use Rattle.numbers.specs.Elements.{any};
 ghost use Rattle.text.specs.Room.{Written};
 ghost use Rattle.cards_fields.specs.Deck.{cardsOf};
 ghost use Rattle.cards_request.specs.Requests.{texts};
 ghost use Rattle.cards_pm.specs.Pm.{isPm, digitOf, rising};
 ghost use Rattle.cards_trn.specs.Trn.{isTrn, hasCount};
-ghost use Rattle.cards_further.specs.Together.{any, past, apart};
+ghost use Rattle.cards_further.specs.Together.{past, apart};
 ghost use Rattle.cards_further.specs.Further.{answer, unknown, typesError, pmWrong, togetherError};
 ghost use Rattle.cards_further.specs.Further.{contentError, contentsError, canonical, canonicals, heldCard, held};
 
@@ -154,16 +156,16 @@ pub fn is_other_id(rest: &[u8], id: &[u8]) -> bool
 }
 
 // The errors of the cards' types: a FAC card, then one of unknown type.
-pub fn types_error(rest: &[u8]) -> Verdict
+pub fn types_error(rest: &[u8]) -> CardVerdict
     ensures { λ r. ⌜ r ≡ typesError (cardsOf (now (rest .entry))) ⌝ }
 {
     if is_any(rest, b"", Question::Fac) {
-        return Verdict::Wrong(CardError::LaterFac);
+        return CardVerdict::Wrong(CardError::LaterFac);
     }
     if is_any(rest, b"", Question::Unknown) {
-        return Verdict::Wrong(CardError::UnknownCard);
+        return CardVerdict::Wrong(CardError::UnknownCard);
     }
-    Verdict::Good
+    CardVerdict::Good
 }
 
 // Whether the PM cards stand apart, one is malformed or too long, or their digits do not rise.
@@ -180,26 +182,26 @@ fn is_pm_wrong(rest: &[u8]) -> bool
 }
 
 // The errors of the cards as they stand together: 30, 4, 23, 24.
-pub fn together_error(rest: &[u8]) -> Verdict
+pub fn together_error(rest: &[u8]) -> CardVerdict
     ensures { λ r. ⌜ r ≡ togetherError (cardsOf (now (rest .entry))) ⌝ }
 {
     if is_any(rest, b"", Question::Unnumbered) {
-        return Verdict::Wrong(CardError::PmNumber);
+        return CardVerdict::Wrong(CardError::PmNumber);
     }
     if is_pm_wrong(rest) {
-        return Verdict::Wrong(CardError::PmWrong);
+        return CardVerdict::Wrong(CardError::PmWrong);
     }
     if is_apart(rest, Question::Tal) {
-        return Verdict::Wrong(CardError::TalApart);
+        return CardVerdict::Wrong(CardError::TalApart);
     }
     if is_apart(rest, Question::Trn) {
-        return Verdict::Wrong(CardError::TrnApart);
+        return CardVerdict::Wrong(CardError::TrnApart);
     }
-    Verdict::Good
+    CardVerdict::Good
 }
 
 // The content error of a card; `counted`: an earlier TRN card has a count.
-fn content_error(card: &[u8], counted: bool) -> Verdict
+fn content_error(card: &[u8], counted: bool) -> CardVerdict
     ensures { λ r. ⌜ r ≡ contentError counted (now (card .entry)) ⌝ }
 {
     if cards_tal::is_tal(card) {
@@ -208,7 +210,7 @@ fn content_error(card: &[u8], counted: bool) -> Verdict
     if cards_trn::is_trn(card) {
         return cards_trn::trn_error(card, counted);
     }
-    Verdict::Good
+    CardVerdict::Good
 }
 
 // Whether a TRN card has a count, up to this card.
@@ -225,7 +227,7 @@ fn is_counted(card: &[u8], counted: bool) -> bool
 }
 
 // The first content error, card by card.
-pub fn contents_error(rest: &[u8]) -> Verdict
+pub fn contents_error(rest: &[u8]) -> CardVerdict
     ensures { λ r. ⌜ r ≡ contentsError false (cardsOf (now (rest .entry))) ⌝ }
 {
     let mut counted = false;
@@ -234,7 +236,7 @@ pub fn contents_error(rest: &[u8]) -> Verdict
         let len = deck::card_len(&rest[at..]);
         let end = at + len;
         if end == rest.len() {
-            return Verdict::Good;
+            return CardVerdict::Good;
         }
         let card = &rest[at..end];
         let e = content_error(card, counted);
@@ -244,7 +246,7 @@ pub fn contents_error(rest: &[u8]) -> Verdict
         counted = is_counted(card, counted);
         at = end + 1;
     }
-    Verdict::Good
+    CardVerdict::Good
 }
 
 // Puts a card from its type on.
@@ -264,7 +266,7 @@ fn put_canonical(room: &mut [u8], at: usize, card: &[u8]) -> usize
 fn held_card(card: &[u8]) -> FurtherCard
     ensures { λ r. ⌜ r ≡ heldCard (canonical (now (card .entry))) ⌝ }
 {
-    let mut text = [b' '; cards_request::TEXT];
+    let mut text = [b' '; limits::TEXT_LENGTH];
     let len = put_canonical(&mut text, 0, card);
     FurtherCard { text, len }
 }
@@ -283,7 +285,7 @@ pub fn held(rest: &[u8]) -> Further
         if end == rest.len() {
             return Further { cards, count };
         }
-        if count == cards_request::FURTHER {
+        if count == limits::MOST_FURTHER {
             return Further { cards, count };
         }
         cards[count] = held_card(&rest[at..end]);
@@ -298,8 +300,8 @@ pub fn count_of(further: Further) -> usize
     ensures { λ r. ⌜ r ≡ length (texts further) ⌝ }
 {
     let n = further.count;
-    if cards_request::FURTHER < n {
-        return cards_request::FURTHER;
+    if limits::MOST_FURTHER < n {
+        return limits::MOST_FURTHER;
     }
     n
 }
@@ -309,8 +311,8 @@ pub fn len_of(card: FurtherCard) -> usize
     ensures { λ r. ⌜ r ≡ length (take (card .len) (card .text)) ⌝ }
 {
     let n = card.len;
-    if cards_request::TEXT < n {
-        return cards_request::TEXT;
+    if limits::TEXT_LENGTH < n {
+        return limits::TEXT_LENGTH;
     }
     n
 }

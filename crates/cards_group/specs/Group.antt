@@ -5,6 +5,8 @@ use mathlib.Core.List.{List, [], _∷_}
 use lib.Dec.{eqb, ltb}
 use lib.ListN.{length, getD, drop}
 use Rattle.numbers.specs.Quoted.{byte}
+use Rattle.numbers.specs.Elements.{any}
+use Rattle.numbers.specs.Limits.{mostCards}
 use Rattle.words.specs.Words.{same, value}
 use Rattle.cards_fields.specs.Fields.{field, padded}
 use Rattle.cards_request.specs.Errors.{errorIf, firstOf}
@@ -13,7 +15,7 @@ use Rattle.cards_pty.specs.Pty.{priorityOf, ptyError}
 use Rattle.cards_fac.specs.Fac.{facilitiesOf, isFac, asked, facError}
 use Rattle.cards_tal.specs.Tal.{isTal}
 use Rattle.cards_trn.specs.Trn.{isTrn}
-use Rattle.cards_further.specs.Together.{any, apart}
+use Rattle.cards_further.specs.Together.{apart}
 use Rattle.cards_further.specs.Further.{unknown, unnumbered, pmWrong, contentsError, canonicals, held}
 use Rattle.cards_request.specs.declared.CardError.the-variants.{
   WrongCount,
@@ -26,8 +28,8 @@ use Rattle.cards_request.specs.declared.CardError.the-variants.{
   TalApart,
   TrnApart,
 }
-use Rattle.cards_request.specs.declared.Verdict.{Verdict}
-use Rattle.cards_request.specs.declared.Verdict.the-variants.{Good, Wrong}
+use Rattle.cards_request.specs.declared.CardVerdict.{CardVerdict}
+use Rattle.cards_request.specs.declared.CardVerdict.the-variants.{Good, Wrong}
 use Rattle.cards_request.specs.declared.Request.{Request}
 use Rattle.cards_request.specs.declared.Further.{Further}
 use Rattle.cards_group.specs.declared.Reading.{Reading}
@@ -35,7 +37,7 @@ use Rattle.cards_group.specs.declared.FullReading.{FullReading}
 
 -- "20 count differs from the cards in the group"; "up to 16 cards; a larger group gets error 20"
 abbrev pub wrongCount : ℕ → List ℕ → Bool
-wrongCount n pty = ltb 16 n || not (eqb (value (field pty 2)) n)
+wrongCount n pty = ltb mostCards n || not (eqb (value (field pty 2)) n)
 
 -- "25 any differing ID"
 abbrev pub otherId : List ℕ → List ℕ → Bool
@@ -43,7 +45,7 @@ otherId pty c = not (same (field c 0) (field pty 0))
 
 -- THE ORDER OF ERRORS, "the first answering", of a group of n cards: PTY, FAC and the further cards, those from the
 -- third on; a card that is absent is empty, and so neither PTY nor FAC
-unfoldable pub orderedError : ℕ → List ℕ → List ℕ → List (List ℕ) → Verdict
+unfoldable pub orderedError : ℕ → List ℕ → List ℕ → List (List ℕ) → CardVerdict
 orderedError n pty fac further =
     firstOf
     -- 25, 17 and its fields': "25 the group's first card isn't PTY; 17 PTY card malformed or over 14 fields; then its
@@ -99,12 +101,12 @@ requestOf pty asks = record {
 }
 
 -- an error alone, or the request
-abbrev pub answer : Verdict → Request → Reading
+abbrev pub answer : CardVerdict → Request → Reading
 answer Good r = record { verdict = Good; request = r }
 answer (Wrong e) r = record { verdict = Wrong e; request = noRequest }
 
 -- an error alone, or the request with its further cards
-abbrev pub fullAnswer : Verdict → Request → Further → FullReading
+abbrev pub fullAnswer : CardVerdict → Request → Further → FullReading
 fullAnswer Good r f = record { verdict = Good; full = record { request = r; further = f } }
 fullAnswer (Wrong e) r f = record { verdict = Wrong e; full = noFullRequest }
 

@@ -3,14 +3,16 @@ use cards_fields::card;
 use cards_fields::deck;
 use cards_pty::Priority;
 use cards_request::CardError;
+use cards_request::CardVerdict;
 use cards_request::Facilities;
 use cards_request::FullRequest;
 use cards_request::Request;
-use cards_request::Verdict;
+use numbers::limits;
 ghost use mathlib.Core.Path.{_≡_};
 ghost use mathlib.Core.Bool.{false, _||_};
 ghost use Prim.Native.Nat.{_≤_};
 ghost use lib.ListN.{length};
+ghost use Rattle.numbers.specs.Elements.{any};
 ghost use Rattle.words.specs.Words.{same, value};
 ghost use Rattle.cards_fields.specs.Fields.{field, fields, padded};
 ghost use Rattle.cards_fields.specs.Deck.{cardsOf};
@@ -18,19 +20,18 @@ ghost use Rattle.cards_request.specs.Errors.{good};
 ghost use Rattle.cards_request.specs.Requests.{noRequest};
 ghost use Rattle.cards_pty.specs.Pty.{priorityOf, fieldsError};
 ghost use Rattle.cards_fac.specs.Fac.{asksOf};
-ghost use Rattle.cards_further.specs.Together.{any};
 ghost use Rattle.cards_group.specs.Steps.{frontError, orderError};
 ghost use Rattle.cards_group.specs.Group.{otherId, mark, requestOf, answer, readCards, readGroup, readFull};
 
 // What reading a group answers: the request, or blanks beside an error.
 pub struct Reading {
-    pub verdict: Verdict,
+    pub verdict: CardVerdict,
     pub request: Request,
 }
 
 // The same with the further cards.
 pub struct FullReading {
-    pub verdict: Verdict,
+    pub verdict: CardVerdict,
     pub full: FullRequest,
 }
 
@@ -84,7 +85,7 @@ fn priority_at(card: &[u8]) -> Priority
 
 // The request of a good PTY card and of what is asked for.
 fn request(card: &[u8], facilities: Facilities) -> Request
-    requires { ⌜ fieldsError (fields (now card)) ≡ Verdict.Good ⌝ }
+    requires { ⌜ fieldsError (fields (now card)) ≡ CardVerdict.Good ⌝ }
     ensures { λ r. ⌜ r ≡ requestOf (now (card .entry)) (asksOf facilities) ⌝ }
 {
     let p = priority_at(card);
@@ -123,27 +124,27 @@ fn is_other_id(pty: &[u8], fac: &[u8], rest: &[u8]) -> bool
 }
 
 // The errors of a group of n cards up to its second card's type.
-fn front_error(n: usize, pty: &[u8], fac: &[u8]) -> Verdict
+fn front_error(n: usize, pty: &[u8], fac: &[u8]) -> CardVerdict
     ensures { λ r. ⌜ r ≡ frontError n (now (pty .entry)) (now (fac .entry)) ⌝ }
 {
     let e = cards_pty::pty_error(pty);
     if !cards_request::is_good(e) {
         return e;
     }
-    if 16 < n {
-        return Verdict::Wrong(CardError::WrongCount);
+    if limits::MOST_CARDS < n {
+        return CardVerdict::Wrong(CardError::WrongCount);
     }
     if number_at(pty, 2) as usize != n {
-        return Verdict::Wrong(CardError::WrongCount);
+        return CardVerdict::Wrong(CardError::WrongCount);
     }
     if card::field_is(fac, 1, b"FAC") {
-        return Verdict::Good;
+        return CardVerdict::Good;
     }
-    Verdict::Wrong(CardError::NoFac)
+    CardVerdict::Wrong(CardError::NoFac)
 }
 
 // The errors behind them that go by number over the whole group.
-fn order_error(pty: &[u8], fac: &[u8], rest: &[u8]) -> Verdict
+fn order_error(pty: &[u8], fac: &[u8], rest: &[u8]) -> CardVerdict
     requires { ⌜ length (field (now pty) 0) ≤ 12 ⌝ }
     ensures { λ r. ⌜ r ≡ orderError (now (pty .entry)) (now (fac .entry)) (cardsOf (now (rest .entry))) ⌝ }
 {
@@ -152,13 +153,13 @@ fn order_error(pty: &[u8], fac: &[u8], rest: &[u8]) -> Verdict
         return e;
     }
     if is_other_id(pty, fac, rest) {
-        return Verdict::Wrong(CardError::OtherId);
+        return CardVerdict::Wrong(CardError::OtherId);
     }
     cards_further::together_error(rest)
 }
 
 // An error alone.
-fn no_reading(verdict: Verdict) -> Reading
+fn no_reading(verdict: CardVerdict) -> Reading
     requires { ⌜ good verdict ≡ false ⌝ }
     ensures { λ r. ⌜ r ≡ answer verdict noRequest ⌝ }
 {
@@ -190,7 +191,7 @@ fn read_cards(n: usize, pty: &[u8], fac: &[u8], rest: &[u8]) -> Reading
     let facilities = f.facilities;
     let request = request(pty, facilities);
     Reading {
-        verdict: Verdict::Good,
+        verdict: CardVerdict::Good,
         request,
     }
 }

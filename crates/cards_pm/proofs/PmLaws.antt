@@ -13,6 +13,7 @@ use lib.Seq.{take-all, length-take-le}
 use borrow.Author.Tests.{eq-eqb, ne-eqb, eqb-true, lt-ltb, le-ltb}
 use Rattle.numbers.specs.Quoted.{byte, bytes}
 use Rattle.numbers.proofs.Tests.{by-bool, never, or-true}
+use Rattle.numbers.specs.Limits.{cardLength, pmLength}
 use Rattle.text.specs.Class.{isDigit}
 use Rattle.text.specs.Room.{Written}
 use Rattle.text.proofs.RoomLaws.{andThen}
@@ -156,19 +157,19 @@ letters-by card n e = rw e (ap (λ (l : List ℕ). behindComma (behindComma l)) 
 -- ---- the faults, one test after the other
 
 module _ (card : List ℕ) where
-  pub fault-long : 80 < length card → pmMalformed card ≡ true
+  pub fault-long : cardLength < length card → pmMalformed card ≡ true
   unfolding pmMalformed
-  fault-long h = rw (lt-ltb 80 (length card) h)
+  fault-long h = rw (lt-ltb cardLength (length card) h)
 
-  module _ (h : length card ≤ 80) where
+  module _ (h : length card ≤ cardLength) where
     pub fault-byte : every cardByte card ≡ false → pmMalformed card ≡ true
     unfolding pmMalformed
-    fault-byte b = rw (le-ltb 80 (length card) h, b)
+    fault-byte b = rw (le-ltb cardLength (length card) h, b)
 
     module _ (b : every cardByte card ≡ true) where
       pub fault-period : has card 46 ≡ false → pmMalformed card ≡ true
       unfolding pmMalformed
-      fault-period p = rw (le-ltb 80 (length card) h, b, p)
+      fault-period p = rw (le-ltb cardLength (length card) h, b, p)
 
       module _ (p : has card 46 ≡ true) (n : ℕ) (is : n ≡ length (body card)) where
         tail-is : take (length card - (n + 1)) (drop (n + 1) card) ≡ drop (length (body card) + 1) card
@@ -176,20 +177,20 @@ module _ (card : List ℕ) where
 
         pub fault-behind : every (has (bytes " ")) (take (length card - (n + 1)) (drop (n + 1) card)) ≡ false → pmMalformed card ≡ true
         unfolding pmMalformed
-        fault-behind t = let u : every (has (bytes " ")) (drop (length (body card) + 1) card) ≡ false = ap (every (has (bytes " "))) (sym tail-is) ∙ t in rw (le-ltb 80 (length card) h, b, p, u)
+        fault-behind t = let u : every (has (bytes " ")) (drop (length (body card) + 1) card) ≡ false = ap (every (has (bytes " "))) (sym tail-is) ∙ t in rw (le-ltb cardLength (length card) h, b, p, u)
 
         pub fault-comma : every (has (bytes " ")) (take (length card - (n + 1)) (drop (n + 1) card)) ≡ true → not (has (behindComma (take n card)) 44) ≡ pmMalformed card
         unfolding pmMalformed
         fault-comma t =
             let u : every (has (bytes " ")) (drop (length (body card) + 1) card) ≡ true = ap (every (has (bytes " "))) (sym tail-is) ∙ t in
             let v : take n card ≡ body card = ap (λ (k : ℕ). take k card) is ∙ body-front card in
-            rw (le-ltb 80 (length card) h, b, p, u, v)
+            rw (le-ltb cardLength (length card) h, b, p, u, v)
 
   pub fault-form : pmMalformed card ≡ true → pmFault card ≡ true
   unfolding pmFault
   fault-form e = rw e
 
-  pub fault-letters : pmMalformed card ≡ false → ltb 66 (length (letters card)) ≡ pmFault card
+  pub fault-letters : pmMalformed card ≡ false → ltb pmLength (length (letters card)) ≡ pmFault card
   unfolding pmFault
   fault-letters e = rw e
 

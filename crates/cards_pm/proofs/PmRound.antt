@@ -11,6 +11,7 @@ use lib.Seq.{drop-append-add, take-at}
 use borrow.Author.Tests.{eqb-true, eqb-false, ne-eqb, le-ltb, ltb-true, ltb-false, not-false}
 use Rattle.numbers.specs.Quoted.{byte, bytes}
 use Rattle.numbers.proofs.Tests.{by-bool, never, both, or-true}
+use Rattle.numbers.specs.Limits.{cardLength, pmLength}
 use Rattle.text.specs.Class.{isDigit, isLetter, isAlnum}
 use Rattle.text.proofs.ClassLaws.{is-digit, digit-bounds}
 use Rattle.words.specs.Words.{every, has, same, isnt, leading}
@@ -102,7 +103,7 @@ pub record ReadBack (id : List ℕ) (s : Sheet) : Type 0 where
   pub text-is : pmText (cardOf id s) ≡ sheetOf s
   pub sheet-is : sheetIn (cardOf id s) ≡ s
   pub line : NoLf (cardOf id s)
-  pub good : length (cardOf id s) ≤ 80 → pmFault (cardOf id s) ≡ false
+  pub good : length (cardOf id s) ≤ cardLength → pmFault (cardOf id s) ≡ false
 
 module _ (id : List ℕ) (s : Sheet) (named : every plain id ≡ true) (p : Proper s) where
   digit : isDigit (48 + s .digit) ≡ true
@@ -169,13 +170,13 @@ module _ (id : List ℕ) (s : Sheet) (named : every plain id ≡ true) (p : Prop
   comma : has (behindComma (body (cardOf id s))) 44 ≡ true
   comma = ap (λ (l : List ℕ). has l 44) behind-id ∙ or-true (eqb 44 (48 + s .digit))
 
-  well-formed : length (cardOf id s) ≤ 80 → pmMalformed (cardOf id s) ≡ false
+  well-formed : length (cardOf id s) ≤ cardLength → pmMalformed (cardOf id s) ≡ false
   unfolding pmMalformed
-  well-formed h = rw (le-ltb 80 (length (cardOf id s)) h, stands, period, tail, comma)
+  well-formed h = rw (le-ltb cardLength (length (cardOf id s)) h, stands, period, tail, comma)
 
-  faultless : length (cardOf id s) ≤ 80 → pmFault (cardOf id s) ≡ false
+  faultless : length (cardOf id s) ≤ cardLength → pmFault (cardOf id s) ≡ false
   unfolding pmFault
-  faultless h = rw (well-formed h, letters-is, le-ltb 66 (length (s .letters)) (p .short))
+  faultless h = rw (well-formed h, letters-is, le-ltb pmLength (length (s .letters)) (p .short))
 
   pub read-back : ReadBack id s
   unfolding isPm pmText
@@ -290,14 +291,14 @@ pub record Held (card : List ℕ) : Type 0 where
   pub no-longer : length (pmText card) + 1 + length (field card 0) ≤ length card
 
 module _ (card : List ℕ) (number : numbered card ≡ true) (good : pmFault card ≡ false) where
-  kept : (pmMalformed card ≡ false) × (ltb 66 (length (letters card)) ≡ false)
+  kept : (pmMalformed card ≡ false) × (ltb pmLength (length (letters card)) ≡ false)
   unfolding pmFault
-  kept = neither (pmMalformed card) (ltb 66 (length (letters card))) good
+  kept = neither (pmMalformed card) (ltb pmLength (length (letters card))) good
 
   form : (every cardByte card ≡ true) × ((has card 46 ≡ true) × (has (behindComma (body card)) 44 ≡ true))
   unfolding pmMalformed
   form =
-      let a = neither (ltb 80 (length card)) (not (every cardByte card && (has card 46 && (every (has (bytes " ")) (drop (length (body card) + 1) card) && has (behindComma (body card)) 44)))) (kept .0) in
+      let a = neither (ltb cardLength (length card)) (not (every cardByte card && (has card 46 && (every (has (bytes " ")) (drop (length (body card) + 1) card) && has (behindComma (body card)) 44)))) (kept .0) in
       let b = not-false (every cardByte card && (has card 46 && (every (has (bytes " ")) (drop (length (body card) + 1) card) && has (behindComma (body card)) 44))) (a .1) in
       let c = both (every cardByte card) (has card 46 && (every (has (bytes " ")) (drop (length (body card) + 1) card) && has (behindComma (body card)) 44)) b in
       let d = both (has card 46) (every (has (bytes " ")) (drop (length (body card) + 1) card) && has (behindComma (body card)) 44) (c .1) in
@@ -328,7 +329,7 @@ module _ (card : List ℕ) (number : numbered card ≡ true) (good : pmFault car
       let b = digit-bounds (digitOf card) (numbers .1) in
       let d : digitOf card ≡ 48 + (digitOf card - 48) = omega (arith, b) in
       record {
-        proper = record { one = omega (arith, b); short = ltb-false 66 (length (letters card)) (kept .1); stands = letters-stand };
+        proper = record { one = omega (arith, b); short = ltb-false pmLength (length (letters card)) (kept .1); stands = letters-stand };
         digit-is = d;
         text-is = ap (λ (n : ℕ). 80 ∷ 77 ∷ n ∷ 44 ∷ (letters card ++ (46 ∷ []))) d;
         no-longer = omega (arith, room, length-append (letters card) (46 ∷ []));

@@ -5,6 +5,7 @@ use mathlib.Core.List.{List, [], _∷_, _++_}
 use lib.Dec.{eqb, leb, ltb}
 use lib.ListN.{length, getD, take, drop}
 use Rattle.numbers.specs.Quoted.{byte, bytes}
+use Rattle.numbers.specs.Limits.{cardLength, pmLength}
 use Rattle.text.specs.Class.{isDigit}
 use Rattle.words.specs.Words.{every, has, same, isnt, leading}
 use Rattle.cards_fields.specs.Fields.{field, cardByte}
@@ -39,7 +40,7 @@ letters card = behindComma (behindComma (body card))
 -- [last] period"; "A PM card without a second comma is malformed too"
 unfoldable pub pmMalformed : List ℕ → Bool
 pmMalformed card =
-    ltb 80 (length card)
+    ltb cardLength (length card)
     || not
     (every cardByte card
     && (has card (byte ".")
@@ -47,7 +48,7 @@ pmMalformed card =
 
 -- "malformed .. or text over 66"
 unfoldable pub pmFault : List ℕ → Bool
-pmFault card = pmMalformed card || ltb 66 (length (letters card))
+pmFault card = pmMalformed card || ltb pmLength (length (letters card))
 
 -- "digits .. rising", strictly, over the PM cards of a list; `least`: what the next may be at least
 abbrev pub rising : ℕ → List (List ℕ) → Bool

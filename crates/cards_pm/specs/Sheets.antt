@@ -5,6 +5,7 @@ use mathlib.Core.Bool.{true}
 use mathlib.Core.List.{List, _∷_, _++_}
 use lib.ListN.{length}
 use Rattle.numbers.specs.Quoted.{byte, bytes}
+use Rattle.numbers.specs.Limits.{pmLength}
 use Rattle.words.specs.Words.{every}
 use Rattle.cards_fields.specs.Fields.{cardByte}
 
@@ -16,7 +17,7 @@ pub record Sheet : Type 0 where
 -- "a digit and a text of 0-66 card characters"
 pub record Proper (s : Sheet) : Type 0 where
   pub one : s .digit ≤ 9
-  pub short : length (s .letters) ≤ 66
+  pub short : length (s .letters) ≤ pmLength
   pub stands : every cardByte (s .letters) ≡ true
 
 -- "`PM` digit `,` text `.`; the text as it stands, so an empty one gives `ID,PM3,.`"

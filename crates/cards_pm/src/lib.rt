@@ -1,5 +1,6 @@
 // The PM cards: the number, the text as it stands, what is wrong with a card, and its text from the type on.
 use cards_fields::card;
+use numbers::limits;
 ghost use mathlib.Core.Path.{_≡_};
 ghost use lib.ListN.{length};
 ghost use Rattle.text.specs.Room.{Written};
@@ -89,7 +90,7 @@ fn are_card_bytes(s: &[u8]) -> bool
 fn is_malformed(card: &[u8]) -> bool
     ensures { λ r. ⌜ r ≡ pmMalformed (now (card .entry)) ⌝ }
 {
-    if 80 < card.len() {
+    if limits::CARD_LENGTH < card.len() {
         return true;
     }
     if !are_card_bytes(card) {
@@ -112,7 +113,7 @@ pub fn is_fault(card: &[u8]) -> bool
     if is_malformed(card) {
         return true;
     }
-    66 < letters(card).len()
+    limits::PM_LENGTH < letters(card).len()
 }
 
 // Puts the card from its type on, the text as it stands.

@@ -18,8 +18,8 @@ use Rattle.cards_request.specs.Errors.{good, errorIf, orElse}
 use Rattle.cards_request.proofs.ErrorLaws.{good-is, not-good, or-else-some, or-else-none, or-else-good}
 use Rattle.cards_pty.specs.Pty.{Rule, rules, noRule, ruleAt, lengthError, contentError, fieldError, fieldsFrom, fieldsError, ptyError}
 use Rattle.cards_request.specs.declared.CardError.the-variants.{NotPty, PtyMalformed}
-use Rattle.cards_request.specs.declared.Verdict.{Verdict}
-use Rattle.cards_request.specs.declared.Verdict.the-variants.{Good, Wrong}
+use Rattle.cards_request.specs.declared.CardVerdict.{CardVerdict}
+use Rattle.cards_request.specs.declared.CardVerdict.the-variants.{Good, Wrong}
 
 pub least-at : (k : ℕ) → getD (map (λ (r : Rule). r .least) rules) k 0 ≡ ruleAt k .least
 least-at k = List·getD-map (λ (r : Rule). r .least) rules k noRule
@@ -113,10 +113,10 @@ next j (r ∷ rs) [] (suc k) h = let e : j + suc k ≡ suc j + k = omega arith i
 next j (r ∷ rs) (f ∷ fs) (suc k) h = let e : j + suc k ≡ suc j + k = omega arith in rw e (next (suc j) rs fs k (le-of-suc-le-suc h))
 
 -- what is left to look at from index k on
-abbrev pub fromIndex : ℕ → List (List ℕ) → Verdict
+abbrev pub fromIndex : ℕ → List (List ℕ) → CardVerdict
 fromIndex k fs = fieldsFrom k (drop k rules) (drop k fs)
 
-module _ (fs : List (List ℕ)) (k : ℕ) (h : k < 14) (e : Verdict) (is : e ≡ fieldError k (ruleAt k) (getD fs k [])) where
+module _ (fs : List (List ℕ)) (k : ℕ) (h : k < 14) (e : CardVerdict) (is : e ≡ fieldError k (ruleAt k) (getD fs k [])) where
   at-rule : fromIndex k fs ≡ orElse e (fromIndex (k + 1) fs)
   at-rule = rw (is, add-one k) (let z : 0 + k ≡ k = omega arith in rw z at (next 0 rules fs k (omega (arith, rules-many))))
 
@@ -124,7 +124,7 @@ module _ (fs : List (List ℕ)) (k : ℕ) (h : k < 14) (e : Verdict) (is : e ≡
   field-wrong n = at-rule ∙ or-else-some e _ n
 
   pub field-right : good e ≡ true → fromIndex k fs ≡ fromIndex (k + 1) fs
-  field-right z = at-rule ∙ ap (λ (v : Verdict). orElse v (fromIndex (k + 1) fs)) (good-is e z)
+  field-right z = at-rule ∙ ap (λ (v : CardVerdict). orElse v (fromIndex (k + 1) fs)) (good-is e z)
 
 pub fields-done : (fs : List (List ℕ)) (k : ℕ) → 14 ≤ k → fromIndex k fs ≡ Good
 fields-done fs k h = rw (drop-of-length-le rules {i = k} (omega (arith, rules-many)))

@@ -5,6 +5,7 @@ use mathlib.Core.List.{List, [], _∷_}
 use lib.Dec.{eqb, ltb, leb}
 use lib.ListN.{length, getD, take, drop}
 use Rattle.numbers.specs.Quoted.{byte, bytes}
+use Rattle.numbers.specs.Limits.{lastSequence, lastPrecedence}
 use Rattle.text.specs.Class.{isDigit, isLetter, isAlnum}
 use Rattle.words.specs.Words.{passes, every, has, same, value}
 use Rattle.words.specs.declared.Class.the-variants.{Hyphened}
@@ -12,8 +13,8 @@ use Rattle.cards_fields.specs.Fields.{fields, isPty, malformed}
 use Rattle.cards_request.specs.Errors.{errorIf, orElse, firstOf}
 use Rattle.cards_request.specs.declared.CardError.{CardError}
 use Rattle.cards_request.specs.declared.CardError.the-variants.{NotPty, PtyMalformed, IdLength, WrongRush, WrongLength, WrongContent}
-use Rattle.cards_request.specs.declared.Verdict.{Verdict}
-use Rattle.cards_request.specs.declared.Verdict.the-variants.{Good, Wrong}
+use Rattle.cards_request.specs.declared.CardVerdict.{CardVerdict}
+use Rattle.cards_request.specs.declared.CardVerdict.the-variants.{Good, Wrong}
 use Rattle.cards_pty.specs.declared.Priority.{Priority}
 
 -- "letters, digits or hyphens, no hyphen first"
@@ -45,19 +46,19 @@ precedenceText t = drop (lead t + 1) t
 abbrev pub sequenceGood : List ℕ → Bool
 sequenceGood t =
     every isDigit (sequenceText t)
-    && (isLetter (getD t 0 0) || (leb 1 (value (sequenceText t)) && leb (value (sequenceText t)) 63))
+    && (isLetter (getD t 0 0) || (leb 1 (value (sequenceText t)) && leb (value (sequenceText t)) lastSequence))
 
 -- "left out, .. precedence [is] 63"
 abbrev pub precedence : List ℕ → ℕ
-precedence p = cond (eqb (length p) 0) 63 (value p)
+precedence p = cond (eqb (length p) 0) lastPrecedence (value p)
 
 -- a precedence is 0-63, of at most two digits
 abbrev pub precedenceGood : List ℕ → Bool
-precedenceGood p = leb (length p) 2 && (every isDigit p && leb (precedence p) 63)
+precedenceGood p = leb (length p) 2 && (every isDigit p && leb (precedence p) lastPrecedence)
 
 -- "Z with precedence 63, written or implied, is wrong content"
 abbrev pub lastOfAll : ℕ → ℕ → Bool
-lastOfAll l p = eqb l (byte "Z") && eqb p 63
+lastOfAll l p = eqb l (byte "Z") && eqb p lastPrecedence
 
 -- a priority of wrong content is all zeros
 abbrev pub noPriority : Priority
@@ -124,24 +125,24 @@ abbrev pub contentError : ℕ → CardError
 contentError k = cond (eqb k 3) WrongRush WrongContent
 
 -- the error of the field at an index: its length first, then its content
-abbrev pub fieldError : ℕ → Rule → List ℕ → Verdict
+abbrev pub fieldError : ℕ → Rule → List ℕ → CardVerdict
 fieldError k r t =
     cond (ltb (length t) (r .least) || ltb (r .most) (length t))
     (Wrong (lengthError k))
     (cond (r .content t) Good (Wrong (contentError k)))
 
 -- "its fields left to right": the first error of those from index k on; a missing field is empty
-abbrev pub fieldsFrom : ℕ → List Rule → List (List ℕ) → Verdict
+abbrev pub fieldsFrom : ℕ → List Rule → List (List ℕ) → CardVerdict
 fieldsFrom k [] fs = Good
 fieldsFrom k (r ∷ rs) [] = orElse (fieldError k r []) (fieldsFrom (suc k) rs [])
 fieldsFrom k (r ∷ rs) (f ∷ fs) = orElse (fieldError k r f) (fieldsFrom (suc k) rs fs)
 
 -- the first error of all fields
-abbrev pub fieldsError : List (List ℕ) → Verdict
+abbrev pub fieldsError : List (List ℕ) → CardVerdict
 fieldsError fs = fieldsFrom 0 rules fs
 
 -- "25 the group's first card isn't PTY; 17 PTY card malformed or over 14 fields; then its fields left to right"
-unfoldable pub ptyError : List ℕ → Verdict
+unfoldable pub ptyError : List ℕ → CardVerdict
 ptyError pty =
     firstOf
     (errorIf (not (isPty pty)) NotPty

@@ -1,7 +1,8 @@
 // The PTY card: each field's length and content, the priority, and the card's errors.
 use cards_fields::card;
 use cards_request::CardError;
-use cards_request::Verdict;
+use cards_request::CardVerdict;
+use numbers::limits;
 use words::Class;
 ghost use mathlib.Core.Path.{_≡_};
 ghost use Prim.Native.Nat.{_≤_, _<_};
@@ -45,13 +46,19 @@ fn no_priority() -> Priority
     }
 }
 
-// The precedence that a text of at most two bytes writes, 63 if it is empty.
+// The last sequence.
+const LAST_SEQUENCE: u32 = limits::LAST_SEQUENCE as u32;
+
+// The last precedence.
+const LAST_PRECEDENCE: u32 = limits::LAST_PRECEDENCE as u32;
+
+// The precedence that a text of at most two bytes writes, the last if it is empty.
 fn precedence_of(p: &[u8]) -> u32
     requires { ⌜ length (now p) ≤ 2 ⌝ }
     ensures { λ r. ⌜ r ≡ precedence (now (p .entry)) ⌝ }
 {
     if p.len() == 0 {
-        return 63;
+        return LAST_PRECEDENCE;
     }
     words::number(p)
 }
@@ -60,7 +67,7 @@ fn precedence_of(p: &[u8]) -> u32
 fn is_last(letter: u8, n: u32) -> bool
     ensures { λ r. ⌜ r ≡ lastOfAll letter n ⌝ }
 {
-    letter == b'Z' && n == 63
+    letter == b'Z' && n == LAST_PRECEDENCE
 }
 
 // The priority of a letter and a precedence behind a sequence.
@@ -77,7 +84,7 @@ fn rank(sequence: u8, letter: u8, p: &[u8]) -> Priority
         return no_priority();
     }
     let n = precedence_of(p);
-    if 63 < n {
+    if LAST_PRECEDENCE < n {
         return no_priority();
     }
     if is_last(letter, n) {
@@ -113,7 +120,7 @@ pub fn priority_of(t: &[u8]) -> Priority
     if sequence < 1 {
         return no_priority();
     }
-    if 63 < sequence {
+    if LAST_SEQUENCE < sequence {
         return no_priority();
     }
     rank(sequence as u8, t[2], &t[3..])
@@ -167,44 +174,44 @@ fn content_error(k: usize) -> CardError
 
 // What is wrong with the text of a field: its length first, then its content. Past the fourteenth a field has to be
 // empty.
-pub fn field_error(k: usize, t: &[u8]) -> Verdict
+pub fn field_error(k: usize, t: &[u8]) -> CardVerdict
     ensures { λ r. ⌜ r ≡ fieldError k (ruleAt k) (now (t .entry)) ⌝ }
 {
     let n = t.len();
     if 13 < k {
         if n == 0 {
-            return Verdict::Good;
+            return CardVerdict::Good;
         }
-        return Verdict::Wrong(length_error(k));
+        return CardVerdict::Wrong(length_error(k));
     }
     if n < LEAST[k] {
-        return Verdict::Wrong(length_error(k));
+        return CardVerdict::Wrong(length_error(k));
     }
     if MOST[k] < n {
-        return Verdict::Wrong(length_error(k));
+        return CardVerdict::Wrong(length_error(k));
     }
     if is_right(k, t) {
-        return Verdict::Good;
+        return CardVerdict::Good;
     }
-    Verdict::Wrong(content_error(k))
+    CardVerdict::Wrong(content_error(k))
 }
 
 // The same of a card's field; one that was not gathered whole is longer than any may be.
-fn error_at(card: &[u8], k: usize) -> Verdict
+fn error_at(card: &[u8], k: usize) -> CardVerdict
     requires { ⌜ k < 14 ⌝ }
     ensures { λ r. ⌜ r ≡ fieldError k (ruleAt k) (field (now (card .entry)) k) ⌝ }
 {
     let f = card::field_at(card, k);
     let n = f.len;
     if 12 < n {
-        return Verdict::Wrong(length_error(k));
+        return CardVerdict::Wrong(length_error(k));
     }
     let bytes = f.bytes;
     field_error(k, &bytes[..n])
 }
 
 // The first error of a card's fields, left to right.
-fn fields_error(card: &[u8]) -> Verdict
+fn fields_error(card: &[u8]) -> CardVerdict
     ensures { λ r. ⌜ r ≡ fieldsError (fields (now (card .entry))) ⌝ }
 {
     let mut k: usize = 0;
@@ -215,21 +222,21 @@ fn fields_error(card: &[u8]) -> Verdict
         }
         k += 1;
     }
-    Verdict::Good
+    CardVerdict::Good
 }
 
 // The errors of the PTY card by itself.
-pub fn pty_error(card: &[u8]) -> Verdict
+pub fn pty_error(card: &[u8]) -> CardVerdict
     ensures { λ r. ⌜ r ≡ ptyError (now (card .entry)) ⌝ }
 {
     if !card::field_is(card, 1, b"PTY") {
-        return Verdict::Wrong(CardError::NotPty);
+        return CardVerdict::Wrong(CardError::NotPty);
     }
     if card::is_malformed(card) {
-        return Verdict::Wrong(CardError::PtyMalformed);
+        return CardVerdict::Wrong(CardError::PtyMalformed);
     }
     if 13 < card::last_field(card) {
-        return Verdict::Wrong(CardError::PtyMalformed);
+        return CardVerdict::Wrong(CardError::PtyMalformed);
     }
     fields_error(card)
 }

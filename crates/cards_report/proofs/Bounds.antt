@@ -15,6 +15,7 @@ use Rattle.numbers.specs.Quoted.{bytes}
 use Rattle.numbers.specs.Refusals.{numberOf}
 use Rattle.numbers.specs.declared.Refusal.{Refusal}
 use Rattle.numbers.specs.declared.Refusal.the-variants.{NoRoom, WrongRequest}
+use Rattle.numbers.specs.Limits.{cardsRoom}
 use Rattle.text.specs.Writing.{decimalText}
 use Rattle.text.specs.Room.{Written}
 use Rattle.text.proofs.RoomLaws.{andThen}
@@ -24,14 +25,14 @@ use Rattle.cards_fields.proofs.FieldLaws.{spaceless-short}
 use Rattle.cards_lines.specs.Shown.{refusedText}
 use Rattle.cards_lines.proofs.ShownLaws.{error-short}
 use Rattle.cards_request.specs.declared.FullRequest.{FullRequest}
-use Rattle.cards_request.specs.declared.Verdict.{Verdict}
-use Rattle.cards_request.specs.declared.Verdict.the-variants.{Good, Wrong}
+use Rattle.cards_request.specs.declared.CardVerdict.{CardVerdict}
+use Rattle.cards_request.specs.declared.CardVerdict.the-variants.{Good, Wrong}
 use Rattle.cards_group.specs.Group.{readFull}
 use Rattle.cards_group.specs.declared.FullReading.{FullReading}
 use Rattle.cards_full.specs.Full.{textOf, fits, short, cardsIn, takesFull, writeAnswer, written}
 use Rattle.cards_full.specs.declared.Wrote.{Wrote}
 use Rattle.cards_full.specs.declared.Wrote.the-variants.{Cards, Refused}
-use Rattle.cards_report.specs.Cards.{tableText, refusalLine, goodText, textBy, cardsRoom}
+use Rattle.cards_report.specs.Cards.{tableText, refusalLine, goodText, textBy}
 use Rattle.cards_report.proofs.TableLines.{table-short}
 
 pub refused-short : (r : Refusal) → length (refusedText r) ≤ 10
@@ -95,13 +96,13 @@ good-short v shown room (Cards n) l e h =
     omega (arith, length-append (textOf v) (tableText (v .further)), table-short (v .further), q .is, q .within, l)
 good-short v shown room (Refused refusal) l e h = omega (arith, refusal-short shown refusal h)
 
-pub text-short : (verdict : Verdict) (v : FullRequest) (shown : List ℕ) → length shown ≤ 6 → length (textBy verdict v shown) ≤ 2048
+pub text-short : (verdict : CardVerdict) (v : FullRequest) (shown : List ℕ) → length shown ≤ 6 → length (textBy verdict v shown) ≤ 2048
 text-short Good v shown h = good-short v shown (replicate cardsRoom 0) (writeAnswer v cardsRoom) refl refl h
 text-short (Wrong e) v shown h = omega (arith, error-short shown e h)
 
 -- what was read of a group, by its verdict
-pub group-by : (cards : List (List ℕ)) (shown : List ℕ) {reading : FullReading} → reading ≡ readFull cards → {v : Verdict} → reading .verdict ≡ v
+pub group-by : (cards : List (List ℕ)) (shown : List ℕ) {reading : FullReading} → reading ≡ readFull cards → {v : CardVerdict} → reading .verdict ≡ v
     → {out b : List ℕ} {at r : ℕ} → Written out at (textBy v (reading .full) shown) b r → Written out at (textBy (readFull cards .verdict) (readFull cards .full) shown) b r
 group-by cards shown {reading} e {v} q {out} {b} {at} {r} w =
     subst (λ (x : FullReading). Written out at (textBy (x .verdict) (x .full) shown) b r) e
-    (subst (λ (x : Verdict). Written out at (textBy x (reading .full) shown) b r) (sym q) w)
+    (subst (λ (x : CardVerdict). Written out at (textBy x (reading .full) shown) b r) (sym q) w)

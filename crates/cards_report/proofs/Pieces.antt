@@ -16,8 +16,8 @@ use Rattle.cards_lines.specs.Shown.{shownBy, refusedText}
 use Rattle.cards_group.specs.Group.{readFull}
 use Rattle.cards_report.specs.Cards.{textBy, groupText, endText, beginBy, begin, left, pieceBy, piece, over, nextBy, after, Prints}
 use Rattle.cards_report.proofs.Bounds.{text-short, refused-short}
-use Rattle.cards_report.specs.declared.Phase.{Phase}
-use Rattle.cards_report.specs.declared.Phase.the-variants.{Groups, Refused, Over}
+use Rattle.cards_report.specs.declared.Coming.{Coming}
+use Rattle.cards_report.specs.declared.Coming.the-variants.{Groups, Refused, Over}
 use Rattle.cards_report.specs.declared.Printing.{Printing}
 
 -- ---- what is left of a deck
@@ -43,7 +43,7 @@ module _ (s : List ℕ) (from end : ℕ) where
 
 -- groups are to come
 abbrev pub to : ℕ → ℕ → List ℕ → Printing
-to from end shown = record { phase = Groups; from = from; end = end; shown = shown }
+to from end shown = record { coming = Groups; from = from; end = end; shown = shown }
 
 module _ (s : List ℕ) (p : Printing) where
   module _ {room after· : List ℕ} (l : length room ≡ 2048) where
@@ -54,23 +54,23 @@ module _ (s : List ℕ) (p : Printing) where
       then = b;
     }
 
-    pub refused-prints : (refusal : Refusal) → p .phase ≡ Refused refusal → {at : ℕ} → Written room 0 (refusedText refusal) after· at → {next : Printing} → next ≡ over p
+    pub refused-prints : (refusal : Refusal) → p .coming ≡ Refused refusal → {at : ℕ} → Written room 0 (refusedText refusal) after· at → {next : Printing} → next ≡ over p
         → Prints s p room after· (record { at = at; printing = next })
     refused-prints refusal e w {next} n =
         prints (refusedText refusal) next
-        (ap (λ (x : Phase). pieceBy x (left s p) (p .shown)) (sym e))
-        (n ∙ ap (λ (x : Phase). nextBy x (left s p) p) (sym e))
+        (ap (λ (x : Coming). pieceBy x (left s p) (p .shown)) (sym e))
+        (n ∙ ap (λ (x : Coming). nextBy x (left s p) p) (sym e))
         (omega (arith, refused-short refusal)) w
 
   module _ {d g : List ℕ} (r : d ≡ take (p .end - p .from) (drop (p .from) s)) (f : g ≡ take (groupSize d) d) where
-    by-left : p .phase ≡ Groups → (gs : List (List (List ℕ))) → groupsOf (cardsOf d) ≡ gs → (pieceBy Groups gs (p .shown) ≡ piece s p) × (nextBy Groups gs p ≡ after s p)
+    by-left : p .coming ≡ Groups → (gs : List (List (List ℕ))) → groupsOf (cardsOf d) ≡ gs → (pieceBy Groups gs (p .shown) ≡ piece s p) × (nextBy Groups gs p ≡ after s p)
     by-left e gs q =
         let k : gs ≡ left s p = sym q ∙ ap (λ (x : List ℕ). groupsOf (cardsOf x)) r in (
-          ap (λ (x : List (List (List ℕ))). pieceBy Groups x (p .shown)) k ∙ ap (λ (x : Phase). pieceBy x (left s p) (p .shown)) (sym e),
-          ap (λ (x : List (List (List ℕ))). nextBy Groups x p) k ∙ ap (λ (x : Phase). nextBy x (left s p) p) (sym e),
+          ap (λ (x : List (List (List ℕ))). pieceBy Groups x (p .shown)) k ∙ ap (λ (x : Coming). pieceBy x (left s p) (p .shown)) (sym e),
+          ap (λ (x : List (List (List ℕ))). nextBy Groups x p) k ∙ ap (λ (x : Coming). nextBy x (left s p) p) (sym e),
         )
 
-    pub end-prints : p .phase ≡ Groups → length g ≡ 0 → {room after· : List ℕ} → length room ≡ 2048 → {at : ℕ} → Written room 0 endText after· at → {next : Printing} → next ≡ over p
+    pub end-prints : p .coming ≡ Groups → length g ≡ 0 → {room after· : List ℕ} → length room ≡ 2048 → {at : ℕ} → Written room 0 endText after· at → {next : Printing} → next ≡ over p
         → Prints s p room after· (record { at = at; printing = next })
     end-prints e z l w {next} n =
         let x = by-left e [] (no-groups d (sym (ap length f) ∙ z)) in prints l endText next (x .0) (n ∙ x .1) (omega arith) w
@@ -82,9 +82,9 @@ module _ (s : List ℕ) (p : Printing) where
       pub group-within : p .from + length g ≤ length s
       group-within = omega (arith, found .some, found .within, ap length f, length-take (groupSize d) d, ap length r, length-take (p .end - p .from) (drop (p .from) s), length-drop (p .from) s)
 
-      pub group-prints : p .phase ≡ Groups → {card shown room after· : List ℕ} → length room ≡ 2048 → card ≡ getD (cardsOf g) 0 [] → shown ≡ shownBy card (p .shown) → length shown ≡ 6
+      pub group-prints : p .coming ≡ Groups → {card shown room after· : List ℕ} → length room ≡ 2048 → card ≡ getD (cardsOf g) 0 [] → shown ≡ shownBy card (p .shown) → length shown ≡ 6
           → {at : ℕ} → Written room 0 (textBy (readFull (cardsOf g) .verdict) (readFull (cardsOf g) .full) shown) after· at
-          → Prints s p room after· (record { at = at; printing = record { phase = Groups; from = p .from + length g; end = p .end; shown = shown } })
+          → Prints s p room after· (record { at = at; printing = record { coming = Groups; from = p .from + length g; end = p .end; shown = shown } })
       unfolding groupText
       group-prints e {card} {shown} l c h m w =
           let q : groupsOf (cardsOf d) ≡ cardsOf g ∷ groupsOf (cardsOf (drop (groupSize d) d)) =
@@ -100,10 +100,10 @@ module _ (s : List ℕ) (p : Printing) where
           (text-short (readFull (cardsOf g) .verdict) (readFull (cardsOf g) .full) shown (omega (arith, m)))
           w
 
-pub over-prints : (s : List ℕ) (p : Printing) (room : List ℕ) → p .phase ≡ Over → {next : Printing} → next ≡ over p → Prints s p room room (record { at = 0; printing = next })
+pub over-prints : (s : List ℕ) (p : Printing) (room : List ℕ) → p .coming ≡ Over → {next : Printing} → next ≡ over p → Prints s p room room (record { at = 0; printing = next })
 over-prints s p room e {next} n = record {
-  text = subst (λ (x : List ℕ). Whole x room room 0) (ap (λ (x : Phase). pieceBy x (left s p) (p .shown)) (sym e)) (entire (none room 0) (omega arith));
-  then = n ∙ ap (λ (x : Phase). nextBy x (left s p) p) (sym e);
+  text = subst (λ (x : List ℕ). Whole x room room 0) (ap (λ (x : Coming). pieceBy x (left s p) (p .shown)) (sym e)) (entire (none room 0) (omega arith));
+  then = n ∙ ap (λ (x : Coming). nextBy x (left s p) p) (sym e);
 }
 
 -- ---- before the first piece

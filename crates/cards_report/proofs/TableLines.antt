@@ -10,6 +10,7 @@ use lib.Seq.{drop-cons}
 use borrow.Author.Tests.{eq-eqb, ne-eqb}
 use Rattle.numbers.specs.Quoted.{byte, bytes}
 use Rattle.numbers.proofs.Tests.{by-bool}
+use Rattle.numbers.specs.Limits.{pmLength, tableLength}
 use Rattle.text.specs.Room.{Written}
 use Rattle.text.specs.Writing.{decimalText}
 use Rattle.text.proofs.RoomLaws.{Going, none, andThen, turn, end}
@@ -25,30 +26,30 @@ use Rattle.cards_report.specs.Cards.{placesFrom, rowLines, tableText}
 -- k lines of the room from `from` on
 abbrev pub linesFrom : List ℕ → ℕ → ℕ → List ℕ
 linesFrom table from zero = []
-linesFrom table from (suc k) = lineText (byte "=" ∷ take 66 (drop from table)) ++ linesFrom table (from + 66) k
+linesFrom table from (suc k) = lineText (byte "=" ∷ take pmLength (drop from table)) ++ linesFrom table (from + pmLength) k
 
 -- whole lines, ten at most
-pub size-is : (f : Further) (n : ℕ) → n ≡ tableSize f → (n % 66 ≡ 0) × (n ≤ 660)
+pub size-is : (f : Further) (n : ℕ) → n ≡ tableSize f → (n % pmLength ≡ 0) × (n ≤ tableLength)
 unfolding tableSize
 size-is f n e = (omega (arith, e), omega (arith, e, rows-most (texts f)))
 
 -- a line is put
-pub line-turn : {room₀ whole room a b c : List ℕ} {at₀ at i j k : ℕ} (table : List ℕ) (n from : ℕ) → n % 66 ≡ 0 → from % 66 ≡ 0 → from < n
-    → Going room₀ at₀ whole room at (linesFrom table from ((n - from) / 66))
-    → Written room at (byte "=" ∷ []) a i → Written a i (take (from + 66 - from) (drop from table)) b j → Written b j (lf ∷ []) c k
-    → Going room₀ at₀ whole c k (linesFrom table (from + 66) ((n - (from + 66)) / 66))
+pub line-turn : {room₀ whole room a b c : List ℕ} {at₀ at i j k : ℕ} (table : List ℕ) (n from : ℕ) → n % pmLength ≡ 0 → from % pmLength ≡ 0 → from < n
+    → Going room₀ at₀ whole room at (linesFrom table from ((n - from) / pmLength))
+    → Written room at (byte "=" ∷ []) a i → Written a i (take (from + pmLength - from) (drop from table)) b j → Written b j (lf ∷ []) c k
+    → Going room₀ at₀ whole c k (linesFrom table (from + pmLength) ((n - (from + pmLength)) / pmLength))
 line-turn {room₀} {whole} {room} {a} {b} {c} {at₀} {at} {i} {j} {k} table n from m z h g v w x =
-    let e : (n - from) / 66 ≡ suc ((n - (from + 66)) / 66) = omega arith in
-    let y : Written a i (take 66 (drop from table)) b j = rw (part-is table from 66) at w in
-    let p : Written room at (lineText (byte "=" ∷ take 66 (drop from table))) c k = andThen v (andThen y x) in
-    let q : Going room₀ at₀ whole room at (lineText (byte "=" ∷ take 66 (drop from table)) ++ linesFrom table (from + 66) ((n - (from + 66)) / 66)) = rw e at g in
+    let e : (n - from) / pmLength ≡ suc ((n - (from + pmLength)) / pmLength) = omega arith in
+    let y : Written a i (take pmLength (drop from table)) b j = rw (part-is table from pmLength) at w in
+    let p : Written room at (lineText (byte "=" ∷ take pmLength (drop from table))) c k = andThen v (andThen y x) in
+    let q : Going room₀ at₀ whole room at (lineText (byte "=" ∷ take pmLength (drop from table)) ++ linesFrom table (from + pmLength) ((n - (from + pmLength)) / pmLength)) = rw e at g in
     turn q p
 
-pub lines-end : {room₀ whole room : List ℕ} {at₀ at : ℕ} (table : List ℕ) (n from : ℕ) → n ≤ from → Going room₀ at₀ whole room at (linesFrom table from ((n - from) / 66)) → Written room₀ at₀ whole room at
-lines-end table n from h g = let e : (n - from) / 66 ≡ 0 = omega arith in end (rw e at g)
+pub lines-end : {room₀ whole room : List ℕ} {at₀ at : ℕ} (table : List ℕ) (n from : ℕ) → n ≤ from → Going room₀ at₀ whole room at (linesFrom table from ((n - from) / pmLength)) → Written room₀ at₀ whole room at
+lines-end table n from h g = let e : (n - from) / pmLength ≡ 0 = omega arith in end (rw e at g)
 
 -- by place
-module _ (f : Further) {room table : List ℕ} {n : ℕ} (t : Table f room table n) (l : length room ≡ 660) where
+module _ (f : Further) {room table : List ℕ} {n : ℕ} (t : Table f room table n) (l : length room ≡ tableLength) where
   w : n ≤ length table
   w = omega (arith, t .long, l, size-is f n (t .size) .1)
 
@@ -58,15 +59,15 @@ module _ (f : Further) {room table : List ℕ} {n : ℕ} (t : Table f room table
       let d : drop i table ≡ getD table i 0 ∷ drop (suc i) table = drop-cons table i 0 (omega (arith, w)) in
       ap (take (suc k)) d ∙ ap (λ (b : ℕ). b ∷ take k (drop (suc i) table)) (t .places i (omega arith)) ∙ ap (λ (l : List ℕ). place f i ∷ l) (places-are k (suc i) (omega arith))
 
-  lines-are : (k d : ℕ) → 66 * d + 66 * k ≤ n → linesFrom table (66 * d) k ≡ rowLines f d k
+  lines-are : (k d : ℕ) → pmLength * d + pmLength * k ≤ n → linesFrom table (pmLength * d) k ≡ rowLines f d k
   lines-are zero d h = refl
   lines-are (suc k) d h =
-      let e : 66 * d + 66 ≡ 66 * suc d = omega arith in
-      let a : linesFrom table (66 * d + 66) k ≡ rowLines f (suc d) k = ap (λ (j : ℕ). linesFrom table j k) e ∙ lines-are k (suc d) (omega arith) in
-      ap (λ (l : List ℕ). lineText (byte "=" ∷ l) ++ linesFrom table (66 * d + 66) k) (places-are 66 (66 * d) (omega arith)) ∙ ap (λ (l : List ℕ). lineText (byte "=" ∷ placesFrom f (66 * d) 66) ++ l) a
+      let e : pmLength * d + pmLength ≡ pmLength * suc d = omega arith in
+      let a : linesFrom table (pmLength * d + pmLength) k ≡ rowLines f (suc d) k = ap (λ (j : ℕ). linesFrom table j k) e ∙ lines-are k (suc d) (omega arith) in
+      ap (λ (l : List ℕ). lineText (byte "=" ∷ l) ++ linesFrom table (pmLength * d + pmLength) k) (places-are pmLength (pmLength * d) (omega arith)) ∙ ap (λ (l : List ℕ). lineText (byte "=" ∷ placesFrom f (pmLength * d) pmLength) ++ l) a
 
-  pub table-lines : linesFrom table 0 (n / 66) ≡ rowLines f 0 (tableSize f / 66)
-  table-lines = lines-are (n / 66) 0 (omega arith) ∙ ap (λ (m : ℕ). rowLines f 0 (m / 66)) (t .size)
+  pub table-lines : linesFrom table 0 (n / pmLength) ≡ rowLines f 0 (tableSize f / pmLength)
+  table-lines = lines-are (n / pmLength) 0 (omega arith) ∙ ap (λ (m : ℕ). rowLines f 0 (m / pmLength)) (t .size)
 
   -- no table, and all of one
   pub no-table : n ≡ 0 → {out : List ℕ} (at : ℕ) → Written out at (tableText f) out at
@@ -74,12 +75,12 @@ module _ (f : Further) {room table : List ℕ} {n : ℕ} (t : Table f room table
   no-table e {out} at = rw (eq-eqb (tableSize f) 0 (sym (t .size) ∙ e)) (none out at)
 
   pub all-table : (n ≡ 0 → ⊥) → {out a b c r : List ℕ} {at i j k o : ℕ} → Written out at (bytes "PMT ") a i → Written a i (decimalText n) b j → Written b j (lf ∷ []) c k
-      → Written c k (linesFrom table 0 ((n - 0) / 66)) r o → Written out at (tableText f) r o
+      → Written c k (linesFrom table 0 ((n - 0) / pmLength)) r o → Written out at (tableText f) r o
   unfolding tableText
   all-table z {out} {a} {b} {c} {r} {at} {i} {j} {k} {o} u v x y =
       let same : n - 0 ≡ n = omega arith in
       let d : Written a i (decimalText (tableSize f)) b j = rw (t .size) at v in
-      let e : Written c k (rowLines f 0 (tableSize f / 66)) r o = rw (same, table-lines) at y in
+      let e : Written c k (rowLines f 0 (tableSize f / pmLength)) r o = rw (same, table-lines) at y in
       rw (ne-eqb (tableSize f) 0 (λ (q : tableSize f ≡ 0). z (t .size ∙ q))) (andThen u (andThen d (andThen x e)))
 
 -- how long
@@ -90,10 +91,10 @@ places-length f i (suc k) = ap suc (places-length f (suc i) k)
 rows-length : (f : Further) (d k : ℕ) → length (rowLines f d k) ≡ 68 * k
 rows-length f d zero = refl
 rows-length f d (suc k) =
-    let a : length (placesFrom f (66 * d) 66) ≡ 66 = places-length f (66 * d) 66 in
-    let b : length (placesFrom f (66 * d) 66 ++ (lf ∷ [])) ≡ 67 = length-append (placesFrom f (66 * d) 66) (lf ∷ []) ∙ ap (λ (n : ℕ). n + 1) a in
-    let c : length (lineText (byte "=" ∷ placesFrom f (66 * d) 66)) ≡ 68 = ap suc b in
-    omega (arith, length-append (lineText (byte "=" ∷ placesFrom f (66 * d) 66)) (rowLines f (suc d) k), c, rows-length f (suc d) k)
+    let a : length (placesFrom f (pmLength * d) pmLength) ≡ pmLength = places-length f (pmLength * d) pmLength in
+    let b : length (placesFrom f (pmLength * d) pmLength ++ (lf ∷ [])) ≡ 67 = length-append (placesFrom f (pmLength * d) pmLength) (lf ∷ []) ∙ ap (λ (n : ℕ). n + 1) a in
+    let c : length (lineText (byte "=" ∷ placesFrom f (pmLength * d) pmLength)) ≡ 68 = ap suc b in
+    omega (arith, length-append (lineText (byte "=" ∷ placesFrom f (pmLength * d) pmLength)) (rowLines f (suc d) k), c, rows-length f (suc d) k)
 
 pub table-short : (f : Further) → length (tableText f) ≤ 688
 unfolding tableText
@@ -102,4 +103,4 @@ table-short f =
     let d : length (decimalText (tableSize f)) ≤ 3 = few-digits 2 (tableSize f) (omega (arith, s .1)) in
     by-bool (eqb (tableSize f) 0)
     (λ e. rw e (omega arith))
-    (λ e. rw e (omega (arith, s .1, d, length-append (decimalText (tableSize f)) (bytes "\n" ++ rowLines f 0 (tableSize f / 66)), rows-length f 0 (tableSize f / 66))))
+    (λ e. rw e (omega (arith, s .1, d, length-append (decimalText (tableSize f)) (bytes "\n" ++ rowLines f 0 (tableSize f / pmLength)), rows-length f 0 (tableSize f / pmLength))))

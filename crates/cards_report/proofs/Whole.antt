@@ -15,8 +15,8 @@ use Rattle.cards_fields.specs.declared.DeckEnd.the-variants as Ends
 use Rattle.cards_lines.specs.Shown.{shownBy, refusedText}
 use Rattle.cards_report.specs.Cards.{groupText, groupsText, endText, cardsBy, cardsText, beginBy, begin, left, pieceBy, over, nextBy, after, turns}
 use Rattle.cards_report.proofs.Pieces.{to}
-use Rattle.cards_report.specs.declared.Phase.{Phase}
-use Rattle.cards_report.specs.declared.Phase.the-variants.{Groups, Refused, Over}
+use Rattle.cards_report.specs.declared.Coming.{Coming}
+use Rattle.cards_report.specs.declared.Coming.the-variants.{Groups, Refused, Over}
 use Rattle.cards_report.specs.declared.Printing.{Printing}
 
 -- what is to come behind so many pieces
@@ -27,7 +27,7 @@ afterAll (suc n) s p = afterAll n s (after s p)
 -- n pieces from p on are a text, and nothing more is to come behind them
 pub record All (n : ℕ) (s : List ℕ) (p : Printing) (text : List ℕ) : Type 0 where
   pub whole : turns n s p ≡ text
-  pub then : afterAll n s p .phase ≡ Over
+  pub then : afterAll n s p .coming ≡ Over
 
 -- ---- a part behind a part
 
@@ -65,14 +65,14 @@ others s from end g gs e = by (either d)
 -- ---- all pieces
 
 -- nothing comes behind the last
-nothing : (n : ℕ) (s : List ℕ) (p : Printing) → p .phase ≡ Over → All n s p []
+nothing : (n : ℕ) (s : List ℕ) (p : Printing) → p .coming ≡ Over → All n s p []
 nothing zero s p e = record { whole = refl; then = e }
 nothing (suc n) s p e =
-    let a : after s p ≡ over p = ap (λ (x : Phase). nextBy x (left s p) p) e in
+    let a : after s p ≡ over p = ap (λ (x : Coming). nextBy x (left s p) p) e in
     let ih = nothing n s (over p) refl in
     record {
-      whole = ap (λ (x : Phase). pieceBy x (left s p) (p .shown) ++ turns n s (after s p)) e ∙ ap (turns n s) a ∙ ih .whole;
-      then = ap (λ (q : Printing). afterAll n s q .phase) a ∙ ih .then;
+      whole = ap (λ (x : Coming). pieceBy x (left s p) (p .shown) ++ turns n s (after s p)) e ∙ ap (turns n s) a ∙ ih .whole;
+      then = ap (λ (q : Printing). afterAll n s q .coming) a ∙ ih .then;
     }
 
 -- the groups in turn, then the last line
@@ -84,14 +84,14 @@ in-groups (suc n) s from end shown [] e h =
     let ih = nothing n s (over p) refl in
     record {
       whole = ap (λ (x : List (List (List ℕ))). pieceBy Groups x shown ++ turns n s (nextBy Groups x p)) e ∙ ap (λ (l : List ℕ). endText ++ l) (ih .whole);
-      then = ap (λ (x : List (List (List ℕ))). afterAll n s (nextBy Groups x p) .phase) e ∙ ih .then;
+      then = ap (λ (x : List (List (List ℕ))). afterAll n s (nextBy Groups x p) .coming) e ∙ ih .then;
     }
 in-groups (suc n) s from end shown (g ∷ gs) e h =
     let p = to from end shown in
     let ih = in-groups n s (from + size g) end (shownBy (getD g 0 []) shown) gs (others s from end g gs e) (omega arith) in
     record {
       whole = ap (λ (x : List (List (List ℕ))). pieceBy Groups x shown ++ turns n s (nextBy Groups x p)) e ∙ ap (λ (l : List ℕ). groupText shown g ++ l) (ih .whole);
-      then = ap (λ (x : List (List (List ℕ))). afterAll n s (nextBy Groups x p) .phase) e ∙ ih .then;
+      then = ap (λ (x : List (List (List ℕ))). afterAll n s (nextBy Groups x p) .coming) e ∙ ih .then;
     }
 
 -- ---- a deck has no more groups than bytes
@@ -120,7 +120,7 @@ all-printed s n h = by (deckEnd s) refl
         refused : (n : ℕ) → length s < n → All n s (beginBy (Ends.Refused refusal)) (refusedText refusal)
         refused zero k = absurd (omega arith)
         refused (suc n) k =
-            let ih = nothing n s (record { phase = Over; from = 0; end = 0; shown = bytes "------" }) refl in
+            let ih = nothing n s (record { coming = Over; from = 0; end = 0; shown = bytes "------" }) refl in
             record {
               whole = ap (λ (l : List ℕ). refusedText refusal ++ l) (ih .whole) ∙ append-nil (refusedText refusal);
               then = ih .then;

@@ -8,6 +8,7 @@ use lib.ListN.{getD, take, drop}
 use Rattle.numbers.specs.Quoted.{byte, bytes}
 use Rattle.numbers.specs.Refusals.{numberOf}
 use Rattle.numbers.specs.declared.Refusal.{Refusal}
+use Rattle.numbers.specs.Limits.{cardsRoom, pmLength}
 use Rattle.text.specs.Room.{Whole}
 use Rattle.text.specs.Writing.{decimalText}
 use Rattle.words.specs.Lines.{lineText, size}
@@ -21,12 +22,12 @@ use Rattle.cards_table.specs.Table.{place, tableSize}
 use Rattle.cards_full.specs.Full.{textOf, writeAnswer}
 use Rattle.cards_full.specs.declared.Wrote.{Wrote}
 use Rattle.cards_full.specs.declared.Wrote.the-variants as Written
-use Rattle.cards_request.specs.declared.Verdict.{Verdict}
-use Rattle.cards_request.specs.declared.Verdict.the-variants.{Good, Wrong}
+use Rattle.cards_request.specs.declared.CardVerdict.{CardVerdict}
+use Rattle.cards_request.specs.declared.CardVerdict.the-variants.{Good, Wrong}
 use Rattle.cards_request.specs.declared.Further.{Further}
 use Rattle.cards_request.specs.declared.FullRequest.{FullRequest}
-use Rattle.cards_report.specs.declared.Phase.{Phase}
-use Rattle.cards_report.specs.declared.Phase.the-variants.{Groups, Refused, Over}
+use Rattle.cards_report.specs.declared.Coming.{Coming}
+use Rattle.cards_report.specs.declared.Coming.the-variants.{Groups, Refused, Over}
 use Rattle.cards_report.specs.declared.Printing.{Printing}
 use Rattle.cards_report.specs.declared.Printed.{Printed}
 
@@ -38,14 +39,14 @@ placesFrom f i (suc n) = place f i ∷ placesFrom f (suc i) n
 -- "lines, each `=` and 66 characters of the table, digit 0 first": n of them, from digit d on
 abbrev pub rowLines : Further → ℕ → ℕ → List ℕ
 rowLines f d zero = []
-rowLines f d (suc n) = lineText (byte "=" ∷ placesFrom f (66 * d) 66) ++ rowLines f (suc d) n
+rowLines f d (suc n) = lineText (byte "=" ∷ placesFrom f (pmLength * d) pmLength) ++ rowLines f (suc d) n
 
 -- "good, with PM cards: behind them the line `PMT n`, n = 66(N+1) the number of characters in its parameter table, and
 -- N+1 lines"
 unfoldable pub tableText : Further → List ℕ
 tableText f =
     cond (eqb (tableSize f) 0) []
-    (bytes "PMT " ++ (decimalText (tableSize f) ++ (bytes "\n" ++ rowLines f 0 (tableSize f / 66))))
+    (bytes "PMT " ++ (decimalText (tableSize f) ++ (bytes "\n" ++ rowLines f 0 (tableSize f / pmLength))))
 
 -- "good, but not to be written: `SP id NO 12`"
 abbrev pub refusalLine : List ℕ → Refusal → List ℕ
@@ -56,12 +57,8 @@ abbrev pub goodText : Wrote → FullRequest → List ℕ → List ℕ
 goodText (Written.Cards n) v shown = textOf v ++ tableText (v .further)
 goodText (Written.Refused refusal) v shown = refusalLine shown refusal
 
--- how many bytes the cards of a request take at most: sixteen of 80 characters and an LF
-abbrev pub cardsRoom : ℕ
-cardsRoom = 1296
-
 -- "with a card error: `SP id ER n`, as the deck program prints it"
-abbrev pub textBy : Verdict → FullRequest → List ℕ → List ℕ
+abbrev pub textBy : CardVerdict → FullRequest → List ℕ → List ℕ
 textBy Good v shown = goodText (writeAnswer v cardsRoom) v shown
 textBy (Wrong e) v shown = errorLine shown e
 
@@ -88,8 +85,8 @@ cardsText s = cardsBy (deckEnd s) s
 
 -- PIECE BY PIECE: before the first, the whole deck is to come
 abbrev pub beginBy : DeckEnd → Printing
-beginBy (Ends.At n) = record { phase = Groups; from = 0; end = n; shown = bytes "------" }
-beginBy (Ends.Refused refusal) = record { phase = Refused refusal; from = 0; end = 0; shown = bytes "------" }
+beginBy (Ends.At n) = record { coming = Groups; from = 0; end = n; shown = bytes "------" }
+beginBy (Ends.Refused refusal) = record { coming = Refused refusal; from = 0; end = 0; shown = bytes "------" }
 
 abbrev pub begin : List ℕ → Printing
 begin s = beginBy (deckEnd s)
@@ -99,28 +96,28 @@ abbrev pub left : List ℕ → Printing → List (List (List ℕ))
 left s p = groupsOf (cardsOf (take (p .end - p .from) (drop (p .from) s)))
 
 -- the next piece is one group's, or the last line, or that of a refused deck
-abbrev pub pieceBy : Phase → List (List (List ℕ)) → List ℕ → List ℕ
+abbrev pub pieceBy : Coming → List (List (List ℕ)) → List ℕ → List ℕ
 pieceBy Groups [] shown = endText
 pieceBy Groups (g ∷ gs) shown = groupText shown g
 pieceBy (Refused refusal) gs shown = refusedText refusal
 pieceBy Over gs shown = []
 
 abbrev pub piece : List ℕ → Printing → List ℕ
-piece s p = pieceBy (p .phase) (left s p) (p .shown)
+piece s p = pieceBy (p .coming) (left s p) (p .shown)
 
 -- nothing more is to come
 abbrev pub over : Printing → Printing
-over p = record { phase = Over; from = p .from; end = p .end; shown = p .shown }
+over p = record { coming = Over; from = p .from; end = p .end; shown = p .shown }
 
 -- what is to come behind it
-abbrev pub nextBy : Phase → List (List (List ℕ)) → Printing → Printing
+abbrev pub nextBy : Coming → List (List (List ℕ)) → Printing → Printing
 nextBy Groups [] p = over p
-nextBy Groups (g ∷ gs) p = record { phase = Groups; from = p .from + size g; end = p .end; shown = shownBy (getD g 0 []) (p .shown) }
+nextBy Groups (g ∷ gs) p = record { coming = Groups; from = p .from + size g; end = p .end; shown = shownBy (getD g 0 []) (p .shown) }
 nextBy (Refused refusal) gs p = over p
 nextBy Over gs p = over p
 
 abbrev pub after : List ℕ → Printing → Printing
-after s p = nextBy (p .phase) (left s p) p
+after s p = nextBy (p .coming) (left s p) p
 
 -- so many pieces, one behind the other
 abbrev pub turns : ℕ → List ℕ → Printing → List ℕ

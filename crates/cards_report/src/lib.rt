@@ -1,13 +1,14 @@
-// What the cards program prints, piece by piece in lent room: a piece is the text of one group, so that a room of 2,048
-// bytes holds each, however long the whole is.
+// What the cards program prints, piece by piece in lent room: a piece is the text of one group, so that a small room
+// holds each, however long the whole is.
 use cards_fields::DeckEnd;
 use cards_fields::deck;
 use cards_fields::parts;
 use cards_full::Wrote;
+use cards_request::CardVerdict;
 use cards_request::FullRequest;
 use cards_request::Further;
-use cards_request::Verdict;
 use numbers::Refusal;
+use numbers::limits;
 ghost use mathlib.Core.Path.{_≡_};
 ghost use Prim.Native.Nat.{_-_};
 ghost use lib.ListN.{take, drop};
@@ -19,8 +20,11 @@ ghost use Rattle.cards_report.specs.Cards.{tableText, refusalLine, textB
 // How many turns print whatever a buffer of 65,536 bytes holds: a group has a byte at least, and one turn more ends it.
 pub const TURNS: usize = 65537;
 
+// How many bytes hold each piece: a request's cards, the line before its table and that table's lines.
+pub const ROOM: usize = 2048;
+
 // What is to come: groups, the line of a refused deck, or nothing.
-pub enum Phase {
+pub enum Coming {
     Groups,
     Refused(Refusal),
     Over,
@@ -29,7 +33,7 @@ pub enum Phase {
 // How far a deck is printed: the groups from `from` up to `end` are to come, and `shown` is the ID that an error line
 // shows.
 pub struct Printing {
-    pub phase: Phase,
+    pub coming: Coming,
     pub from: usize,
     pub end: usize,
     pub shown: [u8; 6],
@@ -45,7 +49,7 @@ pub struct Printed {
 fn put_table(out: &mut [u8], at: usize, further: Further) -> usize
     ensures { λ r. ⌜ Written (now (out .entry)) at (tableText further) (now (out .exit)) r ⌝ }
 {
-    let mut table = [b' '; cards_table::MOST];
+    let mut table = [b' '; limits::TABLE_LENGTH];
     let n = cards_table::put_table(&mut table, further);
     if n == 0 {
         return at;
@@ -56,9 +60,9 @@ fn put_table(out: &mut [u8], at: usize, further: Further) -> usize
     let mut from: usize = 0;
     while from < n {
         let mark = text::put_byte(out, next, b'=');
-        let row = text::put_bytes(out, mark, &table[from..from + 66]);
+        let row = text::put_bytes(out, mark, &table[from..from + limits::PM_LENGTH]);
         next = text::put_byte(out, row, b'\n');
-        from += 66;
+        from += limits::PM_LENGTH;
     }
     next
 }
@@ -76,10 +80,9 @@ fn put_refusal(out: &mut [u8], at: usize, id: [u8; 6], refusal: Refusal) -> usiz
 
 // Puts a request's cards and its table.
 fn put_good(out: &mut [u8], at: usize, shown: [u8; 6], full: FullRequest) -> usize
-    ensures { λ r. ⌜ Written (now (out .entry)) at (textBy Verdict.Good full shown) (now (out .exit)) r ⌝ }
+    ensures { λ r. ⌜ Written (now (out .entry)) at (textBy CardVerdict.Good full shown) (now (out .exit)) r ⌝ }
 {
-    // sixteen cards of 80 characters and LF
-    let mut room = [0u8; 1296];
+    let mut room = [0u8; limits::CARDS_ROOM];
     match cards_full::write(&mut room, full) {
         Wrote::Cards(n) => {
             let next = text::put_bytes(out, at, &room[..n]);
@@ -96,8 +99,8 @@ fn put_group(out: &mut [u8], at: usize, shown: [u8; 6], group: &[u8]) -> usize
     let reading = cards_group::read_full(group);
     let verdict = reading.verdict;
     match verdict {
-        Verdict::Good => put_good(out, at, shown, reading.full),
-        Verdict::Wrong(e) => cards_lines::put_error(out, at, shown, e),
+        CardVerdict::Good => put_good(out, at, shown, reading.full),
+        CardVerdict::Wrong(e) => cards_lines::put_error(out, at, shown, e),
     }
 }
 
@@ -107,7 +110,7 @@ fn over(p: Printing) -> Printing
 {
     let shown = p.shown;
     Printing {
-        phase: Phase::Over,
+        coming: Coming::Over,
         from: p.from,
         end: p.end,
         shown,
@@ -121,13 +124,13 @@ pub fn begin(deck: &[u8]) -> Printing
     let end = deck::deck_end(deck);
     match end {
         DeckEnd::At(n) => Printing {
-            phase: Phase::Groups,
+            coming: Coming::Groups,
             from: 0,
             end: n,
             shown: *b"------",
         },
         DeckEnd::Refused(refusal) => Printing {
-            phase: Phase::Refused(refusal),
+            coming: Coming::Refused(refusal),
             from: 0,
             end: 0,
             shown: *b"------",
@@ -154,8 +157,8 @@ fn rest(deck: &[u8], p: Printing) -> &[u8]
 }
 
 // Puts the next group, or the last line where there is none.
-fn put_next(out: &mut [u8; 2048], deck: &[u8], p: Printing) -> Printed
-    requires { ⌜ p .phase ≡ Phase.Groups ⌝ }
+fn put_next(out: &mut [u8; ROOM], deck: &[u8], p: Printing) -> Printed
+    requires { ⌜ p .coming ≡ Coming.Groups ⌝ }
     ensures { λ r. ⌜ Prints (now (deck .entry)) p (now (out .entry)) (now (out .exit)) r ⌝ }
 {
     let group = deck::first_group(rest(deck, p));
@@ -169,7 +172,7 @@ fn put_next(out: &mut [u8; 2048], deck: &[u8], p: Printing) -> Printed
     let shown = cards_lines::shown_by(deck::card_at(group, 0), before);
     let at = put_group(out, 0, shown, group);
     let printing = Printing {
-        phase: Phase::Groups,
+        coming: Coming::Groups,
         from: p.from + n,
         end: p.end,
         shown,
@@ -178,18 +181,18 @@ fn put_next(out: &mut [u8; 2048], deck: &[u8], p: Printing) -> Printed
 }
 
 // Puts the next piece into lent room, which holds each, and answers how long it is and what is to come behind it.
-pub fn next(deck: &[u8], printing: Printing, out: &mut [u8; 2048]) -> Printed
+pub fn next(deck: &[u8], printing: Printing, out: &mut [u8; ROOM]) -> Printed
     ensures { λ r. ⌜ Prints (now (deck .entry)) printing (now (out .entry)) (now (out .exit)) r ⌝ }
 {
-    let phase = printing.phase;
-    match phase {
-        Phase::Groups => put_next(out, deck, printing),
-        Phase::Refused(refusal) => {
+    let coming = printing.coming;
+    match coming {
+        Coming::Groups => put_next(out, deck, printing),
+        Coming::Refused(refusal) => {
             let at = cards_lines::put_refused(out, 0, refusal);
             let last = over(printing);
             Printed { at, printing: last }
         }
-        Phase::Over => {
+        Coming::Over => {
             let last = over(printing);
             Printed {
                 at: 0,

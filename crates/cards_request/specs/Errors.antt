@@ -34,8 +34,8 @@ use Rattle.cards_request.specs.declared.CardError.the-variants.{
   SameSequence,
   ScheduleFull,
 }
-use Rattle.cards_request.specs.declared.Verdict.{Verdict}
-use Rattle.cards_request.specs.declared.Verdict.the-variants.{Good, Wrong}
+use Rattle.cards_request.specs.declared.CardVerdict.{CardVerdict}
+use Rattle.cards_request.specs.declared.CardVerdict.the-variants.{Good, Wrong}
 
 abbrev pub errorNumber : CardError → ℕ
 -- the group's first card isn't PTY
@@ -98,20 +98,20 @@ errorNumber SameSequence = 90
 errorNumber ScheduleFull = 91
 
 -- nothing is wrong
-abbrev pub good : Verdict → Bool
+abbrev pub good : CardVerdict → Bool
 good Good = true
 good (Wrong e) = false
 
 -- an error where a test holds
-abbrev pub errorIf : Bool → CardError → Verdict
+abbrev pub errorIf : Bool → CardError → CardVerdict
 errorIf b e = cond b (Wrong e) Good
 
 -- "the first answering" of two
-abbrev pub orElse : Verdict → Verdict → Verdict
+abbrev pub orElse : CardVerdict → CardVerdict → CardVerdict
 orElse Good v = v
 orElse (Wrong e) v = Wrong e
 
 -- "the first answering" of a list
-abbrev pub firstOf : List Verdict → Verdict
+abbrev pub firstOf : List CardVerdict → CardVerdict
 firstOf [] = Good
 firstOf (v ∷ vs) = orElse v (firstOf vs)

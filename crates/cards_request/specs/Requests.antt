@@ -5,6 +5,7 @@ use mathlib.Core.List.{List, [], _∷_}
 use lib.ListN.{replicate, take}
 use Rattle.numbers.specs.Kinds.{unitKinds}
 use Rattle.numbers.specs.Quoted.{byte}
+use Rattle.numbers.specs.Limits.{mostFurther, textLength}
 use Rattle.cards_request.specs.declared.Facilities.{Facilities}
 use Rattle.cards_request.specs.declared.Request.{Request}
 use Rattle.cards_request.specs.declared.FurtherCard.{FurtherCard}
@@ -45,11 +46,11 @@ noRequest = record {
 
 -- the blank card
 abbrev pub noCard : FurtherCard
-noCard = record { text = replicate 78 (byte " "); len = 0 }
+noCard = record { text = replicate textLength (byte " "); len = 0 }
 
 -- no further cards
 abbrev pub noFurther : Further
-noFurther = record { cards = replicate 14 noCard; count = 0 }
+noFurther = record { cards = replicate mostFurther noCard; count = 0 }
 
 -- neither
 abbrev pub noFullRequest : FullRequest

@@ -1,4 +1,5 @@
 // What all cards share: the request, its further cards, the card errors and their numbers, and the request for nothing.
+use numbers::limits;
 ghost use mathlib.Core.Path.{_≡_};
 ghost use Rattle.cards_request.specs.Errors.{errorNumber, good};
 ghost use Rattle.cards_request.specs.Requests.{noFacilities, noRequest, noCard, noFurther};
@@ -38,7 +39,7 @@ pub enum CardError {
 }
 
 // Nothing wrong, or what is.
-pub enum Verdict {
+pub enum CardVerdict {
     Good,
     Wrong(CardError),
 }
@@ -76,23 +77,16 @@ pub struct Request {
     pub facilities: Facilities,
 }
 
-// How many characters a further card has at most from its type on: a card has 80, and before the type stand an ID, of one
-// character at least, and a comma.
-pub const TEXT: usize = 78;
-
-// How many further cards a request has at most: 16 cards, less PTY and FAC.
-pub const FURTHER: usize = 14;
-
 // A further card in one form: its text from the type on, blanks behind it, and how long the text is. Spaces are dropped
 // but in PM text, numbers have no leading zeros, and the ID is said once, in the request.
 pub struct FurtherCard {
-    pub text: [u8; TEXT],
+    pub text: [u8; limits::TEXT_LENGTH],
     pub len: usize,
 }
 
 // A request's further cards in the order read, blank ones behind them, and how many they are.
 pub struct Further {
-    pub cards: [FurtherCard; FURTHER],
+    pub cards: [FurtherCard; limits::MOST_FURTHER],
     pub count: usize,
 }
 
@@ -140,12 +134,12 @@ pub fn number_of(error: CardError) -> u8
 }
 
 // Whether nothing is wrong.
-pub fn is_good(verdict: Verdict) -> bool
+pub fn is_good(verdict: CardVerdict) -> bool
     ensures { λ r. ⌜ r ≡ good verdict ⌝ }
 {
     match verdict {
-        Verdict::Good => true,
-        Verdict::Wrong(_) => false,
+        CardVerdict::Good => true,
+        CardVerdict::Wrong(_) => false,
     }
 }
 
@@ -190,7 +184,7 @@ pub fn no_card() -> FurtherCard
     ensures { λ r. ⌜ r ≡ noCard ⌝ }
 {
     FurtherCard {
-        text: [b' '; TEXT],
+        text: [b' '; limits::TEXT_LENGTH],
         len: 0,
     }
 }
@@ -200,7 +194,7 @@ pub fn no_further() -> Further
     ensures { λ r. ⌜ r ≡ noFurther ⌝ }
 {
     Further {
-        cards: [no_card(); FURTHER],
+        cards: [no_card(); limits::MOST_FURTHER],
         count: 0,
     }
 }

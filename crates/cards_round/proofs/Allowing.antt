@@ -10,6 +10,7 @@ use lib.ListN.{length, getD}
 use borrow.Author.Tests.{eq-eqb, eqb-true, eqb-false, ne-eqb, lt-ltb, le-ltb, ltb-true, ltb-false}
 use Rattle.numbers.specs.Quoted.{bytes}
 use Rattle.numbers.proofs.Tests.{by-bool, never, both}
+use Rattle.numbers.specs.Limits.{mostBlocks}
 use Rattle.text.specs.Class.{isAlnum, isDigit, isLetter}
 use Rattle.text.specs.Writing.{decimalText}
 use Rattle.words.specs.Words.{every, has, passes}
@@ -20,7 +21,7 @@ use Rattle.cards_request.specs.Errors.{errorIf, good}
 use Rattle.cards_request.proofs.ErrorLaws.{not-error, or-else-none}
 use Rattle.cards_request.specs.declared.CardError.the-variants.{NoIb, TooMuchCore}
 use Rattle.cards_request.specs.declared.Request.{Request}
-use Rattle.cards_request.specs.declared.Verdict.the-variants.{Good}
+use Rattle.cards_request.specs.declared.CardVerdict.the-variants.{Good}
 use Rattle.cards_pty.specs.Pty.{fieldError, fieldsError, lastOfAll, oneOf, programName, ruleAt, rules}
 use Rattle.cards_pty.specs.declared.Priority.{Priority}
 use Rattle.cards_pty.proofs.PtyLaws.{good-field, right, right-at}
@@ -140,7 +141,7 @@ module _ (n : ℕ) (few : n ≤ 99) (r : Request) (a : Allowed r) where
   allowed-taken =
       let f = r .facilities in
       let core : coreError (asksOf f) ≡ Good =
-      rw (le-ltb 28 (f .ib + f .db) (a .core), ne-eqb (f .ib) 0 (λ e. omega (arith, a .ib))) in
+      rw (le-ltb mostBlocks (f .ib + f .db) (a .core), ne-eqb (f .ib) 0 (λ e. omega (arith, a .ib))) in
       let m : numbersFit 0 (asksOf f) ≡ true =
       rw (
         lt-ltb (f .ib) 100 (omega (arith, a .core)),
@@ -205,11 +206,11 @@ module _ (n : ℕ) (r : Request) (t : Taken n r) where
       let c = both (ltb (f .md) 1000000) (numbersFit 3 (f .units)) b in
       (ltb-true (f .md) 1000000 (c .0), c .1)
 
-  core-of : (r .facilities .ib + r .facilities .db ≤ 28) × (eqb (r .facilities .ib) 0 ≡ false)
+  core-of : (r .facilities .ib + r .facilities .db ≤ mostBlocks) × (eqb (r .facilities .ib) 0 ≡ false)
   core-of =
       let f = r .facilities in
-      let a = or-else-none (errorIf (ltb 28 (f .ib + f .db)) TooMuchCore) (errorIf (eqb (f .ib) 0) NoIb) (t .core) in
-      (ltb-false 28 (f .ib + f .db) (not-error (ltb 28 (f .ib + f .db)) TooMuchCore (a .0)), not-error (eqb (f .ib) 0) NoIb (a .1))
+      let a = or-else-none (errorIf (ltb mostBlocks (f .ib + f .db)) TooMuchCore) (errorIf (eqb (f .ib) 0) NoIb) (t .core) in
+      (ltb-false mostBlocks (f .ib + f .db) (not-error (ltb mostBlocks (f .ib + f .db)) TooMuchCore (a .0)), not-error (eqb (f .ib) 0) NoIb (a .1))
 
   is-allowed : Allowed r
   unfolding ptyFields rules

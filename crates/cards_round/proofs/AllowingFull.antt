@@ -7,6 +7,7 @@ use native.Mathlib.Omega.{arith}
 use lib.ListN.{length}
 use Rattle.numbers.specs.declared.Refusal.the-variants.{NoRoom, WrongRequest}
 use Rattle.numbers.proofs.Tests.{both, by-bool}
+use Rattle.numbers.specs.Limits.{mostFurther}
 use Rattle.cards_request.specs.declared.Further.{Further}
 use Rattle.cards_request.specs.declared.FullRequest.{FullRequest}
 use Rattle.cards_further.specs.Further.{held}
@@ -18,9 +19,9 @@ use Rattle.cards_round.proofs.Taking.{further-allowed, further-taken}
 use Rattle.cards_round.proofs.Allowing.{allowed-taken, taken-allowed}
 
 -- at most 14 further cards
-few : (f : Further) → AllowedFurther f → f .count ≤ 14
+few : (f : Further) → AllowedFurther f → f .count ≤ mostFurther
 unfolding held
-few f a = let e : f .count ≡ min (length (textsOf (a .cards))) 14 = ap (λ (x : Further). x .count) (a .is) in omega arith
+few f a = let e : f .count ≡ min (length (textsOf (a .cards))) mostFurther = ap (λ (x : Further). x .count) (a .is) in omega arith
 
 -- NO RULE REFUSES IT
 pub full-taken : (v : FullRequest) → AllowedFull v → takesFull v ≡ true

@@ -11,6 +11,8 @@ use lib.ListN.{length, getD, drop, take, length-append}
 use borrow.Author.Tests.{le-leb, ltb-true, ltb-false, not-false}
 use Rattle.numbers.specs.Quoted.{bytes}
 use Rattle.numbers.proofs.Tests.{by-bool, never, both}
+use Rattle.numbers.specs.Elements.{any}
+use Rattle.numbers.specs.Limits.{cardLength, mostCards, mostFurther, cardsRoom}
 use Rattle.words.specs.Words.{same, value}
 use Rattle.words.proofs.WordLaws.{same-equal}
 use Rattle.cards_fields.specs.Deck.{cardsOf}
@@ -22,12 +24,11 @@ use Rattle.cards_request.specs.declared.CardError.the-variants.{FacMalformed, N
 use Rattle.cards_request.specs.declared.Request.{Request}
 use Rattle.cards_request.specs.declared.Further.{Further}
 use Rattle.cards_request.specs.declared.FullRequest.{FullRequest}
-use Rattle.cards_request.specs.declared.Verdict.{Verdict}
-use Rattle.cards_request.specs.declared.Verdict.the-variants.{Good}
+use Rattle.cards_request.specs.declared.CardVerdict.{CardVerdict}
+use Rattle.cards_request.specs.declared.CardVerdict.the-variants.{Good}
 use Rattle.cards_pty.specs.Pty.{rules, ruleAt, ptyError}
 use Rattle.cards_pty.proofs.PtyLaws.{right-at, good-field, fields-good}
 use Rattle.cards_fac.specs.Fac.{nothing, entriesError, coreError, isFac, entriesOf, asked, facError}
-use Rattle.cards_further.specs.Together.{any}
 use Rattle.cards_further.specs.Further.{typesError, togetherError, contentsError, canonical, canonicals, held}
 use Rattle.cards_group.specs.Group.{wrongCount, otherId, orderedError, requestOf, answer, fullAnswer, readCards, readFull}
 use Rattle.cards_group.specs.declared.FullReading.{FullReading}
@@ -65,7 +66,7 @@ further-shorter pty id h (c ∷ cs) r i =
     let q = neither (otherId pty c) (any (otherId pty) cs) i in
     let rest = further-shorter pty id h cs (r .1) (q .1) in
     let l : length (id ++ (44 ∷ canonical c)) ≤ length c = omega (arith, length-append id (44 ∷ canonical c), r .0 .0, same-id pty c (q .0)) in
-    ((l, rest .0), rw (le-leb (length (id ++ (44 ∷ canonical c))) 80 (omega (arith, r .0 .1))) (rest .1))
+    ((l, rest .0), rw (le-leb (length (id ++ (44 ∷ canonical c))) cardLength (omega (arith, r .0 .1))) (rest .1))
 
 canonicals-many : (cs : List (List ℕ)) → length (canonicals cs) ≡ length cs
 canonicals-many [] = refl
@@ -79,7 +80,7 @@ record Again (group : List (List ℕ)) (v : FullRequest) : Type 0 where
   pub first : length (getD (cardsIn v) 0 []) ≤ 64
   pub others : NoLonger (drop 1 (cardsIn v)) (drop 1 group)
   pub small : short (cardsIn v) ≡ true
-  pub many : length (cardsIn v) ≤ 16
+  pub many : length (cardsIn v) ≤ mostCards
   pub divided : drop 2 (cardsIn v) ≡ behindId (spaceless (v .request .id)) (canonicals (drop 2 group))
 
 taken-request : (v : FullRequest) → takesFull v ≡ true → takes (cardCount v) (v .request) ≡ true
@@ -93,14 +94,14 @@ module _ (n : ℕ) (pty fac : List ℕ) (further : List (List ℕ)) (e : ordered
       let b = or-else-none (orderError pty fac further) (orElse (facError fac) (contentsError false further)) (a .1) in
       (a .0, (b .0, or-else-none (facError fac) (contentsError false further) (b .1)))
 
-  front-tests : (ptyError pty ≡ Good) × ((n ≤ 16) × (isFac fac ≡ true))
+  front-tests : (ptyError pty ≡ Good) × ((n ≤ mostCards) × (isFac fac ≡ true))
   front-tests =
       let last = orElse (errorIf (not (isFac fac)) NoFac) Good in
       let a = or-else-none (ptyError pty) (orElse (errorIf (wrongCount n pty) WrongCount) last) (steps .0) in
       let b = or-else-none (errorIf (wrongCount n pty) WrongCount) last (a .1) in
       let c = or-else-none (errorIf (not (isFac fac)) NoFac) Good (b .1) in
-      let w = neither (ltb 16 n) (not (eqb (value (field pty 2)) n)) (not-error (wrongCount n pty) WrongCount (b .0)) in
-      (a .0, (ltb-false 16 n (w .0), not-false (isFac fac) (not-error (not (isFac fac)) NoFac (c .0))))
+      let w = neither (ltb mostCards n) (not (eqb (value (field pty 2)) n)) (not-error (wrongCount n pty) WrongCount (b .0)) in
+      (a .0, (ltb-false mostCards n (w .0), not-false (isFac fac) (not-error (not (isFac fac)) NoFac (c .0))))
 
   order-tests : (typesError further ≡ Good) × ((otherId pty fac ≡ false) × ((any (otherId pty) further ≡ false) × (togetherError further ≡ Good)))
   order-tests =
@@ -140,10 +141,10 @@ module _ (n : ℕ) (pty fac : List ℕ) (further : List (List ℕ)) (e : ordered
       (sym (asks-held (asked fac) (fit-all nothing (entriesOf fac) refl (entries-good .1))))
       (fac-short id fac (entries-good .0) (front-tests .1 .1) (omega (arith, name-short 6 (field pty 0), same-id pty fac (order-tests .1 .0))) (entries-good .1))
 
-  fac-few : length fac ≤ 80
-  fac-few = by-bool (ltb 80 (length fac)) (λ t. never (too-long fac (ltb-true 80 (length fac) t)) (entries-good .0)) (λ t. ltb-false 80 (length fac) t)
+  fac-few : length fac ≤ cardLength
+  fac-few = by-bool (ltb cardLength (length fac)) (λ t. never (too-long fac (ltb-true cardLength (length fac) t)) (entries-good .0)) (λ t. ltb-false cardLength (length fac) t)
 
-  module _ (few : length further ≤ 14) where
+  module _ (few : length further ≤ mostFurther) where
     count-few : cardCount v ≤ 99
     unfolding held
     count-few = omega arith
@@ -174,20 +175,20 @@ module _ (n : ℕ) (pty fac : List ℕ) (further : List (List ℕ)) (e : ordered
       small =
           ap short cards-are
           ∙ rw (
-            le-leb (length (ptyText (cardCount v) (v .request))) 80 (omega (arith, pty-few)),
-            le-leb (length (facText (v .request))) 80 (omega (arith, fac-no-longer, fac-few)),
+            le-leb (length (ptyText (cardCount v) (v .request))) cardLength (omega (arith, pty-few)),
+            le-leb (length (facText (v .request))) cardLength (omega (arith, fac-no-longer, fac-few)),
             others .1,
           );
       divided = ap (λ (cs : List (List ℕ)). drop 2 cs) cards-are;
-      many = subst (λ (cs : List (List ℕ)). length cs ≤ 16) (sym cards-are) (omega (arith, behind-many id (canonicals further), canonicals-many further));
+      many = subst (λ (cs : List (List ℕ)). length cs ≤ mostCards) (sym cards-are) (omega (arith, behind-many id (canonicals further), canonicals-many further));
     }
 
 -- ---- what was read
 
-full-answered : (w : Verdict) (q : Request) (f : Further) (v : FullRequest) → fullAnswer (answer w q .verdict) (answer w q .request) f ≡ record { verdict = Good; full = v }
+full-answered : (w : CardVerdict) (q : Request) (f : Further) (v : FullRequest) → fullAnswer (answer w q .verdict) (answer w q .request) f ≡ record { verdict = Good; full = v }
     → (w ≡ Good) × _≡_ {A = FullRequest} (record { request = q; further = f }) v
 full-answered Good q f v e = (refl, ap (λ (x : FullReading). x .full) e)
-full-answered (Verdict.Wrong x) q f v e = not-good (ap (λ (y : FullReading). y .verdict) e)
+full-answered (CardVerdict.Wrong x) q f v e = not-good (ap (λ (y : FullReading). y .verdict) e)
 
 -- a group that reads as a request has no error, and the request is what its cards say
 pub answered : (group : List (List ℕ)) (v : FullRequest) → readFull group ≡ record { verdict = Good; full = v }
@@ -214,14 +215,14 @@ pub read-takes : (group : List (List ℕ)) (v : FullRequest) → readFull group 
 read-takes group v e = again group v e .takes
 
 -- NOR 12 where the room has 1,296 bytes
-pub read-fits : (group : List (List ℕ)) (v : FullRequest) (room : ℕ) → readFull group ≡ record { verdict = Good; full = v } → 1296 ≤ room → fits v room ≡ true
+pub read-fits : (group : List (List ℕ)) (v : FullRequest) (room : ℕ) → readFull group ≡ record { verdict = Good; full = v } → cardsRoom ≤ room → fits v room ≡ true
 unfolding fits
 read-fits group v room e h =
     let a = again group v e in
     rw (a .small, le-leb (length (textOf v)) room (omega (arith, lines-few (cardsIn v) (a .small), a .many)))
 
 -- EVERY REQUEST READ FROM CARDS IS WRITTEN, and read back as itself
-pub always-written : (group : List (List ℕ)) (v : FullRequest) (room : List ℕ) → readFull group ≡ record { verdict = Good; full = v } → 1296 ≤ length room
+pub always-written : (group : List (List ℕ)) (v : FullRequest) (room : List ℕ) → readFull group ≡ record { verdict = Good; full = v } → cardsRoom ≤ length room
     → (writeAnswer v (length room) ≡ Cards (length (textOf v)))
     × (readFull (cardsOf (take (length (textOf v)) (written v room))) ≡ record { verdict = Good; full = v })
 always-written group v room e h = room-read v room (read-takes group v e) (read-fits group v (length room) e h)

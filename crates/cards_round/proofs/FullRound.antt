@@ -10,6 +10,8 @@ use lib.ListN.{length, take, drop}
 use lib.Seq.{take-append-seam}
 use borrow.Author.Tests.{leb-true, le-ltb, eq-eqb}
 use Rattle.numbers.proofs.Tests.{both}
+use Rattle.numbers.specs.Elements.{any}
+use Rattle.numbers.specs.Limits.{cardLength, mostCards, mostFurther}
 use Rattle.words.specs.Words.{value}
 use Rattle.cards_fields.specs.Deck.{cardsOf}
 use Rattle.cards_fields.specs.Fields.{field, spaceless}
@@ -17,9 +19,8 @@ use Rattle.cards_request.specs.Requests.{texts}
 use Rattle.cards_request.specs.declared.Request.{Request}
 use Rattle.cards_request.specs.declared.Further.{Further}
 use Rattle.cards_request.specs.declared.FullRequest.{FullRequest}
-use Rattle.cards_request.specs.declared.Verdict.the-variants.{Good}
+use Rattle.cards_request.specs.declared.CardVerdict.the-variants.{Good}
 use Rattle.cards_fac.specs.Fac.{asked}
-use Rattle.cards_further.specs.Together.{any}
 use Rattle.cards_further.specs.Further.{canonicals, held}
 use Rattle.cards_group.specs.Group.{otherId, orderedError, requestOf, readCards, readFull}
 use Rattle.cards_group.proofs.GroupLaws.{frontError, orderError, in-steps}
@@ -72,7 +73,7 @@ module _ (v : FullRequest) (t : takesFull v ≡ true) where
   count-of : v .further .count ≡ length (textsOf ms)
   unfolding held
   count-of =
-      let a : v .further .count ≡ min (length (textsOf ms)) 14 = ap (λ (f : Further). f .count) (allowed .is) in
+      let a : v .further .count ≡ min (length (textsOf ms)) mostFurther = ap (λ (f : Further). f .count) (allowed .is) in
       omega (arith, texts-many ms, allowed .kept .few)
 
   abbrev further : List (List ℕ)
@@ -92,12 +93,12 @@ module _ (v : FullRequest) (t : takesFull v ≡ true) where
       ∙ sym cards-are
 
   module _ (s : short (cardsIn v) ≡ true) where
-    sizes : (length (ptyText n r) ≤ 80) × ((length (facText r) ≤ 80) × (short further ≡ true))
+    sizes : (length (ptyText n r) ≤ cardLength) × ((length (facText r) ≤ cardLength) × (short further ≡ true))
     sizes =
         let w : short (ptyText n r ∷ facText r ∷ further) ≡ true = ap short (sym cards-are) ∙ s in
-        let a = both (leb (length (ptyText n r)) 80) (leb (length (facText r)) 80 && short further) w in
-        let b = both (leb (length (facText r)) 80) (short further) (a .1) in
-        (leb-true (length (ptyText n r)) 80 (a .0), (leb-true (length (facText r)) 80 (b .0), b .1))
+        let a = both (leb (length (ptyText n r)) cardLength) (leb (length (facText r)) cardLength && short further) w in
+        let b = both (leb (length (facText r)) cardLength) (short further) (a .1) in
+        (leb-true (length (ptyText n r)) cardLength (a .0), (leb-true (length (facText r)) cardLength (b .0), b .1))
 
     front-right : frontError many (ptyText n r) (facText r) ≡ Good
     front-right =
@@ -105,7 +106,7 @@ module _ (v : FullRequest) (t : takesFull v ≡ true) where
         let e : value (field (ptyText n r) 2) ≡ many = count-is n r request-taken ∙ omega (arith, count-of, c) in
         rw (
           pty-right n r request-taken (sizes .0),
-          le-ltb 16 many (omega (arith, c, texts-many ms, allowed .kept .few)),
+          le-ltb mostCards many (omega (arith, c, texts-many ms, allowed .kept .few)),
           eq-eqb (value (field (ptyText n r) 2)) many e,
           is-fac n r request-taken,
         )

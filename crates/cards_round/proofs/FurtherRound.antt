@@ -11,6 +11,8 @@ use lib.Dec.{leb}
 use lib.ListN.{length}
 use borrow.Author.Tests.{leb-true}
 use Rattle.numbers.proofs.Tests.{by-bool, never, both}
+use Rattle.numbers.specs.Elements.{any}
+use Rattle.numbers.specs.Limits.{cardLength, mostFurther, textLength}
 use Rattle.words.specs.Words.{every}
 use Rattle.words.specs.Lines.{lf, linesText}
 use Rattle.words.proofs.WordLaws.{same-self}
@@ -21,12 +23,12 @@ use Rattle.cards_fields.proofs.CardLaws.{plain}
 use Rattle.cards_request.specs.Errors.{errorIf, orElse}
 use Rattle.cards_request.proofs.ErrorLaws.{or-else-none, not-error}
 use Rattle.cards_request.specs.declared.CardError.the-variants.{LaterFac, UnknownCard, PmNumber, PmWrong, TalApart, TrnApart}
-use Rattle.cards_request.specs.declared.Verdict.the-variants.{Good}
+use Rattle.cards_request.specs.declared.CardVerdict.the-variants.{Good}
 use Rattle.cards_fac.specs.Fac.{isFac}
 use Rattle.cards_tal.specs.Tal.{isTal}
 use Rattle.cards_trn.specs.Trn.{isTrn, hasCount}
 use Rattle.cards_pm.specs.Pm.{isPm, rising}
-use Rattle.cards_further.specs.Together.{any, apart}
+use Rattle.cards_further.specs.Together.{apart}
 use Rattle.cards_further.specs.Further.{unknown, unnumbered, faulty, typesError, pmWrong, togetherError, contentError, contentsError, canonical, canonicals}
 use Rattle.cards_group.specs.Group.{otherId}
 use Rattle.cards_full.specs.Full.{behindId, short}
@@ -49,7 +51,7 @@ cards-back (c ∷ cs) n = ap cardsOf (append-assoc c (lf ∷ []) (linesText cs))
 -- each text has at most 78 characters
 abbrev pub AllFew : List (List ℕ) → Type 0
 AllFew [] = Unit {0}
-AllFew (t ∷ ts) = (length t ≤ 78) × AllFew ts
+AllFew (t ∷ ts) = (length t ≤ textLength) × AllFew ts
 
 -- how many counts
 count-step : (m : Card) (ms : List Card) → counts (m ∷ ms) ≡ cond (counted m) (suc (counts ms)) (counts ms)
@@ -101,15 +103,15 @@ module _ (id : List ℕ) (d : every plain id ≡ true) where
   pub written-stand : (ms : List Card) → AllProper ms → short (behind ms) ≡ true → AllStand ms (behind ms)
   written-stand [] p h = tt
   written-stand (m ∷ ms) p h =
-      let q = both (leb (length (id ++ (44 ∷ textIn m))) 80) (short (behind ms)) h in
-      (written-stands id d m (p .0 .0) (leb-true (length (id ++ (44 ∷ textIn m))) 80 (q .0)), written-stand ms (p .1) (q .1))
+      let q = both (leb (length (id ++ (44 ∷ textIn m))) cardLength) (short (behind ms)) h in
+      (written-stands id d m (p .0 .0) (leb-true (length (id ++ (44 ∷ textIn m))) cardLength (q .0)), written-stand ms (p .1) (q .1))
 
   pub written-contents : (already : Bool) (ms : List Card) → AllProper ms → short (behind ms) ≡ true → (already ≡ true → counts ms ≡ 0) → counts ms ≤ 1 → contentsError already (behind ms) ≡ Good
   written-contents already [] p h f n = refl
   written-contents already (m ∷ ms) p h f n =
       let c = id ++ (44 ∷ textIn m) in
-      let q = both (leb (length c) 80) (short (behind ms)) h in
-      let l = leb-true (length c) 80 (q .0) in
+      let q = both (leb (length c) cardLength) (short (behind ms)) h in
+      let l = leb-true (length c) cardLength (q .0) in
       let s = written-stands id d m (p .0 .0) l in
       let u = count-step m ms in
       rw (
@@ -146,7 +148,7 @@ module _ (id : List ℕ) (d : every plain id ≡ true) where
 -- each card has room for what is written of it, behind its own ID, and at most 80 characters
 abbrev pub AllRoom : List (List ℕ) → Type 0
 AllRoom [] = Unit {0}
-AllRoom (c ∷ cs) = ((length (canonical c) + 1 + length (field c 0) ≤ length c) × (length c ≤ 80)) × AllRoom cs
+AllRoom (c ∷ cs) = ((length (canonical c) + 1 + length (field c 0) ≤ length c) × (length c ≤ cardLength)) × AllRoom cs
 
 abbrev EachProper : List Card → Type 0
 EachProper [] = Unit {0}
@@ -195,7 +197,7 @@ pub record FurtherMeant (cs : List (List ℕ)) : Type 0 where
   pub cards : List Card
   pub is : canonicals cs ≡ textsOf cards
   pub lines : AllLines (canonicals cs)
-  pub kept : length cs ≤ 14 → AllFew (canonicals cs) → Kept cards
+  pub kept : length cs ≤ mostFurther → AllFew (canonicals cs) → Kept cards
   pub room : AllRoom cs
 
 stand-many : (ms : List Card) (cs : List (List ℕ)) → AllStand ms cs → length ms ≡ length cs

@@ -6,6 +6,7 @@ use mathlib.Core.List.{List, [], _∷_}
 use mathlib.Core.Option.{Option}
 use native.Mathlib.Omega.{arith}
 use lib.ListN.{length, take, drop, getD}
+use Rattle.numbers.specs.Limits.{mostFurther, textLength}
 use Rattle.cards_fields.proofs.FieldLaws.{text-of}
 use Rattle.cards_request.specs.Requests.{textsIn, texts}
 use Rattle.cards_tal.specs.Increments.{talOf}
@@ -45,14 +46,14 @@ held-texts zero [] h f = refl
 held-texts (suc n) [] h f = refl
 held-texts zero (t ∷ ts) h f = absurd (omega arith)
 held-texts (suc n) (t ∷ ts) h f =
-    let m : min (length t) 78 ≡ length t = omega (arith, f .0) in
-    rw (m, text-of 78 t (f .0), held-texts n ts (omega arith) (f .1))
+    let m : min (length t) textLength ≡ length t = omega (arith, f .0) in
+    rw (m, text-of textLength t (f .0), held-texts n ts (omega arith) (f .1))
 
-pub texts-back : (ts : List (List ℕ)) → length ts ≤ 14 → AllFew ts → texts (held ts) ≡ ts
+pub texts-back : (ts : List (List ℕ)) → length ts ≤ mostFurther → AllFew ts → texts (held ts) ≡ ts
 unfolding held
 texts-back ts h f =
-    let m : min (length ts) 14 ≡ length ts = omega arith in
-    rw m (held-texts 14 ts h f)
+    let m : min (length ts) mostFurther ≡ length ts = omega arith in
+    rw m (held-texts mostFurther ts h f)
 
 pub kept-few : (ms : List Card) → AllProper ms → AllFew (textsOf ms)
 kept-few [] p = tt

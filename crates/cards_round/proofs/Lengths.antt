@@ -13,7 +13,7 @@ use Rattle.words.proofs.WordLaws.{same-equal}
 use Rattle.cards_fields.specs.Fields.{field, fields, spaceless, padded, malformed, tailText, cardText}
 use Rattle.cards_fields.proofs.RoundLaws.{total, tail-total, total-two, fields-total}
 use Rattle.cards_request.specs.declared.Request.{Request}
-use Rattle.cards_request.specs.declared.Verdict.the-variants.{Good}
+use Rattle.cards_request.specs.declared.CardVerdict.the-variants.{Good}
 use Rattle.cards_pty.specs.Pty.{rules, fieldsError}
 use Rattle.cards_pty.proofs.PtyLaws.{not-longer}
 use Rattle.cards_fac.specs.Fac.{nothing, entriesError, isFac, entriesOf, asked}

@@ -11,6 +11,8 @@ use lib.ListN.{length, take, getD}
 use borrow.Author.Tests.{le-leb, lt-leb, leb-true, leb-false, ltb-true, ltb-false}
 use Rattle.numbers.specs.Quoted.{bytes}
 use Rattle.numbers.proofs.Tests.{by-bool, never}
+use Rattle.numbers.specs.Elements.{any}
+use Rattle.numbers.specs.Limits.{cardLength}
 use Rattle.words.specs.Words.{every, same}
 use Rattle.words.proofs.WordLaws.{same-equal}
 use Rattle.words.proofs.LineLaws.{NoLf}
@@ -20,7 +22,7 @@ use Rattle.cards_fields.proofs.FieldLaws.{too-long}
 use Rattle.cards_request.specs.Errors.{errorIf}
 use Rattle.cards_request.proofs.ErrorLaws.{or-else-none, not-error}
 use Rattle.cards_request.specs.declared.CardError.the-variants.{TalWrong, TrnWrong}
-use Rattle.cards_request.specs.declared.Verdict.the-variants.{Good}
+use Rattle.cards_request.specs.declared.CardVerdict.the-variants.{Good}
 use Rattle.cards_fac.specs.Fac.{isFac}
 use Rattle.cards_tal.specs.Tal.{isTal, talError}
 use Rattle.cards_tal.proofs.TalRound.{tal-written, tal-text, tal-proper, tal-short, meantIncrements}
@@ -29,7 +31,7 @@ use Rattle.cards_trn.specs.Transfers.{isThere}
 use Rattle.cards_trn.proofs.TrnRound.{trn-written, trn-text, trn-proper, trn-short, trn-counts, trn-first, meantCount, meantTransfers}
 use Rattle.cards_pm.specs.Pm.{isPm, numbered, digitOf, pmFault, pmMalformed, rising}
 use Rattle.cards_pm.proofs.PmRound.{sheetIn, read-back, held}
-use Rattle.cards_further.specs.Together.{any, past, apart}
+use Rattle.cards_further.specs.Together.{past, apart}
 use Rattle.cards_further.specs.Further.{unknown, unnumbered, faulty, contentError, canonical}
 use Rattle.cards_round.specs.AllowedFurther.{Card, tal, trn, pm, textIn, Proper, ofTal, ofTrn, ofPm, digitsRise}
 
@@ -141,7 +143,7 @@ module _ (id : List ℕ) (d : every plain id ≡ true) where
   abbrev pub behind : Card → List ℕ
   behind m = id ++ (44 ∷ textIn m)
 
-  pub written-stands : (m : Card) → Proper m → length (behind m) ≤ 80 → Stands m (behind m)
+  pub written-stands : (m : Card) → Proper m → length (behind m) ≤ cardLength → Stands m (behind m)
   unfolding isPm
   written-stands (tal is) p l =
       let w = tal-written id is d p in
@@ -187,7 +189,7 @@ module _ (id : List ℕ) (d : every plain id ≡ true) where
         text = rw (a, r) (w .text-is);
       }
 
-  pub written-content : (m : Card) → Proper m → length (behind m) ≤ 80 → (already : Bool) → (counted m ≡ true → already ≡ false) → contentError already (behind m) ≡ Good
+  pub written-content : (m : Card) → Proper m → length (behind m) ≤ cardLength → (already : Bool) → (counted m ≡ true → already ≡ false) → contentError already (behind m) ≡ Good
   written-content (tal is) p l already h = let w = tal-written id is d p in rw (w .tal) (w .good l)
   written-content (trn c ts) p l already h = let w = trn-written id c ts d p in rw (w .other, w .trn) (w .good already h l)
   written-content (pm s) p l already h =
@@ -212,10 +214,10 @@ pub record Meant (already : Bool) (c : List ℕ) : Type 0 where
   pub proper : Proper card
   pub first : already ≡ true → counted card ≡ false
   pub room : length (canonical c) + 1 + length (field c 0) ≤ length c
-  pub short : length c ≤ 80
+  pub short : length c ≤ cardLength
 
-short-card : (c : List ℕ) → malformed c ≡ false → length c ≤ 80
-short-card c m = by-bool (ltb 80 (length c)) (λ e. never (too-long c (ltb-true 80 (length c) e)) m) (λ e. ltb-false 80 (length c) e)
+short-card : (c : List ℕ) → malformed c ≡ false → length c ≤ cardLength
+short-card c m = by-bool (ltb cardLength (length c)) (λ e. never (too-long c (ltb-true cardLength (length c) e)) m) (λ e. ltb-false cardLength (length c) e)
 
 module _ (already : Bool) (c : List ℕ) (fac : isFac c ≡ false) (known : unknown c ≡ false) (number : unnumbered c ≡ false) (form : faulty c ≡ false) (good : contentError already c ≡ Good) where
   of-tal : isTal c ≡ true → Meant already c
@@ -290,7 +292,7 @@ module _ (already : Bool) (c : List ℕ) (fac : isFac c ≡ false) (known : unkn
         proper = w .proper;
         first = λ e. refl;
         room = rw (a, r) (w .no-longer);
-        short = by-bool (ltb 80 (length c)) (λ e. never (rw e) f) (λ e. ltb-false 80 (length c) e);
+        short = by-bool (ltb cardLength (length c)) (λ e. never (rw e) f) (λ e. ltb-false cardLength (length c) e);
       }
 
   pub meant : Meant already c

@@ -23,7 +23,7 @@ use Rattle.cards_group.specs.Group.{orderedError, requestOf, readFull}
 use Rattle.cards_group.proofs.GroupLaws.{frontError, orderError, in-steps}
 use Rattle.cards_request.specs.declared.CardError.the-variants.{FacMalformed, WrongEntry}
 use Rattle.cards_request.specs.declared.FullRequest.{FullRequest}
-use Rattle.cards_request.specs.declared.Verdict.the-variants.{Good}
+use Rattle.cards_request.specs.declared.CardVerdict.the-variants.{Good}
 use Rattle.cards_round.specs.Permuted.{Permuted}
 use Rattle.cards_round.proofs.Short.{channelled, known}
 use Rattle.cards_round.proofs.FullRound.{read-as}

@@ -19,7 +19,7 @@ use Rattle.cards_fac.specs.Fac.{indexIn, lastCode}
 use Rattle.cards_request.specs.Errors.{errorIf}
 use Rattle.cards_request.proofs.ErrorLaws.{or-else-none, not-good}
 use Rattle.cards_request.specs.declared.CardError.the-variants.{WrongEntry}
-use Rattle.cards_request.specs.declared.Verdict.the-variants.{Good}
+use Rattle.cards_request.specs.declared.CardVerdict.the-variants.{Good}
 use Rattle.cards_fac.proofs.EntryLaws.{code-low, channel-low}
 use Rattle.cards_writing.specs.Writing.{codeAt, channelAt, entryText, entryTexts}
 

@@ -7,6 +7,7 @@ use mathlib.Core.List.{List, [], _∷_}
 use native.Mathlib.Omega.{arith}
 use lib.ListN.{getD}
 use Rattle.numbers.specs.Quoted.{byte}
+use Rattle.numbers.specs.Limits.{pmLength}
 use Rattle.cards_tal.specs.Increments.{talOf}
 use Rattle.cards_trn.specs.Transfers.{trnOf}
 use Rattle.cards_further.specs.Further.{held}
@@ -32,11 +33,11 @@ rows-of (trn c ts ∷ cs) p = omega (arith, rows-of cs (p .1))
 rows-of (pm s ∷ cs) p = rw (sheet-is-pm s (p .0 .0), sheet-digit-in s, rows-of cs (p .1)) (omega arith)
 
 -- BY PLACE: character i is character i mod 66 of the text of the PM card with the digit i div 66, or a blank
-pub table-place : (cards : List Card) → Kept cards → (i : ℕ) → place (held (textsOf cards)) i ≡ getD (sheetAt (i / 66) cards) (i % 66) (byte " ")
+pub table-place : (cards : List Card) → Kept cards → (i : ℕ) → place (held (textsOf cards)) i ≡ getD (sheetAt (i / pmLength) cards) (i % pmLength) (byte " ")
 unfolding place
-table-place cards k i = rw (kept-texts cards k, card-at (i / 66) cards (k .each))
+table-place cards k i = rw (kept-texts cards k, card-at (i / pmLength) cards (k .each))
 
 -- 66 characters for each digit up to the highest
-pub table-size : (cards : List Card) → Kept cards → tableSize (held (textsOf cards)) ≡ 66 * sheetRows cards
+pub table-size : (cards : List Card) → Kept cards → tableSize (held (textsOf cards)) ≡ pmLength * sheetRows cards
 unfolding tableSize
 table-size cards k = rw (kept-texts cards k, rows-of cards (k .each))

@@ -9,6 +9,7 @@ use lib.Dec.{eqb}
 use lib.ListN.{length, take}
 use borrow.Author.Tests.{eq-eqb, eqb-true, le-leb}
 use Rattle.numbers.proofs.Tests.{both, never}
+use Rattle.numbers.specs.Limits.{cardLength, mostFurther, textLength}
 use Rattle.words.specs.Words.{same}
 use Rattle.words.proofs.WordLaws.{same-self, same-equal}
 use Rattle.words.proofs.LineLaws.{NoLf}
@@ -19,7 +20,7 @@ use Rattle.cards_request.specs.Requests.{textsIn, texts}
 use Rattle.cards_request.proofs.ErrorLaws.{good-is, or-else-none}
 use Rattle.cards_request.specs.declared.FurtherCard.{FurtherCard}
 use Rattle.cards_request.specs.declared.Further.{Further}
-use Rattle.cards_request.specs.declared.Verdict.the-variants.{Good}
+use Rattle.cards_request.specs.declared.CardVerdict.the-variants.{Good}
 use Rattle.cards_further.specs.Further.{typesError, togetherError, contentsError, canonicals, heldIn, held}
 use Rattle.words.specs.Lines.{linesText}
 use Rattle.cards_full.specs.Full.{behindId, short, furtherError, bare, sameCards, takesFurther}
@@ -67,7 +68,7 @@ held-lines zero zero ts l = tt
 held-lines zero (suc k) ts l = tt
 held-lines (suc n) zero ts l = tt
 held-lines (suc n) (suc k) [] l = (((λ e. omega arith), tt), held-lines n k [] tt)
-held-lines (suc n) (suc k) (t ∷ ts) l = (((λ e. omega arith), take-lf (min (length t) 78) (padded 78 t) (padded-lf 78 t (l .0))), held-lines n k ts (l .1))
+held-lines (suc n) (suc k) (t ∷ ts) l = (((λ e. omega arith), take-lf (min (length t) textLength) (padded textLength t) (padded-lf textLength t (l .0))), held-lines n k ts (l .1))
 
 take-few : {A : Type 0} (k : ℕ) (l : List A) → length (take k l) ≤ k
 take-few zero l = omega arith
@@ -79,7 +80,7 @@ held-few zero zero ts = tt
 held-few zero (suc k) ts = tt
 held-few (suc n) zero ts = tt
 held-few (suc n) (suc k) [] = (omega arith, held-few n k [])
-held-few (suc n) (suc k) (t ∷ ts) = (omega (arith, take-few (min (length t) 78) (padded 78 t)), held-few n k ts)
+held-few (suc n) (suc k) (t ∷ ts) = (omega (arith, take-few (min (length t) textLength) (padded textLength t)), held-few n k ts)
 
 texts-few : (k : ℕ) (cs : List FurtherCard) → length (textsIn (take k cs)) ≤ k
 texts-few zero cs = omega arith
@@ -120,19 +121,19 @@ module _ (f : Further) (t : takesFurther f ≡ true) where
 
   cards-are : cs ≡ behindId [] (texts f)
   unfolding held
-  cards-are = cards-back (behindId [] (texts f)) (subst (λ (ts : List (List ℕ)). AllLines (behindId [] ts)) (sym of-texts) (held-lines 14 (min (length ds) 14) ds (meant .lines)))
+  cards-are = cards-back (behindId [] (texts f)) (subst (λ (ts : List (List ℕ)). AllLines (behindId [] ts)) (sym of-texts) (held-lines mostFurther (min (length ds) mostFurther) ds (meant .lines)))
 
-  few : length cs ≤ 14
+  few : length cs ≤ mostFurther
   unfolding held
   few =
       let a : length cs ≡ length (texts f) = ap (length {A = List ℕ}) cards-are ∙ behind-many [] (texts f) in
       let b : length (texts f) ≡ length (texts (held ds)) = ap (length {A = List ℕ}) of-texts in
-      omega (arith, texts-few (min (length ds) 14) (heldIn 14 ds))
+      omega (arith, texts-few (min (length ds) mostFurther) (heldIn mostFurther ds))
 
   short-texts : AllFew ds
   unfolding held
   short-texts =
-      let a : AllFew (texts f) = subst AllFew (sym of-texts) (held-few 14 (min (length ds) 14) ds) in
+      let a : AllFew (texts f) = subst AllFew (sym of-texts) (held-few mostFurther (min (length ds) mostFurther) ds) in
       let b : AllRoom (behindId [] (texts f)) = subst AllRoom cards-are (meant .room) in
       subst (λ (x : List (List ℕ)). AllFew (canonicals x)) (sym cards-are) (room-few (texts f) a b)
 
@@ -143,7 +144,7 @@ module _ (f : Further) (t : takesFurther f ≡ true) where
 
 bare-short : (ts : List (List ℕ)) → AllFew ts → short (behindId [] ts) ≡ true
 bare-short [] f = refl
-bare-short (t ∷ ts) f = rw (le-leb (suc (length t)) 80 (omega (arith, f .0))) (bare-short ts (f .1))
+bare-short (t ∷ ts) f = rw (le-leb (suc (length t)) cardLength (omega (arith, f .0))) (bare-short ts (f .1))
 
 module _ (ms : List Card) (k : Kept ms) where
   bare-is : bare (held (textsOf ms)) ≡ behindId [] (textsOf ms)

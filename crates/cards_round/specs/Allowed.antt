@@ -6,6 +6,7 @@ use mathlib.Core.Bool.{Bool, true}
 use mathlib.Core.List.{List}
 use lib.ListN.{length, getD}
 use Rattle.numbers.specs.Quoted.{byte, bytes}
+use Rattle.numbers.specs.Limits.{mostBlocks, lastSequence, lastPrecedence}
 use Rattle.text.specs.Class.{isAlnum, isLetter}
 use Rattle.words.specs.Words.{every, has, passes}
 use Rattle.words.specs.declared.Class.the-variants.{Hyphened}
@@ -34,10 +35,10 @@ pub record Allowed (r : Request) : Type 0 where
   pub medium : Name isAlnum 1 6 (r .medium)
   pub mode : has (bytes "SP") (r .mode) ≡ true
   -- "sequence 01-63, a letter, precedence 0-63"; left out, sequence is 0; "Z with precedence 63 .. is wrong"
-  pub sequence : r .sequence ≤ 63
+  pub sequence : r .sequence ≤ lastSequence
   pub letter : isLetter (r .letter) ≡ true
-  pub precedence : r .precedence ≤ 63
-  pub last : r .letter ≡ byte "Z" → r .precedence ≡ 63 → ⊥
+  pub precedence : r .precedence ≤ lastPrecedence
+  pub last : r .letter ≡ byte "Z" → r .precedence ≡ lastPrecedence → ⊥
   -- "P or C; estimated minutes, 1-4 digits; empty, T, A, C or Z; empty or formed like the ID"
   pub mix : has (bytes "PC") (r .mix) ≡ true
   pub minutes : r .minutes ≤ 9999
@@ -45,7 +46,7 @@ pub record Allowed (r : Request) : Type 0 where
   pub library : Name isAlnum 0 6 (r .library)
   -- "14 IB plus DB over 28; 27 no IB"
   pub ib : 1 ≤ r .facilities .ib
-  pub core : r .facilities .ib + r .facilities .db ≤ 28
+  pub core : r .facilities .ib + r .facilities .db ≤ mostBlocks
   -- "`MD/n` (1-6)", and "(1-2 digits)" for each of 16 logical channels of each kind but the drum; 0 where none are
   pub drum : r .facilities .md ≤ 999999
   pub counts : length (r .facilities .units) ≡ many

@@ -7,6 +7,7 @@ use mathlib.Core.List.{List, [], _∷_}
 use mathlib.Core.Option.{Option, none, some}
 use lib.Dec.{eqb, leb}
 use lib.ListN.{length}
+use Rattle.numbers.specs.Limits.{mostFurther, textLength}
 use Rattle.cards_tal.specs.Increments.{Increment, ProperIncrements, talOf}
 use Rattle.cards_trn.specs.Transfers.{Transfer, ProperTrn, trnOf}
 use Rattle.cards_pm.specs.Sheets.{Sheet, Proper as ProperSheet, sheetOf}
@@ -43,7 +44,7 @@ Proper (pm sheet) = ProperSheet sheet
 -- each of them, and its text from the type on has room beside an ID of one character
 abbrev pub AllProper : List Card → Type 0
 AllProper [] = Unit {0}
-AllProper (c ∷ cs) = (Proper c × (length (textIn c) ≤ 78)) × AllProper cs
+AllProper (c ∷ cs) = (Proper c × (length (textIn c) ≤ textLength)) × AllProper cs
 
 -- the kinds
 abbrev pub ofTal : Card → Bool
@@ -78,7 +79,7 @@ counts (pm sheet ∷ cs) = counts cs
 
 -- cards that keep the rules: "at most 14", each by itself, "Kinds together, digits strictly rising, at most one count"
 pub record Kept (cards : List Card) : Type 0 where
-  pub few : length cards ≤ 14
+  pub few : length cards ≤ mostFurther
   pub each : AllProper cards
   pub tals : apart ofTal cards ≡ false
   pub trns : apart ofTrn cards ≡ false

@@ -13,6 +13,7 @@ use lib.Seq.{take-all, take-take, getD-take, getD-drop, drop-cons, drop-drop, le
 use borrow.Author.Tests.{eq-eqb, ne-eqb, ltb-true, ltb-false}
 use Rattle.numbers.specs.Quoted.{byte, bytes}
 use Rattle.numbers.proofs.Tests.{by-bool, both}
+use Rattle.numbers.specs.Limits.{pmLength, tableLength}
 use Rattle.text.specs.Class.{isDigit}
 use Rattle.text.proofs.ClassLaws.{digit-bounds}
 use Rattle.text.specs.Room.{Written}
@@ -158,33 +159,33 @@ module _ (s : List ℕ) (n : ℕ) (w : n ≤ length s) (k : ℕ) where
       List·getD-eq-default (lettersIn (take n s)) 32 {n = k} (omega (arith, length-take (length (take n s) - 5) (drop 4 (take n s))))
 
 -- one more character of a row is put
-pub row-turn : {room₀ whole room after : List ℕ} {at₀ at next b : ℕ} (s : List ℕ) (k : ℕ) → k < 66 → b ≡ getD s k (byte " ")
-    → Going room₀ at₀ whole room at (padded (66 - k) (drop k s)) → Written room at (b ∷ []) after next
-    → Going room₀ at₀ whole after next (padded (66 - (k + 1)) (drop (k + 1) s))
+pub row-turn : {room₀ whole room after : List ℕ} {at₀ at next b : ℕ} (s : List ℕ) (k : ℕ) → k < pmLength → b ≡ getD s k (byte " ")
+    → Going room₀ at₀ whole room at (padded (pmLength - k) (drop k s)) → Written room at (b ∷ []) after next
+    → Going room₀ at₀ whole after next (padded (pmLength - (k + 1)) (drop (k + 1) s))
 row-turn {room₀} {whole} {room} {at₀ = at₀} {at = at} {b = b} s k h e g w =
-    let z : Going room₀ at₀ whole room at (b ∷ padded (66 - (k + 1)) (drop (k + 1) s)) = rw e (rw (padded-step 66 s k h) at g) in
+    let z : Going room₀ at₀ whole room at (b ∷ padded (pmLength - (k + 1)) (drop (k + 1) s)) = rw e (rw (padded-step pmLength s k h) at g) in
     turn z w
 
-pub row-end : {room₀ whole room : List ℕ} {at₀ at : ℕ} (s : List ℕ) (k : ℕ) → 66 ≤ k → Going room₀ at₀ whole room at (padded (66 - k) (drop k s)) → Written room₀ at₀ whole room at
-row-end s k h g = end (rw (padded-end 66 s k h) at g)
+pub row-end : {room₀ whole room : List ℕ} {at₀ at : ℕ} (s : List ℕ) (k : ℕ) → pmLength ≤ k → Going room₀ at₀ whole room at (padded (pmLength - k) (drop k s)) → Written room₀ at₀ whole room at
+row-end s k h g = end (rw (padded-end pmLength s k h) at g)
 
 -- ---- the rows, one after the other
 
-pub rows-length : (n d : ℕ) (ts : List (List ℕ)) → length (rowsFrom n d ts) ≡ 66 * n
+pub rows-length : (n d : ℕ) (ts : List (List ℕ)) → length (rowsFrom n d ts) ≡ pmLength * n
 rows-length zero d ts = refl
-rows-length (suc n) d ts = omega (arith, length-append (padded 66 (cardAt d ts)) (rowsFrom n (suc d) ts), padded-length 66 (cardAt d ts), rows-length n (suc d) ts)
+rows-length (suc n) d ts = omega (arith, length-append (padded pmLength (cardAt d ts)) (rowsFrom n (suc d) ts), padded-length pmLength (cardAt d ts), rows-length n (suc d) ts)
 
 -- no row is put, and one more
 pub table-start : (f : Further) (room : List ℕ) (n : ℕ) → n ≡ rows (texts f) → Going room 0 (tableText f) room 0 (rowsFrom (n - 0) 0 (texts f))
 table-start f room n e after next w = let k : n - 0 ≡ rows (texts f) = omega (arith, e) in rw k at w
 
 pub table-turn : {room₀ whole room after : List ℕ} {at₀ at next : ℕ} (n d : ℕ) (ts : List (List ℕ)) (s : List ℕ) → d < n → s ≡ cardAt d ts
-    → Going room₀ at₀ whole room at (rowsFrom (n - d) d ts) → Written room at (padded 66 s) after next
+    → Going room₀ at₀ whole room at (rowsFrom (n - d) d ts) → Written room at (padded pmLength s) after next
     → Going room₀ at₀ whole after next (rowsFrom (n - (d + 1)) (d + 1) ts)
 table-turn {room₀} {whole} {room} {at₀ = at₀} {at = at} n d ts s h e g w =
     let k : n - d ≡ suc (n - (d + 1)) = omega arith in
     let j : suc d ≡ d + 1 = omega arith in
-    let z : Going room₀ at₀ whole room at (padded 66 (cardAt d ts) ++ rowsFrom (n - (d + 1)) (suc d) ts) = rw k at g in
+    let z : Going room₀ at₀ whole room at (padded pmLength (cardAt d ts) ++ rowsFrom (n - (d + 1)) (suc d) ts) = rw k at g in
     turn (rw (← e, j) at z) w
 
 pub table-end : {room₀ whole room : List ℕ} {at₀ at : ℕ} (n d : ℕ) (ts : List (List ℕ)) → n ≤ d → Going room₀ at₀ whole room at (rowsFrom (n - d) d ts) → Written room₀ at₀ whole room at
@@ -207,39 +208,39 @@ padded-at (suc w) [] (suc k) h = padded-at w [] k (le-of-suc-le-suc h) ∙ List�
 padded-at (suc w) (b ∷ s) zero h = refl
 padded-at (suc w) (b ∷ s) (suc k) h = padded-at w s k (le-of-suc-le-suc h)
 
-rows-place : (n d : ℕ) (ts : List (List ℕ)) (i : ℕ) → i < 66 * n → getD (rowsFrom n d ts) i 0 ≡ getD (cardAt (d + i / 66) ts) (i % 66) (byte " ")
+rows-place : (n d : ℕ) (ts : List (List ℕ)) (i : ℕ) → i < pmLength * n → getD (rowsFrom n d ts) i 0 ≡ getD (cardAt (d + i / pmLength) ts) (i % pmLength) (byte " ")
 rows-place zero d ts i h = absurd (omega arith)
 rows-place (suc n) d ts i h =
-    let l : length (padded 66 (cardAt d ts)) ≡ 66 = padded-length 66 (cardAt d ts) in
+    let l : length (padded pmLength (cardAt d ts)) ≡ pmLength = padded-length pmLength (cardAt d ts) in
     ⊎-elim
     (λ z.
-    let q : d + i / 66 ≡ d = omega arith in
-    let m : i % 66 ≡ i = omega arith in
-    rw (q, m) (List·getD-append (padded 66 (cardAt d ts)) (rowsFrom n (suc d) ts) 0 i (omega arith) ∙ padded-at 66 (cardAt d ts) i (omega arith)))
+    let q : d + i / pmLength ≡ d = omega arith in
+    let m : i % pmLength ≡ i = omega arith in
+    rw (q, m) (List·getD-append (padded pmLength (cardAt d ts)) (rowsFrom n (suc d) ts) 0 i (omega arith) ∙ padded-at pmLength (cardAt d ts) i (omega arith)))
     (λ z.
-    let j : length (padded 66 (cardAt d ts)) + (i - 66) ≡ i = omega arith in
-    let q : suc d + (i - 66) / 66 ≡ d + i / 66 = omega arith in
-    let m : (i - 66) % 66 ≡ i % 66 = omega arith in
+    let j : length (padded pmLength (cardAt d ts)) + (i - pmLength) ≡ i = omega arith in
+    let q : suc d + (i - pmLength) / pmLength ≡ d + i / pmLength = omega arith in
+    let m : (i - pmLength) % pmLength ≡ i % pmLength = omega arith in
     ap (λ (k : ℕ). getD (rowsFrom (suc n) d ts) k 0) (sym j)
-    ∙ getD-append-add (padded 66 (cardAt d ts)) (rowsFrom n (suc d) ts) (i - 66) 0
-    ∙ rows-place n (suc d) ts (i - 66) (omega arith)
-    ∙ ap (λ (k : ℕ). getD (cardAt k ts) ((i - 66) % 66) 32) q
-    ∙ ap (λ (k : ℕ). getD (cardAt (d + i / 66) ts) k 32) m)
+    ∙ getD-append-add (padded pmLength (cardAt d ts)) (rowsFrom n (suc d) ts) (i - pmLength) 0
+    ∙ rows-place n (suc d) ts (i - pmLength) (omega arith)
+    ∙ ap (λ (k : ℕ). getD (cardAt k ts) ((i - pmLength) % pmLength) 32) q
+    ∙ ap (λ (k : ℕ). getD (cardAt (d + i / pmLength) ts) k 32) m)
     (eq-zero-or-pos (i - 65))
 
 -- THE ROWS PUT AT THE START OF THE ROOM ARE THE TABLE
-pub table-put : (f : Further) {room after : List ℕ} {r : ℕ} → length room ≡ 660 → Written room 0 (tableText f) after r → Table f room after r
+pub table-put : (f : Further) {room after : List ℕ} {r : ℕ} → length room ≡ tableLength → Written room 0 (tableText f) after r → Table f room after r
 unfolding tableSize place
 table-put f {room} {after} {r} l w =
-    let t : length (tableText f) ≡ 66 * rows (texts f) = rows-length (rows (texts f)) 0 (texts f) in
+    let t : length (tableText f) ≡ pmLength * rows (texts f) = rows-length (rows (texts f)) 0 (texts f) in
     let v = entire w (omega (arith, t, l, rows-most (texts f))) in
-    let s : r ≡ 66 * rows (texts f) = v .ends ∙ t in
+    let s : r ≡ pmLength * rows (texts f) = v .ends ∙ t in
     record {
       size = s;
       places = λ i h. ap (λ (a : List ℕ). getD a i 0) (v .bytes)
           ∙ List·getD-append (tableText f) (drop r room) 0 i (omega (arith, h, v .ends))
           ∙ rows-place (rows (texts f)) 0 (texts f) i (omega (arith, h, s))
-          ∙ ap (λ (k : ℕ). getD (cardAt k (texts f)) (i % 66) 32) (zero-add (i / 66));
+          ∙ ap (λ (k : ℕ). getD (cardAt k (texts f)) (i % pmLength) 32) (zero-add (i / pmLength));
       kept = λ i h.
           let j : length (tableText f) + (i - r) ≡ i = omega (arith, h, v .ends) in
           let k : r + (i - r) ≡ i = omega (arith, h) in

@@ -6,6 +6,7 @@ use mathlib.Core.List.{List, [], _∷_}
 use lib.Dec.{eqb}
 use lib.ListN.{length, getD, take, drop}
 use Rattle.numbers.specs.Quoted.{byte, bytes}
+use Rattle.numbers.specs.Limits.{pmLength}
 use Rattle.text.specs.Class.{isDigit}
 use Rattle.words.specs.Words.{same}
 use Rattle.cards_request.specs.Requests.{texts}
@@ -35,12 +36,12 @@ cardAt d (t ∷ ts) = cond (isPmText t && eqb (digitIn t) d) (lettersIn t) (card
 
 -- "the parameter table has 66 times (N+1) characters"
 unfoldable pub tableSize : Further → ℕ
-tableSize f = 66 * rows (texts f)
+tableSize f = pmLength * rows (texts f)
 
 -- BY PLACE: character i is character i mod 66 of card i div 66, or a blank: "blanks filling a short or omitted card's
 -- 66"
 unfoldable pub place : Further → ℕ → ℕ
-place f i = getD (cardAt (i / 66) (texts f)) (i % 66) (byte " ")
+place f i = getD (cardAt (i / pmLength) (texts f)) (i % pmLength) (byte " ")
 
 -- the table stands at the start of the room, and every byte behind it is kept
 pub record Table (f : Further) (room after· : List ℕ) (r : ℕ) : Type 0 where

@@ -1,18 +1,17 @@
 // The parameter table of a request's PM cards, in lent room.
 use cards_request::Further;
 use cards_request::FurtherCard;
+use numbers::limits;
 ghost use mathlib.Core.Path.{_≡_};
 ghost use mathlib.Core.Bool.{cond};
 ghost use Prim.Native.Nat.{_+_, _<_};
 ghost use lib.ListN.{take};
+ghost use Rattle.numbers.specs.Limits.{pmLength};
 ghost use Rattle.text.specs.Room.{Written};
 ghost use Rattle.cards_fields.specs.Fields.{padded};
 ghost use Rattle.cards_request.specs.Requests.{texts};
 ghost use Rattle.cards_table.specs.Table.{isPmText, digitIn, lettersIn, rows, cardAt, Table};
 ghost use Rattle.cards_table.specs.TableText.{tableText};
-
-// How many characters a table has at most: 66 for each of ten digits.
-pub const MOST: usize = 660;
 
 // The row of the table that a card fills, the first being 1: its digit and one more. A card that is not PM fills none,
 // which is 0.
@@ -73,13 +72,13 @@ fn card_of(further: Further, digit: usize) -> FurtherCard
 
 // Puts a card's row: the characters behind `PMn,` but for the period at the end, and blanks up to 66.
 fn put_row(room: &mut [u8], at: usize, card: FurtherCard) -> usize
-    ensures { λ r. ⌜ Written (now (room .entry)) at (padded 66 (lettersIn (take (card .len) (card .text)))) (now (room .exit)) r ⌝ }
+    ensures { λ r. ⌜ Written (now (room .entry)) at (padded pmLength (lettersIn (take (card .len) (card .text)))) (now (room .exit)) r ⌝ }
 {
     let n = cards_further::len_of(card);
     let text = card.text;
     let mut next = at;
     let mut k: usize = 0;
-    while k < 66 {
+    while k < limits::PM_LENGTH {
         let mut b = b' ';
         if k + 5 < n {
             b = text[k + 4];
@@ -105,7 +104,7 @@ fn put_rows(room: &mut [u8], further: Further) -> usize
 }
 
 // Puts the parameter table at the start of the room and answers how long it is: nothing for a request without PM cards.
-pub fn put_table(room: &mut [u8; MOST], further: Further) -> usize
+pub fn put_table(room: &mut [u8; limits::TABLE_LENGTH], further: Further) -> usize
     ensures { λ r. ⌜ Table further (now (room .entry)) (now (room .exit)) r ⌝ }
 {
     put_rows(room, further)

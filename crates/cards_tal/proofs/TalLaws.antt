@@ -23,8 +23,8 @@ use Rattle.cards_fields.proofs.SpaceLaws.{leading-spaceless, behind-spaceless, 
 use Rattle.cards_request.specs.Errors.{good, errorIf}
 use Rattle.cards_request.proofs.ErrorLaws.{good-is, or-else-some, or-else-good}
 use Rattle.cards_request.specs.declared.CardError.the-variants.{TalWrong, TalLong}
-use Rattle.cards_request.specs.declared.Verdict.{Verdict}
-use Rattle.cards_request.specs.declared.Verdict.the-variants.{Good, Wrong}
+use Rattle.cards_request.specs.declared.CardVerdict.{CardVerdict}
+use Rattle.cards_request.specs.declared.CardVerdict.the-variants.{Good, Wrong}
 use Rattle.cards_tal.specs.Tal.{nameOf, numberOf, slashed, numberError, entryError, entriesError, talError, entryText, entryTexts, talText}
 
 -- the text behind the slash, gathered
@@ -120,7 +120,7 @@ module _ (card : List ℕ) (k : ℕ) where
     at : left ≡ spaceless (rawField card (k + 1)) ∷ drop (k + 1 + 1) (fields card)
     at = fields-step card (k + 1) h
 
-    module _ (v : Verdict) (is : v ≡ entryError (spaceless (rawField card (k + 1)))) where
+    module _ (v : CardVerdict) (is : v ≡ entryError (spaceless (rawField card (k + 1)))) where
       pub entry-wrong : good v ≡ false → entriesError left ≡ v
       entry-wrong n = rw (at, ← is) (or-else-some v (entriesError (drop (k + 1 + 1) (fields card))) n)
 

@@ -11,6 +11,7 @@ use lib.Seq.{drop-append-add}
 use borrow.Author.Tests.{le-leb, lt-leb, leb-true, leb-false, le-ltb, lt-ltb, ltb-true, ltb-false, not-false}
 use Rattle.numbers.specs.Quoted.{bytes}
 use Rattle.numbers.proofs.Tests.{both}
+use Rattle.numbers.specs.Limits.{cardLength}
 use Rattle.text.specs.Class.{isDigit, isLetter, isAlnum}
 use Rattle.text.specs.Writing.{decimalText}
 use Rattle.text.proofs.Undo.{few-digits}
@@ -23,7 +24,7 @@ use Rattle.cards_fields.proofs.RoundLaws.{has-not, leading-join, Named, named, 
 use Rattle.cards_request.specs.Errors.{errorIf, firstOf}
 use Rattle.cards_request.proofs.ErrorLaws.{or-else-none, or-else-good, not-error}
 use Rattle.cards_request.specs.declared.CardError.the-variants.{TalWrong, TalLong}
-use Rattle.cards_request.specs.declared.Verdict.the-variants.{Good}
+use Rattle.cards_request.specs.declared.CardVerdict.the-variants.{Good}
 use Rattle.cards_tal.specs.Tal.{isTal, nameOf, numberOf, slashed, numberError, entryError, entriesError, entriesOf, talError, entryText, entryTexts, talText}
 use Rattle.cards_tal.specs.Increments.{Increment, ProperIncrement, EachIncrement, ProperIncrements, incrementText, incrementTexts, talOf}
 
@@ -123,7 +124,7 @@ pub record TalWritten (id : List ℕ) (is : List Increment) (card : List ℕ) : 
   -- it is not TRN
   pub other : same (field card 1) (bytes "TRN") ≡ false
   pub line : NoLf card
-  pub good : length card ≤ 80 → talError card ≡ Good
+  pub good : length card ≤ cardLength → talError card ≡ Good
   pub text : talText card ≡ talOf is
   pub back : meantIncrements card ≡ is
 
@@ -148,7 +149,7 @@ module _ (id : List ℕ) (is : List Increment) (d : every plain id ≡ true) (p 
   apart : fields card ≡ id ∷ texts
   apart = ap fields card-is ∙ fields-back id texts all
 
-  good : length card ≤ 80 → talError card ≡ Good
+  good : length card ≤ cardLength → talError card ≡ Good
   unfolding talError
   good l =
       let m : malformed card ≡ false = ap malformed card-is ∙ card-good id texts all (rw card-is at l) in

@@ -10,8 +10,8 @@ use Rattle.words.specs.Words.{same, isnt, leading, numberIn}
 use Rattle.cards_fields.specs.Fields.{digits, field, fields, isName, malformed, tailText}
 use Rattle.cards_request.specs.Errors.{errorIf, orElse, firstOf}
 use Rattle.cards_request.specs.declared.CardError.the-variants.{TalWrong, TalLong}
-use Rattle.cards_request.specs.declared.Verdict.{Verdict}
-use Rattle.cards_request.specs.declared.Verdict.the-variants.{Good}
+use Rattle.cards_request.specs.declared.CardVerdict.{CardVerdict}
+use Rattle.cards_request.specs.declared.CardVerdict.the-variants.{Good}
 
 -- the card is TAL
 abbrev pub isTal : List ℕ → Bool
@@ -30,15 +30,15 @@ abbrev pub slashed : List ℕ → Bool
 slashed t = ltb (length (nameOf t)) (length t)
 
 -- "TAL numbers 1-5 digits": "number over five characters: 6; number empty or not all digits: 5"
-unfoldable pub numberError : List ℕ → Verdict
+unfoldable pub numberError : List ℕ → CardVerdict
 numberError t = orElse (errorIf (ltb 5 (length t)) TalLong) (errorIf (not (digits t)) TalWrong)
 
 -- "no slash, or the name isn't 1-6 letters or digits: 5", then its number
-unfoldable pub entryError : List ℕ → Verdict
+unfoldable pub entryError : List ℕ → CardVerdict
 entryError t = orElse (errorIf (not (slashed t && isName (nameOf t))) TalWrong) (numberError (numberOf t))
 
 -- "then each entry from left to right": the first error
-abbrev pub entriesError : List (List ℕ) → Verdict
+abbrev pub entriesError : List (List ℕ) → CardVerdict
 entriesError [] = Good
 entriesError (t ∷ ts) = orElse (entryError t) (entriesError ts)
 
@@ -47,7 +47,7 @@ abbrev pub entriesOf : List ℕ → List (List ℕ)
 entriesOf card = drop 2 (fields card)
 
 -- "malformed: 5; no third field: 5; then each entry"
-unfoldable pub talError : List ℕ → Verdict
+unfoldable pub talError : List ℕ → CardVerdict
 talError card =
     firstOf
     (errorIf (malformed card) TalWrong

@@ -2,7 +2,7 @@
 use cards_fields::card;
 use cards_fields::parts;
 use cards_request::CardError;
-use cards_request::Verdict;
+use cards_request::CardVerdict;
 use words::Class;
 ghost use mathlib.Core.Path.{_≡_};
 ghost use lib.ListN.{drop};
@@ -18,40 +18,40 @@ pub fn is_tal(card: &[u8]) -> bool
 }
 
 // The error of a text behind the slash: over five characters, none, or not all digits.
-fn number_error(s: &[u8]) -> Verdict
+fn number_error(s: &[u8]) -> CardVerdict
     ensures { λ r. ⌜ r ≡ numberError (spaceless (now (s .entry))) ⌝ }
 {
     let f = parts::gathered(s);
     let n = f.len;
     if 5 < n {
-        return Verdict::Wrong(CardError::TalLong);
+        return CardVerdict::Wrong(CardError::TalLong);
     }
     if n < 1 {
-        return Verdict::Wrong(CardError::TalWrong);
+        return CardVerdict::Wrong(CardError::TalWrong);
     }
     let bytes = f.bytes;
     if words::all_of(Class::Digit, &bytes[..n]) {
-        return Verdict::Good;
+        return CardVerdict::Good;
     }
-    Verdict::Wrong(CardError::TalWrong)
+    CardVerdict::Wrong(CardError::TalWrong)
 }
 
 // The error of an entry, cut at its first slash.
-fn entry_error(t: &[u8]) -> Verdict
+fn entry_error(t: &[u8]) -> CardVerdict
     ensures { λ r. ⌜ r ≡ entryError (spaceless (now (t .entry))) ⌝ }
 {
     let at = words::until(t, b'/');
     if at == t.len() {
-        return Verdict::Wrong(CardError::TalWrong);
+        return CardVerdict::Wrong(CardError::TalWrong);
     }
     if !parts::is_name(&t[..at]) {
-        return Verdict::Wrong(CardError::TalWrong);
+        return CardVerdict::Wrong(CardError::TalWrong);
     }
     number_error(&t[at + 1..])
 }
 
 // The first error of a card's entries, left to right.
-fn entries_error(card: &[u8]) -> Verdict
+fn entries_error(card: &[u8]) -> CardVerdict
     ensures { λ r. ⌜ r ≡ entriesError (drop 2 (fields (now (card .entry)))) ⌝ }
 {
     let last = card::last_field(card);
@@ -63,18 +63,18 @@ fn entries_error(card: &[u8]) -> Verdict
             return e;
         }
     }
-    Verdict::Good
+    CardVerdict::Good
 }
 
 // The first error of a TAL card by itself.
-pub fn tal_error(card: &[u8]) -> Verdict
+pub fn tal_error(card: &[u8]) -> CardVerdict
     ensures { λ r. ⌜ r ≡ talError (now (card .entry)) ⌝ }
 {
     if card::is_malformed(card) {
-        return Verdict::Wrong(CardError::TalWrong);
+        return CardVerdict::Wrong(CardError::TalWrong);
     }
     if card::last_field(card) < 2 {
-        return Verdict::Wrong(CardError::TalWrong);
+        return CardVerdict::Wrong(CardError::TalWrong);
     }
     entries_error(card)
 }

@@ -23,8 +23,8 @@ use Rattle.cards_fields.proofs.SpaceLaws.{has-spaceless, piece-spaceless, raw-s
 use Rattle.cards_request.specs.Errors.{good, errorIf, firstOf}
 use Rattle.cards_request.proofs.ErrorLaws.{good-is, or-else-some, or-else-good}
 use Rattle.cards_request.specs.declared.CardError.the-variants.{TrnWrong, TrnLong}
-use Rattle.cards_request.specs.declared.Verdict.{Verdict}
-use Rattle.cards_request.specs.declared.Verdict.the-variants.{Good, Wrong}
+use Rattle.cards_request.specs.declared.CardVerdict.{CardVerdict}
+use Rattle.cards_request.specs.declared.CardVerdict.the-variants.{Good, Wrong}
 use Rattle.cards_trn.specs.Trn.{isCount, hasCount, countError, isType, isSuccessor, partsOf, part, mostAt, rightAt, partError, partsError, transferError, thirdError, transfersError, trnError, thirdText, trnText}
 
 -- a count has no slash, with its spaces or without
@@ -115,7 +115,7 @@ module _ (t : List ℕ) (k : ℕ) (p : List ℕ) (at : p ≡ getD (pieces 47 t) 
     part-right h x e = rw (le-ltb (mostAt k) (length (part (spaceless t) k)) (rw (long) at h), e, part-is)
 
 -- the errors of the four parts, from one on
-abbrev pub partErrors : List ℕ → List Verdict
+abbrev pub partErrors : List ℕ → List CardVerdict
 partErrors t = partError t 0 ∷ partError t 1 ∷ partError t 2 ∷ partError t 3 ∷ []
 
 pub parts-all : (t : List ℕ) → firstOf (partErrors t) ≡ partsError t
@@ -131,7 +131,7 @@ module _ (t : List ℕ) where
   part-step (suc (suc (suc (suc k)))) h = absurd (omega arith)
 
   module _ (k : ℕ) where
-    module _ (h : k < 4) (v : Verdict) (is : v ≡ partError t k) where
+    module _ (h : k < 4) (v : CardVerdict) (is : v ≡ partError t k) where
       pub part-wrong : good v ≡ false → firstOf (drop k (partErrors t)) ≡ v
       part-wrong n = rw (part-step k h, ← is) (or-else-some v (firstOf (drop (k + 1) (partErrors t))) n)
 
@@ -142,7 +142,7 @@ module _ (t : List ℕ) where
     parts-done h = rw (drop-of-length-le (partErrors t) {i = k} h)
 
 -- a transfer
-module _ (t : List ℕ) (v : Verdict) (is : v ≡ partsError (spaceless t)) where
+module _ (t : List ℕ) (v : CardVerdict) (is : v ≡ partsError (spaceless t)) where
   pub transfer-wrong : good v ≡ false → transferError (spaceless t) ≡ v
   unfolding transferError
   transfer-wrong n = rw (← is) (or-else-some v (errorIf (ltb 4 (length (partsOf (spaceless t)))) TrnWrong) n)
@@ -189,7 +189,7 @@ module _ (card : List ℕ) (k : ℕ) where
     at : left ≡ spaceless (rawField card (k + 1)) ∷ drop (k + 1 + 1) (fields card)
     at = fields-step card (k + 1) h
 
-    module _ (v : Verdict) (is : v ≡ transferError (spaceless (rawField card (k + 1)))) where
+    module _ (v : CardVerdict) (is : v ≡ transferError (spaceless (rawField card (k + 1)))) where
       pub transfers-wrong : good v ≡ false → transfersError left ≡ v
       transfers-wrong n = rw (at, ← is) (or-else-some v (transfersError (drop (k + 1 + 1) (fields card))) n)
 
@@ -228,7 +228,7 @@ module _ (card : List ℕ) where
       unfolding trnError
       trn-none h = rw (m, le-leb (length (fields card)) 2 h)
 
-      module _ (h : 2 < length (fields card)) (v : Verdict) (is : v ≡ thirdError counted (spaceless (rawField card 2))) where
+      module _ (h : 2 < length (fields card)) (v : CardVerdict) (is : v ≡ thirdError counted (spaceless (rawField card 2))) where
         third-is : thirdError counted (field card 2) ≡ v
         third-is = ap (thirdError counted) (sym (raw-spaceless card 2)) ∙ sym is
 

@@ -13,6 +13,7 @@ use lib.Seq.{drop-cons}
 use borrow.Author.Tests.{eqb-true, eq-eqb, le-leb, lt-leb, leb-true, leb-false, le-ltb, lt-ltb, ltb-false, not-false}
 use Rattle.numbers.specs.Quoted.{bytes}
 use Rattle.numbers.proofs.Tests.{by-bool, never, both}
+use Rattle.numbers.specs.Limits.{cardLength}
 use Rattle.text.specs.Class.{isDigit, isLetter, isAlnum}
 use Rattle.text.specs.Writing.{decimalText}
 use Rattle.text.proofs.Undo.{few-digits}
@@ -25,7 +26,7 @@ use Rattle.cards_fields.proofs.RoundLaws.{has-not, pieces-join, pieces-one, joi
 use Rattle.cards_request.specs.Errors.{errorIf, firstOf}
 use Rattle.cards_request.proofs.ErrorLaws.{or-else-none, or-else-good, not-error}
 use Rattle.cards_request.specs.declared.CardError.the-variants.{TrnWrong, TrnLong}
-use Rattle.cards_request.specs.declared.Verdict.the-variants.{Good}
+use Rattle.cards_request.specs.declared.CardVerdict.the-variants.{Good}
 use Rattle.cards_trn.specs.Trn.{isTrn, isCount, hasCount, countError, isType, isSuccessor, partsOf, part, mostAt, rightAt, partError, partsError, transferError, thirdError, transfersError, trnError, thirdText, fieldTexts, trnText}
 use Rattle.cards_trn.specs.Transfers.{Transfer, ProperTransfer, EachTransfer, isThere, transferText, transferTexts, trnFields, ProperTrn, trnOf}
 
@@ -243,7 +244,7 @@ pub record TrnWritten (id : List ℕ) (c : Option ℕ) (ts : List Transfer) (car
   pub other : same (field card 1) (bytes "TAL") ≡ false
   pub line : NoLf card
   pub counts : hasCount card ≡ isThere c
-  pub good : (counted : Bool) → (isThere c ≡ true → counted ≡ false) → length card ≤ 80 → trnError counted card ≡ Good
+  pub good : (counted : Bool) → (isThere c ≡ true → counted ≡ false) → length card ≤ cardLength → trnError counted card ≡ Good
   pub text : trnText card ≡ trnOf c ts
   pub countBack : meantCount card ≡ c
   pub transfersBack : meantTransfers card ≡ ts
@@ -276,7 +277,7 @@ module _ (id : List ℕ) (c : Option ℕ) (ts : List Transfer) (d : every plain 
   unfolding hasCount
   counts = rw (apart, lt-ltb 2 (length (id ∷ texts)) three) (fields-counted c ts p)
 
-  good : (counted : Bool) → (isThere c ≡ true → counted ≡ false) → length card ≤ 80 → trnError counted card ≡ Good
+  good : (counted : Bool) → (isThere c ≡ true → counted ≡ false) → length card ≤ cardLength → trnError counted card ≡ Good
   unfolding trnError
   good counted e l =
       let m : malformed card ≡ false = ap malformed card-is ∙ card-good id texts all (rw card-is at l) in

@@ -10,8 +10,8 @@ use Rattle.words.specs.Words.{has, same, numberIn}
 use Rattle.cards_fields.specs.Fields.{digits, field, fields, pieces, isName, malformed, tailText}
 use Rattle.cards_request.specs.Errors.{errorIf, orElse, firstOf}
 use Rattle.cards_request.specs.declared.CardError.the-variants.{TrnWrong, TrnLong}
-use Rattle.cards_request.specs.declared.Verdict.{Verdict}
-use Rattle.cards_request.specs.declared.Verdict.the-variants.{Good}
+use Rattle.cards_request.specs.declared.CardVerdict.{CardVerdict}
+use Rattle.cards_request.specs.declared.CardVerdict.the-variants.{Good}
 
 -- the card is TRN
 abbrev pub isTrn : List ℕ → Bool
@@ -26,7 +26,7 @@ unfoldable pub hasCount : List ℕ → Bool
 hasCount card = ltb 2 (length (fields card)) && isCount (field card 2)
 
 -- "over two characters: 8; empty, not all digits, or an earlier TRN card of the group has a count: 7"
-unfoldable pub countError : Bool → List ℕ → Verdict
+unfoldable pub countError : Bool → List ℕ → CardVerdict
 countError counted t =
     orElse (errorIf (ltb 2 (length t)) TrnLong)
     (errorIf (counted || not (digits t)) TrnWrong)
@@ -56,29 +56,29 @@ abbrev pub rightAt : ℕ → List ℕ → Bool
 rightAt k t = getD (isName ∷ isType ∷ isSuccessor ∷ isName ∷ []) k isName t
 
 -- "Part by part: over 6, 2, 6, 6 characters: 8; absent, empty or wrong: 7"
-unfoldable pub partError : List ℕ → ℕ → Verdict
+unfoldable pub partError : List ℕ → ℕ → CardVerdict
 partError t k = orElse (errorIf (ltb (mostAt k) (length (part t k))) TrnLong) (errorIf (not (rightAt k (part t k))) TrnWrong)
 
 -- the four of them
-unfoldable pub partsError : List ℕ → Verdict
+unfoldable pub partsError : List ℕ → CardVerdict
 partsError t = firstOf (partError t 0 ∷ partError t 1 ∷ partError t 2 ∷ partError t 3 ∷ [])
 
 -- and "After the fourth, a fifth part (even empty): 7"
-unfoldable pub transferError : List ℕ → Verdict
+unfoldable pub transferError : List ℕ → CardVerdict
 transferError t = orElse (partsError t) (errorIf (ltb 4 (length (partsOf t))) TrnWrong)
 
 -- the third field
-abbrev pub thirdError : Bool → List ℕ → Verdict
+abbrev pub thirdError : Bool → List ℕ → CardVerdict
 thirdError counted t = cond (isCount t) (countError counted t) (transferError t)
 
 -- the fields behind it
-abbrev pub transfersError : List (List ℕ) → Verdict
+abbrev pub transfersError : List (List ℕ) → CardVerdict
 transfersError [] = Good
 transfersError (t ∷ ts) = orElse (transferError t) (transfersError ts)
 
 -- "malformed: 7; no third field: 7; then the fields from the third on, left to right"; `counted`: an earlier TRN card
 -- of the group has a count
-unfoldable pub trnError : Bool → List ℕ → Verdict
+unfoldable pub trnError : Bool → List ℕ → CardVerdict
 trnError counted card =
     firstOf
     (errorIf (malformed card) TrnWrong

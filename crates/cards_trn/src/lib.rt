@@ -2,7 +2,7 @@
 use cards_fields::card;
 use cards_fields::parts;
 use cards_request::CardError;
-use cards_request::Verdict;
+use cards_request::CardVerdict;
 use words::Class;
 ghost use mathlib.Core.Path.{_≡_};
 ghost use Prim.Native.Nat.{_<_};
@@ -40,25 +40,25 @@ pub fn has_count(card: &[u8]) -> bool
 }
 
 // The error of a count; `counted`: an earlier card of the group has one.
-fn count_error(t: &[u8], counted: bool) -> Verdict
+fn count_error(t: &[u8], counted: bool) -> CardVerdict
     ensures { λ r. ⌜ r ≡ countError counted (spaceless (now (t .entry))) ⌝ }
 {
     let f = parts::gathered(t);
     let n = f.len;
     if 2 < n {
-        return Verdict::Wrong(CardError::TrnLong);
+        return CardVerdict::Wrong(CardError::TrnLong);
     }
     if counted {
-        return Verdict::Wrong(CardError::TrnWrong);
+        return CardVerdict::Wrong(CardError::TrnWrong);
     }
     if n < 1 {
-        return Verdict::Wrong(CardError::TrnWrong);
+        return CardVerdict::Wrong(CardError::TrnWrong);
     }
     let bytes = f.bytes;
     if words::all_of(Class::Digit, &bytes[..n]) {
-        return Verdict::Good;
+        return CardVerdict::Good;
     }
-    Verdict::Wrong(CardError::TrnWrong)
+    CardVerdict::Wrong(CardError::TrnWrong)
 }
 
 // Whether a text is a transfer's type, its spaces dropped.
@@ -125,22 +125,22 @@ fn is_right(k: usize, t: &[u8]) -> bool
 }
 
 // The error of a transfer's part: its length first.
-fn part_error(t: &[u8], k: usize) -> Verdict
+fn part_error(t: &[u8], k: usize) -> CardVerdict
     requires { ⌜ k < 4 ⌝ }
     ensures { λ r. ⌜ r ≡ partError (spaceless (now (t .entry))) k ⌝ }
 {
     let part = parts::piece_at(t, b'/', k);
     if MOST[k] < parts::gathered(part).len {
-        return Verdict::Wrong(CardError::TrnLong);
+        return CardVerdict::Wrong(CardError::TrnLong);
     }
     if is_right(k, part) {
-        return Verdict::Good;
+        return CardVerdict::Good;
     }
-    Verdict::Wrong(CardError::TrnWrong)
+    CardVerdict::Wrong(CardError::TrnWrong)
 }
 
 // The first error of a transfer's parts, left to right.
-fn parts_error(t: &[u8]) -> Verdict
+fn parts_error(t: &[u8]) -> CardVerdict
     ensures { λ r. ⌜ r ≡ partsError (spaceless (now (t .entry))) ⌝ }
 {
     let mut k: usize = 0;
@@ -151,11 +151,11 @@ fn parts_error(t: &[u8]) -> Verdict
         }
         k += 1;
     }
-    Verdict::Good
+    CardVerdict::Good
 }
 
 // The error of a transfer: its parts, then that there are more than four.
-fn transfer_error(t: &[u8]) -> Verdict
+fn transfer_error(t: &[u8]) -> CardVerdict
     ensures { λ r. ⌜ r ≡ transferError (spaceless (now (t .entry))) ⌝ }
 {
     let e = parts_error(t);
@@ -163,13 +163,13 @@ fn transfer_error(t: &[u8]) -> Verdict
         return e;
     }
     if 3 < parts::cuts(t, b'/') {
-        return Verdict::Wrong(CardError::TrnWrong);
+        return CardVerdict::Wrong(CardError::TrnWrong);
     }
-    Verdict::Good
+    CardVerdict::Good
 }
 
 // The error of a third field: a count or a transfer.
-fn third_error(t: &[u8], counted: bool) -> Verdict
+fn third_error(t: &[u8], counted: bool) -> CardVerdict
     ensures { λ r. ⌜ r ≡ thirdError counted (spaceless (now (t .entry))) ⌝ }
 {
     if is_count(t) {
@@ -179,7 +179,7 @@ fn third_error(t: &[u8], counted: bool) -> Verdict
 }
 
 // The first error of the transfers behind the third field, left to right.
-fn transfers_error(card: &[u8]) -> Verdict
+fn transfers_error(card: &[u8]) -> CardVerdict
     ensures { λ r. ⌜ r ≡ transfersError (drop 3 (fields (now (card .entry)))) ⌝ }
 {
     let last = card::last_field(card);
@@ -191,18 +191,18 @@ fn transfers_error(card: &[u8]) -> Verdict
             return e;
         }
     }
-    Verdict::Good
+    CardVerdict::Good
 }
 
 // The first error of a TRN card by itself; `counted`: an earlier card of the group has a count.
-pub fn trn_error(card: &[u8], counted: bool) -> Verdict
+pub fn trn_error(card: &[u8], counted: bool) -> CardVerdict
     ensures { λ r. ⌜ r ≡ trnError counted (now (card .entry)) ⌝ }
 {
     if card::is_malformed(card) {
-        return Verdict::Wrong(CardError::TrnWrong);
+        return CardVerdict::Wrong(CardError::TrnWrong);
     }
     if card::last_field(card) < 2 {
-        return Verdict::Wrong(CardError::TrnWrong);
+        return CardVerdict::Wrong(CardError::TrnWrong);
     }
     let e = third_error(parts::raw_field(card, 2), counted);
     if !cards_request::is_good(e) {

@@ -20,7 +20,7 @@ use Rattle.words.specs.Words.{every, value, leading, isnt}
 use Rattle.words.proofs.WordLaws.{every-append, every-weaker}
 use Rattle.cards_fac.specs.Fac.{codes, lastCode, indexIn, codeText, channelText, slashAt, numberText, channelGood, most, numberGood, slot, slots, codeOf, slotOf, formError, entriesError, allEntered, nothing}
 use Rattle.cards_fac.proofs.EntryLaws.{code-known, code-size}
-use Rattle.cards_request.specs.declared.Verdict.the-variants.{Good}
+use Rattle.cards_request.specs.declared.CardVerdict.the-variants.{Good}
 use Rattle.cards_writing.specs.Writing.{codeAt, channelAt, entryText, entryTexts, limit, numbersFit}
 use Rattle.cards_fields.proofs.CardLaws.{plain, AllPlain, digit-plain, letter-plain, digit-no-letter, number-back, number-digits}
 

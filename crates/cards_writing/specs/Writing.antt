@@ -5,6 +5,7 @@ use mathlib.Core.List.{List, [], _∷_, _++_}
 use lib.Dec.{eqb, ltb}
 use lib.ListN.{length, getD}
 use Rattle.numbers.specs.Quoted.{byte, bytes}
+use Rattle.numbers.specs.Limits.{lastSequence, lastPrecedence}
 use Rattle.text.specs.Class.{isLetter}
 use Rattle.text.specs.Writing.{twoText, decimalText}
 use Rattle.cards_fields.specs.Fields.{cardText, spaceless}
@@ -105,7 +106,7 @@ namesFormed r = formed 6 (r .id) && (formed 12 (r .program) && (formed 6 (r .med
 
 -- the priority's parts and the minutes are ones that a card can hold
 abbrev pub rangesGood : Request → Bool
-rangesGood r = isLetter (r .letter) && (ltb (r .sequence) 64 && (ltb (r .precedence) 64 && ltb (r .minutes) 10000))
+rangesGood r = isLetter (r .letter) && (ltb (r .sequence) (lastSequence + 1) && (ltb (r .precedence) (lastPrecedence + 1) && ltb (r .minutes) 10000))
 
 -- 13: "request to write against a field, entry, 14 or 27 rule above", of a request of n cards
 unfoldable pub takes : ℕ → Request → Bool

@@ -2,6 +2,7 @@
 use crate::put;
 use cards_request::Facilities;
 use cards_request::Request;
+use numbers::limits;
 ghost use mathlib.Core.Path.{_≡_};
 ghost use mathlib.Core.Bool.{false};
 ghost use mathlib.Core.List.{[]};
@@ -107,10 +108,10 @@ fn are_ranges(r: Request) -> bool
     if !text::is_letter(r.letter) {
         return false;
     }
-    if 63 < r.sequence {
+    if limits::LAST_SEQUENCE < r.sequence {
         return false;
     }
-    if 63 < r.precedence {
+    if limits::LAST_PRECEDENCE < r.precedence {
         return false;
     }
     r.minutes < 10000

@@ -1,25 +1,25 @@
 // Runs each case of data/ and compares: the arguments are the names of the decks, each before what must come out. A deck
 // is printed piece by piece, and each piece is compared with what is left of the wanted text.
-use cards_report::Phase;
+use cards_report::Coming;
 
 // Whether nothing more is to be printed.
-fn is_over(phase: Phase) -> bool {
-    match phase {
-        Phase::Groups => false,
-        Phase::Refused(_) => false,
-        Phase::Over => true,
+fn is_over(coming: Coming) -> bool {
+    match coming {
+        Coming::Groups => false,
+        Coming::Refused(_) => false,
+        Coming::Over => true,
     }
 }
 
 // Whether what is printed of a deck is a text; the loop counts its turns down, as the program's does.
 fn prints(deck: &[u8], wanted: &[u8]) -> bool {
-    let mut room = [0u8; 2048];
+    let mut room = [0u8; cards_report::ROOM];
     let mut printing = cards_report::begin(deck);
     let mut from: usize = 0;
     let mut left = cards_report::TURNS;
     while 0 < left {
-        let phase = printing.phase;
-        if is_over(phase) {
+        let coming = printing.coming;
+        if is_over(coming) {
             return from == wanted.len();
         }
         let printed = cards_report::next(deck, printing, &mut room);

@@ -6,7 +6,7 @@ fn agrees(i: usize, j: usize) -> bool {
     let input = cases::load(i, &mut text);
     let mut wanted = io::large_buffer();
     let output = cases::load(j, &mut wanted);
-    let mut room = [0; 53248];
+    let mut room = [0; schedule_deck::ROOM];
     let length = schedule_deck::report(&text[..input.len], &mut room);
     input.there && output.there && check::same(&room[..length], &wanted[..output.len])
 }

@@ -5,7 +5,7 @@ use mathlib.Core.List.{List}
 use native.Mathlib.Omega.{arith}
 use lib.ListN.{length, take, drop, length-drop}
 use lib.Seq.{length-take-le}
-use Rattle.shift_lines.proofs.LineLaws.{taken-most, taken-some}
+use Rattle.input_lines.proofs.LineLaws.{taken-most, taken-some}
 use Rattle.desk_hearing.specs.Hearing.{Standing, Heard}
 
 pub part-within : {s t : Standing} {out after· : List ℕ} {taken n : ℕ} (input : List ℕ) (at end : ℕ) → at < end → end ≤ length input

@@ -14,12 +14,17 @@ fn end_of(at: usize, size: usize, len: usize) -> usize
 }
 
 // Plays an input in pieces of a size: all that is printed, put behind each other, and how long that is.
-fn play(input: &[u8], size: usize, out: &mut [u8; 16396], said: &mut [u8; 65536]) -> usize
+fn play(
+    input: &[u8],
+    size: usize,
+    out: &mut [u8; desk_hearing::ROOM],
+    said: &mut [u8; 65536],
+) -> usize
     requires { ⌜ 0 < size ⌝ }
 {
-    let mut line = [0u8; 16385];
-    let mut repair = [0u8; 16385];
-    let mut day = [0u8; 16385];
+    let mut line = [0u8; desk_hearing::KEPT];
+    let mut repair = [0u8; desk_hearing::KEPT];
+    let mut day = [0u8; desk_hearing::KEPT];
     let mut desk = desk_hearing::fresh();
     let mut at: usize = 0;
     let mut len: usize = 0;
@@ -29,20 +34,25 @@ fn play(input: &[u8], size: usize, out: &mut [u8; 16396], said: &mut [u8; 65536]
         let heard = desk_hearing::hear(desk, piece, &mut line, &mut repair, &mut day, out);
         desk = heard.desk;
         at += heard.taken;
-        len = text::put_bytes(said, len, shift_lines::front(out, heard.at));
+        len = text::put_bytes(said, len, input_lines::front(out, heard.at));
     }
     let last = desk_hearing::finish(desk, &line, &repair, &day, out);
-    text::put_bytes(said, len, shift_lines::front(out, last))
+    text::put_bytes(said, len, input_lines::front(out, last))
 }
 
 // Whether all that is printed of an input, whole and in pieces, is this text.
-fn prints(input: &[u8], out: &mut [u8; 16396], said: &mut [u8; 65536], wanted: &[u8]) -> bool {
+fn prints(
+    input: &[u8],
+    out: &mut [u8; desk_hearing::ROOM],
+    said: &mut [u8; 65536],
+    wanted: &[u8],
+) -> bool {
     let whole = play(input, 65536, out, said);
-    if !check::same(shift_lines::front(said, whole), wanted) {
+    if !check::same(input_lines::front(said, whole), wanted) {
         return false;
     }
     let pieces = play(input, 7, out, said);
-    check::same(shift_lines::front(said, pieces), wanted)
+    check::same(input_lines::front(said, pieces), wanted)
 }
 
 // Whether what is printed of file i is file j; a missing one is a failure.
@@ -51,7 +61,7 @@ fn agrees(i: usize, j: usize) -> bool {
     let input = cases::load(i, &mut text);
     let mut wanted = io::large_buffer();
     let output = cases::load(j, &mut wanted);
-    let mut out = [0u8; 16396];
+    let mut out = [0u8; desk_hearing::ROOM];
     let mut said = io::large_buffer();
     input.there
         && output.there

@@ -1,29 +1,30 @@
 // Runs each case of data/ and compares: the arguments are the names of the inputs, each before what must come out.
+use numbers::limits;
 use shift_turns::Shift;
 
 // The end of a script, after `kept` bytes of a last line: its answer is put behind what was said before.
 fn finish(
     shift: Shift,
     kept: usize,
-    line: &[u8; 20480],
-    room: &mut [u8; 16384],
-    answer: &mut [u8; 53248],
+    line: &[u8; shift_hearing::LINE],
+    room: &mut [u8; limits::DECK_BYTES],
+    answer: &mut [u8; schedule_deck::ROOM],
     said: &mut [u8; 65536],
     len: usize,
 ) -> usize {
     let n = shift_hearing::finish(shift, kept, line, room, answer);
-    text::put_bytes(said, len, shift_lines::front(answer, n))
+    text::put_bytes(said, len, input_lines::front(answer, n))
 }
 
 // Plays a script, its lines taken up in the room for one: all that is answered, and how long that is.
 fn play(
     script: &[u8],
-    line: &mut [u8; 20480],
-    out: &mut [u8; 65536],
+    line: &mut [u8; shift_hearing::LINE],
+    out: &mut [u8; shift_hearing::OUT],
     said: &mut [u8; 65536],
 ) -> usize {
-    let mut room = [0u8; 16384];
-    let mut answer = [0u8; 53248];
+    let mut room = [0u8; limits::DECK_BYTES];
+    let mut answer = [0u8; schedule_deck::ROOM];
     let mut shift = shift_turns::fresh();
     let mut kept: usize = 0;
     let mut at: usize = 0;
@@ -41,7 +42,7 @@ fn play(
         shift = heard.shift;
         kept = heard.len;
         at += heard.taken;
-        len = text::put_bytes(said, len, shift_lines::front(out, heard.at));
+        len = text::put_bytes(said, len, input_lines::front(out, heard.at));
     }
     finish(shift, kept, line, &mut room, &mut answer, said, len)
 }
@@ -49,13 +50,13 @@ fn play(
 // Whether all that is answered to a script is this text.
 fn says(
     script: &[u8],
-    line: &mut [u8; 20480],
-    out: &mut [u8; 65536],
+    line: &mut [u8; shift_hearing::LINE],
+    out: &mut [u8; shift_hearing::OUT],
     said: &mut [u8; 65536],
     wanted: &[u8],
 ) -> bool {
     let length = play(script, line, out, said);
-    check::same(shift_lines::front(said, length), wanted)
+    check::same(input_lines::front(said, length), wanted)
 }
 
 // Whether the answers to the script in file i are file j; a missing one is a failure.
@@ -66,7 +67,7 @@ fn agrees(i: usize, j: usize) -> bool {
     let output = cases::load(j, &mut wanted);
     let mut out = io::large_buffer();
     let mut said = io::large_buffer();
-    let mut line = [0u8; 20480];
+    let mut line = [0u8; shift_hearing::LINE];
     input.there
         && output.there
         && says(

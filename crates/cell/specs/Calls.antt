@@ -30,7 +30,7 @@ use Rattle.lists.specs.declared.StatusAnswer.{StatusAnswer}
 use Rattle.keyboard.specs.Messages.{readMessage}
 use Rattle.keyboard.specs.declared.Asked.{Asked}
 use Rattle.keyboard.specs.declared.Asked.the-variants as Asked′
-use Rattle.keyboard_answers.specs.Answers.{answerText}
+use Rattle.keyboard_answers.specs.MessageAnswers.{answerText}
 use Rattle.keyboard_answers.specs.declared.Told.the-variants.{Said, Mistyped}
 use Rattle.cell_selection.specs.Selecting.{Takes}
 use Rattle.cell_selection.specs.declared.Choice.{Choice}

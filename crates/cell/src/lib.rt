@@ -72,7 +72,7 @@ pub fn fresh(configuration: Configuration) -> Cell
 
 // Enters a deck: its error lines and the last line are put into the lent room, which holds all of them; a refused deck
 // changes nothing.
-pub fn enter(cell: Cell, deck: &[u8], out: &mut [u8; 53248]) -> DeckAnswer
+pub fn enter(cell: Cell, deck: &[u8], out: &mut [u8; schedule_deck::ROOM]) -> DeckAnswer
     ensures { λ r. ⌜ Enters cell (now (deck .entry)) (now (out .entry)) (now (out .exit)) r ⌝ }
 {
     let schedule = cell.schedule;

@@ -11,6 +11,7 @@ use borrow.Author.Tests.{eqb-true, eqb-false, ltb-true, ltb-false, lt-ltb, ne-eq
 use Rattle.packets.proofs.Laws.{eqb-self}
 use Rattle.numbers.specs.Quoted.{byte}
 use Rattle.numbers.proofs.Tests.{both, by-bool, never}
+use Rattle.numbers.specs.Elements.{find}
 use Rattle.cards_fields.specs.Deck.{deckEnd, deckGroups}
 use Rattle.cards_fields.specs.declared.DeckEnd.{DeckEnd}
 use Rattle.cards_fields.specs.declared.DeckEnd.the-variants.{At, Refused}
@@ -18,22 +19,25 @@ use Rattle.cards_request.specs.Errors.{errorIf}
 use Rattle.cards_request.proofs.ErrorLaws.{not-good, or-else-none}
 use Rattle.cards_group.specs.Group.{readGroup}
 use Rattle.cards_request.specs.declared.CardError.the-variants.{InSchedule}
-use Rattle.cards_request.specs.declared.Verdict.{Verdict}
-use Rattle.cards_request.specs.declared.Verdict.the-variants.{Good, Wrong}
+use Rattle.cards_request.specs.declared.CardVerdict.{CardVerdict}
+use Rattle.cards_request.specs.declared.CardVerdict.the-variants.{Good, Wrong}
 use Rattle.cards_request.specs.declared.Request.{Request}
 use Rattle.schedule_entries.specs.Entries.{active, blank, firstState, inPlace, isNamed, suspended, waiting}
 use Rattle.schedule_entries.specs.declared.Entry.{Entry}
 use Rattle.schedule_entries.specs.declared.State.{State}
 use Rattle.schedule_entries.specs.declared.State.the-variants.{Closing, Running, Suspended, Waiting}
-use Rattle.schedule_list.specs.InSchedule.{changedAt, entryAt, find, inSchedule, removed, scheduleOf, there, withState}
+use Rattle.schedule_list.specs.InSchedule.{changedAt, entryAt, inSchedule, removed, scheduleOf, there, withState}
 use Rattle.schedule_list.specs.Queries.{without}
 use Rattle.schedule_list.proofs.InScheduleLaws.{in-of}
 use Rattle.schedule_list.proofs.IndexLaws.{removed-at}
 use Rattle.schedule_list.specs.declared.Schedule.{Schedule}
-use Rattle.schedule.specs.Calls.{barred, clashError, closing, deleted, enterError, entered, enteringBy, released, returned, taken}
-use Rattle.schedule.specs.ByIndex.{barredAt, deletedAt, ofJob, ofName, releasedAt, returnedAt}
+use Rattle.schedule.specs.Calls.{closing, deleted, released, returned, taken}
+use Rattle.schedule.specs.ByIndex.{deletedAt, ofJob, ofName, releasedAt, returnedAt}
 use Rattle.schedule.specs.declared.Changed.{Changed}
-use Rattle.schedule.proofs.ByIndexLaws.{barred-at, closing-at, deleted-at, released-at, returned-at}
+use Rattle.schedule.proofs.ByIndexLaws.{closing-at, deleted-at, released-at, returned-at}
+use Rattle.schedule_entering.specs.Entering.{barred, clashError, enterError, entered, enteringBy}
+use Rattle.schedule_entering.specs.Outlines.{barredAt}
+use Rattle.schedule_entering.proofs.Clashes.{barred-at}
 use Rattle.schedule_deck.specs.Report.{after, begin, deckSchedule, endFrom, scheduleBy, triedBy}
 use Rattle.schedule_deck.specs.declared.Progress.{Progress}
 use Rattle.cell_agreement.specs.Agreement.{statesIn}
@@ -93,7 +97,7 @@ module _ (j : ℕ) where
       by true e = not-good e
       by false e = refl
 
-  kept-entering : (s : Schedule) (r : Request) (v : Verdict) → enterError (inSchedule s) r ≡ v → seen j (enteringBy v s r .schedule) ≡ seen j s
+  kept-entering : (s : Schedule) (r : Request) (v : CardVerdict) → enterError (inSchedule s) r ≡ v → seen j (enteringBy v s r .schedule) ≡ seen j s
   kept-entering s r Good e =
       let es = inSchedule s in
       let k = ofName (r .id) es in
@@ -103,7 +107,7 @@ module _ (j : ℕ) where
       ∙ without-apart j k es (open-idle k es (barred-at (r .id) es ∙ not-barred es r e))
   kept-entering s r (Wrong x) e = refl
 
-  kept-tried : (v : Verdict) (s : Schedule) (r : Request) → seen j (triedBy v s r .schedule) ≡ seen j s
+  kept-tried : (v : CardVerdict) (s : Schedule) (r : Request) → seen j (triedBy v s r .schedule) ≡ seen j s
   kept-tried Good s r = kept-entering s r (enterError (inSchedule s) r) refl
   kept-tried (Wrong e) s r = refl
 

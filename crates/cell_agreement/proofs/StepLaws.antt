@@ -13,7 +13,7 @@ use Rattle.schedule_entries.specs.declared.State.the-variants as Request
 use Rattle.schedule_list.specs.declared.Schedule.{Schedule}
 use Rattle.schedule.specs.Calls as Schedules
 use Rattle.packets.proofs.Laws.{and-left}
-use Rattle.packets.specs.Picks.{find}
+use Rattle.numbers.specs.Elements.{find}
 use Rattle.packets.specs.Rules as Rules
 use Rattle.packets.specs.Rules.{
   Do,

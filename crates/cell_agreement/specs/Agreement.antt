@@ -13,7 +13,7 @@ use Rattle.schedule_entries.specs.declared.State.{State as RequestState}
 use Rattle.schedule_entries.specs.declared.State.the-variants as Request
 use Rattle.schedule_list.specs.InSchedule.{entryAt, inSchedule}
 use Rattle.schedule_orderly.specs.Orderly.{Sound}
-use Rattle.packets.specs.Picks.{keep}
+use Rattle.numbers.specs.Elements.{keep}
 use Rattle.packets.specs.State.{isClosing, stateIn}
 use Rattle.packets.specs.declared.Job.{Job}
 use Rattle.packets.specs.declared.JobState.{JobState}

@@ -9,7 +9,7 @@ use Rattle.cell_selection.specs.declared.Taking.{Taking}
 use Rattle.text.specs.Room.{Whole}
 use Rattle.text.proofs.RoomLaws.{whole-one}
 use Rattle.keyboard.specs.Messages.{readMessage}
-use Rattle.keyboard_answers.specs.Answers.{answerText}
+use Rattle.keyboard_answers.specs.MessageAnswers.{answerText}
 use Rattle.keyboard_answers.specs.declared.Told.{Told}
 use Rattle.cell.specs.Calls.{Enters, Keys, SelectsIn, outcomeOf}
 use Rattle.cell.specs.declared.Cell.{Cell}

@@ -22,7 +22,8 @@ use Rattle.cards_request.specs.declared.Request.{Request}
 use Rattle.schedule_entries.specs.declared.Entry.{Entry}
 use Rattle.assign.specs.Assignment.{IsAssignment}
 use Rattle.packets.specs.Apart.{Fits, inCore}
-use Rattle.packets.specs.Picks.{any}
+use Rattle.numbers.specs.Elements.{any}
+use Rattle.numbers.specs.Limits.{blocks}
 use Rattle.packets.specs.Rules as Rules
 use Rattle.packets.specs.State.{inRun, isEmpty, jobIn, noJob, stateIn, wanted}
 use Rattle.packets.proofs.Store.{alive-in}
@@ -32,7 +33,7 @@ use Rattle.packets.specs.declared.Lists.{Lists}
 use Rattle.lists.specs.Outcomes.{stateOf}
 use Rattle.cell_taken.specs.Taken.{anyHas, areaOf, coreOf, inBlocks, occupancy}
 use Rattle.cell_taken.proofs.TakenLaws.{occupancy-bit}
-use Rattle.cell_selection.specs.Selecting.{Selected, assignmentOf, isTaken, runOf, seenIn, takingOf}
+use Rattle.cell_selection.specs.Selecting.{Selected, assignmentOf, isTaken, runOf, supplyIn, takingOf}
 use Rattle.cell_selection.specs.declared.Selection.{Selection}
 
 -- some element of a list passes a test
@@ -64,8 +65,8 @@ module _ (es : List Entry) (lists : Lists) (s : Selection) (d : Selected es list
   asks = s .request .facilities
 
   -- the chosen assignment is one
-  is : IsAssignment (seenIn lists) asks (s .assigned)
-  is = subst (λ (r : Request). IsAssignment (seenIn lists) (r .facilities) (s .assigned)) (sym (d .request)) (d .fit .chosen .is)
+  is : IsAssignment (supplyIn lists) asks (s .assigned)
+  is = subst (λ (r : Request). IsAssignment (supplyIn lists) (r .facilities) (s .assigned)) (sym (d .request)) (d .fit .chosen .is)
 
   -- words of drum that no job holds
   pub area-fits : Fits Rules.inArea (stateOf lists) (takingOf s)
@@ -81,14 +82,14 @@ module _ (es : List Entry) (lists : Lists) (s : Selection) (d : Selected es list
       (subst (λ (a : Area). In a x) (sym there) (record { from = leb-true (jobIn jobs i .from) x (k .0); below = ltb-true x (jobIn jobs i .from + jobIn jobs i .words) (k .1) }))
 
   -- a block that a live job holds is not free in the occupancy word
-  held-bit : (i b : ℕ) → isEmpty (stateIn jobs i) ≡ false → inCore (jobIn jobs i) b ≡ true → b < 32 → bit (occupancy (anyHas (map coreOf jobs)) 32) b ≡ 0 → ⊥
+  held-bit : (i b : ℕ) → isEmpty (stateIn jobs i) ≡ false → inCore (jobIn jobs i) b ≡ true → b < blocks → bit (occupancy (anyHas (map coreOf jobs)) blocks) b ≡ 0 → ⊥
   unfolding stateIn
   held-bit i b alive hold h z =
       let f : Core → Bool = λ (core : Core). inBlocks core b in
       let a : any f (map coreOf jobs) ≡ true =
       any-here f (map coreOf jobs) i (coreOf noJob) (subst (λ (n : ℕ). i < n) (sym (length-map jobs coreOf)) (alive-in jobs i (unfold stateIn in alive)))
       (ap f (List·getD-map coreOf jobs i noJob ∙ live-core (jobIn jobs i) alive) ∙ hold) in
-      let o : bit (occupancy (anyHas (map coreOf jobs)) 32) b ≡ cond (anyHas (map coreOf jobs) b) 1 0 = occupancy-bit (anyHas (map coreOf jobs)) 32 b h in
+      let o : bit (occupancy (anyHas (map coreOf jobs)) blocks) b ≡ cond (anyHas (map coreOf jobs) b) 1 0 = occupancy-bit (anyHas (map coreOf jobs)) blocks b h in
       let one : _≡_ {A = ℕ} (cond (anyHas (map coreOf jobs) b) 1 0) 1 = ap (λ (t : Bool). cond t 1 0) a in
       let n : _≡_ {A = ℕ} 0 1 = sym z ∙ o ∙ one in
       absurd (omega arith)

@@ -11,7 +11,7 @@ use Rattle.numbers.proofs.Tests.{by-bool, never}
 use Rattle.schedule_entries.specs.declared.Entry.{Entry}
 use Rattle.schedule_list.specs.InSchedule.{inSchedule, entryAt}
 use Rattle.schedule_list.specs.declared.Schedule.{Schedule}
-use Rattle.assign.specs.Assignment.{Cell}
+use Rattle.assign.specs.Assignment.{Supply}
 use Rattle.assign.specs.Parts.{Has, parts}
 use Rattle.assign.proofs.FirstLaws.{first-one}
 use Rattle.assign.proofs.ChosenLaws.{chosen-one}
@@ -27,7 +27,7 @@ use Rattle.cell_taken.specs.Taken.{LowestFree}
 use Rattle.cell_taken.proofs.TakenLaws.{lowest-one}
 use Rattle.cell_taken.specs.declared.FreePlace.{FreePlace}
 use Rattle.cell_taken.specs.declared.FreePlace.the-variants.{At, Full}
-use Rattle.cell_selection.specs.Selecting.{AllHeld, FirstFit, FirstLacks, NoFit, Selected, Selects, SelectsBy, Takes, Unselected, isJob, leftBy, seenIn, takingOf, unselected}
+use Rattle.cell_selection.specs.Selecting.{AllHeld, FirstFit, FirstLacks, NoFit, Selected, Selects, SelectsBy, Takes, Unselected, isJob, leftBy, supplyIn, takingOf, unselected}
 use Rattle.cell_selection.specs.declared.Choice.{Choice}
 use Rattle.cell_selection.specs.declared.Choice.the-variants.{Job, NoPlace, NoCandidates, Lacks}
 use Rattle.cell_selection.specs.declared.Selection.{Selection}
@@ -39,26 +39,26 @@ use Rattle.cell_selection.specs.declared.Taking.{Taking}
 level : {k m : ℕ} → (k < m → ⊥) → (m < k → ⊥) → k ≡ m
 level f g = omega arith
 
-module _ (es : List Entry) (cell : Cell) where
+module _ (es : List Entry) (supply : Supply) where
   -- a first fit is not found where none is
-  fit-some : {k : ℕ} {a : Assigned} → FirstFit es cell k a → NoFit es cell → ⊥
+  fit-some : {k : ℕ} {a : Assigned} → FirstFit es supply k a → NoFit es supply → ⊥
   fit-some {k} {a} f n = n k (f .candidate) a (f .chosen .is)
 
   -- two first fits stand at one index
-  fit-at : {k m : ℕ} {a b : Assigned} → FirstFit es cell k a → FirstFit es cell m b → k ≡ m
+  fit-at : {k m : ℕ} {a b : Assigned} → FirstFit es supply k a → FirstFit es supply m b → k ≡ m
   fit-at {k} {m} {a} {b} f g =
       level (λ l. g .first k l (f .candidate) a (f .chosen .is)) (λ l. f .first m l (g .candidate) b (g .chosen .is))
 
-  fit-given : {k m : ℕ} {a b : Assigned} → k ≡ m → FirstFit es cell k a → FirstFit es cell m b → a ≡ b
-  fit-given {k} {m} {a} {b} e f g = chosen-one cell (entryAt es m .request .facilities) a b (rw (sym e) (f .chosen)) (g .chosen)
+  fit-given : {k m : ℕ} {a b : Assigned} → k ≡ m → FirstFit es supply k a → FirstFit es supply m b → a ≡ b
+  fit-given {k} {m} {a} {b} e f g = chosen-one supply (entryAt es m .request .facilities) a b (rw (sym e) (f .chosen)) (g .chosen)
 
   -- the first candidate is one, and so is the first part that is lacking for it
-  lacks-at : {k m : ℕ} {p q : Part} → FirstLacks es cell k p → FirstLacks es cell m q → k ≡ m
+  lacks-at : {k m : ℕ} {p q : Part} → FirstLacks es supply k p → FirstLacks es supply m q → k ≡ m
   lacks-at {k} {m} f g = level (λ l. g .first k l (f .candidate)) (λ l. f .first m l (g .candidate))
 
-  lacks-part : {k m : ℕ} {p q : Part} → k ≡ m → FirstLacks es cell k p → FirstLacks es cell m q → p ≡ q
+  lacks-part : {k m : ℕ} {p q : Part} → k ≡ m → FirstLacks es supply k p → FirstLacks es supply m q → p ≡ q
   lacks-part {k} {m} {p} {q} e f g =
-      ap part-of (first-one (Has cell (entryAt es m .request .facilities)) parts (First p) (First q) (rw (sym e) (f .lacking)) (g .lacking))
+      ap part-of (first-one (Has supply (entryAt es m .request .facilities)) parts (First p) (First q) (rw (sym e) (f .lacking)) (g .lacking))
     where
       part-of : Lacking → Part
       part-of Nothing = p
@@ -90,17 +90,17 @@ module _ (es : List Entry) (lists : Lists) where
   not-selected r (Lacks part) t s = s
 
   -- what is refused: no place is free, or no candidate has an assignment
-  pub why : (c : Choice) (id : List ℕ) → Unselected c es lists id → AllHeld lists ⊎ NoFit es (seenIn lists)
+  pub why : (c : Choice) (id : List ℕ) → Unselected c es lists id → AllHeld lists ⊎ NoFit es (supplyIn lists)
   why Job id a = absurd a
   why NoPlace id a = inl (a .0)
   why NoCandidates id a = inr (λ i c. absurd (a .1 .0 i c))
   why (Lacks part) id a = inr (a .1 .0)
 
   -- a selection and a refusal do not go together
-  pub not-both : (r : Selection) → Selected es lists r → AllHeld lists ⊎ NoFit es (seenIn lists) → ⊥
+  pub not-both : (r : Selection) → Selected es lists r → AllHeld lists ⊎ NoFit es (supplyIn lists) → ⊥
   not-both r a b =
       ⊎-elim (some-free lists (a .place))
-      (λ n. fit-some es (seenIn lists) (a .fit) n) b
+      (λ n. fit-some es (supplyIn lists) (a .fit) n) b
 
   -- two reasons are one
   same-why : (c d : Choice) (id jd : List ℕ) → Unselected c es lists id → Unselected d es lists jd → unselected c id ≡ unselected d jd
@@ -117,16 +117,16 @@ module _ (es : List Entry) (lists : Lists) where
   same-why (Lacks p) NoPlace id jd a b = absurd (a .0 (b .0))
   same-why (Lacks p) NoCandidates id jd a b = absurd (b .1 .0 (a .1 .1 .0) (a .1 .1 .1 .0 .candidate))
   same-why (Lacks p) (Lacks q) id jd a b =
-      let e = lacks-at es (seenIn lists) (a .1 .1 .1 .0) (b .1 .1 .1 .0) in
-      let f : p ≡ q = lacks-part es (seenIn lists) e (a .1 .1 .1 .0) (b .1 .1 .1 .0) in
+      let e = lacks-at es (supplyIn lists) (a .1 .1 .1 .0) (b .1 .1 .1 .0) in
+      let f : p ≡ q = lacks-part es (supplyIn lists) e (a .1 .1 .1 .0) (b .1 .1 .1 .0) in
       let g : id ≡ jd = a .1 .1 .1 .1 ∙ ap (λ (i : ℕ). entryAt es i .request .id) e ∙ sym (b .1 .1 .1 .1) in
       λ i. unselected (Lacks (f i)) (g i)
 
   both-selected : (r s : Selection) → r .choice ≡ s .choice → Selected es lists r → Selected es lists s → r ≡ s
   both-selected r s f a b =
-      let k : r .at ≡ s .at = fit-at es (seenIn lists) (a .fit) (b .fit) in
+      let k : r .at ≡ s .at = fit-at es (supplyIn lists) (a .fit) (b .fit) in
       let p : r .place ≡ s .place = at-injective (lowest-one (lists .jobs) (At (r .place)) (At (s .place)) (a .place) (b .place)) in
-      let g : r .assigned ≡ s .assigned = fit-given es (seenIn lists) k (a .fit) (b .fit) in
+      let g : r .assigned ≡ s .assigned = fit-given es (supplyIn lists) k (a .fit) (b .fit) in
       let q : r .request ≡ s .request = a .request ∙ ap (λ (i : ℕ). entryAt es i .request) k ∙ sym (b .request) in
       let n : r .first ≡ s .first = a .unnamed ∙ sym (b .unnamed) in
       λ i. record { choice = f i; first = n i; place = p i; at = k i; request = q i; assigned = g i }

@@ -5,7 +5,7 @@ use mathlib.Core.Path.{_≡_}
 use mathlib.Core.Bool.{Bool, true, false}
 use mathlib.Core.List.{List}
 use Rattle.schedule_entries.specs.declared.Entry.{Entry}
-use Rattle.assign.specs.Assignment.{Cell}
+use Rattle.assign.specs.Assignment.{Supply}
 use Rattle.assign.specs.Chosen.{nothing}
 use Rattle.assign.specs.declared.Lacking.{Lacking}
 use Rattle.assign.specs.declared.Lacking.the-variants.{Nothing, First}
@@ -36,14 +36,14 @@ abbrev pub nonePicked : Noted → Pick
 nonePicked noted = record { found = false; lacking = noted .lacking; at = noted .at; assigned = nothing }
 
 -- no candidate has an assignment: there are none, or the first lacks a part
-abbrev pub PicksNone : Lacking → List Entry → Cell → Pick → Type 0
-PicksNone Nothing es cell r = NoCandidate es × ((r .at ≡ 0) × (r .assigned ≡ nothing))
-PicksNone (First part) es cell r = NoFit es cell × (FirstLacks es cell (r .at) part × (r .assigned ≡ nothing))
+abbrev pub PicksNone : Lacking → List Entry → Supply → Pick → Type 0
+PicksNone Nothing es supply r = NoCandidate es × ((r .at ≡ 0) × (r .assigned ≡ nothing))
+PicksNone (First part) es supply r = NoFit es supply × (FirstLacks es supply (r .at) part × (r .assigned ≡ nothing))
 
 -- the first candidate with an assignment is found, or there is none
-abbrev pub PicksBy : Bool → List Entry → Cell → Pick → Type 0
-PicksBy true es cell r = FirstFit es cell (r .at) (r .assigned) × (r .lacking ≡ Nothing)
-PicksBy false es cell r = PicksNone (r .lacking) es cell r
+abbrev pub PicksBy : Bool → List Entry → Supply → Pick → Type 0
+PicksBy true es supply r = FirstFit es supply (r .at) (r .assigned) × (r .lacking ≡ Nothing)
+PicksBy false es supply r = PicksNone (r .lacking) es supply r
 
-abbrev pub Picks : List Entry → Cell → Pick → Type 0
-Picks es cell r = PicksBy (r .found) es cell r
+abbrev pub Picks : List Entry → Supply → Pick → Type 0
+Picks es supply r = PicksBy (r .found) es supply r

@@ -7,6 +7,7 @@ use mathlib.Core.List.{List, map}
 use lib.Dec.{eqb}
 use lib.ListN.{length, replicate}
 use Rattle.numbers.specs.Quoted.{byte}
+use Rattle.numbers.specs.Limits.{blocks}
 use Rattle.cards_request.specs.declared.Facilities.{Facilities}
 use Rattle.cards_request.specs.declared.Request.{Request}
 use Rattle.schedule_entries.specs.Entries.{blank}
@@ -17,7 +18,7 @@ use Rattle.schedule.specs.Calls.{taken}
 use Rattle.schedule_candidates.specs.Candidates.{candidate}
 use Rattle.assign_heads.specs.Heads.{isGiven}
 use Rattle.assign_heads.specs.declared.Head.{Head}
-use Rattle.assign.specs.Assignment.{Cell, cellOf, IsAssignment}
+use Rattle.assign.specs.Assignment.{Supply, supplyOf, IsAssignment}
 use Rattle.assign.specs.Parts.{FirstLacking}
 use Rattle.assign.specs.Chosen.{Chosen, nothing}
 use Rattle.assign.specs.declared.Assigned.{Assigned}
@@ -36,22 +37,22 @@ use Rattle.cell_selection.specs.declared.Selection.{Selection}
 use Rattle.cell_selection.specs.declared.Taking.{Taking}
 
 -- what the assigner looks at: the units, the blocks and drum areas that jobs hold, the configured channels
-abbrev pub seenIn : Lists → Cell
-seenIn lists = cellOf (lists .units .of) (occupancy (anyHas (map coreOf (lists .jobs))) 32) (map areaOf (lists .jobs)) (lists .channels)
+abbrev pub supplyIn : Lists → Supply
+supplyIn lists = supplyOf (lists .units .of) (occupancy (anyHas (map coreOf (lists .jobs))) blocks) (map areaOf (lists .jobs)) (lists .channels)
 
 -- a request has no assignment
-abbrev pub HasNone : Cell → Request → Type 0
-HasNone cell request = (b : Assigned) → IsAssignment cell (request .facilities) b → ⊥
+abbrev pub HasNone : Supply → Request → Type 0
+HasNone supply request = (b : Assigned) → IsAssignment supply (request .facilities) b → ⊥
 
 -- the request at an index of the schedule is a candidate
 abbrev pub Candidate : List Entry → ℕ → Type 0
 Candidate es i = (i < length es) × (candidate es (entryAt es i) ≡ true)
 
 -- "The first candidate with an assignment": at k, with the one chosen
-pub record FirstFit (es : List Entry) (cell : Cell) (k : ℕ) (a : Assigned) : Type 0 where
+pub record FirstFit (es : List Entry) (supply : Supply) (k : ℕ) (a : Assigned) : Type 0 where
   pub candidate : Candidate es k
-  pub chosen : Chosen cell (entryAt es k .request .facilities) a
-  pub first : (i : ℕ) → i < k → Candidate es i → HasNone cell (entryAt es i .request)
+  pub chosen : Chosen supply (entryAt es k .request .facilities) a
+  pub first : (i : ℕ) → i < k → Candidate es i → HasNone supply (entryAt es i .request)
 
 -- 18: "no place is free"
 abbrev pub AllHeld : Lists → Type 0
@@ -62,14 +63,14 @@ abbrev pub NoCandidate : List Entry → Type 0
 NoCandidate es = (i : ℕ) → Candidate es i → ⊥
 
 -- 20, where there are candidates: "no candidate has an assignment"
-abbrev pub NoFit : List Entry → Cell → Type 0
-NoFit es cell = (i : ℕ) → Candidate es i → HasNone cell (entryAt es i .request)
+abbrev pub NoFit : List Entry → Supply → Type 0
+NoFit es supply = (i : ℕ) → Candidate es i → HasNone supply (entryAt es i .request)
 
 -- "the first candidate" is at k, and the part is "the first facility lacking for it"
-pub record FirstLacks (es : List Entry) (cell : Cell) (k : ℕ) (part : Part) : Type 0 where
+pub record FirstLacks (es : List Entry) (supply : Supply) (k : ℕ) (part : Part) : Type 0 where
   pub candidate : Candidate es k
   pub first : (i : ℕ) → i < k → Candidate es i → ⊥
-  pub lacking : FirstLacking cell (entryAt es k .request .facilities) (First part)
+  pub lacking : FirstLacking supply (entryAt es k .request .facilities) (First part)
 
 -- no ID: six blanks
 abbrev pub noId : List ℕ
@@ -83,7 +84,7 @@ unselected choice first =
 -- SELECTED: "The first candidate with an assignment is taken into the lowest free place"
 pub record Selected (es : List Entry) (lists : Lists) (r : Selection) : Type 0 where
   pub place : LowestFree (lists .jobs) (At (r .place))
-  pub fit : FirstFit es (seenIn lists) (r .at) (r .assigned)
+  pub fit : FirstFit es (supplyIn lists) (r .at) (r .assigned)
   pub request : r .request ≡ entryAt es (r .at) .request
   pub unnamed : r .first ≡ noId
 
@@ -94,7 +95,7 @@ Unselected Job es lists id = ⊥
 Unselected NoPlace es lists id = AllHeld lists × (id ≡ noId)
 Unselected NoCandidates es lists id = (AllHeld lists → ⊥) × (NoCandidate es × (id ≡ noId))
 Unselected (Lacks part) es lists id =
-    (AllHeld lists → ⊥) × (NoFit es (seenIn lists) × ((k : ℕ) × (FirstLacks es (seenIn lists) k part × (id ≡ entryAt es k .request .id))))
+    (AllHeld lists → ⊥) × (NoFit es (supplyIn lists) × ((k : ℕ) × (FirstLacks es (supplyIn lists) k part × (id ≡ entryAt es k .request .id))))
 
 -- what is selected, or why nothing is; nothing else is named then
 abbrev pub SelectsBy : Choice → List Entry → Lists → Selection → Type 0
@@ -135,8 +136,8 @@ assignmentOf wanted a =
 
 -- the starts of blocks that are asked for are numbers of blocks, as those of an assignment are
 pub record Starts (wanted : Facilities) (a : Assigned) : Type 0 where
-  pub ib : (wanted .ib ≡ 0 → ⊥) → a .ib < 32
-  pub db : (wanted .db ≡ 0 → ⊥) → a .db < 32
+  pub ib : (wanted .ib ≡ 0 → ⊥) → a .ib < blocks
+  pub db : (wanted .db ≡ 0 → ⊥) → a .db < blocks
 
 -- ---- what selection leaves
 

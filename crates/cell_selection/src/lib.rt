@@ -21,9 +21,10 @@ use units::Units;
 ghost use mathlib.Core.Path.{_≡_};
 ghost use mathlib.Core.List.{map};
 ghost use Prim.Native.Nat.{_<_};
-ghost use Rattle.assign.specs.Assignment.{cellOf};
+ghost use Rattle.numbers.specs.Limits.{blocks};
+ghost use Rattle.assign.specs.Assignment.{supplyOf};
 ghost use Rattle.schedule_list.specs.InSchedule.{inSchedule};
-ghost use Rattle.cell_selection.specs.Selecting.{isJob, Selects, seenIn, unselected, isTaken, runOf, assignmentOf, Starts, Takes};
+ghost use Rattle.cell_selection.specs.Selecting.{isJob, Selects, supplyIn, unselected, isTaken, runOf, assignmentOf, Starts, Takes};
 ghost use Rattle.cell_selection.specs.Noting.{noted, picked, nonePicked, Picks};
 
 // What is chosen: a job; or none, since no place is free, there are no candidates, or none has an assignment. Then the
@@ -131,7 +132,7 @@ fn first_fit(
     areas: [Area; 16],
     channels: [Channel; 16],
 ) -> Pick
-    ensures { λ r. ⌜ Picks (inSchedule schedule) (cellOf (units .of) occupancy areas channels) r ⌝ }
+    ensures { λ r. ⌜ Picks (inSchedule schedule) (supplyOf (units .of) occupancy areas channels) r ⌝ }
 {
     let n = schedule_list::size(schedule);
     let may = schedule_candidates::all(schedule);
@@ -178,7 +179,7 @@ fn unselected(choice: Choice, first: [u8; 6]) -> Selection
 
 // The first candidate in order that has an assignment in this cell, or what the first of all lacks.
 fn picked_in(schedule: Schedule, lists: Lists) -> Pick
-    ensures { λ r. ⌜ Picks (inSchedule schedule) (seenIn lists) r ⌝ }
+    ensures { λ r. ⌜ Picks (inSchedule schedule) (supplyIn lists) r ⌝ }
 {
     let jobs = lists.jobs;
     let units = lists.units;
@@ -251,7 +252,7 @@ fn units_of(heads: [Head; 256]) -> [bool; 256]
 
 // A run of blocks; none where none are asked for.
 fn run_of(start: u32, count: u8) -> Blocks
-    requires { ⌜ ((count ≡ 0 → ⊥) → start < 32) ⌝ }
+    requires { ⌜ ((count ≡ 0 → ⊥) → start < blocks) ⌝ }
     ensures { λ r. ⌜ r ≡ runOf start count ⌝ }
 {
     if count == 0 {

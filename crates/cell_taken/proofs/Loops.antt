@@ -10,7 +10,8 @@ use native.Mathlib.Numerals.{add-one}
 use native.Mathlib.Omega.{arith}
 use lib.ListN.{length, getD, drop, drop-of-length-le}
 use lib.Seq.{drop-cons}
-use Rattle.packets.specs.Picks.{any}
+use Rattle.numbers.specs.Elements.{any}
+use Rattle.numbers.specs.Limits.{blocks}
 use Rattle.packets.specs.State.{isEmpty, stateIn}
 use Rattle.packets.specs.declared.Job.{Job}
 use Rattle.cell_taken.specs.Taken.{wordFrom}
@@ -31,29 +32,29 @@ module _ {A : Type 0} (f : A → Bool) (y : A) (l : List A) where
 
 -- the bits from bit left on are in the word
 pub record Worded (taken : ℕ → Bool) (word left : ℕ) : Type 0 where
-  pub high : left ≤ 32
-  pub is : word ≡ wordFrom taken left (32 - left)
+  pub high : left ≤ blocks
+  pub is : word ≡ wordFrom taken left (blocks - left)
 
 module _ (taken : ℕ → Bool) {word left : ℕ} (k : Worded taken word left) where
   -- there is room for one bit more
   pub word-small : 0 < left → word * 2 + 1 < 4294967296
   word-small h =
-      omega (arith, k .is, k .high, word-below taken left (32 - left), pow-le-pow-right {n = 2} (omega arith) {i = 32 - left} {j = 31} (omega (arith, k .high)))
+      omega (arith, k .is, k .high, word-below taken left (blocks - left), pow-le-pow-right {n = 2} (omega arith) {i = blocks - left} {j = 31} (omega (arith, k .high)))
 
   pub word-turn : (next : ℕ) → 0 < left → next ≡ word * 2 + cond (taken (left - 1)) 1 0 → Worded taken next (left - 1)
   word-turn next h e =
       record {
         high = omega (arith, k .high);
-        is = e ∙ ap (λ (w : ℕ). w * 2 + cond (taken (left - 1)) 1 0) (k .is ∙ ap (λ (m : ℕ). wordFrom taken m (32 - left)) (let z : left ≡ suc (left - 1) = omega arith in z))
-            ∙ sym (more (32 - left) (left - 1)) ∙ ap (λ (n : ℕ). wordFrom taken (left - 1) n) (let z : suc (32 - left) ≡ 32 - (left - 1) = omega (arith, k .high) in z);
+        is = e ∙ ap (λ (w : ℕ). w * 2 + cond (taken (left - 1)) 1 0) (k .is ∙ ap (λ (m : ℕ). wordFrom taken m (blocks - left)) (let z : left ≡ suc (left - 1) = omega arith in z))
+            ∙ sym (more (blocks - left) (left - 1)) ∙ ap (λ (n : ℕ). wordFrom taken (left - 1) n) (let z : suc (blocks - left) ≡ blocks - (left - 1) = omega (arith, k .high) in z);
       }
     where
       more : (n m : ℕ) → wordFrom taken m (suc n) ≡ wordFrom taken (suc m) n * 2 + cond (taken m) 1 0
       more n m = unfold wordFrom in refl
 
 -- all 32 bits are in the word
-pub word-all : (taken : ℕ → Bool) (left : ℕ) → left ≡ 0 → wordFrom taken left (32 - left) ≡ wordFrom taken 0 32
-word-all taken left e = ap (λ (m : ℕ). wordFrom taken m (32 - m)) e
+pub word-all : (taken : ℕ → Bool) (left : ℕ) → left ≡ 0 → wordFrom taken left (blocks - left) ≡ wordFrom taken 0 blocks
+word-all taken left e = ap (λ (m : ℕ). wordFrom taken m (blocks - m)) e
 
 -- ---- the lowest free place
 

@@ -7,7 +7,7 @@ use Rattle.assign_drum.specs.declared.Area.{Area}
 use Rattle.assign_drum.specs.Drum.{noArea}
 use Rattle.packets.specs.declared.Core.{Core}
 use Rattle.packets.specs.declared.Job.{Job}
-use Rattle.packets.specs.Picks.{any}
+use Rattle.numbers.specs.Elements.{any}
 use Rattle.packets.specs.State.{inRun, isEmpty, noCore, stateIn}
 use Rattle.cell_taken.specs.declared.FreePlace.{FreePlace}
 use Rattle.cell_taken.specs.declared.FreePlace.the-variants.{At, Full}

@@ -1,10 +1,12 @@
 // What the jobs in their places hold of core and drum, as the assigner asks for it, and the lowest free place.
 use assign_drum::Area;
+use numbers::limits;
 use packets::Blocks;
 use packets::Core;
 use packets::Job;
 ghost use mathlib.Core.Path.{_≡_};
 ghost use mathlib.Core.List.{map};
+ghost use Rattle.numbers.specs.Limits.{blocks};
 ghost use Rattle.packets.specs.State.{inRun};
 ghost use Rattle.cell_taken.specs.Taken.{inBlocks, coreOf, areaOf, anyHas, occupancy, LowestFree};
 
@@ -78,13 +80,16 @@ fn is_taken(held: [Core; 16], b: u32) -> bool
     false
 }
 
-// The occupancy word of 32 blocks: a set bit is a block that some job holds. From block 31 down, each bit is put
+// How many blocks core has, as many as the word has bits.
+const BLOCKS: u32 = limits::BLOCKS as u32;
+
+// The occupancy word of all blocks: a set bit is a block that some job holds. From the last block down, each bit is put
 // below those before it.
 fn word_of(held: [Core; 16]) -> u32
-    ensures { λ r. ⌜ r ≡ occupancy (anyHas held) 32 ⌝ }
+    ensures { λ r. ⌜ r ≡ occupancy (anyHas held) blocks ⌝ }
 {
     let mut word: u32 = 0;
-    let mut left: u32 = 32;
+    let mut left: u32 = BLOCKS;
     while 0 < left {
         left -= 1;
         word = word * 2;
@@ -97,7 +102,7 @@ fn word_of(held: [Core; 16]) -> u32
 
 // The occupancy word of the blocks that the jobs hold.
 pub fn occupied(jobs: [Job; 16]) -> u32
-    ensures { λ r. ⌜ r ≡ occupancy (anyHas (map coreOf jobs)) 32 ⌝ }
+    ensures { λ r. ⌜ r ≡ occupancy (anyHas (map coreOf jobs)) blocks ⌝ }
 {
     word_of(cores(jobs))
 }

@@ -5,6 +5,7 @@ use mathlib.Core.Bool.{true, false}
 use mathlib.Core.List.{List}
 use lib.ListN.{length, drop}
 use borrow.Author.Tests.{lt-ltb, le-ltb}
+use Rattle.numbers.specs.Limits.{mostCodes}
 use Rattle.text.specs.declared.Number.the-variants.{Is, Wrong}
 use Rattle.configuration.specs.declared.section.Channels.{Channels}
 use Rattle.configuration.specs.declared.section.Downs.{Downs}
@@ -16,11 +17,11 @@ use Rattle.configuration.specs.Configured.{refused, good, andNoMore, thi
 
 -- the third section, and that nothing follows it
 module _ (s : List ℕ) (line at : ℕ) where
-  pub no-codes : lastNumber 0 60 (drop at s) ≡ Wrong → badCodes line ≡ thirdSection s line at
+  pub no-codes : lastNumber 0 mostCodes (drop at s) ≡ Wrong → badCodes line ≡ thirdSection s line at
   unfolding thirdSection
   no-codes e = rw e
 
-  module _ {n k : ℕ} {third : Codes} (e : lastNumber 0 60 (drop at s) ≡ Is n k) (q : third ≡ codesFrom n (line + 1) (at + k) 0 noCodes (drop (at + k) s)) where
+  module _ {n k : ℕ} {third : Codes} (e : lastNumber 0 mostCodes (drop at s) ≡ Is n k) (q : third ≡ codesFrom n (line + 1) (at + k) 0 noCodes (drop (at + k) s)) where
     whole-last : thirdSection s line at ≡ andNoMore s third
     unfolding thirdSection
     whole-last = rw (e, ← q)

@@ -6,11 +6,12 @@ use mathlib.Core.Bool.{Bool, false, cond}
 use mathlib.Core.List.{List}
 use lib.Dec.{ltb}
 use lib.ListN.{length, drop}
+use Rattle.numbers.specs.Limits.{mostCodes}
 use Rattle.channels.specs.declared.Channel.{Channel}
 use Rattle.configuration.specs.declared.section.Channels.{Channels}
 use Rattle.configuration.specs.declared.section.Downs.{Downs}
 use Rattle.configuration.specs.declared.section.Codes.{Codes}
-use Rattle.configuration.specs.declared.Verdict.the-variants.{Good, Bad}
+use Rattle.configuration.specs.declared.TextVerdict.the-variants.{Good, Bad}
 use Rattle.configuration.specs.declared.Answer.{Answer}
 use Rattle.configuration.specs.Lines.{onNumber, lastNumber}
 use Rattle.channels.specs.Channels.{noChannels, noDown, noCodes}
@@ -31,7 +32,7 @@ andNoMore s third = cond (third .good) (cond (ltb (third .at) (length s)) (badCo
 -- the third section, from `at` on, where line `line` begins
 unfoldable pub thirdSection : List ℕ → ℕ → ℕ → Codes
 thirdSection s line at =
-    onNumber (lastNumber 0 60 (drop at s)) (badCodes line) λ n k.
+    onNumber (lastNumber 0 mostCodes (drop at s)) (badCodes line) λ n k.
     andNoMore s (codesFrom n (line + 1) (at + k) 0 noCodes (drop (at + k) s))
 
 -- a configuration, if the third section is good

@@ -13,6 +13,7 @@ use Rattle.numbers.specs.declared.Coded.{Coded}
 use Rattle.numbers.specs.declared.Coded.the-variants as Coded′
 use Rattle.numbers.specs.Quoted.{byte}
 use Rattle.numbers.specs.Kinds.{kindOf, isDrum}
+use Rattle.numbers.specs.Limits.{leastWords, mostWords}
 use Rattle.configuration.specs.declared.line.ChannelLine.{ChannelLine}
 use Rattle.configuration.specs.declared.line.ChannelLine.the-variants as ChannelLine′
 use Rattle.configuration.specs.declared.line.DownLine.{DownLine}
@@ -22,10 +23,10 @@ use Rattle.configuration.specs.declared.line.CodeLine.the-variants as Co
 
 -- units 1 to 16, or for MD the drum length, 35,330 to 1,000,000 words
 abbrev pub least : Kind → ℕ
-least kind = cond (isDrum kind) 35330 1
+least kind = cond (isDrum kind) leastWords 1
 
 abbrev pub most : Kind → ℕ
-most kind = cond (isDrum kind) 1000000 16
+most kind = cond (isDrum kind) mostWords 16
 
 -- goes on with a number that was read, and its length
 abbrev pub onNumber : {A : Type 0} → Number → A → (ℕ → ℕ → A) → A

@@ -4,6 +4,7 @@ mod section;
 
 use crate::section::Codes;
 use channels::Configuration;
+use numbers::limits;
 use text::Number;
 ghost use Prim.Native.Nat.{_≤_, _<_};
 ghost use mathlib.Core.Path.{_≡_};
@@ -11,14 +12,14 @@ ghost use lib.ListN.{length};
 ghost use Rattle.configuration.specs.Configured.{refused, thirdSection, configurationOf};
 
 // Good, or refusal 14 with the first bad or missing line.
-pub enum Verdict {
+pub enum TextVerdict {
     Good,
     Bad(usize),
 }
 
 // The answer to a text; the configuration is empty where the text is bad.
 pub struct Answer {
-    pub verdict: Verdict,
+    pub verdict: TextVerdict,
     pub configuration: Configuration,
 }
 
@@ -27,7 +28,7 @@ fn refuse(line: usize) -> Answer
     ensures { λ r. ⌜ r ≡ refused line ⌝ }
 {
     Answer {
-        verdict: Verdict::Bad(line),
+        verdict: TextVerdict::Bad(line),
         configuration: Configuration {
             channels: channels::no_channels(),
             down: [false; 256],
@@ -41,7 +42,7 @@ fn read_third(s: &[u8], line: usize, at: usize) -> Codes
     requires { ⌜ (at ≤ length (now s)) × (line < 17179869184) ⌝ }
     ensures { λ r. ⌜ r ≡ thirdSection (now (s .entry)) line at ⌝ }
 {
-    let Number::Is(n, k) = line::last_number(&s[at..], 0, 60) else {
+    let Number::Is(n, k) = line::last_number(&s[at..], 0, limits::MOST_CODES) else {
         return section::bad_codes(line);
     };
     let third = section::read_codes(s, n, line + 1, at + k);
@@ -80,7 +81,7 @@ pub fn read(s: &[u8]) -> Answer
     }
     let down = second.of;
     Answer {
-        verdict: Verdict::Good,
+        verdict: TextVerdict::Good,
         configuration: Configuration {
             channels,
             down,

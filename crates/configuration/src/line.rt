@@ -3,6 +3,7 @@ use numbers::ChannelNumber;
 use numbers::Coded;
 use numbers::Kind;
 use numbers::UnitNumber;
+use numbers::limits;
 use text::Number;
 ghost use mathlib.Core.Path.{_≡_};
 ghost use Rattle.configuration.specs.Lines.{least, most, lastNumber, isCode, ChannelRead, DownRead, CodeRead};
@@ -30,7 +31,7 @@ fn least_of(kind: Kind) -> u32
     ensures { λ r. ⌜ r ≡ least kind ⌝ }
 {
     if numbers::is_drum(kind) {
-        return 35330;
+        return limits::LEAST_WORDS;
     }
     1
 }
@@ -40,7 +41,7 @@ fn most_of(kind: Kind) -> u32
     ensures { λ r. ⌜ r ≡ most kind ⌝ }
 {
     if numbers::is_drum(kind) {
-        return 1000000;
+        return limits::MOST_WORDS;
     }
     16
 }

@@ -18,6 +18,7 @@ use Rattle.numbers.specs.declared.UnitNumber.{UnitNumber}
 use Rattle.numbers.specs.declared.Kind.{Kind}
 use Rattle.numbers.specs.declared.Coded.{Coded}
 use Rattle.numbers.specs.declared.Coded.the-variants as Coded′
+use Rattle.numbers.specs.Limits.{mostWords}
 use Rattle.text.specs.Class.{isDigit}
 use Rattle.text.specs.declared.Number.{Number}
 use Rattle.text.specs.declared.Number.the-variants as Number′
@@ -176,7 +177,7 @@ channel-redone s c kind n k e = number (twoDigitsOf s) refl e
         (λ u. no-channel (rw (t, u) at e)))
         (λ t. no-channel (rw t at e))
 
-pub most-small : (kind : Kind) → most kind ≤ 1000000
+pub most-small : (kind : Kind) → most kind ≤ mostWords
 most-small kind = by-bool (isDrum kind) (λ t. rw t (omega arith)) (λ f. rw f (omega arith))
 
 -- a channel line whose code is the letters x, y

@@ -11,13 +11,14 @@ use lib.Dec.{ltb}
 use lib.ListN.{length, drop, length-drop, drop-of-length-le}
 use borrow.Author.Tests.{ltb-true, ltb-false}
 use Rattle.numbers.proofs.Tests.{by-bool, never}
+use Rattle.numbers.specs.Limits.{mostCodes}
 use Rattle.channels.specs.declared.Channel.{Channel}
 use Rattle.channels.specs.Channels.{noChannels, noDown, noCodes}
 use Rattle.configuration.specs.declared.section.Channels.{Channels}
 use Rattle.configuration.specs.declared.section.Downs.{Downs}
 use Rattle.configuration.specs.declared.section.Codes.{Codes}
-use Rattle.configuration.specs.declared.Verdict.{Verdict}
-use Rattle.configuration.specs.declared.Verdict.the-variants as Verdict′
+use Rattle.configuration.specs.declared.TextVerdict.{TextVerdict}
+use Rattle.configuration.specs.declared.TextVerdict.the-variants as Verdict′
 use Rattle.configuration.specs.declared.Answer.{Answer}
 use Rattle.configuration.specs.Sections.{badCodes, channelsFrom, downsFrom, codesFrom}
 use Rattle.configuration.specs.Configured.{refused, good, andNoMore, thirdSection, withCodes, afterDowns, afterChannels, configurationOf}
@@ -30,11 +31,11 @@ use Rattle.configuration_form.proofs.ChannelLaws.{channelsDue, channel-
 use Rattle.configuration_form.proofs.DownLaws.{downsDue, down-step}
 use Rattle.configuration_form.proofs.CodeLaws.{codesDue, code-step}
 
-abbrev isGood : Verdict → Bool
+abbrev isGood : TextVerdict → Bool
 isGood Verdict′.Good = true
 isGood (Verdict′.Bad line) = false
 
-abbrev lineOf : Verdict → ℕ
+abbrev lineOf : TextVerdict → ℕ
 lineOf Verdict′.Good = 0
 lineOf (Verdict′.Bad line) = line
 
@@ -97,11 +98,11 @@ module _ (s : List ℕ) where
       → Means s (afterDowns s of (downsFrom 0 line to (last .next) of (last .of) (drop to s)))
   unfolding afterDowns thirdSection downsFrom
   with-third of line to last far =
-      counted codeSection (codesDue of (last .of)) (code-step of (last .of)) 60 (omega arith) (downsDue of 0 last) (record { next = 0; of = noCodes })
+      counted codeSection (codesDue of (last .of)) (code-step of (last .of)) mostCodes (omega arith) (downsDue of 0 last) (record { next = 0; of = noCodes })
       (λ n h. Right.codeCount h) only (λ o m w c. c)
       (λ (third : Codes). Means s (withCodes of (last .of) third)) (badCodes line) (andNoMore s) s line to far means-bad (after-codes of (last .of))
     where
-      only : (item : Item) (next : Due) → Right (downsDue of 0 last) item next → (n : ℕ) × (n ≤ 60) × (item ≡ Item.count n)
+      only : (item : Item) (next : Due) → Right (downsDue of 0 last) item next → (n : ℕ) × (n ≤ mostCodes) × (item ≡ Item.count n)
       only item next (Right.codeCount {n = n} l) = (n, l, refl)
 
   after-downs : (of : List Channel) (second : Downs) → Through (downSection of) (downsDue of) (down-step of) s second → Means s (afterDowns s of second)

@@ -11,6 +11,7 @@ use lib.Seq.{drop-append-seam}
 use Rattle.numbers.specs.declared.ChannelNumber.{ChannelNumber}
 use Rattle.numbers.specs.declared.UnitNumber.{UnitNumber}
 use Rattle.numbers.specs.declared.Kind.{Kind}
+use Rattle.numbers.specs.Limits.{mostCodes}
 use Rattle.text.specs.declared.Number.{Number}
 use Rattle.text.specs.declared.Number.the-variants as Number′
 use Rattle.channels.specs.declared.Channel.{Channel}
@@ -68,7 +69,7 @@ one s t (Right.downCount {m = m} a) (Right.downCount {m = n} b) e =
 one s t (Right.downLine {c = c} {u = u} c15 u15 p q) (Right.downLine {c = d} {u = v} d15 v15 x y) e =
     let z = same-down c d u v s t c15 u15 d15 v15 e in rw (z .0, z .1) (refl, refl)
 one s t (Right.codeCount {n = m} a) (Right.codeCount {n = n} b) e =
-    let z = same-count 60 m n s t (omega arith) a b e in rw z (refl, refl)
+    let z = same-count mostCodes m n s t (omega arith) a b e in rw z (refl, refl)
 one s t (Right.codeLine {k = j} a b d f p) (Right.codeLine {k = k} x y z w q) e =
     let i = same-code j k s t (record { least = a; most = b; not16 = d; not17 = f }) (record { least = x; most = y; not16 = z; not17 = w }) e in rw i (refl, refl)
 

@@ -10,7 +10,7 @@ use Rattle.text.specs.Writing.{twoText, decimalText}
 use Rattle.channels.specs.declared.Channel.{Channel}
 use Rattle.channels.specs.declared.Configuration.{Configuration}
 use Rattle.channels.specs.Channels.{channelIn}
-use Rattle.configuration.specs.declared.Verdict.{Verdict}
+use Rattle.configuration.specs.declared.TextVerdict.{TextVerdict}
 use Rattle.configuration.specs.declared.Answer.{Answer}
 use Rattle.configuration.specs.Configured.{configurationOf}
 use Rattle.configuration_listing.specs.Listing.{isListed, freshCount, channelText, linesFrom, listingOf, answerText}
@@ -38,5 +38,5 @@ module _ (configuration : Configuration) (c : ℕ) where
   lines-end h = let e : 16 - c ≡ 0 = omega arith in rw e
 
 -- the answer's text is the listing
-pub answered : (s : List ℕ) {a : Answer} (v : Verdict) → a ≡ configurationOf s → a .verdict ≡ v → answerText v (a .configuration) ≡ listingOf s
-answered s {a} v e f = ap (λ (w : Verdict). answerText w (a .configuration)) (sym f) ∙ ap (λ (b : Answer). answerText (b .verdict) (b .configuration)) e
+pub answered : (s : List ℕ) {a : Answer} (v : TextVerdict) → a ≡ configurationOf s → a .verdict ≡ v → answerText v (a .configuration) ≡ listingOf s
+answered s {a} v e f = ap (λ (w : TextVerdict). answerText w (a .configuration)) (sym f) ∙ ap (λ (b : Answer). answerText (b .verdict) (b .configuration)) e

@@ -17,8 +17,8 @@ use Rattle.channels.specs.declared.Fitted.the-variants.{Nothing, With}
 use Rattle.channels.specs.declared.Channel.{Channel}
 use Rattle.channels.specs.declared.Configuration.{Configuration}
 use Rattle.channels.specs.Channels.{channelIn, hasUnit}
-use Rattle.configuration.specs.declared.Verdict.{Verdict}
-use Rattle.configuration.specs.declared.Verdict.the-variants.{Good, Bad}
+use Rattle.configuration.specs.declared.TextVerdict.{TextVerdict}
+use Rattle.configuration.specs.declared.TextVerdict.the-variants.{Good, Bad}
 use Rattle.configuration.specs.Configured.{configurationOf}
 use Rattle.units.specs.declared.Unit.{Unit}
 use Rattle.units.specs.State.{unitIn, assignable}
@@ -63,7 +63,7 @@ linesFrom configuration zero c = []
 linesFrom configuration (suc left) c = channelText configuration (record { 0 = c }) ++ linesFrom configuration left (c + 1)
 
 -- the text of an answer
-abbrev pub answerText : Verdict → Configuration → List ℕ
+abbrev pub answerText : TextVerdict → Configuration → List ℕ
 answerText Good configuration = linesFrom configuration 16 0
 answerText (Bad line) configuration = errorText line
 

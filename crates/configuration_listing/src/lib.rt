@@ -2,7 +2,7 @@
 use channels::Channel;
 use channels::Configuration;
 use channels::Fitted;
-use configuration::Verdict;
+use configuration::TextVerdict;
 use numbers::ChannelNumber;
 use numbers::Refusal;
 use numbers::UnitNumber;
@@ -113,7 +113,7 @@ pub fn listing(config: &[u8], out: &mut [u8]) -> usize
     let verdict = answer.verdict;
     let configuration = answer.configuration;
     match verdict {
-        Verdict::Good => put_lines(out, configuration),
-        Verdict::Bad(line) => put_error(out, line),
+        TextVerdict::Good => put_lines(out, configuration),
+        TextVerdict::Bad(line) => put_error(out, line),
     }
 }

@@ -1,1 +1,1 @@
-pub mod AnswersLaws
+pub mod ExportsLaws

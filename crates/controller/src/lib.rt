@@ -2,7 +2,7 @@
 // arguments on and keeps the promise of the function that it calls. None has a state of its own or a `requires`; what
 // no contract can ask of a caller in another language is in docs/LINKING.md.
 use assign_core::Found;
-use configuration::Verdict;
+use configuration::TextVerdict;
 use desk_show::Which;
 use numbers::Coded;
 ghost use mathlib.Core.Path.{_≡_};
@@ -10,7 +10,7 @@ ghost use Rattle.configuration_listing.specs.Listing.{Listed};
 ghost use Rattle.schedule_deck.specs.Reading.{Reported};
 ghost use Rattle.numbers.specs.Kinds.{kindOf};
 ghost use Rattle.configuration.specs.Configured.{configurationOf};
-ghost use Rattle.controller.specs.Answers.{badLineOf, legalBy, Placed, Located};
+ghost use Rattle.controller.specs.Exports.{badLineOf, legalBy, Placed, Located};
 
 // Puts the listing of a configuration into lent room and answers its length. 96 bytes are enough; a smaller room gets
 // what fits.
@@ -24,19 +24,19 @@ pub extern "C" fn luffgravel_listing(config: &[u8], out: &mut [u8]) -> usize
 // Puts what the deck program prints into lent room and answers its length. The room holds every report, so nothing is
 // cut.
 #[no_mangle]
-pub extern "C" fn luffgravel_deck(deck: &[u8], out: &mut [u8; 53248]) -> usize
+pub extern "C" fn luffgravel_deck(deck: &[u8], out: &mut [u8; schedule_deck::ROOM]) -> usize
     ensures { λ r. ⌜ Reported (now (deck .entry)) (now (out .entry)) (now (out .exit)) r ⌝ }
 {
     schedule_deck::report(deck, out)
 }
 
 // The number by which a verdict goes.
-fn bad_line_of(verdict: Verdict) -> usize
+fn bad_line_of(verdict: TextVerdict) -> usize
     ensures { λ r. ⌜ r ≡ badLineOf verdict ⌝ }
 {
     match verdict {
-        Verdict::Good => 0,
-        Verdict::Bad(line) => line,
+        TextVerdict::Good => 0,
+        TextVerdict::Bad(line) => line,
     }
 }
 

@@ -6,7 +6,7 @@ use libc::STDOUT_FILENO;
 fn main() {
     let mut deck = io::large_buffer();
     let n = io::read_full(STDIN_FILENO, &mut deck);
-    let mut room = [0; 53248];
+    let mut room = [0; schedule_deck::ROOM];
     let length = schedule_deck::report(&deck[..n], &mut room);
     io::write_all(STDOUT_FILENO, &room[..length]);
 }

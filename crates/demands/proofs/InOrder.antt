@@ -18,7 +18,7 @@ use Rattle.schedule_entries.specs.declared.Key.{Key}
 use Rattle.schedule_list.specs.InSchedule.{entryAt, inSchedule}
 use Rattle.schedule_orderly.specs.Orderly.{Ahead, Each, Pairs, requests}
 use Rattle.schedule_orderly.proofs.OrderLaws.{precedes-on}
-use Rattle.cell_selection.specs.Selecting.{Candidate, HasNone, Selected, seenIn}
+use Rattle.cell_selection.specs.Selecting.{Candidate, HasNone, Selected, supplyIn}
 use Rattle.cell_selection.specs.declared.Selection.{Selection}
 use Rattle.cell.specs.declared.Cell.{Cell}
 use Rattle.cell_history.specs.History.{Event, Reached}
@@ -68,7 +68,7 @@ module _ (es : List Entry) (keys : Pairs Ahead (requests es)) where
 pub first-in-order : (configuration : Configuration) (es : List Event) (c : Cell) → Reached configuration es c
     → (job : Selection) → Selected (inSchedule (c .schedule)) (c .lists) job
     → (i : ℕ) → Candidate (inSchedule (c .schedule)) i → precedes (keyOf (entryAt (inSchedule (c .schedule)) i .request)) (keyOf (job .request)) ≡ true
-    → HasNone (seenIn (c .lists)) (entryAt (inSchedule (c .schedule)) i .request)
+    → HasNone (supplyIn (c .lists)) (entryAt (inSchedule (c .schedule)) i .request)
 first-in-order configuration es c h job w i k e =
     let sound = sound-always configuration es c h in
     let f : precedes (keyOf (entryAt (inSchedule (c .schedule)) i .request)) (keyOf (entryAt (inSchedule (c .schedule)) (job .at) .request)) ≡ true =

@@ -23,7 +23,7 @@ use Rattle.schedule.specs.Calls.{deleted, released}
 use Rattle.packets.specs.History as Lists
 use Rattle.packets.specs.History.{fresh, isAccepted}
 use Rattle.packets.proofs.Reaching.{accepted-granted, step-accepted}
-use Rattle.packets.specs.Picks.{All, find}
+use Rattle.numbers.specs.Elements.{All, find}
 use Rattle.packets.specs.Rules as Rules
 use Rattle.packets.specs.Rules.{accept, closed, completed, finished, isDone, isTrouble, locked, returnIfDone, siteOf, startable, started, submitted}
 use Rattle.packets.specs.State.{State, isUnit, motionOn, packetIn, release, setLock, takeUnit, wanted, withLock, freedAt, setHolder, unitAt, withHolder}

@@ -15,7 +15,7 @@ use Rattle.numbers.specs.declared.Refusal.{Refusal}
 use Rattle.numbers.specs.declared.Refusal.the-variants as Refusals
 use Rattle.channels.specs.declared.Configuration.{Configuration}
 use Rattle.schedule_list.specs.InSchedule.{inSchedule}
-use Rattle.cell_selection.specs.Selecting.{AllHeld, NoCandidate, NoFit, Selects, SelectsBy, noId, seenIn, unselected}
+use Rattle.cell_selection.specs.Selecting.{AllHeld, NoCandidate, NoFit, Selects, SelectsBy, noId, supplyIn, unselected}
 use Rattle.cell_selection.proofs.SelectingLaws.{not-both}
 use Rattle.cell_selection.specs.declared.Choice.{Choice}
 use Rattle.cell_selection.specs.declared.Choice.the-variants.{Job, NoPlace, NoCandidates, Lacks}
@@ -54,7 +54,7 @@ module _ (c : Cell) (s : Selection) where
   Idle = NoCandidate (inSchedule (c .schedule))
 
   abbrev Unfit : Type 0
-  Unfit = NoFit (inSchedule (c .schedule)) (seenIn (c .lists))
+  Unfit = NoFit (inSchedule (c .schedule)) (supplyIn (c .lists))
 
   by-choice : (x : Choice) → SelectsBy x (inSchedule (c .schedule)) (c .lists) s → RefusedSo c (outcomeOf x)
   by-choice Job h =

@@ -16,6 +16,7 @@ use lib.Seq.{set-split, map-set-same}
 use borrow.Author.Tests.{eqb-true, lt-ltb, ltb-false, ltb-true}
 use Rattle.numbers.specs.Quoted.{byte}
 use Rattle.numbers.proofs.Tests.{both, by-bool, never}
+use Rattle.numbers.specs.Elements.{any, find}
 use Rattle.text.specs.Class.{isAlnum, isDigit, isLetter}
 use Rattle.words.specs.Words.{every, isnt, same}
 use Rattle.words.proofs.WordLaws.{every-weaker, same-equal}
@@ -24,8 +25,8 @@ use Rattle.channels.specs.declared.Configuration.{Configuration}
 use Rattle.cards_fields.specs.Fields.{padded, spaceless}
 use Rattle.cards_group.specs.Group.{readFull, readGroup}
 use Rattle.cards_request.specs.declared.Request.{Request}
-use Rattle.cards_request.specs.declared.Verdict.{Verdict}
-use Rattle.cards_request.specs.declared.Verdict.the-variants.{Good}
+use Rattle.cards_request.specs.declared.CardVerdict.{CardVerdict}
+use Rattle.cards_request.specs.declared.CardVerdict.the-variants.{Good}
 use Rattle.cards_round.specs.Allowed.{Name}
 use Rattle.cards_round.proofs.AllowingFull.{full-allowed}
 use Rattle.cards_round.proofs.Fits.{read-takes}
@@ -33,7 +34,7 @@ use Rattle.schedule_entries.specs.Entries.{active, blank, isNamed, suspended}
 use Rattle.schedule_entries.specs.declared.Entry.{Entry}
 use Rattle.schedule_entries.specs.declared.State.{State}
 use Rattle.schedule_entries.specs.declared.State.the-variants as States
-use Rattle.schedule_list.specs.InSchedule.{any, changedAt, find, inSchedule, removed, scheduleOf, setState, there, withState}
+use Rattle.schedule_list.specs.InSchedule.{changedAt, inSchedule, removed, scheduleOf, setState, there, withState}
 use Rattle.schedule_list.proofs.InScheduleLaws.{in-of}
 use Rattle.schedule_list.specs.declared.Schedule.{Schedule}
 use Rattle.schedule.specs.Calls.{closing, deletedBy, isIn, releasedBy, returnedBy, taken}
@@ -146,7 +147,7 @@ read-formed : (g : List (List ℕ)) → readGroup g .verdict ≡ Good → Formed
 read-formed g e =
     let v = readFull g .full in
     let a = groups-alike g in
-    let w : readFull g ≡ record { verdict = Good; full = v } = ap (λ (x : Verdict). record { verdict = x; full = v }) (a .0 ∙ e) in
+    let w : readFull g ≡ record { verdict = Good; full = v } = ap (λ (x : CardVerdict). record { verdict = x; full = v }) (a .0 ∙ e) in
     subst Formed (a .1) (full-allowed v (read-takes g v w) .request .id)
 
 plain-named : (c d : Cell) (x : Call) (reply : Reply) → Plain x → Does c x reply d → Sound (c .schedule) → NamedIn c → NamedIn d

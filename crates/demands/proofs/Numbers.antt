@@ -24,11 +24,12 @@ use Rattle.channels.specs.declared.Fitted.the-variants.{Nothing, With}
 use Rattle.cards_fields.specs.Deck.{cardsOf, deckEnd, terminated}
 use Rattle.schedule_entries.specs.Entries.{active, isNamed, suspended}
 use Rattle.schedule_entries.specs.declared.Entry.{Entry}
-use Rattle.schedule_list.specs.InSchedule.{find as findNamed, inSchedule}
+use Rattle.schedule_list.specs.InSchedule.{inSchedule}
 use Rattle.schedule_list.specs.declared.Schedule.{Schedule}
 use Rattle.schedule_deck.specs.Report.{outcomeBy}
 use Rattle.schedule.specs.Calls.{deletedBy, releasedBy}
-use Rattle.packets.specs.Picks.{any, find}
+use Rattle.numbers.specs.Elements.{any, find}
+use Rattle.numbers.specs.Limits.{deckBytes}
 use Rattle.packets.specs.Rules as Rules
 use Rattle.packets.specs.State.{State, configured, fittedOn, isIdle, jobIn, motionOn, packetIn, packetOf, placeOf, stateIn, unitAt}
 use Rattle.packets.specs.declared.Act.{Act}
@@ -165,9 +166,9 @@ rules-rows s (Act′.Mark k u m on) =
 
 -- ---- a deck, release, delete, a status
 
-deck-rows : (bytes : List ℕ) → ofOutcome (outcomeBy (deckEnd bytes)) ≡ cond (not (leb (length bytes) 16384 && terminated (cardsOf bytes))) (some BadDeck) none
+deck-rows : (bytes : List ℕ) → ofOutcome (outcomeBy (deckEnd bytes)) ≡ cond (not (leb (length bytes) deckBytes && terminated (cardsOf bytes))) (some BadDeck) none
 unfolding deckEnd
-deck-rows bytes = by-bool (leb (length bytes) 16384 && terminated (cardsOf bytes)) (λ e. rw e refl) (λ e. rw e refl)
+deck-rows bytes = by-bool (leb (length bytes) deckBytes && terminated (cardsOf bytes)) (λ e. rw e refl) (λ e. rw e refl)
 
 release-rows : (o : Option Entry) (s : Schedule) (id : List ℕ) → ofAnswer (answerOf (releasedBy o s id .outcome)) ≡ cond (not (isSuspended o)) (some NoSuchRequest) none
 release-rows none s id = refl
@@ -200,8 +201,8 @@ plain-numbers : (c d : Cell) (x : Call) (reply : Reply) → Plain x → Does c x
 plain-numbers c d (Deck bytes) reply z h = ap refusalIn (h .2 .1 .1 .0) ∙ ap ofOutcome (h .2 .1 .0 .deck .outcome) ∙ deck-rows bytes
 plain-numbers c d Select reply z h = subst (SelectRefused c) (sym (ap refusalIn (h .1 .1 .0))) (select-by c (h .0) (h .1 .0))
 plain-numbers c d (Do x) reply z h = ap refusalIn (h .0) ∙ answers-by c x ∙ rules-rows (stateOf (c .lists)) x
-plain-numbers c d (Release id) reply z h = ap refusalIn (h .0) ∙ release-rows (findNamed (isNamed id) (inSchedule (c .schedule))) (c .schedule) id
-plain-numbers c d (Delete id) reply z h = ap refusalIn (h .0) ∙ delete-rows (findNamed (isNamed id) (inSchedule (c .schedule))) (c .schedule) id
+plain-numbers c d (Release id) reply z h = ap refusalIn (h .0) ∙ release-rows (find (isNamed id) (inSchedule (c .schedule))) (c .schedule) id
+plain-numbers c d (Delete id) reply z h = ap refusalIn (h .0) ∙ delete-rows (find (isNamed id) (inSchedule (c .schedule))) (c .schedule) id
 plain-numbers c d (Status j p) reply z h = ap refusalIn (h .0) ∙ status-rows c j p
 plain-numbers c d (Key message) reply z h = absurd z
 

@@ -9,7 +9,7 @@ use lib.Dec.{eqb}
 use lib.ListN.{length}
 use borrow.Author.Tests.{eqb-true}
 use Rattle.numbers.proofs.Tests.{by-bool, never}
-use Rattle.packets.specs.Picks.{All, find, keep}
+use Rattle.numbers.specs.Elements.{All, find, keep}
 use Rattle.packets.specs.Rules as Rules
 use Rattle.packets.specs.Rules.{aimed, always, closed, closing, codeFor, cut, failed, finished, freshJob, isAt, isDone, isTrouble, locked, over, packet, returnIfDone, siteOf, startable, started, submitted}
 use Rattle.packets.specs.State.{State, entryOf, isEmpty, isListed, isStill, isUnit, motionOn, packetIn, packetOf, packetsIn, placeOf, put, lock, relist, restatus, restatusAll, stateIn, store, sweep, withStatus}

@@ -25,7 +25,7 @@ use Rattle.schedule.specs.Calls as Schedules
 use Rattle.packets.specs.History as Lists
 use Rattle.packets.specs.History.{isAccepted}
 use Rattle.packets.proofs.Reaching.{accepted-granted, step-accepted}
-use Rattle.packets.specs.Picks.{find}
+use Rattle.numbers.specs.Elements.{find}
 use Rattle.packets.specs.Rules as Rules
 use Rattle.packets.specs.Rules.{closed, closing, finished, freshJob, isDone, leaving, leavingAs, returnIfDone}
 use Rattle.packets.specs.State.{State, isClosing, isEmpty, isRunning, motionOn, noJob, stateIn}

@@ -42,7 +42,7 @@ use Rattle.packets.specs.declared.Assignment.{Assignment}
 use Rattle.packets.proofs.DemandProof.{demand3}
 use Rattle.packets.proofs.BeforeProof.{all-listed, as-before, only-completions}
 use Rattle.packets.proofs.InterlocksProof.{lock-after}
-use Rattle.packets.specs.Picks.{keep}
+use Rattle.numbers.specs.Elements.{keep}
 use Rattle.packets.specs.State.{State, isStill, packetIn}
 use Rattle.packets.specs.declared.Status.{Status}
 use Rattle.packets.specs.declared.Verdict.the-variants.{Granted}

@@ -9,7 +9,7 @@ use Rattle.numbers.specs.declared.ChannelNumber.{ChannelNumber}
 use Rattle.numbers.specs.declared.UnitNumber.{UnitNumber}
 use Rattle.schedule_list.specs.declared.Schedule.{Schedule}
 use Rattle.schedule.specs.Calls as Schedules
-use Rattle.packets.specs.Picks.{find}
+use Rattle.numbers.specs.Elements.{find}
 use Rattle.packets.specs.Rules as Rules
 use Rattle.packets.specs.Rules.{closed, closing, finished, isDone, leavingAs, returnIfDone}
 use Rattle.packets.specs.State.{State, isClosing, isEmpty, motionOn, stateIn}

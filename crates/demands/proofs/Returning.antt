@@ -27,7 +27,7 @@ use Rattle.packets.proofs.Told.{returns-of}
 use Rattle.packets.proofs.Until.{completion-frees, leads-until}
 use Rattle.packets.proofs.Waiting.{reached-waits}
 use Rattle.packets.specs.History as Lists
-use Rattle.packets.specs.Picks.{All}
+use Rattle.numbers.specs.Elements.{All}
 use Rattle.packets.proofs.ByNumber.{Complete}
 use Rattle.packets.specs.Rules as Rules
 use Rattle.packets.specs.State.{State, motionOn, packetIn}

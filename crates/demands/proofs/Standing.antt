@@ -14,13 +14,13 @@ use Rattle.cards_fields.specs.declared.DeckEnd.{DeckEnd}
 use Rattle.cards_fields.specs.declared.DeckEnd.the-variants as Ends
 use Rattle.schedule_entries.specs.Entries.{active, isNamed, suspended}
 use Rattle.schedule_entries.specs.declared.Entry.{Entry}
-use Rattle.schedule_list.specs.InSchedule.{find as findRequest, inSchedule}
+use Rattle.schedule_list.specs.InSchedule.{inSchedule}
 use Rattle.schedule_list.specs.declared.Schedule.{Schedule}
 use Rattle.schedule.specs.Calls.{deletedBy, releasedBy}
 use Rattle.schedule.specs.declared.Changed.{Changed}
 use Rattle.text.specs.Room.{Whole}
 use Rattle.schedule_deck.specs.Report.{notesBy, outcomeBy, scheduleBy}
-use Rattle.packets.specs.Picks.{find}
+use Rattle.numbers.specs.Elements.{find}
 use Rattle.packets.specs.Rules as Rules
 use Rattle.packets.specs.State.{State, motionOn}
 use Rattle.packets.specs.declared.Act.{Act}
@@ -140,8 +140,8 @@ plain-stands : (c d : Cell) (x : Call) (reply : Reply) (n : Refusal) → Plain x
 plain-stands c d (Deck bytes) reply n z h e = h .2 .1 .1 .1 ∙ deck-stands c bytes (h .0) (h .1) (h .2 .0) n (h .2 .1 .0) (sym (ap refusalIn (h .2 .1 .1 .0)) ∙ e)
 plain-stands c d Select reply n z h e = h .1 .1 .1 ∙ select-stands c (h .0) n (h .1 .0) (sym (ap refusalIn (h .1 .1 .0)) ∙ e)
 plain-stands c d (Do x) reply n z h e = h .1 ∙ acts-stand c x n (sym (ap refusalIn (h .0)) ∙ e)
-plain-stands c d (Release id) reply n z h e = h .1 ∙ release-stands c id n (findRequest (isNamed id) (inSchedule (c .schedule))) (sym (ap refusalIn (h .0)) ∙ e)
-plain-stands c d (Delete id) reply n z h e = h .1 ∙ delete-stands c id n (findRequest (isNamed id) (inSchedule (c .schedule))) (sym (ap refusalIn (h .0)) ∙ e)
+plain-stands c d (Release id) reply n z h e = h .1 ∙ release-stands c id n (find (isNamed id) (inSchedule (c .schedule))) (sym (ap refusalIn (h .0)) ∙ e)
+plain-stands c d (Delete id) reply n z h e = h .1 ∙ delete-stands c id n (find (isNamed id) (inSchedule (c .schedule))) (sym (ap refusalIn (h .0)) ∙ e)
 plain-stands c d (Status j p) reply n z h e = h .1
 plain-stands c d (Key message) reply n z h e = absurd z
 

@@ -25,8 +25,8 @@ use Rattle.cards_group.specs.Group.{answer, fullAnswer, furtherOf, orderedError
 use Rattle.cards_request.specs.declared.FullRequest.{FullRequest}
 use Rattle.cards_request.specs.declared.Further.{Further}
 use Rattle.cards_request.specs.declared.Request.{Request}
-use Rattle.cards_request.specs.declared.Verdict.{Verdict}
-use Rattle.cards_request.specs.declared.Verdict.the-variants.{Good, Wrong}
+use Rattle.cards_request.specs.declared.CardVerdict.{CardVerdict}
+use Rattle.cards_request.specs.declared.CardVerdict.the-variants.{Good, Wrong}
 use Rattle.cards_full.specs.Full.{fits, takesFull, writeAnswer, written, textOf}
 use Rattle.assign_heads.specs.Sums.{howMany, sumTo}
 use Rattle.packets.specs.History.{fresh}
@@ -52,7 +52,7 @@ pub groups-alike : (group : List (List ℕ)) → (readFull group .verdict ≡ re
 unfolding readFull readCards
 groups-alike group = by (orderedError (length group) (getD group 0 []) (getD group 1 []) (drop 2 group)) (requestOf (getD group 0 []) (asked (getD group 1 []))) (furtherOf group)
   where
-    by : (v : Verdict) (q : Request) (f : Further) → (fullAnswer (answer v q .verdict) (answer v q .request) f .verdict ≡ answer v q .verdict) × (fullAnswer (answer v q .verdict) (answer v q .request) f .full .request ≡ answer v q .request)
+    by : (v : CardVerdict) (q : Request) (f : Further) → (fullAnswer (answer v q .verdict) (answer v q .request) f .verdict ≡ answer v q .verdict) × (fullAnswer (answer v q .verdict) (answer v q .request) f .full .request ≡ answer v q .request)
     by Good q f = (refl, refl)
     by (Wrong e) q f = (refl, refl)
 
@@ -60,7 +60,7 @@ pub group-first : (cards : List (List ℕ)) → readGroup cards .verdict ≡ ord
 unfolding readCards
 group-first cards = by (orderedError (length cards) (getD cards 0 []) (getD cards 1 []) (drop 2 cards)) (requestOf (getD cards 0 []) (asked (getD cards 1 [])))
   where
-    by : (v : Verdict) (q : Request) → answer v q .verdict ≡ v
+    by : (v : CardVerdict) (q : Request) → answer v q .verdict ≡ v
     by Good q = refl
     by (Wrong e) q = refl
 

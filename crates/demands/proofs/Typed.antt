@@ -19,7 +19,7 @@ use Rattle.keyboard.specs.declared.Asked.the-variants as Asked′
 use Rattle.keyboard.specs.declared.Fault.{Fault}
 use Rattle.keyboard.specs.declared.Message.{Message}
 use Rattle.keyboard.specs.declared.Word.{Word}
-use Rattle.keyboard_answers.specs.Answers.{answerText, shownNumber}
+use Rattle.keyboard_answers.specs.MessageAnswers.{answerText, shownNumber}
 use Rattle.keyboard_answers.specs.declared.Told.the-variants.{Said}
 use Rattle.cell.specs.Calls.{Keys, heeded}
 use Rattle.cell.specs.declared.Cell.{Cell}

@@ -32,7 +32,7 @@ use Rattle.keyboard.specs.Typed.{known}
 use Rattle.keyboard.specs.declared.Asked.the-variants.{Wrong}
 use Rattle.keyboard.specs.declared.Fault.{Fault}
 use Rattle.keyboard.specs.declared.Word.{Word}
-use Rattle.keyboard_answers.specs.Answers.{answerText}
+use Rattle.keyboard_answers.specs.MessageAnswers.{answerText}
 use Rattle.configuration.specs.Configured.{configurationOf, good, refused}
 use Rattle.configuration_form.specs.Form.{FirstBad, InForm, listsCode}
 use Rattle.configuration_form.specs.Means.{Means}
@@ -44,7 +44,7 @@ use Rattle.cards_fac.specs.Fac.{entriesOf}
 use Rattle.cards_further.specs.Further.{canonicals, held}
 use Rattle.cards_group.specs.Group.{orderedError, readFull, readGroup}
 use Rattle.cards_request.specs.declared.FullRequest.{FullRequest}
-use Rattle.cards_request.specs.declared.Verdict.the-variants.{Good}
+use Rattle.cards_request.specs.declared.CardVerdict.the-variants.{Good}
 use Rattle.cards_full.specs.Full.{behindId, cardsIn, fits, textOf, writeAnswer, written}
 use Rattle.cards_report.specs.Cards.{begin, cardsText, turns}
 use Rattle.cards_table.specs.Table.{place, tableSize}
@@ -58,7 +58,7 @@ use Rattle.desk_show.specs.declared.Which.the-variants as Which′
 use Rattle.desk_hearing.specs.Hearing as Desk
 use Rattle.desk_hearing.specs.Printing.{Prints}
 use Rattle.schedule_entries.specs.Entries.{isNamed, keyOf, precedes}
-use Rattle.schedule_list.specs.InSchedule.{entryAt, find, inSchedule}
+use Rattle.schedule_list.specs.InSchedule.{entryAt, inSchedule}
 use Rattle.schedule.specs.Calls as Schedule
 use Rattle.schedule_orderly.specs.Orderly.{Each, requests}
 use Rattle.schedule_deck.specs.Report.{deckNotes, deckSchedule}
@@ -71,7 +71,7 @@ use Rattle.packets.specs.Demand.{Holding, Holds, Isolated, Stretch}
 use Rattle.packets.specs.History as Lists
 use Rattle.packets.specs.History.{Along, isAccepted}
 use Rattle.packets.specs.Interlocks.{interlockAfter}
-use Rattle.packets.specs.Picks.{keep}
+use Rattle.numbers.specs.Elements.{find, keep}
 use Rattle.packets.specs.State.{State, entryOf, heldBy, inMotion, isClosing, isEmpty, isStill, jobIn, motionOn, noCore, packetIn, stateIn}
 use Rattle.packets.specs.Rules.{closing, isAt}
 use Rattle.packets.specs.declared.Act.the-variants.{Complete, End, Mark, Return, Start, Submit}
@@ -88,7 +88,7 @@ use Rattle.assign.specs.Parts.{FirstLacking}
 use Rattle.assign.specs.Chosen.{ExistsExactly}
 use Rattle.assign.specs.declared.Lacking.the-variants.{First}
 use Rattle.assign.specs.declared.Part.{Part}
-use Rattle.cell_selection.specs.Selecting.{AllHeld, Candidate, HasNone, NoCandidate, NoFit, Selected, assignmentOf, noId, seenIn, unselected}
+use Rattle.cell_selection.specs.Selecting.{AllHeld, Candidate, HasNone, NoCandidate, NoFit, Selected, assignmentOf, noId, supplyIn, unselected}
 use Rattle.cell_selection.specs.declared.Choice.the-variants.{Lacks}
 use Rattle.cell_selection.specs.declared.Selection.{Selection}
 use Rattle.cell.specs.Calls.{Enters, Keys, cellOf, freshCell, outcomeOf}
@@ -204,7 +204,7 @@ pub record Demand1 : Type 0 where
       → part ≡ partOf r repair day
   -- and the desk program prints what is due for its input, in whatever pieces that comes
   pub deskPrints : (s t : Desk.Standing) (calls : List Desk.Call) (last : List ℕ) → Desk.Begins s → Desk.Runs s calls t
-      → Desk.Ends (t .desk .phase) t last → Prints (Desk.inputOf calls) (Desk.printed calls ++ last)
+      → Desk.Ends (t .desk .stage) t last → Prints (Desk.inputOf calls) (Desk.printed calls ++ last)
 
 -- the cell with other units
 abbrev pub withUnits : Cell → List (List UnitState) → Cell
@@ -251,9 +251,9 @@ pub record RefusedSo (c : Cell) (o : Outcome) : Type 0 where
   pub noCandidates : Exactly (o ≡ Refused NoCandidates) ((AllHeld (c .lists) → ⊥) × NoCandidate (inSchedule (c .schedule)))
   -- else "20 that there are some", and none of them has an assignment;
   pub noAssignment : Exactly (o ≡ Refused NoAssignment)
-      ((AllHeld (c .lists) → ⊥) × ((NoCandidate (inSchedule (c .schedule)) → ⊥) × NoFit (inSchedule (c .schedule)) (seenIn (c .lists))))
+      ((AllHeld (c .lists) → ⊥) × ((NoCandidate (inSchedule (c .schedule)) → ⊥) × NoFit (inSchedule (c .schedule)) (supplyIn (c .lists))))
   -- and it is refused "exactly when no place is free or no such job exists"
-  pub together : Exactly (o ≡ Done → ⊥) (AllHeld (c .lists) ⊎ NoFit (inSchedule (c .schedule)) (seenIn (c .lists)))
+  pub together : Exactly (o ≡ Done → ⊥) (AllHeld (c .lists) ⊎ NoFit (inSchedule (c .schedule)) (supplyIn (c .lists)))
 
 -- what comes with 20: "the first candidate's ID and the first facility lacking for it, in the order core, drum, MA, MT,
 -- PR", and "20 names the new kinds after PR": MC, CR, PT
@@ -264,7 +264,7 @@ pub record Missing (c : Cell) (s : Selection) : Type 0 where
       → precedes (keyOf (entryAt (inSchedule (c .schedule)) at .request)) (keyOf (entryAt (inSchedule (c .schedule)) i .request)) ≡ true
   pub id : s .first ≡ entryAt (inSchedule (c .schedule)) at .request .id
   pub part : Part
-  pub lacking : FirstLacking (seenIn (c .lists)) (entryAt (inSchedule (c .schedule)) at .request .facilities) (First part)
+  pub lacking : FirstLacking (supplyIn (c .lists)) (entryAt (inSchedule (c .schedule)) at .request .facilities) (First part)
   pub told : s .choice ≡ Lacks part
 
 -- "2. It is right: cards written are read back as the same request; the job selected is the first in order, of
@@ -332,7 +332,7 @@ pub record Demand2 : Type 0 where
       → (d : Cell) (s : Selection) → Does c Select (Chosen Done s) d
       → (i : ℕ) → Candidate (inSchedule (c .schedule)) i
       → precedes (keyOf (entryAt (inSchedule (c .schedule)) i .request)) (keyOf (s .request)) ≡ true
-      → HasNone (seenIn (c .lists)) (entryAt (inSchedule (c .schedule)) i .request)
+      → HasNone (supplyIn (c .lists)) (entryAt (inSchedule (c .schedule)) i .request)
   -- "taken into the lowest free place": what was assigned it then holds, exactly those units, that drum area and that
   -- core, none of it being returned, and no other job has any of it
   pub holds : (configuration : Configuration) (es : List Event) (c : Cell) → Reached configuration es c

@@ -38,8 +38,9 @@ use Rattle.keyboard.specs.Typed.{known}
 use Rattle.cards_fields.specs.Deck.{cardsOf, terminated}
 use Rattle.schedule_entries.specs.Entries.{active, isNamed, suspended}
 use Rattle.schedule_entries.specs.declared.Entry.{Entry}
-use Rattle.schedule_list.specs.InSchedule.{find, inSchedule}
-use Rattle.packets.specs.Picks.{any}
+use Rattle.schedule_list.specs.InSchedule.{inSchedule}
+use Rattle.numbers.specs.Elements.{any, find}
+use Rattle.numbers.specs.Limits.{deckBytes}
 use Rattle.packets.specs.State.{
   State,
   blank,
@@ -68,7 +69,7 @@ use Rattle.packets.specs.declared.Site.the-variants.{AtAddress, AtUnit}
 use Rattle.packets.specs.declared.Spot.{Spot}
 use Rattle.packets.specs.declared.Spot.the-variants.{OnDrum, OnUnit}
 use Rattle.packets.specs.declared.Status.{Status as PacketStatus}
-use Rattle.cell_selection.specs.Selecting.{AllHeld, NoCandidate, NoFit, seenIn}
+use Rattle.cell_selection.specs.Selecting.{AllHeld, NoCandidate, NoFit, supplyIn}
 use Rattle.cell.specs.declared.Cell.{Cell}
 use Rattle.cell_history.specs.Told.{inside}
 use Rattle.cell_history.specs.History.{Call, Deck, Delete, Do, Key, Release, Select, Status, meant}
@@ -189,7 +190,7 @@ actRows s (Mark k u mark on) = row OutOfRange (not (ltb (k .0) 16 && has (fitted
 -- the sentences of each call
 abbrev pub rowsIn : State → List Entry → Call → List Row
 -- 11: deck too long or without termination card
-rowsIn s es (Deck bytes) = row BadDeck (not (leb (length bytes) 16384 && terminated (cardsOf bytes))) ∷ []
+rowsIn s es (Deck bytes) = row BadDeck (not (leb (length bytes) deckBytes && terminated (cardsOf bytes))) ∷ []
 -- a selection: stated by itself, below (`SelectRefused`)
 rowsIn s es Select = []
 rowsIn s es (Do x) = actRows s x
@@ -241,7 +242,7 @@ abbrev pub SelectRefused : Cell → Option Refusal → Type 0
 SelectRefused c =
     orElse NoPlaceFree (AllHeld (c .lists))
     (orElse NoCandidates (NoCandidate (inSchedule (c .schedule)))
-    (orElse NoAssignment (NoFit (inSchedule (c .schedule)) (seenIn (c .lists)))
+    (orElse NoAssignment (NoFit (inSchedule (c .schedule)) (supplyIn (c .lists)))
     (λ o. o ≡ none)))
 
 -- WHICH REFUSAL ANSWERS, if any: the first of the call's sentences that hold

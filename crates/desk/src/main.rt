@@ -13,7 +13,7 @@ struct Talked {
 
 // Writes the first n bytes, and answers whether that went well; where it did not, says so on standard error.
 fn written(out: &[u8], n: usize) -> bool {
-    let well = io::write_all(STDOUT_FILENO, shift_lines::front(out, n));
+    let well = io::write_all(STDOUT_FILENO, input_lines::front(out, n));
     if !well {
         io::write_all(STDERR_FILENO, b"desk: an answer could not be written\n");
     }
@@ -24,10 +24,10 @@ fn written(out: &[u8], n: usize) -> bool {
 fn talk(
     first: Desk,
     piece: &[u8],
-    line: &mut [u8; 16385],
-    repair: &mut [u8; 16385],
-    day: &mut [u8; 16385],
-    out: &mut [u8; 16396],
+    line: &mut [u8; desk_hearing::KEPT],
+    repair: &mut [u8; desk_hearing::KEPT],
+    day: &mut [u8; desk_hearing::KEPT],
+    out: &mut [u8; desk_hearing::ROOM],
 ) -> Talked {
     let mut desk = first;
     let mut from: usize = 0;
@@ -44,10 +44,10 @@ fn talk(
 // The end of the input, after what stands in the rooms.
 fn finish<'a>(
     desk: Desk,
-    line: &[u8; 16385],
-    repair: &'a [u8; 16385],
-    day: &'a [u8; 16385],
-    out: &mut [u8; 16396],
+    line: &[u8; desk_hearing::KEPT],
+    repair: &'a [u8; desk_hearing::KEPT],
+    day: &'a [u8; desk_hearing::KEPT],
+    out: &mut [u8; desk_hearing::ROOM],
 ) {
     let n = desk_hearing::finish(desk, line, repair, day, out);
     written(out, n);
@@ -56,10 +56,10 @@ fn finish<'a>(
 // A proved loop has to end, and nothing says that the input does: the loop counts its turns down, from a number that
 // no run uses up.
 fn main() {
-    let mut line = [0u8; 16385];
-    let mut repair = [0u8; 16385];
-    let mut day = [0u8; 16385];
-    let mut out = [0u8; 16396];
+    let mut line = [0u8; desk_hearing::KEPT];
+    let mut repair = [0u8; desk_hearing::KEPT];
+    let mut day = [0u8; desk_hearing::KEPT];
+    let mut out = [0u8; desk_hearing::ROOM];
     let mut desk = desk_hearing::fresh();
     let mut left = u64::MAX;
     while 0 < left {

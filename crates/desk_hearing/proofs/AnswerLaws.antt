@@ -12,13 +12,14 @@ use Rattle.numbers.specs.Refusals.{numberOf}
 use Rattle.numbers.specs.declared.Refusal.{Refusal}
 use Rattle.numbers.specs.declared.Refusal.the-variants.{BadDeck}
 use Rattle.numbers.proofs.RefusalLaws.{two-digits}
+use Rattle.numbers.specs.Limits.{deckBytes}
 use Rattle.text.specs.Room.{Written, Whole}
 use Rattle.text.specs.Writing.{decimalText}
 use Rattle.text.proofs.RoomLaws.{none, andThen, entire}
 use Rattle.text.proofs.Undo.{few-digits}
 use Rattle.cards_fields.proofs.Groups.{ends}
-use Rattle.shift_pieces.specs.Pieces.{noText, noLine}
-use Rattle.desk_show.specs.Showing.{IsRead, Answers, bad, ofRepair, ofDay, nobody, partIn, partOf, Shows}
+use Rattle.answer_pieces.specs.Pieces.{noText, noLine}
+use Rattle.desk_show.specs.Showing.{IsRead, ShowsFrom, bad, ofRepair, ofDay, nobody, partIn, partOf, Shows}
 use Rattle.desk_show.specs.declared.Extent.{Extent}
 use Rattle.desk_show.specs.declared.Which.{Which}
 use Rattle.desk_show.specs.declared.Which.the-variants.{Repair, Day, Refused}
@@ -35,17 +36,17 @@ closing-few Day = omega arith
 closing-few (Refused refusal) = omega (arith, refused-few refusal)
 
 -- a part of a deck that is read
-part-few : (deck : List ℕ) (from len : ℕ) → IsRead deck → length (take len (drop from deck)) ≤ 16384
+part-few : (deck : List ℕ) (from len : ℕ) → IsRead deck → length (take len (drop from deck)) ≤ deckBytes
 part-few deck from len r = omega (arith, ends deck (r .0) (r .1) .most, length-take len (drop from deck), length-drop from deck)
 
 module _ {id repair day : List ℕ} {r : Extent} {part : List ℕ} (w : Shows id repair day r part) where
   there-by : (which : Which) → r .which ≡ which → part ≡ partIn which (r .from) (r .len) repair day
   there-by which e = w .there ∙ ap (λ (x : Which). partIn x (r .from) (r .len) repair day) e
 
-  few : length part ≤ 16384
+  few : length part ≤ deckBytes
   few = by (w .answers)
     where
-      by : Answers id repair day (r .which) (r .from) part → length part ≤ 16384
+      by : ShowsFrom id repair day (r .which) (r .from) part → length part ≤ deckBytes
       by (bad e b z n) = omega (arith, ap length n)
       by (ofRepair e d f) = omega (arith, ap length (there-by Repair e), part-few repair (r .from) (r .len) (d .0))
       by (ofDay e d n f) = omega (arith, ap length (there-by Day e), part-few day (r .from) (r .len) (d .1))

@@ -11,15 +11,15 @@ use Rattle.numbers.specs.declared.Refusal.the-variants.{BadDeck}
 use Rattle.text.specs.Room.{Written, Whole}
 use Rattle.words.specs.Lines.{lineText}
 use Rattle.cards_fields.specs.Deck.{isTermination}
-use Rattle.shift_lines.specs.Lines.{TakesUp}
-use Rattle.shift_lines.specs.declared.Cut.{Cut}
-use Rattle.shift_lines.proofs.LineLaws.{taken-within as lines-within}
-use Rattle.shift_pieces.specs.Pieces.{noLine}
+use Rattle.input_lines.specs.Lines.{TakesUp}
+use Rattle.input_lines.specs.declared.Cut.{Cut}
+use Rattle.input_lines.proofs.LineLaws.{taken-within as lines-within}
+use Rattle.answer_pieces.specs.Pieces.{noLine}
 use Rattle.desk_hearing.specs.Printing.{Says}
 use Rattle.desk_hearing.specs.Hearing.{deskOf, Standing, standing, lineIn, repairIn, dayIn, Turns, TurnsIf, Heard, EndsIf, Ends, Ended}
 use Rattle.desk_hearing.specs.Putting.{Answered}
-use Rattle.desk_hearing.specs.declared.Phase.{Phase}
-use Rattle.desk_hearing.specs.declared.Phase.the-variants.{GathersRepair, GathersDay, Asks}
+use Rattle.desk_hearing.specs.declared.Stage.{Stage}
+use Rattle.desk_hearing.specs.declared.Stage.the-variants.{GathersRepair, GathersDay, Asks}
 use Rattle.desk_hearing.specs.declared.Desk.{Desk}
 use Rattle.desk_hearing.specs.declared.Hearing.{Hearing}
 use Rattle.desk_hearing.proofs.AnswerLaws.{nothing-put, refused-put}
@@ -41,35 +41,35 @@ module _ (s : Standing) {piece line′ : List ℕ} {cut : Cut} (k : TakesUp (s .
     put = put;
   }
 
-  pub waits : cut .whole ≡ false → {d : Desk} → d ≡ deskOf (s .desk .phase) (s .desk .repair) (s .desk .day) (cut .kept) → (out : List ℕ)
+  pub waits : cut .whole ≡ false → {d : Desk} → d ≡ deskOf (s .desk .stage) (s .desk .repair) (s .desk .day) (cut .kept) → (out : List ℕ)
       → Heard s piece (standing d line′ (s .repair) (s .day)) (cut .taken) out out 0
   waits f {d} e out = heard {t = standing d line′ (s .repair) (s .day)} k false f (e, refl, refl, refl) (nothing-put out)
 
   module _ (w : cut .whole ≡ true) {card : List ℕ} (c : card ≡ take (cut .kept) line′) where
-    whole : {t : Standing} {text out after· : List ℕ} {at : ℕ} → TakesUp (s .line) (s .desk .line) piece (t .line) cut → t .line ≡ line′ → (phase : Phase)
-        → s .desk .phase ≡ phase → Turns phase card s t text → t .desk .line ≡ 0 → Whole text out after· at → Heard s piece t (cut .taken) out after· at
-    whole {t} {text} j l phase e turns z put =
+    whole : {t : Standing} {text out after· : List ℕ} {at : ℕ} → TakesUp (s .line) (s .desk .line) piece (t .line) cut → t .line ≡ line′ → (stage : Stage)
+        → s .desk .stage ≡ stage → Turns stage card s t text → t .desk .line ≡ 0 → Whole text out after· at → Heard s piece t (cut .taken) out after· at
+    whole {t} {text} j l stage e turns z put =
         heard {t = t} j true w (
-          subst (λ (p : Phase). Turns p (take (cut .kept) (t .line)) s t text) (sym e)
-              (subst (λ (x : List ℕ). Turns phase x s t text) (c ∙ ap (take (cut .kept)) (sym l)) turns),
+          subst (λ (p : Stage). Turns p (take (cut .kept) (t .line)) s t text) (sym e)
+              (subst (λ (x : List ℕ). Turns stage x s t text) (c ∙ ap (take (cut .kept)) (sym l)) turns),
           z,
         ) put
 
-    pub of-repair : s .desk .phase ≡ GathersRepair → {room : List ℕ} {n : ℕ} → Written (s .repair) (s .desk .repair) (lineText card) room n
-        → {p : Phase} → p ≡ cond (isTermination card) GathersDay GathersRepair → {d : Desk} → d ≡ deskOf p n (s .desk .day) 0 → (out : List ℕ)
+    pub of-repair : s .desk .stage ≡ GathersRepair → {room : List ℕ} {n : ℕ} → Written (s .repair) (s .desk .repair) (lineText card) room n
+        → {p : Stage} → p ≡ cond (isTermination card) GathersDay GathersRepair → {d : Desk} → d ≡ deskOf p n (s .desk .day) 0 → (out : List ℕ)
         → Heard s piece (standing d line′ room (s .day)) (cut .taken) out out 0
     of-repair e {room} {n} put {p} next {d} is out =
         subst (λ (x : Desk). Heard s piece (standing x line′ room (s .day)) (cut .taken) out out 0) (sym is)
         (whole {t = standing (deskOf p n (s .desk .day) 0) line′ room (s .day)} k refl GathersRepair e (put, next, (refl, refl), refl) refl (nothing-put out))
 
-    pub of-day : s .desk .phase ≡ GathersDay → {room : List ℕ} {n : ℕ} → Written (s .day) (s .desk .day) (lineText card) room n
-        → {p : Phase} → p ≡ cond (isTermination card) Asks GathersDay → {d : Desk} → d ≡ deskOf p (s .desk .repair) n 0 → (out : List ℕ)
+    pub of-day : s .desk .stage ≡ GathersDay → {room : List ℕ} {n : ℕ} → Written (s .day) (s .desk .day) (lineText card) room n
+        → {p : Stage} → p ≡ cond (isTermination card) Asks GathersDay → {d : Desk} → d ≡ deskOf p (s .desk .repair) n 0 → (out : List ℕ)
         → Heard s piece (standing d line′ (s .repair) room) (cut .taken) out out 0
     of-day e {room} {n} put {p} next {d} is out =
         subst (λ (x : Desk). Heard s piece (standing x line′ (s .repair) room) (cut .taken) out out 0) (sym is)
         (whole {t = standing (deskOf p (s .desk .repair) n 0) line′ (s .repair) room} k refl GathersDay e (put, next, (refl, refl), refl) refl (nothing-put out))
 
-    pub of-asks : s .desk .phase ≡ Asks → {out after· : List ℕ} {at : ℕ} → Answered card (repairIn s) (dayIn s) out after· at
+    pub of-asks : s .desk .stage ≡ Asks → {out after· : List ℕ} {at : ℕ} → Answered card (repairIn s) (dayIn s) out after· at
         → {d : Desk} → d ≡ deskOf Asks (s .desk .repair) (s .desk .day) 0
         → Heard s piece (standing d line′ (s .repair) (s .day)) (cut .taken) out after· at
     of-asks e {out} {after·} {at} a {d} is =
@@ -85,20 +85,20 @@ as-heard {s} {d} {piece} {line} {repair} {day} {out} {after·} e w =
 
 -- ---- the end of the input
 module _ (s : Standing) where
-  ended : {text out after· : List ℕ} {at : ℕ} → (phase : Phase) → s .desk .phase ≡ phase → Ends phase s text → Whole text out after· at → Ended s out after· at
-  ended {text} phase e w put = record { text = text; ends = subst (λ (p : Phase). Ends p s text) (sym e) w; put = put }
+  ended : {text out after· : List ℕ} {at : ℕ} → (stage : Stage) → s .desk .stage ≡ stage → Ends stage s text → Whole text out after· at → Ended s out after· at
+  ended {text} stage e w put = record { text = text; ends = subst (λ (p : Stage). Ends p s text) (sym e) w; put = put }
 
   module _ {out after· : List ℕ} {at : ℕ} (l : length out ≡ 16396) (put : Written out 0 (noLine BadDeck) after· at) where
-    pub no-repair : s .desk .phase ≡ GathersRepair → Ended s out after· at
+    pub no-repair : s .desk .stage ≡ GathersRepair → Ended s out after· at
     no-repair e = ended GathersRepair e refl (refused-put l put)
 
-    pub no-day : s .desk .phase ≡ GathersDay → Ended s out after· at
+    pub no-day : s .desk .stage ≡ GathersDay → Ended s out after· at
     no-day e = ended GathersDay e refl (refused-put l put)
 
-  pub no-line : s .desk .phase ≡ Asks → s .desk .line ≡ 0 → (out : List ℕ) → Ended s out out 0
+  pub no-line : s .desk .stage ≡ Asks → s .desk .line ≡ 0 → (out : List ℕ) → Ended s out out 0
   no-line e z out = ended Asks e (subst (λ (b : Bool). EndsIf b s []) (sym (eq-eqb (s .desk .line) 0 z)) refl) (nothing-put out)
 
-  pub last-line : s .desk .phase ≡ Asks → (s .desk .line ≡ 0 → ⊥) → {out after· : List ℕ} {at : ℕ} → Answered (lineIn s) (repairIn s) (dayIn s) out after· at
+  pub last-line : s .desk .stage ≡ Asks → (s .desk .line ≡ 0 → ⊥) → {out after· : List ℕ} {at : ℕ} → Answered (lineIn s) (repairIn s) (dayIn s) out after· at
       → Ended s out after· at
   last-line e n a = ended Asks e (subst (λ (b : Bool). EndsIf b s (a .text)) (sym (ne-eqb (s .desk .line) 0 n)) (a .says)) (a .put)
 

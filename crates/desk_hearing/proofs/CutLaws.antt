@@ -11,11 +11,12 @@ use lib.ListN.{length, take, length-take}
 use lib.Seq.{take-all}
 use Rattle.numbers.specs.declared.Refusal.{Refusal}
 use Rattle.numbers.specs.declared.Refusal.the-variants.{BadDeck}
+use Rattle.numbers.specs.Limits.{deckBytes}
 use Rattle.words.proofs.WordLaws.{same-long}
 use Rattle.cards_fields.specs.Deck.{isTermination, termination, deckGroups}
 use Rattle.cards_fields.proofs.DeckLaws.{deck-long}
 use Rattle.cards_fields.proofs.Groups.{ends}
-use Rattle.desk_show.specs.Showing.{opensFor, hasId, NoneHas, FirstOf, IsBad, IsRead, Answers, bad, ofRepair, ofDay, nobody, partIn, Shows}
+use Rattle.desk_show.specs.Showing.{opensFor, hasId, NoneHas, FirstOf, IsBad, IsRead, ShowsFrom, bad, ofRepair, ofDay, nobody, partIn, Shows}
 use Rattle.desk_show.proofs.IdLaws.{id-long, opens-no-id}
 use Rattle.desk_show.specs.declared.Which.{Which}
 use Rattle.desk_show.specs.declared.Which.the-variants.{Refused}
@@ -49,7 +50,7 @@ module _ (a b : List ℕ) (e : (card : List ℕ) → opensFor a card ≡ opensFo
     bytes = f .bytes;
   }
 
-  answers-same : {repair day : List ℕ} {which : Which} {from : ℕ} {part : List ℕ} → Answers a repair day which from part → Answers b repair day which from part
+  answers-same : {repair day : List ℕ} {which : Which} {from : ℕ} {part : List ℕ} → ShowsFrom a repair day which from part → ShowsFrom b repair day which from part
   answers-same (bad w h f p) = bad w h f p
   answers-same (ofRepair w r h) = ofRepair w r (first-same h)
   answers-same {repair} (ofDay w r n h) = ofDay w r (none-same (deckGroups repair) n) (first-same h)
@@ -61,7 +62,7 @@ refused-part w refusal e from len a b c d = rw e
 
 -- ---- cut somewhere behind 16,384 bytes
 
-module _ (k : ℕ) (big : 16384 < k) where
+module _ (k : ℕ) (big : deckBytes < k) where
   -- the termination card has 80 characters
   pub ends-cut : (line : List ℕ) → isTermination (take k line) ≡ isTermination line
   ends-cut line =
@@ -93,7 +94,7 @@ module _ (k : ℕ) (big : 16384 < k) where
       either (inl h) = inl (bad-cut repair h)
       either (inr h) = inr (bad-cut day h)
 
-      by : Answers id (take k repair) (take k day) (r .which) (r .from) part → Shows id repair day r part
+      by : ShowsFrom id (take k repair) (take k day) (r .which) (r .from) part → Shows id repair day r part
       by (bad w h f p) = record {
         answers = bad w (either h) f p;
         long = s .long;

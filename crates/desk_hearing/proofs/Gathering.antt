@@ -14,7 +14,7 @@ use Rattle.words.specs.Lines.{lf, linesOf, lineText, size}
 use Rattle.words.proofs.WordLaws.{same-equal}
 use Rattle.words.proofs.LineLaws.{NoLf, first-ended}
 use Rattle.cards_fields.specs.Deck.{isTermination, termination}
-use Rattle.shift_pieces.specs.Pieces.{noLine}
+use Rattle.answer_pieces.specs.Pieces.{noLine}
 use Rattle.desk_hearing.specs.Printing.{hasDeck, deckLength, deckOf, behindDeck, asked, lastLine, Prints, unread, read, SaysAll}
 
 -- ---- what has no line

@@ -9,14 +9,14 @@ use lib.ListN.{length, take}
 use Rattle.numbers.proofs.Tests.{never}
 use Rattle.text.specs.Room.{Whole}
 use Rattle.text.proofs.RoomLaws.{written-one, whole-one}
-use Rattle.shift_lines.specs.Lines.{TakesUp}
-use Rattle.shift_lines.specs.declared.Cut.{Cut}
+use Rattle.input_lines.specs.Lines.{TakesUp}
+use Rattle.input_lines.specs.declared.Cut.{Cut}
 use Rattle.desk_show.specs.declared.Extent.{Extent}
 use Rattle.desk_show.proofs.Unique.{shows-one}
 use Rattle.desk_hearing.specs.Printing.{deckOf, behindDeck, asked, closing, Says, SaysAll, Prints, unread, read}
 use Rattle.desk_hearing.specs.Hearing.{deskOf, Standing, standing, Turns, TurnsIf, Heard, EndsIf, Ends, Ended}
-use Rattle.desk_hearing.specs.declared.Phase.{Phase}
-use Rattle.desk_hearing.specs.declared.Phase.the-variants.{GathersRepair, GathersDay, Asks}
+use Rattle.desk_hearing.specs.declared.Stage.{Stage}
+use Rattle.desk_hearing.specs.declared.Stage.the-variants.{GathersRepair, GathersDay, Asks}
 use Rattle.desk_hearing.specs.declared.Desk.{Desk}
 
 -- ---- what is printed
@@ -43,7 +43,7 @@ prints-one {input} {x} {y} (read t s) (read t′ s′) =
 
 -- ---- what a call leaves
 record Alike (t u : Standing) (x y : List ℕ) : Type 0 where
-  phase· : t .desk .phase ≡ u .desk .phase
+  stage· : t .desk .stage ≡ u .desk .stage
   repair· : t .desk .repair ≡ u .desk .repair
   day· : t .desk .day ≡ u .desk .day
   line· : t .desk .line ≡ u .desk .line
@@ -51,12 +51,12 @@ record Alike (t u : Standing) (x y : List ℕ) : Type 0 where
   days· : t .day ≡ u .day
   text· : x ≡ y
 
-turns-one : (phase : Phase) (line : List ℕ) (s t u : Standing) (x y : List ℕ) → t .desk .line ≡ u .desk .line → Turns phase line s t x → Turns phase line s u y
+turns-one : (stage : Stage) (line : List ℕ) (s t u : Standing) (x y : List ℕ) → t .desk .line ≡ u .desk .line → Turns stage line s t x → Turns stage line s u y
     → Alike t u x y
 turns-one GathersRepair line s t u x y l v w =
     let p = written-one (v .0) (w .0) in
     record {
-      phase· = v .1 ∙ sym (w .1);
+      stage· = v .1 ∙ sym (w .1);
       repair· = p .1;
       day· = v .2 .1 ∙ sym (w .2 .1);
       line· = l;
@@ -67,7 +67,7 @@ turns-one GathersRepair line s t u x y l v w =
 turns-one GathersDay line s t u x y l v w =
     let p = written-one (v .0) (w .0) in
     record {
-      phase· = v .1 ∙ sym (w .1);
+      stage· = v .1 ∙ sym (w .1);
       repair· = v .2 .1 ∙ sym (w .2 .1);
       day· = p .1;
       line· = l;
@@ -76,7 +76,7 @@ turns-one GathersDay line s t u x y l v w =
       text· = v .3 ∙ sym (w .3);
     }
 turns-one Asks line s t u x y l v w = record {
-  phase· = v .1 ∙ sym (w .1);
+  stage· = v .1 ∙ sym (w .1);
   repair· = v .2 .1 ∙ sym (w .2 .1);
   day· = v .3 .1 ∙ sym (w .3 .1);
   line· = l;
@@ -87,12 +87,12 @@ turns-one Asks line s t u x y l v w = record {
 
 if-one : (b : Bool) (kept : ℕ) (s t u : Standing) (x y : List ℕ) → t .line ≡ u .line → TurnsIf b kept s t x → TurnsIf b kept s u y → Alike t u x y
 if-one true kept s t u x y l v w =
-    turns-one (s .desk .phase) (take kept (t .line)) s t u x y (v .1 ∙ sym (w .1)) (v .0)
-    (subst (λ (r : List ℕ). Turns (s .desk .phase) (take kept r) s u y) (sym l) (w .0))
+    turns-one (s .desk .stage) (take kept (t .line)) s t u x y (v .1 ∙ sym (w .1)) (v .0)
+    (subst (λ (r : List ℕ). Turns (s .desk .stage) (take kept r) s u y) (sym l) (w .0))
 if-one false kept s t u x y l v w =
     let d : t .desk ≡ u .desk = v .0 ∙ sym (w .0) in
     record {
-      phase· = ap (λ (z : Desk). z .phase) d;
+      stage· = ap (λ (z : Desk). z .stage) d;
       repair· = ap (λ (z : Desk). z .repair) d;
       day· = ap (λ (z : Desk). z .day) d;
       line· = ap (λ (z : Desk). z .line) d;
@@ -111,7 +111,7 @@ takes-one {c = c} {d = d} v w =
     let p = written-one (v .put) (w .put) in
     (cut-is (c .kept) (d .kept) (c .taken) (d .taken) (c .whole) (d .whole) (p .1) (v .taken ∙ sym (w .taken)) (v .whole ∙ sym (w .whole)), p .0)
 
-desk-is : (p p′ : Phase) (r r′ d d′ l l′ : ℕ) → p ≡ p′ → r ≡ r′ → d ≡ d′ → l ≡ l′ → deskOf p r d l ≡ deskOf p′ r′ d′ l′
+desk-is : (p p′ : Stage) (r r′ d d′ l l′ : ℕ) → p ≡ p′ → r ≡ r′ → d ≡ d′ → l ≡ l′ → deskOf p r d l ≡ deskOf p′ r′ d′ l′
 desk-is p p′ r r′ d d′ l l′ i j k m = cc
 
 stands-is : (d d′ : Desk) (l l′ r r′ y y′ : List ℕ) → d ≡ d′ → l ≡ l′ → r ≡ r′ → y ≡ y′ → standing d l r y ≡ standing d′ l′ r′ y′
@@ -127,7 +127,7 @@ heard-one {s} {t} {u} {out = out} {after· = after·} {at = at} v w =
     (subst (λ (k : Cut). TurnsIf (k .whole) (k .kept) s u (w .text)) (sym c) (w .hears .turns)) in
     let p = whole-one (subst (λ (x : List ℕ). Whole x out after· at) (a .text·) (v .put)) (w .put) in (
       stands-is (t .desk) (u .desk) (t .line) (u .line) (t .repair) (u .repair) (t .day) (u .day)
-          (desk-is (t .desk .phase) (u .desk .phase) (t .desk .repair) (u .desk .repair) (t .desk .day) (u .desk .day) (t .desk .line) (u .desk .line) (a .phase·) (a .repair·) (a .day·) (a .line·))
+          (desk-is (t .desk .stage) (u .desk .stage) (t .desk .repair) (u .desk .repair) (t .desk .day) (u .desk .day) (t .desk .line) (u .desk .line) (a .stage·) (a .repair·) (a .day·) (a .line·))
           (q .1) (a .repairs·) (a .days·),
       v .hears .took ∙ ap (λ (k : Cut). k .taken) c ∙ sym (w .hears .took),
       p .0,
@@ -139,12 +139,12 @@ ends-if-one : (b : Bool) (s : Standing) (x y : List ℕ) → EndsIf b s x → En
 ends-if-one true s x y v w = v ∙ sym w
 ends-if-one false s x y v w = says-one v w
 
-ends-one : (phase : Phase) (s : Standing) (x y : List ℕ) → Ends phase s x → Ends phase s y → x ≡ y
+ends-one : (stage : Stage) (s : Standing) (x y : List ℕ) → Ends stage s x → Ends stage s y → x ≡ y
 ends-one GathersRepair s x y v w = v ∙ sym w
 ends-one GathersDay s x y v w = v ∙ sym w
 ends-one Asks s x y v w = ends-if-one (eqb (s .desk .line) 0) s x y v w
 
 pub ended-one : {s : Standing} {out after· after′ : List ℕ} {at at′ : ℕ} → Ended s out after· at → Ended s out after′ at′ → (after· ≡ after′) × (at ≡ at′)
 ended-one {s} {out} {after·} {at = at} v w =
-    let e = ends-one (s .desk .phase) s (v .text) (w .text) (v .ends) (w .ends) in
+    let e = ends-one (s .desk .stage) s (v .text) (w .text) (v .ends) (w .ends) in
     whole-one (subst (λ (x : List ℕ). Whole x out after· at) e (v .put)) (w .put)

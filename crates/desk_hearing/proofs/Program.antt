@@ -9,17 +9,18 @@ use lib.Dec.{eqb}
 use lib.ListN.{length, take, drop}
 use lib.Seq.{take-append-add}
 use borrow.Author.Tests.{ltb-true, eq-eqb, ne-eqb}
+use Rattle.numbers.specs.Limits.{deckBytes}
 use Rattle.words.specs.Words.{isnt}
 use Rattle.words.specs.Lines.{lf, lineOf, lineText}
 use Rattle.words.proofs.WordLaws.{leading-front}
 use Rattle.words.proofs.LineLaws.{NoLf, no-lf-append, line-clean, line-split}
 use Rattle.cards_fields.specs.Deck.{isTermination}
-use Rattle.shift_lines.specs.Lines.{TakesUp}
-use Rattle.shift_lines.specs.declared.Cut.{Cut}
+use Rattle.input_lines.specs.Lines.{TakesUp}
+use Rattle.input_lines.specs.declared.Cut.{Cut}
 use Rattle.desk_hearing.specs.Printing.{lastLine, Says, SaysAll, Prints}
 use Rattle.desk_hearing.specs.Hearing.{Standing, lineIn, repairIn, dayIn, Turns, TurnsIf, Hears, EndsIf, Ends, Call, Runs, inputOf, printed, Begins}
-use Rattle.desk_hearing.specs.declared.Phase.{Phase}
-use Rattle.desk_hearing.specs.declared.Phase.the-variants.{GathersRepair, GathersDay, Asks}
+use Rattle.desk_hearing.specs.declared.Stage.{Stage}
+use Rattle.desk_hearing.specs.declared.Stage.the-variants.{GathersRepair, GathersDay, Asks}
 use Rattle.desk_hearing.specs.declared.Desk.{Desk}
 use Rattle.desk_hearing.proofs.Kept.{Kept, kept-none, kept-count, kept-more, kept-line}
 use Rattle.desk_hearing.proofs.CutLaws.{ends-cut, says-cut}
@@ -49,7 +50,7 @@ record Stands (k : ℕ) (s : Standing) (l r d : List ℕ) : Type 0 where
   day : Kept k (s .day) d (s .desk .day)
 
 -- what is said of the rest of the input
-abbrev Claims : Phase → List ℕ → List ℕ → List ℕ → List ℕ → Type 0
+abbrev Claims : Stage → List ℕ → List ℕ → List ℕ → List ℕ → Type 0
 Claims GathersRepair repair day rest text = BothFrom text day repair rest
 Claims GathersDay repair day rest text = DayFrom text day repair rest
 Claims Asks repair day rest text = AsksFrom text repair day rest
@@ -57,7 +58,7 @@ Claims Asks repair day rest text = AsksFrom text repair day rest
 kept-same : {k n m : ℕ} {room after text : List ℕ} → Kept k room text n → (after ≡ room) × (m ≡ n) → Kept k after text m
 kept-same {k} {text = text} w e = subst₂ (λ (l : List ℕ) (i : ℕ). Kept k l text i) (sym (e .0)) (sym (e .1)) w
 
-module _ (k : ℕ) (big : 16384 < k) where
+module _ (k : ℕ) (big : deckBytes < k) where
   -- what the rooms answer is what the whole texts answer
   says : {s : Standing} {part repair day line text : List ℕ} → Stands k s part repair day
       → Says (take k line) (repairIn s) (dayIn s) text → Says line repair day text
@@ -76,16 +77,16 @@ module _ (k : ℕ) (big : 16384 < k) where
       let h : Says (lineIn s) (repairIn s) (dayIn s) last = subst (λ (b : Bool). EndsIf b s last) z e in
       (last, [], says w (subst (λ (l : List ℕ). Says l (repairIn s) (dayIn s) last) (w .line .front) h), refl, sym (append-nil last))
 
-  at-end : (phase : Phase) (s : Standing) (line repair day last : List ℕ) → Stands k s line repair day → Ends phase s last → Claims phase repair day line last
+  at-end : (stage : Stage) (s : Standing) (line repair day last : List ℕ) → Stands k s line repair day → Ends stage s last → Claims stage repair day line last
   at-end GathersRepair s line repair day last w e = gather-none (DayFrom last day) repair line (w .clean) e
   at-end GathersDay s line repair day last w e = gather-none (AsksFrom last repair) day line (w .clean) e
   at-end Asks s line repair day last w e = rw (asked-last line (w .clean)) (last-line s line repair day last w e)
 
   -- ---- a whole line
 
-  turned : (phase : Phase) (s m : Standing) (part line repair day rest text more : List ℕ) → Stands k s part repair day → NoLf line
-      → Kept k (m .line) [] (m .desk .line) → Turns phase (take k line) s m text
-      → ((r d : List ℕ) → Stands k m [] r d → Claims (m .desk .phase) r d rest more) → Claims phase repair day (lineText line ++ rest) (text ++ more)
+  turned : (stage : Stage) (s m : Standing) (part line repair day rest text more : List ℕ) → Stands k s part repair day → NoLf line
+      → Kept k (m .line) [] (m .desk .line) → Turns stage (take k line) s m text
+      → ((r d : List ℕ) → Stands k m [] r d → Claims (m .desk .stage) r d rest more) → Claims stage repair day (lineText line ++ rest) (text ++ more)
   turned GathersRepair s m part line repair day rest text more w n l t on =
       let v = on (repair ++ lineText line) day (record { line = l; clean = tt; repair = kept-line line (w .repair) (t .0); day = kept-same (w .day) (t .2) }) in
       let c : Claims (cond (isTermination line) GathersDay GathersRepair) (repair ++ lineText line) day rest more = rw (t .1, ends-cut k big line) at v in
@@ -102,8 +103,8 @@ module _ (k : ℕ) (big : 16384 < k) where
   -- ---- ONE CALL
 
   step : {s m : Standing} {piece text line repair day : List ℕ} {taken : ℕ} (rest more : List ℕ) → Stands k s line repair day → Hears s piece m taken text
-      → ((l r d : List ℕ) → Stands k m l r d → Claims (m .desk .phase) r d (l ++ rest) more)
-      → Claims (s .desk .phase) repair day (line ++ (take taken piece ++ rest)) (text ++ more)
+      → ((l r d : List ℕ) → Stands k m l r d → Claims (m .desk .stage) r d (l ++ rest) more)
+      → Claims (s .desk .stage) repair day (line ++ (take taken piece ++ rest)) (text ++ more)
   step {s} {m} {piece} {text} {line} {repair} {day} {taken} rest more w h on = by (h .cut .whole) refl (h .turns)
     where
       kept : Kept k (m .line) (line ++ lineOf piece) (h .cut .kept)
@@ -116,13 +117,13 @@ module _ (k : ℕ) (big : 16384 < k) where
       took e = ap (λ (l : List ℕ). line ++ (l ++ rest)) (sym e ∙ ap (λ (n : ℕ). take n piece) (sym (h .took)))
 
       by : (b : Bool) → h .cut .whole ≡ b → TurnsIf b (h .cut .kept) s m text
-          → Claims (s .desk .phase) repair day (line ++ (take taken piece ++ rest)) (text ++ more)
+          → Claims (s .desk .stage) repair day (line ++ (take taken piece ++ rest)) (text ++ more)
       by true e t =
           let i : lineText (line ++ lineOf piece) ++ rest ≡ line ++ (lineText (lineOf piece) ++ rest) = simp append-assoc in
           let n = kept-none (m .line) (kept .long) (t .1) in
-          subst (λ (l : List ℕ). Claims (s .desk .phase) repair day l (text ++ more)) (i ∙ took (took-line (h .takes) e))
-          (turned (s .desk .phase) s m line (line ++ lineOf piece) repair day rest text more w clean n
-          (subst (λ (l : List ℕ). Turns (s .desk .phase) l s m text) (kept .front) (t .0)) (on []))
+          subst (λ (l : List ℕ). Claims (s .desk .stage) repair day l (text ++ more)) (i ∙ took (took-line (h .takes) e))
+          (turned (s .desk .stage) s m line (line ++ lineOf piece) repair day rest text more w clean n
+          (subst (λ (l : List ℕ). Turns (s .desk .stage) l s m text) (kept .front) (t .0)) (on []))
       by false e t =
           let v : Stands k m (line ++ lineOf piece) repair day =
           record {
@@ -131,25 +132,25 @@ module _ (k : ℕ) (big : 16384 < k) where
             repair = kept-same (w .repair) (t .1, ap (λ (d : Desk). d .repair) (t .0));
             day = kept-same (w .day) (t .2, ap (λ (d : Desk). d .day) (t .0));
           } in
-          subst₃ (λ (p : Phase) (l x : List ℕ). Claims p repair day l x) (ap (λ (d : Desk). d .phase) (t .0))
+          subst₃ (λ (p : Stage) (l x : List ℕ). Claims p repair day l x) (ap (λ (d : Desk). d .stage) (t .0))
           (append-assoc line (lineOf piece) rest ∙ took (took-part (h .takes) e)) (ap (λ (x : List ℕ). x ++ more) (sym (t .3)))
           (on (line ++ lineOf piece) repair day v)
 
   -- ---- ALL CALLS
 
-  all : (cs : List Call) (s t : Standing) (last line repair day : List ℕ) → Stands k s line repair day → Runs s cs t → Ends (t .desk .phase) t last
-      → Claims (s .desk .phase) repair day (line ++ inputOf cs) (printed cs ++ last)
+  all : (cs : List Call) (s t : Standing) (last line repair day : List ℕ) → Stands k s line repair day → Runs s cs t → Ends (t .desk .stage) t last
+      → Claims (s .desk .stage) repair day (line ++ inputOf cs) (printed cs ++ last)
   all [] s t last line repair day w r e =
-      rw (append-nil line) (at-end (s .desk .phase) s line repair day last w (subst (λ (u : Standing). Ends (u .desk .phase) u last) r e))
+      rw (append-nil line) (at-end (s .desk .stage) s line repair day last w (subst (λ (u : Standing). Ends (u .desk .stage) u last) r e))
   all (c ∷ cs) s t last line repair day w r e =
       rw (append-assoc (c .text) (printed cs) last)
       (step (inputOf cs) (printed cs ++ last) w (r .1) (λ l q d v. all cs (r .0) t last l q d v (r .2) e))
 
 -- WHAT THE PROGRAM PRINTS
-pub program : (s t : Standing) (cs : List Call) (last : List ℕ) → Begins s → Runs s cs t → Ends (t .desk .phase) t last
+pub program : (s t : Standing) (cs : List Call) (last : List ℕ) → Begins s → Runs s cs t → Ends (t .desk .stage) t last
     → Prints (inputOf cs) (printed cs ++ last)
 program s t cs last b r e =
-    let w : Stands 16385 s [] [] [] =
+    let w : Stands (deckBytes + 1) s [] [] [] =
     record {
       line = kept-none (s .line) (b .line) (ap (λ (d : Desk). d .line) (b .desk));
       clean = tt;
@@ -157,5 +158,5 @@ program s t cs last b r e =
       day = kept-none (s .day) (b .day) (ap (λ (d : Desk). d .day) (b .desk));
     } in
     prints (inputOf cs) (printed cs ++ last)
-    (subst (λ (p : Phase). Claims p [] [] (inputOf cs) (printed cs ++ last)) (ap (λ (d : Desk). d .phase) (b .desk))
-    (all 16385 (omega arith) cs s t last [] [] [] w r e))
+    (subst (λ (p : Stage). Claims p [] [] (inputOf cs) (printed cs ++ last)) (ap (λ (d : Desk). d .stage) (b .desk))
+    (all (deckBytes + 1) (omega arith) cs s t last [] [] [] w r e))

@@ -1,26 +1,27 @@
 -- The desk, heard line by line in lent rooms: what each call leaves and answers, for whatever it is handed. A reader has
 -- to believe this page. That the calls together print what the page Printing says is proved (proofs/Program), for any
 -- pieces in which the input comes.
-use Prim.Native.Nat.{ℕ}
+use Prim.Native.Nat.{ℕ, _+_}
 use mathlib.Core.Path.{_≡_}
 use mathlib.Core.Bool.{Bool, true, false, cond}
 use mathlib.Core.List.{List, [], _∷_, _++_}
 use lib.Dec.{eqb}
 use lib.ListN.{length, take}
 use Rattle.numbers.specs.declared.Refusal.the-variants.{BadDeck}
+use Rattle.numbers.specs.Limits.{deckBytes}
 use Rattle.text.specs.Room.{Written, Whole}
 use Rattle.words.specs.Lines.{lineText}
 use Rattle.cards_fields.specs.Deck.{isTermination}
-use Rattle.shift_lines.specs.Lines.{TakesUp}
-use Rattle.shift_lines.specs.declared.Cut.{Cut}
-use Rattle.shift_pieces.specs.Pieces.{noLine}
+use Rattle.input_lines.specs.Lines.{TakesUp}
+use Rattle.input_lines.specs.declared.Cut.{Cut}
+use Rattle.answer_pieces.specs.Pieces.{noLine}
 use Rattle.desk_hearing.specs.Printing.{Says}
-use Rattle.desk_hearing.specs.declared.Phase.{Phase}
-use Rattle.desk_hearing.specs.declared.Phase.the-variants.{GathersRepair, GathersDay, Asks}
+use Rattle.desk_hearing.specs.declared.Stage.{Stage}
+use Rattle.desk_hearing.specs.declared.Stage.the-variants.{GathersRepair, GathersDay, Asks}
 use Rattle.desk_hearing.specs.declared.Desk.{Desk}
 
-abbrev pub deskOf : Phase → ℕ → ℕ → ℕ → Desk
-deskOf phase repair day line = record { phase = phase; repair = repair; day = day; line = line }
+abbrev pub deskOf : Stage → ℕ → ℕ → ℕ → Desk
+deskOf stage repair day line = record { stage = stage; repair = repair; day = day; line = line }
 
 -- before the first byte
 abbrev pub fresh : Desk
@@ -55,21 +56,21 @@ SameDay s t = (t .day ≡ s .day) × (t .desk .day ≡ s .desk .day)
 
 -- A WHOLE LINE, by what it belongs to: a card stands behind those of its deck, and the termination card ends that; an ID
 -- is answered
-abbrev pub Turns : Phase → List ℕ → Standing → Standing → List ℕ → Type 0
+abbrev pub Turns : Stage → List ℕ → Standing → Standing → List ℕ → Type 0
 Turns GathersRepair line s t text =
     Written (s .repair) (s .desk .repair) (lineText line) (t .repair) (t .desk .repair)
-    × (t .desk .phase ≡ cond (isTermination line) GathersDay GathersRepair) × SameDay s t × (text ≡ [])
+    × (t .desk .stage ≡ cond (isTermination line) GathersDay GathersRepair) × SameDay s t × (text ≡ [])
 Turns GathersDay line s t text =
     Written (s .day) (s .desk .day) (lineText line) (t .day) (t .desk .day)
-    × (t .desk .phase ≡ cond (isTermination line) Asks GathersDay) × SameRepair s t × (text ≡ [])
-Turns Asks line s t text = Says line (repairIn s) (dayIn s) text × (t .desk .phase ≡ Asks) × SameRepair s t × SameDay s t
+    × (t .desk .stage ≡ cond (isTermination line) Asks GathersDay) × SameRepair s t × (text ≡ [])
+Turns Asks line s t text = Says line (repairIn s) (dayIn s) text × (t .desk .stage ≡ Asks) × SameRepair s t × SameDay s t
 
 -- "A line is answered as soon as its LF has come": by whether the piece has it the next line is begun, or this one is
 -- waited for
 abbrev pub TurnsIf : Bool → ℕ → Standing → Standing → List ℕ → Type 0
-TurnsIf true kept s t text = Turns (s .desk .phase) (take kept (t .line)) s t text × (t .desk .line ≡ 0)
+TurnsIf true kept s t text = Turns (s .desk .stage) (take kept (t .line)) s t text × (t .desk .line ≡ 0)
 TurnsIf false kept s t text =
-    (t .desk ≡ deskOf (s .desk .phase) (s .desk .repair) (s .desk .day) kept) × (t .repair ≡ s .repair) × (t .day ≡ s .day) × (text ≡ [])
+    (t .desk ≡ deskOf (s .desk .stage) (s .desk .repair) (s .desk .day) kept) × (t .repair ≡ s .repair) × (t .day ≡ s .day) × (text ≡ [])
 
 -- ONE CALL: the first line of a piece, or what the piece has of it, is taken up, and answers this text
 pub record Hears (s : Standing) (piece : List ℕ) (t : Standing) (taken : ℕ) (text : List ℕ) : Type 0 where
@@ -89,14 +90,14 @@ abbrev pub EndsIf : Bool → Standing → List ℕ → Type 0
 EndsIf true s text = text ≡ []
 EndsIf false s text = Says (lineIn s) (repairIn s) (dayIn s) text
 
-abbrev pub Ends : Phase → Standing → List ℕ → Type 0
+abbrev pub Ends : Stage → Standing → List ℕ → Type 0
 Ends GathersRepair s text = text ≡ noLine BadDeck
 Ends GathersDay s text = text ≡ noLine BadDeck
 Ends Asks s text = EndsIf (eqb (s .desk .line) 0) s text
 
 pub record Ended (s : Standing) (out after : List ℕ) (at : ℕ) : Type 0 where
   pub text : List ℕ
-  pub ends : Ends (s .desk .phase) s text
+  pub ends : Ends (s .desk .stage) s text
   pub put : Whole text out after at
 
 -- THE CALLS OF A RUN: each was handed a piece, took so many of its bytes and answered a text
@@ -121,6 +122,6 @@ printed (c ∷ cs) = c .text ++ printed cs
 -- rooms of the length that is lent, and a desk before the first byte
 pub record Begins (s : Standing) : Type 0 where
   pub desk : s .desk ≡ fresh
-  pub line : length (s .line) ≡ 16385
-  pub repair : length (s .repair) ≡ 16385
-  pub day : length (s .day) ≡ 16385
+  pub line : length (s .line) ≡ (deckBytes + 1)
+  pub repair : length (s .repair) ≡ (deckBytes + 1)
+  pub day : length (s .day) ≡ (deckBytes + 1)

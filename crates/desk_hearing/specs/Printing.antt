@@ -9,7 +9,7 @@ use Rattle.numbers.specs.Quoted.{bytes}
 use Rattle.numbers.specs.declared.Refusal.the-variants.{BadDeck}
 use Rattle.words.specs.Lines.{linesOf, lineText}
 use Rattle.cards_fields.specs.Deck.{before, cardsOf, size, terminated, termination}
-use Rattle.shift_pieces.specs.Pieces.{noLine}
+use Rattle.answer_pieces.specs.Pieces.{noLine}
 use Rattle.desk_show.specs.Showing.{Shows}
 use Rattle.desk_show.specs.declared.Extent.{Extent}
 use Rattle.desk_show.specs.declared.Which.{Which}

@@ -3,6 +3,7 @@
 use cards_fields::deck;
 use desk_show::Which;
 use numbers::Refusal;
+use numbers::limits;
 ghost use mathlib.Core.Path.{_≡_};
 ghost use mathlib.Core.Bool.{cond};
 ghost use lib.ListN.{take};
@@ -13,8 +14,14 @@ ghost use Rattle.desk_hearing.specs.Printing.{closing};
 ghost use Rattle.desk_hearing.specs.Hearing.{deskOf, fresh, standing, Heard, Ended};
 ghost use Rattle.desk_hearing.specs.Putting.{Answered};
 
+// How many bytes are kept of a deck, and of a line: one more than a deck may have.
+pub const KEPT: usize = limits::DECK_BYTES + 1;
+
+// How many bytes hold each answer: a part, and the line after it.
+pub const ROOM: usize = limits::DECK_BYTES + 12;
+
 // What the next line belongs to: the repair deck, the day's deck, or the IDs that are asked for.
-pub enum Phase {
+pub enum Stage {
     GathersRepair,
     GathersDay,
     Asks,
@@ -23,7 +30,7 @@ pub enum Phase {
 // What the next line belongs to, and how many bytes of the repair deck, of the day's deck and of that line stand in
 // their rooms.
 pub struct Desk {
-    pub phase: Phase,
+    pub stage: Stage,
     pub repair: usize,
     pub day: usize,
     pub line: usize,
@@ -37,11 +44,11 @@ pub struct Hearing {
 }
 
 // A desk of these parts.
-fn desk_of(phase: Phase, repair: usize, day: usize, line: usize) -> Desk
-    ensures { λ r. ⌜ r ≡ deskOf phase repair day line ⌝ }
+fn desk_of(stage: Stage, repair: usize, day: usize, line: usize) -> Desk
+    ensures { λ r. ⌜ r ≡ deskOf stage repair day line ⌝ }
 {
     Desk {
-        phase,
+        stage,
         repair,
         day,
         line,
@@ -59,7 +66,7 @@ fn what_was_heard(desk: Desk, taken: usize, at: usize) -> Hearing
 pub fn fresh() -> Desk
     ensures { λ r. ⌜ r ≡ fresh ⌝ }
 {
-    desk_of(Phase::GathersRepair, 0, 0, 0)
+    desk_of(Stage::GathersRepair, 0, 0, 0)
 }
 
 // Puts a card with its LF behind the bytes of its deck; what is past the room's end is cut off. The room has a byte more
@@ -72,7 +79,7 @@ fn put_card(room: &mut [u8], kept: usize, card: &[u8]) -> usize
 }
 
 // What the line behind a card belongs to: what is next, if that was the termination card.
-fn behind_card(card: &[u8], gathers: Phase, next: Phase) -> Phase
+fn behind_card(card: &[u8], gathers: Stage, next: Stage) -> Stage
     ensures { λ r. ⌜ r ≡ cond (isTermination (now (card .entry))) next gathers ⌝ }
 {
     if deck::is_termination(card) {
@@ -88,13 +95,13 @@ fn put_closing(out: &mut [u8], at: usize, which: Which) -> usize
     match which {
         Which::Repair => text::put_bytes(out, at, b"FROM REPAIR\n"),
         Which::Day => text::put_bytes(out, at, b"FROM DAY\n"),
-        Which::Refused(refusal) => shift_pieces::put_refused(out, at, refusal),
+        Which::Refused(refusal) => answer_pieces::put_refused(out, at, refusal),
     }
 }
 
 // Puts the answer to an ID that is asked for into lent room, which holds each: at most the 16,384 bytes of a deck, and the
 // 12 of `FROM REPAIR` with its LF.
-fn put_answer<'a>(out: &mut [u8; 16396], id: &[u8], repair: &'a [u8], day: &'a [u8]) -> usize
+fn put_answer<'a>(out: &mut [u8; ROOM], id: &[u8], repair: &'a [u8], day: &'a [u8]) -> usize
     ensures { λ r. ⌜ Answered (now (id .entry)) (now (repair .entry)) (now (day .entry)) (now (out .entry)) (now (out .exit)) r ⌝ }
 {
     let found = desk_show::find(id, repair, day);
@@ -109,39 +116,39 @@ fn put_answer<'a>(out: &mut [u8; 16396], id: &[u8], repair: &'a [u8], day: &'a [
 pub fn hear(
     desk: Desk,
     piece: &[u8],
-    line: &mut [u8; 16385],
-    repair: &mut [u8; 16385],
-    day: &mut [u8; 16385],
-    out: &mut [u8; 16396],
+    line: &mut [u8; KEPT],
+    repair: &mut [u8; KEPT],
+    day: &mut [u8; KEPT],
+    out: &mut [u8; ROOM],
 ) -> Hearing
     ensures { λ r. ⌜ Heard (standing desk (now (line .entry)) (now (repair .entry)) (now (day .entry))) (now (piece .entry))
         (standing (r .desk) (now (line .exit)) (now (repair .exit)) (now (day .exit)))
         (r .taken) (now (out .entry)) (now (out .exit)) (r .at) ⌝ }
 {
-    let cut = shift_lines::take_up(line, desk.line, piece);
+    let cut = input_lines::take_up(line, desk.line, piece);
     let kept = cut.kept;
     let taken = cut.taken;
-    let phase = desk.phase;
+    let stage = desk.stage;
     if !cut.whole {
-        return what_was_heard(desk_of(phase, desk.repair, desk.day, kept), taken, 0);
+        return what_was_heard(desk_of(stage, desk.repair, desk.day, kept), taken, 0);
     }
-    let whole = shift_lines::front(line, kept);
-    match phase {
-        Phase::GathersRepair => {
+    let whole = input_lines::front(line, kept);
+    match stage {
+        Stage::GathersRepair => {
             let n = put_card(repair, desk.repair, whole);
-            let next = behind_card(whole, Phase::GathersRepair, Phase::GathersDay);
+            let next = behind_card(whole, Stage::GathersRepair, Stage::GathersDay);
             what_was_heard(desk_of(next, n, desk.day, 0), taken, 0)
         }
-        Phase::GathersDay => {
+        Stage::GathersDay => {
             let n = put_card(day, desk.day, whole);
-            let next = behind_card(whole, Phase::GathersDay, Phase::Asks);
+            let next = behind_card(whole, Stage::GathersDay, Stage::Asks);
             what_was_heard(desk_of(next, desk.repair, n, 0), taken, 0)
         }
-        Phase::Asks => {
-            let first = shift_lines::front(repair, desk.repair);
-            let second = shift_lines::front(day, desk.day);
+        Stage::Asks => {
+            let first = input_lines::front(repair, desk.repair);
+            let second = input_lines::front(day, desk.day);
             let at = put_answer(out, whole, first, second);
-            what_was_heard(desk_of(Phase::Asks, desk.repair, desk.day, 0), taken, at)
+            what_was_heard(desk_of(Stage::Asks, desk.repair, desk.day, 0), taken, at)
         }
     }
 }
@@ -149,25 +156,25 @@ pub fn hear(
 // The end of the input: a last line without LF is answered; before both decks have come nothing can be asked.
 pub fn finish<'a>(
     desk: Desk,
-    line: &[u8; 16385],
-    repair: &'a [u8; 16385],
-    day: &'a [u8; 16385],
-    out: &mut [u8; 16396],
+    line: &[u8; KEPT],
+    repair: &'a [u8; KEPT],
+    day: &'a [u8; KEPT],
+    out: &mut [u8; ROOM],
 ) -> usize
     ensures { λ r. ⌜ Ended (standing desk (now (line .entry)) (now (repair .entry)) (now (day .entry)))
         (now (out .entry)) (now (out .exit)) r ⌝ }
 {
-    let phase = desk.phase;
-    match phase {
-        Phase::GathersRepair => shift_pieces::put_refused(out, 0, Refusal::BadDeck),
-        Phase::GathersDay => shift_pieces::put_refused(out, 0, Refusal::BadDeck),
-        Phase::Asks => {
+    let stage = desk.stage;
+    match stage {
+        Stage::GathersRepair => answer_pieces::put_refused(out, 0, Refusal::BadDeck),
+        Stage::GathersDay => answer_pieces::put_refused(out, 0, Refusal::BadDeck),
+        Stage::Asks => {
             if desk.line == 0 {
                 return 0;
             }
-            let first = shift_lines::front(repair, desk.repair);
-            let second = shift_lines::front(day, desk.day);
-            put_answer(out, shift_lines::front(line, desk.line), first, second)
+            let first = input_lines::front(repair, desk.repair);
+            let second = input_lines::front(day, desk.day);
+            put_answer(out, input_lines::front(line, desk.line), first, second)
         }
     }
 }

@@ -15,7 +15,7 @@ use Rattle.words.specs.Lines.{lf, lineText, linesText}
 use Rattle.words.proofs.LineLaws.{Clean, lines-clean, lines-again}
 use Rattle.cards_fields.specs.Fields.{isName}
 use Rattle.cards_fields.specs.Deck.{cardsOf, isTermination, before, opens, ontoGroup, groupsOf, deckGroups}
-use Rattle.desk_show.specs.Showing.{hasId, NoneHas, FirstOf, IsBad, IsRead, Answers, bad, ofRepair, ofDay, nobody, Shows}
+use Rattle.desk_show.specs.Showing.{hasId, NoneHas, FirstOf, IsBad, IsRead, ShowsFrom, bad, ofRepair, ofDay, nobody, Shows}
 use Rattle.desk_show.specs.declared.Which.{Which}
 use Rattle.desk_show.specs.declared.Which.the-variants.{Repair, Day, Refused}
 use Rattle.desk_show.specs.declared.Extent.{Extent}
@@ -88,7 +88,7 @@ module _ (id repair day : List ℕ) {r : Extent} {part : List ℕ} (w : Shows id
   pub bad-if : r .which ≡ Refused BadDeck → IsBad repair ⊎ IsBad day
   bad-if e = by (w .answers)
     where
-      by : Answers id repair day (r .which) (r .from) part → IsBad repair ⊎ IsBad day
+      by : ShowsFrom id repair day (r .which) (r .from) part → IsBad repair ⊎ IsBad day
       by (bad f b z n) = b
       by (ofRepair f d v) = absurd (clash-repair f e)
       by (ofDay f d m v) = absurd (clash-day f e)
@@ -97,7 +97,7 @@ module _ (id repair day : List ℕ) {r : Extent} {part : List ℕ} (w : Shows id
   pub bad-then : IsBad repair ⊎ IsBad day → r .which ≡ Refused BadDeck
   bad-then b = by (w .answers)
     where
-      by : Answers id repair day (r .which) (r .from) part → r .which ≡ Refused BadDeck
+      by : ShowsFrom id repair day (r .which) (r .from) part → r .which ≡ Refused BadDeck
       by (bad f c z n) = f
       by (ofRepair f d v) = absurd (not-both repair day b d)
       by (ofDay f d m v) = absurd (not-both repair day b d)
@@ -106,7 +106,7 @@ module _ (id repair day : List ℕ) {r : Extent} {part : List ℕ} (w : Shows id
   pub nobody-if : r .which ≡ Refused NoGroup → (IsRead repair × IsRead day) × (NoneHas id (deckGroups repair) × NoneHas id (deckGroups day))
   nobody-if e = by (w .answers)
     where
-      by : Answers id repair day (r .which) (r .from) part → (IsRead repair × IsRead day) × (NoneHas id (deckGroups repair) × NoneHas id (deckGroups day))
+      by : ShowsFrom id repair day (r .which) (r .from) part → (IsRead repair × IsRead day) × (NoneHas id (deckGroups repair) × NoneHas id (deckGroups day))
       by (bad f b z n) = absurd (clash-numbers e f)
       by (ofRepair f d v) = absurd (clash-repair f e)
       by (ofDay f d m v) = absurd (clash-day f e)
@@ -115,7 +115,7 @@ module _ (id repair day : List ℕ) {r : Extent} {part : List ℕ} (w : Shows id
   pub nobody-then : (IsRead repair × IsRead day) × (NoneHas id (deckGroups repair) × NoneHas id (deckGroups day)) → r .which ≡ Refused NoGroup
   nobody-then h = by (w .answers)
     where
-      by : Answers id repair day (r .which) (r .from) part → r .which ≡ Refused NoGroup
+      by : ShowsFrom id repair day (r .which) (r .from) part → r .which ≡ Refused NoGroup
       by (bad f b z n) = absurd (not-both repair day b (h .0))
       by (ofRepair f d v) = absurd (first-none (h .1 .0) v)
       by (ofDay f d m v) = absurd (first-none (h .1 .1) v)
@@ -128,7 +128,7 @@ module _ (id repair day : List ℕ) {r : Extent} {part : List ℕ} (w : Shows id
   pub repair-if : r .which ≡ Repair → (IsRead repair × IsRead day) × (NoneHas id (deckGroups repair) → ⊥)
   repair-if e = by (w .answers)
     where
-      by : Answers id repair day (r .which) (r .from) part → (IsRead repair × IsRead day) × (NoneHas id (deckGroups repair) → ⊥)
+      by : ShowsFrom id repair day (r .which) (r .from) part → (IsRead repair × IsRead day) × (NoneHas id (deckGroups repair) → ⊥)
       by (bad f b z n) = absurd (clash-repair e f)
       by (ofRepair f d v) = (d, λ m. first-none m v)
       by (ofDay f d m v) = absurd (clash-decks e f)
@@ -137,7 +137,7 @@ module _ (id repair day : List ℕ) {r : Extent} {part : List ℕ} (w : Shows id
   pub repair-then : (IsRead repair × IsRead day) × (NoneHas id (deckGroups repair) → ⊥) → r .which ≡ Repair
   repair-then h = by (w .answers)
     where
-      by : Answers id repair day (r .which) (r .from) part → r .which ≡ Repair
+      by : ShowsFrom id repair day (r .which) (r .from) part → r .which ≡ Repair
       by (bad f b z n) = absurd (not-both repair day b (h .0))
       by (ofRepair f d v) = f
       by (ofDay f d m v) = absurd (h .1 m)
@@ -146,7 +146,7 @@ module _ (id repair day : List ℕ) {r : Extent} {part : List ℕ} (w : Shows id
   pub day-if : r .which ≡ Day → (IsRead repair × IsRead day) × (NoneHas id (deckGroups repair) × (NoneHas id (deckGroups day) → ⊥))
   day-if e = by (w .answers)
     where
-      by : Answers id repair day (r .which) (r .from) part → (IsRead repair × IsRead day) × (NoneHas id (deckGroups repair) × (NoneHas id (deckGroups day) → ⊥))
+      by : ShowsFrom id repair day (r .which) (r .from) part → (IsRead repair × IsRead day) × (NoneHas id (deckGroups repair) × (NoneHas id (deckGroups day) → ⊥))
       by (bad f b z n) = absurd (clash-day e f)
       by (ofRepair f d v) = absurd (clash-decks f e)
       by (ofDay f d m v) = (d, (m, λ k. first-none k v))
@@ -155,7 +155,7 @@ module _ (id repair day : List ℕ) {r : Extent} {part : List ℕ} (w : Shows id
   pub day-then : (IsRead repair × IsRead day) × (NoneHas id (deckGroups repair) × (NoneHas id (deckGroups day) → ⊥)) → r .which ≡ Day
   day-then h = by (w .answers)
     where
-      by : Answers id repair day (r .which) (r .from) part → r .which ≡ Day
+      by : ShowsFrom id repair day (r .which) (r .from) part → r .which ≡ Day
       by (bad f b z n) = absurd (not-both repair day b (h .0))
       by (ofRepair f d v) = absurd (first-none (h .1 .0) v)
       by (ofDay f d m v) = f
@@ -164,7 +164,7 @@ module _ (id repair day : List ℕ) {r : Extent} {part : List ℕ} (w : Shows id
   pub empty-if : part ≡ [] → (n : Refusal) × (r .which ≡ Refused n)
   empty-if e = by (w .answers)
     where
-      by : Answers id repair day (r .which) (r .from) part → (n : Refusal) × (r .which ≡ Refused n)
+      by : ShowsFrom id repair day (r .which) (r .from) part → (n : Refusal) × (r .which ≡ Refused n)
       by (bad f b z n) = (BadDeck, f)
       by (ofRepair f d v) = absurd (not-empty v e)
       by (ofDay f d m v) = absurd (not-empty v e)
@@ -173,7 +173,7 @@ module _ (id repair day : List ℕ) {r : Extent} {part : List ℕ} (w : Shows id
   pub empty-then : (n : Refusal) × (r .which ≡ Refused n) → part ≡ []
   empty-then h = by (w .answers)
     where
-      by : Answers id repair day (r .which) (r .from) part → part ≡ []
+      by : ShowsFrom id repair day (r .which) (r .from) part → part ≡ []
       by (bad f b z n) = n
       by (ofRepair f d v) = absurd (clash-repair f (h .1))
       by (ofDay f d m v) = absurd (clash-day f (h .1))
@@ -183,7 +183,7 @@ module _ (id repair day : List ℕ) {r : Extent} {part : List ℕ} (w : Shows id
   pub repair-cards : r .which ≡ Repair → (v : FirstOf id (deckGroups repair) (r .from) part) × (cardsOf part ≡ v .own)
   repair-cards e = by (w .answers)
     where
-      by : Answers id repair day (r .which) (r .from) part → (v : FirstOf id (deckGroups repair) (r .from) part) × (cardsOf part ≡ v .own)
+      by : ShowsFrom id repair day (r .which) (r .from) part → (v : FirstOf id (deckGroups repair) (r .from) part) × (cardsOf part ≡ v .own)
       by (bad f b z n) = absurd (clash-repair e f)
       by (ofRepair f d v) = (v, own-cards id repair v)
       by (ofDay f d m v) = absurd (clash-decks e f)
@@ -192,7 +192,7 @@ module _ (id repair day : List ℕ) {r : Extent} {part : List ℕ} (w : Shows id
   pub day-cards : r .which ≡ Day → NoneHas id (deckGroups repair) × ((v : FirstOf id (deckGroups day) (r .from) part) × (cardsOf part ≡ v .own))
   day-cards e = by (w .answers)
     where
-      by : Answers id repair day (r .which) (r .from) part → NoneHas id (deckGroups repair) × ((v : FirstOf id (deckGroups day) (r .from) part) × (cardsOf part ≡ v .own))
+      by : ShowsFrom id repair day (r .which) (r .from) part → NoneHas id (deckGroups repair) × ((v : FirstOf id (deckGroups day) (r .from) part) × (cardsOf part ≡ v .own))
       by (bad f b z n) = absurd (clash-day e f)
       by (ofRepair f d v) = absurd (clash-decks f e)
       by (ofDay f d m v) = (m, (v, own-cards id day v))

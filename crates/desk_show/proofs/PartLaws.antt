@@ -15,7 +15,7 @@ use Rattle.numbers.proofs.Tests.{never}
 use Rattle.cards_fields.specs.Deck.{groupsOf, deckEnd, deckGroups}
 use Rattle.cards_fields.proofs.Groups.{ends, refused-bad, deck-cards}
 use Rattle.cards_fields.specs.declared.DeckEnd.the-variants as Ends
-use Rattle.desk_show.specs.Showing.{NoneHas, FirstOf, IsBad, IsRead, Answers, bad, ofRepair, ofDay, nobody, partIn, partOf, Shows}
+use Rattle.desk_show.specs.Showing.{NoneHas, FirstOf, IsBad, IsRead, ShowsFrom, bad, ofRepair, ofDay, nobody, partIn, partOf, Shows}
 use Rattle.desk_show.specs.Seeking.{groupsIn, StandsAt, refusedFor, FindsBy, FindsIn, clippedTo, spanBy, spanOf}
 use Rattle.desk_show.specs.declared.Which.{Which}
 use Rattle.desk_show.specs.declared.Which.the-variants.{Repair, Day, Refused}

@@ -12,7 +12,7 @@ use Rattle.numbers.specs.declared.Refusal.the-variants.{BadDeck}
 use Rattle.words.specs.Lines.{linesText}
 use Rattle.cards_fields.specs.Deck.{deckEnd}
 use Rattle.cards_fields.specs.declared.DeckEnd.the-variants as Ends
-use Rattle.desk_show.specs.Showing.{hasId, NoneHas, groupsText, FirstOf, IsBad, IsRead, Answers, bad, ofRepair, ofDay, nobody, partOf, Shows, Shown}
+use Rattle.desk_show.specs.Showing.{hasId, NoneHas, groupsText, FirstOf, IsBad, IsRead, ShowsFrom, bad, ofRepair, ofDay, nobody, partOf, Shows, Shown}
 use Rattle.desk_show.specs.declared.Which.{Which}
 use Rattle.desk_show.specs.declared.Extent.{Extent}
 
@@ -60,7 +60,7 @@ record Same (which which′ : Which) (from from′ : ℕ) (part part′ : List �
   from· : from ≡ from′
   part· : part ≡ part′
 
-answers-one : {id repair day : List ℕ} {w w′ : Which} {f f′ : ℕ} {p p′ : List ℕ} → Answers id repair day w f p → Answers id repair day w′ f′ p′
+answers-one : {id repair day : List ℕ} {w w′ : Which} {f f′ : ℕ} {p p′ : List ℕ} → ShowsFrom id repair day w f p → ShowsFrom id repair day w′ f′ p′
     → Same w w′ f f′ p p′
 answers-one {repair = repair} {day = day} (bad e b z n) (bad e′ b′ z′ n′) = record { which· = e ∙ sym e′; from· = z ∙ sym z′; part· = n ∙ sym n′ }
 answers-one {repair = repair} {day = day} (bad e b z n) (ofRepair e′ d v) = absurd (not-both repair day b d)

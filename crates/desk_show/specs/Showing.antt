@@ -58,17 +58,17 @@ IsRead deck = (end : ℕ) × (deckEnd deck ≡ Ends.At end)
 
 -- THE FOUR ANSWERS, which exclude each other: which deck has the group, or the refusal; from which of the deck's bytes
 -- on; and the part
-pub data Answers (id repair day : List ℕ) (which : Which) (from : ℕ) (part : List ℕ) : Type 0 where
+pub data ShowsFrom (id repair day : List ℕ) (which : Which) (from : ℕ) (part : List ℕ) : Type 0 where
   -- "11 first": for either deck. "Which of two bad decks was met first can't be seen"
-  bad : which ≡ Refused BadDeck → IsBad repair ⊎ IsBad day → from ≡ 0 → part ≡ [] → Answers id repair day which from part
+  bad : which ≡ Refused BadDeck → IsBad repair ⊎ IsBad day → from ≡ 0 → part ≡ [] → ShowsFrom id repair day which from part
   -- "from the repair deck if they are there",
-  ofRepair : which ≡ Repair → IsRead repair × IsRead day → FirstOf id (deckGroups repair) from part → Answers id repair day which from part
+  ofRepair : which ≡ Repair → IsRead repair × IsRead day → FirstOf id (deckGroups repair) from part → ShowsFrom id repair day which from part
   -- "else from the day's deck";
   ofDay : which ≡ Day → IsRead repair × IsRead day → NoneHas id (deckGroups repair) → FirstOf id (deckGroups day) from part
-      → Answers id repair day which from part
+      → ShowsFrom id repair day which from part
   -- "22 no group with that ID in either deck"
   nobody : which ≡ Refused NoGroup → IsRead repair × IsRead day → NoneHas id (deckGroups repair) × NoneHas id (deckGroups day) → from ≡ 0
-      → part ≡ [] → Answers id repair day which from part
+      → part ≡ [] → ShowsFrom id repair day which from part
 
 -- what stands in the deck that has it, from a byte on, so many bytes; nothing where there is a refusal
 abbrev pub partIn : Which → ℕ → ℕ → List ℕ → List ℕ → List ℕ
@@ -82,7 +82,7 @@ partOf r repair day = partIn (r .which) (r .from) (r .len) repair day
 -- ONE PROMISE of what is found and of the part that is shown: the part is "the text itself in the deck that has it",
 -- where it was found and as long as is said
 pub record Shows (id repair day : List ℕ) (r : Extent) (part : List ℕ) : Type 0 where
-  pub answers : Answers id repair day (r .which) (r .from) part
+  pub answers : ShowsFrom id repair day (r .which) (r .from) part
   pub long : r .len ≡ length part
   pub there : part ≡ partOf r repair day
 

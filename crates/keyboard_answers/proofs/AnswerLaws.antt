@@ -25,7 +25,7 @@ use Rattle.keyboard.specs.declared.Fault.{Fault}
 use Rattle.keyboard.specs.declared.Fault.the-variants.{NoLength, UnitTooLarge, NotADigit, ChannelTooLarge}
 use Rattle.keyboard.specs.declared.Word.{Word}
 use Rattle.keyboard.specs.declared.Word.the-variants.{Dwn, Avl, Sel, Del}
-use Rattle.keyboard_answers.specs.Answers.{wordText, markWord, mcOf, shownNumber, errorText, saidText, toldText, answerText}
+use Rattle.keyboard_answers.specs.MessageAnswers.{wordText, markWord, mcOf, shownNumber, errorText, saidText, toldText, answerText}
 use Rattle.keyboard_answers.specs.declared.Told.{Told}
 use Rattle.keyboard_answers.specs.declared.Told.the-variants.{Said, Mistyped}
 

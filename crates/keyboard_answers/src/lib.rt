@@ -6,7 +6,7 @@ use numbers::Refusal;
 use packets::Answer;
 ghost use mathlib.Core.Path.{_≡_};
 ghost use Rattle.text.specs.Room.{Whole, Written};
-ghost use Rattle.keyboard_answers.specs.Answers.{wordText, markWord, mcOf, shownNumber, errorText, saidText, toldText, answerText};
+ghost use Rattle.keyboard_answers.specs.MessageAnswers.{wordText, markWord, mcOf, shownNumber, errorText, saidText, toldText, answerText};
 
 // What the operator is told: what the call answered that the message is, or its first fault. An unknown message is told
 // as a call that was refused.

@@ -10,7 +10,7 @@ use Rattle.numbers.proofs.Tests.{by-bool, never}
 use Rattle.units.specs.declared.Unit.{Unit as UnitState}
 use Rattle.packets.specs.Rules.{leaving, returnIfDone}
 use Rattle.packets_end.specs.Over.{endingIf, endingOf}
-use Rattle.packets.specs.Picks.{keep}
+use Rattle.numbers.specs.Elements.{keep}
 use lib.Dec.{eqb}
 use Rattle.packets.specs.State.{State, anyMoves, blank, close, isClosing, isKept, isListed, jobIn, noJob, packetOf, placeOf, put, releaseAll, relist, restatus, restatusAll, setState, stateIn, store, sweep, withPackets, withState}
 use Rattle.packets.specs.declared.Job.{Job}

@@ -69,16 +69,16 @@ module _ (r : Lists) (j c u : ℕ) where
         ap (λ (s : State). sweep s j (isAt c a) cut) (focus-self (stateOf r) j)
         ∙ focus-sweep (stateOf r) j (omega (arith, size, inside .0)) (jobIn (r .jobs) j) (listOf (r .list)) (isAt c a) cut
 
-    pub return-is : (gone : Job) → gone ≡ cutJob (getD (r .jobs) (j % 16) noJob) c a
-        → (left : RequestList) → left ≡ padded (relist j (gone .packets) (listOf (r .list)))
+    pub return-is : (changed : Job) → changed ≡ cutJob (getD (r .jobs) (j % 16) noJob) c a
+        → (left : RequestList) → left ≡ padded (relist j (changed .packets) (listOf (r .list)))
         → (holder : Holder) → holder ≡ holderAfter (getD (r .jobs) (j % 16) noJob .packets) j c a (getD (r .moving) (c % 16) (carrying Idle) .motion)
         → (units : Units) → units ≡ unitsFrom (setHolder (r .units .of) c a holder)
         → _≡_ {A = Acted} (record {
-          lists = record { channels = r .channels; codes = r .codes; jobs = set (r .jobs) (j % 16) gone; list = left; moving = r .moving; units = units };
+          lists = record { channels = r .channels; codes = r .codes; jobs = set (r .jobs) (j % 16) changed; list = left; moving = r .moving; units = units };
           answer = Done;
         }) (outcome r (Return j c u))
     unfolding accept answer
-    return-is gone g left l holder o units x =
+    return-is changed g left l holder o units x =
         let k : j % 16 ≡ j = (let h = inside .0 in omega arith) in
         let n : c % 16 ≡ c = (let h = inside .1 in omega arith) in
         granted-is r (Return j c u) granted _ _

@@ -8,7 +8,7 @@ use native.Mathlib.Omega.{arith}
 use lib.ListN.{length, getD, take}
 use Rattle.units.specs.declared.Unit.{Unit as UnitState}
 use Rattle.packets.proofs.PickLaws.{find-part, find-step}
-use Rattle.packets.specs.Picks.{find}
+use Rattle.numbers.specs.Elements.{find}
 use Rattle.packets.specs.Rules.{startableOn}
 use Rattle.packets.specs.declared.Found.{Found}
 use Rattle.packets.specs.declared.Found.the-variants.{At, Nowhere}

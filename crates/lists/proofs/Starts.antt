@@ -13,7 +13,7 @@ use Rattle.numbers.specs.declared.Refusal.the-variants.{ChannelBusy, NothingSta
 use Rattle.channels.specs.declared.Channel.{Channel}
 use Rattle.channels.specs.declared.Fitted.the-variants.{Nothing}
 use Rattle.packets.proofs.Laws.{passes}
-use Rattle.packets.specs.Picks.{find}
+use Rattle.numbers.specs.Elements.{find}
 use Rattle.packets.specs.Rules.{accept, answer, begins, begun, first, isNone, refusal, startable, startableOn, started}
 use Rattle.packets.proofs.ByNumber.{Start}
 use Rattle.packets.specs.State.{State, carrying, configured, isIdle, isThereOf, jobIn, motionOn, move, noJob, packetIn, packetOf, placeOf, relist, store, withPackets, withStatus}
@@ -79,15 +79,15 @@ module _ (r : Lists) (c : ℕ) (found : Found) (is : found ≡ foundOf (find (st
         (configured-in (r .channels) c (not-false _ (r₁ .0)), passes (isNone first-found) NothingStartable Granted (r₂ .1) .0)
 
     pub start-is : (e : ℕ) → e ≡ entryIn found → placeOf e < 16
-        → (gone : Job) → gone ≡ withPackets (getD (r .jobs) (placeOf e) noJob) (statusSet (getD (r .jobs) (placeOf e) noJob .packets) (packetOf e) InProgress)
+        → (changed : Job) → changed ≡ withPackets (getD (r .jobs) (placeOf e) noJob) (statusSet (getD (r .jobs) (placeOf e) noJob .packets) (packetOf e) InProgress)
         → (a : Answer) → a ≡ startedAt (getD (r .jobs) (placeOf e) noJob .packets) e
-        → (left : RequestList) → left ≡ padded (relist (placeOf e) (gone .packets) (listOf (r .list)))
+        → (left : RequestList) → left ≡ padded (relist (placeOf e) (changed .packets) (listOf (r .list)))
         → (busy : Carrier) → busy ≡ carrying (Busy (placeOf e) (packetOf e))
         → _≡_ {A = Acted} (record {
           lists = record {
             channels = r .channels;
             codes = r .codes;
-            jobs = set (r .jobs) (placeOf e) gone;
+            jobs = set (r .jobs) (placeOf e) changed;
             list = left;
             moving = set (r .moving) (c % 16) busy;
             units = r .units;
@@ -95,7 +95,7 @@ module _ (r : Lists) (c : ℕ) (found : Found) (is : found ≡ foundOf (find (st
           answer = a;
         }) (outcome r (Start c))
     unfolding accept answer packetIn
-    start-is e ei small gone p a ai left l busy b =
+    start-is e ei small changed p a ai left l busy b =
         let k : c % 16 ≡ c = (let h = told .0 in omega arith) in
         let o : first-found ≡ some e = found-is first-found (told .1) ∙ ap some (sym (ei ∙ ap entryIn is)) in
         granted-is r (Start c) granted _ _

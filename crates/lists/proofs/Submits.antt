@@ -120,15 +120,15 @@ module _ (r : Lists) (j p f c : ℕ) (w : Spot) (on : Channel) (oi : on ≡ getD
     packet-small = ltb-true p 16 (and-left (ltb p 16) _ (and-right (ltb j 16) _ inside))
 
     pub submit-is : (unlocking : Bool) → unlocking ≡ isUnlocking f (unit .interlock)
-        → (gone : Job) → gone ≡ jobAfter (getD (r .jobs) (j % 16) noJob) p f c w unlocking
-        → (left : RequestList) → left ≡ padded (listAfter f (listedAs j p) (relist j (gone .packets) (listOf (r .list))))
+        → (changed : Job) → changed ≡ jobAfter (getD (r .jobs) (j % 16) noJob) p f c w unlocking
+        → (left : RequestList) → left ≡ padded (listAfter f (listedAs j p) (relist j (changed .packets) (listOf (r .list))))
         → (units : Units) → units ≡ unitsFrom (cond unlocking (setLock (r .units .of) c (siteOf w) false) (r .units .of))
         → _≡_ {A = Acted} (record {
-          lists = record { channels = r .channels; codes = r .codes; jobs = set (r .jobs) (j % 16) gone; list = left; moving = r .moving; units = units };
+          lists = record { channels = r .channels; codes = r .codes; jobs = set (r .jobs) (j % 16) changed; list = left; moving = r .moving; units = units };
           answer = Done;
         }) (outcome r (Submit j p f c w))
     unfolding accept answer entryOf
-    submit-is unlocking ul gone g left l units u =
+    submit-is unlocking ul changed g left l units u =
         let k : j % 16 ≡ j = omega (arith, place-small) in
         let m : p % 16 ≡ p = omega (arith, packet-small) in
         granted-is r (Submit j p f c w) granted _ _

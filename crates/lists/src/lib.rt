@@ -78,10 +78,17 @@ pub fn submit(
         Verdict::Denied(refusal) => answer = Answer::Refused(refusal),
         Verdict::Granted => {
             let unlocking = packets_submit::is_unlocking(function, unit);
-            let gone = packets_submit::job_after(job, packet, function, channel, spot, unlocking);
-            next.jobs[i] = gone;
+            let changed = packets_submit::job_after(
+                job,
+                packet,
+                function,
+                channel,
+                spot,
+                unlocking,
+            );
+            next.jobs[i] = changed;
             let count = next.list.count;
-            let left = after::list_of(gone, place, packet, function, &next.list.entries, count);
+            let left = after::list_of(changed, place, packet, function, &next.list.entries, count);
             next.list = left;
             if unlocking {
                 let shut = next.units;
@@ -129,9 +136,9 @@ pub fn start(lists: Lists, channel: ChannelNumber) -> Acted
             let i = (e / 16) as usize;
             let job = next.jobs[i];
             answer = after::started(job, e);
-            let gone = after::begun(job, e);
-            next.jobs[i] = gone;
-            let left = packets_queue::relisted(gone, e / 16, &next.list.entries, count);
+            let changed = after::begun(job, e);
+            next.jobs[i] = changed;
+            let left = packets_queue::relisted(changed, e / 16, &next.list.entries, count);
             next.list = left;
             let busy = after::busy_with(e);
             next.moving[c] = busy;
@@ -167,10 +174,10 @@ pub fn complete(lists: Lists, channel: ChannelNumber, how: How) -> Acted
             let at = q.at;
             let breaking = packets_end::is_breaking(next.codes, how, at);
             let over = packets_end::over(job, p, how, channel, breaking, moving, j);
-            let gone = over.job;
-            next.jobs[i] = gone;
+            let changed = over.job;
+            next.jobs[i] = changed;
             let count = next.list.count;
-            let left = packets_queue::relisted(gone, j, &next.list.entries, count);
+            let left = packets_queue::relisted(changed, j, &next.list.entries, count);
             next.list = left;
             let leaving = over.leaving;
             answer = Answer::Completed(j, p, leaving);
@@ -202,10 +209,10 @@ pub fn end(lists: Lists, place: u8, in_error: bool) -> Acted
         Verdict::Granted => {
             let moving = next.moving;
             let shut = packets_end::closed(job, in_error, moving, place);
-            let gone = shut.job;
-            next.jobs[i] = gone;
+            let changed = shut.job;
+            next.jobs[i] = changed;
             let count = next.list.count;
-            let left = packets_queue::relisted(gone, place, &next.list.entries, count);
+            let left = packets_queue::relisted(changed, place, &next.list.entries, count);
             next.list = left;
             let leaving = shut.leaving;
             answer = Answer::Closed(place, leaving);
@@ -240,10 +247,10 @@ pub fn return_unit(lists: Lists, place: u8, channel: ChannelNumber, unit: UnitNu
     match verdicts::of_return(has, state, was, place, channel, unit) {
         Verdict::Denied(refusal) => answer = Answer::Refused(refusal),
         Verdict::Granted => {
-            let gone = after::cut_at(job, channel, unit);
-            next.jobs[i] = gone;
+            let changed = after::cut_at(job, channel, unit);
+            next.jobs[i] = changed;
             let count = next.list.count;
-            let left = packets_queue::relisted(gone, place, &next.list.entries, count);
+            let left = packets_queue::relisted(changed, place, &next.list.entries, count);
             next.list = left;
             let carrier = next.moving[c];
             let ps = job.packets;

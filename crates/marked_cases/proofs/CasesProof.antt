@@ -16,7 +16,6 @@ use Rattle.cards_lines.specs.Shown.{shownBy}
 use Rattle.schedule_deck.specs.Report.{after, groupText, reportText}
 use Rattle.cards_writing.specs.Writing.{priorityText}
 use Rattle.cards_fac.specs.Fac.{askedOf, codeError, codes, entryOf, formError, facError, facOf}
-use Rattle.schedule.specs.Calls.{clashError, enterError, sameThere}
 use Rattle.schedule_candidates.specs.Candidates.{candidate}
 use Rattle.cards_fields.specs.Fields.{cardByte, fields, isName, malformed}
 use Rattle.cards_fields.specs.Deck.{deckEnd}
@@ -32,6 +31,7 @@ use Rattle.numbers.specs.Kinds.{kindOf}
 use Rattle.numbers.specs.declared.Kind.the-variants.{Mt}
 use Rattle.assign.specs.declared.Part.the-variants.{Units}
 use Rattle.schedule_entries.specs.Entries.{lowerSequence, precedes, sameKey, sameRank}
+use Rattle.schedule_entering.specs.Entering.{clashError, enterError, sameThere}
 use Rattle.words.specs.Words.{numberIn as numberOfText}
 use Rattle.text.specs.Reading.{twoDigitsOf}
 use Rattle.functions.specs.Legal.{legalOf}

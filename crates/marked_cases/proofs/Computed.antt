@@ -31,7 +31,7 @@ use Rattle.packets.specs.declared.Lists.{Lists}
 use Rattle.cell_taken.specs.Taken.{LowestFree}
 use Rattle.cell_taken.specs.declared.FreePlace.{FreePlace}
 use Rattle.cell_taken.specs.declared.FreePlace.the-variants.{At, Full}
-use Rattle.cell_selection.specs.Selecting.{Selects, isJob, leftBy, noId, seenIn, unselected}
+use Rattle.cell_selection.specs.Selecting.{Selects, isJob, leftBy, noId, supplyIn, unselected}
 use Rattle.cell_selection.specs.Noting.{Picks, PicksBy, PicksNone, atThen, lackingThen}
 use Rattle.cell_selection.proofs.SelectingLaws.{some-free}
 use Rattle.cell_selection.proofs.Walk.{Walked, walk-start, walk-past, walk-lacks, walked-all}
@@ -116,7 +116,7 @@ selectedAs schedule place p = selectedBy (p .found) schedule place p
 
 abbrev selectionBy : Schedule → Lists → FreePlace → Selection
 selectionBy schedule lists Full = unselected NoPlace noId
-selectionBy schedule lists (At place) = selectedAs schedule place (pickOf (inSchedule schedule) (seenIn lists))
+selectionBy schedule lists (At place) = selectedAs schedule place (pickOf (inSchedule schedule) (supplyIn lists))
 
 abbrev pub selectionOf : Schedule → Lists → Selection
 selectionOf schedule lists = selectionBy schedule lists (placeFrom (lists .jobs) 16 0)
@@ -147,22 +147,22 @@ module _ (c : Cell) (s : sized c ≡ true) where
   parts : (eqb (length (c .lists .channels)) 16 ≡ true) × (countsFull (inSchedule (c .schedule)) ≡ true)
   parts = both (eqb (length (c .lists .channels)) 16) (countsFull (inSchedule (c .schedule))) s
 
-  picked : Picks (inSchedule (c .schedule)) (seenIn (c .lists)) (pickOf (inSchedule (c .schedule)) (seenIn (c .lists)))
-  picked = picks (inSchedule (c .schedule)) (seenIn (c .lists)) (eqb-true (length (c .lists .channels)) 16 (parts .0)) (counts-full (inSchedule (c .schedule)) (parts .1))
+  picked : Picks (inSchedule (c .schedule)) (supplyIn (c .lists)) (pickOf (inSchedule (c .schedule)) (supplyIn (c .lists)))
+  picked = picks (inSchedule (c .schedule)) (supplyIn (c .lists)) (eqb-true (length (c .lists .channels)) 16 (parts .0)) (counts-full (inSchedule (c .schedule)) (parts .1))
 
   module _ (place : ℕ) (l : LowestFree (c .lists .jobs) (At place)) (p : Pick) where
-    by-lack : (x : Lacking) → PicksNone x (inSchedule (c .schedule)) (seenIn (c .lists)) p → Selects (c .schedule) (c .lists) (unselectedBy x (c .schedule) p)
+    by-lack : (x : Lacking) → PicksNone x (inSchedule (c .schedule)) (supplyIn (c .lists)) p → Selects (c .schedule) (c .lists) (unselectedBy x (c .schedule) p)
     by-lack Nothing w = ((some-free (c .lists) l, (w .0, refl)), refl)
     by-lack (First part) w = ((some-free (c .lists) l, (w .0, (p .at, (w .1 .0, refl)))), refl)
 
-    selects-at : (found : Bool) → PicksBy found (inSchedule (c .schedule)) (seenIn (c .lists)) p → Selects (c .schedule) (c .lists) (selectedBy found (c .schedule) place p)
+    selects-at : (found : Bool) → PicksBy found (inSchedule (c .schedule)) (supplyIn (c .lists)) p → Selects (c .schedule) (c .lists) (selectedBy found (c .schedule) place p)
     selects-at true w = record { place = l; fit = w .0; request = refl; unnamed = refl }
     selects-at false w = by-lack (p .lacking) w
 
   selects-by : (f : FreePlace) → LowestFree (c .lists .jobs) f → Selects (c .schedule) (c .lists) (selectionBy (c .schedule) (c .lists) f)
   selects-by Full l = ((l, refl), refl)
   selects-by (At place) l =
-      let p = pickOf (inSchedule (c .schedule)) (seenIn (c .lists)) in selects-at place l p (p .found) picked
+      let p = pickOf (inSchedule (c .schedule)) (supplyIn (c .lists)) in selects-at place l p (p .found) picked
 
   pub selects : SelectsIn c (selectOf c)
   selects = record { outcome = refl; takes = record { selects = selects-by (placeFrom (c .lists .jobs) 16 0) (place-from (c .lists .jobs) 16 0 refl (λ q h. absurd (omega arith))); leaves = refl } }

@@ -14,7 +14,7 @@ use Rattle.cell_history.specs.History.{Deck, Select}
 use Rattle.cards_lines.specs.Shown.{shownBy}
 use Rattle.schedule_deck.specs.Report.{after}
 use Rattle.cards_fac.specs.Fac.{askedOf, codeError, codes, entryOf, formError, facError, facOf}
-use Rattle.schedule.specs.Calls.{clashError, enterError, sameThere, taken}
+use Rattle.schedule.specs.Calls.{taken}
 use Rattle.schedule_candidates.specs.Candidates.{candidate}
 use Rattle.cards_fields.specs.Fields.{cardByte, fields, isName, malformed}
 use Rattle.cards_fields.specs.Deck.{deckEnd}
@@ -62,8 +62,9 @@ use Rattle.cards_request.specs.Requests.{noUnits}
 use Rattle.cards_request.specs.declared.Facilities.{Facilities}
 use Rattle.cards_request.specs.declared.Request.{Request}
 use Rattle.schedule_entries.specs.declared.State.the-variants.{Waiting}
+use Rattle.schedule_entering.specs.Entering.{clashError, enterError, sameThere}
 use Rattle.packets.specs.declared.Lists.{Lists}
-use Rattle.cell_selection.specs.Selecting.{isJob, isTaken, noId, seenIn, SelectsBy, leftBy, runOf}
+use Rattle.cell_selection.specs.Selecting.{isJob, isTaken, noId, supplyIn, SelectsBy, leftBy, runOf}
 use Rattle.cell_selection.specs.declared.Choice.{Choice}
 use Rattle.cell_selection.specs.declared.Choice.the-variants.{Job}
 use Rattle.cell_selection.specs.declared.Selection.{Selection}
@@ -157,7 +158,7 @@ module _ (section : ℕ) where
       (λ t. let z : _≡_ {A = ℕ} (one (f n)) 0 = rw t refl in some-of n f (omega (arith, sum-suc n (λ i. one (f i)))))
 
   abbrev seen₁ : Assign.Cell
-  seen₁ = seenIn lists₁
+  seen₁ = supplyIn lists₁
 
   free-48 : freeOf seen₁ 1 48 ≡ true
   unfolding assignable fresh freshUnits isFreeOf unitIn

@@ -13,6 +13,7 @@ use Rattle.numbers.specs.declared.Kind.the-variants.{Mt, Md}
 use Rattle.numbers.specs.declared.Outcome.the-variants as Outcomes
 use Rattle.numbers.specs.declared.Refusal.{Refusal}
 use Rattle.numbers.specs.declared.Refusal.the-variants.{NoAssignment}
+use Rattle.numbers.specs.Limits.{mostWords}
 use Rattle.units.specs.State.{unitIn}
 use Rattle.units.specs.declared.Holder.{Holder}
 use Rattle.units.specs.declared.Holder.the-variants.{Free, Held}
@@ -23,8 +24,8 @@ use Rattle.words.specs.Lines.{lf}
 use Rattle.cards_fields.specs.Deck.{termination}
 use Rattle.cards_request.specs.Errors.{errorNumber}
 use Rattle.cards_group.specs.Group.{readGroup}
-use Rattle.cards_request.specs.declared.Verdict.{Verdict}
-use Rattle.cards_request.specs.declared.Verdict.the-variants.{Good, Wrong}
+use Rattle.cards_request.specs.declared.CardVerdict.{CardVerdict}
+use Rattle.cards_request.specs.declared.CardVerdict.the-variants.{Good, Wrong}
 use Rattle.schedule_deck.specs.Report.{deckText}
 use Rattle.assign_channels.specs.Choice.{on}
 use Rattle.assign.specs.Assignment.{channelsOf}
@@ -114,7 +115,7 @@ pub data Case : Type 0 where
   Keeps : Configuration → (channel unit : ℕ) → List Watched → Case
 
 -- the number of a group's card error; 0 without
-abbrev pub numberIn : Verdict → ℕ
+abbrev pub numberIn : CardVerdict → ℕ
 numberIn Good = 0
 numberIn (Wrong e) = errorNumber e
 
@@ -165,7 +166,7 @@ oneChannel = set noChannels 3 (fitted Mt 4)
 
 -- a drum
 abbrev pub drumChannels : List Channel
-drumChannels = set noChannels 7 (fitted Md 1000000)
+drumChannels = set noChannels 7 (fitted Md mostWords)
 
 abbrev pub step : Call → Seen → Step
 step call seen = record { call = call; seen = seen }

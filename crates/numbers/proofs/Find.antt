@@ -11,9 +11,9 @@ pub data Hit : Type 0 where
   hit : ℕ → Hit
   none : Hit
 
-abbrev pub find : (ℕ → Bool) → ℕ → ℕ → Hit
-find f zero k = none
-find f (suc n) k = cond (f k) (hit k) (find f n (suc k))
+abbrev pub seek : (ℕ → Bool) → ℕ → ℕ → Hit
+seek f zero k = none
+seek f (suc n) k = cond (f k) (hit k) (seek f n (suc k))
 
 abbrev pub First : (ℕ → Bool) → ℕ → ℕ → Hit → Type 0
 First f n k (hit m) = (f m ≡ true) × ((b : ℕ) → k ≤ b → b < m → f b ≡ true → ⊥)
@@ -24,6 +24,6 @@ first-step f n k true e h p = (e, λ b l m t. omega arith)
 first-step f n k false e (hit m) p = (p .0, λ b l q t. ⊎-elim (λ x. never t (ap f (sym x) ∙ e)) (λ x. p .1 b x q t) (eq-or-lt-of-le l))
 first-step f n k false e none p = λ b l q t. ⊎-elim (λ x. never t (ap f (sym x) ∙ e)) (λ x. p b x (omega arith) t) (eq-or-lt-of-le l)
 
-pub first : (f : ℕ → Bool) (n k : ℕ) → First f n k (find f n k)
+pub first : (f : ℕ → Bool) (n k : ℕ) → First f n k (seek f n k)
 first f zero k = λ b l q t. omega arith
-first f (suc n) k = first-step f n k (f k) refl (find f n (suc k)) (first f n (suc k))
+first f (suc n) k = first-step f n k (f k) refl (seek f n (suc k)) (first f n (suc k))

@@ -1,4 +1,7 @@
-// The bulletin's three kinds of count, none of which can be passed for another; the kinds of channel; the refusals.
+// The bulletin's three kinds of count, none of which can be passed for another; the kinds of channel; the refusals; the
+// limits.
+pub mod limits;
+
 ghost use mathlib.Core.Path.{_≡_};
 ghost use Rattle.numbers.specs.Kinds.{kindOf, codeOf, Rowed, orderOf, kindAt, isDrum};
 ghost use Rattle.numbers.specs.Quoted.{is2};

@@ -11,7 +11,7 @@ use Rattle.packets.specs.Demand.{Holding, Holds, Seen, asLone, isThere, 
 use Rattle.packets.proofs.Inv.{Inv, motion-busy}
 use Rattle.packets.proofs.Laws.{and-both, and-left, and-right}
 use Rattle.packets.specs.Lone.{Lone, LoneCall, loneDoes, loneRun, loneStart, loneStarts, loneStep, loneTakes, loneTakesAll, startBy}
-use Rattle.packets.specs.Picks.{find}
+use Rattle.numbers.specs.Elements.{find}
 use Rattle.packets.specs.Rules.{Call, Do, Take, accept, answer, isWrong, refusal, siteOf, startable}
 use Rattle.packets.specs.declared.Act.the-variants as Act′
 use Rattle.packets.proofs.SeenLaws.{SeenOk}

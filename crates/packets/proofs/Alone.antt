@@ -16,7 +16,7 @@ use Rattle.packets.proofs.Inv.{EntryOk, Inv, OwnedAt, listed-busy, moti
 use Rattle.packets.proofs.InvJobs.{held-once, take-held}
 use Rattle.packets.proofs.InvStores.{mark-holder}
 use Rattle.packets.proofs.Laws.{find-holds}
-use Rattle.packets.specs.Picks.{find}
+use Rattle.numbers.specs.Elements.{find}
 use Rattle.packets.specs.Rules.{Call, Do, Take, accept, always, answer, begins, begun, closing, completed, cut, decided, finished, isTrouble, locked, marked, packet, refusal, returnIfDone, siteOf, startable, started, step, submitted}
 use Rattle.packets.proofs.ByNumber.{Start}
 use Rattle.packets.specs.declared.Act.the-variants as Act′

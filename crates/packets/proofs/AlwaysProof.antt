@@ -15,7 +15,7 @@ use Rattle.packets.specs.Always.{Always, Invariants, NoEarlyHandOver, pa
 use Rattle.packets.proofs.Inv.{EntryOk, Inv, OkEntry, Owned, OwnedAt, Staying, listed-busy, motion-busy, running-alive}
 use Rattle.packets.specs.State.{inMotion, State, entryOf, heldBy, isBusy, isEmpty, isListed, isStill, packetOf, placeOf, stateIn}
 use Rattle.packets.proofs.InvStores.{entry-packet, entry-place}
-use Rattle.packets.specs.Picks.{All, any}
+use Rattle.numbers.specs.Elements.{All, any}
 use Rattle.packets.proofs.Laws.{all-imp, and-left, and-right}
 use Rattle.packets.specs.Rules.{isAt}
 use Rattle.packets.proofs.Sound.{Sound, noPacket}

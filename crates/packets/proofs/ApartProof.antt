@@ -17,7 +17,7 @@ use Rattle.packets.specs.History.{Event, NoneHeld, Reached, emptyPlace, 
 use Rattle.packets.proofs.Reaching.{along-split, by-calls, by-verdict, event, granted-accepted, of-fresh}
 use Rattle.packets.proofs.Inv.{Inv, running-alive}
 use Rattle.packets.proofs.Laws.{and-left, eqb-self, getD-set-keep}
-use Rattle.packets.specs.Picks.{find}
+use Rattle.numbers.specs.Elements.{find}
 use Rattle.packets.specs.Rules.{
   Call,
   Do,

@@ -15,7 +15,7 @@ use Rattle.numbers.specs.declared.Refusal.the-variants.{NothingInProgress, OutO
 use Rattle.channels.specs.Channels.{setsInterlock}
 use Rattle.functions.proofs.Entries.{at, every}
 use Rattle.packets.specs.Before.{AllListed, AsBefore, OnlyCompletions, all60, completedBefore, completesBefore, isCompletion, isFailure, withCodes}
-use Rattle.packets.specs.Picks.{find}
+use Rattle.numbers.specs.Elements.{find}
 use Rattle.packets.specs.Rules.{Call, Do, Take, accept, answer, begins, closed, completed, completes, first, isDone, isTrouble, isWrong, locked, movesAt, refusal, siteOf, startable, started, submitted}
 use Rattle.packets.specs.declared.Act.the-variants as Act′
 use Rattle.packets.specs.State.{State, configured, isIdle, motionOn, movingStatus}

@@ -18,7 +18,7 @@ use Rattle.packets.proofs.CodesProof.{closed-status, finished-status, s
 use Rattle.packets.specs.History.{Event, Reached, emptyPlace, fresh}
 use Rattle.packets.proofs.Inv.{EntryOk, Inv}
 use Rattle.packets.proofs.Laws.{eqb-self, find-holds}
-use Rattle.packets.specs.Picks.{any, find}
+use Rattle.numbers.specs.Elements.{any, find}
 use Rattle.packets.specs.Rules.{
   Call,
   Do,

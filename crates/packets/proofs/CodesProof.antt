@@ -12,7 +12,7 @@ use Rattle.packets.proofs.InvStores.{sweep-inv}
 use Rattle.packets.proofs.Laws.{and-left, and-right, find-holds}
 use Rattle.packets.proofs.Reaching.{by-verdict}
 use Rattle.packets.specs.Lone.{endsWith, stops}
-use Rattle.packets.specs.Picks.{find}
+use Rattle.numbers.specs.Elements.{find}
 use Rattle.packets.specs.Rules.{
   Call,
   Do,

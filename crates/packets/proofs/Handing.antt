@@ -21,7 +21,7 @@ use Rattle.packets.proofs.Laws.{all-both, all-imp, and-left, and-right,
 use Rattle.packets.proofs.Sites.{same-is}
 use Rattle.packets.proofs.Store.{alive-in, packet-restatus, unit-keep, unit-set}
 use Rattle.packets.proofs.Told.{Returns, cut-going, cut-unlisted}
-use Rattle.packets.specs.Picks.{All}
+use Rattle.numbers.specs.Elements.{All}
 use Rattle.packets.specs.Rules.{cut, finished, freeIfReturning, handedBack, isAt, isDone, isTrouble, movesAt, returnIfDone}
 use Rattle.packets.specs.State.{
   State,

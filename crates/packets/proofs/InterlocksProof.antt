@@ -11,7 +11,7 @@ use Rattle.numbers.proofs.Tests.{by-bool, never}
 use Rattle.units.specs.State.{assignable, isFree, markedUnit, unitIn}
 use Rattle.units.specs.declared.Unit.{Unit as UnitState}
 use Rattle.packets.specs.Interlocks.{interlockAfter, isThat}
-use Rattle.packets.specs.Picks.{find}
+use Rattle.numbers.specs.Elements.{find}
 use Rattle.packets.specs.Rules.{Call, Do, Take, accept, assigned, closed, finished, isDone, isTrouble, locked, refusal, returnIfDone, siteOf, startable, started, submitted}
 use Rattle.packets.specs.declared.Act.the-variants as Act′
 use Rattle.packets.specs.State.{State, heldBy, isEmpty, isUnit, motionOn, packetIn, setLock, stateIn, unitAt, wanted, withLock}

@@ -9,7 +9,7 @@ use lib.Dec.{eqb}
 use borrow.Author.Tests.{eqb-true}
 use Rattle.numbers.proofs.Tests.{by-bool}
 use Rattle.units.specs.State.{isReturning, unitIn}
-use Rattle.packets.specs.Picks.{All, Nodup, keep}
+use Rattle.numbers.specs.Elements.{All, Nodup, keep}
 use Rattle.packets.proofs.Laws.{all-imp, all-keep}
 use Rattle.packets.proofs.Once.{nodup-keep}
 use Rattle.packets.specs.State.{State, drumOn, heldBy, isBusy, isEmpty, isKept, isListed, isRunning, isStill, motionOn, packetIn, packetOf, packetsIn, placeOf, relist, stateIn, inMotion, isUnit, unitAt}

@@ -11,7 +11,7 @@ use Rattle.units.specs.State.{assignable, isFree, isReturning, unitIn}
 use Rattle.units.specs.declared.Holder.{Holder}
 use Rattle.units.specs.declared.Holder.the-variants.{Free, Held, Returning}
 use Rattle.packets.proofs.Inv.{EntryOk, Inv, Owned, OwnedAt, running-alive}
-use Rattle.packets.specs.Picks.{All}
+use Rattle.numbers.specs.Elements.{All}
 use Rattle.packets.proofs.Laws.{all-both, all-imp}
 use Rattle.packets.specs.Rules.{assigned, freshJob, returned}
 use Rattle.packets.specs.State.{State, close, heldBy, isEmpty, motionOn, packetIn, packetOf, placeOf, release, releaseAll, setState, stateIn, takeAll, takeUnit, unitAt, wanted}

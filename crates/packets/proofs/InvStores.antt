@@ -15,7 +15,7 @@ use Rattle.numbers.proofs.Tests.{by-bool, never}
 use Rattle.units.specs.State.{unitIn, unitSet, markedUnit}
 use Rattle.packets.proofs.Inv.{Elsewhere, EntryOk, Inv, OkEntry, OkMotion, Owned, Spots, Staying, listed-busy, motion-busy, requeued, running-alive, single-relist}
 use Rattle.packets.specs.State.{inMotion, State, enlisted, enqueue, entryOf, isBusy, isIdle, isListed, lock, motionOn, move, packetIn, packetOf, packetsIn, placeOf, put, restatusAll, setLock, stateIn, store, sweep}
-use Rattle.packets.specs.Picks.{All}
+use Rattle.numbers.specs.Elements.{All}
 use Rattle.packets.proofs.Laws.{all-append, all-imp, and-left, and-right}
 use Rattle.packets.proofs.Once.{few, nodup-snoc}
 use Rattle.packets.specs.Rules.{marked}

@@ -11,7 +11,7 @@ use lib.Dec.{eqb}
 use borrow.Author.Tests.{eq-eqb}
 use Rattle.numbers.proofs.Tests.{by-bool, never}
 use Rattle.numbers.specs.declared.Refusal.{Refusal}
-use Rattle.packets.specs.Picks.{any, find, keep, mapFrom, All}
+use Rattle.numbers.specs.Elements.{any, find, keep, mapFrom, All}
 use Rattle.packets.specs.Rules.{first}
 use Rattle.packets.specs.declared.Verdict.{Verdict}
 use Rattle.packets.specs.declared.Verdict.the-variants.{Granted}

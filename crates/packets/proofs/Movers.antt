@@ -35,7 +35,7 @@ use Rattle.packets.proofs.Told.{assigns-to, completes-on, cut-idle, end
 use Rattle.packets.specs.Interlocks.{carriedAt, interlockAfter, isThat}
 use Rattle.packets.specs.Demand.{Holding}
 use Rattle.packets.specs.History.{Event, NoneHeld, Reached, emptyPlace, fresh}
-use Rattle.packets.specs.Picks.{find}
+use Rattle.numbers.specs.Elements.{find}
 use Rattle.packets.specs.Rules.{
   Call,
   Do,

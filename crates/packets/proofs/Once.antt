@@ -8,7 +8,7 @@ use lib.ListN.{length}
 use lib.Dec.{eqb}
 use borrow.Author.Tests.{eqb-true, eqb-false, not-true}
 use Rattle.numbers.proofs.Tests.{by-bool}
-use Rattle.packets.specs.Picks.{All, keep, Nodup}
+use Rattle.numbers.specs.Elements.{All, keep, Nodup}
 use Rattle.packets.proofs.Laws.{all-imp, all-keep}
 
 module _ {A : Type 0} (same : A → A → Bool) where

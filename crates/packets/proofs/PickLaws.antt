@@ -9,7 +9,7 @@ use native.Mathlib.Omega.{arith}
 use lib.ListN.{length, getD, take}
 use lib.Seq.{take-suc, take-all}
 use Rattle.numbers.proofs.Tests.{by-bool, never}
-use Rattle.packets.specs.Picks.{any, find}
+use Rattle.numbers.specs.Elements.{any, find}
 
 module _ {A : Type 0} (f : A → Bool) where
   -- none of the first i passes, nor does the next

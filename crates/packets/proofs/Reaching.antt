@@ -9,7 +9,7 @@ use Rattle.numbers.proofs.Tests.{never}
 use Rattle.units.specs.declared.Unit.{Unit as UnitState}
 use Rattle.channels.specs.declared.Channel.{Channel}
 use Rattle.packets.specs.History.{Along, Begins, Event, Leads, NoneHeld, Reached, fresh, isAccepted}
-use Rattle.packets.specs.Picks.{find}
+use Rattle.numbers.specs.Elements.{find}
 use Rattle.packets.specs.Rules.{Answered, Call, Do, Take, accept, answer, begins, completes, decided, refusal, startable, step}
 use Rattle.packets.specs.State.{State, motionOn}
 use Rattle.packets.specs.declared.Act.the-variants as Act′

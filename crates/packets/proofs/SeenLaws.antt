@@ -13,7 +13,7 @@ use Rattle.packets.specs.Demand.{Holding, Holds, Seen, asLone, isThere, 
 use Rattle.packets.proofs.Inv.{EntryOk, Inv, listed-busy, motion-busy, running-alive}
 use Rattle.packets.proofs.InvStores.{lock-inv, sweep-inv}
 use Rattle.packets.proofs.Laws.{and-left, and-right, find-holds}
-use Rattle.packets.specs.Picks.{find}
+use Rattle.numbers.specs.Elements.{find}
 use Rattle.packets.specs.Rules.{Call, Do, Take, accept, aimed, always, answer, assigned, begun, broken, closing}
 use Rattle.packets.specs.Rules.{codeFor, cut, ended, failed, finished, handedBack, isAt, isTrouble, locked, over}
 use Rattle.packets.specs.Rules.{packet, refusal, returnIfDone, returned, siteOf, startable, submitted, terminate}

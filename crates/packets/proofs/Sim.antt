@@ -13,7 +13,7 @@ use Rattle.units.specs.State.{isReturning, unitIn}
 use Rattle.packets.specs.Demand.{Holding, there, wordAt}
 use Rattle.packets.proofs.Inv.{Elsewhere, EntryOk, Inv, kept-still, listed-busy, motion-busy}
 use Rattle.packets.proofs.InvStores.{put-elsewhere, restatus-elsewhere}
-use Rattle.packets.specs.Picks.{All, keep}
+use Rattle.numbers.specs.Elements.{All, keep}
 use Rattle.packets.proofs.Laws.{all-imp, all-keep, and-both, and-left, and-right, eqb-self, keep-all, settle-eq}
 use Rattle.packets.specs.Lone.{Lone, Request, become, settle, still, stores, waits, write, inUse}
 use Rattle.packets.specs.State.{State, heldBy, isBusy, isKept, isListed, motionOn, packetIn, packetOf, packetsIn}

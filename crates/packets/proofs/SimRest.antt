@@ -14,7 +14,7 @@ use Rattle.units.specs.declared.Holder.the-variants.{Free}
 use Rattle.packets.specs.Demand.{Holding}
 use Rattle.packets.proofs.Inv.{EntryOk, Inv}
 use Rattle.packets.proofs.InvStores.{New, enlisted-is, entry-packet, motion-move}
-use Rattle.packets.specs.Picks.{keep}
+use Rattle.numbers.specs.Elements.{keep}
 use Rattle.packets.proofs.Laws.{all-imp, eqb-self, keep-append, keep-same}
 use Rattle.packets.specs.Lone.{Lone, carries, joins, locks}
 use Rattle.packets.proofs.Sim.{Sim, isIts, lockThere, movingThere, num, on, returnThere}

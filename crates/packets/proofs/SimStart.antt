@@ -13,7 +13,7 @@ use Rattle.packets.proofs.Inv.{EntryOk, Inv, listed-busy}
 use Rattle.packets.proofs.InvStores.{idle-is}
 use Rattle.packets.proofs.Laws.{all-imp, and-both, and-left, and-right, eqb-self, find-holds, find-keep}
 use Rattle.packets.specs.Lone.{Lone, become, hasListed, isAtRest, setsOff, startOf, stores}
-use Rattle.packets.specs.Picks.{find, keep}
+use Rattle.numbers.specs.Elements.{find, keep}
 use Rattle.packets.specs.Rules.{begins, begun, returnIfDone, startable}
 use Rattle.packets.proofs.Sim.{Sim, like-status, lockThere, movingThere, num, on, sim-store, sim-store-away}
 use Rattle.packets.proofs.SimRest.{Stays, sim-move, sim-move-away, sim-same, stays-free, stays-held}

@@ -15,7 +15,7 @@ use Rattle.packets.specs.State.{inMotion, State, blank, enqueue, entryOf
 use Rattle.packets.proofs.InvStores.{New, enlisted-is, entry-packet, entry-place, motion-move}
 use Rattle.packets.proofs.Laws.{and-left, and-right}
 use Rattle.packets.specs.Lone.{lists}
-use Rattle.packets.specs.Picks.{any, keep}
+use Rattle.numbers.specs.Elements.{any, keep}
 use Rattle.packets.specs.Rules.{assigned}
 use Rattle.packets.proofs.Store.{busy-in, packet-fresh, packet-put, packet-restatus, packet-state, size-fresh, size-put, size-restatus, size-state, sizeIn}
 use Rattle.packets.specs.declared.Assignment.{Assignment}

@@ -17,7 +17,7 @@ use Rattle.packets.proofs.Inv.{EntryOk, Inv, running-alive}
 use Rattle.packets.specs.State.{freedAt, inMotion, isPacket, State, blank, enqueue, entryOf, isIdle, isListed, isUnit, lock, motionOn, move, noJob, packetIn, packetOf, placeOf, releaseAll, setLock, stateIn, store, sweep, withStatus}
 use Rattle.packets.proofs.InvStores.{New, enlisted-is, idle-is, lock-inv, motion-move, sweep-inv}
 use Rattle.packets.proofs.Laws.{eqb-self, find-holds, getD-replicate-const}
-use Rattle.packets.specs.Picks.{any, find}
+use Rattle.numbers.specs.Elements.{any, find}
 use Rattle.packets.specs.Rules.{
   Call,
   Do,

@@ -9,7 +9,7 @@ use Rattle.numbers.proofs.Tests.{by-bool}
 use Rattle.channels.specs.declared.Channel.{Channel}
 use Rattle.packets.specs.History.{Event, Leads}
 use Rattle.packets.proofs.Reaching.{by-calls}
-use Rattle.packets.specs.Picks.{find}
+use Rattle.numbers.specs.Elements.{find}
 use Rattle.packets.specs.Rules.{
   Call,
   Do,

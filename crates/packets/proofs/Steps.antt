@@ -19,7 +19,7 @@ use Rattle.packets.proofs.Inv.{EntryOk, Inv, listed-busy, motion-busy, 
 use Rattle.packets.specs.State.{inMotion, State, anyMoves, close, entryOf, heldBy, isBusy, isClosing, isEmpty, isIdle, isListed, isKept, isRunning, isUnit, lock, motionOn, move, moves, noJob, packetIn, packetOf, packetsIn, placeOf, put, relist, restatusAll, stateIn, store, sweep, withStatus}
 use Rattle.packets.proofs.InvJobs.{NotOf, assigned-inv, close-inv, returned-inv}
 use Rattle.packets.proofs.InvStores.{New, busy-inv, enqueue-inv, entry-packet, entry-place, idle-inv, lock-inv, marked-inv, motion-move, store-inv, sweep-inv}
-use Rattle.packets.specs.Picks.{All, find, keep}
+use Rattle.numbers.specs.Elements.{All, find, keep}
 use Rattle.packets.proofs.Laws.{all-imp, all-keep, and-left, and-right, any-none, eqb-self, find-holds, getD-replicate-const}
 use Rattle.packets.specs.Rules.{
   Call,

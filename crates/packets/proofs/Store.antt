@@ -14,7 +14,7 @@ use Rattle.units.specs.declared.Unit.{Unit as UnitState}
 use Rattle.numbers.proofs.Tests.{by-bool, never}
 use Rattle.units.specs.State.{freshUnit, isFree, unitIn, unitSet}
 use Rattle.packets.proofs.Laws.{getD-mapFrom, getD-set-keep}
-use Rattle.packets.specs.Picks.{mapFrom}
+use Rattle.numbers.specs.Elements.{mapFrom}
 use Rattle.packets.specs.Rules.{freshJob}
 use Rattle.packets.specs.State.{blank, isBusy, isEmpty, jobIn, noJob, packetIn, put, release, releaseAll, restatus, restatusAll, setState, stateIn, takeAll, takeUnit, withPackets, withState}
 use Rattle.packets.specs.declared.Assignment.{Assignment}

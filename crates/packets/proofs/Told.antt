@@ -11,7 +11,7 @@ use Rattle.numbers.specs.declared.Refusal.the-variants.{BeingReturned, ChannelB
 use Rattle.units.specs.State.{isReturning, unitIn}
 use Rattle.packets.specs.State.{inMotion, State, configured, drumOn, fittedOn, heldBy, isBusy, isDrumOf, isEmpty, isIdle, isListed, isRunning, jobIn, legalFor, motionOn, movingStatus, packetIn, stateIn, isUnit, unitAt}
 use Rattle.packets.proofs.Laws.{and-left, and-right, passes}
-use Rattle.packets.specs.Picks.{find}
+use Rattle.numbers.specs.Elements.{find}
 use Rattle.packets.specs.Rules.{Take, cut, failed, inRange, isNone, isOwn, isWrong, reaches, refusal, siteOf, startable}
 use Rattle.packets.proofs.ByNumber.{Complete, End, Return, Start, Submit}
 use Rattle.packets.specs.declared.Assignment.{Assignment}

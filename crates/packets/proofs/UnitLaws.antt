@@ -9,7 +9,7 @@ use native.Mathlib.Nat.{zero-add}
 use lib.ListN.{length, getD, length-map, List·getD-map}
 use Rattle.units.specs.declared.Unit.{Unit as UnitState}
 use Rattle.units.specs.State.{Square, freshUnit, unitIn}
-use Rattle.packets.specs.Picks.{mapFrom}
+use Rattle.numbers.specs.Elements.{mapFrom}
 use Rattle.packets.specs.State.{release, releaseAll, takeAll, takeUnit}
 use Rattle.packets.proofs.Laws.{getD-mapFrom-in, length-mapFrom}
 

@@ -24,7 +24,7 @@ use Rattle.packets.proofs.Store.{unit-keep, unit-release}
 use Rattle.packets.proofs.Told.{assigns-to, completes-on, returns-of}
 use Rattle.packets.proofs.Movers.{finished-motion}
 use Rattle.packets.proofs.Waiting.{Waiting, Waits, reached-waits}
-use Rattle.packets.specs.Picks.{All, find}
+use Rattle.numbers.specs.Elements.{All, find}
 use Rattle.packets.specs.Rules.{
   Call,
   Do,

@@ -30,7 +30,7 @@ use Rattle.packets.proofs.Store.{packet-restatus, unit-keep, unit-relea
 use Rattle.packets.proofs.Told.{Returns, assigns-to, completes-on, cut-going, returns-of, starts-on, submits}
 use Rattle.packets.specs.Codes.{statusAfter}
 use Rattle.packets.specs.History.{Event, NoneHeld, Reached, fresh}
-use Rattle.packets.specs.Picks.{find}
+use Rattle.numbers.specs.Elements.{find}
 use Rattle.packets.specs.Rules.{
   Call,
   Do,

@@ -24,7 +24,7 @@ use Rattle.packets.specs.State.{
   stateIn,
   unitAt,
 }
-use Rattle.packets.specs.Picks.{All, Nodup, any}
+use Rattle.numbers.specs.Elements.{All, Nodup, any}
 use Rattle.packets.specs.Rules.{isAt}
 use Rattle.packets.specs.declared.Motion.the-variants.{Busy}
 use Rattle.packets.specs.declared.Packet.{Packet}

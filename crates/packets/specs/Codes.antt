@@ -8,7 +8,7 @@ use mathlib.Core.Option.{Option, none, some}
 use lib.Dec.{eqb}
 use Rattle.packets.specs.History.{Event, Reached}
 use Rattle.packets.specs.Lone.{endsWith, stops}
-use Rattle.packets.specs.Picks.{find}
+use Rattle.numbers.specs.Elements.{find}
 use Rattle.packets.specs.Rules.{
   Call,
   Do,

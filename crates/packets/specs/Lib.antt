@@ -1,4 +1,3 @@
-pub mod Picks
 pub mod State
 pub mod Rules
 pub mod History

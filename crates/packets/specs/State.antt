@@ -27,7 +27,7 @@ use Rattle.packets.specs.declared.Motion.{Motion}
 use Rattle.packets.specs.declared.Motion.the-variants.{Idle, Busy}
 use Rattle.packets.specs.declared.Carrier.{Carrier}
 use Rattle.packets.specs.declared.Assignment.{Assignment}
-use Rattle.packets.specs.Picks.{keep, any, mapFrom}
+use Rattle.numbers.specs.Elements.{keep, any, mapFrom}
 
 -- what each channel has, the codes that set interlock (a word, bit k for code k), the units, the places, the listed
 -- packets of all channels in order of submission (a channel's request list is its part of it), and what moves on each

@@ -20,7 +20,7 @@ use Rattle.packets.proofs.Reaching.{by-history, reached-first}
 use Rattle.packets.proofs.Inv.{EntryOk, Inv, listed-busy, running-alive}
 use Rattle.packets.proofs.Laws.{and-left, and-right, eqb-self, find-holds, getD-set-keep}
 use Rattle.numbers.proofs.Stores.{getD-set}
-use Rattle.packets.specs.Picks.{find}
+use Rattle.numbers.specs.Elements.{find}
 use Rattle.packets.specs.Rules.{
   Call,
   Do,

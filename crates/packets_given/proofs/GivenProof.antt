@@ -21,7 +21,7 @@ use Rattle.packets.proofs.Reaching.{along-split, by-calls, event, granted-accep
 use Rattle.packets.proofs.Inv.{Inv, running-alive}
 use Rattle.packets.proofs.InvJobs.{held-once}
 use Rattle.packets.proofs.Laws.{and-left, and-right, eqb-self, getD-set-keep}
-use Rattle.packets.specs.Picks.{find}
+use Rattle.numbers.specs.Elements.{find}
 use Rattle.packets.specs.Rules.{
   Call,
   Do,

@@ -21,7 +21,7 @@ use Rattle.packets.proofs.Reaching.{by-calls, event}
 use Rattle.packets.proofs.Steps.{busy-of, find-some, reached-inv, start-at, startable-on}
 use Rattle.packets.proofs.Told.{completes-on, starts-on}
 use Rattle.packets.specs.History.{Begins, Event, Reached, fresh}
-use Rattle.packets.specs.Picks.{find}
+use Rattle.numbers.specs.Elements.{find}
 use Rattle.packets.specs.Rules.{Call, Do, Take, accept, answer, begins, begun, decided, movesAt, refusal, startable, step}
 use Rattle.packets.specs.State.{State, motionOn, packetIn, packetOf, placeOf}
 use Rattle.packets.specs.declared.Act.the-variants as Act′

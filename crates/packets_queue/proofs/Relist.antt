@@ -12,7 +12,7 @@ use lib.Dec.{ltb}
 use borrow.Author.Tests.{lt-ltb, le-ltb, ltb-true}
 use Rattle.numbers.proofs.Tests.{by-bool}
 use Rattle.packets.proofs.Laws.{keep-append}
-use Rattle.packets.specs.Picks.{keep}
+use Rattle.numbers.specs.Elements.{keep}
 use Rattle.packets.specs.State.{blank, enlisted, isKept, jobIn, packetIn, packetOf, placeOf, relist}
 use Rattle.packets.specs.declared.Job.{Job}
 use Rattle.packets.specs.declared.Packet.{Packet}

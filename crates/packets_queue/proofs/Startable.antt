@@ -12,7 +12,7 @@ use Rattle.packets_queue.proofs.Relist.{entry-is}
 use Rattle.units.specs.State.{Square, freshUnit, unitIn}
 use Rattle.units.proofs.StateLaws.{read-past}
 use Rattle.packets.specs.Lone.{locks}
-use Rattle.packets.specs.Picks.{find}
+use Rattle.numbers.specs.Elements.{find}
 use Rattle.packets.specs.Rules.{startableOn}
 use Rattle.packets.specs.State.{blank, jobIn, packetIn, packetOf, placeOf, unitAt}
 use Rattle.packets.specs.declared.Job.{Job}

@@ -6,25 +6,17 @@ use mathlib.Core.List.{List}
 use lib.ListN.{length}
 use borrow.Author.Tests.{ltb-true, ltb-false}
 use Rattle.numbers.proofs.Tests.{by-bool}
+use Rattle.numbers.specs.Elements.{find}
 use Rattle.schedule_entries.specs.Entries.{isNamed}
 use Rattle.schedule_entries.specs.declared.State.the-variants.{Waiting, Suspended, Closing}
-use Rattle.schedule_entries.specs.declared.Entry.{Entry}
-use Rattle.schedule_list.specs.InSchedule.{inSchedule, find, there, changedAt}
+use Rattle.schedule_list.specs.InSchedule.{inSchedule, there, changedAt}
 use Rattle.schedule_list.specs.declared.Schedule.{Schedule}
 use Rattle.schedule_list.proofs.InScheduleLaws.{any-first}
 use Rattle.schedule_list.proofs.IndexLaws.{find-here, find-none, removed-at, state-at}
-use Rattle.schedule.specs.Calls.{barred, released, deleted, isIn, closing, returned}
-use Rattle.schedule.specs.ByIndex.{ofName, ofJob, barredAt, releasedAt, deletedAt, returnedAt}
+use Rattle.schedule.specs.Calls.{released, deleted, isIn, closing, returned}
+use Rattle.schedule.specs.ByIndex.{ofName, ofJob, releasedAt, deletedAt, returnedAt}
 
 -- the request of an ID
-module _ (id : List ℕ) (es : List Entry) where
-  pub barred-at : barredAt (ofName id es) es ≡ barred (find (isNamed id) es)
-  unfolding barredAt
-  barred-at =
-      by-bool (there (ofName id es) es)
-      (λ t. rw (t, find-here (isNamed id) es (ltb-true (ofName id es) (length es) t)))
-      (λ t. rw (t, find-none (isNamed id) es (ltb-false (ofName id es) (length es) t)))
-
 module _ (s : Schedule) (id : List ℕ) where
   pub released-at : releasedAt (ofName id (inSchedule s)) s ≡ released s id
   unfolding releasedAt

@@ -1,29 +1,23 @@
 -- What the calls answer, by the tests that led there. Assumes nothing.
 use Prim.Native.Nat.{ℕ, _≤_, _<_}
-use mathlib.Core.Path.{_≡_, refl, sym, ap, _∙_}
+use mathlib.Core.Path.{_≡_, sym, ap, _∙_}
 use mathlib.Core.Bool.{Bool, true, false}
 use mathlib.Core.List.{List}
 use native.Mathlib.Omega.{arith}
-use lib.Dec.{leb}
 use lib.ListN.{length, getD}
 use borrow.Author.Tests.{lt-ltb, le-ltb, le-leb, lt-leb}
 use Rattle.numbers.specs.declared.Refusal.the-variants.{NoSuchRequest, JobRuns}
-use Rattle.cards_request.specs.Errors.{errorIf, orElse}
-use Rattle.cards_request.proofs.ErrorLaws.{not-good}
-use Rattle.cards_request.specs.declared.CardError.the-variants.{SamePriority, SameSequence, ScheduleFull}
-use Rattle.cards_request.specs.declared.Verdict.the-variants.{Good}
-use Rattle.cards_request.specs.declared.Request.{Request}
-use Rattle.schedule_entries.specs.Entries.{keyOf, sameKey, suspended, active, blank}
+use Rattle.schedule_entries.specs.Entries.{suspended, active, blank}
 use Rattle.schedule_entries.specs.Questions.{answers}
 use Rattle.schedule_entries.specs.declared.State.{State}
 use Rattle.schedule_entries.specs.declared.State.the-variants.{Waiting, Suspended, Closing}
 use Rattle.schedule_entries.specs.declared.Entry.{Entry}
 use Rattle.schedule_entries.specs.declared.Query.{Query}
-use Rattle.schedule_list.specs.InSchedule.{most, inSchedule, scheduleOf, any, there, withState, changedAt}
+use Rattle.schedule_list.specs.InSchedule.{inSchedule, scheduleOf, there, withState, changedAt}
 use Rattle.schedule_list.specs.Queries.{first, without, ofId, ofPlace}
 use Rattle.schedule_list.proofs.IndexLaws.{first-by}
 use Rattle.schedule_list.specs.declared.Schedule.{Schedule}
-use Rattle.schedule.specs.Calls.{sameThere, clashError, refused, done}
+use Rattle.schedule.specs.Calls.{refused, done}
 use Rattle.schedule.specs.Calls.{released, deleted, closing, returned}
 use Rattle.schedule.specs.ByIndex.{ofName, ofJob, releasedAt, deletedAt, returnedAt}
 use Rattle.schedule.proofs.ByIndexLaws.{released-at, deleted-at, closing-at, returned-at}
@@ -109,14 +103,3 @@ module _ (s : Schedule) (k : ℕ) {n : ℕ} (size : n ≡ length (inSchedule s))
     pub return-removes : (x : Bool) → x ≡ true → e .request .sequence < 1 → scheduleOf (without k (inSchedule s)) ≡ returnedAt k s x
     unfolding returnedAt
     return-removes x p q = rw (here (inSchedule s) k size h, p, lt-leb 1 (getD (inSchedule s) k blank .request .sequence) (omega (arith, sequence-is)))
-
--- where no error answers, each of the others has another key, and they leave room
-pub clash-clear : (es : List Entry) (r : Request) → clashError es r ≡ Good → (any (λ e. sameKey (keyOf (e .request)) (keyOf r)) es ≡ false) × (leb most (length es) ≡ false)
-unfolding clashError
-clash-clear es r e = by (sameThere es r) (any (λ e. sameKey (keyOf (e .request)) (keyOf r)) es) (leb most (length es)) e
-  where
-    by : (a b c : Bool) → orElse (errorIf a SamePriority) (orElse (errorIf b SameSequence) (orElse (errorIf c ScheduleFull) Good)) ≡ Good → (b ≡ false) × (c ≡ false)
-    by true b c e = not-good e
-    by false true c e = not-good e
-    by false false true e = not-good e
-    by false false false e = (refl, refl)

@@ -1,3 +1,2 @@
 pub mod ByIndexLaws
 pub mod Cases
-pub mod Clashes

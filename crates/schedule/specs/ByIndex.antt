@@ -1,17 +1,14 @@
 -- The calls by the index of the request, as the code goes about them. Nothing on this page has to be believed:
 -- contracts and proofs cite it, and proofs/ByIndexLaws shows that it comes to the same as page Calls.
 use Prim.Native.Nat.{ℕ}
-use mathlib.Core.Bool.{Bool, cond, _&&_, not}
-use mathlib.Core.List.{List, [], _∷_}
-use lib.Dec.{eqb, leb}
+use mathlib.Core.Bool.{Bool, cond, _&&_}
+use mathlib.Core.List.{List}
+use lib.Dec.{leb}
 use Rattle.numbers.specs.declared.Refusal.the-variants.{NoSuchRequest, JobRuns}
-use Rattle.cards_request.specs.Errors.{errorIf, firstOf}
-use Rattle.cards_request.specs.declared.CardError.the-variants.{SamePriority, SameSequence, ScheduleFull}
-use Rattle.cards_request.specs.declared.Verdict.{Verdict}
 use Rattle.schedule_entries.specs.Entries.{isNamed, suspended, active}
 use Rattle.schedule_entries.specs.declared.State.the-variants.{Waiting, Suspended}
 use Rattle.schedule_entries.specs.declared.Entry.{Entry}
-use Rattle.schedule_list.specs.InSchedule.{most, inSchedule, scheduleOf, entryAt, there, withState}
+use Rattle.schedule_list.specs.InSchedule.{inSchedule, scheduleOf, entryAt, there, withState}
 use Rattle.schedule_list.specs.Queries.{first, without}
 use Rattle.schedule_list.specs.declared.Schedule.{Schedule}
 use Rattle.schedule.specs.Calls.{isIn, refused, done}
@@ -24,10 +21,7 @@ ofName id es = first (isNamed id) es
 abbrev pub ofJob : ℕ → List Entry → ℕ
 ofJob place es = first (isIn place) es
 
--- error 26, release, delete and a job's return, the request at an index
-unfoldable pub barredAt : ℕ → List Entry → Bool
-barredAt k es = there k es && not (suspended (entryAt es k .state))
-
+-- release, delete and a job's return, the request at an index
 unfoldable pub releasedAt : ℕ → Schedule → Changed
 releasedAt k s =
     cond (there k (inSchedule s) && suspended (entryAt (inSchedule s) k .state))
@@ -47,12 +41,3 @@ returnedAt k s inError =
     (scheduleOf (withState k Suspended (inSchedule s)))
     (scheduleOf (without k (inSchedule s))))
     s
-
--- what bars a request, by what it meets
-unfoldable pub clashBy : Bool → Bool → ℕ → ℕ → Verdict
-clashBy ranked keyed sequence count =
-    firstOf
-    (errorIf (eqb sequence 0 && ranked) SamePriority
-    ∷ errorIf keyed SameSequence
-    ∷ errorIf (leb most count) ScheduleFull
-    ∷ [])

@@ -1,44 +1,15 @@
-// What the calls make of the schedule: what bars a request from entering, a request released or deleted; its job is
-// taken, closes, has returned.
-use cards_request::CardError;
-use cards_request::Verdict;
+// What the calls make of the schedule: a request released or deleted; its job is taken, closes, has returned.
 use numbers::Outcome;
 use numbers::Refusal;
 use schedule_entries::State;
 use schedule_list::Schedule;
 ghost use mathlib.Core.Path.{_≡_};
 ghost use Rattle.schedule.specs.Calls.{released, deleted, taken, closing, returned, refused, done};
-ghost use Rattle.schedule.specs.ByIndex.{clashBy};
-
-// What entering a request comes to: an error and the schedule as it was, or the schedule with the request. Decks are
-// entered in two steps, by an outline.
-pub struct Entering {
-    pub verdict: Verdict,
-    pub schedule: Schedule,
-}
 
 // What release and delete answer: a refusal and the schedule as it was, or the schedule that follows.
 pub struct Changed {
     pub outcome: Outcome,
     pub schedule: Schedule,
-}
-
-// What bars a request, by what it meets: the same priority, the same sequence as well, or that there are 64.
-pub fn clash_by(ranked: bool, keyed: bool, sequence: u8, count: usize) -> Verdict
-    ensures { λ r. ⌜ r ≡ clashBy ranked keyed sequence count ⌝ }
-{
-    if ranked {
-        if sequence == 0 {
-            return Verdict::Wrong(CardError::SamePriority);
-        }
-    }
-    if keyed {
-        return Verdict::Wrong(CardError::SameSequence);
-    }
-    if 64 <= count {
-        return Verdict::Wrong(CardError::ScheduleFull);
-    }
-    Verdict::Good
 }
 
 // A refusal, and the schedule as it was.

@@ -8,10 +8,12 @@ use lib.ListN.{length, getD, take, drop, set, replicate, length-set, drop-of-len
 use lib.Seq.{getD-set-other}
 use Rattle.numbers.proofs.Stores.{stored}
 use Rattle.numbers.proofs.Tests.{or-assoc, or-false}
+use Rattle.numbers.specs.Elements.{any}
+use Rattle.numbers.specs.Limits.{mostRequests}
 use Rattle.schedule_entries.specs.Entries.{keyOf, lowerSequence, active, serial}
 use Rattle.schedule_entries.specs.declared.Entry.{Entry}
 use Rattle.schedule_entries.specs.declared.Key.{Key}
-use Rattle.schedule_list.specs.InSchedule.{inSchedule, any, entryAt}
+use Rattle.schedule_list.specs.InSchedule.{inSchedule, entryAt}
 use Rattle.schedule_list.specs.Queries.{noKey}
 use Rattle.schedule_list.proofs.InScheduleLaws.{entry-step, schedule-at, schedule-few, schedule-sized}
 use Rattle.schedule_list.specs.declared.Schedule.{Schedule}
@@ -35,21 +37,21 @@ module _ (p : Entry → Bool) (es : List Entry) (i : ℕ) where
 
 pub record Outlining (es : List Entry) (keys : List Key) (r a : Bool) (i : ℕ) : Type 0 where
   pub high : i ≤ length es
-  pub long : length keys ≡ 64
+  pub long : length keys ≡ mostRequests
   pub each : (k : ℕ) → k < i → getD keys k noKey ≡ keyOf (entryAt es k .request)
   pub runs : r || any (λ e. active (e .state)) (drop i es) ≡ running es
   pub alone : a || any (λ e. active (e .state) && serial (e .request)) (drop i es) ≡ runningAlone es
 
-pub outline-start : (es : List Entry) → Outlining es (replicate 64 noKey) false false 0
+pub outline-start : (es : List Entry) → Outlining es (replicate mostRequests noKey) false false 0
 outline-start es = record { high = omega arith; long = refl; each = λ k h. absurd (omega arith); runs = refl; alone = refl }
 
-outline-more : {es : List Entry} {keys : List Key} {r a r′ a′ : Bool} {i : ℕ} {entry : Entry} {key : Key} → length es ≤ 64 → Outlining es keys r a i → i < length es → entry ≡ entryAt es i
+outline-more : {es : List Entry} {keys : List Key} {r a r′ a′ : Bool} {i : ℕ} {entry : Entry} {key : Key} → length es ≤ mostRequests → Outlining es keys r a i → i < length es → entry ≡ entryAt es i
     → key ≡ keyOf (entry .request) → r′ ≡ r || active (entry .state) → a′ ≡ a || (active (entry .state) && serial (entry .request)) → Outlining es (set keys i key) r′ a′ (i + 1)
 outline-more {es} {keys} {r} {a} {r′} {a′} {i} {entry} {key} few w h at k p q =
     record {
       high = omega arith;
       long = length-set keys i key ∙ w .long;
-      each = stored (λ (d : ℕ) (x : Key). x ≡ keyOf (entryAt es d .request)) keys i 64 key noKey (w .long) (omega arith) (w .each) (k ∙ ap (λ (e : Entry). keyOf (e .request)) at);
+      each = stored (λ (d : ℕ) (x : Key). x ≡ keyOf (entryAt es d .request)) keys i mostRequests key noKey (w .long) (omega arith) (w .each) (k ∙ ap (λ (e : Entry). keyOf (e .request)) at);
       runs = told-turn (λ e. active (e .state)) es i r h (p ∙ ap (λ (e : Entry). r || active (e .state)) at) (w .runs);
       alone = told-turn (λ e. active (e .state) && serial (e .request)) es i a h (q ∙ ap (λ (e : Entry). a || (active (e .state) && serial (e .request))) at) (w .alone);
     }
@@ -86,7 +88,7 @@ module _ (keys : List Key) (n i : ℕ) (key : Key) (past : Past keys n key i) wh
 
 pub record Marking (es : List Entry) (marks : List Bool) (i : ℕ) : Type 0 where
   pub high : i ≤ length es
-  pub long : length marks ≡ 64
+  pub long : length marks ≡ mostRequests
   pub each : (k : ℕ) → k < i → getD marks k false ≡ candidate es (entryAt es k)
   pub rest : (k : ℕ) → i ≤ k → getD marks k false ≡ false
 
@@ -95,15 +97,15 @@ no-marks zero k = refl
 no-marks (suc n) zero = refl
 no-marks (suc n) (suc k) = no-marks n k
 
-pub marks-start : (es : List Entry) → Marking es (replicate 64 false) 0
-marks-start es = record { high = omega arith; long = refl; each = λ k h. absurd (omega arith); rest = λ k h. no-marks 64 k }
+pub marks-start : (es : List Entry) → Marking es (replicate mostRequests false) 0
+marks-start es = record { high = omega arith; long = refl; each = λ k h. absurd (omega arith); rest = λ k h. no-marks mostRequests k }
 
-marks-more : {es : List Entry} {marks : List Bool} {i : ℕ} {v : Bool} → length es ≤ 64 → Marking es marks i → i < length es → v ≡ candidate es (entryAt es i) → Marking es (set marks i v) (i + 1)
+marks-more : {es : List Entry} {marks : List Bool} {i : ℕ} {v : Bool} → length es ≤ mostRequests → Marking es marks i → i < length es → v ≡ candidate es (entryAt es i) → Marking es (set marks i v) (i + 1)
 marks-more {es} {marks} {i} {v} few w h e =
     record {
       high = omega arith;
       long = length-set marks i v ∙ w .long;
-      each = stored (λ (d : ℕ) (x : Bool). x ≡ candidate es (entryAt es d)) marks i 64 v false (w .long) (omega arith) (w .each) e;
+      each = stored (λ (d : ℕ) (x : Bool). x ≡ candidate es (entryAt es d)) marks i mostRequests v false (w .long) (omega arith) (w .each) e;
       rest = λ k l. getD-set-other marks i k v false (λ q. omega arith) ∙ w .rest k (omega arith);
     }
 
@@ -117,11 +119,11 @@ marks-done {es} {marks} {i} w h =
 
 -- ---- the loops over a schedule's array and the number of its requests
 
-module _ (s : Schedule) (wide : length (s .entries) ≡ 64) {n : ℕ} (size : n ≡ length (inSchedule s)) where
+module _ (s : Schedule) (wide : length (s .entries) ≡ mostRequests) {n : ℕ} (size : n ≡ length (inSchedule s)) where
   pub part : take n (s .entries) ≡ inSchedule s
   part = schedule-sized s size
 
-  pub few : n ≤ 64
+  pub few : n ≤ mostRequests
   few = omega (arith, schedule-few s wide)
 
   pub outline-turn : {keys : List Key} {r a r′ a′ : Bool} {i : ℕ} (d : Entry) {key : Key} → Outlining (take n (s .entries)) keys r a i → i < n → key ≡ keyOf (getD (s .entries) i d .request)

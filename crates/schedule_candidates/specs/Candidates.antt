@@ -4,9 +4,11 @@ use mathlib.Core.Path.{_≡_}
 use mathlib.Core.Bool.{Bool, false, _&&_, not}
 use mathlib.Core.List.{List}
 use lib.ListN.{length, getD}
+use Rattle.numbers.specs.Elements.{any}
+use Rattle.numbers.specs.Limits.{mostRequests}
 use Rattle.schedule_entries.specs.Entries.{keyOf, lowerSequence, waiting, active, serial}
 use Rattle.schedule_entries.specs.declared.Entry.{Entry}
-use Rattle.schedule_list.specs.InSchedule.{most, any, entryAt}
+use Rattle.schedule_list.specs.InSchedule.{entryAt}
 
 -- some job runs or closes: "an S-type job is a candidate only when no job runs or closes"
 abbrev pub running : List Entry → Bool
@@ -26,6 +28,6 @@ candidate es e = waiting (e .state) && (not (lowerStands es e) && (not (runningA
 
 -- the marks of the candidates, by index in the schedule: none past the last
 pub record Marks (es : List Entry) (marks : List Bool) : Type 0 where
-  pub long : length marks ≡ most
+  pub long : length marks ≡ mostRequests
   pub each : (k : ℕ) → k < length es → getD marks k false ≡ candidate es (entryAt es k)
   pub rest : (k : ℕ) → length es ≤ k → getD marks k false ≡ false

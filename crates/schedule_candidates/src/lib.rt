@@ -1,11 +1,13 @@
 // Which requests in the schedule are candidates. The schedule's array is taken out once in each function: a call that
 // takes it copies it.
+use numbers::limits;
 use schedule_entries::Entry;
 use schedule_entries::Key;
 use schedule_list::Schedule;
 ghost use mathlib.Core.Path.{_≡_};
 ghost use mathlib.Core.Bool.{_||_, _&&_};
 ghost use Prim.Native.Nat.{_≤_};
+ghost use Rattle.numbers.specs.Limits.{mostRequests};
 ghost use Rattle.schedule_entries.specs.Entries.{active, serial};
 ghost use Rattle.schedule_list.specs.InSchedule.{inSchedule};
 ghost use Rattle.schedule_candidates.specs.Candidates.{Marks};
@@ -13,7 +15,7 @@ ghost use Rattle.schedule_candidates.specs.Marking.{Outlines, LowerStand
 
 // What candidates are told by: the keys of the requests, and whether any job, and an S-type job, runs or closes.
 struct Outline {
-    keys: [Key; 64],
+    keys: [Key; limits::MOST_REQUESTS],
     runs: bool,
     alone: bool,
 }
@@ -55,7 +57,7 @@ fn outline_of(schedule: Schedule) -> Outline
         precedence: 0,
         sequence: 0,
     };
-    let mut keys = [none; 64];
+    let mut keys = [none; limits::MOST_REQUESTS];
     let mut runs = false;
     let mut alone = false;
     let mut i: usize = 0;
@@ -71,8 +73,8 @@ fn outline_of(schedule: Schedule) -> Outline
 }
 
 // Whether some of the first keys has a key's letter and precedence and a lower sequence.
-fn lower_stands(keys: [Key; 64], n: usize, key: Key) -> bool
-    requires { ⌜ n ≤ 64 ⌝ }
+fn lower_stands(keys: [Key; limits::MOST_REQUESTS], n: usize, key: Key) -> bool
+    requires { ⌜ n ≤ mostRequests ⌝ }
     ensures { λ r. ⌜ LowerStands keys n key r ⌝ }
 {
     let mut i: usize = 0;
@@ -108,14 +110,14 @@ fn is_candidate(entry: Entry, lower: bool, alone: bool, runs: bool) -> bool
 }
 
 // The candidates marked, by index in the schedule; none past the last.
-pub fn all(schedule: Schedule) -> [bool; 64]
+pub fn all(schedule: Schedule) -> [bool; limits::MOST_REQUESTS]
     ensures { λ r. ⌜ Marks (inSchedule schedule) r ⌝ }
 {
     let n = schedule_list::size(schedule);
     let outline = outline_of(schedule);
     let keys = outline.keys;
     let list = schedule.entries;
-    let mut marks = [false; 64];
+    let mut marks = [false; limits::MOST_REQUESTS];
     let mut k: usize = 0;
     while k < n {
         let lower = lower_stands(keys, n, keys[k]);

@@ -21,8 +21,8 @@ use Rattle.cards_fields.specs.declared.DeckEnd.{DeckEnd}
 use Rattle.cards_fields.specs.declared.DeckEnd.the-variants.{At, Refused}
 use Rattle.cards_fac.specs.Fac.{asked}
 use Rattle.cards_group.specs.Group.{readGroup, readCards, orderedError, requestOf, answer}
-use Rattle.cards_request.specs.declared.Verdict.{Verdict}
-use Rattle.cards_request.specs.declared.Verdict.the-variants.{Good, Wrong}
+use Rattle.cards_request.specs.declared.CardVerdict.{CardVerdict}
+use Rattle.cards_request.specs.declared.CardVerdict.the-variants.{Good, Wrong}
 use Rattle.cards_request.specs.declared.Request.{Request}
 use Rattle.cards_writing.specs.Writing.{priorityText}
 use Rattle.schedule_entries.specs.declared.Entry.{Entry}
@@ -64,7 +64,7 @@ read-short : (g : List (List ℕ)) → Short (readGroup g .request)
 unfolding readCards
 read-short g = by (orderedError (length g) (getD g 0 []) (getD g 1 []) (drop 2 g))
   where
-    by : (v : Verdict) → Short (answer v (requestOf (getD g 0 []) (asked (getD g 1 []))) .request)
+    by : (v : CardVerdict) → Short (answer v (requestOf (getD g 0 []) (asked (getD g 1 []))) .request)
     by Good = omega (arith, padded-length 6 (field (getD g 0 []) 0))
     by (Wrong e) = omega arith
 
@@ -76,7 +76,7 @@ ids-after : (p : Progress) (g : List (List ℕ)) → Ids p → Ids (after p g)
 unfolding after
 ids-after p g i = record { shown = shown-few (getD g 0 []) (p .shown) (i .shown); last = by (triedAt p g .verdict) }
   where
-    by : (v : Verdict) → length (lastBy v (p .last) (readGroup g .request .id)) ≤ 6
+    by : (v : CardVerdict) → length (lastBy v (p .last) (readGroup g .request .id)) ≤ 6
     by Good = read-short g
     by (Wrong e) = i .last
 
@@ -91,7 +91,7 @@ group-short : (p : Progress) (g : List (List ℕ)) → Ids p → length (groupTe
 unfolding groupText
 group-short p g i = by (triedAt p g .verdict)
   where
-    by : (v : Verdict) → length (lineBy v (shownAt p g)) ≤ 16
+    by : (v : CardVerdict) → length (lineBy v (shownAt p g)) ≤ 16
     by Good = omega arith
     by (Wrong e) = error-short (shownAt p g) e (shown-few (getD g 0 []) (p .shown) (i .shown))
 

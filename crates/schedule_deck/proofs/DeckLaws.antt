@@ -9,8 +9,8 @@ use Rattle.cards_fields.specs.Deck.{deckEnd, deckGroups}
 use Rattle.cards_fields.specs.declared.DeckEnd.{DeckEnd}
 use Rattle.cards_fields.specs.declared.DeckEnd.the-variants.{At, Refused}
 use Rattle.cards_group.specs.Group.{readGroup}
-use Rattle.cards_request.specs.declared.Verdict.{Verdict}
-use Rattle.cards_request.specs.declared.Verdict.the-variants.{Good, Wrong}
+use Rattle.cards_request.specs.declared.CardVerdict.{CardVerdict}
+use Rattle.cards_request.specs.declared.CardVerdict.the-variants.{Good, Wrong}
 use Rattle.cards_request.specs.declared.Request.{Request}
 use Rattle.schedule_list.specs.InSchedule.{inSchedule}
 use Rattle.schedule_list.specs.declared.Schedule.{Schedule}
@@ -19,7 +19,7 @@ use Rattle.schedule_orderly.proofs.Reachable.{sound-enter, each-enter}
 use Rattle.schedule_deck.specs.Report.{begin, triedBy, after, endFrom, scheduleBy, deckSchedule}
 use Rattle.schedule_deck.specs.declared.Progress.{Progress}
 
-sound-tried : (v : Verdict) (s : Schedule) (r : Request) → Sound s → Sound (triedBy v s r .schedule)
+sound-tried : (v : CardVerdict) (s : Schedule) (r : Request) → Sound s → Sound (triedBy v s r .schedule)
 sound-tried Good s r d = sound-enter s d r
 sound-tried (Wrong e) s r d = d
 
@@ -33,7 +33,7 @@ sound-groups p (g ∷ gs) d = sound-groups (after p g) gs (sound-group p g d)
 
 -- what holds of each request
 module _ (P : Request → Type 0) where
-  each-tried : (v : Verdict) (s : Schedule) (r : Request) → Sound s → (v ≡ Good → P r) → Each P (requests (inSchedule s)) → Each P (requests (inSchedule (triedBy v s r .schedule)))
+  each-tried : (v : CardVerdict) (s : Schedule) (r : Request) → Sound s → (v ≡ Good → P r) → Each P (requests (inSchedule s)) → Each P (requests (inSchedule (triedBy v s r .schedule)))
   each-tried Good s r d p h = each-enter s d P r (p refl) h
   each-tried (Wrong e) s r d p h = h
 

@@ -10,16 +10,17 @@ use lib.ListN.{length, take}
 use lib.Seq.{take-all, length-take-le}
 use borrow.Author.Tests.{lt-leb}
 use Rattle.numbers.specs.declared.Refusal.the-variants.{BadDeck}
+use Rattle.numbers.specs.Limits.{deckBytes}
 use Rattle.cards_fields.specs.Deck.{deckEnd}
 use Rattle.cards_lines.specs.Shown.{refusedText}
 use Rattle.schedule_deck.specs.Report.{deckText}
 
 -- a deck of over 16,384 bytes is refused
-pub too-long : (s : List ℕ) → 16384 < length s → deckText s ≡ refusedText BadDeck
+pub too-long : (s : List ℕ) → deckBytes < length s → deckText s ≡ refusedText BadDeck
 unfolding deckEnd
-too-long s h = rw (lt-leb (length s) 16384 h)
+too-long s h = rw (lt-leb (length s) deckBytes h)
 
-pub enough : (s : List ℕ) (n : ℕ) → 16384 < n → deckText (take n s) ≡ deckText s
+pub enough : (s : List ℕ) (n : ℕ) → deckBytes < n → deckText (take n s) ≡ deckText s
 enough s n h =
     ⊎-elim
     (λ z. ap deckText (take-all n s (omega arith)))

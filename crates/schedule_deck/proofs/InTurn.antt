@@ -15,8 +15,8 @@ use Rattle.cards_fields.specs.declared.DeckEnd.{DeckEnd}
 use Rattle.cards_fields.specs.declared.DeckEnd.the-variants.{At, Refused}
 use Rattle.schedule_list.specs.InSchedule.{inSchedule, scheduleOf}
 use Rattle.schedule_list.specs.declared.Schedule.{Schedule}
-use Rattle.schedule_outline.specs.Outlines.{Outlines}
-use Rattle.schedule_outline.specs.declared.Outline.{Outline}
+use Rattle.schedule_entering.specs.Outlines.{Outlines}
+use Rattle.schedule_entering.specs.declared.Outline.{Outline}
 use Rattle.numbers.specs.declared.Refusal.{Refusal}
 use Rattle.numbers.specs.declared.Outcome.the-variants as Outcomes
 use Rattle.cards_lines.specs.Shown.{refusedText}

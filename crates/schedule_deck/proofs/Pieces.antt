@@ -12,15 +12,14 @@ use Rattle.text.proofs.RoomLaws.{Going, turn}
 use Rattle.cards_request.specs.Errors.{good}
 use Rattle.cards_request.proofs.ErrorLaws.{good-is}
 use Rattle.cards_group.specs.Group.{readGroup}
-use Rattle.cards_request.specs.declared.Verdict.{Verdict}
-use Rattle.cards_request.specs.declared.Verdict.the-variants.{Good, Wrong}
+use Rattle.cards_request.specs.declared.CardVerdict.{CardVerdict}
+use Rattle.cards_request.specs.declared.CardVerdict.the-variants.{Good, Wrong}
 use Rattle.cards_request.specs.declared.Request.{Request}
 use Rattle.cards_group.specs.declared.Reading.{Reading}
 use Rattle.schedule_entries.specs.Entries.{blank}
 use Rattle.schedule_entries.specs.declared.Entry.{Entry}
 use Rattle.schedule_list.specs.declared.Schedule.{Schedule}
-use Rattle.schedule.specs.Calls.{entering}
-use Rattle.schedule.specs.declared.Entering.{Entering}
+use Rattle.schedule_entering.specs.Entering.{entering, Entering}
 use Rattle.cards_lines.specs.Shown.{shownBy}
 use Rattle.schedule_deck.specs.Report.{requestLine, scheduleText, triedBy, tried, lineBy, lastBy, shownAt, triedAt, groupText, after}
 use Rattle.schedule_deck.specs.declared.Step.{Step}
@@ -39,13 +38,13 @@ lines-end es i h = rw (drop-of-length-le es h)
 
 -- a group's own error, or what entering answers
 pub tried-good : (s : Schedule) (r : Reading) {b : Bool} → b ≡ good (r .verdict) → b ≡ true → entering s (r .request) ≡ tried s r
-tried-good s r e t = ap (λ (v : Verdict). triedBy v s (r .request)) (sym (good-is (r .verdict) (sym e ∙ t)))
+tried-good s r e t = ap (λ (v : CardVerdict). triedBy v s (r .request)) (sym (good-is (r .verdict) (sym e ∙ t)))
 
-tried-by : (s : Schedule) (r : Request) (v : Verdict) → good v ≡ false → record { verdict = v; schedule = s } ≡ triedBy v s r
+tried-by : (s : Schedule) (r : Request) (v : CardVerdict) → good v ≡ false → record { verdict = v; schedule = s } ≡ triedBy v s r
 tried-by s r Good e = never refl e
 tried-by s r (Wrong x) e = refl
 
-pub last-kept : (v : Verdict) (last id : List ℕ) {b : Bool} → b ≡ good v → b ≡ false → last ≡ lastBy v last id
+pub last-kept : (v : CardVerdict) (last id : List ℕ) {b : Bool} → b ≡ good v → b ≡ false → last ≡ lastBy v last id
 last-kept Good last id e t = never refl (sym e ∙ t)
 last-kept (Wrong x) last id e t = refl
 
@@ -68,8 +67,8 @@ group-read {room} {out} {at} {next} p cards {card} {shown} {last} {reading} {a} 
     let v : a .verdict ≡ triedAt p cards .verdict = ap (λ (x : Entering). x .verdict) t′ in
     let k : a .schedule ≡ triedAt p cards .schedule = ap (λ (x : Entering). x .schedule) t′ in
     let i : reading .request .id ≡ readGroup cards .request .id = ap (λ (x : Reading). x .request .id) r in
-    let m : last ≡ lastBy (triedAt p cards .verdict) (p .last) (readGroup cards .request .id) = l ∙ ap (λ (x : Verdict). lastBy x (p .last) (reading .request .id)) v ∙ ap (λ (x : List ℕ). lastBy (triedAt p cards .verdict) (p .last) x) i in
+    let m : last ≡ lastBy (triedAt p cards .verdict) (p .last) (readGroup cards .request .id) = l ∙ ap (λ (x : CardVerdict). lastBy x (p .last) (reading .request .id)) v ∙ ap (λ (x : List ℕ). lastBy (triedAt p cards .verdict) (p .last) x) i in
     record {
-      text = subst (λ (x : List ℕ). Written room at x out next) (ap (λ (x : Verdict). lineBy x shown) v ∙ ap (λ (x : List ℕ). lineBy (triedAt p cards .verdict) x) s′) w;
+      text = subst (λ (x : List ℕ). Written room at x out next) (ap (λ (x : CardVerdict). lineBy x shown) v ∙ ap (λ (x : List ℕ). lineBy (triedAt p cards .verdict) x) s′) w;
       then = cc;
     }

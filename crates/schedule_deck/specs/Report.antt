@@ -11,16 +11,15 @@ use Rattle.cards_fields.specs.declared.DeckEnd.{DeckEnd}
 use Rattle.cards_fields.specs.declared.DeckEnd.the-variants.{At, Refused}
 use Rattle.cards_lines.specs.Shown.{shownBy, errorLine, refusedText}
 use Rattle.cards_group.specs.Group.{readGroup}
-use Rattle.cards_request.specs.declared.Verdict.{Verdict}
-use Rattle.cards_request.specs.declared.Verdict.the-variants.{Good, Wrong}
+use Rattle.cards_request.specs.declared.CardVerdict.{CardVerdict}
+use Rattle.cards_request.specs.declared.CardVerdict.the-variants.{Good, Wrong}
 use Rattle.cards_request.specs.declared.Request.{Request}
 use Rattle.cards_group.specs.declared.Reading.{Reading}
 use Rattle.cards_writing.specs.Writing.{priorityText}
 use Rattle.schedule_entries.specs.declared.Entry.{Entry}
 use Rattle.schedule_list.specs.InSchedule.{inSchedule, scheduleOf}
 use Rattle.schedule_list.specs.declared.Schedule.{Schedule}
-use Rattle.schedule.specs.Calls.{entering}
-use Rattle.schedule.specs.declared.Entering.{Entering}
+use Rattle.schedule_entering.specs.Entering.{entering, Entering}
 use Rattle.schedule_deck.specs.declared.Progress.{Progress}
 
 -- a request of the schedule: its ID and its priority
@@ -41,7 +40,7 @@ abbrev pub begin : Schedule → Progress
 begin s = record { schedule = s; shown = bytes "------"; last = bytes "------" }
 
 -- a group's own error, or what entering its request answers
-abbrev pub triedBy : Verdict → Schedule → Request → Entering
+abbrev pub triedBy : CardVerdict → Schedule → Request → Entering
 triedBy Good s r = entering s r
 triedBy (Wrong e) s r = record { verdict = Wrong e; schedule = s }
 
@@ -49,12 +48,12 @@ abbrev pub tried : Schedule → Reading → Entering
 tried s reading = triedBy (reading .verdict) s (reading .request)
 
 -- an error has its line
-abbrev pub lineBy : Verdict → List ℕ → List ℕ
+abbrev pub lineBy : CardVerdict → List ℕ → List ℕ
 lineBy Good shown = []
 lineBy (Wrong e) shown = errorLine shown e
 
 -- the request of a group without error is the last good one
-abbrev pub lastBy : Verdict → List ℕ → List ℕ → List ℕ
+abbrev pub lastBy : CardVerdict → List ℕ → List ℕ → List ℕ
 lastBy Good last id = id
 lastBy (Wrong e) last id = last
 

@@ -2,8 +2,8 @@
 use cards_fields::DeckEnd;
 use cards_fields::deck;
 use cards_fields::parts;
+use cards_request::CardVerdict;
 use cards_request::Request;
-use cards_request::Verdict;
 use cards_writing::put;
 use numbers::Outcome;
 use schedule_list::Schedule;
@@ -27,6 +27,9 @@ pub struct Step {
     pub at: usize,
     pub progress: Progress,
 }
+
+// How many bytes hold every report, and what entering any deck puts.
+pub const ROOM: usize = 53248;
 
 // What entering a deck answers: a refusal and the schedule as it was, or the schedule that follows and where the text
 // in the lent room ends.
@@ -73,22 +76,22 @@ fn put_last(out: &mut [u8], at: usize, id: [u8; 6]) -> usize
 }
 
 // Puts the line of an error, nothing where there is none.
-fn put_verdict(out: &mut [u8], at: usize, shown: [u8; 6], verdict: Verdict) -> usize
+fn put_verdict(out: &mut [u8], at: usize, shown: [u8; 6], verdict: CardVerdict) -> usize
     ensures { λ r. ⌜ Written (now (out .entry)) at (lineBy verdict shown) (now (out .exit)) r ⌝ }
 {
     match verdict {
-        Verdict::Good => at,
-        Verdict::Wrong(e) => cards_lines::put_error(out, at, shown, e),
+        CardVerdict::Good => at,
+        CardVerdict::Wrong(e) => cards_lines::put_error(out, at, shown, e),
     }
 }
 
 // The last good ID: that of a request without error, else the one before.
-fn last_by(verdict: Verdict, last: [u8; 6], id: [u8; 6]) -> [u8; 6]
+fn last_by(verdict: CardVerdict, last: [u8; 6], id: [u8; 6]) -> [u8; 6]
     ensures { λ r. ⌜ r ≡ lastBy verdict last id ⌝ }
 {
     match verdict {
-        Verdict::Good => id,
-        Verdict::Wrong(_) => last,
+        CardVerdict::Good => id,
+        CardVerdict::Wrong(_) => last,
     }
 }
 
@@ -121,7 +124,7 @@ fn put_groups(out: &mut [u8], part: &[u8], start: Progress) -> Step
     ensures { λ r. ⌜ ReadAll (now (out .entry)) start (groupsOf (cardsOf (now (part .entry)))) (now (out .exit)) r ⌝ }
 {
     let mut schedule = start.schedule;
-    let mut outline = schedule_outline::outline_of(schedule);
+    let mut outline = schedule_entering::outline_of(schedule);
     let mut shown = start.shown;
     let mut last = start.last;
     let mut at: usize = 0;
@@ -137,14 +140,14 @@ fn put_groups(out: &mut [u8], part: &[u8], start: Progress) -> Step
         let verdict = reading.verdict;
         if cards_request::is_good(verdict) {
             let request = reading.request;
-            let judged = schedule_outline::judge(outline, request);
+            let judged = schedule_entering::judge(outline, request);
             let entered = judged.verdict;
             at = put_verdict(out, at, own, entered);
             let id = request.id;
             let good = last_by(entered, last, id);
             last = good;
             if cards_request::is_good(entered) {
-                let next = schedule_outline::placed(schedule, request, judged.from, judged.at);
+                let next = schedule_entering::placed(schedule, request, judged.from, judged.at);
                 schedule = next.schedule;
                 outline = next.outline;
             }
@@ -187,7 +190,7 @@ fn put_entered(out: &mut [u8], part: &[u8], schedule: Schedule) -> Entered
 
 // Puts what the deck program prints into lent room and answers its length. The room holds every report, so nothing is
 // cut.
-pub fn report(deck: &[u8], out: &mut [u8; 53248]) -> usize
+pub fn report(deck: &[u8], out: &mut [u8; ROOM]) -> usize
     ensures { λ r. ⌜ Reported (now (deck .entry)) (now (out .entry)) (now (out .exit)) r ⌝ }
 {
     let end = deck::deck_end(deck);
@@ -199,7 +202,7 @@ pub fn report(deck: &[u8], out: &mut [u8; 53248]) -> usize
 
 // Reads a deck into a schedule and puts its error lines and the last line into lent room, which holds all of them. A
 // refused deck leaves the schedule and the room as they were.
-pub fn enter_deck(schedule: Schedule, deck: &[u8], out: &mut [u8; 53248]) -> Entered
+pub fn enter_deck(schedule: Schedule, deck: &[u8], out: &mut [u8; ROOM]) -> Entered
     ensures { λ r. ⌜ DeckEntered schedule (now (deck .entry)) (now (out .entry)) (now (out .exit)) r ⌝ }
 {
     let end = deck::deck_end(deck);

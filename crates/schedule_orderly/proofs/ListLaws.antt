@@ -9,13 +9,15 @@ use native.Mathlib.Omega.{arith}
 use lib.ListN.{length, getD, take, drop, set, length-map}
 use lib.Seq.{set-split, map-set-same}
 use Rattle.numbers.proofs.Tests.{never}
+use Rattle.numbers.specs.Elements.{any}
+use Rattle.numbers.specs.Limits.{mostRequests}
 use Rattle.words.specs.Words.{same}
 use Rattle.words.proofs.WordLaws.{same-equal, same-self}
 use Rattle.cards_request.specs.declared.Request.{Request}
 use Rattle.schedule_entries.specs.Entries.{keyOf, precedes, sameKey, isNamed, blank}
 use Rattle.schedule_entries.specs.declared.State.{State}
 use Rattle.schedule_entries.specs.declared.Entry.{Entry}
-use Rattle.schedule_list.specs.InSchedule.{most, any, removed, setState, inserted, withState}
+use Rattle.schedule_list.specs.InSchedule.{removed, setState, inserted, withState}
 use Rattle.schedule_orderly.specs.Orderly.{Each, Pairs, Unlike, Ahead, requests, Orderly}
 use Rattle.schedule_orderly.proofs.OrderLaws.{precedes-on, precedes-other}
 
@@ -127,7 +129,7 @@ keys-inserted x (e ∷ es) n h = by (precedes (keyOf (e .request)) (keyOf (x .re
         let q : Ahead (x .request) (e .request) = precedes-other (keyOf (e .request)) (keyOf (x .request)) p (n .0) in
         ((q, each-on (Ahead (e .request)) (Ahead (x .request)) (λ r i. precedes-on (keyOf (x .request)) (keyOf (e .request)) (keyOf r) q i) (requests es) (h .0)), h)
 
-pub orderly-inserted : (x : Entry) (es : List Entry) → Each (Unlike (x .request)) (requests es) → Each (λ r. sameKey (keyOf r) (keyOf (x .request)) ≡ false) (requests es) → length es < most
+pub orderly-inserted : (x : Entry) (es : List Entry) → Each (Unlike (x .request)) (requests es) → Each (λ r. sameKey (keyOf r) (keyOf (x .request)) ≡ false) (requests es) → length es < mostRequests
     → Orderly es → Orderly (inserted x es)
 orderly-inserted x es n k m o = record {
   names = names-inserted x es n (o .names);

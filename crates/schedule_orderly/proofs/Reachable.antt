@@ -11,22 +11,24 @@ use lib.Dec.{leb}
 use lib.ListN.{length}
 use borrow.Author.Tests.{ltb-true, leb-false}
 use Rattle.numbers.proofs.Tests.{by-bool}
+use Rattle.numbers.specs.Elements.{any, find}
+use Rattle.numbers.specs.Limits.{mostRequests}
 use Rattle.cards_request.specs.Errors.{errorIf}
 use Rattle.cards_request.proofs.ErrorLaws.{or-else-none}
 use Rattle.cards_request.specs.declared.CardError.the-variants.{InSchedule}
-use Rattle.cards_request.specs.declared.Verdict.{Verdict}
-use Rattle.cards_request.specs.declared.Verdict.the-variants.{Good, Wrong}
+use Rattle.cards_request.specs.declared.CardVerdict.{CardVerdict}
+use Rattle.cards_request.specs.declared.CardVerdict.the-variants.{Good, Wrong}
 use Rattle.cards_request.specs.declared.Request.{Request}
 use Rattle.schedule_entries.specs.Entries.{isNamed, suspended, active, firstState}
 use Rattle.schedule_entries.specs.declared.State.{State}
 use Rattle.schedule_entries.specs.declared.State.the-variants.{Waiting, Suspended, Running, Closing}
 use Rattle.schedule_entries.specs.declared.Entry.{Entry}
-use Rattle.schedule_list.specs.InSchedule.{most, inSchedule, scheduleOf, any, find, removed, setState, there, withState, changedAt}
+use Rattle.schedule_list.specs.InSchedule.{inSchedule, scheduleOf, removed, setState, there, withState, changedAt}
 use Rattle.schedule_list.proofs.InScheduleLaws.{in-of}
 use Rattle.schedule_list.specs.declared.Schedule.{Schedule}
-use Rattle.schedule.specs.Calls.{barred, clashError, enterError, entered, enteringBy, entering}
 use Rattle.schedule.specs.Calls.{releasedBy, deletedBy, taken, isIn, closing, returnedBy}
-use Rattle.schedule.proofs.Cases.{clash-clear}
+use Rattle.schedule_entering.specs.Entering.{barred, clashError, enterError, entered, enteringBy, entering}
+use Rattle.schedule_entering.proofs.Clashes.{clash-clear}
 use Rattle.schedule_orderly.specs.Orderly.{Call, after, afterAll, Each, requests, Orderly, Sound}
 use Rattle.schedule_orderly.proofs.ListLaws.{each-removed, orderly-removed, orderly-state, orderly-set, each-inserted, orderly-inserted, none-same, none-named}
 
@@ -77,9 +79,9 @@ module _ (s : Schedule) (d : Sound s) where
       let others = removed (isNamed (r .id)) (inSchedule s) in
       let c = clash-clear others r (or-else-none (errorIf (barred (find (isNamed (r .id)) (inSchedule s))) InSchedule) (clashError others r) e .1) in
       orderly-inserted (record { request = r; state = firstState r }) others (none-named r (inSchedule s) (d .orderly .names)) (none-same r others (c .0))
-      (leb-false most (length others) (c .1)) (orderly-removed (isNamed (r .id)) (inSchedule s) (d .orderly))
+      (leb-false mostRequests (length others) (c .1)) (orderly-removed (isNamed (r .id)) (inSchedule s) (d .orderly))
 
-  sound-entering : (r : Request) (v : Verdict) → enterError (inSchedule s) r ≡ v → Sound (enteringBy v s r .schedule)
+  sound-entering : (r : Request) (v : CardVerdict) → enterError (inSchedule s) r ≡ v → Sound (enteringBy v s r .schedule)
   sound-entering r Good e = sound-of _ (orderly-entered r e)
   sound-entering r (Wrong x) e = d
 
@@ -90,7 +92,7 @@ module _ (s : Schedule) (d : Sound s) where
   pub each-enter : (P : Request → Type 0) (r : Request) → P r → Each P (requests (inSchedule s)) → Each P (requests (inSchedule (entering s r .schedule)))
   each-enter P r p h = by (enterError (inSchedule s) r)
     where
-      by : (v : Verdict) → Each P (requests (inSchedule (enteringBy v s r .schedule)))
+      by : (v : CardVerdict) → Each P (requests (inSchedule (enteringBy v s r .schedule)))
       by Good =
           subst (λ (l : List Entry). Each P (requests l)) (sym (in-of (entered (inSchedule s) r)))
           (each-inserted P (record { request = r; state = firstState r }) (removed (isNamed (r .id)) (inSchedule s)) p (each-removed P (isNamed (r .id)) (inSchedule s) h))

@@ -4,12 +4,14 @@ use mathlib.Core.Path.{_≡_}
 use mathlib.Core.Bool.{Bool, true}
 use mathlib.Core.List.{List, [], _∷_, map}
 use lib.ListN.{length}
+use Rattle.numbers.specs.Limits.{mostRequests}
 use Rattle.cards_request.specs.declared.Request.{Request}
 use Rattle.schedule_entries.specs.Entries.{keyOf, precedes}
 use Rattle.schedule_entries.specs.declared.Entry.{Entry}
-use Rattle.schedule_list.specs.InSchedule.{most, inSchedule, scheduleOf}
+use Rattle.schedule_list.specs.InSchedule.{inSchedule, scheduleOf}
 use Rattle.schedule_list.specs.declared.Schedule.{Schedule}
-use Rattle.schedule.specs.Calls.{entering, released, deleted, taken, closing, returned}
+use Rattle.schedule.specs.Calls.{released, deleted, taken, closing, returned}
+use Rattle.schedule_entering.specs.Entering.{entering}
 
 -- the calls on a schedule
 pub data Call : Type 0 where
@@ -57,7 +59,7 @@ requests es = map (λ e. e .request) es
 pub record Orderly (es : List Entry) : Type 0 where
   pub names : Pairs Unlike (requests es)
   pub keys : Pairs Ahead (requests es)
-  pub few : length es ≤ most
+  pub few : length es ≤ mostRequests
 
 -- a schedule is the one value that holds its requests, and they are orderly
 pub record Sound (s : Schedule) : Type 0 where

@@ -3,6 +3,7 @@
 use libc::STDERR_FILENO;
 use libc::STDIN_FILENO;
 use libc::STDOUT_FILENO;
+use numbers::limits;
 use shift_turns::Phase;
 use shift_turns::Shift;
 
@@ -16,7 +17,7 @@ struct Talked {
 
 // Writes the first n bytes, and answers whether that went well; where it did not, says so on standard error.
 fn written(out: &[u8], n: usize) -> bool {
-    let well = io::write_all(STDOUT_FILENO, shift_lines::front(out, n));
+    let well = io::write_all(STDOUT_FILENO, input_lines::front(out, n));
     if !well {
         io::write_all(STDERR_FILENO, b"shift: an answer could not be written\n");
     }
@@ -28,10 +29,10 @@ fn talk(
     first: Shift,
     len: usize,
     piece: &[u8],
-    line: &mut [u8; 20480],
-    room: &mut [u8; 16384],
-    answer: &mut [u8; 53248],
-    out: &mut [u8; 65536],
+    line: &mut [u8; shift_hearing::LINE],
+    room: &mut [u8; limits::DECK_BYTES],
+    answer: &mut [u8; schedule_deck::ROOM],
+    out: &mut [u8; shift_hearing::OUT],
 ) -> Talked {
     let mut shift = first;
     let mut kept = len;
@@ -55,9 +56,9 @@ fn talk(
 fn finish(
     shift: Shift,
     len: usize,
-    line: &[u8; 20480],
-    room: &mut [u8; 16384],
-    answer: &mut [u8; 53248],
+    line: &[u8; shift_hearing::LINE],
+    room: &mut [u8; limits::DECK_BYTES],
+    answer: &mut [u8; schedule_deck::ROOM],
 ) {
     let n = shift_hearing::finish(shift, len, line, room, answer);
     written(answer, n);
@@ -77,10 +78,10 @@ fn is_over(phase: Phase) -> bool {
 // A proved loop has to end, and nothing says that the input does: the loop counts its turns down, from a number that
 // no run uses up.
 fn main() {
-    let mut line = [0u8; 20480];
-    let mut room = [0u8; 16384];
-    let mut answer = [0u8; 53248];
-    let mut out = [0u8; 65536];
+    let mut line = [0u8; shift_hearing::LINE];
+    let mut room = [0u8; limits::DECK_BYTES];
+    let mut answer = [0u8; schedule_deck::ROOM];
+    let mut out = [0u8; shift_hearing::OUT];
     let mut shift = shift_turns::fresh();
     let mut len: usize = 0;
     let mut left = u64::MAX;

@@ -5,8 +5,8 @@ use packets::Site;
 use packets::Status;
 ghost use mathlib.Core.Path.{_≡_};
 ghost use Rattle.text.specs.Room.{Written};
-ghost use Rattle.shift_answers.specs.Answers.{doneText, numberAt, startedText, completedText};
-ghost use Rattle.shift_answers.specs.Answers.{statusWord, statusText, noCallText};
+ghost use Rattle.shift_answers.specs.AnswerLines.{doneText, numberAt, startedText, completedText};
+ghost use Rattle.shift_answers.specs.AnswerLines.{statusWord, statusText, noCallText};
 
 // A call that answers nothing else.
 pub fn put_done(out: &mut [u8], at: usize) -> usize
@@ -32,9 +32,9 @@ pub fn put_started(out: &mut [u8], at: usize, begun: Begun) -> usize
     let place = begun.at;
     let number = number_at(place);
     let word = text::put_bytes(out, at, b"ACK ");
-    let packet = shift_pieces::put_packet(out, word, begun.place, begun.packet);
+    let packet = answer_pieces::put_packet(out, word, begun.place, begun.packet);
     let space = text::put_byte(out, packet, b' ');
-    let function = shift_pieces::put_octal(out, space, begun.function);
+    let function = answer_pieces::put_octal(out, space, begun.function);
     let gap = text::put_byte(out, function, b' ');
     let spot = text::put_decimal(out, gap, number as u64);
     text::put_byte(out, spot, b'\n')
@@ -45,7 +45,7 @@ pub fn put_completed(out: &mut [u8], at: usize, place: u8, packet: u8) -> usize
     ensures { λ r. ⌜ Written (now (out .entry)) at (completedText place packet) (now (out .exit)) r ⌝ }
 {
     let word = text::put_bytes(out, at, b"ACK ");
-    let next = shift_pieces::put_packet(out, word, place, packet);
+    let next = answer_pieces::put_packet(out, word, place, packet);
     text::put_byte(out, next, b'\n')
 }
 
@@ -60,7 +60,7 @@ fn put_status_word(out: &mut [u8], at: usize, status: Status) -> usize
         Status::Stopping => text::put_bytes(out, at, b"STOPPING"),
         Status::Ended(code) => {
             let word = text::put_bytes(out, at, b"ENDED ");
-            shift_pieces::put_octal(out, word, code)
+            answer_pieces::put_octal(out, word, code)
         }
     }
 }

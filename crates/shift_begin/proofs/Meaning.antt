@@ -15,7 +15,7 @@ use Rattle.numbers.proofs.Tests.{by-bool}
 use Rattle.channels.specs.declared.Channel.{Channel}
 use Rattle.words.specs.Lines.{linesOf, size}
 use Rattle.words.proofs.LineLaws.{has-line}
-use Rattle.configuration.specs.declared.Verdict.the-variants as Verdict′
+use Rattle.configuration.specs.declared.TextVerdict.the-variants as Verdict′
 use Rattle.configuration.specs.declared.Answer.{Answer}
 use Rattle.configuration.specs.Configured.{refused, good, configurationOf}
 use Rattle.configuration_form.specs.Form.{written, Due, Complete, Reads, Bad, InForm, FirstBad}

@@ -1,7 +1,7 @@
 // The configuration in front of a script: whether the lines so far are one, are wrong, or are still to be followed by
 // more.
 use channels::Configuration;
-use configuration::Verdict;
+use configuration::TextVerdict;
 ghost use mathlib.Core.Path.{_≡_};
 ghost use Rattle.shift_begin.specs.Opening.{saidSoFar, openingOf};
 
@@ -20,12 +20,12 @@ pub struct Beginning {
 
 // What a reader's verdict on so many lines comes to: where more may come, a bad line that is not there yet is one
 // that is due.
-fn so_far(verdict: Verdict, more: bool, lines: usize) -> Begun
+fn so_far(verdict: TextVerdict, more: bool, lines: usize) -> Begun
     ensures { λ r. ⌜ r ≡ saidSoFar verdict more lines ⌝ }
 {
     match verdict {
-        Verdict::Good => Begun::Good,
-        Verdict::Bad(line) => {
+        TextVerdict::Good => Begun::Good,
+        TextVerdict::Bad(line) => {
             if more {
                 if lines < line {
                     return Begun::More;

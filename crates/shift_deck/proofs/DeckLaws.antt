@@ -8,6 +8,7 @@ use native.Mathlib.Omega.{arith}
 use lib.ListN.{length, length-append}
 use borrow.Author.Tests.{le-leb, lt-leb}
 use Rattle.numbers.specs.declared.Refusal.the-variants.{BadDeck}
+use Rattle.numbers.specs.Limits.{deckBytes}
 use Rattle.words.specs.Lines.{lineText}
 use Rattle.words.proofs.LineLaws.{NoLf, no-lf-tested, first-ended}
 use Rattle.cards_fields.specs.Deck.{cardsOf, isTermination, termination, terminated, before, size, deckEnd}
@@ -46,12 +47,12 @@ sizes [] = refl
 sizes (c ∷ cs) = omega (arith, sizes cs, length-append (lineText c) (textOf cs), length-append c (10 ∷ []))
 
 -- where its termination card starts, or that it is too long
-pub deck-given : (cs : List (List ℕ)) → Cards cs → length (textOf cs ++ lineText termination) ≤ 16384 → deckEnd (textOf cs ++ lineText termination) ≡ At (length (textOf cs))
+pub deck-given : (cs : List (List ℕ)) → Cards cs → length (textOf cs ++ lineText termination) ≤ deckBytes → deckEnd (textOf cs ++ lineText termination) ≡ At (length (textOf cs))
 unfolding deckEnd
 deck-given cs h l =
     let e = ends cs h in
-    rw (le-leb (length (textOf cs ++ lineText termination)) 16384 l, cards-are cs h, e .0, e .1, sizes cs)
+    rw (le-leb (length (textOf cs ++ lineText termination)) deckBytes l, cards-are cs h, e .0, e .1, sizes cs)
 
-pub deck-too-long : (cs : List (List ℕ)) → 16384 < length (textOf cs ++ lineText termination) → deckEnd (textOf cs ++ lineText termination) ≡ Refused BadDeck
+pub deck-too-long : (cs : List (List ℕ)) → deckBytes < length (textOf cs ++ lineText termination) → deckEnd (textOf cs ++ lineText termination) ≡ Refused BadDeck
 unfolding deckEnd
-deck-too-long cs l = rw (lt-leb (length (textOf cs ++ lineText termination)) 16384 l)
+deck-too-long cs l = rw (lt-leb (length (textOf cs ++ lineText termination)) deckBytes l)

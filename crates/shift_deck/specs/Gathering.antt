@@ -7,13 +7,14 @@ use mathlib.Core.List.{List}
 use lib.Dec.{leb}
 use lib.ListN.{length}
 use lib.Seq.{sets}
+use Rattle.numbers.specs.Limits.{deckBytes}
 use Rattle.words.specs.Lines.{lineText}
 use Rattle.shift_deck.specs.declared.Gathered.{Gathered}
 use Rattle.shift_deck.specs.declared.Gathered.the-variants.{Kept, TooLong}
 
 -- "the deck is over 16,384 bytes": whether a card still belongs to a deck of so many bytes that is not
 abbrev pub hasRoom : ℕ → List ℕ → Bool
-hasRoom kept line = leb (kept + (length line + 1)) 16384
+hasRoom kept line = leb (kept + (length line + 1)) deckBytes
 
 -- a card behind the `kept` bytes at the room's start
 pub record Adds (room : List ℕ) (kept : ℕ) (line after : List ℕ) (r : Gathered) : Type 0 where

@@ -1,4 +1,5 @@
 // A deck gathered card by card into lent room, up to its termination card.
+use numbers::limits;
 ghost use mathlib.Core.Path.{_≡_};
 ghost use lib.ListN.{length};
 ghost use Rattle.cards_fields.specs.Deck.{isTermination};
@@ -18,13 +19,13 @@ pub fn is_last_card(line: &[u8]) -> bool
 }
 
 // Puts a card with its LF behind the bytes of the deck that stand in the room; where that is too long, nothing.
-pub fn add_card(room: &mut [u8; 16384], kept: usize, line: &[u8]) -> Gathered
+pub fn add_card(room: &mut [u8; limits::DECK_BYTES], kept: usize, line: &[u8]) -> Gathered
     ensures { λ r. ⌜ Adds (now (room .entry)) kept (now (line .entry)) (now (room .exit)) r ⌝ }
 {
-    if 16384 <= kept {
+    if limits::DECK_BYTES <= kept {
         return Gathered::TooLong;
     }
-    if 16384 - kept <= line.len() {
+    if limits::DECK_BYTES - kept <= line.len() {
         return Gathered::TooLong;
     }
     let end = text::put_bytes(room, kept, line);

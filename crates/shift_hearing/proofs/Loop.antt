@@ -15,9 +15,9 @@ use Rattle.words.specs.Words.{isnt}
 use Rattle.words.specs.Lines.{lf, lineOf}
 use Rattle.words.proofs.WordLaws.{leading-front}
 use Rattle.words.proofs.LineLaws.{NoLf, line-split, line-clean}
-use Rattle.shift_lines.specs.Lines.{isWhole, TakesUp}
-use Rattle.shift_lines.specs.declared.Cut.{Cut}
-use Rattle.shift_lines.proofs.LineLaws.{taken-within}
+use Rattle.input_lines.specs.Lines.{isWhole, TakesUp}
+use Rattle.input_lines.specs.declared.Cut.{Cut}
+use Rattle.input_lines.proofs.LineLaws.{taken-within}
 use Rattle.packets.specs.declared.Lists.{Lists}
 use Rattle.schedule_list.specs.declared.Schedule.{Schedule}
 use Rattle.cell.specs.Calls.{cellOf, followed}

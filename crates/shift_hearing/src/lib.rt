@@ -2,6 +2,7 @@
 // answers stand in lent room one behind the other. The schedule stands by itself meanwhile: most lines are calls on the
 // request lists alone, and it is not copied for these.
 use cell::Cell;
+use numbers::limits;
 use packets::Answer;
 use packets::Leaving;
 use packets::Lists;
@@ -19,6 +20,15 @@ ghost use Rattle.schedule_list.specs.declared.Schedule.{Schedule};
 ghost use Rattle.shift_turns.specs.Turns.{shiftOf, Ends};
 ghost use Rattle.shift_hearing.specs.Behind.{askedIn, AnswersBehind, HandlesBehind};
 ghost use Rattle.shift_hearing.specs.Hearing.{standing, HearsPiece};
+
+// How many bytes of a line are kept.
+pub const LINE: usize = 20480;
+
+// How many bytes the answers of a piece have room for.
+pub const OUT: usize = 65536;
+
+// So many bytes of answers leave room for one more.
+const ENOUGH: usize = OUT - schedule_deck::ROOM;
 
 // The shift after what was heard, how many bytes of the next line stand in the room for it, how many bytes of the
 // piece were taken, and how many the answers have.
@@ -88,8 +98,8 @@ fn is_followed(answer: Answer) -> bool
 fn answer_call(
     lists: Lists,
     call: Line,
-    answer: &mut [u8; 53248],
-    out: &mut [u8; 65536],
+    answer: &mut [u8; schedule_deck::ROOM],
+    out: &mut [u8; OUT],
     at: usize,
 ) -> Handled
     ensures { λ r. ⌜ HandlesBehind lists call (now (answer .entry)) (now (answer .exit))
@@ -98,7 +108,7 @@ fn answer_call(
     let handled = shift_packets::reply(lists, call, answer);
     let after = handled.lists;
     let said = handled.answer;
-    let end = text::put_bytes(out, at, shift_lines::front(answer, handled.at));
+    let end = text::put_bytes(out, at, input_lines::front(answer, handled.at));
     Handled {
         lists: after,
         answer: said,
@@ -110,9 +120,9 @@ fn answer_call(
 fn answer_line(
     shift: Shift,
     line: &[u8],
-    room: &mut [u8; 16384],
-    answer: &mut [u8; 53248],
-    out: &mut [u8; 65536],
+    room: &mut [u8; limits::DECK_BYTES],
+    answer: &mut [u8; schedule_deck::ROOM],
+    out: &mut [u8; OUT],
     at: usize,
 ) -> Turn
     ensures { λ r. ⌜ AnswersBehind shift (now (line .entry)) (now (room .entry)) (now (room .exit))
@@ -120,7 +130,7 @@ fn answer_line(
 {
     let turn = shift_turns::take_line(shift, line, room, answer);
     let after = turn.shift;
-    let end = text::put_bytes(out, at, shift_lines::front(answer, turn.at));
+    let end = text::put_bytes(out, at, input_lines::front(answer, turn.at));
     Turn {
         shift: after,
         at: end,
@@ -134,10 +144,10 @@ pub fn hear(
     first: Shift,
     len: usize,
     piece: &[u8],
-    line: &mut [u8; 20480],
-    room: &mut [u8; 16384],
-    answer: &mut [u8; 53248],
-    out: &mut [u8; 65536],
+    line: &mut [u8; LINE],
+    room: &mut [u8; limits::DECK_BYTES],
+    answer: &mut [u8; schedule_deck::ROOM],
+    out: &mut [u8; OUT],
 ) -> Heard
     ensures { λ r. ⌜ HearsPiece (standing first len (now (line .entry)) (now (room .entry)) (now (answer .entry)))
         (now (piece .entry)) (now (out .entry))
@@ -151,12 +161,12 @@ pub fn hear(
     let mut kept = len;
     let mut taken: usize = 0;
     let mut at: usize = 0;
-    while taken < piece.len() && at <= 12288 {
-        let cut = shift_lines::take_up(line, kept, &piece[taken..]);
+    while taken < piece.len() && at <= ENOUGH {
+        let cut = input_lines::take_up(line, kept, &piece[taken..]);
         taken += cut.taken;
         kept = cut.kept;
         if cut.whole {
-            let call = asked(phase, shift_lines::front(line, kept));
+            let call = asked(phase, input_lines::front(line, kept));
             if shift_packets::is_for_lists(call) {
                 let handled = answer_call(lists, call, answer, out, at);
                 let said = handled.answer;
@@ -167,7 +177,7 @@ pub fn hear(
                 }
             } else {
                 let now = shift_of(phase, schedule, lists);
-                let turn = answer_line(now, shift_lines::front(line, kept), room, answer, out, at);
+                let turn = answer_line(now, input_lines::front(line, kept), room, answer, out, at);
                 let next = turn.shift;
                 let after = next.cell;
                 phase = next.phase;
@@ -185,12 +195,12 @@ pub fn hear(
 pub fn finish(
     shift: Shift,
     len: usize,
-    line: &[u8; 20480],
-    room: &mut [u8; 16384],
-    answer: &mut [u8; 53248],
+    line: &[u8; LINE],
+    room: &mut [u8; limits::DECK_BYTES],
+    answer: &mut [u8; schedule_deck::ROOM],
 ) -> usize
     ensures { λ r. ⌜ Ends (shift .phase) (shift .cell) (take len (now (line .entry))) (now (room .entry)) (now (room .exit))
         (now (answer .entry)) (now (answer .exit)) r ⌝ }
 {
-    shift_turns::end_of_input(shift, shift_lines::front(line, len), room, answer)
+    shift_turns::end_of_input(shift, input_lines::front(line, len), room, answer)
 }

@@ -7,27 +7,28 @@ use mathlib.Core.List.{List}
 use native.Mathlib.Omega.{arith}
 use lib.Dec.{ltb}
 use lib.ListN.{length, take}
+use Rattle.numbers.specs.Limits.{deckBytes}
 use Rattle.text.specs.Room.{Written}
 use Rattle.text.proofs.RoomLaws.{written-one}
 use Rattle.shift_begin.specs.Opening.{openingOf}
 use Rattle.shift_begin.specs.declared.Beginning.{Beginning}
-use Rattle.shift_opening.specs.Openings.{Keeps, begunText, Answers, Opens, Unfinished}
+use Rattle.shift_opening.specs.Openings.{Keeps, begunText, AnswersOpening, Opens, Unfinished}
 use Rattle.shift_opening.specs.declared.Opening.{Opening}
 
 -- a text kept in the room stays within it
-pub kept-within : (room : List ℕ) (kept from : ℕ) (text after : List ℕ) (n : ℕ) → length room ≡ 16384 → from ≡ min kept 16384 → Written room from text after n → Keeps room kept text after n
+pub kept-within : (room : List ℕ) (kept from : ℕ) (text after : List ℕ) (n : ℕ) → length room ≡ deckBytes → from ≡ min kept deckBytes → Written room from text after n → Keeps room kept text after n
 kept-within room kept from text after n l e w =
     record { put = subst (λ (m : ℕ). Written room m text after n) e w; within = omega (arith, w .reached) }
 
 -- what was asked is what the text begins
-pub answers-as : {b c : Beginning} {n : ℕ} {out after : List ℕ} {r : Opening} → b ≡ c → Answers b n out after r → Answers c n out after r
-answers-as {n = n} {out = out} {after = after} {r = r} e a = subst (λ (b : Beginning). Answers b n out after r) e a
+pub answers-as : {b c : Beginning} {n : ℕ} {out after : List ℕ} {r : Opening} → b ≡ c → AnswersOpening b n out after r → AnswersOpening c n out after r
+answers-as {n = n} {out = out} {after = after} {r = r} e a = subst (λ (b : Beginning). AnswersOpening b n out after r) e a
 
 -- one opening
 abbrev made : Beginning → ℕ → ℕ → Opening
 made b n at = record { beginning = b; kept = n; at = at }
 
-answers-one : {b : Beginning} {n : ℕ} {out x y : List ℕ} {r q : Opening} → Answers b n out x r → Answers b n out y q → (x ≡ y) × (r ≡ q)
+answers-one : {b : Beginning} {n : ℕ} {out x y : List ℕ} {r q : Opening} → AnswersOpening b n out x r → AnswersOpening b n out y q → (x ≡ y) × (r ≡ q)
 answers-one {r = r} {q = q} a c =
     let w = written-one (a .put) (c .put) in
     (w .0, same (a .begins ∙ sym (c .begins)) (a .keeps ∙ sym (c .keeps)) (w .1))
@@ -37,7 +38,7 @@ answers-one {r = r} {q = q} a c =
 
 -- what the first n bytes of a room begin is answered
 abbrev AnswersBegun : List ℕ → List ℕ → Opening → ℕ → List ℕ → Type 0
-AnswersBegun out x r n room = Answers (openingOf (ltb n 2048) (take n room)) n out x r
+AnswersBegun out x r n room = AnswersOpening (openingOf (ltb n 2048) (take n room)) n out x r
 
 pub opens-one : (kept : ℕ) (line room room₁ room₂ out x y : List ℕ) (r q : Opening) → Opens kept line room room₁ out x r → Opens kept line room room₂ out y q
     → (room₁ ≡ room₂) × (x ≡ y) × (r ≡ q)

@@ -5,6 +5,7 @@ use mathlib.Core.Bool.{false}
 use mathlib.Core.List.{List, []}
 use lib.Dec.{ltb}
 use lib.ListN.{take}
+use Rattle.numbers.specs.Limits.{deckBytes}
 use Rattle.text.specs.Room.{Written}
 use Rattle.words.specs.Lines.{lineText}
 use Rattle.configuration_listing.specs.Listing.{errorText}
@@ -16,8 +17,8 @@ use Rattle.shift_opening.specs.declared.Opening.{Opening}
 
 -- a text behind what is kept at the room's start, cut at the room's end, and how many bytes are kept then
 pub record Keeps (room : List ℕ) (kept : ℕ) (text after : List ℕ) (n : ℕ) : Type 0 where
-  pub put : Written room (min kept 16384) text after n
-  pub within : n ≤ 16384
+  pub put : Written room (min kept deckBytes) text after n
+  pub within : n ≤ deckBytes
 
 -- "A bad one prints `ER 14 LINE n`"
 abbrev pub begunText : Begun → List ℕ
@@ -26,7 +27,7 @@ begunText Good = []
 begunText (Bad line) = errorText line
 
 -- what `kept` bytes begin, and the answer from the room's start on, cut at its end
-pub record Answers (beginning : Beginning) (kept : ℕ) (out after : List ℕ) (r : Opening) : Type 0 where
+pub record AnswersOpening (beginning : Beginning) (kept : ℕ) (out after : List ℕ) (r : Opening) : Type 0 where
   pub begins : r .beginning ≡ beginning
   pub keeps : r .kept ≡ kept
   pub put : Written out 0 (begunText (beginning .begun)) after (r .at)
@@ -35,7 +36,7 @@ pub record Answers (beginning : Beginning) (kept : ℕ) (out after : List ℕ) (
 pub record Opens (kept : ℕ) (line room room′ out after : List ℕ) (r : Opening) : Type 0 where
   pub n : ℕ
   pub keeps : Keeps room kept (lineText line) room′ n
-  pub answers : Answers (openingOf (ltb n 2048) (take n room′)) n out after r
+  pub answers : AnswersOpening (openingOf (ltb n 2048) (take n room′)) n out after r
 
 -- a configuration that is not complete at the input's end: what there is of it is all, a last line without LF too
 pub record Unfinished (kept : ℕ) (rest room room′ out after : List ℕ) (r : ℕ) : Type 0 where

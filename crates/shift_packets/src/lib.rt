@@ -62,7 +62,7 @@ fn put_status(out: &mut [u8], answer: StatusAnswer) -> usize
 {
     match answer {
         StatusAnswer::Is(status) => shift_answers::put_status(out, 0, status),
-        StatusAnswer::Refused(refusal) => shift_pieces::put_refused(out, 0, refusal),
+        StatusAnswer::Refused(refusal) => answer_pieces::put_refused(out, 0, refusal),
     }
 }
 

@@ -8,7 +8,7 @@ use Rattle.numbers.specs.declared.Outcome.{Outcome}
 use Rattle.text.specs.Room.{Written}
 use Rattle.text.proofs.RoomLaws.{andThen, whole-front}
 use Rattle.keyboard.specs.Messages.{readMessage}
-use Rattle.keyboard_answers.specs.Answers.{answerText as keyText}
+use Rattle.keyboard_answers.specs.MessageAnswers.{answerText as keyText}
 use Rattle.schedule_deck.specs.Report.{deckNotes}
 use Rattle.schedule_deck.proofs.Bounds.{noted-put}
 use Rattle.cell.specs.Calls.{cellOf, Enters, Keys}

@@ -13,7 +13,7 @@ use Rattle.cell_selection.specs.declared.Choice.{Choice}
 use Rattle.cell_selection.specs.declared.Choice.the-variants.{Job, NoPlace, NoCandidates, Lacks}
 use Rattle.cell_selection.specs.declared.Selection.{Selection}
 use Rattle.keyboard.specs.Messages.{readMessage}
-use Rattle.keyboard_answers.specs.Answers.{answerText as keyText}
+use Rattle.keyboard_answers.specs.MessageAnswers.{answerText as keyText}
 use Rattle.cell.specs.Calls.{cellOf, acted, releasing, deleting, statusOf, heeded, SelectsIn}
 use Rattle.cell.specs.declared.Answered.{Answered}
 use Rattle.cell.specs.declared.Cell.{Cell}

@@ -82,7 +82,7 @@ fn put_selection(
         Outcome::Refused(refusal) => {
             let choice = selection.choice;
             let first = selection.first;
-            let number = shift_pieces::put_no(out, 0, refusal);
+            let number = answer_pieces::put_no(out, 0, refusal);
             let lack = put_lack(out, number, choice, first);
             text::put_byte(out, lack, b'\n')
         }
@@ -111,12 +111,12 @@ fn put_refusal(out: &mut [u8], at: usize, outcome: Outcome) -> usize
 {
     match outcome {
         Outcome::Done => at,
-        Outcome::Refused(refusal) => shift_pieces::put_refused(out, at, refusal),
+        Outcome::Refused(refusal) => answer_pieces::put_refused(out, at, refusal),
     }
 }
 
 // Enters a deck that has been gathered.
-pub fn reply_deck(cell: Cell, deck: &[u8], out: &mut [u8; 53248]) -> Replied
+pub fn reply_deck(cell: Cell, deck: &[u8], out: &mut [u8; schedule_deck::ROOM]) -> Replied
     ensures { λ r. ⌜ EntersDeck cell (now (deck .entry)) (now (out .entry)) (now (out .exit)) r ⌝ }
 {
     let entered = cell::enter(cell, deck, out);

@@ -28,7 +28,7 @@ use Rattle.assign_heads.specs.declared.Given.{Given}
 use Rattle.assign_heads.specs.declared.Given.the-variants as G
 use Rattle.assign_heads.specs.declared.Head.{Head}
 use Rattle.assign.specs.declared.Assigned.{Assigned}
-use Rattle.shift_pieces.specs.Pieces.{each, eachFrom, spanText, unitText}
+use Rattle.answer_pieces.specs.Pieces.{each, eachFrom, spanText, unitText}
 use Rattle.shift_selected.specs.Selected.{areasText, asked, askedText, entryText, givenText, isOfKind, isTo, kindText, kindsText, runText}
 use Rattle.shift_selected.specs.Selected.{selectedText, unitAt, unitsText}
 

@@ -14,7 +14,7 @@ use Rattle.assign_heads.specs.Whose.{logical, blank}
 use Rattle.assign_heads.specs.declared.Given.the-variants.{To}
 use Rattle.assign_heads.specs.declared.Head.{Head}
 use Rattle.assign.specs.declared.Assigned.{Assigned}
-use Rattle.shift_pieces.specs.Pieces.{eachFrom}
+use Rattle.answer_pieces.specs.Pieces.{eachFrom}
 use Rattle.shift_selected.specs.Selected.{givenText, entryText, asked, askedText, selectedText}
 
 unfoldable pub a1 : Request

@@ -23,7 +23,7 @@ use Rattle.assign_heads.specs.declared.Head.{Head}
 use Rattle.assign.specs.declared.Assigned.{Assigned}
 use Rattle.assign.specs.declared.Part.{Part}
 use Rattle.assign.specs.declared.Part.the-variants.{Core, Drum, Units}
-use Rattle.shift_pieces.specs.Pieces.{unitText, spanText, each}
+use Rattle.answer_pieces.specs.Pieces.{unitText, spanText, each}
 
 -- a run of blocks or words behind its code, first and last, "if asked for"
 abbrev pub runText : List ℕ → ℕ → ℕ → List ℕ

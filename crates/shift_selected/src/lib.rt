@@ -25,7 +25,7 @@ fn put_run(out: &mut [u8], at: usize, code: &[u8], first: u32, count: u32) -> us
         return at;
     }
     let next = text::put_bytes(out, at, code);
-    shift_pieces::put_span(out, next, first, count)
+    answer_pieces::put_span(out, next, first, count)
 }
 
 // Whether a channel is of a kind: kinds of one row are one.
@@ -64,7 +64,7 @@ fn put_given(
     if is_of_kind(channel, kind) {
         if is_to(to, logical) {
             let next = text::put_byte(out, at, b' ');
-            return shift_pieces::put_unit(
+            return answer_pieces::put_unit(
                 out,
                 next,
                 ChannelNumber(index / 16),

@@ -7,6 +7,7 @@ use native.Mathlib.Omega.{arith}
 use lib.ListN.{length}
 use borrow.Author.Tests.{leb-true}
 use Rattle.numbers.proofs.Tests.{by-bool}
+use Rattle.numbers.specs.Limits.{deckBytes}
 use Rattle.text.specs.Room.{Written}
 use Rattle.text.proofs.RoomLaws.{none}
 use Rattle.cards_fields.specs.Deck.{isTermination}
@@ -46,10 +47,10 @@ pub entered : {text out after : List ℕ} {next : Cell} {replied : Replied} {t :
 entered {text} {out} {after} {next} {replied} {t} s e = rw (← s .cell) (says e (s .put))
 
 -- the bytes of a deck that is not too long
-pub deck-within : {room line room′ : List ℕ} {kept n : ℕ} {g : Gathered} → Adds room kept line room′ g → g ≡ Gathered′.Kept n → n ≤ 16384
+pub deck-within : {room line room′ : List ℕ} {kept n : ℕ} {g : Gathered} → Adds room kept line room′ g → g ≡ Gathered′.Kept n → n ≤ deckBytes
 deck-within {line = line} {kept = kept} {n = n} a e =
     by-bool (hasRoom kept line)
-    (λ t. let m = leb-true (kept + (length line + 1)) 16384 t in
+    (λ t. let m = leb-true (kept + (length line + 1)) deckBytes t in
     let q : n ≡ kept + (length line + 1) = same (sym e ∙ a .is ∙ rw t refl) in
     omega arith)
     (λ t. absurd (other (sym e ∙ a .is ∙ rw t refl)))

@@ -16,7 +16,7 @@ use Rattle.shift_opening.specs.declared.Opening.{Opening}
 use Rattle.shift_deck.specs.Gathering.{Adds}
 use Rattle.shift_deck.specs.declared.Gathered.{Gathered}
 use Rattle.shift_deck.specs.declared.Gathered.the-variants as Gathered′
-use Rattle.shift_pieces.specs.Pieces.{noLine}
+use Rattle.answer_pieces.specs.Pieces.{noLine}
 use Rattle.cell.specs.Calls.{freshCell}
 use Rattle.cell.specs.declared.Cell.{Cell}
 use Rattle.shift_script.specs.Script.{lineSays}

@@ -3,6 +3,7 @@
 use cell::Cell;
 use channels::Configuration;
 use numbers::Refusal;
+use numbers::limits;
 use shift_begin::Begun;
 use shift_deck::Gathered;
 use shift_opening::Opening;
@@ -81,8 +82,8 @@ fn begins(
     cell: Cell,
     kept: usize,
     line: &[u8],
-    room: &mut [u8; 16384],
-    out: &mut [u8; 53248],
+    room: &mut [u8; limits::DECK_BYTES],
+    out: &mut [u8; schedule_deck::ROOM],
 ) -> Turn
     ensures { λ r. ⌜ Begins cell kept (now (line .entry)) (now (room .entry)) (now (room .exit)) (now (out .entry)) (now (out .exit)) r ⌝ }
 {
@@ -108,7 +109,7 @@ fn after_line(call: Line) -> Phase
 }
 
 // A line that is answered.
-fn talks(cell: Cell, line: &[u8], out: &mut [u8; 53248]) -> Turn
+fn talks(cell: Cell, line: &[u8], out: &mut [u8; schedule_deck::ROOM]) -> Turn
     ensures { λ r. ⌜ Talks cell (now (line .entry)) (now (out .entry)) (now (out .exit)) r ⌝ }
 {
     let said = shift_script::read_line(line);
@@ -119,21 +120,21 @@ fn talks(cell: Cell, line: &[u8], out: &mut [u8; 53248]) -> Turn
 }
 
 // A card of a deck that is too long.
-fn passes(cell: Cell, line: &[u8], out: &mut [u8; 53248]) -> Turn
+fn passes(cell: Cell, line: &[u8], out: &mut [u8; schedule_deck::ROOM]) -> Turn
     ensures { λ r. ⌜ PassSays (isTermination (now (line .entry))) cell (now (out .entry)) (now (out .exit)) r ⌝ }
 {
     if shift_deck::is_last_card(line) {
         return turned(
             Phase::Talks,
             cell,
-            shift_pieces::put_refused(out, 0, Refusal::BadDeck),
+            answer_pieces::put_refused(out, 0, Refusal::BadDeck),
         );
     }
     turned(Phase::Passes, cell, 0)
 }
 
 // A deck that is complete: the first n bytes of the room.
-fn entered(cell: Cell, room: &[u8], n: usize, out: &mut [u8; 53248]) -> Turn
+fn entered(cell: Cell, room: &[u8], n: usize, out: &mut [u8; schedule_deck::ROOM]) -> Turn
     requires { ⌜ n ≤ length (now room) ⌝ }
     ensures { λ r. ⌜ Entered cell (take n (now (room .entry))) (now (out .entry)) (now (out .exit)) r ⌝ }
 {
@@ -147,8 +148,8 @@ fn gathers(
     cell: Cell,
     kept: usize,
     line: &[u8],
-    room: &mut [u8; 16384],
-    out: &mut [u8; 53248],
+    room: &mut [u8; limits::DECK_BYTES],
+    out: &mut [u8; schedule_deck::ROOM],
 ) -> Turn
     ensures { λ r. ⌜ Gathers cell kept (now (line .entry)) (now (room .entry))
         (now (room .exit)) (now (out .entry)) (now (out .exit)) r ⌝ }
@@ -163,7 +164,12 @@ fn gathers(
 }
 
 // The next line, without its LF, and what is answered to it.
-pub fn take_line(shift: Shift, line: &[u8], room: &mut [u8; 16384], out: &mut [u8; 53248]) -> Turn
+pub fn take_line(
+    shift: Shift,
+    line: &[u8],
+    room: &mut [u8; limits::DECK_BYTES],
+    out: &mut [u8; schedule_deck::ROOM],
+) -> Turn
     ensures { λ r. ⌜ Turns (shift .phase) (shift .cell) (now (line .entry))
         (now (room .entry)) (now (room .exit)) (now (out .entry)) (now (out .exit)) r ⌝ }
 {
@@ -179,20 +185,25 @@ pub fn take_line(shift: Shift, line: &[u8], room: &mut [u8; 16384], out: &mut [u
 }
 
 // The answer to a deck whose termination card did not come.
-fn close(phase: Phase, at: usize, out: &mut [u8; 53248]) -> usize
+fn close(phase: Phase, at: usize, out: &mut [u8; schedule_deck::ROOM]) -> usize
     ensures { λ r. ⌜ Written (now (out .entry)) at (endText phase) (now (out .exit)) r ⌝ }
 {
     match phase {
         Phase::Begins(_) => at,
         Phase::Talks => at,
-        Phase::Gathers(_) => shift_pieces::put_refused(out, at, Refusal::BadDeck),
-        Phase::Passes => shift_pieces::put_refused(out, at, Refusal::BadDeck),
+        Phase::Gathers(_) => answer_pieces::put_refused(out, at, Refusal::BadDeck),
+        Phase::Passes => answer_pieces::put_refused(out, at, Refusal::BadDeck),
         Phase::Over => at,
     }
 }
 
 // A last line without LF, or none, and what its shift leaves unanswered.
-fn closes(shift: Shift, rest: &[u8], room: &mut [u8; 16384], out: &mut [u8; 53248]) -> usize
+fn closes(
+    shift: Shift,
+    rest: &[u8],
+    room: &mut [u8; limits::DECK_BYTES],
+    out: &mut [u8; schedule_deck::ROOM],
+) -> usize
     ensures { λ r. ⌜ Closes (shift .phase) (shift .cell) (now (rest .entry))
         (now (room .entry)) (now (room .exit)) (now (out .entry)) (now (out .exit)) r ⌝ }
 {
@@ -210,8 +221,8 @@ fn closes(shift: Shift, rest: &[u8], room: &mut [u8; 16384], out: &mut [u8; 5324
 pub fn end_of_input(
     shift: Shift,
     rest: &[u8],
-    room: &mut [u8; 16384],
-    out: &mut [u8; 53248],
+    room: &mut [u8; limits::DECK_BYTES],
+    out: &mut [u8; schedule_deck::ROOM],
 ) -> usize
     ensures { λ r. ⌜ Ends (shift .phase) (shift .cell) (now (rest .entry))
         (now (room .entry)) (now (room .exit)) (now (out .entry)) (now (out .exit)) r ⌝ }

@@ -4,7 +4,7 @@ use borrow.Author.Tests.{not-true, not-false}
 use Rattle.numbers.specs.declared.Kind.{Kind}
 use Rattle.assign_core.specs.Core as Core
 use Rattle.assign.specs.declared.Part.the-variants.{Units}
-use Rattle.assign.specs.Assignment.{cellOf}
+use Rattle.assign.specs.Assignment.{supplyOf}
 use Rattle.assign.specs.Chosen.{without}
 use Rattle.assign.proofs.ChosenLaws.{no-core, no-drum, no-kind, assigned, kinds-served, kinds-lacking, for-length}
 use borrow.Author.Needs.{needs}
@@ -30,7 +30,7 @@ without-requires : tie.Need-without-requires
 without-requires c κs = search needs
 
 returns : tie.Need-returns
-returns c = no-core (cellOf (c .before .before .before .before .before .before .args .units .of) (c .before .before .before .before .before .before .args .occupancy) (c .before .before .before .before .before .before .args .areas) (c .before .before .before .before .before .before .args .channels)) (c .before .before .before .before .before .before .args .wanted) (subst (Core.Answers (c .before .before .before .before .before .before .args .occupancy) (c .before .before .before .before .before .before .args .wanted .ib) (c .before .before .before .before .before .before .args .wanted .db)) (c .before .enum-told .given .1) (c .before .before .before .search .ensures)) (c .without .ensures)
+returns c = no-core (supplyOf (c .before .before .before .before .before .before .args .units .of) (c .before .before .before .before .before .before .args .occupancy) (c .before .before .before .before .before .before .args .areas) (c .before .before .before .before .before .before .args .channels)) (c .before .before .before .before .before .before .args .wanted) (subst (Core.LeastPair (c .before .before .before .before .before .before .args .occupancy) (c .before .before .before .before .before .before .args .wanted .ib) (c .before .before .before .before .before .before .args .wanted .db)) (c .before .enum-told .given .1) (c .before .before .before .search .ensures)) (c .without .ensures)
 
 drum-length-requires : tie.Need-drum-length-requires
 drum-length-requires c κs = search needs
@@ -48,7 +48,7 @@ without-requires-2 : tie.Need-without-requires-2
 without-requires-2 c κs = search needs
 
 returns-2 : tie.Need-returns-2
-returns-2 c = no-drum (cellOf (c .before .before .before .before .before .before .before .before .before .before .before .args .units .of) (c .before .before .before .before .before .before .before .before .before .before .before .args .occupancy) (c .before .before .before .before .before .before .before .before .before .before .before .args .areas) (c .before .before .before .before .before .before .before .before .before .before .before .args .channels)) (c .before .before .before .before .before .before .before .before .before .before .before .args .wanted) (subst (Core.Answers (c .before .before .before .before .before .before .before .before .before .before .before .args .occupancy) (c .before .before .before .before .before .before .before .before .before .before .before .args .wanted .ib) (c .before .before .before .before .before .before .before .before .before .before .before .args .wanted .db)) (c .before .before .before .before .before .before .pair .given .1) (c .before .before .before .before .before .before .before .before .search .ensures)) (for-length (c .before .before .before .before .before .before .before .before .before .before .before .args .areas) (c .before .before .before .before .before .before .before .before .before .before .before .args .wanted .md) (c .before .before .before .before .drum-length .ensures) (c .before .enum-told2 .given .1) (c .before .before .before .lowest-start .ensures)) (c .without2 .ensures)
+returns-2 c = no-drum (supplyOf (c .before .before .before .before .before .before .before .before .before .before .before .args .units .of) (c .before .before .before .before .before .before .before .before .before .before .before .args .occupancy) (c .before .before .before .before .before .before .before .before .before .before .before .args .areas) (c .before .before .before .before .before .before .before .before .before .before .before .args .channels)) (c .before .before .before .before .before .before .before .before .before .before .before .args .wanted) (subst (Core.LeastPair (c .before .before .before .before .before .before .before .before .before .before .before .args .occupancy) (c .before .before .before .before .before .before .before .before .before .before .before .args .wanted .ib) (c .before .before .before .before .before .before .before .before .before .before .before .args .wanted .db)) (c .before .before .before .before .before .before .pair .given .1) (c .before .before .before .before .before .before .before .before .search .ensures)) (for-length (c .before .before .before .before .before .before .before .before .before .before .before .args .areas) (c .before .before .before .before .before .before .before .before .before .before .before .args .wanted .md) (c .before .before .before .before .drum-length .ensures) (c .before .enum-told2 .given .1) (c .before .before .before .lowest-start .ensures)) (c .without2 .ensures)
 
 serve-kinds-requires : tie.Need-serve-kinds-requires
 serve-kinds-requires c κs = search needs
@@ -60,10 +60,10 @@ without-requires-3 : tie.Need-without-requires-3
 without-requires-3 c κs = search needs
 
 returns-3 : tie.Need-returns-3
-returns-3 c = no-kind (cellOf (c .before .before .before .before .before .before .before .before .before .before .before .before .before .before .before .before .before .args .units .of) (c .before .before .before .before .before .before .before .before .before .before .before .before .before .before .before .before .before .args .occupancy) (c .before .before .before .before .before .before .before .before .before .before .before .before .before .before .before .before .before .args .areas) (c .before .before .before .before .before .before .before .before .before .before .before .before .before .before .before .before .before .args .channels)) (c .before .before .before .before .before .before .before .before .before .before .before .before .before .before .before .before .before .args .wanted) (subst (Core.Answers (c .before .before .before .before .before .before .before .before .before .before .before .before .before .before .before .before .before .args .occupancy) (c .before .before .before .before .before .before .before .before .before .before .before .before .before .before .before .before .before .args .wanted .ib) (c .before .before .before .before .before .before .before .before .before .before .before .before .before .before .before .before .before .args .wanted .db)) (c .before .before .before .before .before .before .before .before .before .before .before .before .pair .given .1) (c .before .before .before .before .before .before .before .before .before .before .before .before .before .before .search .ensures)) (for-length (c .before .before .before .before .before .before .before .before .before .before .before .before .before .before .before .before .before .args .areas) (c .before .before .before .before .before .before .before .before .before .before .before .before .before .before .before .before .before .args .wanted .md) (c .before .before .before .before .before .before .before .before .before .before .drum-length .ensures) (c .before .before .before .before .before .before .before .start .given .1) (c .before .before .before .before .before .before .before .before .before .lowest-start .ensures)) (kinds-lacking (c .before .before .before .before .serve-kinds .result) (not-true (c .before .before .before .before .serve-kinds .result .ok) (c .before .before .if1 .taken)) (c .before .before .before .before .serve-kinds .ensures)) (c .without3 .ensures ∙ ap (λ (k : Kind). without (Units k)) (c .before .kind-at .ensures))
+returns-3 c = no-kind (supplyOf (c .before .before .before .before .before .before .before .before .before .before .before .before .before .before .before .before .before .args .units .of) (c .before .before .before .before .before .before .before .before .before .before .before .before .before .before .before .before .before .args .occupancy) (c .before .before .before .before .before .before .before .before .before .before .before .before .before .before .before .before .before .args .areas) (c .before .before .before .before .before .before .before .before .before .before .before .before .before .before .before .before .before .args .channels)) (c .before .before .before .before .before .before .before .before .before .before .before .before .before .before .before .before .before .args .wanted) (subst (Core.LeastPair (c .before .before .before .before .before .before .before .before .before .before .before .before .before .before .before .before .before .args .occupancy) (c .before .before .before .before .before .before .before .before .before .before .before .before .before .before .before .before .before .args .wanted .ib) (c .before .before .before .before .before .before .before .before .before .before .before .before .before .before .before .before .before .args .wanted .db)) (c .before .before .before .before .before .before .before .before .before .before .before .before .pair .given .1) (c .before .before .before .before .before .before .before .before .before .before .before .before .before .before .search .ensures)) (for-length (c .before .before .before .before .before .before .before .before .before .before .before .before .before .before .before .before .before .args .areas) (c .before .before .before .before .before .before .before .before .before .before .before .before .before .before .before .before .before .args .wanted .md) (c .before .before .before .before .before .before .before .before .before .before .drum-length .ensures) (c .before .before .before .before .before .before .before .start .given .1) (c .before .before .before .before .before .before .before .before .before .lowest-start .ensures)) (kinds-lacking (c .before .before .before .before .serve-kinds .result) (not-true (c .before .before .before .before .serve-kinds .result .ok) (c .before .before .if1 .taken)) (c .before .before .before .before .serve-kinds .ensures)) (c .without3 .ensures ∙ ap (λ (k : Kind). without (Units k)) (c .before .kind-at .ensures))
 
 returns-4 : tie.Need-returns-4
-returns-4 c = assigned (cellOf (c .before .before .before .before .before .before .before .before .before .before .before .before .before .before .before .before .before .args .units .of) (c .before .before .before .before .before .before .before .before .before .before .before .before .before .before .before .before .before .args .occupancy) (c .before .before .before .before .before .before .before .before .before .before .before .before .before .before .before .before .before .args .areas) (c .before .before .before .before .before .before .before .before .before .before .before .before .before .before .before .before .before .args .channels)) (c .before .before .before .before .before .before .before .before .before .before .before .before .before .before .before .before .before .args .wanted) (c .before .before .before .before .before .before .before .before .before .before .before .before .pair .given .0 .0) (c .before .before .before .before .before .before .before .start .given .0 .0) (c .before .before .before .before .serve-kinds .result .channels) (c .before .before .before .before .serve-kinds .result .heads) (subst (Core.Answers (c .before .before .before .before .before .before .before .before .before .before .before .before .before .before .before .before .before .args .occupancy) (c .before .before .before .before .before .before .before .before .before .before .before .before .before .before .before .before .before .args .wanted .ib) (c .before .before .before .before .before .before .before .before .before .before .before .before .before .before .before .before .before .args .wanted .db)) (c .before .before .before .before .before .before .before .before .before .before .before .before .pair .given .1) (c .before .before .before .before .before .before .before .before .before .before .before .before .before .before .search .ensures)) (for-length (c .before .before .before .before .before .before .before .before .before .before .before .before .before .before .before .before .before .args .areas) (c .before .before .before .before .before .before .before .before .before .before .before .before .before .before .before .before .before .args .wanted .md) (c .before .before .before .before .before .before .before .before .before .before .drum-length .ensures) (c .before .before .before .before .before .before .before .start .given .1) (c .before .before .before .before .before .before .before .before .before .lowest-start .ensures)) (kinds-served (c .before .before .before .before .serve-kinds .result) (not-false (c .before .before .before .before .serve-kinds .result .ok) (c .before .before .if1 .left)) (c .before .before .before .before .serve-kinds .ensures))
+returns-4 c = assigned (supplyOf (c .before .before .before .before .before .before .before .before .before .before .before .before .before .before .before .before .before .args .units .of) (c .before .before .before .before .before .before .before .before .before .before .before .before .before .before .before .before .before .args .occupancy) (c .before .before .before .before .before .before .before .before .before .before .before .before .before .before .before .before .before .args .areas) (c .before .before .before .before .before .before .before .before .before .before .before .before .before .before .before .before .before .args .channels)) (c .before .before .before .before .before .before .before .before .before .before .before .before .before .before .before .before .before .args .wanted) (c .before .before .before .before .before .before .before .before .before .before .before .before .pair .given .0 .0) (c .before .before .before .before .before .before .before .start .given .0 .0) (c .before .before .before .before .serve-kinds .result .channels) (c .before .before .before .before .serve-kinds .result .heads) (subst (Core.LeastPair (c .before .before .before .before .before .before .before .before .before .before .before .before .before .before .before .before .before .args .occupancy) (c .before .before .before .before .before .before .before .before .before .before .before .before .before .before .before .before .before .args .wanted .ib) (c .before .before .before .before .before .before .before .before .before .before .before .before .before .before .before .before .before .args .wanted .db)) (c .before .before .before .before .before .before .before .before .before .before .before .before .pair .given .1) (c .before .before .before .before .before .before .before .before .before .before .before .before .before .before .search .ensures)) (for-length (c .before .before .before .before .before .before .before .before .before .before .before .before .before .before .before .before .before .args .areas) (c .before .before .before .before .before .before .before .before .before .before .before .before .before .before .before .before .before .args .wanted .md) (c .before .before .before .before .before .before .before .before .before .before .drum-length .ensures) (c .before .before .before .before .before .before .before .start .given .1) (c .before .before .before .before .before .before .before .before .before .lowest-start .ensures)) (kinds-served (c .before .before .before .before .serve-kinds .result) (not-false (c .before .before .before .before .serve-kinds .result .ok) (c .before .before .if1 .left)) (c .before .before .before .before .serve-kinds .ensures))
 
 pub find-spec : {M : Type 1} → statement M
 find-spec =

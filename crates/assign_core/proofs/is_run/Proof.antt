@@ -5,12 +5,13 @@ use native.Mathlib.Omega.{arith}
 use borrow.Author.Count.{below-more}
 use Rattle.numbers.proofs.DecidesLaws.{yes, no}
 use Rattle.numbers.specs.Bits.{bit}
+use Rattle.numbers.specs.Limits.{firstBlock, lastBlock}
 use borrow.Author.Needs.{needs}
 use Rattle.assign_core.proofs.is_run.Statement.{statement}
 use Rattle.assign_core.proofs.is_run.Tie as tie
 
 abbrev Inv-loop : tie.InvT-loop
-Inv-loop word n from end b₀ b = (((2 ≤ from) × (from + n ≤ 30)) × ((from ≤ b) × (b ≤ from + n))) × ((k : ℕ) → k < b → from ≤ k → bit word k ≡ 0)
+Inv-loop word n from end b₀ b = (((firstBlock ≤ from) × (from + n ≤ lastBlock + 1)) × ((from ≤ b) × (b ≤ from + n))) × ((k : ℕ) → k < b → from ≤ k → bit word k ≡ 0)
 
 abbrev μ-loop : tie.MeasureT-loop
 μ-loop word n from end b₀ b = from + n - b

@@ -1,34 +1,35 @@
 -- `assign_core::search` meets its contract. The loops' invariants: no pair before the one at hand fits. Assumes
 -- nothing.
-use Prim.Native.Nat.{ℕ, _≤_, _<_, _-_}
+use Prim.Native.Nat.{ℕ, _≤_, _<_, _-_, _+_}
 use mathlib.Core.Path.{subst}
 use mathlib.Core.Logic.{⊎-elim}
 use native.Mathlib.Nat.{eq-zero-or-pos}
 use native.Mathlib.Omega.{arith}
 use borrow.Author.Count.{below-more}
+use Rattle.numbers.specs.Limits.{firstBlock, lastBlock}
 use Rattle.assign_core.specs.Core.{Fits}
 use borrow.Author.Needs.{needs}
 use Rattle.assign_core.proofs.search.Statement.{statement}
 use Rattle.assign_core.proofs.search.Tie as tie
 
 -- where no DB start up to 30 fits, none does
-none-left : {w ib db i : ℕ} (j : ℕ) → 30 < j → ((b : ℕ) → b < j → Fits w ib db i b → ⊥) → (b : ℕ) → Fits w ib db i b → ⊥
+none-left : {w ib db i : ℕ} (j : ℕ) → lastBlock + 1 < j → ((b : ℕ) → b < j → Fits w ib db i b → ⊥) → (b : ℕ) → Fits w ib db i b → ⊥
 none-left {w} {ib} {db} {i} j h none b f =
     ⊎-elim (λ z. none 0 (omega arith) (record { instructions = f .instructions; data-run = λ p. absurd (omega arith) }))
     (λ p. none b (omega (arith, f .data-run p .run)) f)
     (eq-zero-or-pos db)
 
 abbrev Inv-loop : tie.InvT-loop
-Inv-loop word ib db i j₀ j = (j ≤ 31) × ((b : ℕ) → b < j → Fits word ib db i b → ⊥)
+Inv-loop word ib db i j₀ j = (j ≤ lastBlock + 2) × ((b : ℕ) → b < j → Fits word ib db i b → ⊥)
 
 abbrev μ-loop : tie.MeasureT-loop
-μ-loop word ib db i j₀ j = 31 - j
+μ-loop word ib db i j₀ j = lastBlock + 2 - j
 
 abbrev Inv-search : tie.InvT-search
-Inv-search word ib db i₀ i = ((2 ≤ i) × (i ≤ 31)) × ((a : ℕ) → a < i → (b : ℕ) → Fits word ib db a b → ⊥)
+Inv-search word ib db i₀ i = ((firstBlock ≤ i) × (i ≤ lastBlock + 2)) × ((a : ℕ) → a < i → (b : ℕ) → Fits word ib db a b → ⊥)
 
 abbrev μ-search : tie.MeasureT-search
-μ-search word ib db i₀ i = 31 - i
+μ-search word ib db i₀ i = lastBlock + 2 - i
 
 search-holds : tie.Need-search-holds Inv-loop μ-loop Inv-search μ-search
 search-holds c = (omega arith, λ a h b f. omega (arith, f .instructions))

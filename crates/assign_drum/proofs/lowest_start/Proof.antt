@@ -2,18 +2,19 @@
 -- that is in the way ends later. Assumes nothing.
 use mathlib.Core.Path.{subst}
 use Rattle.numbers.proofs.Order.{le-or-lt}
+use Rattle.numbers.specs.Limits.{lowestAddress}
 use Rattle.assign_drum.specs.Blocks.{Seen, InTheWay}
 use Prim.Native.Nat.{ℕ, _≤_, _<_, _-_, _^_}
 use mathlib.Core.Logic.{⊎-elim}
 use native.Mathlib.Omega.{arith}
-use Rattle.assign_drum.specs.Drum.{lowest, IsArea}
+use Rattle.assign_drum.specs.Drum.{IsArea}
 use Rattle.assign_drum.proofs.BlocksLaws.{none-before, clear-free}
 use borrow.Author.Needs.{needs}
 use Rattle.assign_drum.proofs.lowest_start.Statement.{statement}
 use Rattle.assign_drum.proofs.lowest_start.Tie as tie
 
 abbrev Inv-loop : tie.InvT-loop
-Inv-loop held size n limit words s₀ s = ((1 ≤ n) × ((lowest ≤ s) × (s < 2 ^ 33))) × ((b : ℕ) → b < s → IsArea held size n b → ⊥)
+Inv-loop held size n limit words s₀ s = ((1 ≤ n) × ((lowestAddress ≤ s) × (s < 2 ^ 33))) × ((b : ℕ) → b < s → IsArea held size n b → ⊥)
 
 abbrev μ-loop : tie.MeasureT-loop
 μ-loop held size n limit words s₀ s = 2 ^ 33 - s

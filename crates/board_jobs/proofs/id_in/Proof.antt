@@ -1,6 +1,7 @@
 -- `board_jobs::id_in` meets its contract: the entries that are left have the answer of all. Assumes nothing.
 use Prim.Native.Nat.{_-_}
 use native.Mathlib.Omega.{arith}
+use Rattle.numbers.specs.Limits.{mostRequests}
 use Rattle.board_jobs.proofs.Loops.{AtEntries, entries-start, entries-over, entries-end, entries-found, entries-turn}
 use borrow.Author.Needs.{needs}
 use Rattle.board_jobs.proofs.id_in.Statement.{statement}
@@ -10,7 +11,7 @@ abbrev Inv-loop : tie.InvT-loop
 Inv-loop count place entries i₀ i = AtEntries entries count place i
 
 abbrev μ-loop : tie.MeasureT-loop
-μ-loop count place entries i₀ i = 64 - i
+μ-loop count place entries i₀ i = mostRequests - i
 
 loop-holds : tie.Need-loop-holds Inv-loop μ-loop
 loop-holds c = entries-start (c .args .t1) (c .args .count) (c .args .place)

@@ -5,8 +5,8 @@ use native.Mathlib.Omega.{arith}
 use lib.ListN.{take}
 use Rattle.text.proofs.RoomLaws.{Going, start, same-room}
 use Rattle.packets.specs.State.{jobIn}
-use Rattle.shift_pieces.specs.Pieces.{eachFrom}
-use Rattle.shift_pieces.proofs.PieceLaws.{on, over}
+use Rattle.answer_pieces.specs.Pieces.{eachFrom}
+use Rattle.answer_pieces.proofs.PieceLaws.{on, over}
 use Rattle.board_jobs.specs.Places.{placeText, idIn, placesText}
 use borrow.Author.Needs.{needs}
 use Rattle.board_jobs.proofs.put_places.Statement.{statement}

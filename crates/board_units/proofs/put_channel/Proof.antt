@@ -5,8 +5,8 @@ use Prim.Native.Nat.{_-_, _≤_}
 use native.Mathlib.Omega.{arith}
 use Rattle.text.proofs.RoomLaws.{Going, start, same-room}
 use Rattle.units.specs.State.{unitIn}
-use Rattle.shift_pieces.specs.Pieces.{eachFrom, each}
-use Rattle.shift_pieces.proofs.PieceLaws.{on, over}
+use Rattle.answer_pieces.specs.Pieces.{eachFrom, each}
+use Rattle.answer_pieces.proofs.PieceLaws.{on, over}
 use Rattle.board_units.specs.Units.{unitLine, channelText}
 use borrow.Author.Needs.{needs}
 use Rattle.board_units.proofs.put_channel.Statement.{statement}

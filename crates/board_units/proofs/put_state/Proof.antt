@@ -6,7 +6,7 @@ use mathlib.Core.List.{List}
 use Rattle.numbers.specs.Quoted.{bytes}
 use Rattle.text.specs.Room.{Written}
 use Rattle.text.proofs.RoomLaws.{andThen, same-room}
-use Rattle.shift_pieces.specs.Pieces.{wordText}
+use Rattle.answer_pieces.specs.Pieces.{wordText}
 use Rattle.board_units.specs.Units.{stateText}
 use borrow.Author.Needs.{needs}
 use Rattle.board_units.proofs.put_state.Statement.{statement}

@@ -5,8 +5,8 @@ use native.Mathlib.Omega.{arith}
 use lib.ListN.{getD}
 use Rattle.text.proofs.RoomLaws.{Going, start, same-room}
 use Rattle.channels.specs.Channels.{noChannel}
-use Rattle.shift_pieces.specs.Pieces.{eachFrom}
-use Rattle.shift_pieces.proofs.PieceLaws.{on, over}
+use Rattle.answer_pieces.specs.Pieces.{eachFrom}
+use Rattle.answer_pieces.proofs.PieceLaws.{on, over}
 use Rattle.board_units.specs.Units.{channelText, unitsText}
 use borrow.Author.Needs.{needs}
 use Rattle.board_units.proofs.put_units.Statement.{statement}

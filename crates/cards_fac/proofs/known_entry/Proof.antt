@@ -12,7 +12,7 @@ use Rattle.words.proofs.WordLaws.{leading-most, number-short}
 use Rattle.cards_fac.specs.Fac.{slot}
 use Rattle.cards_fac.proofs.EntryLaws.{channel-short, channel-low, number-few, code-low, code-is, no-slash, bad-channel, bad-number, good-entry}
 use Rattle.cards_fac.proofs.AskLaws.{small-entry}
-use Rattle.cards_request.specs.declared.Verdict.the-variants.{Good}
+use Rattle.cards_request.specs.declared.CardVerdict.the-variants.{Good}
 use borrow.Author.Needs.{needs}
 use Rattle.cards_fac.proofs.known_entry.Statement.{statement}
 use Rattle.cards_fac.proofs.known_entry.Tie as tie

@@ -2,12 +2,13 @@
 use mathlib.Core.Path.{sym, _∙_}
 use native.Mathlib.Omega.{arith}
 use lib.ListN.{take}
+use Rattle.numbers.specs.Limits.{mostFurther}
 use Rattle.cards_further.proofs.Fourteen.{fourteen, count-less, count-more, texts-length}
 use Rattle.cards_further.proofs.count_of.Statement.{statement}
 use Rattle.cards_further.proofs.count_of.Tie as tie
 
 returns : tie.Need-returns
-returns c = let l = fourteen (c .before .args .further) _ (c .before .good .0) in count-more (c .before .args .further .count) (c .before .args .further .cards) 14 l (c .if1 .taken) ∙ sym (texts-length (take (c .before .args .further .count) (c .before .args .further .cards)))
+returns c = let l = fourteen (c .before .args .further) _ (c .before .good .0) in count-more (c .before .args .further .count) (c .before .args .further .cards) mostFurther l (c .if1 .taken) ∙ sym (texts-length (take (c .before .args .further .count) (c .before .args .further .cards)))
 
 returns-2 : tie.Need-returns-2
 returns-2 c = let l = fourteen (c .before .args .further) _ (c .before .good .0) in count-less (c .before .args .further .count) (c .before .args .further .cards) (omega (arith, l, c .if1 .left)) ∙ sym (texts-length (take (c .before .args .further .count) (c .before .args .further .cards)))

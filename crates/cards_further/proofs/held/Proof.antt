@@ -5,6 +5,7 @@ use mathlib.Core.Path.{_≡_, sym, ap, subst, _∙_}
 use mathlib.Core.List.{List, []}
 use native.Mathlib.Omega.{arith}
 use lib.ListN.{length, take, drop}
+use Rattle.numbers.specs.Limits.{mostFurther}
 use Rattle.cards_fields.specs.Deck.{cardsOf}
 use Rattle.cards_fields.proofs.DeckLaws.{found, part-is, lines-done}
 use lib.ListN.{set}
@@ -17,7 +18,7 @@ use Rattle.cards_further.proofs.held.Statement.{statement}
 use Rattle.cards_further.proofs.held.Tie as tie
 
 abbrev Inv-loop : tie.InvT-loop
-Inv-loop rest cards₀ count₀ at₀ cards count at = ((at ≤ length rest) × (count ≤ 14)) × Holding cards count (canonicals (cardsOf (drop at rest))) (canonicals (cardsOf rest))
+Inv-loop rest cards₀ count₀ at₀ cards count at = ((at ≤ length rest) × (count ≤ mostFurther)) × Holding cards count (canonicals (cardsOf (drop at rest))) (canonicals (cardsOf rest))
 
 abbrev μ-loop : tie.MeasureT-loop
 μ-loop rest cards₀ count₀ at₀ cards count at = length rest - at

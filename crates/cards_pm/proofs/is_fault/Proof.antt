@@ -4,6 +4,7 @@ use mathlib.Core.Path.{sym, ap, _∙_}
 use mathlib.Core.List.{List}
 use lib.Dec.{ltb}
 use lib.ListN.{length}
+use Rattle.numbers.specs.Limits.{pmLength}
 use Rattle.cards_pm.proofs.PmLaws.{fault-form, fault-letters}
 use borrow.Author.Needs.{needs}
 use Rattle.cards_pm.proofs.is_fault.Statement.{statement}
@@ -19,7 +20,7 @@ letters-requires : tie.Need-letters-requires
 letters-requires c κs = search needs
 
 returns-2 : tie.Need-returns-2
-returns-2 c = ap (λ (l : List ℕ). ltb 66 (length l)) (c .letters .ensures) ∙ fault-letters (c .before .before .before .before .args .card .now) (sym (c .before .before .is-malformed .ensures) ∙ c .before .if1 .left)
+returns-2 c = ap (λ (l : List ℕ). ltb pmLength (length l)) (c .letters .ensures) ∙ fault-letters (c .before .before .before .before .args .card .now) (sym (c .before .before .is-malformed .ensures) ∙ c .before .if1 .left)
 
 pub is-fault-spec : {M : Type 1} → statement M
 is-fault-spec = tie.close (tie.spec is-malformed-requires returns letters-requires returns-2)

@@ -9,7 +9,7 @@ use Rattle.cards_fields.specs.declared.Field.{Field}
 use Rattle.cards_pty.specs.Pty.{ruleAt, fieldError}
 use Rattle.cards_pty.proofs.PtyLaws.{most-small, much-too-long}
 use Rattle.cards_request.specs.declared.CardError.{CardError}
-use Rattle.cards_request.specs.declared.Verdict.the-variants.{Wrong}
+use Rattle.cards_request.specs.declared.CardVerdict.the-variants.{Wrong}
 use borrow.Author.Needs.{needs}
 use Rattle.cards_pty.proofs.error_at.Statement.{statement}
 use Rattle.cards_pty.proofs.error_at.Tie as tie

@@ -5,7 +5,7 @@ use mathlib.Core.Path.{sym, ap, _∙_}
 use Rattle.cards_pty.specs.Pty.{rules, ruleAt}
 use Rattle.cards_pty.proofs.PtyLaws.{least-at, most-at, too-short, too-long, right, wrong, none-empty, none-long}
 use Rattle.cards_request.specs.declared.CardError.{CardError}
-use Rattle.cards_request.specs.declared.Verdict.the-variants.{Wrong}
+use Rattle.cards_request.specs.declared.CardVerdict.the-variants.{Wrong}
 use borrow.Author.Needs.{needs}
 use Rattle.cards_pty.proofs.field_error.Statement.{statement}
 use Rattle.cards_pty.proofs.field_error.Tie as tie

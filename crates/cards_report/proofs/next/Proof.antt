@@ -10,8 +10,8 @@ enum-told c = search needs
 put-next-requires : tie.Need-put-next-requires
 put-next-requires c κs = search needs
 
-enum-known-phase : tie.Need-enum-known-phase
-enum-known-phase c = search needs
+enum-known-coming : tie.Need-enum-known-coming
+enum-known-coming c = search needs
 
 put-refused-requires : tie.Need-put-refused-requires
 put-refused-requires c κs = search needs
@@ -29,7 +29,7 @@ returns : tie.Need-returns
 returns c = search needs
 
 returns-2 : tie.Need-returns-2
-returns-2 c = refused-prints (c .before .before .before .before .before .before .before .args .deck .now) (c .before .before .before .before .before .before .before .args .printing) (search needs) (c .before .before .before .before .phase .given .0 .0) (c .before .before .before .before .phase .given .1) (c .before .put-refused .ensures) (c .over .ensures)
+returns-2 c = refused-prints (c .before .before .before .before .before .before .before .args .deck .now) (c .before .before .before .before .before .before .before .args .printing) (search needs) (c .before .before .before .before .coming .given .0 .0) (c .before .before .before .before .coming .given .1) (c .before .put-refused .ensures) (c .over .ensures)
 
 returns-3 : tie.Need-returns-3
 returns-3 c = over-prints (c .before .before .before .before .args .deck .now) (c .before .before .before .before .args .printing) (c .before .before .before .before .args .out .now) (c .before .enum-told2 .given .1) (c .over2 .ensures)
@@ -40,7 +40,7 @@ next-spec =
     (tie.spec
     enum-told
     put-next-requires
-    enum-known-phase
+    enum-known-coming
     put-refused-requires
     over-requires
     enum-told-2

@@ -2,6 +2,7 @@
 -- nothing.
 use mathlib.Core.Path.{refl}
 use lib.ListN.{replicate}
+use Rattle.numbers.specs.Limits.{cardsRoom}
 use Rattle.cards_report.proofs.Bounds.{cards-long, cards-within, cards-put, not-put}
 use borrow.Author.Needs.{needs}
 use Rattle.cards_report.proofs.put_good.Statement.{statement}
@@ -17,10 +18,10 @@ enum-known-n : tie.Need-enum-known-n
 enum-known-n c = search needs
 
 array-share-prefix-room : tie.Need-array-share-prefix-room
-array-share-prefix-room c = cards-within (c .before .before .before .before .before .before .before .before .args .full) (replicate 1296 0) (c .before .before .before .before .before .write .ensures .0) (c .before .before .before .before .before .write .ensures .1) refl (c .before .before .n .given .0 .0) (c .before .before .n .given .1)
+array-share-prefix-room c = cards-within (c .before .before .before .before .before .before .before .before .args .full) (replicate cardsRoom 0) (c .before .before .before .before .before .write .ensures .0) (c .before .before .before .before .before .write .ensures .1) refl (c .before .before .n .given .0 .0) (c .before .before .n .given .1)
 
 slice-aggregate-put-bytes : tie.Need-slice-aggregate-put-bytes
-slice-aggregate-put-bytes c = cards-long (c .before .before .before .before .before .before .before .before .before .args .full) (replicate 1296 0) (c .before .before .before .before .before .before .write .ensures .0) (c .before .before .before .before .before .before .write .ensures .1) refl (c .before .before .before .n .given .0 .0) (c .before .before .before .n .given .1)
+slice-aggregate-put-bytes c = cards-long (c .before .before .before .before .before .before .before .before .before .args .full) (replicate cardsRoom 0) (c .before .before .before .before .before .before .write .ensures .0) (c .before .before .before .before .before .before .write .ensures .1) refl (c .before .before .before .n .given .0 .0) (c .before .before .before .n .given .1)
 
 put-bytes-requires : tie.Need-put-bytes-requires
 put-bytes-requires c κs = search needs
@@ -38,13 +39,13 @@ same-length : tie.Need-same-length
 same-length c = search needs
 
 returns : tie.Need-returns
-returns c = cards-put (c .before .before .before .before .before .before .before .before .before .before .before .before .before .before .before .before .args .full) (replicate 1296 0) (c .before .before .before .before .before .before .before .before .before .before .before .before .before .write .ensures .0) (c .before .before .before .before .before .before .before .before .before .before .before .before .before .write .ensures .1) refl (c .before .before .before .before .before .before .before .before .before .before .n .given .0 .0) (c .before .before .before .before .before .before .before .before .before .before .n .given .1) (c .before .before .before .before .before .before .before .before .before .before .before .before .before .before .before .before .args .shown) (c .before .before .before .before .before .before .put-bytes .ensures) (c .before .before .put-table .ensures)
+returns c = cards-put (c .before .before .before .before .before .before .before .before .before .before .before .before .before .before .before .before .args .full) (replicate cardsRoom 0) (c .before .before .before .before .before .before .before .before .before .before .before .before .before .write .ensures .0) (c .before .before .before .before .before .before .before .before .before .before .before .before .before .write .ensures .1) refl (c .before .before .before .before .before .before .before .before .before .before .n .given .0 .0) (c .before .before .before .before .before .before .before .before .before .before .n .given .1) (c .before .before .before .before .before .before .before .before .before .before .before .before .before .before .before .before .args .shown) (c .before .before .before .before .before .before .put-bytes .ensures) (c .before .before .put-table .ensures)
 
 same-length-2 : tie.Need-same-length-2
 same-length-2 c = search needs
 
 returns-2 : tie.Need-returns-2
-returns-2 c = not-put (c .before .before .before .before .before .before .before .before .before .before .before .args .full) (replicate 1296 0) (c .before .before .before .before .before .before .before .before .write .ensures .0) (c .before .before .before .before .before .before .before .before .write .ensures .1) refl (c .before .before .before .before .before .refusal .given .0 .0) (c .before .before .before .before .before .refusal .given .1) (c .before .before .before .before .before .before .before .before .before .before .before .args .shown) (c .before .before .put-refusal .ensures)
+returns-2 c = not-put (c .before .before .before .before .before .before .before .before .before .before .before .args .full) (replicate cardsRoom 0) (c .before .before .before .before .before .before .before .before .write .ensures .0) (c .before .before .before .before .before .before .before .before .write .ensures .1) refl (c .before .before .before .before .before .refusal .given .0 .0) (c .before .before .before .before .before .refusal .given .1) (c .before .before .before .before .before .before .before .before .before .before .before .args .shown) (c .before .before .put-refusal .ensures)
 
 pub put-good-spec : {M : Type 1} → statement M
 put-good-spec =

@@ -1,5 +1,6 @@
 -- `cards_report::put_table` meets its contract: the loop's invariant is `Going`: whoever puts the lines
 -- from here on has put all; they are whole lines of the table. Assumes nothing.
+use Rattle.numbers.specs.Limits.{pmLength}
 use Rattle.text.proofs.RoomLaws.{Going, same-room, andThen}
 use Rattle.cards_report.proofs.TableLines.{linesFrom, size-is, line-turn, lines-end, no-table, all-table}
 use Prim.Native.Nat.{_-_, _/_, _%_}
@@ -10,7 +11,7 @@ use Rattle.cards_report.proofs.put_table.Statement.{statement}
 use Rattle.cards_report.proofs.put_table.Tie as tie
 
 abbrev Inv-loop : tie.InvT-loop
-Inv-loop out₀ at table n word number next₀ from₀ out next from = (from % 66 ≡ 0) × Going out₀ next₀ (linesFrom table 0 ((n - 0) / 66)) out next (linesFrom table from ((n - from) / 66))
+Inv-loop out₀ at table n word number next₀ from₀ out next from = (from % pmLength ≡ 0) × Going out₀ next₀ (linesFrom table 0 ((n - 0) / pmLength)) out next (linesFrom table from ((n - from) / pmLength))
 
 abbrev μ-loop : tie.MeasureT-loop
 μ-loop out₀ at table n word number next₀ from₀ out next from = n - from

@@ -1,6 +1,7 @@
 -- `cards_table::put_row` meets its contract. The loop's invariant is `Going`: whoever puts the characters from k on,
 -- up to 66, has put the row. Assumes nothing.
 use mathlib.Core.Logic.{⊎-elim}
+use Rattle.numbers.specs.Limits.{pmLength}
 use Rattle.cards_further.proofs.Fourteen.{counted-most, take-counted}
 use Rattle.cards_table.proofs.TableLaws.{letter-here, letter-none, row-turn, row-end}
 use Prim.Native.Nat.{_-_, _≤_}
@@ -15,10 +16,10 @@ use Rattle.cards_table.proofs.put_row.Statement.{statement}
 use Rattle.cards_table.proofs.put_row.Tie as tie
 
 abbrev Inv-loop : tie.InvT-loop
-Inv-loop room₀ at n text next₀ k₀ room next k = (k ≤ 66) × Going room₀ at (padded 66 (lettersIn (take n text))) room next (padded (66 - k) (drop k (lettersIn (take n text))))
+Inv-loop room₀ at n text next₀ k₀ room next k = (k ≤ pmLength) × Going room₀ at (padded pmLength (lettersIn (take n text))) room next (padded (pmLength - k) (drop k (lettersIn (take n text))))
 
 abbrev μ-loop : tie.MeasureT-loop
-μ-loop room₀ at n text next₀ k₀ room next k = 66 - k
+μ-loop room₀ at n text next₀ k₀ room next k = pmLength - k
 
 len-of-requires : tie.Need-len-of-requires Inv-loop μ-loop
 len-of-requires c κs = search needs

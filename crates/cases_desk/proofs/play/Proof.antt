@@ -12,7 +12,7 @@ use Rattle.cases_desk.proofs.end_of.Reads as end-of-reads
 use Rattle.desk_hearing.proofs.finish.Reads as finish-reads
 use Rattle.desk_hearing.proofs.fresh.Reads as fresh-reads
 use Rattle.desk_hearing.proofs.hear.Reads as hear-reads
-use Rattle.shift_lines.proofs.front.Reads as front-reads
+use Rattle.input_lines.proofs.front.Reads as front-reads
 use Rattle.text.proofs.put_bytes.Reads as put-bytes-reads
 
 abbrev Inv-loop : tie.InvT-loop

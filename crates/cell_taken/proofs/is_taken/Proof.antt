@@ -4,7 +4,7 @@ use Prim.Native.Nat.{_-_, _≤_}
 use mathlib.Core.Path.{_≡_, refl, sym, _∙_}
 use native.Mathlib.Omega.{arith}
 use lib.ListN.{length, drop}
-use Rattle.packets.specs.Picks.{any}
+use Rattle.numbers.specs.Elements.{any}
 use Rattle.packets.specs.State.{noCore}
 use Rattle.packets.specs.declared.Core.{Core}
 use Rattle.cell_taken.specs.Taken.{inBlocks, anyHas}

@@ -2,7 +2,7 @@
 use mathlib.Core.Path.{ap}
 use mathlib.Core.List.{List}
 use Rattle.channels.specs.declared.Channel.{Channel}
-use Rattle.configuration.specs.declared.Verdict.the-variants.{Bad}
+use Rattle.configuration.specs.declared.TextVerdict.the-variants.{Bad}
 use Rattle.channels.specs.Channels.{noDown, noCodes}
 use borrow.Author.Needs.{needs}
 use Rattle.configuration.proofs.refuse.Statement.{statement}

@@ -1,6 +1,6 @@
 -- `configuration_listing::listing` meets its contract: the text of the answer that the reader gave, whole in a room
 -- of 96 bytes. Assumes nothing.
-use Rattle.configuration.specs.declared.Verdict.the-variants.{Good, Bad}
+use Rattle.configuration.specs.declared.TextVerdict.the-variants.{Good, Bad}
 use Rattle.configuration_listing.proofs.Lines.{answered}
 use Rattle.configuration_listing.proofs.Bounds.{listed}
 use borrow.Author.Needs.{needs}

@@ -2,7 +2,7 @@
 use mathlib.Core.Path.{ap, _∙_}
 use borrow.Author.Needs.{needs}
 use Rattle.configuration.specs.declared.Answer.{Answer}
-use Rattle.controller.specs.Answers.{badLineOf}
+use Rattle.controller.specs.Exports.{badLineOf}
 use Rattle.controller.proofs.luffgravel_bad_line.Statement.{statement}
 use Rattle.controller.proofs.luffgravel_bad_line.Tie as tie
 

@@ -4,7 +4,7 @@ use mathlib.Core.Path.{refl, subst}
 use borrow.Author.Needs.{needs}
 use Rattle.numbers.proofs.Tests.{never}
 use Rattle.assign_core.specs.declared.Found.{Found}
-use Rattle.assign_core.specs.Core.{Answers}
+use Rattle.assign_core.specs.Core.{LeastPair}
 use Rattle.controller.proofs.luffgravel_core.Statement.{statement}
 use Rattle.controller.proofs.luffgravel_core.Tie as tie
 
@@ -21,7 +21,7 @@ returns : tie.Need-returns
 returns c =
     let a = c .before .before .before .before .args in
     record {
-      found = λ e. subst (Answers (a .taken) (a .ib) (a .db)) (c .before .found .given .1) (c .before .before .before .search .ensures);
+      found = λ e. subst (LeastPair (a .taken) (a .ib) (a .db)) (c .before .found .given .1) (c .before .before .before .search .ensures);
       none = λ e. never refl e;
     }
 
@@ -30,7 +30,7 @@ returns-2 c =
     let a = c .before .before .before .args in
     record {
       found = λ e. never e refl;
-      none = λ e. (subst (Answers (a .taken) (a .ib) (a .db)) (c .enum-told .given .1) (c .before .before .search .ensures), refl, refl);
+      none = λ e. (subst (LeastPair (a .taken) (a .ib) (a .db)) (c .enum-told .given .1) (c .before .before .search .ensures), refl, refl);
     }
 
 pub luffgravel-core-spec : {M : Type 1} → statement M

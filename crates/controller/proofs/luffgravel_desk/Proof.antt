@@ -1,7 +1,7 @@
 -- `controller::luffgravel_desk` meets its contract: by the deck that has the group. Assumes nothing.
 use mathlib.Core.Path.{refl}
 use Rattle.desk_show.specs.declared.Which.the-variants.{Repair, Day, Refused}
-use Rattle.controller.proofs.AnswersLaws.{located}
+use Rattle.controller.proofs.ExportsLaws.{located}
 use borrow.Author.Needs.{needs}
 use Rattle.controller.proofs.luffgravel_desk.Statement.{statement}
 use Rattle.controller.proofs.luffgravel_desk.Tie as tie

@@ -3,7 +3,7 @@
 use mathlib.Core.Path.{sym, ap, _∙_}
 use borrow.Author.Needs.{needs}
 use Rattle.numbers.specs.declared.Coded.{Coded}
-use Rattle.controller.specs.Answers.{legalBy}
+use Rattle.controller.specs.Exports.{legalBy}
 use Rattle.controller.proofs.luffgravel_is_legal.Statement.{statement}
 use Rattle.controller.proofs.luffgravel_is_legal.Tie as tie
 

@@ -7,8 +7,8 @@ use Rattle.desk_hearing.proofs.finish.Tie as tie
 use Rattle.desk_hearing.proofs.finish.Reads as reads
 use Rattle.desk_hearing.proofs.finish.Lts as lts
 use Rattle.desk_hearing.proofs.put_answer.Reads as put-answer-reads
-use Rattle.shift_lines.proofs.front.Reads as front-reads
-use Rattle.shift_pieces.proofs.put_refused.Reads as put-refused-reads
+use Rattle.input_lines.proofs.front.Reads as front-reads
+use Rattle.answer_pieces.proofs.put_refused.Reads as put-refused-reads
 
 enum-told : tie.Need-enum-told
 enum-told c = search needs

@@ -13,8 +13,8 @@ use Rattle.desk_hearing.proofs.desk_of.Reads as desk-of-reads
 use Rattle.desk_hearing.proofs.put_answer.Reads as put-answer-reads
 use Rattle.desk_hearing.proofs.put_card.Reads as put-card-reads
 use Rattle.desk_hearing.proofs.what_was_heard.Reads as what-was-heard-reads
-use Rattle.shift_lines.proofs.front.Reads as front-reads
-use Rattle.shift_lines.proofs.take_up.Reads as take-up-reads
+use Rattle.input_lines.proofs.front.Reads as front-reads
+use Rattle.input_lines.proofs.take_up.Reads as take-up-reads
 
 take-up-requires : tie.Need-take-up-requires
 take-up-requires c κs = search needs

@@ -4,7 +4,7 @@ use Rattle.desk_hearing.proofs.put_closing.Statement.{statement}
 use Rattle.desk_hearing.proofs.put_closing.Tie as tie
 use Rattle.desk_hearing.proofs.put_closing.Reads as reads
 use Rattle.desk_hearing.proofs.put_closing.Lts as lts
-use Rattle.shift_pieces.proofs.put_refused.Reads as put-refused-reads
+use Rattle.answer_pieces.proofs.put_refused.Reads as put-refused-reads
 use Rattle.text.proofs.put_bytes.Reads as put-bytes-reads
 
 enum-told : tie.Need-enum-told

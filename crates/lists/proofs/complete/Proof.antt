@@ -66,11 +66,11 @@ is-breaking-requires c κs = search needs
 over-requires : tie.Need-over-requires
 over-requires c κs = search needs
 
-mul-gone : tie.Need-mul-gone
-mul-gone c = search needs
+mul-changed : tie.Need-mul-changed
+mul-changed c = search needs
 
-element-set-from-gone : tie.Need-element-set-from-gone
-element-set-from-gone c = search needs
+element-set-from-changed : tie.Need-element-set-from-changed
+element-set-from-changed c = search needs
 
 relisted-requires : tie.Need-relisted-requires
 relisted-requires c κs = search needs
@@ -127,8 +127,8 @@ complete-spec =
     element-set-from-idle
     is-breaking-requires
     over-requires
-    mul-gone
-    element-set-from-gone
+    mul-changed
+    element-set-from-changed
     relisted-requires
     unit-where-requires
     is-changing-requires

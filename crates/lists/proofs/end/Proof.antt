@@ -28,11 +28,11 @@ enum-told c = search needs
 closed-requires : tie.Need-closed-requires
 closed-requires c κs = search needs
 
-mul-gone : tie.Need-mul-gone
-mul-gone c = search needs
+mul-changed : tie.Need-mul-changed
+mul-changed c = search needs
 
-element-set-from-gone : tie.Need-element-set-from-gone
-element-set-from-gone c = search needs
+element-set-from-changed : tie.Need-element-set-from-changed
+element-set-from-changed c = search needs
 
 relisted-requires : tie.Need-relisted-requires
 relisted-requires c κs = search needs
@@ -67,8 +67,8 @@ end-spec =
     enum-known-refusal
     enum-told
     closed-requires
-    mul-gone
-    element-set-from-gone
+    mul-changed
+    element-set-from-changed
     relisted-requires
     released-requires
     returns

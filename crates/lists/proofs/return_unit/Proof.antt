@@ -41,11 +41,11 @@ enum-told c = search needs
 cut-at-requires : tie.Need-cut-at-requires
 cut-at-requires c κs = search needs
 
-mul-gone : tie.Need-mul-gone
-mul-gone c = search needs
+mul-changed : tie.Need-mul-changed
+mul-changed c = search needs
 
-element-set-from-gone : tie.Need-element-set-from-gone
-element-set-from-gone c = search needs
+element-set-from-changed : tie.Need-element-set-from-changed
+element-set-from-changed c = search needs
 
 relisted-requires : tie.Need-relisted-requires
 relisted-requires c κs = search needs
@@ -87,8 +87,8 @@ return-unit-spec =
     enum-known-refusal
     enum-told
     cut-at-requires
-    mul-gone
-    element-set-from-gone
+    mul-changed
+    element-set-from-changed
     relisted-requires
     mul-carrier
     element-copy-out-carrier

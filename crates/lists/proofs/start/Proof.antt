@@ -4,7 +4,7 @@ use Prim.Native.Nat.{_≤_, _<_, _-_}
 use mathlib.Core.Path.{_≡_, refl, ap, _∙_}
 use mathlib.Core.Logic.{⊎-elim}
 use lib.ListN.{length, getD}
-use Rattle.packets.specs.Picks.{find}
+use Rattle.numbers.specs.Elements.{find}
 use Rattle.packets.specs.Rules.{startableOn}
 use Rattle.packets.proofs.ByNumber.{Start}
 use Rattle.packets.specs.State.{placeOf, packetOf}
@@ -108,11 +108,11 @@ started-requires c κs = search needs
 begun-requires : tie.Need-begun-requires Inv-loop μ-loop
 begun-requires c κs = search needs
 
-mul-gone : tie.Need-mul-gone Inv-loop μ-loop
-mul-gone c = search needs
+mul-changed : tie.Need-mul-changed Inv-loop μ-loop
+mul-changed c = search needs
 
-element-set-from-gone : tie.Need-element-set-from-gone Inv-loop μ-loop
-element-set-from-gone c = search needs
+element-set-from-changed : tie.Need-element-set-from-changed Inv-loop μ-loop
+element-set-from-changed c = search needs
 
 relisted-requires : tie.Need-relisted-requires Inv-loop μ-loop
 relisted-requires c κs = search needs
@@ -188,8 +188,8 @@ start-spec =
     element-copy-out-job-2
     started-requires
     begun-requires
-    mul-gone
-    element-set-from-gone
+    mul-changed
+    element-set-from-changed
     relisted-requires
     busy-with-requires
     mul-busy

@@ -48,11 +48,11 @@ is-unlocking-requires c κs = search needs
 job-after-requires : tie.Need-job-after-requires
 job-after-requires c κs = search needs
 
-mul-gone : tie.Need-mul-gone
-mul-gone c = search needs
+mul-changed : tie.Need-mul-changed
+mul-changed c = search needs
 
-element-set-from-gone : tie.Need-element-set-from-gone
-element-set-from-gone c = search needs
+element-set-from-changed : tie.Need-element-set-from-changed
+element-set-from-changed c = search needs
 
 list-of-requires : tie.Need-list-of-requires
 list-of-requires c κs = search needs
@@ -96,8 +96,8 @@ submit-spec =
     enum-told
     is-unlocking-requires
     job-after-requires
-    mul-gone
-    element-set-from-gone
+    mul-changed
+    element-set-from-changed
     list-of-requires
     with-lock-at-requires
     returns

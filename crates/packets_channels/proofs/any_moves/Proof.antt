@@ -5,7 +5,7 @@ use mathlib.Core.Path.{_≡_, refl, sym, _∙_}
 use mathlib.Core.Bool.{false}
 use native.Mathlib.Omega.{arith}
 use lib.ListN.{length, take}
-use Rattle.packets.specs.Picks.{any}
+use Rattle.numbers.specs.Elements.{any}
 use Rattle.packets.specs.State.{carrying, moves}
 use Rattle.packets.specs.declared.Carrier.{Carrier}
 use Rattle.packets.specs.declared.Motion.the-variants.{Idle}

@@ -6,8 +6,8 @@ use native.Mathlib.Omega.{arith}
 use lib.ListN.{length}
 use Rattle.text.proofs.RoomLaws.{same-room}
 use Rattle.schedule_list.specs.InSchedule.{inSchedule}
-use Rattle.schedule_outline.specs.Outlines.{Outlines}
-use Rattle.schedule_outline.proofs.Placing.{judged-good, judged-wrong, outline-follows}
+use Rattle.schedule_entering.specs.Outlines.{Outlines}
+use Rattle.schedule_entering.proofs.Placing.{judged-good, judged-wrong, outline-follows}
 use Rattle.schedule_deck.specs.declared.Progress.{Progress}
 use Rattle.schedule_deck.proofs.Pieces.{group-read, tried-good, tried-bad, last-kept}
 use Rattle.schedule_deck.proofs.InTurn.{AtGroups, groups-start, groups-turn, groups-meet, outline-meet, groups-over, groups-end, group-within}

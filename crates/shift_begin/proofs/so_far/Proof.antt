@@ -4,21 +4,21 @@ use Prim.Native.Nat.{ℕ, _≤_, _<_}
 use mathlib.Core.Path.{_≡_}
 use mathlib.Core.Bool.{Bool, true, false}
 use borrow.Author.Tests.{le-ltb, lt-ltb}
-use Rattle.configuration.specs.declared.Verdict.{Verdict}
+use Rattle.configuration.specs.declared.TextVerdict.{TextVerdict}
 use Rattle.shift_begin.specs.declared.Begun.the-variants.{More, Bad}
 use Rattle.shift_begin.specs.Opening.{saidSoFar}
 use borrow.Author.Needs.{needs}
 use Rattle.shift_begin.proofs.so_far.Statement.{statement}
-use Rattle.configuration.specs.declared.Verdict.the-variants as Verdict′
+use Rattle.configuration.specs.declared.TextVerdict.the-variants as Verdict′
 use Rattle.shift_begin.proofs.so_far.Tie as tie
 
-bad-due : {v : Verdict} {more : Bool} {n line : ℕ} → v ≡ Verdict′.Bad line → more ≡ true → n < line → More ≡ saidSoFar v more n
+bad-due : {v : TextVerdict} {more : Bool} {n line : ℕ} → v ≡ Verdict′.Bad line → more ≡ true → n < line → More ≡ saidSoFar v more n
 bad-due {n = n} {line = line} e m h = rw (e, m, lt-ltb n line h)
 
-bad-there : {v : Verdict} {more : Bool} {n line : ℕ} → v ≡ Verdict′.Bad line → more ≡ true → line ≤ n → Bad line ≡ saidSoFar v more n
+bad-there : {v : TextVerdict} {more : Bool} {n line : ℕ} → v ≡ Verdict′.Bad line → more ≡ true → line ≤ n → Bad line ≡ saidSoFar v more n
 bad-there {n = n} {line = line} e m h = rw (e, m, le-ltb n line h)
 
-bad-ended : {v : Verdict} {more : Bool} {line : ℕ} (n : ℕ) → v ≡ Verdict′.Bad line → more ≡ false → Bad line ≡ saidSoFar v more n
+bad-ended : {v : TextVerdict} {more : Bool} {line : ℕ} (n : ℕ) → v ≡ Verdict′.Bad line → more ≡ false → Bad line ≡ saidSoFar v more n
 bad-ended n e m = rw (e, m)
 
 enum-told : tie.Need-enum-told

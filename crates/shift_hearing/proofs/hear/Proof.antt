@@ -7,7 +7,7 @@ use native.Mathlib.Omega.{arith}
 use lib.ListN.{length}
 use borrow.Author.Tests.{leb-true, leb-false}
 use Rattle.cell.specs.Calls.{cellOf}
-use Rattle.shift_lines.proofs.LineLaws.{taken-within}
+use Rattle.input_lines.proofs.LineLaws.{taken-within}
 use Rattle.shift_turns.specs.Turns.{shiftOf}
 use Rattle.shift_hearing.specs.Hearing.{standing, HearsSome}
 use Rattle.shift_hearing.proofs.Loop.{start, part, whole, call-behind, named, ended}

@@ -4,8 +4,8 @@ use Prim.Native.Nat.{_-_, _≤_}
 use native.Mathlib.Omega.{arith}
 use Rattle.text.proofs.RoomLaws.{Going, start, same-room}
 use Rattle.assign_heads.specs.Whose.{logical}
-use Rattle.shift_pieces.specs.Pieces.{eachFrom}
-use Rattle.shift_pieces.proofs.PieceLaws.{on, over}
+use Rattle.answer_pieces.specs.Pieces.{eachFrom}
+use Rattle.answer_pieces.proofs.PieceLaws.{on, over}
 use Rattle.shift_selected.specs.Selected.{askedText, kindText}
 use borrow.Author.Needs.{needs}
 use Rattle.shift_selected.proofs.put_kind.Statement.{statement}

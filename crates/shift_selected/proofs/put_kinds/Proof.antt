@@ -10,8 +10,8 @@ use Rattle.channels.specs.declared.Channel.{Channel}
 use Rattle.assign_heads.specs.declared.Head.{Head}
 use Rattle.text.specs.Room.{Written}
 use Rattle.text.proofs.RoomLaws.{Going, start, same-room}
-use Rattle.shift_pieces.specs.Pieces.{eachFrom}
-use Rattle.shift_pieces.proofs.PieceLaws.{on, over}
+use Rattle.answer_pieces.specs.Pieces.{eachFrom}
+use Rattle.answer_pieces.proofs.PieceLaws.{on, over}
 use Rattle.shift_selected.specs.Selected.{kindText, kindsText}
 use borrow.Author.Needs.{needs}
 use Rattle.shift_selected.proofs.put_kinds.Statement.{statement}

@@ -3,8 +3,8 @@
 use Prim.Native.Nat.{_-_, _≤_}
 use native.Mathlib.Omega.{arith}
 use Rattle.text.proofs.RoomLaws.{Going, start, same-room}
-use Rattle.shift_pieces.specs.Pieces.{eachFrom}
-use Rattle.shift_pieces.proofs.PieceLaws.{on, over}
+use Rattle.answer_pieces.specs.Pieces.{eachFrom}
+use Rattle.answer_pieces.proofs.PieceLaws.{on, over}
 use Rattle.shift_selected.specs.Selected.{unitAt, unitsText}
 use borrow.Author.Needs.{needs}
 use Rattle.shift_selected.proofs.put_units.Statement.{statement}

@@ -1,5 +1,6 @@
 -- `cards_fields::card::is_malformed` meets its contract. The loop's invariant: the first i bytes are in form, and
 -- `over` says whether the period was passed, so the rest says whether the card is. Assumes nothing.
+use Rattle.numbers.specs.Limits.{cardLength}
 use Rattle.cards_fields.proofs.FieldLaws.{by-form, too-long, closed-bad, closed-more, closed-blank, closed-next, closed-end}
 use borrow.Author.Needs.{needs}
 use Prim.Native.Nat.{_≤_, _-_}
@@ -12,7 +13,7 @@ use Rattle.cards_fields.proofs.card.is_malformed.Statement.{statement}
 use Rattle.cards_fields.proofs.card.is_malformed.Tie as tie
 
 abbrev Inv-loop : tie.InvT-loop
-Inv-loop card over₀ i₀ over i = ((i ≤ length card) × (length card ≤ 80)) × (closed over (drop i card) ≡ closed false card)
+Inv-loop card over₀ i₀ over i = ((i ≤ length card) × (length card ≤ cardLength)) × (closed over (drop i card) ≡ closed false card)
 
 abbrev μ-loop : tie.MeasureT-loop
 μ-loop card over₀ i₀ over i = length card - i

@@ -4,6 +4,7 @@ use Prim.Native.Nat.{_+_, _≤_, _-_}
 use mathlib.Core.Path.{_≡_, sym, ap, _∙_}
 use native.Mathlib.Omega.{arith}
 use lib.ListN.{length, take, drop}
+use Rattle.numbers.specs.Limits.{deckBytes}
 use Rattle.cards_fields.specs.Deck.{cardsOf, isTermination, terminated, before, size}
 use Rattle.cards_fields.proofs.DeckLaws.{found, part-is, lines-done, not-ended, end-here, end-later, deck-long, deck-open, deck-ends}
 use borrow.Author.Needs.{needs}
@@ -11,7 +12,7 @@ use Rattle.cards_fields.proofs.deck.deck_end.Statement.{statement}
 use Rattle.cards_fields.proofs.deck.deck_end.Tie as tie
 
 abbrev Inv-loop : tie.InvT-loop
-Inv-loop deck at₀ at = ((at ≤ length deck) × (length deck ≤ 16384)) × ((terminated (cardsOf (drop at deck)) ≡ terminated (cardsOf deck)) × (at + size (before (cardsOf (drop at deck))) ≡ size (before (cardsOf deck))))
+Inv-loop deck at₀ at = ((at ≤ length deck) × (length deck ≤ deckBytes)) × ((terminated (cardsOf (drop at deck)) ≡ terminated (cardsOf deck)) × (at + size (before (cardsOf (drop at deck))) ≡ size (before (cardsOf deck))))
 
 abbrev μ-loop : tie.MeasureT-loop
 μ-loop deck at₀ at = length deck - at

@@ -5,6 +5,7 @@ use mathlib.Core.Path.{_≡_, refl, sym, ap, _∙_}
 use native.Mathlib.Omega.{arith}
 use borrow.Author.Tests.{not-true, not-false}
 use lib.ListN.{length, drop}
+use Rattle.numbers.specs.Limits.{mostFurther}
 use Rattle.cards_further.proofs.Fourteen.{fourteen}
 use Rattle.cards_full.specs.Full.{sameCards}
 use Rattle.cards_full.proofs.FurtherPut.{same-other, same-on, same-done}
@@ -13,10 +14,10 @@ use Rattle.cards_full.proofs.check.are_same_cards.Statement.{statement}
 use Rattle.cards_full.proofs.check.are_same_cards.Tie as tie
 
 abbrev Inv-loop : tie.InvT-loop
-Inv-loop c d k₀ k = (k ≤ 14) × (sameCards (drop k c) (drop k d) ≡ sameCards c d)
+Inv-loop c d k₀ k = (k ≤ mostFurther) × (sameCards (drop k c) (drop k d) ≡ sameCards c d)
 
 abbrev μ-loop : tie.MeasureT-loop
-μ-loop c d k₀ k = 14 - k
+μ-loop c d k₀ k = mostFurther - k
 
 loop-holds : tie.Need-loop-holds Inv-loop μ-loop
 loop-holds c = (omega arith, refl)
