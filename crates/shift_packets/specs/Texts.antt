@@ -14,8 +14,8 @@ use Rattle.packets.specs.declared.Spot.{Spot}
 use Rattle.packets.specs.declared.Spot.the-variants.{OnUnit, OnDrum}
 use Rattle.lists.specs.declared.StatusAnswer.{StatusAnswer}
 use Rattle.lists.specs.declared.StatusAnswer.the-variants as Status′
-use Rattle.shift_pieces.specs.Pieces.{noLine}
-use Rattle.shift_answers.specs.Answers.{doneText, startedText, completedText, statusText}
+use Rattle.answer_pieces.specs.Pieces.{noLine}
+use Rattle.shift_answers.specs.AnswerLines.{doneText, startedText, completedText, statusText}
 
 -- the line of an answer
 abbrev pub answerText : Answer → List ℕ

@@ -52,7 +52,7 @@ pub fn put_answer(out: &mut [u8], answer: Answer) -> usize
         Answer::Started(begun) => shift_answers::put_started(out, 0, begun),
         Answer::Completed(place, packet, _) => shift_answers::put_completed(out, 0, place, packet),
         Answer::Closed(_, _) => shift_answers::put_done(out, 0),
-        Answer::Refused(refusal) => shift_pieces::put_refused(out, 0, refusal),
+        Answer::Refused(refusal) => answer_pieces::put_refused(out, 0, refusal),
     }
 }
 

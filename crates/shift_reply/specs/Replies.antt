@@ -19,8 +19,8 @@ use Rattle.cell.specs.declared.Answered.{Answered}
 use Rattle.cell.specs.declared.Cell.{Cell}
 use Rattle.cell.specs.declared.Heeded.{Heeded}
 use Rattle.cell.specs.declared.SelectAnswer.{SelectAnswer}
-use Rattle.shift_pieces.specs.Pieces.{noText, noLine}
-use Rattle.shift_answers.specs.Answers.{noCallText}
+use Rattle.answer_pieces.specs.Pieces.{noText, noLine}
+use Rattle.shift_answers.specs.AnswerLines.{noCallText}
 use Rattle.shift_packets.specs.Texts.{answerText, placed, statusAnswerText}
 use Rattle.shift_selected.specs.Selected.{selectedText, partText}
 use Rattle.board.specs.Board.{boardText}
