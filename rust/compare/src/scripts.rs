@@ -150,6 +150,25 @@ pub fn script(random: &mut Random, calls: usize) -> Script {
     Script { pieces: writer.pieces, calls, counts: writer.counts }
 }
 
+/// The lines of a script, each with its answer. A bad configuration and what follows the last LF are answered at the
+/// end.
+pub fn conversation(text: &[u8]) -> Vec<(&[u8], Vec<u8>)> {
+    let mut conversation = Vec::new();
+    let mut lines = text.split_inclusive(|&byte| byte == b'\n');
+    let configuration = Configuration::from_lines(|| {
+        let line = lines.next()?;
+        conversation.push((line, Vec::new()));
+        Some(line)
+    });
+    let Ok(configuration) = configuration else { return vec![(text, Vec::new())] };
+    let mut shift = Shift::new(configuration);
+    for line in lines {
+        let answer = line.strip_suffix(b"\n").map_or(Vec::new(), |line| shift.answer_line(line));
+        conversation.push((line, answer));
+    }
+    conversation
+}
+
 /// The first two sections and a good third one.
 fn with_codes(random: &mut Random, before: &str) -> Vec<u8> {
     [before, &configurations::codes(random)].concat().into_bytes()
