@@ -1,6 +1,7 @@
 //! Random input for the programs, each made from a seed, and the comparison of the ordinary implementation with the
 //! proved programs on it, to the byte.
 
+mod codes;
 pub mod comparison;
 mod configurations;
 mod decks;
