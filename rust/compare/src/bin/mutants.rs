@@ -18,7 +18,7 @@ const USAGE: &str = "usage: mutants cards|deck|desk|listing|shift [--last N] [--
 const WORKSPACE: &str = "\
 [workspace]
 resolver = \"2\"
-members = [\"ordinary\", \"compare\"]
+members = [\"ordinary\", \"compare\", \"cases\"]
 
 [workspace.package]
 version = \"0.1.0\"
@@ -74,7 +74,7 @@ impl Workplace {
         let repository = top.join("target/mutants");
         let work = repository.join("rust");
         let _ = fs::remove_dir_all(&repository);
-        for part in ["ordinary", "compare"] {
+        for part in ["ordinary", "compare", "cases"] {
             copy(&top.join(part).join("src"), &work.join(part).join("src"));
             fs::copy(top.join(part).join("Cargo.toml"), work.join(part).join("Cargo.toml")).expect("a copied file");
         }
