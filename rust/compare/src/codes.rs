@@ -58,7 +58,7 @@ const NO_CODES: &[&str] = &[
     "00", "01", "16", "17", "08", "09", "18", "19", "28", "38", "48", "58", "68", "69", "78", "79", "80", "81", "87",
     "90", "99", "0", "1", "2", "3", "7", "002", "003", "077", "016", "100", "101", "102", "177", "1F", "1f", "0A",
     "0a", "3E", "FF", "", " ", " 2", "2 ", "02 ", " 02", "0 2", "02 00", "03 00", "\t2", "02\t", "02\r", "\r", "+2",
-    "-2", "2.", "0o2", "0x2", "x2", "2x", "\02", "0/", "/0", ":0", "0:", "7:", ":7", "７７", "02\u{b}",
+    "-2", "2.", "0o2", "0x2", "x2", "2x", "\x002", "0/", "/0", ":0", "0:", "7:", ":7", "７７", "02\u{b}",
 ];
 /// What follows a section that should be the last.
 const MORE: &[&str] = &["\n", "0\n", "0", "02\n", "77\n", "x", " ", "\r\n", "#\n", "SELECT\n", "03 00\n"];
@@ -100,7 +100,7 @@ pub fn bad(random: &mut Random) -> String {
 /// A number that is no code, where it ascends; of all sixty one is left out.
 fn with_no_code(random: &mut Random, mut codes: Vec<u8>) -> Section {
     codes.push(*random.pick(&[0o00, 0o01, 0o16, 0o16, 0o16, 0o17, 0o17, 0o17, 0o100, 0o177]));
-    codes.sort();
+    codes.sort_unstable();
     if codes.len() > 60 {
         codes.remove(random.below(codes.len()));
     }

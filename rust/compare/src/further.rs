@@ -116,9 +116,10 @@ fn increments(random: &mut Random, id: &str) -> Fields {
     let mut entries = Vec::new();
     let mut length = 0;
     loop {
-        let entry = match short {
-            true => format!("{}/{}", random.text(LETTERS_AND_DIGITS, 1), random.below(10)),
-            false => format!("{}/{}", name(random), number(random, 5)),
+        let entry = if short {
+            format!("{}/{}", random.text(LETTERS_AND_DIGITS, 1), random.below(10))
+        } else {
+            format!("{}/{}", name(random), number(random, 5))
         };
         length += entry.len() + 1;
         if length > columns && !entries.is_empty() {

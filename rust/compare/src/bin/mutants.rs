@@ -14,7 +14,7 @@ use std::process::{Command, ExitCode, Stdio};
 
 const USAGE: &str = "usage: mutants cards|deck|desk|listing|shift [--last N] [--count N] [-- COMMAND..]";
 
-/// The workspace of the copy: only what is compared is built there.
+/// The workspace of the copy: only what is compared is built there, and no lint is asked for.
 const WORKSPACE: &str = "\
 [workspace]
 resolver = \"2\"
@@ -24,6 +24,8 @@ members = [\"ordinary\", \"compare\", \"cases\"]
 version = \"0.1.0\"
 edition = \"2021\"
 publish = false
+
+[workspace.lints]
 ";
 
 /// A text of a file, and what is put in its place.

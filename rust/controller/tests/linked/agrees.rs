@@ -11,6 +11,7 @@ use ordinary::card::{Code, Entry, Request};
 use ordinary::configuration::Configuration;
 use ordinary::deck::is_termination;
 use ordinary::numbers::{Kind, LogicalChannel};
+use ordinary::Refusal;
 
 /// Every room up to the text and a little beyond gets the front of the text, and its other bytes are kept.
 #[track_caller]
@@ -72,7 +73,7 @@ fn desk_input(input: &[u8]) -> (&[u8], &[u8], &[u8]) {
 /// What `ordinary` shows, in the words of the linked function.
 fn ordinary_shown<'a>(id: &[u8], repair: &'a [u8], day: &'a [u8]) -> Result<Shown<'a>, u8> {
     use ordinary::desk::{show, Shown as Ordinary};
-    let (deck, part, text) = match show(id, repair, day).map_err(|refusal| refusal.number())? {
+    let (deck, part, text) = match show(id, repair, day).map_err(Refusal::number)? {
         Ordinary::Repair(part) => (Deck::Repair, part, repair),
         Ordinary::Day(part) => (Deck::Day, part, day),
     };

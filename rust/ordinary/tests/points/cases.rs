@@ -2,27 +2,34 @@
 
 use cases::cases;
 
+#[track_caller]
+fn check(program: &str, answer: impl Fn(&[u8]) -> Vec<u8>) {
+    for case in cases(program) {
+        case.is_answered(&answer(&case.input));
+    }
+}
+
 #[test]
 fn deck() {
-    cases("deck").iter().for_each(|case| case.is_answered(ordinary::deck::report(&case.input).as_bytes()));
+    check("deck", |input| ordinary::deck::report(input).into_bytes());
 }
 
 #[test]
 fn cards() {
-    cases("cards").iter().for_each(|case| case.is_answered(ordinary::cards::report(&case.input).as_bytes()));
+    check("cards", |input| ordinary::cards::report(input).into_bytes());
 }
 
 #[test]
 fn desk() {
-    cases("desk").iter().for_each(|case| case.is_answered(&ordinary::desk::converse(&case.input)));
+    check("desk", ordinary::desk::converse);
 }
 
 #[test]
 fn listing() {
-    cases("listing").iter().for_each(|case| case.is_answered(ordinary::configuration::listing(&case.input).as_bytes()));
+    check("listing", |input| ordinary::configuration::listing(input).into_bytes());
 }
 
 #[test]
 fn shift() {
-    cases("shift").iter().for_each(|case| case.is_answered(&ordinary::shift::converse(&case.input)));
+    check("shift", ordinary::shift::converse);
 }

@@ -128,7 +128,7 @@ fn each_code_is_looked_up_by_itself() {
         let others: Vec<u8> = failures().into_iter().filter(|other| *other != code).collect();
         for (section, locks) in [(vec![code], true), (others, false), (failures(), true), (vec![], false)] {
             let mut shift = with_listed(&section);
-            assert_eq!(answer_to(&mut shift, &format!("FAIL 3 {code:o}")), "ACK 0 0");
+            assert_eq!(answer_to(&mut shift, format!("FAIL 3 {code:o}")), "ACK 0 0");
             assert_eq!(answer_to(&mut shift, "STATUS 0 0"), format!("ACK ENDED {code:02o}"));
             let (listed, lock) = if locks { ("ACK ENDED 01", &["03/00"][..]) } else { ("ACK LISTED", &[][..]) };
             assert_eq!(answer_to(&mut shift, "STATUS 0 1"), listed, "{code:o}");
@@ -143,7 +143,7 @@ fn what_may_be_reported_is_as_before() {
         let mut shift = with_listed(&section);
         let before = answer_to(&mut shift, "BOARD");
         for code in ["0", "00", "01", "1", "16", "17", "100", "101", "116", "177", "200", "777777777"] {
-            assert_eq!(answer_to(&mut shift, &format!("FAIL 3 {code}")), "NO 9", "{code}");
+            assert_eq!(answer_to(&mut shift, format!("FAIL 3 {code}")), "NO 9", "{code}");
         }
         // Nothing moves there, which comes first.
         say(&mut shift, &[("FAIL 5 16", "NO 8"), ("FAIL 5 02", "NO 8"), ("FAIL 2 17", "NO 8"), ("FAIL 4 02", "NO 1")]);

@@ -65,7 +65,7 @@ fn listed_packets_of_the_unit_end_with_16_and_no_others() {
         "RETURN 0 3 0",
     ]);
     for packet in [0, 4, 5] {
-        assert_eq!(answer_to(&mut shift, &format!("STATUS 0 {packet}")), "ACK ENDED 16");
+        assert_eq!(answer_to(&mut shift, format!("STATUS 0 {packet}")), "ACK ENDED 16");
     }
     let listed = ["LISTED 03 0 1", "LISTED 05 0 2", "LISTED 02 0 3", "LISTED 03 1 0"];
     assert_eq!(shown(&mut shift, "LISTED"), listed);
