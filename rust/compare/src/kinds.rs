@@ -8,7 +8,7 @@ use ordinary::configuration::Channel;
 use ordinary::functions;
 use ordinary::numbers::{ChannelNumber, Kind, UnitNumber};
 
-use crate::configurations;
+use crate::codes::FAILURES;
 
 /// The entries of good requests by their kind, and the requests that have all six kinds of unit.
 pub fn on_cards(deck: &[u8]) -> BTreeMap<String, u64> {
@@ -52,7 +52,7 @@ pub fn met(cell: &Cell, line: &[u8]) -> Option<String> {
             (unit_there(cell, n(channel)?, n(unit)?)?.0, "marked")
         }
         ["FAIL", channel, code] => {
-            let code = u8::from_str_radix(code, 8).ok().filter(|code| configurations::FAILURES.contains(code))?;
+            let code = u8::from_str_radix(code, 8).ok().filter(|code| FAILURES.contains(code))?;
             let number = ChannelNumber(u8::try_from(n(channel)?).ok().filter(|number| *number < 16)?);
             let name = cell.moving(number)?;
             let kind = unit_there(cell, number.0.into(), cell.packet(name).target)?.0;

@@ -30,9 +30,7 @@ fn request(random: &mut Random, cell: &Cell, id: &str) -> String {
             entries.extend(units(random, cell, kind));
         }
     }
-    for at in (1..entries.len()).rev() {
-        entries.swap(at, random.below(at + 1));
-    }
+    random.shuffle(&mut entries);
     let run_type = if random.percent(6) { "S" } else { "P" };
     let sequence = *random.pick(&["", "", "", "01", "02"]);
     let priority = format!("{sequence}{}{}", random.pick(&["A", "A", "M"]), random.below(40));

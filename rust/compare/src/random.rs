@@ -45,6 +45,13 @@ impl Random {
         unreachable!("the weights add up to their sum")
     }
 
+    /// Puts what is there into any order.
+    pub fn shuffle<T>(&mut self, all: &mut [T]) {
+        for at in (1..all.len()).rev() {
+            all.swap(at, self.below(at + 1));
+        }
+    }
+
     /// Text of this length with characters of the alphabet.
     pub fn text(&mut self, alphabet: &str, length: usize) -> String {
         (0..length).map(|_| char::from(*self.pick(alphabet.as_bytes()))).collect()

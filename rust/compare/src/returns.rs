@@ -5,7 +5,7 @@ use ordinary::configuration::Channel;
 use ordinary::functions::{self, REMOVE_INTERLOCK, TERMINATE};
 use ordinary::numbers::{ChannelNumber, Kind, UnitNumber};
 
-use crate::configurations;
+use crate::codes::FAILURES;
 
 /// What a line meets that the cell is about to be told.
 pub fn met(cell: &Cell, line: &[u8]) -> Option<String> {
@@ -21,7 +21,7 @@ pub fn met(cell: &Cell, line: &[u8]) -> Option<String> {
         ["DONE", channel] => completed(cell, n(channel)?, "full"),
         ["CUT", channel] => completed(cell, n(channel)?, "cut"),
         ["FAIL", channel, code] => {
-            let code = u8::from_str_radix(code, 8).ok().filter(|code| configurations::FAILURES.contains(code))?;
+            let code = u8::from_str_radix(code, 8).ok().filter(|code| FAILURES.contains(code))?;
             let locks = cell.configuration().sets_interlock(code);
             completed(cell, n(channel)?, if locks { "failed, code of the section" } else { "failed, another code" })
         }

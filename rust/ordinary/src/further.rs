@@ -1,7 +1,15 @@
 //! The cards that may follow FAC: TAL, TRN and PM0 to PM9. Nothing in the cell goes by them yet.
 
 use crate::card::CardError;
-use crate::fields::{self, is_card_character, is_id, loose_field, strict_fields, CardType};
+use crate::fields::{self, is_card_character, loose_field, CardType};
+use increments::read_increments;
+use transfers::read_transfers;
+
+mod increments;
+mod transfers;
+
+pub use increments::Increment;
+pub use transfers::{FacilityType, Successor, Transfer};
 
 /// The most characters of a parameter card's text, and a row of the parameter table.
 pub const TEXT_LENGTH: usize = 66;
@@ -15,99 +23,6 @@ pub enum FurtherCard {
     Transfers { count: Option<u8>, transfers: Vec<Transfer> },
     /// PM and a digit: up to 66 characters as they stand, blanks too.
     Parameters { digit: u8, text: String },
-}
-
-/// What a table grows by.
-#[derive(Clone, Debug, PartialEq, Eq)]
-pub struct Increment {
-    pub name: String,
-    pub number: u32,
-}
-
-/// A facility that another job gets.
-#[derive(Clone, Debug, PartialEq, Eq)]
-pub struct Transfer {
-    /// What this program calls it.
-    pub name: String,
-    pub facility: FacilityType,
-    pub successor: Successor,
-    /// What the receiving program calls it.
-    pub name_there: String,
-}
-
-/// The facility types of a TRN card.
-#[derive(Clone, Copy, Debug, PartialEq, Eq)]
-pub enum FacilityType {
-    /// `D`
-    Drum,
-    /// `T`: a tape, after rewinding.
-    Tape,
-    /// `N`: a tape without rewinding, or another unit.
-    NoRewind,
-    /// `*T`: reserved when it is released at last.
-    ReservedTape,
-    /// `*N`: the same.
-    ReservedNoRewind,
-}
-
-impl FacilityType {
-    const ALL: [FacilityType; 5] = [
-        FacilityType::Drum,
-        FacilityType::Tape,
-        FacilityType::NoRewind,
-        FacilityType::ReservedTape,
-        FacilityType::ReservedNoRewind,
-    ];
-
-    fn letters(self) -> &'static str {
-        match self {
-            FacilityType::Drum => "D",
-            FacilityType::Tape => "T",
-            FacilityType::NoRewind => "N",
-            FacilityType::ReservedTape => "*T",
-            FacilityType::ReservedNoRewind => "*N",
-        }
-    }
-
-    fn read(text: &str) -> Option<FacilityType> {
-        FacilityType::ALL.into_iter().find(|facility| facility.letters() == text)
-    }
-}
-
-/// Who gets a facility.
-#[derive(Clone, Debug, PartialEq, Eq)]
-pub enum Successor {
-    /// The request with this ID, in the schedule or not.
-    Request(String),
-    /// `*REQ`: the executive, which finds job requests there.
-    JobRequests,
-    /// `*PLB`: the executive, which finds a program library there.
-    ProgramLibrary,
-}
-
-impl Successor {
-    fn read(text: &str) -> Option<Successor> {
-        match text {
-            "*REQ" => Some(Successor::JobRequests),
-            "*PLB" => Some(Successor::ProgramLibrary),
-            _ => is_id(text).then(|| Successor::Request(text.into())),
-        }
-    }
-
-    fn text(&self) -> &str {
-        match self {
-            Successor::Request(id) => id,
-            Successor::JobRequests => "*REQ",
-            Successor::ProgramLibrary => "*PLB",
-        }
-    }
-
-    fn is_good(&self) -> bool {
-        match self {
-            Successor::Request(id) => is_id(id),
-            Successor::JobRequests | Successor::ProgramLibrary => true,
-        }
-    }
 }
 
 /// A card with its type.
@@ -153,79 +68,6 @@ pub fn read(cards: &[TypedCard]) -> Result<Vec<FurtherCard>, CardError> {
         });
     }
     Ok(further)
-}
-
-fn read_increments(card: &[u8]) -> Result<FurtherCard, CardError> {
-    let fields = strict_fields(card).filter(|fields| fields.len() > 2).ok_or(CardError(5))?;
-    let increments: Result<_, _> = fields[2..].iter().map(|entry| Increment::read(entry)).collect();
-    increments.map(FurtherCard::Increments)
-}
-
-impl Increment {
-    fn read(text: &str) -> Result<Increment, CardError> {
-        let (name, number) = text.split_once('/').filter(|(name, _)| is_id(name)).ok_or(CardError(5))?;
-        if number.len() > 5 {
-            return Err(CardError(6));
-        }
-        let number = fields::number(number, 1..=5).ok_or(CardError(5))?;
-        Ok(Increment { name: name.into(), number })
-    }
-
-    fn is_good(&self) -> bool {
-        is_id(&self.name) && self.number <= 99_999
-    }
-}
-
-/// `is_counted` says whether an earlier card of the group has a receiving count.
-fn read_transfers(card: &[u8], is_counted: bool) -> Result<FurtherCard, CardError> {
-    let fields = strict_fields(card).filter(|fields| fields.len() > 2).ok_or(CardError(7))?;
-    let mut rest = &fields[2..];
-    let mut count = None;
-    // What has no slash in the first place is the count, and nowhere else.
-    if !rest[0].contains('/') {
-        count = Some(read_count(&rest[0], is_counted)?);
-        rest = &rest[1..];
-    }
-    let transfers: Result<_, _> = rest.iter().map(|field| Transfer::read(field)).collect();
-    Ok(FurtherCard::Transfers { count, transfers: transfers? })
-}
-
-fn read_count(text: &str, is_counted: bool) -> Result<u8, CardError> {
-    if text.len() > 2 {
-        return Err(CardError(8));
-    }
-    let count = fields::number(text, 1..=2).filter(|_| !is_counted).ok_or(CardError(7))?;
-    Ok(count as u8)
-}
-
-impl Transfer {
-    fn read(text: &str) -> Result<Transfer, CardError> {
-        let mut parts = text.split('/');
-        let mut part = |longest: usize| match parts.next() {
-            Some(part) if part.len() > longest => Err(CardError(8)),
-            part => part.ok_or(CardError(7)),
-        };
-        let name = read_name(part(6)?)?;
-        let facility = FacilityType::read(part(2)?).ok_or(CardError(7))?;
-        let successor = Successor::read(part(6)?).ok_or(CardError(7))?;
-        let name_there = read_name(part(6)?)?;
-        if parts.next().is_some() {
-            return Err(CardError(7));
-        }
-        Ok(Transfer { name, facility, successor, name_there })
-    }
-
-    fn is_good(&self) -> bool {
-        is_id(&self.name) && self.successor.is_good() && is_id(&self.name_there)
-    }
-
-    fn text(&self) -> String {
-        [&self.name, self.facility.letters(), self.successor.text(), &self.name_there].join("/")
-    }
-}
-
-fn read_name(text: &str) -> Result<String, CardError> {
-    is_id(text).then(|| text.into()).ok_or(CardError(7))
 }
 
 fn read_parameters(card: &[u8]) -> Result<FurtherCard, CardError> {

@@ -1,99 +1,19 @@
 //! The shift: a cell that is talked to line by line. Each call gets one line for an answer, a deck and the board
 //! several.
 
-use std::fmt::Write;
-
-use crate::assign::{Assignment, ASSIGNABLE_CORE, CORE};
-use crate::cell::{Cell, Completion, End, Job, Mark, NoSelection, PacketName, Status, Submission};
+use crate::assign::Assignment;
+use crate::cell::{Cell, Job, NoSelection, PacketName, Status};
 use crate::configuration::Configuration;
 use crate::deck::{self, DECK_LENGTH};
-use crate::numbers::{Refusal, UnitNumber};
-use crate::schedule::State;
+use crate::numbers::Refusal;
+use board::board;
+use call::Call;
+
+mod board;
+mod call;
 
 /// The most bytes of a line that is a call.
 const LINE_LENGTH: usize = 255;
-
-/// A line that is a call, but `DECK`.
-#[derive(Clone, Debug)]
-enum Call {
-    Select,
-    Submit(Submission),
-    Start(u32),
-    Complete(u32, Completion),
-    Return { place: u32, channel: u32, unit: u32 },
-    End(u32, End),
-    Mark { channel: u32, unit: u32, mark: Mark, on: bool },
-    Release(String),
-    Delete(String),
-    Keyboard(Vec<u8>),
-    Status(u32, u32),
-    Board,
-}
-
-impl Call {
-    /// The call of a line that has exactly the words and numbers of one.
-    fn read(line: &[u8]) -> Option<Call> {
-        // The rule of single spaces does not hold in a message.
-        if let Some(message) = key_message(line) {
-            return Some(Call::Keyboard(message.to_vec()));
-        }
-        let words: Vec<&[u8]> = line.split(|&byte| byte == b' ').collect();
-        if words.iter().any(|word| word.is_empty()) {
-            return None;
-        }
-        let n = |word| number(word, 10);
-        let octal = |word| number(word, 8);
-        let mark = |channel, unit, mark, on| Some(Call::Mark { channel: n(channel)?, unit: n(unit)?, mark, on });
-        Some(match words[..] {
-            [b"SELECT"] => Call::Select,
-            [b"SUBMIT", place, packet, function, channel, x, ref h @ ..] if h.len() <= 1 => Call::Submit(Submission {
-                place: n(place)?,
-                packet: n(packet)?,
-                function: octal(function)?,
-                channel: n(channel)?,
-                x: n(x)?,
-                h: n(h.first().unwrap_or(&&b"0"[..]))?,
-            }),
-            [b"START", channel] => Call::Start(n(channel)?),
-            [b"DONE", channel] => Call::Complete(n(channel)?, Completion::Full),
-            [b"CUT", channel] => Call::Complete(n(channel)?, Completion::Cut),
-            [b"FAIL", channel, code] => Call::Complete(n(channel)?, Completion::Failed(octal(code)?)),
-            [b"RETURN", place, channel, unit] => {
-                Call::Return { place: n(place)?, channel: n(channel)?, unit: n(unit)? }
-            }
-            [b"END", place] => Call::End(n(place)?, End::Normal),
-            [b"ABORT", place] => Call::End(n(place)?, End::InError),
-            [b"DOWN", channel, unit] => mark(channel, unit, Mark::Down, true)?,
-            [b"UP", channel, unit] => mark(channel, unit, Mark::Down, false)?,
-            [b"RESERVE", channel, unit] => mark(channel, unit, Mark::Reserved, true)?,
-            [b"UNRESERVE", channel, unit] => mark(channel, unit, Mark::Reserved, false)?,
-            // A word that is no ID is simply in no schedule.
-            [b"RELEASE", id] => Call::Release(String::from_utf8_lossy(id).into()),
-            [b"DELETE", id] => Call::Delete(String::from_utf8_lossy(id).into()),
-            [b"STATUS", place, packet] => Call::Status(n(place)?, n(packet)?),
-            [b"BOARD"] => Call::Board,
-            _ => return None,
-        })
-    }
-}
-
-/// The message of a `KEY` line: all that stands behind `KEY` and one space. `KEY` alone has the empty message.
-fn key_message(line: &[u8]) -> Option<&[u8]> {
-    match line.strip_prefix(b"KEY")? {
-        [] => Some(b""),
-        [b' ', message @ ..] => Some(message),
-        _ => None,
-    }
-}
-
-/// One to nine digits of the base, leading zeros allowed.
-fn number(word: &[u8], base: u32) -> Option<u32> {
-    let is_digit = |byte: &u8| char::from(*byte).is_digit(base);
-    if !(1..=9).contains(&word.len()) || !word.iter().all(is_digit) {
-        return None;
-    }
-    Some(word.iter().fold(0, |number, digit| number * base + u32::from(digit - b'0')))
-}
 
 /// A cell in the middle of its shift.
 #[derive(Clone, Debug)]
@@ -256,68 +176,4 @@ fn selected(place: usize, job: &Job) -> String {
         }
     }
     line + "\n"
-}
-
-/// Everything, for a reader at three in the morning.
-fn board(cell: &Cell) -> String {
-    let mut board = String::new();
-    write_board(cell, &mut board).expect("writing to a string");
-    board
-}
-
-fn write_board(cell: &Cell, board: &mut String) -> std::fmt::Result {
-    for (place, job) in cell.jobs() {
-        let word = if job.end.is_none() { "RUNS" } else { "CLOSES" };
-        writeln!(board, "PLACE {place} {} {word}", job.id)?;
-    }
-    for (number, channel) in cell.configuration().channels() {
-        for unit in (0..channel.unit_count()).map(UnitNumber) {
-            let state = cell.unit(number, unit);
-            if state.is_assignable() {
-                continue;
-            }
-            write!(board, "UNIT {:02}/{:02}", number.0, unit.0)?;
-            if let Some(place) = state.holder {
-                write!(board, " HELD {place}")?;
-            }
-            let locked = state.interlock && state.holder.is_some();
-            let words = [
-                (state.returning, "RETURNING"),
-                (state.down, "DOWN"),
-                (state.reserved, "RESERVED"),
-                (locked, "LOCKED"),
-            ];
-            for (_, word) in words.into_iter().filter(|(holds, _)| *holds) {
-                write!(board, " {word}")?;
-            }
-            writeln!(board)?;
-        }
-    }
-    let block = |block| match cell.core_holder(block) {
-        Some(place) => char::from_digit(place as u32, 36).map_or('?', |digit| digit.to_ascii_uppercase()),
-        None if ASSIGNABLE_CORE.contains(&block) => '.',
-        None => 'X',
-    };
-    writeln!(board, "CORE {}", CORE.map(block).collect::<String>())?;
-    for (area, place) in cell.drum_areas() {
-        writeln!(board, "DRUM {}-{} {place}", area.start, area.end - 1)?;
-    }
-    for (number, _) in cell.configuration().channels() {
-        if let Some(PacketName { place, packet }) = cell.moving(number) {
-            writeln!(board, "MOVES {:02} {place} {packet}", number.0)?;
-        }
-    }
-    for (channel, PacketName { place, packet }) in cell.listed() {
-        writeln!(board, "LISTED {:02} {place} {packet}", channel.0)?;
-    }
-    for scheduled in cell.schedule().requests() {
-        let word = match scheduled.state {
-            State::Waiting => "WAITS",
-            State::Suspended => "SUSPENDED",
-            State::Running(_) => "RUNS",
-            State::Closing(_) => "CLOSES",
-        };
-        writeln!(board, "{} {} {word}", scheduled.request.id, scheduled.request.priority)?;
-    }
-    writeln!(board, "END OF BOARD")
 }

@@ -106,7 +106,10 @@ impl Night {
                 format!("{word} {place}\n")
             }),
             Sort::End => None,
-            Sort::Deck => Some(self.suspended().map(|id| format!("DELETE {id}\n")).unwrap_or_else(|| self.deck())),
+            Sort::Deck => Some(match self.suspended() {
+                Some(id) => format!("DELETE {id}\n"),
+                None => self.deck(),
+            }),
             Sort::Board => Some("BOARD\n".to_string()),
         }
     }

@@ -1,28 +1,17 @@
 //! Points of a selection that takes nothing: which refusal, whose lack, and what is lacking.
 
-use ordinary::configuration::Configuration;
 use ordinary::shift::Shift;
 
-const TERMINATION: &str = ")))))))) +++++++++++++                                                  ))))))))\n";
+use crate::support::{self, answer_to, request};
+
 /// One channel of each kind, two of MT; the drum has 671 words.
 const CELL: &str = "5\n00 MA 2\n03 MT 4\n05 MT 2\n07 MD 36000\n12 PR 1\n0\n0\n";
 const WITHOUT_DRUM: &str = "4\n00 MA 2\n03 MT 4\n05 MT 2\n12 PR 1\n0\n0\n";
 
 /// The cell after a deck of these requests: ID, S or P, priority and entries.
 fn cell(configuration: &str, requests: &[(&str, &str, &str, &str)]) -> Shift {
-    let mut lines = configuration.split_inclusive('\n');
-    let mut shift = Shift::new(Configuration::from_lines(|| lines.next()).unwrap());
-    let cards = requests.iter().map(|(id, run_type, priority, entries)| {
-        format!("{id},PTY,2,,PROG,,T,LIB,{run_type},{priority},P,1.\n{id},FAC,{entries}.\n")
-    });
-    let deck = format!("DECK\n{}{TERMINATION}", cards.collect::<String>());
-    let answer: Vec<u8> = deck.lines().flat_map(|line| shift.answer_line(line.as_bytes())).collect();
-    assert!(answer.ends_with(b" SCH ACK\n") && !answer.starts_with(b"SP"), "{}", String::from_utf8_lossy(&answer));
-    shift
-}
-
-fn answer_to(shift: &mut Shift, line: &str) -> String {
-    String::from_utf8(shift.answer_line(line.as_bytes())).unwrap().trim_end_matches('\n').to_string()
+    let cards = requests.iter().map(|(id, run_type, priority, entries)| request(id, "", run_type, priority, entries));
+    support::cell(configuration, &cards.collect::<String>())
 }
 
 /// A selection that is refused so, again and again, and changes nothing.

@@ -1,38 +1,21 @@
 //! Points of keyboard messages, through the script's `KEY` line.
 
-use ordinary::configuration::Configuration;
 use ordinary::shift::{converse, Shift};
 
-const TERMINATION: &str = ")))))))) +++++++++++++                                                  ))))))))\n";
+use crate::support::{self, answer_to, say, say_accepted, unit, TERMINATION};
+
 const CELL: &str = "4\n00 MA 2\n03 MT 4\n07 MD 40000\n15 PR 16\n0\n0\n";
 
 /// The cards of a request without a sequence; `rush` is S for one that enters suspended.
 fn request(id: &str, rush: &str, precedence: u32, entries: &str) -> String {
-    format!("{id},PTY,2,{rush},PROG,,T,LIB,P,A{precedence},P,1.\n{id},FAC,{entries}.\n")
+    support::request(id, rush, "P", &format!("A{precedence}"), entries)
 }
 
 /// The cell after these requests, and after calls that are all accepted.
 fn cell(requests: &[String], calls: &[&str]) -> Shift {
-    let mut lines = CELL.split_inclusive('\n');
-    let mut shift = Shift::new(Configuration::from_lines(|| lines.next()).unwrap());
-    let deck = format!("DECK\n{}{TERMINATION}", requests.concat());
-    let answer: Vec<u8> = deck.lines().flat_map(|line| shift.answer_line(line.as_bytes())).collect();
-    assert!(answer.ends_with(b" SCH ACK\n") && !answer.starts_with(b"SP"));
-    for call in calls {
-        assert!(answer_to(&mut shift, call).starts_with("ACK"), "{call}");
-    }
+    let mut shift = support::cell(CELL, &requests.concat());
+    say_accepted(&mut shift, calls);
     shift
-}
-
-fn answer_to(shift: &mut Shift, line: impl AsRef<[u8]>) -> String {
-    String::from_utf8(shift.answer_line(line.as_ref())).unwrap().trim_end_matches('\n').to_string()
-}
-
-/// Says lines, each of which must be answered so.
-fn say<L: AsRef<[u8]>>(shift: &mut Shift, lines: &[(L, &str)]) {
-    for (line, due) in lines {
-        assert_eq!(answer_to(shift, line), *due, "{}", String::from_utf8_lossy(line.as_ref()));
-    }
 }
 
 /// Says lines that are answered so and change nothing.
@@ -40,12 +23,6 @@ fn say_in_vain<L: AsRef<[u8]>>(shift: &mut Shift, lines: &[(L, &str)]) {
     let before = answer_to(shift, "BOARD");
     say(shift, lines);
     assert_eq!(answer_to(shift, "BOARD"), before);
-}
-
-/// What the board says of a unit.
-fn unit(shift: &mut Shift, name: &str) -> Option<String> {
-    let board = answer_to(shift, "BOARD");
-    board.lines().find_map(|line| line.strip_prefix(&format!("UNIT {name} "))).map(str::to_string)
 }
 
 #[test]
@@ -73,7 +50,7 @@ fn the_examples_of_the_format() {
             ("KEY", "--- 17 IN ER"),
         ],
     );
-    assert_eq!(unit(&mut shift, "03/01").as_deref(), Some("DOWN"));
+    assert_eq!(unit(&mut shift, "03/01"), "DOWN");
 }
 
 #[test]
@@ -106,7 +83,7 @@ fn in_a_deck_a_key_line_is_a_card() {
         &mut shift,
         &[("DECK", ""), ("KEY DWN C03 U01", ""), (TERMINATION.trim_end(), "SP ------ ER 25\n------ SCH ACK")],
     );
-    assert_eq!(unit(&mut shift, "03/01"), None);
+    assert_eq!(unit(&mut shift, "03/01"), "");
 }
 
 #[test]
@@ -129,7 +106,7 @@ fn lines_of_255_and_256_bytes() {
         say_in_vain(&mut shift, &[(long(before, fill, behind, 256), "??")]);
         say(&mut shift, &[(long(before, fill, behind, 255), due)]);
     }
-    assert!((0..4).all(|number| unit(&mut shift, &format!("03/0{number}")).as_deref() == Some("DOWN")));
+    assert!((0..4).all(|number| unit(&mut shift, &format!("03/0{number}")) == "DOWN"));
 }
 
 #[test]
@@ -169,7 +146,7 @@ fn digits_of_any_length_count_by_their_value() {
         ],
     );
     say(&mut shift, &[("KEY AVL C03 U1", "AVL ACK")]);
-    assert_eq!(unit(&mut shift, "03/01"), None);
+    assert_eq!(unit(&mut shift, "03/01"), "");
 }
 
 #[test]
@@ -196,13 +173,13 @@ fn bytes_that_are_no_spaces_are_text() {
 fn a_held_unit_is_marked_and_stays_held() {
     let mut shift = cell(&[request("A", "", 1, "IB/1,MT/2"), request("B", "", 2, "IB/1,MT/2")], &["SELECT"]);
     say(&mut shift, &[("KEY DWN C03 U00", "DWN ACK")]);
-    assert_eq!(unit(&mut shift, "03/00").as_deref(), Some("HELD 0 DOWN"));
+    assert_eq!(unit(&mut shift, "03/00"), "HELD 0 DOWN");
     say(
         &mut shift,
         &[("SUBMIT 0 0 42 3 0", "ACK"), ("START 3", "ACK 0 0 42 0"), ("DONE 3", "ACK 0 0"), ("END 0", "ACK")],
     );
     say(&mut shift, &[("SELECT", "ACK 0 B IB 2-2 MT 03/01 03/02"), ("KEY AVL C03 U00", "AVL ACK")]);
-    assert_eq!(unit(&mut shift, "03/00"), None);
+    assert_eq!(unit(&mut shift, "03/00"), "");
 }
 
 #[test]
@@ -215,7 +192,7 @@ fn a_message_leaves_the_reserved_mark_alone() {
         ("KEY AVL C03 U02", "AVL ACK", "RESERVED"),
     ] {
         say(&mut shift, &[(line, due)]);
-        assert_eq!(unit(&mut shift, "03/02").as_deref(), Some(marks));
+        assert_eq!(unit(&mut shift, "03/02"), marks);
     }
 }
 

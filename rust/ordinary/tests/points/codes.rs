@@ -1,9 +1,8 @@
 //! Which failures set interlock: those with a code of the configuration's third section, off the drum.
 
-use ordinary::configuration::Configuration;
 use ordinary::shift::Shift;
 
-const TERMINATION: &str = ")))))))) +++++++++++++                                                  ))))))))\n";
+use crate::support::{self, answer_to, say};
 
 /// All codes that a packet may fail with.
 fn failures() -> Vec<u8> {
@@ -15,29 +14,14 @@ fn failures() -> Vec<u8> {
 fn cell(codes: &[u8]) -> Shift {
     let section: String = codes.iter().map(|code| format!("{code:02o}\n")).collect();
     let text = format!("3\n02 MD 36000\n03 MT 4\n05 MT 2\n0\n{}\n{section}", codes.len());
-    let mut shift = Shift::new(Configuration::from_text(text.as_bytes()).unwrap());
-    let deck = "DECK\nA,PTY,2,,P,,,M,P,A1,P,1.\nA,FAC,IB/1,MT1/2,MT2/1,MD/9.\n\
-                B,PTY,2,,P,,,M,P,A2,P,1.\nB,FAC,IB/1,MT/1.\nC,PTY,2,,P,,,M,P,A3,P,1.\nC,FAC,IB/1,MT1/2.\n";
-    for line in deck.lines().chain(TERMINATION.lines()) {
-        shift.answer_line(line.as_bytes());
-    }
+    let cards = "A,PTY,2,,P,,,M,P,A1,P,1.\nA,FAC,IB/1,MT1/2,MT2/1,MD/9.\n\
+                 B,PTY,2,,P,,,M,P,A2,P,1.\nB,FAC,IB/1,MT/1.\nC,PTY,2,,P,,,M,P,A3,P,1.\nC,FAC,IB/1,MT1/2.\n";
+    let mut shift = support::cell(&text, cards);
     say(
         &mut shift,
         &[("SELECT", "ACK 0 A IB 2-2 MD 35329-35337 MT1 03/00 03/01 MT2 05/00"), ("SELECT", "ACK 1 B IB 3-3 MT 03/02")],
     );
     shift
-}
-
-fn answer_to(shift: &mut Shift, line: &str) -> String {
-    String::from_utf8(shift.answer_line(line.as_bytes())).unwrap().trim_end_matches('\n').to_string()
-}
-
-/// Says lines, each of which must be answered so.
-#[track_caller]
-fn say(shift: &mut Shift, lines: &[(&str, &str)]) {
-    for (line, due) in lines {
-        assert_eq!(answer_to(shift, line), *due, "{line}");
-    }
 }
 
 /// The units that the board shows as locked.
@@ -144,7 +128,7 @@ fn each_code_is_looked_up_by_itself() {
         let others: Vec<u8> = failures().into_iter().filter(|other| *other != code).collect();
         for (section, locks) in [(vec![code], true), (others, false), (failures(), true), (vec![], false)] {
             let mut shift = with_listed(&section);
-            assert_eq!(answer_to(&mut shift, &format!("FAIL 3 {code:o}")), "ACK 0 0");
+            assert_eq!(answer_to(&mut shift, format!("FAIL 3 {code:o}")), "ACK 0 0");
             assert_eq!(answer_to(&mut shift, "STATUS 0 0"), format!("ACK ENDED {code:02o}"));
             let (listed, lock) = if locks { ("ACK ENDED 01", &["03/00"][..]) } else { ("ACK LISTED", &[][..]) };
             assert_eq!(answer_to(&mut shift, "STATUS 0 1"), listed, "{code:o}");
@@ -159,7 +143,7 @@ fn what_may_be_reported_is_as_before() {
         let mut shift = with_listed(&section);
         let before = answer_to(&mut shift, "BOARD");
         for code in ["0", "00", "01", "1", "16", "17", "100", "101", "116", "177", "200", "777777777"] {
-            assert_eq!(answer_to(&mut shift, &format!("FAIL 3 {code}")), "NO 9", "{code}");
+            assert_eq!(answer_to(&mut shift, format!("FAIL 3 {code}")), "NO 9", "{code}");
         }
         // Nothing moves there, which comes first.
         say(&mut shift, &[("FAIL 5 16", "NO 8"), ("FAIL 5 02", "NO 8"), ("FAIL 2 17", "NO 8"), ("FAIL 4 02", "NO 1")]);
@@ -200,7 +184,7 @@ fn closing_jobs() {
         say(
             &mut shift,
             &[
-                (&format!("FAIL 5 {code}"), "ACK 0 4"),
+                (format!("FAIL 5 {code}").as_str(), "ACK 0 4"),
                 ("STATUS 0 4", &format!("ACK ENDED {code}")),
                 ("SELECT", "ACK 0 C IB 2-2 MT1 03/00 03/01"),
                 ("SUBMIT 0 0 42 3 0", "ACK"),

@@ -3,7 +3,7 @@
 use ordinary::numbers::Kind;
 use ordinary::shift::converse;
 
-const TERMINATION: &str = ")))))))) +++++++++++++                                                  ))))))))\n";
+use crate::support::TERMINATION;
 
 /// The answer to a selection in a cell with these channels and one request, A, with these entries.
 fn selection(channels: &[(Kind, u32)], entries: &str) -> String {

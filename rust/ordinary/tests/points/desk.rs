@@ -4,7 +4,7 @@ use ordinary::deck::DECK_LENGTH;
 use ordinary::desk::{converse, show, Desk, Part, Shown};
 use ordinary::Refusal;
 
-const TERMINATION: &str = ")))))))) +++++++++++++                                                  ))))))))\n";
+use crate::support::TERMINATION;
 
 fn deck(cards: &str) -> Vec<u8> {
     [cards, TERMINATION].concat().into_bytes()

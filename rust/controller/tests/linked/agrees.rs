@@ -1,40 +1,17 @@
 //! The linked functions answer what `ordinary` answers: the public cases, every function code on every pair of
 //! letters, and core of every size asked of many words.
 
-use std::fs;
 use std::num::NonZeroUsize;
-use std::path::{Path, PathBuf};
+use std::path::Path;
 
+use cases::{cases, Case};
 use controller::{Deck, Shown, Starts, DECK_ROOM, LISTING_ROOM};
 use ordinary::assign::{assign, Free};
 use ordinary::card::{Code, Entry, Request};
 use ordinary::configuration::Configuration;
 use ordinary::deck::is_termination;
 use ordinary::numbers::{Kind, LogicalChannel};
-
-/// The public cases of a program: each input, and what is to be answered.
-fn cases(name: &str, at_least: usize) -> Vec<(PathBuf, Vec<u8>, Vec<u8>)> {
-    let folder = Path::new(env!("CARGO_MANIFEST_DIR")).join("../../crates").join(name).join("data");
-    let mut inputs: Vec<PathBuf> = fs::read_dir(&folder)
-        .unwrap_or_else(|error| panic!("{}: {error}", folder.display()))
-        .map(|entry| entry.unwrap().path())
-        .filter(|path| path.extension().is_some_and(|extension| extension == "in"))
-        .collect();
-    inputs.sort();
-    assert!(inputs.len() >= at_least, "{} has {} cases", folder.display(), inputs.len());
-    let case = |path: PathBuf| {
-        let input = fs::read(&path).unwrap();
-        let output = fs::read(path.with_extension("out")).unwrap();
-        (path, input, output)
-    };
-    inputs.into_iter().map(case).collect()
-}
-
-#[track_caller]
-fn same(path: &Path, answered: &[u8], expected: &[u8]) {
-    let [answered, expected] = [answered, expected].map(String::from_utf8_lossy);
-    assert!(answered == expected, "{}\nexpected:\n{expected}\nanswered:\n{answered}", path.display());
-}
+use ordinary::Refusal;
 
 /// Every room up to the text and a little beyond gets the front of the text, and its other bytes are kept.
 #[track_caller]
@@ -53,25 +30,26 @@ fn cut(path: &Path, whole: &[u8], put: impl Fn(&mut [u8]) -> usize) {
 
 #[test]
 fn listing() {
-    for (path, input, output) in cases("cases_listing", 111) {
+    for case in cases("listing") {
         let mut room = [0; LISTING_ROOM];
-        let answered = controller::listing(&input, &mut room);
-        same(&path, answered, &output);
-        same(&path, answered, ordinary::configuration::listing(&input).as_bytes());
-        cut(&path, answered, |room| controller::listing_into(&input, room));
+        let answered = controller::listing(&case.input, &mut room);
+        case.is_answered(answered);
+        case.is_same(answered, ordinary::configuration::listing(&case.input).as_bytes());
+        cut(&case.path, answered, |room| controller::listing_into(&case.input, room));
     }
 }
 
 #[test]
 fn deck() {
     let before: [u8; DECK_ROOM] = std::array::from_fn(|at| at as u8 ^ 0xa5);
-    for (path, input, output) in cases("cases_deck", 52) {
+    for case in cases("deck") {
         let mut room = before;
-        let answered = controller::deck(&input, &mut room);
-        same(&path, answered, &output);
-        same(&path, answered, ordinary::deck::report(&input).as_bytes());
-        // Every byte behind the report is kept.
-        assert!(room[output.len()..] == before[output.len()..], "{}", path.display());
+        let answered = controller::deck(&case.input, &mut room);
+        case.is_answered(answered);
+        case.is_same(answered, ordinary::deck::report(&case.input).as_bytes());
+        // Every byte after the report is kept.
+        let length = case.output.len();
+        assert!(room[length..] == before[length..], "{}", case.path.display());
     }
 }
 
@@ -95,7 +73,7 @@ fn desk_input(input: &[u8]) -> (&[u8], &[u8], &[u8]) {
 /// What `ordinary` shows, in the words of the linked function.
 fn ordinary_shown<'a>(id: &[u8], repair: &'a [u8], day: &'a [u8]) -> Result<Shown<'a>, u8> {
     use ordinary::desk::{show, Shown as Ordinary};
-    let (deck, part, text) = match show(id, repair, day).map_err(|refusal| refusal.number())? {
+    let (deck, part, text) = match show(id, repair, day).map_err(Refusal::number)? {
         Ordinary::Repair(part) => (Deck::Repair, part, repair),
         Ordinary::Day(part) => (Deck::Day, part, day),
     };
@@ -105,7 +83,7 @@ fn ordinary_shown<'a>(id: &[u8], repair: &'a [u8], day: &'a [u8]) -> Result<Show
 #[test]
 fn desk() {
     let mut answers = [0; 4];
-    for (path, input, _) in cases("cases_desk", 89) {
+    for Case { path, input, .. } in cases("desk") {
         let (repair, day, lines) = desk_input(&input);
         // What follows the termination card of a deck is handed over too, now and then too much.
         for (repair, day) in [(repair, day), (day, repair), (&input[..], day), (day, &input[..]), (lines, day)] {
@@ -132,7 +110,7 @@ fn desk() {
 #[test]
 fn bad_line() {
     let mut bad = 0;
-    for (path, input, _) in cases("cases_listing", 111) {
+    for Case { path, input, .. } in cases("listing") {
         let expected = Configuration::from_text(&input).err().map(|line| line.0);
         assert_eq!(controller::bad_line(&input).map(NonZeroUsize::get), expected, "{}", path.display());
         bad += usize::from(expected.is_some());

@@ -1,10 +1,11 @@
 //! The header and the archive as a C program has them: `answer.c` is compiled with this machine's C compiler, without
 //! a warning, and its answers are those of the Rust side.
 
-use std::fs;
 use std::io::Write;
 use std::path::{Path, PathBuf};
 use std::process::{Command, Stdio};
+
+use cases::cases;
 
 /// The compiled program.
 fn compiled() -> PathBuf {
@@ -36,31 +37,20 @@ fn answer(program: &Path, words: &[&str], input: &[u8]) -> Vec<u8> {
     output.stdout
 }
 
-fn inputs(name: &str) -> Vec<(PathBuf, Vec<u8>)> {
-    let folder = Path::new(env!("CARGO_MANIFEST_DIR")).join("../../crates").join(name).join("data");
-    let paths = fs::read_dir(folder).unwrap().map(|entry| entry.unwrap().path());
-    let paths = paths.filter(|path| path.extension().is_some_and(|extension| extension == "in"));
-    paths.map(|path| (path.clone(), fs::read(path).unwrap())).collect()
-}
-
 #[test]
 fn c_has_the_same_answers() {
     let program = compiled();
-    for (path, input) in inputs("cases_listing") {
-        let listing = ordinary::configuration::listing(&input).into_bytes();
-        assert!(answer(&program, &["listing"], &input) == listing, "{}", path.display());
-        let line = controller::bad_line(&input).map_or(0, usize::from);
-        assert!(answer(&program, &["line"], &input) == format!("{line}\n").into_bytes(), "{}", path.display());
+    for case in cases("listing") {
+        let listing = ordinary::configuration::listing(&case.input);
+        case.is_same(&answer(&program, &["listing"], &case.input), listing.as_bytes());
+        let line = controller::bad_line(&case.input).map_or(0, usize::from);
+        case.is_same(&answer(&program, &["line"], &case.input), format!("{line}\n").as_bytes());
     }
-    for (path, input) in inputs("cases_deck") {
-        assert!(
-            answer(&program, &["deck"], &input) == ordinary::deck::report(&input).into_bytes(),
-            "{}",
-            path.display()
-        );
+    for case in cases("deck") {
+        case.is_same(&answer(&program, &["deck"], &case.input), ordinary::deck::report(&case.input).as_bytes());
     }
-    for (path, input) in inputs("cases_desk") {
-        assert!(answer(&program, &["desk"], &input) == ordinary::desk::converse(&input), "{}", path.display());
+    for case in cases("desk") {
+        case.is_same(&answer(&program, &["desk"], &case.input), &ordinary::desk::converse(&case.input));
     }
     for (words, expected) in [
         (&["legal", "MT", "47"][..], "legal\n"),

@@ -2,14 +2,14 @@
 
 use ordinary::shift::converse;
 
-const TERMINATION: &str = ")))))))) +++++++++++++                                                  ))))))))\n";
+use crate::support::{request, TERMINATION};
 
 /// The answers after a deck of these entries of FAC cards, one request each, A to Z with priorities A1, A2 and so on.
 fn answers(configuration: &str, requests: &[&str], calls: &str) -> String {
     let mut input = format!("{configuration}DECK\n");
     for (number, entries) in requests.iter().enumerate() {
-        let id = char::from(b'A' + number as u8);
-        input += &format!("{id},PTY,2,,PROG,,T,LIB,P,A{},P,1.\n{id},FAC,{entries}.\n", number + 1);
+        let id = char::from(b'A' + number as u8).to_string();
+        input += &request(&id, "", "P", &format!("A{}", number + 1), entries);
     }
     input += TERMINATION;
     input += calls;

@@ -1,0 +1,4 @@
+//! The linked functions, called from Rust and from C, answer what `ordinary` answers.
+
+mod agrees;
+mod from_c;
