@@ -67,21 +67,21 @@ module _ (free : ℕ → Bool) (wants : ℕ → ℕ) (its : ℕ → ℕ) (to : �
 
 module _ (supply : Supply) (wanted : Facilities) where
   -- an assignment's channels are possible for each kind
-  possible : {b : Assigned} {kind : ℕ} → kind < unitKinds → IsAssignment supply wanted b → Possible (freeOf supply) (wanted .units) kind (channelsOf b kind)
+  possible : {b : Assigned} {kind : ℕ} → kind < unitKinds → IsAssignment supply wanted b → Possible (freeOf supply) wanted kind (channelsOf b kind)
   possible {b} {kind} h i = record { long = i .shaped .entries kind h; to = givenOf supply kind b; served = i .kinds kind h }
 
   -- a kind that is served in some way has channels that are possible, and the other way round
-  pub kind-possible : (order : ℕ) → HasKind supply wanted order → (others : List ChannelNumber) × Possible (freeOf supply) (wanted .units) order others
+  pub kind-possible : (order : ℕ) → HasKind supply wanted order → (others : List ChannelNumber) × Possible (freeOf supply) wanted order others
   kind-possible order h = (
     listed (h .on),
     record {
       long = refl;
       to = h .to;
-      served = by-list (freeOf supply order) (want (wantsOf (wanted .units) order)) (h .on) (h .to) (h .served);
+      served = by-list (freeOf supply order) (want (wantsOf wanted order)) (h .on) (h .to) (h .served);
     },
   )
 
-  pub possible-kind : (order : ℕ) → (others : List ChannelNumber) × Possible (freeOf supply) (wanted .units) order others → HasKind supply wanted order
+  pub possible-kind : (order : ℕ) → (others : List ChannelNumber) × Possible (freeOf supply) wanted order others → HasKind supply wanted order
   possible-kind order p = record { on = on (p .0); to = p .1 .to; served = p .1 .served }
 
   -- ---- a part that is lacking
@@ -99,7 +99,7 @@ module _ (supply : Supply) (wanted : Facilities) where
     no-drum d = lacks Part.Drum (inr (has-core, inl (λ h. d (h .start) (h .fits), refl)))
 
     pub no-kind : {s : ℕ} → Drum.LowestStart (supply .areas) (drumLength (supply .channels)) (wanted .md) (D.At s)
-        → {order : ℕ} → KindLacking (freeOf supply) (wanted .units) order → {r : Provision} → r ≡ without (Part.Units (kindAt order)) → Assigns supply wanted r
+        → {order : ℕ} → KindLacking (freeOf supply) wanted order → {r : Provision} → r ≡ without (Part.Units (kindAt order)) → Assigns supply wanted r
     no-kind {s} d {order} k = lacks (Part.Units (kindAt order))
         (inr (
           has-core,
@@ -112,7 +112,7 @@ module _ (supply : Supply) (wanted : Facilities) where
   -- ---- all parts
   module _ (p : Pair) (s : ℕ) (named : List KindChannels) (heads : List Head)
       (c : Core.LeastPair (supply .occupancy) (wanted .ib) (wanted .db) (C.At p)) (d : Drum.LowestStart (supply .areas) (drumLength (supply .channels)) (wanted .md) (D.At s))
-      (k : KindsDone (freeOf supply) (wanted .units) named heads unitKinds) where
+      (k : KindsDone (freeOf supply) wanted named heads unitKinds) where
     abbrev all : Assigned
     all = record { ib = p .0; db = p .1; drum = s; channels = named; heads = heads }
 
@@ -176,9 +176,9 @@ module _ (supply : Supply) (wanted : Facilities) where
         (λ r.
         let kind = r .0 in
         let m : kind < unitKinds = r .1 .0 in
-        let s : Served (freeOf supply kind) (want (wantsOf (wanted .units) kind)) (on (channelsOf b kind)) (givenOf supply kind a) =
-        subst (λ (cs : List ChannelNumber). Served (freeOf supply kind) (want (wantsOf (wanted .units) kind)) (on cs) (givenOf supply kind a)) (named-one kind m) (p .is .kinds kind m) in
-        let e = units-one (freeOf supply kind) (want (wantsOf (wanted .units) kind)) (on (channelsOf b kind)) (givenOf supply kind a) (givenOf supply kind b) s (p .units kind m) (q .is .kinds kind m) (q .units kind m) i h in
+        let s : Served (freeOf supply kind) (want (wantsOf wanted kind)) (on (channelsOf b kind)) (givenOf supply kind a) =
+        subst (λ (cs : List ChannelNumber). Served (freeOf supply kind) (want (wantsOf wanted kind)) (on cs) (givenOf supply kind a)) (named-one kind m) (p .is .kinds kind m) in
+        let e = units-one (freeOf supply kind) (want (wantsOf wanted kind)) (on (channelsOf b kind)) (givenOf supply kind a) (givenOf supply kind b) s (p .units kind m) (q .is .kinds kind m) (q .units kind m) i h in
         sym (of-free a kind i (r .1 .1)) ∙ e ∙ of-free b kind i (r .1 .1))
         (λ none. not-given a (p .is) i none ∙ sym (not-given b (q .is) i none))
         (of-kind unitKinds i)
@@ -225,10 +225,10 @@ module _ (supply : Supply) (wanted : Facilities) where
       λ i. record { lacking = e .0 i; assigned = e .1 i }
 
 -- ---- what the kinds answer, by what it says of itself
-pub kinds-served : {free : ℕ → ℕ → Bool} {asked : List ℕ} (r : Kinds) → r .ok ≡ true → ServesKinds free asked r → KindsDone free asked (r .channels) (r .heads) unitKinds
+pub kinds-served : {free : ℕ → ℕ → Bool} {asked : Facilities} (r : Kinds) → r .ok ≡ true → ServesKinds free asked r → KindsDone free asked (r .channels) (r .heads) unitKinds
 kinds-served {free} {asked} r e s = subst (λ (b : Bool). KindsAnswer b free asked r) e s
 
-pub kinds-lacking : {free : ℕ → ℕ → Bool} {asked : List ℕ} (r : Kinds) → r .ok ≡ false → ServesKinds free asked r → KindLacking free asked (r .order)
+pub kinds-lacking : {free : ℕ → ℕ → Bool} {asked : Facilities} (r : Kinds) → r .ok ≡ false → ServesKinds free asked r → KindLacking free asked (r .order)
 kinds-lacking {free} {asked} r e s = subst (λ (b : Bool). KindsAnswer b free asked r) e s
 
 -- the drum's answer for the length that was worked out

@@ -1,12 +1,11 @@
 -- An assigner that antt computes: it meets the contract of `assign`, so what `assign` answers is what it computes.
 -- Assumes nothing.
-use Prim.Native.Nat.{ℕ, zero, suc, _+_, _*_, _<_}
+use Prim.Native.Nat.{ℕ, zero, suc, _+_, _<_}
 use mathlib.Core.Path.{_≡_, refl}
 use mathlib.Core.Bool.{Bool, true, false, cond}
 use mathlib.Core.List.{List}
 use native.Mathlib.Omega.{arith}
-use lib.ListN.{length, set, drop, replicate, length-drop}
-use lib.Seq.{length-take-le}
+use lib.ListN.{length, set, replicate}
 use lib.Dec.{eqb}
 use borrow.Author.Tests.{eqb-true}
 use Rattle.numbers.proofs.Tests.{by-bool}
@@ -45,22 +44,22 @@ use Rattle.assign.specs.Chosen.{without, Assigns}
 use Rattle.assign.proofs.ChosenLaws.{no-core, no-drum, no-kind, assigned, assigns-one}
 
 -- ---- the kinds, n of them from one on
-module _ (units : List (List Unit)) (channels : List Channel) (asked : List ℕ) where
+module _ (units : List (List Unit)) (channels : List Channel) (asked : Facilities) where
   abbrev pub serviceAt : ℕ → List Head → Service
   serviceAt order heads = serveOf (marksOf units channels order) (wantsOf asked order) heads
 
   unfoldable pub kindsFrom : ℕ → ℕ → List KindChannels → List Head → Kinds
   kindsFrom zero order named heads = record { ok = true; order = order; channels = named; heads = heads }
   kindsFrom (suc n) order named heads =
-      cond (eqb (total (wantsOf asked order)) 0) (kindsFrom n (order + 1) named heads)
+      cond (eqb (total (wantsOf asked order .0)) 0) (kindsFrom n (order + 1) named heads)
       (cond (serviceAt order heads .ok) (kindsFrom n (order + 1) (set named order (record { on = serviceAt order heads .on })) (serviceAt order heads .heads)) (record { ok = false; order = order; channels = named; heads = heads }))
 
   abbrev pub kindsOf : Kinds
   kindsOf = kindsFrom unitKinds 0 (replicate unitKinds noChannels) (replicate 256 blank)
 
-  module _ (size : length channels ≡ 16) (full : length asked ≡ counts) where
-    long : (order : ℕ) → order < unitKinds → length (wantsOf asked order) ≡ 16
-    long order h = length-take-le 16 (drop (order * 16) asked) (simp length-drop (omega arith))
+  module _ (size : length channels ≡ 16) (full : length (asked .units) ≡ counts) where
+    long : (order : ℕ) → order < unitKinds → length (wantsOf asked order .0) ≡ 16
+    long order h = refl
 
     -- the next kind is served, or it is lacking
     step : (n order : ℕ) (named : List KindChannels) (heads : List Head) → order < unitKinds → (s : Service) → Serving.Serves (marksOf units channels order) (wantsOf asked order) heads s
@@ -78,8 +77,8 @@ module _ (units : List (List Unit)) (channels : List Channel) (asked : List ℕ)
     unfolding kindsFrom
     kinds-from zero order named heads e k = all-done (omega arith) k
     kinds-from (suc n) order named heads e k =
-        by-bool (eqb (total (wantsOf asked order)) 0)
-        (λ t. rw t (kinds-from n (order + 1) named heads (omega arith) (unasked units channels asked order (omega arith) (eqb-true (total (wantsOf asked order)) 0 t) k)))
+        by-bool (eqb (total (wantsOf asked order .0)) 0)
+        (λ t. rw t (kinds-from n (order + 1) named heads (omega arith) (unasked units channels asked order (omega arith) (eqb-true (total (wantsOf asked order .0)) 0 t) k)))
         (λ f. rw f (step n order named heads (omega arith) (serviceAt order heads) (serve-answers (marksOf units channels order) (wantsOf asked order) heads refl (long order (omega arith)) (k .wide))
         (kinds-from n (order + 1) (set named order (record { on = serviceAt order heads .on })) (serviceAt order heads .heads) (omega arith)) k))
 
@@ -95,7 +94,7 @@ withKinds p s k =
     }) (without (Part.Units (kindAt (k .order))))
 
 abbrev pub withDrum : Supply → Facilities → Pair → Start → Provision
-withDrum supply wanted p (D.At s) = withKinds p s (kindsOf (supply .units) (supply .channels) (wanted .units))
+withDrum supply wanted p (D.At s) = withKinds p s (kindsOf (supply .units) (supply .channels) wanted)
 withDrum supply wanted p D.Nothing = without Part.Drum
 
 abbrev pub withCore : Supply → Facilities → Found → Provision
@@ -107,14 +106,14 @@ assignOf supply wanted = withCore supply wanted (searchOf (supply .occupancy) (w
 
 module _ (supply : Supply) (wanted : Facilities) (size : length (supply .channels) ≡ 16) (full : length (wanted .units) ≡ counts) where
   with-kinds : (p : Pair) (s : ℕ) → Core.LeastPair (supply .occupancy) (wanted .ib) (wanted .db) (C.At p) → Drum.LowestStart (supply .areas) (drumLength (supply .channels)) (wanted .md) (D.At s)
-      → (k : Kinds) (b : Bool) → k .ok ≡ b → KindsAnswer b (freeOf supply) (wanted .units) k → Assigns supply wanted (withKinds p s k)
+      → (k : Kinds) (b : Bool) → k .ok ≡ b → KindsAnswer b (freeOf supply) wanted k → Assigns supply wanted (withKinds p s k)
   with-kinds p s c d k true e a = rw e (assigned supply wanted p s (k .channels) (k .heads) c d a)
   with-kinds p s c d k false e a = rw e (no-kind supply wanted c d a refl)
 
   with-drum : (p : Pair) → Core.LeastPair (supply .occupancy) (wanted .ib) (wanted .db) (C.At p) → (r : Start) → Drum.LowestStart (supply .areas) (drumLength (supply .channels)) (wanted .md) r → Assigns supply wanted (withDrum supply wanted p r)
   with-drum p c (D.At s) d =
-      let k = kindsOf (supply .units) (supply .channels) (wanted .units) in
-      with-kinds p s c d k (k .ok) refl (kinds-answer (supply .units) (supply .channels) (wanted .units) size full)
+      let k = kindsOf (supply .units) (supply .channels) wanted in
+      with-kinds p s c d k (k .ok) refl (kinds-answer (supply .units) (supply .channels) wanted size full)
   with-drum p c D.Nothing d = no-drum supply wanted c d refl
 
   with-core : (r : Found) → Core.LeastPair (supply .occupancy) (wanted .ib) (wanted .db) r → Assigns supply wanted (withCore supply wanted r)

@@ -18,6 +18,7 @@ use Rattle.numbers.specs.Kinds.{unitKinds}
 use Rattle.numbers.specs.declared.ChannelNumber.{ChannelNumber}
 use Rattle.units.specs.declared.Unit.{Unit}
 use Rattle.channels.specs.declared.Channel.{Channel}
+use Rattle.assign_channels.specs.declared.ByLogical.{ByLogical}
 use Rattle.assign_channels.specs.Choice.{channel, total, want, on, LexLe}
 use Rattle.assign_channels.proofs.GreedyLaws.{total-none}
 use Rattle.assign_heads.specs.declared.Given.{Given}
@@ -29,6 +30,7 @@ use Rattle.assign_heads.specs.Serving as Serving
 use Rattle.assign_heads.proofs.SumsLaws.{sum-zero}
 use Rattle.assign_free.specs.Assignable.{isFreeOf, FreeUnits}
 use Rattle.assign_free.proofs.AssignableLaws.{marks, one-kind}
+use Rattle.cards_request.specs.declared.Facilities.{Facilities}
 use Rattle.assign.specs.declared.KindChannels.{KindChannels}
 use Rattle.assign.specs.Assignment.{wantsOf, noChannels}
 use Rattle.assign.specs.Kinds.{Possible, KindDone, toOf, KindsDone, KindLacking}
@@ -37,7 +39,7 @@ use Rattle.assign.specs.Kinds.{Possible, KindDone, toOf, KindsDone, Kind
 same-function : {A : Type 0} {f g : ℕ → A} → ((i : ℕ) → f i ≡ g i) → f ≡ g
 same-function h = λ j i. h i j
 
-pub none-yet : (free : ℕ → ℕ → Bool) (asked : List ℕ) → KindsDone free asked (replicate unitKinds noChannels) (replicate 256 blank) 0
+pub none-yet : (free : ℕ → ℕ → Bool) (asked : Facilities) → KindsDone free asked (replicate unitKinds noChannels) (replicate 256 blank) 0
 none-yet free asked = record {
   high = omega arith;
   count = refl;
@@ -52,7 +54,7 @@ none-yet free asked = record {
         by-bool (ltb i 256) (λ t. getD-replicate 256 i blank blank (ltb-true i 256 t))
         (λ t. List·getD-eq-default (replicate 256 blank) blank {n = i} (ltb-false i 256 t))
 
-module _ (units : List (List Unit)) (channels : List Channel) (asked : List ℕ) (size : length channels ≡ 16) (order : ℕ) (more : order < unitKinds) {free : List Bool} {wants : List ℕ}
+module _ (units : List (List Unit)) (channels : List Channel) (asked : Facilities) (size : length channels ≡ 16) (order : ℕ) (more : order < unitKinds) {free : List Bool} {wants : ByLogical}
     (has : FreeUnits units channels order free) (are : wants ≡ wantsOf asked order) where
   abbrev freeOf : ℕ → ℕ → Bool
   freeOf = isFreeOf units channels
@@ -68,7 +70,7 @@ module _ (units : List (List Unit)) (channels : List Channel) (asked : List ℕ)
   possible {others} p = record {
     long = p .long;
     to = p .to;
-    served = subst (λ (w : List ℕ). Served (freeAt free) (want w) (on others) (p .to)) (sym are) (subst (λ (f : ℕ → Bool). Served f (want (wantsOf asked order)) (on others) (p .to)) (sym marks-are) (p .served));
+    served = subst (λ (w : ByLogical). Served (freeAt free) (want w) (on others) (p .to)) (sym are) (subst (λ (f : ℕ → Bool). Served f (want (wantsOf asked order)) (on others) (p .to)) (sym marks-are) (p .served));
   }
 
   pub lacking : {before heads : List Head} {mine : List ChannelNumber} {named : List KindChannels} → Serving.Lacking free wants before mine heads
@@ -84,7 +86,7 @@ module _ (units : List (List Unit)) (channels : List Channel) (asked : List ℕ)
     now-done : KindDone freeOf asked order mine (toOf freeOf order heads)
     now-done = record {
       long = c .long;
-      served = subst (λ (w : List ℕ). Served (freeOf order) (want w) (on mine) (toOf freeOf order heads)) are
+      served = subst (λ (w : ByLogical). Served (freeOf order) (want w) (on mine) (toOf freeOf order heads)) are
           (subst (λ (f : ℕ → Bool). Served f (want wants) (on mine) (λ i. cond (f i) (getD heads i blank .to) Nothing)) marks-are (c .served));
       least = λ others p. c .least others (possible p);
       lowest = subst (λ (f : ℕ → Bool). Lowest f (λ i. cond (f i) (getD heads i blank .to) Nothing)) marks-are (c .lowest);
@@ -115,7 +117,7 @@ module _ (units : List (List Unit)) (channels : List Channel) (asked : List ℕ)
     }
 
 -- the last kind was served
-pub all-done : {free : ℕ → ℕ → Bool} {asked : List ℕ} {channels : List KindChannels} {heads : List Head} {order : ℕ} → unitKinds ≤ order → KindsDone free asked channels heads order → KindsDone free asked channels heads unitKinds
+pub all-done : {free : ℕ → ℕ → Bool} {asked : Facilities} {channels : List KindChannels} {heads : List Head} {order : ℕ} → unitKinds ≤ order → KindsDone free asked channels heads order → KindsDone free asked channels heads unitKinds
 all-done {free} {asked} {channels} {heads} {order} h k = subst (KindsDone free asked channels heads) (upto order h (k .high)) k
   where
     upto : (order : ℕ) → unitKinds ≤ order → order ≤ unitKinds → order ≡ unitKinds
@@ -133,7 +135,7 @@ not-given : (g : Given) → isGiven g ≡ false → g ≡ Nothing
 not-given Nothing e = refl
 not-given (To l) e = never refl e
 
-module _ (units : List (List Unit)) (channels : List Channel) (asked : List ℕ) (order : ℕ) (more : order < unitKinds) (none : total (wantsOf asked order) ≡ 0)
+module _ (units : List (List Unit)) (channels : List Channel) (asked : Facilities) (order : ℕ) (more : order < unitKinds) (none : total (wantsOf asked order .0) ≡ 0)
     {named : List KindChannels} {heads : List Head} (k : KindsDone (isFreeOf units channels) asked named heads order) where
   abbrev free : ℕ → Bool
   free = isFreeOf units channels order
@@ -148,7 +150,7 @@ module _ (units : List (List Unit)) (channels : List Channel) (asked : List ℕ)
       (λ f. rw f)
 
   no-want : (l : ℕ) → want (wantsOf asked order) l ≡ 0
-  no-want l = total-none (wantsOf asked order) none l
+  no-want l = total-none (wantsOf asked order .0) none l
 
   untouched : Served free (want (wantsOf asked order)) (on (replicate 16 (channel 0))) (λ i. Nothing)
   untouched = record {
@@ -185,14 +187,15 @@ module _ (units : List (List Unit)) (channels : List Channel) (asked : List ℕ)
   }
 
 -- the same of lists that are these
-pub as-stored : {free : ℕ → ℕ → Bool} {asked : List ℕ} {order : ℕ} {channels named : List KindChannels} {heads given : List Head} → named ≡ channels → given ≡ heads
+pub as-stored : {free : ℕ → ℕ → Bool} {asked : Facilities} {order : ℕ} {channels named : List KindChannels} {heads given : List Head} → named ≡ channels → given ≡ heads
     → KindsDone free asked channels heads order → KindsDone free asked named given order
 as-stored {free} {asked} {order} {channels} {named} {heads} {given} c h k =
     subst (λ (x : List KindChannels). KindsDone free asked x given order) (sym c) (subst (λ (x : List Head). KindsDone free asked channels x order) (sym h) k)
 
 -- no number of a kind's entries is more than none
-pub nothing-asked : (asked wants : List ℕ) (order n : ℕ) → wants ≡ wantsOf asked order → n ≡ total wants → n ≤ 0 → total (wantsOf asked order) ≡ 0
-nothing-asked asked wants order n e s h = sym (ap total e) ∙ sym s ∙ none n h
+pub nothing-asked : (asked : Facilities) (wants : ByLogical) (order n : ℕ) → wants ≡ wantsOf asked order → n ≡ total (wants .0) → n ≤ 0
+    → total (wantsOf asked order .0) ≡ 0
+nothing-asked asked wants order n e s h = sym (ap (λ (x : ByLogical). total (x .0)) e) ∙ sym s ∙ none n h
   where
     none : (n : ℕ) → n ≤ 0 → n ≡ 0
     none n h = omega arith

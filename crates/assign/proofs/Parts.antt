@@ -1,20 +1,24 @@
 -- The loops of `drum_length` and `wants_of`: what a turn does, and what is there at the end. Assumes nothing.
 use Prim.Native.Nat.{ℕ, _+_, _*_, _≤_, _<_}
-use mathlib.Core.Path.{_≡_, sym, ap, _∙_}
+use mathlib.Core.Path.{_≡_, refl, sym, ap, _∙_}
 use mathlib.Core.Bool.{Bool, true, false, cond}
 use mathlib.Core.List.{List}
 use native.Mathlib.Omega.{arith}
 use native.Mathlib.Numerals.{add-one}
-use lib.ListN.{length, getD, take, drop, length-drop, drop-of-length-le}
-use lib.Seq.{drop-cons, ext-getD, getD-take, getD-drop, length-take-le}
+use lib.ListN.{length, getD, drop, replicate, drop-of-length-le, getD-replicate, List·getD-eq-default}
+use lib.Seq.{drop-cons, ext-getD}
+use Rattle.numbers.specs.Values.{values}
+use Rattle.numbers.proofs.ValuesLaws.{values-at}
 use Rattle.numbers.specs.declared.Kind.{Kind}
 use Rattle.numbers.specs.Kinds.{isDrum, unitKinds}
 use Rattle.channels.specs.declared.Fitted.{Fitted}
 use Rattle.channels.specs.declared.Fitted.the-variants as F
 use Rattle.channels.specs.declared.Channel.{Channel}
 use Rattle.channels.specs.Channels.{noChannel}
+use Rattle.assign_channels.specs.Choice.{byLogical}
 use Rattle.cards_request.specs.Requests.{counts}
-use Rattle.assign.specs.Assignment.{lengthIn, drumLength}
+use Rattle.cards_request.specs.declared.Facilities.{Facilities}
+use Rattle.assign.specs.Assignment.{lengthIn, drumLength, wantsOf}
 
 module _ (channels : List Channel) (c : ℕ) (h : c < length channels) where
   abbrev here : Fitted
@@ -41,9 +45,15 @@ pub drum-end : (channels : List Channel) (c : ℕ) → length channels ≤ c →
 unfolding drumLength
 drum-end channels c h = ap drumLength (drop-of-length-le channels h)
 
--- a list whose entries are those of a part is that part
-pub part-is : (units wants : List ℕ) (order : ℕ) → length units ≡ counts → length wants ≡ 16 → order < unitKinds → ((l : ℕ) → l < 16 → getD wants l 0 ≡ getD units (order * 16 + l) 0) → wants ≡ take 16 (drop (order * 16) units)
-part-is units wants order u w r each =
-    ext-getD 0 wants (take 16 (drop (order * 16) units)) (w ∙ sym (length-take-le 16 (drop (order * 16) units) (simp length-drop (omega arith)))) λ l h.
+-- a table whose numbers are those of a kind's entries is what they ask for
+pub part-is : (wanted : Facilities) (wants : List ℕ) (order : ℕ) → length wants ≡ 16
+    → ((l : ℕ) → l < 16 → getD wants l 0 ≡ getD (wanted .units) (order * 16 + l) 0) → byLogical wants ≡ wantsOf wanted order
+part-is wanted wants order w each = ap byLogical (ext-getD 0 wants (values 16 (λ l. getD (wanted .units) (order * 16 + l) 0)) w λ l h.
     let k : l < 16 = omega arith in
-    each l k ∙ sym (getD-take 16 (drop (order * 16) units) l 0 k ∙ getD-drop (order * 16) units l 0)
+    each l k ∙ sym (values-at 16 (λ l. getD (wanted .units) (order * 16 + l) 0) l 0 k))
+
+-- behind the last kind nothing is asked for
+pub part-none : (wanted : Facilities) (order : ℕ) → length (wanted .units) ≡ counts → unitKinds ≤ order
+    → byLogical (replicate 16 0) ≡ wantsOf wanted order
+part-none wanted order u h = part-is wanted (replicate 16 0) order refl λ l k.
+    getD-replicate 16 l 0 0 k ∙ sym (List·getD-eq-default (wanted .units) 0 {n = order * 16 + l} (omega arith))

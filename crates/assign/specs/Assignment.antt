@@ -1,11 +1,12 @@
 -- What an assignment is, whichever it is. A reader has to believe this page.
-use Prim.Native.Nat.{ℕ, _*_, _<_}
+use Prim.Native.Nat.{ℕ, _+_, _*_, _<_}
 use mathlib.Core.Path.{_≡_}
 use mathlib.Core.Bool.{Bool, true, cond}
 use mathlib.Core.List.{List, [], _∷_}
-use lib.ListN.{length, getD, take, drop, replicate}
+use lib.ListN.{length, getD, replicate}
 use Rattle.numbers.specs.declared.ChannelNumber.{ChannelNumber}
 use Rattle.numbers.specs.Kinds.{isDrum, unitKinds}
+use Rattle.numbers.specs.Values.{values}
 use Rattle.units.specs.declared.Unit.{Unit}
 use Rattle.channels.specs.declared.Fitted.{Fitted}
 use Rattle.channels.specs.declared.Fitted.the-variants as F
@@ -13,7 +14,8 @@ use Rattle.channels.specs.declared.Channel.{Channel}
 use Rattle.assign_core.specs.Core as Core
 use Rattle.assign_drum.specs.declared.Area.{Area}
 use Rattle.assign_drum.specs.Drum as Drum
-use Rattle.assign_channels.specs.Choice.{channel, want, on}
+use Rattle.assign_channels.specs.declared.ByLogical.{ByLogical}
+use Rattle.assign_channels.specs.Choice.{channel, byLogical, want, on}
 use Rattle.assign_heads.specs.declared.Given.{Given}
 use Rattle.assign_heads.specs.declared.Given.the-variants.{Nothing}
 use Rattle.assign_heads.specs.Heads.{isGiven, Served}
@@ -46,8 +48,8 @@ drumLength [] = 0
 drumLength (c ∷ cs) = lengthIn (c .has) (drumLength cs)
 
 -- A KIND IS TOLD BY ITS PLACE in the written order of those that have units. What its entries ask for, by logical channel
-abbrev pub wantsOf : List ℕ → ℕ → List ℕ
-wantsOf asked kind = take 16 (drop (kind * 16) asked)
+abbrev pub wantsOf : Facilities → ℕ → ByLogical
+wantsOf wanted kind = byLogical (values 16 (λ l. getD (wanted .units) (kind * 16 + l) 0))
 
 -- no entry of a kind has a channel
 abbrev pub noChannels : KindChannels
@@ -90,4 +92,4 @@ pub record IsAssignment (supply : Supply) (wanted : Facilities) (a : Assigned) :
   pub drum : Drum.Fits (supply .areas) (drumLength (supply .channels)) (wanted .md) (a .drum)
   pub only : (i : ℕ) → isGiven (given a i) ≡ true → Assignable supply i
   pub kinds : (kind : ℕ) → kind < unitKinds
-      → Served (freeOf supply kind) (want (wantsOf (wanted .units) kind)) (on (channelsOf a kind)) (givenOf supply kind a)
+      → Served (freeOf supply kind) (want (wantsOf wanted kind)) (on (channelsOf a kind)) (givenOf supply kind a)

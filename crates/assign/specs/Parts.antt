@@ -32,7 +32,7 @@ pub record HasDrum (areas : List Area) (length : ℕ) (wanted : Facilities) : Ty
 pub record HasKind (supply : Supply) (wanted : Facilities) (order : ℕ) : Type 0 where
   pub on : ℕ → ℕ
   pub to : ℕ → Given
-  pub served : Served (freeOf supply order) (want (wantsOf (wanted .units) order)) on to
+  pub served : Served (freeOf supply order) (want (wantsOf wanted order)) on to
 
 -- a part alone has a solution in this cell; it is lacking where it has none
 abbrev pub Has : Supply → Facilities → Part → Type 0

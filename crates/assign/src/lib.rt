@@ -1,4 +1,5 @@
 // The facilities that a job gets: core, drum area, and units of each kind; or which of them is lacking first.
+use assign_channels::ByLogical;
 use assign_core::Found;
 use assign_drum::Area;
 use assign_drum::Start;
@@ -12,11 +13,8 @@ use numbers::ChannelNumber;
 use numbers::Kind;
 use units::Units;
 ghost use mathlib.Core.Path.{_≡_};
-ghost use Prim.Native.Nat.{_<_, _*_};
-ghost use lib.ListN.{take, drop};
-ghost use Rattle.numbers.specs.Kinds.{unitKinds};
 ghost use Rattle.assign_free.specs.Assignable.{isFreeOf};
-ghost use Rattle.assign.specs.Assignment.{drumLength, supplyOf};
+ghost use Rattle.assign.specs.Assignment.{drumLength, supplyOf, wantsOf};
 ghost use Rattle.assign.specs.Kinds.{ServesKinds};
 ghost use Rattle.assign.specs.Chosen.{nothing, without, Assigns};
 
@@ -94,32 +92,35 @@ pub fn drum_length(channels: [Channel; 16]) -> u32
     0
 }
 
-// What the entries of a kind ask for.
-fn wants_of(units: [u8; cards_request::COUNTS], order: usize) -> [u8; 16]
-    requires { ⌜ order < unitKinds ⌝ }
-    ensures { λ r. ⌜ r ≡ take 16 (drop (order * 16) units) ⌝ }
+// What the entries of a kind, told by its place in the written order, ask for; nothing behind the last kind.
+pub fn wants_of(wanted: Facilities, order: usize) -> ByLogical
+    ensures { λ r. ⌜ r ≡ wantsOf wanted order ⌝ }
 {
+    let units = wanted.units;
     let mut wants = [0u8; 16];
-    let mut l: usize = 0;
-    while l < 16 {
-        wants[l] = units[order * 16 + l];
-        l += 1;
+    if order < numbers::UNIT_KINDS {
+        let mut l: usize = 0;
+        while l < 16 {
+            wants[l] = units[order * 16 + l];
+            l += 1;
+        }
     }
-    wants
+    ByLogical(wants)
 }
 
 // Serves the kinds in the written order; the first that is lacking ends it. One of which nothing is asked for gets no
 // channel and no unit, and its units are not looked at.
-fn serve_kinds(units: Units, channels: [Channel; 16], asked: [u8; cards_request::COUNTS]) -> Kinds
-    ensures { λ r. ⌜ ServesKinds (isFreeOf (units .of) channels) asked r ⌝ }
+fn serve_kinds(units: Units, channels: [Channel; 16], wanted: Facilities) -> Kinds
+    ensures { λ r. ⌜ ServesKinds (isFreeOf (units .of) channels) wanted r ⌝ }
 {
     let none = [ChannelNumber(0); 16];
     let mut chosen = [KindChannels { on: none }; numbers::UNIT_KINDS];
     let mut heads = [Head { to: Given::Nothing }; 256];
     let mut order: usize = 0;
     while order < numbers::UNIT_KINDS {
-        let wants = wants_of(asked, order);
-        if 0 < assign_channels::sum(wants) {
+        let wants = wants_of(wanted, order);
+        let asked = wants.0;
+        if 0 < assign_channels::sum(asked) {
             let free = assign_free::free_units(units, channels, order);
             let service = assign_heads::serve(free, wants, heads);
             if !service.ok {
@@ -172,8 +173,7 @@ fn find(
     let Start::At(start) = assign_drum::lowest_start(areas, drum_length(channels), wanted.md) else {
         return without(Part::Drum);
     };
-    let asked = wanted.units;
-    let kinds = serve_kinds(units, channels, asked);
+    let kinds = serve_kinds(units, channels, wanted);
     if !kinds.ok {
         return without(Part::Units(numbers::kind_at(kinds.order)));
     }

@@ -12,13 +12,19 @@ use lib.ListN.{length, getD, set, replicate}
 use borrow.Author.Tests.{leb-true, leb-false}
 use Rattle.numbers.proofs.Tests.{by-bool, never}
 use Rattle.numbers.specs.declared.ChannelNumber.{ChannelNumber}
+use Rattle.assign_channels.specs.declared.ByChannel.{ByChannel}
+use Rattle.assign_channels.specs.declared.ByLogical.{ByLogical}
 use Rattle.assign_channels.specs.declared.Picks.{Picks}
-use Rattle.assign_channels.specs.Choice.{channel, want, on, total, Placed, LexLe, Least, NoList, Answer, LeastList}
+use Rattle.assign_channels.specs.Choice.{channel, byChannel, byLogical, on, total, Placed, LexLe, Least, NoList, Answer, LeastList}
 use Rattle.assign_channels.specs.Greedy.{hallB, picks, chooseOf}
 use Rattle.assign_channels.proofs.HallLaws.{hall-sound, hall-complete, channel-below}
 use Rattle.assign_channels.proofs.GreedyLaws.{Choice, choice-hall, picks-choice, picks-least}
 
 -- ---- the two statements of a choice
+-- what a list asks for at a place, 0 past its end
+abbrev want : List ℕ → ℕ → ℕ
+want ns i = getD ns i 0
+
 -- a list of channels for a list of counts, counted from 0
 pub record Each (counts ns : List ℕ) (cs : List ChannelNumber) : Type 0 where
   pub long : length cs ≡ length ns
@@ -111,7 +117,7 @@ each-choice (suc n ∷ ns) (c ∷ cs) counts q = (
 
 -- ---- logical channels 1 to 15 are the list without its first
 module _ (counts : List ℕ) (n : ℕ) (ns : List ℕ) (c : ChannelNumber) (cs : List ChannelNumber) (long : length ns ≡ 15) where
-  placed-each : Placed counts (n ∷ ns) (c ∷ cs) → Each counts ns cs
+  placed-each : Placed (byChannel counts) (byLogical (n ∷ ns)) (c ∷ cs) → Each counts ns cs
   placed-each p = record {
     long = omega (arith, p .long);
     fits = λ i h. p .fits (suc i) (omega arith) (within i h) h;
@@ -122,7 +128,7 @@ module _ (counts : List ℕ) (n : ℕ) (ns : List ℕ) (c : ChannelNumber) (cs :
       within : (i : ℕ) → 1 ≤ want ns i → suc i < 16
       within i h = omega (arith, channel-below ns i 1 (omega arith) h)
 
-  each-placed : total (n ∷ ns) ≤ total counts → c .0 ≡ 0 → Each counts ns cs → Placed counts (n ∷ ns) (c ∷ cs)
+  each-placed : total (n ∷ ns) ≤ total counts → c .0 ≡ 0 → Each counts ns cs → Placed (byChannel counts) (byLogical (n ∷ ns)) (c ∷ cs)
   each-placed t z e = record { long = omega (arith, e .long); fits = fits; own = own; rest = t; none-0 = z; none = none }
     where
       fits : (l : ℕ) → 1 ≤ l → l < 16 → 1 ≤ want (n ∷ ns) l → want (n ∷ ns) l ≤ getD counts (on (c ∷ cs) l) 0
@@ -139,29 +145,29 @@ module _ (counts : List ℕ) (n : ℕ) (ns : List ℕ) (c : ChannelNumber) (cs :
       none (suc l) h k w = e .none l (omega arith) w
 
   -- what a list of channels says of the tests
-  placed-hall : Placed counts (n ∷ ns) (c ∷ cs) → hallB counts ns ≡ true
+  placed-hall : Placed (byChannel counts) (byLogical (n ∷ ns)) (c ∷ cs) → hallB counts ns ≡ true
   placed-hall p = hall-complete counts ns (choice-hall ns cs counts (each-choice ns cs counts (placed-each p)))
 
 -- ---- the greedy choice meets the promise
 module _ (counts : List ℕ) (n : ℕ) (ns : List ℕ) (wide : length counts ≡ 16) (long : length ns ≡ 15) where
-  no-list : ((c : ChannelNumber) (cs : List ChannelNumber) → Placed counts (n ∷ ns) (c ∷ cs) → ⊥) → NoList counts (n ∷ ns) (replicate 16 (channel 0))
+  no-list : ((c : ChannelNumber) (cs : List ChannelNumber) → Placed (byChannel counts) (byLogical (n ∷ ns)) (c ∷ cs) → ⊥) → NoList (byChannel counts) (byLogical (n ∷ ns)) (replicate 16 (channel 0))
   no-list h = record { never = never′; blank = refl }
     where
-      never′ : (others : List ChannelNumber) → Placed counts (n ∷ ns) others → ⊥
+      never′ : (others : List ChannelNumber) → Placed (byChannel counts) (byLogical (n ∷ ns)) others → ⊥
       never′ [] p = omega (arith, p .long)
       never′ (c ∷ cs) p = h c cs p
 
-  least-list : leb (total (n ∷ ns)) (total counts) ≡ true → hallB counts ns ≡ true → Least counts (n ∷ ns) (channel 0 ∷ picks counts ns)
+  least-list : leb (total (n ∷ ns)) (total counts) ≡ true → hallB counts ns ≡ true → Least (byChannel counts) (byLogical (n ∷ ns)) (channel 0 ∷ picks counts ns)
   least-list t u = record {
     placed = each-placed counts n ns (channel 0) (picks counts ns) long (leb-true (total (n ∷ ns)) (total counts) t) refl (choice-each ns (picks counts ns) counts (picks-choice ns counts (omega arith) (hall-sound counts ns u)));
     least = least;
   }
     where
-      least : (others : List ChannelNumber) → Placed counts (n ∷ ns) others → LexLe (channel 0 ∷ picks counts ns) others
+      least : (others : List ChannelNumber) → Placed (byChannel counts) (byLogical (n ∷ ns)) others → LexLe (channel 0 ∷ picks counts ns) others
       least [] p = absurd (omega (arith, p .long))
       least (d ∷ ds) p = inr (sym (p .none-0), picks-least ns counts (omega arith) (hall-sound counts ns u) ds (each-choice ns ds counts (placed-each counts n ns d ds long p)))
 
-  pub chosen-cons : LeastList counts (n ∷ ns) (chooseOf counts (n ∷ ns))
+  pub chosen-cons : LeastList (byChannel counts) (byLogical (n ∷ ns)) (chooseOf (byChannel counts) (byLogical (n ∷ ns)))
   unfolding chooseOf
   chosen-cons =
       by-bool (leb (total (n ∷ ns)) (total counts))
@@ -170,9 +176,14 @@ module _ (counts : List ℕ) (n : ℕ) (ns : List ℕ) (wide : length counts ≡
       (λ u. rw (t, u) (no-list (λ c cs p. never (placed-hall counts n ns c cs long p) u))))
       (λ t. rw t (no-list (λ c cs p. omega (arith, p .rest, leb-false (total (n ∷ ns)) (total counts) t))))
 
-pub chosen : (counts wants : List ℕ) → length counts ≡ 16 → length wants ≡ 16 → LeastList counts wants (chooseOf counts wants)
-chosen counts [] w l = absurd (omega arith)
-chosen counts (n ∷ ns) w l = chosen-cons counts n ns w (omega arith)
+chosen-list : (counts wants : List ℕ) → length counts ≡ 16 → length wants ≡ 16
+    → LeastList (byChannel counts) (byLogical wants) (chooseOf (byChannel counts) (byLogical wants))
+chosen-list counts [] w l = absurd (omega arith)
+chosen-list counts (n ∷ ns) w l = chosen-cons counts n ns w (omega arith)
+
+pub chosen : (counts : ByChannel) (wants : ByLogical) → length (counts .0) ≡ 16 → length (wants .0) ≡ 16
+    → LeastList counts wants (chooseOf counts wants)
+chosen counts wants w l = chosen-list (counts .0) (wants .0) w l
 
 -- ---- the promise leaves one answer
 pub lex-both : (xs ys : List ChannelNumber) → LexLe xs ys → LexLe ys xs → xs ≡ ys
@@ -184,23 +195,23 @@ lex-both (x ∷ xs) (y ∷ ys) p q =
     (λ e. ⊎-elim (λ m. absurd (omega arith)) (λ m. let h : x ≡ y = λ i. record { 0 = e .0 i } in cc (h, lex-both xs ys (e .1) (m .1))) q)
     p
 
-one-of : (counts wants : List ℕ) (a b : Bool) (p q : List ChannelNumber) → LeastList counts wants (record { ok = a; on = p }) → LeastList counts wants (record { ok = b; on = q })
+one-of : (counts : ByChannel) (wants : ByLogical) (a b : Bool) (p q : List ChannelNumber) → LeastList counts wants (record { ok = a; on = p }) → LeastList counts wants (record { ok = b; on = q })
     → _≡_ {A = Picks} (record { ok = a; on = p }) (record { ok = b; on = q })
 one-of counts wants true true p q h k = let e = lex-both p q (h .least q (k .placed)) (k .least p (h .placed)) in λ i. record { ok = true; on = e i }
 one-of counts wants true false p q h k = absurd (k .never p (h .placed))
 one-of counts wants false true p q h k = absurd (h .never q (k .placed))
 one-of counts wants false false p q h k = let e = h .blank ∙ sym (k .blank) in λ i. record { ok = false; on = e i }
 
-pub answers-one : (counts wants : List ℕ) (r s : Picks) → LeastList counts wants r → LeastList counts wants s → r ≡ s
+pub answers-one : (counts : ByChannel) (wants : ByLogical) (r s : Picks) → LeastList counts wants r → LeastList counts wants s → r ≡ s
 answers-one counts wants r s = one-of counts wants (r .ok) (s .ok) (r .on) (s .on)
 
 -- so an answer is what the definition computes
-pub computed : (counts wants : List ℕ) (r : Picks) → length counts ≡ 16 → length wants ≡ 16 → LeastList counts wants r → r ≡ chooseOf counts wants
+pub computed : (counts : ByChannel) (wants : ByLogical) (r : Picks) → length (counts .0) ≡ 16 → length (wants .0) ≡ 16 → LeastList counts wants r → r ≡ chooseOf counts wants
 computed counts wants r w l a = answers-one counts wants r (chooseOf counts wants) a (chosen counts wants w l)
 
 -- ---- an answer by what it says of itself
-pub found-least : (counts wants : List ℕ) (r : Picks) → r .ok ≡ true → LeastList counts wants r → Least counts wants (r .on)
+pub found-least : (counts : ByChannel) (wants : ByLogical) (r : Picks) → r .ok ≡ true → LeastList counts wants r → Least counts wants (r .on)
 found-least counts wants r e a = subst (λ (b : Bool). Answer b counts wants (r .on)) e a
 
-pub found-none : (counts wants : List ℕ) (r : Picks) → r .ok ≡ false → LeastList counts wants r → NoList counts wants (r .on)
+pub found-none : (counts : ByChannel) (wants : ByLogical) (r : Picks) → r .ok ≡ false → LeastList counts wants r → NoList counts wants (r .on)
 found-none counts wants r e a = subst (λ (b : Bool). Answer b counts wants (r .on)) e a

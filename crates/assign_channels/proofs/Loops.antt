@@ -10,6 +10,9 @@ use lib.ListN.{length, getD, set, take, drop, replicate, length-set, length-drop
 use lib.Seq.{drop-cons, take-all, take-suc, take-suc-set, getD-set-other}
 use borrow.Author.Tests.{le-leb, lt-leb, eq-eqb, ne-eqb}
 use Rattle.numbers.specs.declared.ChannelNumber.{ChannelNumber}
+use Rattle.assign_channels.specs.declared.ByChannel.{ByChannel}
+use Rattle.assign_channels.specs.declared.ByLogical.{ByLogical}
+use Rattle.assign_channels.specs.declared.Picks.{Picks}
 use Rattle.assign_channels.specs.Choice.{channel, total, LeastList}
 use Rattle.assign_channels.specs.Greedy.{cnt, Hall, testsB, hallB, lowestFrom, lowestOf, picks, chooseOf}
 use Rattle.assign_channels.proofs.HallLaws.{hall-zero, hall-sound}
@@ -20,26 +23,30 @@ use Rattle.assign_channels.proofs.GreedyLaws.{lowest-at, lowest-below}
 pub next : (ns : List ℕ) (i : ℕ) → i < length ns → drop i ns ≡ getD ns i 0 ∷ drop (i + 1) ns
 next ns i h = rw (add-one, drop-cons ns i 0)
 
--- ---- the threshold test
-module _ (counts all : List ℕ) (i : ℕ) where
+-- ---- the threshold test, of `all` entries, of which those from i on in ns are left
+module _ (counts all ns : List ℕ) (i : ℕ) where
   abbrev n : ℕ
-  n = getD all i 0
+  n = getD ns i 0
 
-  pub tests-zero : i < length all → n ≡ 0 → testsB counts all (drop (i + 1) all) ≡ testsB counts all (drop i all)
+  pub tests-zero : i < length ns → n ≡ 0 → testsB counts all (drop (i + 1) ns) ≡ testsB counts all (drop i ns)
   unfolding testsB
-  tests-zero h e = sym (rw (next all i h, eq-eqb n 0 e) refl)
+  tests-zero h e = sym (rw (next ns i h, eq-eqb n 0 e) refl)
 
-  pub tests-pass : i < length all → cnt n all ≤ cnt n counts → 0 < n → testsB counts all (drop (i + 1) all) ≡ testsB counts all (drop i all)
+  pub tests-pass : i < length ns → cnt n all ≤ cnt n counts → 0 < n → testsB counts all (drop (i + 1) ns) ≡ testsB counts all (drop i ns)
   unfolding testsB
-  tests-pass h l p = sym (rw (next all i h, ne-eqb n 0 (λ z. omega arith), le-leb (cnt n all) (cnt n counts) l) refl)
+  tests-pass h l p = sym (rw (next ns i h, ne-eqb n 0 (λ z. omega arith), le-leb (cnt n all) (cnt n counts) l) refl)
 
-  pub tests-fail : i < length all → cnt n counts < cnt n all → 0 < n → testsB counts all (drop i all) ≡ false
+  pub tests-fail : i < length ns → cnt n counts < cnt n all → 0 < n → testsB counts all (drop i ns) ≡ false
   unfolding testsB
-  tests-fail h l p = rw (next all i h, ne-eqb n 0 (λ z. omega arith), lt-leb (cnt n all) (cnt n counts) l) refl
+  tests-fail h l p = rw (next ns i h, ne-eqb n 0 (λ z. omega arith), lt-leb (cnt n all) (cnt n counts) l) refl
 
-  pub tests-end : length all ≤ i → testsB counts all (drop i all) ≡ true
+  pub tests-end : length ns ≤ i → testsB counts all (drop i ns) ≡ true
   unfolding testsB
-  tests-end h = rw (drop-of-length-le all h) refl
+  tests-end h = rw (drop-of-length-le ns h) refl
+
+-- the entries from a logical channel on, as the part of the table that is lent
+pub lent-is : (wants : List ℕ) (from : ℕ) → length wants ≡ 16 → take (16 - from) (drop from wants) ≡ drop from wants
+lent-is wants from size = take-all (16 - from) (drop from wants) (simp length-drop (omega arith))
 
 -- ---- the lowest channel
 module _ (counts : List ℕ) (n : ℕ) (rest : List ℕ) (c : ℕ) (below : c < 16) where
@@ -88,21 +95,11 @@ module _ {counts wants : List ℕ} {on : List ChannelNumber} {left : List ℕ} {
   rest : drop l wants ≡ getD wants l 0 ∷ drop (l + 1) wants
   rest = next wants l (omega arith)
 
-  -- the part of the counts that is lent
-  abbrev pub part : List ℕ
-  part = take (16 - (l + 1)) (drop (l + 1) wants)
-
-  part-is : part ≡ drop (l + 1) wants
-  part-is = take-all (16 - (l + 1)) (drop (l + 1) wants) (simp length-drop (omega arith))
-
   pub asks : Hall left (getD wants l 0 ∷ drop (l + 1) wants)
   asks = subst (Hall left) rest (g .hall)
 
-  pub pick-below : {c : ℕ} → 0 < getD wants l 0 → c ≡ lowestOf left (getD wants l 0) part → c < 16
-  pick-below {c} p e =
-      let h = lowest-below left (getD wants l 0) (drop (l + 1) wants) p (omega (arith, g .wide)) asks in
-      let f : lowestOf left (getD wants l 0) part ≡ lowestOf left (getD wants l 0) (drop (l + 1) wants) = ap (lowestOf left (getD wants l 0)) part-is in
-      omega arith
+  pub pick-below : {c : ℕ} → 0 < getD wants l 0 → c ≡ lowestOf left (getD wants l 0) (drop (l + 1) wants) → c < 16
+  pick-below {c} p e = omega (arith, lowest-below left (getD wants l 0) (drop (l + 1) wants) p (omega (arith, g .wide)) asks)
 
   pub turn-none : getD wants l 0 ≡ 0 → Going counts wants on left (l + 1)
   unfolding picks
@@ -119,10 +116,10 @@ module _ {counts wants : List ℕ} {on : List ChannelNumber} {left : List ℕ} {
         ap (λ (x : List ChannelNumber). x ++ picks left (drop (l + 1) wants)) e ∙ append-assoc (take l on) (channel 0 ∷ []) (picks left (drop (l + 1) wants)) ∙ ap (λ (x : List ChannelNumber). take l on ++ x) (sym f) ∙ g .so;
   }
 
-  pub turn : {c : ℕ} → 0 < getD wants l 0 → c ≡ lowestOf left (getD wants l 0) part → Going counts wants (set on l (channel c)) (set left c 0) (l + 1)
+  pub turn : {c : ℕ} → 0 < getD wants l 0 → c ≡ lowestOf left (getD wants l 0) (drop (l + 1) wants)
+      → Going counts wants (set on l (channel c)) (set left c 0) (l + 1)
   unfolding picks
-  turn {c} p e =
-      let d : c ≡ lowestOf left (getD wants l 0) (drop (l + 1) wants) = e ∙ ap (lowestOf left (getD wants l 0)) part-is in
+  turn {c} p d =
       let low = lowest-at left (getD wants l 0) (drop (l + 1) wants) p (omega (arith, g .wide)) asks in
       record {
         low = omega arith;
@@ -141,9 +138,11 @@ module _ {counts wants : List ℕ} {on : List ChannelNumber} {left : List ℕ} {
       first zero p ns d = absurd (omega arith)
       first (suc n) p ns d = ap (λ (x : ℕ). channel x ∷ picks (set left x 0) ns) (sym d)
 
--- the same, where a branch gave the lists
-pub same : {counts wants : List ℕ} {on on′ : List ChannelNumber} {left left′ : List ℕ} {l : ℕ} → on ≡ on′ → left ≡ left′ → Going counts wants on′ left′ l → Going counts wants on left l
-same {counts} {wants} {on} {on′} {left} {left′} {l} e f g = subst (λ (x : List ℕ). Going counts wants on x l) (sym f) (subst (λ (x : List ChannelNumber). Going counts wants x left′ l) (sym e) g)
+-- the same, where a branch gave the tables
+pub same : {counts wants : List ℕ} {on on′ : List ChannelNumber} {left left′ : ByChannel} {l : ℕ} → on ≡ on′ → left ≡ left′
+    → Going counts wants on′ (left′ .0) l → Going counts wants on (left .0) l
+same {counts} {wants} {on} {on′} {left} {left′} {l} e f g =
+    subst (λ (x : ByChannel). Going counts wants on (x .0) l) (sym f) (subst (λ (x : List ChannelNumber). Going counts wants x (left′ .0) l) (sym e) g)
 
 pub end : {counts wants : List ℕ} {on : List ChannelNumber} {left : List ℕ} {l : ℕ} → length wants ≡ 16 → 16 ≤ l → Going counts wants on left l → on ≡ channel 0 ∷ picks counts (drop 1 wants)
 unfolding picks
@@ -153,27 +152,29 @@ end {counts} {wants} {on} {left} {l} size h g =
     sym b ∙ g .so
 
 -- ---- the three answers
-module _ (counts wants : List ℕ) (wide : length counts ≡ 16) (size : length wants ≡ 16) where
-  pub too-many : total counts < total wants → LeastList counts wants (record { ok = false; on = replicate 16 (channel 0) })
+module _ (counts : ByChannel) (wants : ByLogical) (wide : length (counts .0) ≡ 16) (size : length (wants .0) ≡ 16) where
+  abbrev none : Picks
+  none = record { ok = false; on = replicate 16 (channel 0) }
+
+  pub too-many : total (counts .0) < total (wants .0) → LeastList counts wants none
   unfolding chooseOf
-  too-many h = rw (lt-leb (total wants) (total counts) h) at (chosen counts wants wide size)
+  too-many h = rw (lt-leb (total (wants .0)) (total (counts .0)) h) at (chosen counts wants wide size)
 
-  -- the counts without the first, as the part of the array that is lent
-  abbrev pub lent : List ℕ
-  lent = take (16 - 1) (drop 1 wants)
-
-  lent-is : lent ≡ drop 1 wants
-  lent-is = take-all (16 - 1) (drop 1 wants) (simp length-drop (omega arith))
-
-  pub not-served : total wants ≤ total counts → hallB counts lent ≡ false → LeastList counts wants (record { ok = false; on = replicate 16 (channel 0) })
+  pub not-served : total (wants .0) ≤ total (counts .0) → hallB (counts .0) (drop 1 (wants .0)) ≡ false → LeastList counts wants none
   unfolding chooseOf
-  not-served h f = rw (le-leb (total wants) (total counts) h, sym (ap (hallB counts) lent-is) ∙ f) at (chosen counts wants wide size)
+  not-served h f = rw (le-leb (total (wants .0)) (total (counts .0)) h, f) at (chosen counts wants wide size)
 
-  pub served : hallB counts lent ≡ true → Hall counts (drop 1 wants)
-  served t = hall-sound counts (drop 1 wants) (sym (ap (hallB counts) lent-is) ∙ t)
+  pub served : hallB (counts .0) (drop 1 (wants .0)) ≡ true → Hall (counts .0) (drop 1 (wants .0))
+  served t = hall-sound (counts .0) (drop 1 (wants .0)) t
 
-  pub found : {on : List ChannelNumber} → total wants ≤ total counts → hallB counts lent ≡ true → on ≡ channel 0 ∷ picks counts (drop 1 wants) → LeastList counts wants (record { ok = true; on = on })
+  -- the list that is chosen
+  abbrev pub list : List ChannelNumber
+  list = channel 0 ∷ picks (counts .0) (drop 1 (wants .0))
+
+  pub found : {on : List ChannelNumber} → total (wants .0) ≤ total (counts .0) → hallB (counts .0) (drop 1 (wants .0)) ≡ true → on ≡ list
+      → LeastList counts wants (record { ok = true; on = on })
   unfolding chooseOf
   found {on} h t e =
-      let a : LeastList counts wants (record { ok = true; on = channel 0 ∷ picks counts (drop 1 wants) }) = rw (le-leb (total wants) (total counts) h, sym (ap (hallB counts) lent-is) ∙ t) at (chosen counts wants wide size) in
+      let a : LeastList counts wants (record { ok = true; on = list }) =
+      rw (le-leb (total (wants .0)) (total (counts .0)) h, t) at (chosen counts wants wide size) in
       subst (λ (x : List ChannelNumber). LeastList counts wants (record { ok = true; on = x })) (sym e) a

@@ -7,6 +7,8 @@ use mathlib.Core.List.{List, [], _∷_}
 use lib.Dec.{leb, eqb}
 use lib.ListN.{getD, set, drop, replicate}
 use Rattle.numbers.specs.declared.ChannelNumber.{ChannelNumber}
+use Rattle.assign_channels.specs.declared.ByChannel.{ByChannel}
+use Rattle.assign_channels.specs.declared.ByLogical.{ByLogical}
 use Rattle.assign_channels.specs.declared.Picks.{Picks}
 use Rattle.assign_channels.specs.Choice.{channel, total}
 
@@ -51,10 +53,10 @@ picks counts (zero ∷ ns) = channel 0 ∷ picks counts ns
 picks counts (suc n ∷ ns) = channel (lowestOf counts (suc n) ns) ∷ picks (set counts (lowestOf counts (suc n) ns) 0) ns
 
 -- the whole
-unfoldable pub chooseOf : List ℕ → List ℕ → Picks
+unfoldable pub chooseOf : ByChannel → ByLogical → Picks
 chooseOf counts wants =
-    cond (leb (total wants) (total counts))
-    (cond (hallB counts (drop 1 wants))
-    (record { ok = true; on = channel 0 ∷ picks counts (drop 1 wants) })
+    cond (leb (total (wants .0)) (total (counts .0)))
+    (cond (hallB (counts .0) (drop 1 (wants .0)))
+    (record { ok = true; on = channel 0 ∷ picks (counts .0) (drop 1 (wants .0)) })
     (record { ok = false; on = replicate 16 (channel 0) }))
     (record { ok = false; on = replicate 16 (channel 0) })

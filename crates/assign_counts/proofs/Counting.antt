@@ -3,7 +3,7 @@
 use Prim.Native.Nat.{ℕ, _+_, _*_, _≤_, _<_, _/_, _%_}
 use mathlib.Core.Path.{_≡_, refl, sym, ap, _∙_, subst}
 use mathlib.Core.Bool.{Bool, false, cond, _&&_}
-use mathlib.Core.List.{List}
+use mathlib.Core.List.{List, []}
 use mathlib.Core.Logic.{⊎-elim}
 use native.Mathlib.Nat.{eq-or-lt-of-le}
 use native.Mathlib.Omega.{arith}
@@ -13,18 +13,20 @@ use lib.Seq.{ext-getD, getD-set-same, getD-set-other}
 use borrow.Author.Tests.{eq-eqb, ne-eqb, eqb-true, eqb-false, lt-ltb, le-ltb}
 use Rattle.numbers.proofs.Tests.{by-bool}
 use Rattle.numbers.specs.Kinds.{unitKinds}
-use Rattle.cards_request.specs.Requests.{counts as many}
 use Rattle.units.specs.declared.Unit.{Unit}
 use Rattle.units.specs.State.{unitIn, assignable}
 use Rattle.channels.specs.declared.Fitted.{Fitted}
 use Rattle.channels.specs.declared.Fitted.the-variants.{Nothing, With}
 use Rattle.channels.specs.declared.Channel.{Channel}
 use Rattle.channels.specs.Channels.{noChannel, unitsOf}
+use Rattle.assign_channels.specs.declared.ByChannel.{ByChannel}
+use Rattle.assign_channels.specs.Choice.{byChannel, countAt}
 use Rattle.assign_heads.specs.Sums.{one, howMany}
 use Rattle.assign_heads.proofs.SumsLaws.{sum-same, sum-zero}
 use Rattle.assign_heads.proofs.Turns.{count-more}
 use Rattle.assign_free.specs.Assignable.{isFitted, unitsOfKind, isFreeOf}
-use Rattle.assign_counts.specs.Assignable.{countOn, Counted, orderIn, AssignableOn}
+use Rattle.assign_counts.specs.declared.Counts.{Counts}
+use Rattle.assign_counts.specs.Assignable.{countOn, countsOf, Counted, orderIn, AssignableOn}
 
 -- ---- the units of one channel
 -- unit u is one of the first n and assignable
@@ -81,22 +83,34 @@ module _ (units : List (List Unit)) (channels : List Channel) (c : ℕ) where
           let r : (c * 16 + u) % 16 ≡ u = omega arith in
           rw (q, r, its, le-ltb u 0 (omega arith)) refl
 
--- the channels below c are counted, those from c on are not yet
-pub record Counting (units : List (List Unit)) (channels : List Channel) (of : List ℕ) (c : ℕ) : Type 0 where
-  pub high : c ≤ 16
-  pub long : length of ≡ many
-  pub done : (order d : ℕ) → order < unitKinds → d < c → getD of (order * 16 + d) 0 ≡ countOn units channels order d
-  pub rest : (order d : ℕ) → order < unitKinds → c ≤ d → d < 16 → getD of (order * 16 + d) 0 ≡ 0
+-- the counts of a kind, by channel
+abbrev row : List ByChannel → ℕ → ByChannel
+row of order = getD of order (byChannel [])
 
-pub start : (units : List (List Unit)) (channels : List Channel) → Counting units channels (replicate many 0) 0
+-- the channels below c are counted, those from c on are not yet
+pub record Counting (units : List (List Unit)) (channels : List Channel) (of : List ByChannel) (c : ℕ) : Type 0 where
+  pub high : c ≤ 16
+  pub kinds : length of ≡ unitKinds
+  pub long : (order : ℕ) → order < unitKinds → length (row of order .0) ≡ 16
+  pub done : (order d : ℕ) → order < unitKinds → d < c → countAt (row of order) d ≡ countOn units channels order d
+  pub rest : (order d : ℕ) → order < unitKinds → c ≤ d → d < 16 → countAt (row of order) d ≡ 0
+
+abbrev none : ByChannel
+none = byChannel (replicate 16 0)
+
+pub start : (units : List (List Unit)) (channels : List Channel) → Counting units channels (replicate unitKinds none) 0
 start units channels = record {
   high = omega arith;
-  long = refl;
+  kinds = refl;
+  long = λ order h. ap (λ (x : ByChannel). length (x .0)) (blank order h);
   done = λ order d h k. absurd (omega arith);
-  rest = λ order d h k l. getD-replicate many (order * 16 + d) 0 0 (omega arith);
+  rest = λ order d h k l. ap (λ (x : ByChannel). countAt x d) (blank order h) ∙ getD-replicate 16 d 0 0 l;
 }
+  where
+    blank : (order : ℕ) → order < unitKinds → row (replicate unitKinds none) order ≡ none
+    blank order h = getD-replicate unitKinds order none (byChannel []) h
 
-module _ {units : List (List Unit)} {channels : List Channel} {of : List ℕ} {c : ℕ} (small : c < 16) (m : Counting units channels of c) where
+module _ {units : List (List Unit)} {channels : List Channel} {of : List ByChannel} {c : ℕ} (small : c < 16) (m : Counting units channels of c) where
   -- what holds below c and at c holds below c + 1
   last : (P : ℕ → Type 0) → ((d : ℕ) → d < c → P d) → P c → (d : ℕ) → d < c + 1 → P d
   last P below here d h = ⊎-elim (λ e. subst P (sym e) here) (below d) (eq-or-lt-of-le (at-most d c h))
@@ -104,44 +118,82 @@ module _ {units : List (List Unit)} {channels : List Channel} {of : List ℕ} {c
       at-most : (d c : ℕ) → d < c + 1 → d ≤ c
       at-most d c h = omega arith
 
+  -- a kind that the channel is not of
+  other-kind : (order : ℕ) → order < unitKinds → (orderIn (getD channels c noChannel .has) ≡ order → ⊥)
+      → (d : ℕ) → d < c + 1 → countAt (row of order) d ≡ countOn units channels order d
+  other-kind order l q = last (λ (d : ℕ). countAt (row of order) d ≡ countOn units channels order d) (λ d k. m .done order d l k)
+      (m .rest order c l (omega arith) small ∙ no-count units channels c l small q)
+
   -- a channel without units
-  pub past : {next : List ℕ} → unitKinds ≤ orderIn (getD channels c noChannel .has) → next ≡ of → Counting units channels next (c + 1)
-  past {next} h e = subst (λ (x : List ℕ). Counting units channels x (c + 1)) (sym e) (record {
+  pub past : {next : List ByChannel} → unitKinds ≤ orderIn (getD channels c noChannel .has) → next ≡ of → Counting units channels next (c + 1)
+  past {next} h e = subst (λ (x : List ByChannel). Counting units channels x (c + 1)) (sym e) (record {
     high = omega arith;
+    kinds = m .kinds;
     long = m .long;
-    done = λ order d l. last (λ (d : ℕ). getD of (order * 16 + d) 0 ≡ countOn units channels order d) (λ d k. m .done order d l k)
-        (m .rest order c l (omega arith) small ∙ no-count units channels c l small (λ q. omega arith)) d;
+    done = λ order d l. other-kind order l (λ q. omega arith) d;
     rest = λ order d l k. m .rest order d l (omega arith);
   })
 
   -- one with units of its kind
-  pub counted : {next : List ℕ} {order n : ℕ} → order < unitKinds → order ≡ orderIn (getD channels c noChannel .has) → AssignableOn units c (unitsOf (getD channels c noChannel)) n
-      → next ≡ set of (order * 16 + c) n → Counting units channels next (c + 1)
-  counted {next} {order} {n} h e a s = subst (λ (x : List ℕ). Counting units channels x (c + 1)) (sym s) (record {
-    high = omega arith;
-    long = length-set of (order * 16 + c) n ∙ m .long;
-    done = λ other d l. last (λ (d : ℕ). getD (set of (order * 16 + c) n) (other * 16 + d) 0 ≡ countOn units channels other d)
-        (λ d k. kept other d l (λ q. omega arith) ∙ m .done other d l k) (here other l) d;
-    rest = λ other d l k b. kept other d l (λ q. omega arith) ∙ m .rest other d l (omega arith) b;
-  })
-    where
-      kept : (other d : ℕ) → other < unitKinds → (order * 16 + c ≡ other * 16 + d → ⊥) → getD (set of (order * 16 + c) n) (other * 16 + d) 0 ≡ getD of (other * 16 + d) 0
-      kept other d l q = getD-set-other of (order * 16 + c) (other * 16 + d) n 0 (λ r. q (sym r))
+  module _ {order n : ℕ} (is : order < unitKinds) (e : order ≡ orderIn (getD channels c noChannel .has))
+      (a : AssignableOn units c (unitsOf (getD channels c noChannel)) n) where
+    abbrev its : List ℕ
+    its = set (row of order .0) c n
 
-      here : (other : ℕ) → other < unitKinds → getD (set of (order * 16 + c) n) (other * 16 + c) 0 ≡ countOn units channels other c
-      here other l =
-          by-bool (eqb order other)
-          (λ t. subst (λ (x : ℕ). getD (set of (order * 16 + c) n) (x * 16 + c) 0 ≡ countOn units channels x c) (eqb-true order other t)
-          (getD-set-same of (order * 16 + c) n 0 (omega (arith, m .long)) ∙ own-count units channels c h small e a))
-          (λ t. kept other c l (λ q. eqb-false order other t (omega arith)) ∙ m .rest other c l (omega arith) small ∙ no-count units channels c l small (λ q. eqb-false order other t (e ∙ q)))
+    abbrev stored : List ByChannel
+    stored = set of order (byChannel its)
 
-pub end : {grid units : List (List Unit)} {channels : List Channel} {of : List ℕ} {c : ℕ} → 16 ≤ c → grid ≡ units → Counting grid channels of c → Counted units channels of
-end {grid} {units} {channels} {of} h e m = subst (λ (x : List (List Unit)). Counted x channels of) e (record { long = m .long; each = λ order c l k. m .done order c l (omega arith) })
+    own-row : row stored order ≡ byChannel its
+    own-row = getD-set-same of order (byChannel its) (byChannel []) (omega (arith, m .kinds))
+
+    other-row : (other : ℕ) → (order ≡ other → ⊥) → row stored other ≡ row of other
+    other-row other q = getD-set-other of order other (byChannel its) (byChannel []) (λ r. q (sym r))
+
+    -- what holds of the kind's own row and of the others holds of all
+    by-row : (P : ℕ → ByChannel → Type 0) → P order (byChannel its)
+        → ((other : ℕ) → (order ≡ other → ⊥) → other < unitKinds → P other (row of other)) → (other : ℕ) → other < unitKinds → P other (row stored other)
+    by-row P own others other l =
+        by-bool (eqb order other)
+        (λ t. subst (λ (x : ℕ). P x (row stored x)) (eqb-true order other t) (subst (P order) (sym own-row) own))
+        (λ t. subst (P other) (sym (other-row other (eqb-false order other t))) (others other (eqb-false order other t) l))
+
+    own-done : (d : ℕ) → d < c + 1 → getD its d 0 ≡ countOn units channels order d
+    own-done = last (λ (d : ℕ). getD its d 0 ≡ countOn units channels order d)
+        (λ d k. getD-set-other (row of order .0) c d n 0 (λ q. omega arith) ∙ m .done order d is k)
+        (getD-set-same (row of order .0) c n 0 (omega (arith, m .long order is)) ∙ own-count units channels c is small e a)
+
+    all-stored : Counting units channels stored (c + 1)
+    all-stored = record {
+      high = omega arith;
+      kinds = length-set of order (byChannel its) ∙ m .kinds;
+      long = by-row (λ (other : ℕ) (x : ByChannel). length (x .0) ≡ 16) (length-set (row of order .0) c n ∙ m .long order is)
+          (λ other q l. m .long other l);
+      done = λ other d l. by-row (λ (other : ℕ) (x : ByChannel). (d : ℕ) → d < c + 1 → countAt x d ≡ countOn units channels other d) own-done
+          (λ other q l. other-kind other l (λ r. q (e ∙ r))) other l d;
+      rest = λ other d l. by-row (λ (other : ℕ) (x : ByChannel). (d : ℕ) → c + 1 ≤ d → d < 16 → countAt x d ≡ 0)
+          (λ d k b. getD-set-other (row of order .0) c d n 0 (λ q. omega arith) ∙ m .rest order d is (omega arith) b)
+          (λ other q l d k b. m .rest other d l (omega arith) b) other l d;
+    }
+
+    pub counted : {next : List ByChannel} → next ≡ stored → Counting units channels next (c + 1)
+    counted {next} s = subst (λ (x : List ByChannel). Counting units channels x (c + 1)) (sym s) all-stored
+
+pub end : {grid units : List (List Unit)} {channels : List Channel} {of : List ByChannel} {c : ℕ} → 16 ≤ c → grid ≡ units
+    → Counting grid channels of c → Counted units channels (record { 0 = of })
+end {grid} {units} {channels} {of} h e m =
+    subst (λ (x : List (List Unit)). Counted x channels (record { 0 = of })) e
+    (record { kinds = m .kinds; long = m .long; each = λ order c l k. m .done order c l (omega arith) })
 
 -- ---- two answers are one
-pub counted-one : (units : List (List Unit)) (channels : List Channel) (a b : List ℕ) → Counted units channels a → Counted units channels b → a ≡ b
-counted-one units channels a b p q = ext-getD 0 a b (p .long ∙ sym (q .long)) λ i h.
-    let s : i / 16 * 16 + i % 16 ≡ i = omega arith in
-    let l : i / 16 < unitKinds = omega (arith, p .long) in
-    let k : i % 16 < 16 = omega arith in
-    subst (λ (x : ℕ). getD a x 0 ≡ getD b x 0) s (p .each (i / 16) (i % 16) l k ∙ sym (q .each (i / 16) (i % 16) l k))
+pub counted-one : (units : List (List Unit)) (channels : List Channel) (a b : Counts) → Counted units channels a → Counted units channels b → a ≡ b
+counted-one units channels a b p q = λ i. record { 0 = all i }
+  where
+    rows : (order : ℕ) → order < unitKinds → countsOf a order .0 ≡ countsOf b order .0
+    rows order l = ext-getD 0 (countsOf a order .0) (countsOf b order .0) (p .long order l ∙ sym (q .long order l)) λ c h.
+        let k : c < 16 = omega (arith, p .long order l) in
+        p .each order c l k ∙ sym (q .each order c l k)
+
+    all : a .0 ≡ b .0
+    all = ext-getD (byChannel []) (a .0) (b .0) (p .kinds ∙ sym (q .kinds)) λ order h.
+        let e = rows order (omega (arith, p .kinds)) in
+        λ i. record { 0 = e i }

@@ -1,6 +1,8 @@
 // How many units are assignable, by kind and channel: the one look at the units that a selection takes.
+use assign_channels::ByChannel;
 use channels::Channel;
 use channels::Fitted;
+use numbers::ChannelNumber;
 use units::Unit;
 use units::Units;
 ghost use mathlib.Core.Path.{_≡_};
@@ -8,10 +10,8 @@ ghost use Prim.Native.Nat.{_<_};
 ghost use Rattle.units.specs.State.{Square};
 ghost use Rattle.assign_counts.specs.Assignable.{orderIn, AssignableOn, Counted};
 
-// The number of assignable units of each kind but the drum on every channel, at order * 16 + channel.
-pub struct Counts {
-    pub of: [u8; cards_request::COUNTS],
-}
+// The number of assignable units of each kind but the drum, kinds in the written order, on every channel.
+pub struct Counts(pub [ByChannel; numbers::UNIT_KINDS]);
 
 // The place in the written order of the kind that a channel has; behind the last, the drum's, where it has nothing.
 fn order_on(channel: Channel) -> usize
@@ -25,10 +25,11 @@ fn order_on(channel: Channel) -> usize
 }
 
 // How many of the first n units of a channel are assignable.
-fn assignable_on(grid: [[Unit; 16]; 16], c: usize, n: u32) -> u8
-    requires { ⌜ (c < 16) × Square grid ⌝ }
-    ensures { λ r. ⌜ AssignableOn grid c n r ⌝ }
+fn assignable_on(grid: [[Unit; 16]; 16], channel: ChannelNumber, n: u32) -> u8
+    requires { ⌜ (channel .0 < 16) × Square grid ⌝ }
+    ensures { λ r. ⌜ AssignableOn grid (channel .0) n r ⌝ }
 {
+    let c = channel.0 as usize;
     let mut count: u8 = 0;
     let mut u: usize = 0;
     while u < 16 {
@@ -45,18 +46,21 @@ fn assignable_on(grid: [[Unit; 16]; 16], c: usize, n: u32) -> u8
 
 // The number of assignable units of every kind on every channel. A channel has units of one kind only.
 pub fn count(units: Units, channels: [Channel; 16]) -> Counts
-    ensures { λ r. ⌜ Counted (units .of) channels (r .of) ⌝ }
+    ensures { λ r. ⌜ Counted (units .of) channels r ⌝ }
 {
     let grid = units::grid_of(units);
-    let mut of = [0u8; cards_request::COUNTS];
+    let none = ByChannel([0u8; 16]);
+    let mut of = [none; numbers::UNIT_KINDS];
     let mut c: usize = 0;
     while c < 16 {
         let channel = channels[c];
         let order = order_on(channel);
         if order < numbers::UNIT_KINDS {
-            of[order * 16 + c] = assignable_on(grid, c, channels::units_of(channel));
+            let mut row = of[order];
+            row.0[c] = assignable_on(grid, ChannelNumber(c as u8), channels::units_of(channel));
+            of[order] = row;
         }
         c += 1;
     }
-    Counts { of }
+    Counts(of)
 }

@@ -12,6 +12,7 @@ use Rattle.units.specs.declared.Unit.{Unit}
 use Rattle.units.specs.State.{unitIn, assignable}
 use Rattle.channels.specs.declared.Channel.{Channel}
 use Rattle.channels.specs.Channels.{noChannel}
+use Rattle.assign_free.specs.declared.Configured.{Configured}
 use Rattle.assign_free.specs.Assignable.{unitsOfKind, isFreeOf, FreeUnits}
 use Rattle.assign_free.specs.Counts.{CountsOf}
 
@@ -42,8 +43,8 @@ module _ {grid : List (List Unit)} {counts : List ℕ} {free : List Bool} {i : �
             (v ∙ sym (ap (λ (x : Bool). x && assignable (unitIn grid (i / 16) (i % 16))) (lt-ltb (i % 16) (getD counts (i / 16) 0) h)));
       })
 
-pub end : {grid : List (List Unit)} {counts : List ℕ} {free : List Bool} {i : ℕ} (units : List (List Unit)) (channels : List Channel) (order : ℕ) → 256 ≤ i → grid ≡ units → CountsOf channels order counts
-    → Marking grid counts free i → FreeUnits units channels order free
+pub end : {grid : List (List Unit)} {counts : Configured} {free : List Bool} {i : ℕ} (units : List (List Unit)) (channels : List Channel) (order : ℕ) → 256 ≤ i → grid ≡ units → CountsOf channels order counts
+    → Marking grid (counts .0) free i → FreeUnits units channels order free
 unfolding isFreeOf
 end {grid} {counts} {free} {i} units channels order h e c m = record {
   long = m .filled .wide;

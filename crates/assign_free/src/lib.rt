@@ -6,6 +6,9 @@ ghost use mathlib.Core.Path.{_≡_};
 ghost use Rattle.assign_free.specs.Assignable.{unitsOfKind, FreeUnits};
 ghost use Rattle.assign_free.specs.Counts.{CountsOf};
 
+// Numbers of configured units by channel.
+struct Configured([u32; 16]);
+
 // How many units of a kind, told by its place in the written order, a channel has.
 fn units_of_kind(channel: Channel, order: usize) -> u32
     ensures { λ r. ⌜ r ≡ unitsOfKind order channel ⌝ }
@@ -23,7 +26,7 @@ fn units_of_kind(channel: Channel, order: usize) -> u32
 }
 
 // The same for every channel.
-fn counts_of(channels: [Channel; 16], order: usize) -> [u32; 16]
+fn counts_of(channels: [Channel; 16], order: usize) -> Configured
     ensures { λ r. ⌜ CountsOf channels order r ⌝ }
 {
     let mut counts = [0u32; 16];
@@ -33,7 +36,7 @@ fn counts_of(channels: [Channel; 16], order: usize) -> [u32; 16]
         counts[c] = units_of_kind(channel, order);
         c += 1;
     }
-    counts
+    Configured(counts)
 }
 
 // Which units are of a kind, told by its place in the written order, and assignable.
@@ -41,7 +44,8 @@ pub fn free_units(units: Units, channels: [Channel; 16], order: usize) -> [bool;
     ensures { λ r. ⌜ FreeUnits (units .of) channels order r ⌝ }
 {
     let grid = units::grid_of(units);
-    let counts = counts_of(channels, order);
+    let configured = counts_of(channels, order);
+    let counts = configured.0;
     let mut free = [false; 256];
     let mut i: usize = 0;
     while i < 256 {

@@ -7,11 +7,13 @@ use mathlib.Core.List.{List, [], _∷_}
 use mathlib.Core.Logic.{⊎-elim}
 use native.Mathlib.Omega.{arith}
 use lib.Dec.{eqb}
-use lib.ListN.{length, getD}
+use lib.ListN.{length}
 use borrow.Author.Tests.{eq-eqb, ne-eqb}
 use Rattle.numbers.proofs.Order.{le-or-lt}
 use Rattle.numbers.proofs.Tests.{by-bool, never}
-use Rattle.assign_channels.specs.Choice.{want, total}
+use Rattle.assign_channels.specs.declared.ByChannel.{ByChannel}
+use Rattle.assign_channels.specs.declared.ByLogical.{ByLogical}
+use Rattle.assign_channels.specs.Choice.{countAt, want, total}
 use Rattle.assign_heads.specs.declared.Given.{Given}
 use Rattle.assign_heads.specs.declared.Given.the-variants.{Nothing, To}
 use Rattle.assign_heads.specs.Sums.{sumTo, one, howMany}
@@ -27,14 +29,14 @@ free-below (b ∷ bs) zero t = omega arith
 free-below (b ∷ bs) (suc i) t = suc-le-suc (free-below bs i t)
 
 -- all counts together is the number of assignable units
-pub counts-total : {free : List Bool} {counts : List ℕ} → FreeCounts free counts → total counts ≡ howMany 256 (freeAt free)
+pub counts-total : {free : List Bool} {counts : ByChannel} → FreeCounts free counts → total (counts .0) ≡ howMany 256 (freeAt free)
 counts-total {free} {counts} r =
-    total-sum counts ∙ ap (λ (n : ℕ). sumTo n (λ c. getD counts c 0)) (r .long)
-    ∙ sum-same 16 (λ c. getD counts c 0) (λ c. howMany 16 (λ u. freeAt free (c * 16 + u))) (r .each)
+    total-sum (counts .0) ∙ ap (λ (n : ℕ). sumTo n (countAt counts)) (r .long)
+    ∙ sum-same 16 (countAt counts) (λ c. howMany 16 (λ u. freeAt free (c * 16 + u))) (r .each)
     ∙ sym (sum-rows 16 (λ i. one (freeAt free i)))
 
-pub wants-total : (wants : List ℕ) → length wants ≡ 16 → total wants ≡ sumTo 16 (want wants)
-wants-total wants e = total-sum wants ∙ ap (λ (n : ℕ). sumTo n (want wants)) e
+pub wants-total : (wants : ByLogical) → length (wants .0) ≡ 16 → total (wants .0) ≡ sumTo 16 (want wants)
+wants-total wants e = total-sum (wants .0) ∙ ap (λ (n : ℕ). sumTo n (want wants)) e
 
 -- a unit that is given is given to one entry
 pub given-once : (g : Given) → ((l : ℕ) → 16 ≤ l → isTo l g ≡ true → ⊥) → one (isGiven g) ≤ sumTo 16 (λ l. one (isTo l g))

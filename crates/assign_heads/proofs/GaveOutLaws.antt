@@ -9,6 +9,7 @@ use lib.ListN.{length, getD, set, length-set}
 use lib.Seq.{getD-set-same, getD-set-other}
 use Rattle.numbers.proofs.Tests.{by-bool, never}
 use Rattle.numbers.specs.declared.LogicalChannel.{LogicalChannel}
+use Rattle.assign_channels.specs.declared.ByLogical.{ByLogical}
 use Rattle.assign_channels.specs.Choice.{want}
 use Rattle.assign_heads.specs.declared.Given.{Given}
 use Rattle.assign_heads.specs.declared.Given.the-variants.{Nothing, To}
@@ -20,14 +21,14 @@ use Rattle.assign_heads.proofs.GivingLaws.{Took, took, not-free}
 use Rattle.assign_heads.specs.GaveOut.{Passed, ownAt, Logical, Gave, GaveOut}
 use Rattle.assign_heads.proofs.PassedLaws.{carried, onward, begun}
 
-less-long : (left : List ℕ) (g : Given) → length (lessOf left g) ≡ length left
+less-long : (left : ByLogical) (g : Given) → length (lessOf left g .0) ≡ length (left .0)
 less-long left Nothing = refl
-less-long left (To l) = length-set left (l .0) (getD left (l .0) 0 - 1)
+less-long left (To l) = length-set (left .0) (l .0) (want left (l .0) - 1)
 
-pub gave-none : (free : List Bool) (own : List LogicalChannel) (wants : List ℕ) (before : List Head) → length before ≡ 256 → length wants ≡ 16 → Gave free own wants before before wants 0
+pub gave-none : (free : List Bool) (own : List LogicalChannel) (wants : ByLogical) (before : List Head) → length before ≡ 256 → length (wants .0) ≡ 16 → Gave free own wants before before wants 0
 gave-none free own wants before w l = record { high = omega arith; wide = w; long = l; passed = begun (freeAt free) (ownAt own) (toAt free before) wants; kept = λ j f. refl }
 
-module _ {free : List Bool} {own : List LogicalChannel} {wants : List ℕ} {before after : List Head} {left : List ℕ} {i : ℕ} (small : i < 256) (g : Gave free own wants before after left i) where
+module _ {free : List Bool} {own : List LogicalChannel} {wants : ByLogical} {before after : List Head} {left : ByLogical} {i : ℕ} (small : i < 256) (g : Gave free own wants before after left i) where
   -- a unit that is not free is passed over
   pub gave-over : freeAt free i ≡ false → Gave free own wants before after left (i + 1)
   gave-over e = record {
@@ -70,18 +71,18 @@ module _ {free : List Bool} {own : List LogicalChannel} {wants : List ℕ} {befo
     }
 
     -- the same, where calls gave the parts
-    pub gave-turn : {t : Given} {left′ : List ℕ} {next′ : List Head} → t ≡ to → left′ ≡ lessOf left t → next′ ≡ set after i (record { to = t }) → Gave free own wants before next′ left′ (i + 1)
+    pub gave-turn : {t : Given} {left′ : ByLogical} {next′ : List Head} → t ≡ to → left′ ≡ lessOf left t → next′ ≡ set after i (record { to = t }) → Gave free own wants before next′ left′ (i + 1)
     gave-turn {t} {left′} {next′} e f h =
         let a : lessOf left to ≡ left′ = ap (lessOf left) (sym e) ∙ sym f in
         let b : next ≡ next′ = ap (λ (x : Given). set after i (record { to = x })) (sym e) ∙ sym h in
-        subst (λ (x : List ℕ). Gave free own wants before next′ x (i + 1)) a (subst (λ (x : List Head). Gave free own wants before x (lessOf left to) (i + 1)) b gave-one)
+        subst (λ (x : ByLogical). Gave free own wants before next′ x (i + 1)) a (subst (λ (x : List Head). Gave free own wants before x (lessOf left to) (i + 1)) b gave-one)
 
   -- and where a branch did
-  pub gave-past : {left′ : List ℕ} {next′ : List Head} → freeAt free i ≡ false → left′ ≡ left → next′ ≡ after → Gave free own wants before next′ left′ (i + 1)
+  pub gave-past : {left′ : ByLogical} {next′ : List Head} → freeAt free i ≡ false → left′ ≡ left → next′ ≡ after → Gave free own wants before next′ left′ (i + 1)
   gave-past {left′} {next′} n e f =
-      subst (λ (x : List ℕ). Gave free own wants before next′ x (i + 1)) (sym e) (subst (λ (x : List Head). Gave free own wants before x left (i + 1)) (sym f) (gave-over n))
+      subst (λ (x : ByLogical). Gave free own wants before next′ x (i + 1)) (sym e) (subst (λ (x : List Head). Gave free own wants before x left (i + 1)) (sym f) (gave-over n))
 
-pub gave-all : {free : List Bool} {own : List LogicalChannel} {wants : List ℕ} {before after : List Head} {left : List ℕ} {i : ℕ} → 256 ≤ i → Gave free own wants before after left i → GaveOut free own wants before after
+pub gave-all : {free : List Bool} {own : List LogicalChannel} {wants : ByLogical} {before after : List Head} {left : ByLogical} {i : ℕ} → 256 ≤ i → Gave free own wants before after left i → GaveOut free own wants before after
 gave-all {free} {own} {wants} {before} {after} {left} {i} h g = record { left = left; gave = subst (Gave free own wants before after left) (upto i h (g .high)) g }
   where
     upto : (i : ℕ) → 256 ≤ i → i ≤ 256 → i ≡ 256

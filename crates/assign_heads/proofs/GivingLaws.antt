@@ -2,7 +2,6 @@
 use Prim.Native.Nat.{ℕ, _+_, _-_, _≤_, _<_}
 use mathlib.Core.Path.{_≡_, refl, sym, ap, subst}
 use mathlib.Core.Bool.{Bool, true, false}
-use mathlib.Core.List.{List}
 use mathlib.Core.Logic.{_⊎_, inl, inr}
 use native.Mathlib.Omega.{arith}
 use lib.Dec.{eqb, ltb}
@@ -11,6 +10,7 @@ use lib.Seq.{getD-set-same, getD-set-other}
 use borrow.Author.Tests.{ltb-true, ltb-false, eqb-true, eqb-false, eq-eqb}
 use Rattle.numbers.proofs.Tests.{by-bool, never}
 use Rattle.numbers.specs.declared.LogicalChannel.{LogicalChannel}
+use Rattle.assign_channels.specs.declared.ByLogical.{ByLogical}
 use Rattle.assign_heads.specs.declared.Given.{Given}
 use Rattle.assign_heads.specs.declared.Given.the-variants.{Nothing, To}
 use Rattle.assign_heads.specs.Sums.{one}
@@ -28,51 +28,51 @@ to-given Nothing l p = never p refl
 to-given (To k) l p = refl
 
 -- what the taker of a unit that is free or not means: `left` before, `after` then
-pub record Took (free : Bool) (left : List ℕ) (o : ℕ) (g : Given) (after : List ℕ) : Type 0 where
+pub record Took (free : Bool) (left : ByLogical) (o : ℕ) (g : Given) (after : ByLogical) : Type 0 where
   -- it lacks one less
-  pub less : (l : ℕ) → l < 16 → one (isTo l g) + getD after l 0 ≡ getD left l 0
-  pub fewer : (l : ℕ) → getD after l 0 ≤ getD left l 0
+  pub less : (l : ℕ) → l < 16 → one (isTo l g) + getD (after .0) l 0 ≡ getD (left .0) l 0
+  pub fewer : (l : ℕ) → getD (after .0) l 0 ≤ getD (left .0) l 0
   -- it is the channel's own or logical channel 0
   pub whose : (l : ℕ) → isTo l g ≡ true → (l ≡ o) ⊎ (l ≡ 0)
   -- and lacked a unit
-  pub lacked : (l : ℕ) → isTo l g ≡ true → 1 ≤ getD left l 0
+  pub lacked : (l : ℕ) → isTo l g ≡ true → 1 ≤ getD (left .0) l 0
   -- while the own entry lacks a unit it is that one
-  pub first : free ≡ true → 1 ≤ getD left o 0 → isTo o g ≡ true
+  pub first : free ≡ true → 1 ≤ getD (left .0) o 0 → isTo o g ≡ true
   -- while logical channel 0 lacks a unit it is one
-  pub some : free ≡ true → 1 ≤ getD left 0 0 → isGiven g ≡ true
+  pub some : free ≡ true → 1 ≤ getD (left .0) 0 0 → isGiven g ≡ true
 
-module _ (left : List ℕ) (long : length left ≡ 16) where
+module _ (left : ByLogical) (long : length (left .0) ≡ 16) where
   -- taken by an entry that lacks a unit
-  less-at : (m : LogicalChannel) → m .0 < 16 → 1 ≤ getD left (m .0) 0 → (l : ℕ) → l < 16 → one (isTo l (To m)) + getD (lessOf left (To m)) l 0 ≡ getD left l 0
+  less-at : (m : LogicalChannel) → m .0 < 16 → 1 ≤ getD (left .0) (m .0) 0 → (l : ℕ) → l < 16 → one (isTo l (To m)) + getD (lessOf left (To m) .0) l 0 ≡ getD (left .0) l 0
   less-at m b p l h =
       by-bool (eqb (m .0) l)
       (λ t.
       let e : m .0 ≡ l = eqb-true (m .0) l t in
-      let s : getD (lessOf left (To m)) (m .0) 0 ≡ getD left (m .0) 0 - 1 = getD-set-same left (m .0) (getD left (m .0) 0 - 1) 0 (omega arith) in
-      let a : getD (lessOf left (To m)) (m .0) 0 ≡ getD (lessOf left (To m)) l 0 = ap (λ (x : ℕ). getD (lessOf left (To m)) x 0) e in
-      let d : getD left (m .0) 0 ≡ getD left l 0 = ap (λ (x : ℕ). getD left x 0) e in
+      let s : getD (lessOf left (To m) .0) (m .0) 0 ≡ getD (left .0) (m .0) 0 - 1 = getD-set-same (left .0) (m .0) (getD (left .0) (m .0) 0 - 1) 0 (omega arith) in
+      let a : getD (lessOf left (To m) .0) (m .0) 0 ≡ getD (lessOf left (To m) .0) l 0 = ap (λ (x : ℕ). getD (lessOf left (To m) .0) x 0) e in
+      let d : getD (left .0) (m .0) 0 ≡ getD (left .0) l 0 = ap (λ (x : ℕ). getD (left .0) x 0) e in
       let o : one (eqb (m .0) l) ≡ 1 = ap one t in
       omega arith)
       (λ t.
       let o : one (eqb (m .0) l) ≡ 0 = ap one t in
-      omega (arith, getD-set-other left (m .0) l (getD left (m .0) 0 - 1) 0 (λ e. eqb-false (m .0) l t (sym e))))
+      omega (arith, getD-set-other (left .0) (m .0) l (getD (left .0) (m .0) 0 - 1) 0 (λ e. eqb-false (m .0) l t (sym e))))
 
-  fewer-at : (m : LogicalChannel) (l : ℕ) → m .0 < 16 → getD (lessOf left (To m)) l 0 ≤ getD left l 0
+  fewer-at : (m : LogicalChannel) (l : ℕ) → m .0 < 16 → getD (lessOf left (To m) .0) l 0 ≤ getD (left .0) l 0
   fewer-at m l b =
       by-bool (eqb (m .0) l)
       (λ t.
       let e : m .0 ≡ l = eqb-true (m .0) l t in
-      let s : getD (lessOf left (To m)) (m .0) 0 ≡ getD left (m .0) 0 - 1 = getD-set-same left (m .0) (getD left (m .0) 0 - 1) 0 (omega arith) in
-      let a : getD (lessOf left (To m)) (m .0) 0 ≡ getD (lessOf left (To m)) l 0 = ap (λ (x : ℕ). getD (lessOf left (To m)) x 0) e in
-      let d : getD left (m .0) 0 ≡ getD left l 0 = ap (λ (x : ℕ). getD left x 0) e in
+      let s : getD (lessOf left (To m) .0) (m .0) 0 ≡ getD (left .0) (m .0) 0 - 1 = getD-set-same (left .0) (m .0) (getD (left .0) (m .0) 0 - 1) 0 (omega arith) in
+      let a : getD (lessOf left (To m) .0) (m .0) 0 ≡ getD (lessOf left (To m) .0) l 0 = ap (λ (x : ℕ). getD (lessOf left (To m) .0) x 0) e in
+      let d : getD (left .0) (m .0) 0 ≡ getD (left .0) l 0 = ap (λ (x : ℕ). getD (left .0) x 0) e in
       omega arith)
-      (λ t. omega (arith, getD-set-other left (m .0) l (getD left (m .0) 0 - 1) 0 (λ e. eqb-false (m .0) l t (sym e))))
+      (λ t. omega (arith, getD-set-other (left .0) (m .0) l (getD (left .0) (m .0) 0 - 1) 0 (λ e. eqb-false (m .0) l t (sym e))))
 
-  lacked-at : (m : LogicalChannel) (l : ℕ) → 1 ≤ getD left (m .0) 0 → isTo l (To m) ≡ true → 1 ≤ getD left l 0
-  lacked-at m l p t = subst (λ (x : ℕ). 1 ≤ getD left x 0) (eqb-true (m .0) l t) p
+  lacked-at : (m : LogicalChannel) (l : ℕ) → 1 ≤ getD (left .0) (m .0) 0 → isTo l (To m) ≡ true → 1 ≤ getD (left .0) l 0
+  lacked-at m l p t = subst (λ (x : ℕ). 1 ≤ getD (left .0) x 0) (eqb-true (m .0) l t) p
 
   -- taken by none: it is not free, or none that may have it lacks a unit
-  by-none : (o : ℕ) (free : Bool) → (free ≡ true → 1 ≤ getD left o 0 → ⊥) → (free ≡ true → 1 ≤ getD left 0 0 → ⊥) → Took free left o Nothing left
+  by-none : (o : ℕ) (free : Bool) → (free ≡ true → 1 ≤ getD (left .0) o 0 → ⊥) → (free ≡ true → 1 ≤ getD (left .0) 0 0 → ⊥) → Took free left o Nothing left
   by-none o free z y = record {
     less = λ l h. omega arith;
     fewer = λ l. omega arith;
@@ -87,13 +87,13 @@ module _ (left : List ℕ) (long : length left ≡ 16) where
 
   pub took : (own : LogicalChannel) → own .0 < 16 → Took true left (own .0) (takerOf left own) (lessOf left (takerOf left own))
   took own b =
-      by-bool (ltb 0 (getD left (own .0) 0))
-      (λ t. rw t (by-own (ltb-true 0 (getD left (own .0) 0) t)))
-      (λ t. by-bool (ltb 0 (getD left 0 0))
-      (λ u. rw (t, u) (by-zero (ltb-false 0 (getD left (own .0) 0) t) (ltb-true 0 (getD left 0 0) u)))
-      (λ u. rw (t, u) (by-none (own .0) true (λ f q. omega (arith, ltb-false 0 (getD left (own .0) 0) t)) (λ f q. omega (arith, ltb-false 0 (getD left 0 0) u)))))
+      by-bool (ltb 0 (getD (left .0) (own .0) 0))
+      (λ t. rw t (by-own (ltb-true 0 (getD (left .0) (own .0) 0) t)))
+      (λ t. by-bool (ltb 0 (getD (left .0) 0 0))
+      (λ u. rw (t, u) (by-zero (ltb-false 0 (getD (left .0) (own .0) 0) t) (ltb-true 0 (getD (left .0) 0 0) u)))
+      (λ u. rw (t, u) (by-none (own .0) true (λ f q. omega (arith, ltb-false 0 (getD (left .0) (own .0) 0) t)) (λ f q. omega (arith, ltb-false 0 (getD (left .0) 0 0) u)))))
     where
-      by-own : 1 ≤ getD left (own .0) 0 → Took true left (own .0) (To own) (lessOf left (To own))
+      by-own : 1 ≤ getD (left .0) (own .0) 0 → Took true left (own .0) (To own) (lessOf left (To own))
       by-own p = record {
         less = less-at own b p;
         fewer = λ l. fewer-at own l b;
@@ -103,7 +103,7 @@ module _ (left : List ℕ) (long : length left ≡ 16) where
         some = λ f q. refl;
       }
 
-      by-zero : getD left (own .0) 0 ≤ 0 → 1 ≤ getD left 0 0 → Took true left (own .0) (To (logical 0)) (lessOf left (To (logical 0)))
+      by-zero : getD (left .0) (own .0) 0 ≤ 0 → 1 ≤ getD (left .0) 0 0 → Took true left (own .0) (To (logical 0)) (lessOf left (To (logical 0)))
       by-zero z p = record {
         less = less-at (logical 0) (omega arith) p;
         fewer = λ l. fewer-at (logical 0) l (omega arith);

@@ -1,6 +1,5 @@
 -- Serving: what the choice of channels and the giving of units make together, and that the promise leaves one
 -- answer. Assumes nothing.
-use Prim.Native.Nat.{ℕ}
 use mathlib.Core.Path.{_≡_, refl, sym, ap, _∙_, subst}
 use mathlib.Core.Bool.{Bool, true, false, cond}
 use mathlib.Core.List.{List}
@@ -10,6 +9,8 @@ use lib.Seq.{ext-getD}
 use Rattle.numbers.proofs.Tests.{by-bool}
 use Rattle.numbers.specs.declared.LogicalChannel.{LogicalChannel}
 use Rattle.numbers.specs.declared.ChannelNumber.{ChannelNumber}
+use Rattle.assign_channels.specs.declared.ByChannel.{ByChannel}
+use Rattle.assign_channels.specs.declared.ByLogical.{ByLogical}
 use Rattle.assign_channels.specs.Choice.{want, on, Least, NoList}
 use Rattle.assign_channels.proofs.ChoiceLaws.{lex-both}
 use Rattle.assign_heads.specs.declared.Given.the-variants.{Nothing}
@@ -24,10 +25,10 @@ use Rattle.assign_heads.proofs.GaveOutLaws.{only-free}
 use Rattle.assign_heads.specs.Serving.{Chosen, Lacking, Answer, Serves}
 
 -- the owners are logical channels
-pub owners-logical : {wants : List ℕ} {channels : List ChannelNumber} {own : List LogicalChannel} → Owners wants channels own → Logical own
+pub owners-logical : {wants : ByLogical} {channels : List ChannelNumber} {own : List LogicalChannel} → Owners wants channels own → Logical own
 owners-logical o = record { each = λ c h. o .each c h .below }
 
-module _ {free : List Bool} {wants counts : List ℕ} {before : List Head} {channels : List ChannelNumber} (units : length free ≡ 256) (size : length wants ≡ 16) (has : FreeCounts free counts) where
+module _ {free : List Bool} {wants : ByLogical} {counts : ByChannel} {before : List Head} {channels : List ChannelNumber} (units : length free ≡ 256) (size : length (wants .0) ≡ 16) (has : FreeCounts free counts) where
   -- a list that some assignment has is one of the lists that the choice is from
   pub chosen : {own : List LogicalChannel} {after : List Head} → Least counts wants channels → Owners wants channels own → GaveOut free own wants before after → Chosen free wants before channels after
   chosen {own} {after} l o g = record {
@@ -43,7 +44,7 @@ module _ {free : List Bool} {wants counts : List ℕ} {before : List Head} {chan
   lacking n = record { never = λ others p. n .never others (served-placed free wants counts others (p .to) size (p .long) has (p .served)); none = n .blank; same = refl }
 
 -- ---- one answer
-module _ (free : List Bool) (wants : List ℕ) (before : List Head) where
+module _ (free : List Bool) (wants : ByLogical) (before : List Head) where
   heads-one : (channels : List ChannelNumber) (g h : List Head) → Chosen free wants before channels g → Chosen free wants before channels h → g ≡ h
   heads-one channels g h p q =
       ext-getD blank g h (p .wide ∙ sym (q .wide)) λ i l.
@@ -74,8 +75,8 @@ module _ (free : List Bool) (wants : List ℕ) (before : List Head) where
   serves-one r s = one-of (r .ok) (s .ok) (r .on) (s .on) (r .heads) (s .heads)
 
 -- ---- an answer by what it says of itself
-pub served-so : (free : List Bool) (wants : List ℕ) (before : List Head) (r : Service) → r .ok ≡ true → Serves free wants before r → Chosen free wants before (r .on) (r .heads)
+pub served-so : (free : List Bool) (wants : ByLogical) (before : List Head) (r : Service) → r .ok ≡ true → Serves free wants before r → Chosen free wants before (r .on) (r .heads)
 served-so free wants before r e s = subst (λ (b : Bool). Answer b free wants before (r .on) (r .heads)) e s
 
-pub lacking-so : (free : List Bool) (wants : List ℕ) (before : List Head) (r : Service) → r .ok ≡ false → Serves free wants before r → Lacking free wants before (r .on) (r .heads)
+pub lacking-so : (free : List Bool) (wants : ByLogical) (before : List Head) (r : Service) → r .ok ≡ false → Serves free wants before r → Lacking free wants before (r .on) (r .heads)
 lacking-so free wants before r e s = subst (λ (b : Bool). Answer b free wants before (r .on) (r .heads)) e s

@@ -2,11 +2,12 @@
 use Prim.Native.Nat.{ℕ, _+_, _-_, _≤_}
 use mathlib.Core.Path.{_≡_, sym, ap, _∙_}
 use mathlib.Core.Bool.{Bool}
-use mathlib.Core.List.{List}
 use native.Mathlib.Numerals.{add-one}
 use native.Mathlib.Omega.{arith}
-use lib.ListN.{length, getD, set}
+use lib.ListN.{length, set}
 use lib.Seq.{set-getD, set-out}
+use Rattle.assign_channels.specs.declared.ByLogical.{ByLogical}
+use Rattle.assign_channels.specs.Choice.{byLogical, want}
 use Rattle.assign_heads.specs.Sums.{one, howMany}
 use Rattle.assign_heads.proofs.SumsLaws.{sum-suc, sum-none}
 
@@ -22,8 +23,8 @@ count-more f u n m b e h k =
     omega arith
 
 -- an entry that lacks nothing, or is none, lacks nothing more
-pub lacks-none : (left : List ℕ) (l : ℕ) → getD left l 0 ≤ 0 → set left l (getD left l 0 - 1) ≡ left
-lacks-none left l h = let e : getD left l 0 - 1 ≡ getD left l 0 = omega arith in ap (set left l) e ∙ set-getD left l 0
+pub lacks-none : (left : ByLogical) (l : ℕ) → want left l ≤ 0 → byLogical (set (left .0) l (want left l - 1)) ≡ left
+lacks-none left l h = let e : want left l - 1 ≡ want left l = omega arith in ap byLogical (ap (set (left .0) l) e ∙ set-getD (left .0) l 0)
 
-pub no-entry : (left : List ℕ) (l : ℕ) → length left ≤ l → set left l (getD left l 0 - 1) ≡ left
-no-entry left l h = set-out left l (getD left l 0 - 1) h
+pub no-entry : (left : ByLogical) (l : ℕ) → length (left .0) ≤ l → byLogical (set (left .0) l (want left l - 1)) ≡ left
+no-entry left l h = ap byLogical (set-out (left .0) l (want left l - 1) h)

@@ -1,4 +1,6 @@
 // The units that a kind's entries get: unit u of channel c stands at c * 16 + u.
+use assign_channels::ByChannel;
+use assign_channels::ByLogical;
 use numbers::ChannelNumber;
 use numbers::LogicalChannel;
 use numbers::UnitNumber;
@@ -68,7 +70,7 @@ fn free_on(free: &[bool; 256], channel: ChannelNumber) -> u8
 }
 
 // The same for every channel.
-fn free_counts(free: &[bool; 256]) -> [u8; 16]
+fn free_counts(free: &[bool; 256]) -> ByChannel
     ensures { λ r. ⌜ FreeCounts (now (free .entry)) r ⌝ }
 {
     let mut counts = [0u8; 16];
@@ -77,17 +79,18 @@ fn free_counts(free: &[bool; 256]) -> [u8; 16]
         counts[c] = free_on(free, ChannelNumber(c as u8));
         c += 1;
     }
-    counts
+    ByChannel(counts)
 }
 
 // The logical channel of the entry that has a channel; 0 where none has.
-fn owner(on: [ChannelNumber; 16], wants: [u8; 16], channel: ChannelNumber) -> LogicalChannel
+fn owner(on: [ChannelNumber; 16], wants: ByLogical, channel: ChannelNumber) -> LogicalChannel
     ensures { λ r. ⌜ OwnerIs wants on (channel .0) (r .0) ⌝ }
 {
+    let asked = wants.0;
     let mut l: usize = 1;
     while l < 16 {
         let its = on[l];
-        if 0 < wants[l] {
+        if 0 < asked[l] {
             if its.0 == channel.0 {
                 return LogicalChannel(l as u8);
             }
@@ -98,7 +101,7 @@ fn owner(on: [ChannelNumber; 16], wants: [u8; 16], channel: ChannelNumber) -> Lo
 }
 
 // The same for every channel.
-fn owners(on: [ChannelNumber; 16], wants: [u8; 16]) -> [LogicalChannel; 16]
+fn owners(on: [ChannelNumber; 16], wants: ByLogical) -> [LogicalChannel; 16]
     ensures { λ r. ⌜ Owners wants on r ⌝ }
 {
     let mut own = [LogicalChannel(0); 16];
@@ -112,30 +115,31 @@ fn owners(on: [ChannelNumber; 16], wants: [u8; 16]) -> [LogicalChannel; 16]
 
 // The entry that a channel's next unit goes to: its own while that lacks a unit, else logical channel 0 while that
 // does.
-fn taker(left: [u8; 16], own: LogicalChannel) -> Given
+fn taker(left: ByLogical, own: LogicalChannel) -> Given
     requires { ⌜ own .0 < 16 ⌝ }
     ensures { λ r. ⌜ r ≡ takerOf left own ⌝ }
 {
+    let lacks = left.0;
     let l = own.0 as usize;
-    if 0 < left[l] {
+    if 0 < lacks[l] {
         return Given::To(own);
     }
-    if 0 < left[0] {
+    if 0 < lacks[0] {
         return Given::To(LogicalChannel(0));
     }
     Given::Nothing
 }
 
 // What each entry lacks after that.
-fn less(left: [u8; 16], taken: Given) -> [u8; 16]
+fn less(left: ByLogical, taken: Given) -> ByLogical
     ensures { λ r. ⌜ r ≡ lessOf left taken ⌝ }
 {
     let mut next = left;
     if let Given::To(logical) = taken {
         let l = logical.0 as usize;
         if l < 16 {
-            if 0 < next[l] {
-                next[l] -= 1;
+            if 0 < next.0[l] {
+                next.0[l] -= 1;
             }
         }
     }
@@ -146,7 +150,7 @@ fn less(left: [u8; 16], taken: Given) -> [u8; 16]
 fn give(
     free: [bool; 256],
     own: [LogicalChannel; 16],
-    wants: [u8; 16],
+    wants: ByLogical,
     heads: [Head; 256],
 ) -> [Head; 256]
     requires { ⌜ Logical own ⌝ }
@@ -170,7 +174,7 @@ fn give(
 
 // Serves the entries of one kind, whose assignable units `free` names: the least list of channels, the lowest units
 // on each, then the lowest remaining ones for logical channel 0.
-pub fn serve(free: [bool; 256], wants: [u8; 16], heads: [Head; 256]) -> Service
+pub fn serve(free: [bool; 256], wants: ByLogical, heads: [Head; 256]) -> Service
     ensures { λ r. ⌜ Serves free wants heads r ⌝ }
 {
     let counts = free_counts(&free);

@@ -9,7 +9,8 @@ use Rattle.cards_request.specs.Requests.{counts as many}
 use Rattle.units.specs.declared.Unit.{Unit}
 use Rattle.channels.specs.declared.Channel.{Channel}
 use Rattle.assign_drum.specs.declared.Area.{Area}
-use Rattle.assign_counts.specs.Assignable.{Counted}
+use Rattle.assign_counts.specs.declared.Counts.{Counts}
+use Rattle.assign_counts.specs.Assignable.{countsOf, Counted}
 use Rattle.cards_request.specs.declared.Facilities.{Facilities}
 use Rattle.assign.specs.Assignment.{Supply, supplyOf, drumLength, wantsOf}
 use Rattle.assign.specs.Parts.{kinds, parts, FirstOf, FirstLacking, Has, HasKind}
@@ -20,7 +21,7 @@ use Rattle.assign.proofs.FirstLaws.{first-next, first-same, kind-there, kind-he
 use Rattle.assign_lacking.specs.ByCounts.{Servable, HasBy}
 use Rattle.assign_lacking.proofs.KindLaws.{kind-servable, servable-kind}
 
-module _ (units : List (List Unit)) (occupancy : ℕ) (areas : List Area) (channels : List Channel) (wanted : Facilities) (counts : List ℕ) (size : length channels ≡ 16)
+module _ (units : List (List Unit)) (occupancy : ℕ) (areas : List Area) (channels : List Channel) (wanted : Facilities) (counts : Counts) (size : length channels ≡ 16)
     (full : length (wanted .units) ≡ many) (c : Counted units channels counts) where
   abbrev supply : Supply
   supply = supplyOf units occupancy areas channels
@@ -28,14 +29,14 @@ module _ (units : List (List Unit)) (occupancy : ℕ) (areas : List Area) (chann
   abbrev counted : Part → Type 0
   counted = HasBy counts occupancy areas (drumLength channels) wanted
 
-  to-kind : (order : ℕ) → order < unitKinds → Servable (wantsOf counts order) (wantsOf (wanted .units) order) → HasKind supply wanted order
-  to-kind order h s = let k = servable-kind units channels size order h counts (wanted .units) full c s in record { on = k .0; to = k .1 .0; served = k .1 .1 }
+  to-kind : (order : ℕ) → order < unitKinds → Servable (countsOf counts order) (wantsOf wanted order) → HasKind supply wanted order
+  to-kind order h s = let k = servable-kind units channels size order h counts wanted full c s in record { on = k .0; to = k .1 .0; served = k .1 .1 }
 
-  from-kind : (order : ℕ) → order < unitKinds → HasKind supply wanted order → Servable (wantsOf counts order) (wantsOf (wanted .units) order)
-  from-kind order h k = kind-servable units channels size order h counts (wanted .units) full c (k .on) (k .to) (k .served)
+  from-kind : (order : ℕ) → order < unitKinds → HasKind supply wanted order → Servable (countsOf counts order) (wantsOf wanted order)
+  from-kind order h k = kind-servable units channels size order h counts wanted full c (k .on) (k .to) (k .served)
 
   abbrev servable : ℕ → Type 0
-  servable order = Servable (wantsOf counts order) (wantsOf (wanted .units) order)
+  servable order = Servable (countsOf counts order) (wantsOf wanted order)
 
   pub in-cell : (r : Lacking) → FirstOf counted parts r → FirstLacking supply wanted r
   in-cell r =

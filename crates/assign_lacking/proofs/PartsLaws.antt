@@ -4,7 +4,7 @@ use mathlib.Core.Path.{_≡_, refl, sym, ap, _∙_, subst}
 use mathlib.Core.Bool.{Bool, true, false}
 use mathlib.Core.List.{List}
 use native.Mathlib.Omega.{arith}
-use lib.ListN.{length, replicate}
+use lib.ListN.{length, drop, replicate}
 use Rattle.numbers.specs.Decides.{Decides}
 use Rattle.numbers.specs.declared.ChannelNumber.{ChannelNumber}
 use Rattle.numbers.proofs.Tests.{never}
@@ -17,10 +17,13 @@ use Rattle.assign_drum.specs.Drum as D
 use Rattle.assign_drum.specs.declared.Area.{Area}
 use Rattle.assign_drum.specs.declared.Start.{Start}
 use Rattle.assign_drum.specs.declared.Start.the-variants as S
+use Rattle.assign_channels.specs.declared.ByChannel.{ByChannel}
+use Rattle.assign_channels.specs.declared.ByLogical.{ByLogical}
 use Rattle.assign_channels.specs.Choice.{channel, total}
 use Rattle.assign_channels.specs.Greedy.{hallB}
 use Rattle.assign_channels.proofs.GreedyLaws.{total-none}
-use Rattle.assign_channels.proofs.Loops.{too-many, not-served, found, lent}
+use Rattle.assign_channels.proofs.Loops.{too-many, not-served, found}
+use Rattle.assign_counts.specs.declared.Counts.{Counts}
 use Rattle.cards_request.specs.declared.Facilities.{Facilities}
 use Rattle.assign.specs.declared.Lacking.{Lacking}
 use Rattle.assign.specs.Parts.{parts, HasCore, HasDrum}
@@ -43,14 +46,14 @@ module _ (areas : List Area) (size : ℕ) (wanted : Facilities) {r : Start} (a :
   drum-there s e = record { start = s; fits = subst (D.LowestStart areas size (wanted .md)) e a .0 }
 
 -- ---- a kind: where nothing is asked for, no channel is needed
-pub none-asked : (counts wants : List ℕ) → total wants ≡ 0 → Decides (Servable counts wants) true
+pub none-asked : (counts : ByChannel) (wants : ByLogical) → total (wants .0) ≡ 0 → Decides (Servable counts wants) true
 none-asked counts wants e = (
   λ t. record {
     channels = replicate 16 (channel 0);
     placed = record {
       long = refl;
-      fits = λ l h g w. absurd (omega (arith, total-none wants e l));
-      own = λ l m h g n w v q. absurd (omega (arith, total-none wants e l));
+      fits = λ l h g w. absurd (omega (arith, total-none (wants .0) e l));
+      own = λ l m h g n w v q. absurd (omega (arith, total-none (wants .0) e l));
       rest = omega arith;
       none-0 = refl;
       none = λ l h g w. ap (λ (c : ChannelNumber). c .0) (getD-replicate-same 16 l (channel 0));
@@ -60,19 +63,19 @@ none-asked counts wants e = (
 )
 
 -- else the tests that `assign_channels::choose` makes before it chooses
-module _ (counts wants : List ℕ) (wide : length counts ≡ 16) (size : length wants ≡ 16) where
+module _ (counts : ByChannel) (wants : ByLogical) (wide : length (counts .0) ≡ 16) (size : length (wants .0) ≡ 16) where
   -- fewer units than the entries ask for together
-  pub too-few : total counts < total wants → Decides (Servable counts wants) false
+  pub too-few : total (counts .0) < total (wants .0) → Decides (Servable counts wants) false
   too-few h = (λ t. never t refl, λ f s. too-many counts wants wide size h .never (s .channels) (s .placed))
 
   -- else the threshold test decides
-  pub tested : {r : Bool} → total wants ≤ total counts → r ≡ hallB counts (lent counts wants wide size) → Decides (Servable counts wants) r
+  pub tested : {r : Bool} → total (wants .0) ≤ total (counts .0) → r ≡ hallB (counts .0) (drop 1 (wants .0)) → Decides (Servable counts wants) r
   tested {r} h e = (
     λ t. let f = found counts wants wide size h (sym e ∙ t) refl in record { channels = _; placed = f .placed },
     λ f s. not-served counts wants wide size h (sym e ∙ f) .never (s .channels) (s .placed),
   )
 
 -- two answers are one
-pub answers-one : (counts : List ℕ) (occupancy : ℕ) (areas : List Area) (size : ℕ) (wanted : Facilities) (r s : Lacking) → LackingByCounts counts occupancy areas size wanted r
+pub answers-one : (counts : Counts) (occupancy : ℕ) (areas : List Area) (size : ℕ) (wanted : Facilities) (r s : Lacking) → LackingByCounts counts occupancy areas size wanted r
     → LackingByCounts counts occupancy areas size wanted s → r ≡ s
 answers-one counts occupancy areas size wanted r s a b = first-one (HasBy counts occupancy areas size wanted) parts r s (a .first) (b .first)

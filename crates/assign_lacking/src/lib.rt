@@ -2,63 +2,44 @@
 // and the drum areas alone, so that no unit is looked at and nothing is assigned.
 use assign::Lacking;
 use assign::Part;
+use assign_channels::ByChannel;
+use assign_channels::ByLogical;
 use assign_core::Found;
 use assign_counts::Counts;
 use assign_drum::Area;
 use assign_drum::Start;
 use cards_request::Facilities;
-ghost use mathlib.Core.Path.{_≡_};
-ghost use Prim.Native.Nat.{_<_};
+use numbers::LogicalChannel;
 ghost use Rattle.numbers.specs.Decides.{Decides};
-ghost use Rattle.numbers.specs.Kinds.{unitKinds};
-ghost use Rattle.assign.specs.Assignment.{wantsOf};
 ghost use Rattle.assign.specs.Parts.{FirstOf, kinds};
 ghost use Rattle.assign_lacking.specs.ByCounts.{Servable, HasUnits, LackingByCounts};
 
-// A kind's part of a table by kind and channel, or by kind and logical channel.
-fn part_at(table: [u8; cards_request::COUNTS], order: usize) -> [u8; 16]
-    requires { ⌜ order < unitKinds ⌝ }
-    ensures { λ r. ⌜ r ≡ wantsOf table order ⌝ }
+// Whether a kind's entries can be served: nothing is asked for, and the counts are not looked at; or there are as many
+// units as they ask for together, and each with logical channel 1 to 15 can have a channel of its own.
+fn has_units(counts: ByChannel, wants: ByLogical) -> bool
+    ensures { λ r. ⌜ Decides (Servable counts wants) r ⌝ }
 {
-    let mut part = [0u8; 16];
-    let mut l: usize = 0;
-    while l < 16 {
-        part[l] = table[order * 16 + l];
-        l += 1;
-    }
-    part
-}
-
-// Whether the entries of a kind, told by its place in the written order, can be served: nothing is asked for, and the
-// counts are not looked at; or there are as many units as they ask for together, and each with logical channel 1 to 15
-// can have a channel of its own.
-fn has_units(
-    counts: [u8; cards_request::COUNTS],
-    asked: [u8; cards_request::COUNTS],
-    order: usize,
-) -> bool
-    requires { ⌜ order < unitKinds ⌝ }
-    ensures { λ r. ⌜ Decides (Servable (wantsOf counts order) (wantsOf asked order)) r ⌝ }
-{
-    let wants = part_at(asked, order);
-    let sum = assign_channels::sum(wants);
+    let asked = wants.0;
+    let sum = assign_channels::sum(asked);
     if sum == 0 {
         return true;
     }
-    let there = part_at(counts, order);
+    let there = counts.0;
     if assign_channels::sum(there) < sum {
         return false;
     }
-    assign_channels::can_serve(&there, &wants[1..])
+    assign_channels::can_serve(counts, wants, LogicalChannel(1))
 }
 
 // The first kind whose units are lacking, in the written order.
-fn lacking_kind(counts: [u8; cards_request::COUNTS], asked: [u8; cards_request::COUNTS]) -> Lacking
-    ensures { λ r. ⌜ FirstOf (HasUnits counts asked) kinds r ⌝ }
+fn lacking_kind(counts: Counts, wanted: Facilities) -> Lacking
+    ensures { λ r. ⌜ FirstOf (HasUnits counts wanted) kinds r ⌝ }
 {
+    let by_kind = counts.0;
     let mut order: usize = 0;
     while order < numbers::UNIT_KINDS {
-        if !has_units(counts, asked, order) {
+        let there = by_kind[order];
+        if !has_units(there, assign::wants_of(wanted, order)) {
             return Lacking::First(Part::Units(numbers::kind_at(order)));
         }
         order += 1;
@@ -74,15 +55,13 @@ pub fn first_lacking(
     drum: u32,
     wanted: Facilities,
 ) -> Lacking
-    ensures { λ r. ⌜ LackingByCounts (counts .of) occupancy areas drum wanted r ⌝ }
+    ensures { λ r. ⌜ LackingByCounts counts occupancy areas drum wanted r ⌝ }
 {
-    let of = counts.of;
-    let asked = wanted.units;
     let Found::At(_) = assign_core::search(occupancy, wanted.ib as u32, wanted.db as u32) else {
         return Lacking::First(Part::Core);
     };
     let Start::At(_) = assign_drum::lowest_start(areas, drum, wanted.md) else {
         return Lacking::First(Part::Drum);
     };
-    lacking_kind(of, asked)
+    lacking_kind(counts, wanted)
 }

@@ -18,6 +18,7 @@ use Rattle.schedule_list.proofs.InScheduleLaws.{schedule-at, schedule-few, sche
 use Rattle.schedule_list.specs.declared.Schedule.{Schedule}
 use Rattle.schedule_candidates.specs.Candidates.{Marks}
 use Rattle.assign_drum.specs.declared.Area.{Area}
+use Rattle.assign_counts.specs.declared.Counts.{Counts}
 use Rattle.assign_counts.specs.Assignable.{Counted}
 use Rattle.assign.specs.Assignment.{Supply, supplyOf, drumLength}
 use Rattle.assign.specs.Parts.{parts, FirstOf, FirstLacking}
@@ -102,7 +103,7 @@ module _ (es : List Entry) (supply : Supply) (k : ℕ) where
       by-lack (Lacking.First part) x = (none, (x .1, g))
 
 -- what the counts tell of a cell
-pub told : (units : List (List Unit)) (occupancy : ℕ) (areas : List Area) (channels : List Channel) (wanted : Facilities) (counts : List ℕ) {drum : ℕ} {l m : Lacking} → length channels ≡ 16
+pub told : (units : List (List Unit)) (occupancy : ℕ) (areas : List Area) (channels : List Channel) (wanted : Facilities) (counts : Counts) {drum : ℕ} {l m : Lacking} → length channels ≡ 16
     → Counted units channels counts → drum ≡ drumLength channels → LackingByCounts counts occupancy areas drum wanted l → l ≡ m → FirstLacking (supplyOf units occupancy areas channels) wanted m
 told units occupancy areas channels wanted counts {drum} {l} {m} size c e a q =
     in-cell units occupancy areas channels wanted counts size (a .full) c m

@@ -164,7 +164,7 @@ module _ (section : ℕ) where
   unfolding assignable fresh freshUnits isFreeOf unitIn
   free-48 = refl
 
-  wants-1 : want (wantsOf (wants .units) 1) 1 ≡ 1
+  wants-1 : want (wantsOf wants 1) 1 ≡ 1
   wants-1 = refl
 
   -- the lowest unit of channel 3 is given, whatever else is said of the chosen assignment

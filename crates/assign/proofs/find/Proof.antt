@@ -60,10 +60,34 @@ without-requires-3 : tie.Need-without-requires-3
 without-requires-3 c κs = search needs
 
 returns-3 : tie.Need-returns-3
-returns-3 c = no-kind (supplyOf (c .before .before .before .before .before .before .before .before .before .before .before .before .before .before .before .before .before .args .units .of) (c .before .before .before .before .before .before .before .before .before .before .before .before .before .before .before .before .before .args .occupancy) (c .before .before .before .before .before .before .before .before .before .before .before .before .before .before .before .before .before .args .areas) (c .before .before .before .before .before .before .before .before .before .before .before .before .before .before .before .before .before .args .channels)) (c .before .before .before .before .before .before .before .before .before .before .before .before .before .before .before .before .before .args .wanted) (subst (Core.LeastPair (c .before .before .before .before .before .before .before .before .before .before .before .before .before .before .before .before .before .args .occupancy) (c .before .before .before .before .before .before .before .before .before .before .before .before .before .before .before .before .before .args .wanted .ib) (c .before .before .before .before .before .before .before .before .before .before .before .before .before .before .before .before .before .args .wanted .db)) (c .before .before .before .before .before .before .before .before .before .before .before .before .pair .given .1) (c .before .before .before .before .before .before .before .before .before .before .before .before .before .before .search .ensures)) (for-length (c .before .before .before .before .before .before .before .before .before .before .before .before .before .before .before .before .before .args .areas) (c .before .before .before .before .before .before .before .before .before .before .before .before .before .before .before .before .before .args .wanted .md) (c .before .before .before .before .before .before .before .before .before .before .drum-length .ensures) (c .before .before .before .before .before .before .before .start .given .1) (c .before .before .before .before .before .before .before .before .before .lowest-start .ensures)) (kinds-lacking (c .before .before .before .before .serve-kinds .result) (not-true (c .before .before .before .before .serve-kinds .result .ok) (c .before .before .if1 .taken)) (c .before .before .before .before .serve-kinds .ensures)) (c .without3 .ensures ∙ ap (λ (k : Kind). without (Units k)) (c .before .kind-at .ensures))
+returns-3 c =
+    let kinds = c .before .before .before .before in
+    let start = kinds .before .before in
+    let drum = start .before .before .before in
+    let pair = drum .before .before in
+    let search = pair .before .before in
+    let a = search .before .before .before .args in
+    let supply = supplyOf (a .units .of) (a .occupancy) (a .areas) (a .channels) in
+    let core = subst (Core.LeastPair (a .occupancy) (a .wanted .ib) (a .wanted .db)) (pair .pair .given .1) (search .search .ensures) in
+    let area = for-length (a .areas) (a .wanted .md) (drum .drum-length .ensures) (start .start .given .1) (start .before .before .lowest-start .ensures) in
+    let served = kinds .serve-kinds in
+    no-kind supply (a .wanted) core area (kinds-lacking (served .result) (not-true (served .result .ok) (c .before .before .if1 .taken)) (served .ensures))
+    (c .without3 .ensures ∙ ap (λ (k : Kind). without (Units k)) (c .before .kind-at .ensures))
 
 returns-4 : tie.Need-returns-4
-returns-4 c = assigned (supplyOf (c .before .before .before .before .before .before .before .before .before .before .before .before .before .before .before .before .before .args .units .of) (c .before .before .before .before .before .before .before .before .before .before .before .before .before .before .before .before .before .args .occupancy) (c .before .before .before .before .before .before .before .before .before .before .before .before .before .before .before .before .before .args .areas) (c .before .before .before .before .before .before .before .before .before .before .before .before .before .before .before .before .before .args .channels)) (c .before .before .before .before .before .before .before .before .before .before .before .before .before .before .before .before .before .args .wanted) (c .before .before .before .before .before .before .before .before .before .before .before .before .pair .given .0 .0) (c .before .before .before .before .before .before .before .start .given .0 .0) (c .before .before .before .before .serve-kinds .result .channels) (c .before .before .before .before .serve-kinds .result .heads) (subst (Core.LeastPair (c .before .before .before .before .before .before .before .before .before .before .before .before .before .before .before .before .before .args .occupancy) (c .before .before .before .before .before .before .before .before .before .before .before .before .before .before .before .before .before .args .wanted .ib) (c .before .before .before .before .before .before .before .before .before .before .before .before .before .before .before .before .before .args .wanted .db)) (c .before .before .before .before .before .before .before .before .before .before .before .before .pair .given .1) (c .before .before .before .before .before .before .before .before .before .before .before .before .before .before .search .ensures)) (for-length (c .before .before .before .before .before .before .before .before .before .before .before .before .before .before .before .before .before .args .areas) (c .before .before .before .before .before .before .before .before .before .before .before .before .before .before .before .before .before .args .wanted .md) (c .before .before .before .before .before .before .before .before .before .before .drum-length .ensures) (c .before .before .before .before .before .before .before .start .given .1) (c .before .before .before .before .before .before .before .before .before .lowest-start .ensures)) (kinds-served (c .before .before .before .before .serve-kinds .result) (not-false (c .before .before .before .before .serve-kinds .result .ok) (c .before .before .if1 .left)) (c .before .before .before .before .serve-kinds .ensures))
+returns-4 c =
+    let kinds = c .before .before .before .before in
+    let start = kinds .before .before in
+    let drum = start .before .before .before in
+    let pair = drum .before .before in
+    let search = pair .before .before in
+    let a = search .before .before .before .args in
+    let supply = supplyOf (a .units .of) (a .occupancy) (a .areas) (a .channels) in
+    let core = subst (Core.LeastPair (a .occupancy) (a .wanted .ib) (a .wanted .db)) (pair .pair .given .1) (search .search .ensures) in
+    let area = for-length (a .areas) (a .wanted .md) (drum .drum-length .ensures) (start .start .given .1) (start .before .before .lowest-start .ensures) in
+    let served = kinds .serve-kinds in
+    assigned supply (a .wanted) (pair .pair .given .0 .0) (start .start .given .0 .0) (served .result .channels) (served .result .heads) core area
+    (kinds-served (served .result) (not-false (served .result .ok) (c .before .before .if1 .left)) (served .ensures))
 
 pub find-spec : {M : Type 1} → statement M
 find-spec =

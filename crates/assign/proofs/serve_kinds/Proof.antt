@@ -14,13 +14,13 @@ use Rattle.assign.proofs.serve_kinds.Statement.{statement}
 use Rattle.assign.proofs.serve_kinds.Tie as tie
 
 abbrev Inv-loop : tie.InvT-loop
-Inv-loop units channels asked chosen₀ heads₀ order₀ chosen heads order = KindsDone (isFreeOf (units .of) channels) asked chosen heads order
+Inv-loop units channels wanted chosen₀ heads₀ order₀ chosen heads order = KindsDone (isFreeOf (units .of) channels) wanted chosen heads order
 
 abbrev μ-loop : tie.MeasureT-loop
-μ-loop units channels asked chosen₀ heads₀ order₀ chosen heads order = unitKinds - order
+μ-loop units channels wanted chosen₀ heads₀ order₀ chosen heads order = unitKinds - order
 
 loop-holds : tie.Need-loop-holds Inv-loop μ-loop
-loop-holds c = none-yet (isFreeOf (c .args .units .of) (c .args .channels)) (c .args .asked)
+loop-holds c = none-yet (isFreeOf (c .args .units .of) (c .args .channels)) (c .args .wanted)
 
 wants-of-requires : tie.Need-wants-of-requires Inv-loop μ-loop
 wants-of-requires c κs = search needs
@@ -35,7 +35,16 @@ serve-requires : tie.Need-serve-requires Inv-loop μ-loop
 serve-requires c κs = search needs
 
 returns : tie.Need-returns Inv-loop μ-loop
-returns c = lacking (c .before .before .before .before .before .before .before .before .before .args .units .of) (c .before .before .before .before .before .before .before .before .before .args .channels) (c .before .before .before .before .before .before .before .before .before .args .asked) (omega arith) (c .before .before .before .before .before .before .before .before .loop .order) (c .before .before .before .before .before .before .before .loop-test .taken) (c .before .before .before .free-units .ensures) (c .before .before .before .before .before .before .wants-of .ensures) (lacking-so (c .before .before .before .free-units .result) (c .before .before .before .before .before .before .wants-of .result) (c .before .before .before .before .before .before .before .before .loop .heads) (c .before .before .serve .result) (not-true (c .before .before .serve .result .ok) (c .if2 .taken)) (c .before .before .serve .ensures)) (c .before .before .before .before .before .before .before .before .loop .inv)
+returns c =
+    let turn = c .before .before .before .before .before .before .before .before .before in
+    let entry = turn .before in
+    let a = entry .args in
+    let wants = c .before .before .before .before .before .before .before .wants-of in
+    let free = c .before .before .before .free-units in
+    let service = c .before .before .serve in
+    let no = not-true (service .result .ok) (c .if2 .taken) in
+    lacking (a .units .of) (a .channels) (a .wanted) (omega (arith, entry .good)) (turn .loop .order) (c .before .before .before .before .before .before .before .before .loop-test .taken)
+    (free .ensures) (wants .ensures) (lacking-so (free .result) (wants .result) (turn .loop .heads) (service .result) no (service .ensures)) (turn .loop .inv)
 
 mul-chosen : tie.Need-mul-chosen Inv-loop μ-loop
 mul-chosen c = search needs
@@ -50,7 +59,20 @@ loop-less : tie.Need-loop-less Inv-loop μ-loop
 loop-less c = omega arith
 
 loop-again : tie.Need-loop-again Inv-loop μ-loop
-loop-again c = ⊎-elim (λ w. as-stored (w .7) (w .8) (one-more (c .before .before .before .before .before .args .units .of) (c .before .before .before .before .before .args .channels) (c .before .before .before .before .before .args .asked) (omega arith) (c .before .before .before .before .loop .order) (c .before .before .before .loop-test .taken) (w .1 .ensures) (c .before .before .wants-of .ensures) (served-so (w .1 .result) (c .before .before .wants-of .result) (c .before .before .before .before .loop .heads) (w .2 .result) (not-false (w .2 .result .ok) (w .4 .left)) (w .2 .ensures)) (c .before .before .before .before .loop .inv))) (λ w. as-stored (w .1) (w .2) (unasked (c .before .before .before .before .before .args .units .of) (c .before .before .before .before .before .args .channels) (c .before .before .before .before .before .args .asked) (c .before .before .before .before .loop .order) (c .before .before .before .loop-test .taken) (nothing-asked (c .before .before .before .before .before .args .asked) (c .before .before .wants-of .result) (c .before .before .before .before .loop .order) (c .before .sum .result) (c .before .before .wants-of .ensures) (c .before .sum .ensures) (w .0 .left)) (c .before .before .before .before .loop .inv))) (c .if1 .came)
+loop-again c =
+    let a = c .before .before .before .before .before .before .args in
+    let turn = c .before .before .before .before .before .loop in
+    let more = c .before .before .before .before .loop-test .taken in
+    let wants = c .before .before .before .wants-of in
+    let sum = c .before .sum in
+    ⊎-elim
+    (λ w. as-stored (w .7) (w .8)
+    (one-more (a .units .of) (a .channels) (a .wanted) (omega arith) (turn .order) more (w .1 .ensures) (wants .ensures)
+    (served-so (w .1 .result) (wants .result) (turn .heads) (w .2 .result) (not-false (w .2 .result .ok) (w .4 .left)) (w .2 .ensures)) (turn .inv)))
+    (λ w. as-stored (w .1) (w .2)
+    (unasked (a .units .of) (a .channels) (a .wanted) (turn .order) more
+    (nothing-asked (a .wanted) (wants .result) (turn .order) (sum .result) (wants .ensures) (sum .ensures) (w .0 .left)) (turn .inv)))
+    (c .if1 .came)
 
 returns-2 : tie.Need-returns-2 Inv-loop μ-loop
 returns-2 c = all-done (c .loop-test .left) (c .before .loop .inv)

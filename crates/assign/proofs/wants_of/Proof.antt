@@ -4,7 +4,7 @@ use mathlib.Core.Path.{_≡_, refl, _∙_}
 use native.Mathlib.Omega.{arith}
 use lib.ListN.{length, getD, length-set}
 use Rattle.numbers.proofs.Stores.{stored}
-use Rattle.assign.proofs.Parts.{part-is}
+use Rattle.assign.proofs.Parts.{part-is, part-none}
 use borrow.Author.Needs.{needs}
 use Rattle.assign.proofs.wants_of.Statement.{statement}
 use Rattle.assign.proofs.wants_of.Tie as tie
@@ -37,10 +37,24 @@ loop-less : tie.Need-loop-less Inv-loop μ-loop
 loop-less c = omega arith
 
 loop-again : tie.Need-loop-again Inv-loop μ-loop
-loop-again c = ((omega arith, length-set (c .before .loop .wants) (c .before .loop .l) (getD (c .before .before .args .t1) (c .before .before .args .order * 16 + c .before .loop .l) 0) ∙ c .before .loop .inv .0 .1), stored (λ (d : ℕ) (n : ℕ). n ≡ getD (c .before .before .args .t1) (c .before .before .args .order * 16 + d) 0) (c .before .loop .wants) (c .before .loop .l) 16 (getD (c .before .before .args .t1) (c .before .before .args .order * 16 + c .before .loop .l) 0) 0 (c .before .loop .inv .0 .1) (c .loop-test .taken) (c .before .loop .inv .1) refl)
+loop-again c =
+    let a = c .before .before .before .before .args in
+    let turn = c .before .loop in
+    let its = getD (a .wanted .units) (a .order * 16 + turn .l) 0 in (
+      (omega arith, length-set (turn .wants) (turn .l) its ∙ turn .inv .0 .1),
+      stored (λ (d : ℕ) (n : ℕ). n ≡ getD (a .wanted .units) (a .order * 16 + d) 0) (turn .wants) (turn .l) 16 its 0 (turn .inv .0 .1)
+          (c .loop-test .taken) (turn .inv .1) refl,
+    )
 
 returns : tie.Need-returns Inv-loop μ-loop
-returns c = part-is (c .before .before .args .t1) (c .before .loop .wants) (c .before .before .args .order) (omega arith) (c .before .loop .inv .0 .1) (c .before .before .pre) (λ d h. c .before .loop .inv .1 d (omega arith))
+returns c =
+    let a = c .before .before .before .before .args in
+    part-is (a .wanted) (c .before .loop .wants) (a .order) (c .before .loop .inv .0 .1) (λ d h. c .before .loop .inv .1 d (omega arith))
+
+returns-2 : tie.Need-returns-2 Inv-loop μ-loop
+returns-2 c =
+    let a = c .before .before .args in
+    part-none (a .wanted) (a .order) (search needs) (c .if1 .left)
 
 pub wants-of-spec : {M : Type 1} → statement M
 wants-of-spec =
@@ -56,4 +70,5 @@ wants-of-spec =
     add-l
     loop-less
     loop-again
-    returns)
+    returns
+    returns-2)

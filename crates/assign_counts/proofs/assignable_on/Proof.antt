@@ -13,13 +13,18 @@ use Rattle.assign_counts.proofs.assignable_on.Statement.{statement}
 use Rattle.assign_counts.proofs.assignable_on.Tie as tie
 
 abbrev Inv-loop : tie.InvT-loop
-Inv-loop c n grid count₀ u₀ count u = ((u ≤ 16) × (count ≤ u)) × (count ≡ howMany u (counts grid c n))
+Inv-loop n grid c count₀ u₀ count u = ((u ≤ 16) × (count ≤ u)) × (count ≡ howMany u (counts grid c n))
 
 abbrev μ-loop : tie.MeasureT-loop
-μ-loop c n grid count₀ u₀ count u = 16 - u
+μ-loop n grid c count₀ u₀ count u = 16 - u
+
+cast-c : tie.Need-cast-c Inv-loop μ-loop
+cast-c c = search needs
 
 loop-holds : tie.Need-loop-holds Inv-loop μ-loop
-loop-holds c = (omega arith, count-none (counts (c .args .t1) (c .args .c) (c .args .n)))
+loop-holds c =
+    let a = c .before .args in
+    (omega arith, count-none (counts (a .t1) (a .channel .0) (a .n)))
 
 cast-if1 : tie.Need-cast-if1 Inv-loop μ-loop
 cast-if1 c = search needs
@@ -50,10 +55,25 @@ loop-less c = omega arith
 
 loop-again : tie.Need-loop-again Inv-loop μ-loop
 unfolding unitIn
-loop-again c = ((omega arith, ⊎-elim (λ w. omega (arith, w)) (λ o. ⊎-elim (λ w. omega (arith, w)) (λ w. omega (arith, w)) o) (c .if1 .came)), ⊎-elim (λ w. unit-seen (c .before .before .before .args .t1) (c .before .before .before .args .c) (c .before .before .before .args .n) (c .before .before .loop .u) (c .before .before .loop .inv .1) (w .0 .taken) (sym (w .3 .taken) ∙ w .2 .ensures) (omega (arith, w))) (λ o. ⊎-elim (λ w. unit-seen (c .before .before .before .args .t1) (c .before .before .before .args .c) (c .before .before .before .args .n) (c .before .before .loop .u) (c .before .before .loop .inv .1) (w .0 .taken) (sym (w .3 .left) ∙ w .2 .ensures) (omega (arith, w))) (λ w. unit-past (c .before .before .before .args .t1) (c .before .before .before .args .c) (c .before .before .before .args .n) (c .before .before .loop .u) (c .before .before .loop .inv .1) (w .0 .left) (w .1)) o) (c .if1 .came))
+loop-again c =
+    let a = c .before .before .before .before .args in
+    let turn = c .before .before .loop in (
+      (omega arith, ⊎-elim (λ w. omega (arith, w)) (λ o. ⊎-elim (λ w. omega (arith, w)) (λ w. omega (arith, w)) o) (c .if1 .came)),
+      ⊎-elim
+          (λ w. unit-seen (a .t1) (a .channel .0) (a .n) (turn .u) (turn .inv .1) (w .0 .taken)
+          (sym (w .3 .taken) ∙ w .2 .ensures) (omega (arith, w)))
+          (λ o. ⊎-elim
+          (λ w. unit-seen (a .t1) (a .channel .0) (a .n) (turn .u) (turn .inv .1) (w .0 .taken)
+          (sym (w .3 .left) ∙ w .2 .ensures) (omega (arith, w)))
+          (λ w. unit-past (a .t1) (a .channel .0) (a .n) (turn .u) (turn .inv .1) (w .0 .left) (w .1))
+          o)
+          (c .if1 .came),
+    )
 
 returns : tie.Need-returns Inv-loop μ-loop
-returns c = all-seen (c .before .before .args .t1) (c .before .before .args .c) (c .before .before .args .n) (c .before .loop .u) (omega arith) (omega arith) (omega arith) (c .before .loop .inv .1)
+returns c =
+    let a = c .before .before .before .args in
+    all-seen (a .t1) (a .channel .0) (a .n) (c .before .loop .u) (omega arith) (omega arith) (omega arith) (c .before .loop .inv .1)
 
 pub assignable-on-spec : {M : Type 1} → statement M
 assignable-on-spec =
@@ -61,6 +81,7 @@ assignable-on-spec =
     (tie.spec
     Inv-loop
     μ-loop
+    cast-c
     loop-holds
     cast-if1
     mul-unit

@@ -31,20 +31,29 @@ array-copy-out-channel c = search needs
 order-on-requires : tie.Need-order-on-requires Inv-loop μ-loop
 order-on-requires c κs = search needs
 
+mul-row : tie.Need-mul-row Inv-loop μ-loop
+mul-row c = search needs
+
+array-copy-out-row : tie.Need-array-copy-out-row Inv-loop μ-loop
+array-copy-out-row c = search needs
+
+cast-t22 : tie.Need-cast-t22 Inv-loop μ-loop
+cast-t22 c = search needs
+
 units-of-requires : tie.Need-units-of-requires Inv-loop μ-loop
 units-of-requires c κs = search needs
 
 assignable-on-requires : tie.Need-assignable-on-requires Inv-loop μ-loop
 assignable-on-requires c κs = search needs
 
+element-write-row : tie.Need-element-write-row Inv-loop μ-loop
+element-write-row c = search needs
+
 mul-of : tie.Need-mul-of Inv-loop μ-loop
 mul-of c = search needs
 
-add-of : tie.Need-add-of Inv-loop μ-loop
-add-of c = search needs
-
-array-write-of : tie.Need-array-write-of Inv-loop μ-loop
-array-write-of c = search needs
+array-set-from-of : tie.Need-array-set-from-of Inv-loop μ-loop
+array-set-from-of c = search needs
 
 add-c : tie.Need-add-c Inv-loop μ-loop
 add-c c = search needs
@@ -53,7 +62,15 @@ loop-less : tie.Need-loop-less Inv-loop μ-loop
 loop-less c = omega arith
 
 loop-again : tie.Need-loop-again Inv-loop μ-loop
-loop-again c = ⊎-elim (λ w. counted (c .before .before .before .loop-test .taken) (c .before .before .before .before .loop .inv) (w .0 .taken) (c .before .order-on .ensures) (subst (λ (n : ℕ). AssignableOn (c .before .before .before .before .before .grid-of .result) (c .before .before .before .before .loop .c) n (w .2 .result)) (w .1 .ensures) (w .2 .ensures)) (w .3)) (λ w. past (c .before .before .before .loop-test .taken) (c .before .before .before .before .loop .inv) (omega (arith, c .before .order-on .ensures, w .0 .left)) (w .1)) (c .if1 .came)
+loop-again c =
+    let more = c .before .before .before .loop-test .taken in
+    let turn = c .before .before .before .before .loop in
+    let grid = c .before .before .before .before .before .grid-of .result in
+    ⊎-elim
+    (λ w. counted more (turn .inv) (w .0 .taken) (c .before .order-on .ensures)
+    (subst (λ (n : ℕ). AssignableOn grid (turn .c) n (w .3 .result)) (w .2 .ensures) (w .3 .ensures)) (w .4))
+    (λ w. past more (turn .inv) (omega (arith, c .before .order-on .ensures, w .0 .left)) (w .1))
+    (c .if1 .came)
 
 returns : tie.Need-returns Inv-loop μ-loop
 returns c = end (c .loop-test .left) (c .before .before .grid-of .ensures .is) (c .before .loop .inv)
@@ -69,11 +86,14 @@ count-spec =
     mul-channel
     array-copy-out-channel
     order-on-requires
+    mul-row
+    array-copy-out-row
+    cast-t22
     units-of-requires
     assignable-on-requires
+    element-write-row
     mul-of
-    add-of
-    array-write-of
+    array-set-from-of
     add-c
     loop-less
     loop-again

@@ -21,7 +21,7 @@ counts-of-requires : tie.Need-counts-of-requires Inv-loop μ-loop
 counts-of-requires c κs = search needs
 
 loop-holds : tie.Need-loop-holds Inv-loop μ-loop
-loop-holds c = start (c .before .grid-of .result) (c .counts-of .result)
+loop-holds c = start (c .before .before .grid-of .result) (c .before .counts-of .result .0)
 
 cast-if1 : tie.Need-cast-if1 Inv-loop μ-loop
 cast-if1 c = search needs
@@ -61,7 +61,10 @@ unfolding unitIn
 loop-again c = ⊎-elim (λ w. marked (c .before .loop-test .taken) (c .before .before .loop .inv) (w .0 .taken) (w .2 .ensures) (w .3)) (λ w. past (c .before .loop-test .taken) (c .before .before .loop .inv) (w .0 .left) (w .1)) (c .if1 .came)
 
 returns : tie.Need-returns Inv-loop μ-loop
-returns c = end (c .before .before .before .before .args .units .of) (c .before .before .before .before .args .channels) (c .before .before .before .before .args .order) (c .loop-test .left) (c .before .before .before .grid-of .ensures .is) (c .before .before .counts-of .ensures) (c .before .loop .inv)
+returns c =
+    let a = c .before .before .before .before .before .args in
+    end (a .units .of) (a .channels) (a .order) (c .loop-test .left) (c .before .before .before .before .grid-of .ensures .is)
+    (c .before .before .before .counts-of .ensures) (c .before .loop .inv)
 
 pub free-units-spec : {M : Type 1} → statement M
 free-units-spec =

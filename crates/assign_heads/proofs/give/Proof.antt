@@ -16,7 +16,7 @@ abbrev μ-loop : tie.MeasureT-loop
 μ-loop free own next₀ left₀ i₀ next left i = 256 - i
 
 loop-holds : tie.Need-loop-holds Inv-loop μ-loop
-loop-holds c = gave-none (c .args .t1) (c .args .t2) (c .args .wants) (c .args .heads) (omega arith) (omega arith)
+loop-holds c = gave-none (c .args .t1) (c .args .t2) (c .args .wants) (c .args .heads) (omega arith) (search needs)
 
 array-read-if1 : tie.Need-array-read-if1 Inv-loop μ-loop
 array-read-if1 c = search needs

@@ -1,6 +1,7 @@
 -- `assign_heads::less` meets its contract, by cases on what was taken. Assumes nothing.
-use mathlib.Core.Path.{sym, ap, _∙_}
+use mathlib.Core.Path.{_≡_, sym, ap, _∙_}
 use native.Mathlib.Omega.{arith}
+use lib.ListN.{length}
 use Rattle.assign_heads.specs.Giving.{lessOf}
 use Rattle.assign_heads.proofs.Turns.{lacks-none, no-entry}
 use borrow.Author.Needs.{needs}
@@ -13,29 +14,38 @@ enum-known-taken c = search needs
 cast-l : tie.Need-cast-l
 cast-l c = search needs
 
-array-read-if2 : tie.Need-array-read-if2
-array-read-if2 c = search needs
+element-copy-out-if2 : tie.Need-element-copy-out-if2
+element-copy-out-if2 c = search needs
 
-array-read-next : tie.Need-array-read-next
-array-read-next c = search needs
+element-copy-out-next : tie.Need-element-copy-out-next
+element-copy-out-next c = search needs
 
 sub-next : tie.Need-sub-next
 sub-next c = search needs
 
-array-write-next : tie.Need-array-write-next
-array-write-next c = search needs
+element-write-next : tie.Need-element-write-next
+element-write-next c = search needs
 
 enum-told : tie.Need-enum-told
 enum-told c = search needs
 
 returns : tie.Need-returns
-returns c = sym (ap (lessOf (c .before .before .before .before .before .before .args .left)) (c .before .before .before .before .taken .given .1))
+returns c =
+    let left = c .before .before .before .before .before .before .before .before .args .left in
+    sym (ap (lessOf left) (c .before .before .before .before .before .before .taken .given .1))
 
 returns-2 : tie.Need-returns-2
-returns-2 c = sym (ap (lessOf (c .before .before .before .before .before .before .args .left)) (c .before .before .before .before .taken .given .1) ∙ lacks-none (c .before .before .before .before .before .before .args .left) (c .before .before .before .before .taken .given .0 .0 .0) (c .if2 .left))
+returns-2 c =
+    let left = c .before .before .before .before .before .before .before .args .left in
+    let taken = c .before .before .before .before .before .taken .given in
+    sym (ap (lessOf left) (taken .1) ∙ lacks-none left (taken .0 .0 .0) (c .if2 .left))
 
 returns-3 : tie.Need-returns-3
-returns-3 c = sym (ap (lessOf (c .before .before .before .before .before .args .left)) (c .before .before .before .taken .given .1) ∙ no-entry (c .before .before .before .before .before .args .left) (c .before .before .before .taken .given .0 .0 .0) (omega arith))
+returns-3 c =
+    let left = c .before .before .before .before .before .args .left in
+    let taken = c .before .before .before .taken .given in
+    let size : length (left .0) ≡ 16 = search needs in
+    sym (ap (lessOf left) (taken .1) ∙ no-entry left (taken .0 .0 .0) (omega (arith, size)))
 
 returns-4 : tie.Need-returns-4
 returns-4 c = search needs
@@ -46,10 +56,10 @@ less-spec =
     (tie.spec
     enum-known-taken
     cast-l
-    array-read-if2
-    array-read-next
+    element-copy-out-if2
+    element-copy-out-next
     sub-next
-    array-write-next
+    element-write-next
     enum-told
     returns
     returns-2

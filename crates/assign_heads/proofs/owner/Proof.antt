@@ -3,17 +3,18 @@ use Prim.Native.Nat.{ℕ, _≤_, _<_, _-_}
 use mathlib.Core.Path.{_≡_}
 use mathlib.Core.Logic.{⊎-elim}
 use native.Mathlib.Omega.{arith}
+use lib.ListN.{getD}
 use borrow.Author.Count.{below-more}
-use Rattle.assign_channels.specs.Choice.{want, on}
+use Rattle.assign_channels.specs.Choice.{on}
 use borrow.Author.Needs.{needs}
 use Rattle.assign_heads.proofs.owner.Statement.{statement}
 use Rattle.assign_heads.proofs.owner.Tie as tie
 
 abbrev Inv-loop : tie.InvT-loop
-Inv-loop channel on wants l₀ l = ((1 ≤ l) × (l ≤ 16)) × ((m : ℕ) → m < l → 1 ≤ m → 1 ≤ want wants m → Rattle.assign_channels.specs.Choice.on on m ≡ channel .0 → ⊥)
+Inv-loop channel on asked l₀ l = ((1 ≤ l) × (l ≤ 16)) × ((m : ℕ) → m < l → 1 ≤ m → 1 ≤ getD asked m 0 → Rattle.assign_channels.specs.Choice.on on m ≡ channel .0 → ⊥)
 
 abbrev μ-loop : tie.MeasureT-loop
-μ-loop channel on wants l₀ l = 16 - l
+μ-loop channel on asked l₀ l = 16 - l
 
 loop-holds : tie.Need-loop-holds Inv-loop μ-loop
 loop-holds c = (omega arith, λ m h k q e. omega arith)

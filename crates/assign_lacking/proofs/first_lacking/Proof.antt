@@ -22,7 +22,10 @@ enum-told-2 : tie.Need-enum-told-2
 enum-told-2 c = search needs
 
 returns : tie.Need-returns
-returns c = record { first = inl (no-core (c .before .before .before .before .before .before .before .args .occupancy) (c .before .before .before .before .before .before .before .args .wanted) (c .before .before .search .ensures) (c .enum-told2 .given .1), refl); full = search needs }
+returns c =
+    let a = c .before .before .before .before .before .args in
+    let none = no-core (a .occupancy) (a .wanted) (c .before .before .search .ensures) (c .enum-told2 .given .1) in
+    record { first = inl (none, refl); full = search needs }
 
 lowest-start-requires : tie.Need-lowest-start-requires
 lowest-start-requires c κs = search needs
@@ -34,13 +37,24 @@ enum-told-4 : tie.Need-enum-told-4
 enum-told-4 c = search needs
 
 returns-2 : tie.Need-returns-2
-returns-2 c = record { first = inr (core-there (c .before .before .before .before .before .before .before .before .before .before .args .occupancy) (c .before .before .before .before .before .before .before .before .before .before .args .wanted) (c .before .before .before .before .before .search .ensures) (c .before .before .before .enum-told .given .0 .0) (c .before .before .before .enum-told .given .1), inl (no-drum (c .before .before .before .before .before .before .before .before .before .before .args .areas) (c .before .before .before .before .before .before .before .before .before .before .args .drum) (c .before .before .before .before .before .before .before .before .before .before .args .wanted) (c .before .before .lowest-start .ensures) (c .enum-told4 .given .1), refl)); full = search needs }
+returns-2 c =
+    let a = c .before .before .before .before .before .before .before .before .args in
+    let pair = c .before .before .before .enum-told .given in
+    let core = core-there (a .occupancy) (a .wanted) (c .before .before .before .before .before .search .ensures) (pair .0 .0) (pair .1) in
+    let none = no-drum (a .areas) (a .drum) (a .wanted) (c .before .before .lowest-start .ensures) (c .enum-told4 .given .1) in
+    record { first = inr (core, inl (none, refl)); full = search needs }
 
 lacking-kind-requires : tie.Need-lacking-kind-requires
 lacking-kind-requires c κs = search needs
 
 returns-3 : tie.Need-returns-3
-returns-3 c = record { first = inr (core-there (c .before .before .before .before .before .before .before .before .before .before .before .args .occupancy) (c .before .before .before .before .before .before .before .before .before .before .before .args .wanted) (c .before .before .before .before .before .before .search .ensures) (c .before .before .before .before .enum-told .given .0 .0) (c .before .before .before .before .enum-told .given .1), inr (drum-there (c .before .before .before .before .before .before .before .before .before .before .before .args .areas) (c .before .before .before .before .before .before .before .before .before .before .before .args .drum) (c .before .before .before .before .before .before .before .before .before .before .before .args .wanted) (c .before .before .before .lowest-start .ensures) (c .before .enum-told3 .given .0 .0) (c .before .enum-told3 .given .1), c .lacking-kind .ensures)); full = search needs }
+returns-3 c =
+    let a = c .before .before .before .before .before .before .before .before .before .args in
+    let pair = c .before .before .before .before .enum-told .given in
+    let start = c .before .enum-told3 .given in
+    let core = core-there (a .occupancy) (a .wanted) (c .before .before .before .before .before .before .search .ensures) (pair .0 .0) (pair .1) in
+    let drum = drum-there (a .areas) (a .drum) (a .wanted) (c .before .before .before .lowest-start .ensures) (start .0 .0) (start .1) in
+    record { first = inr (core, inr (drum, c .lacking-kind .ensures)); full = search needs }
 
 pub first-lacking-spec : {M : Type 1} → statement M
 first-lacking-spec =

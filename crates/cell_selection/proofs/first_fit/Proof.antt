@@ -59,7 +59,7 @@ picked-requires : tie.Need-picked-requires Inv-loop μ-loop
 picked-requires c κs = search needs
 
 returns : tie.Need-returns Inv-loop μ-loop
-returns c = walk-found (c .before .before .before .before .before .before .before .before .before .before .before .before .before .before .before .before .args .schedule) (full (c .before .before .before .before .before .before .before .before .before .before .before .before .before .before .before .before .args .schedule) _ (c .before .before .before .before .before .before .before .before .before .before .before .before .before .before .before .before .good .0)) (c .before .before .before .before .before .before .before .before .before .before .before .before .before .before .before .size .ensures) (c .before .before .before .before .before .before .before .before .before .before .before .before .before .before .all .ensures) (supplyOf (c .before .before .before .before .before .before .before .before .before .before .before .before .before .before .before .before .args .units .of) (c .before .before .before .before .before .before .before .before .before .before .before .before .before .before .before .before .args .occupancy) (c .before .before .before .before .before .before .before .before .before .before .before .before .before .before .before .before .args .areas) (c .before .before .before .before .before .before .before .before .before .before .before .before .before .before .before .before .args .channels)) (c .before .before .before .before .before .before .before .before .before .before .loop .so-far) (c .before .before .before .before .before .before .before .before .before .before .loop .inv) (omega arith) _ (c .before .before .before .before .before .before .before .before .if1 .taken) (told (c .before .before .before .before .before .before .before .before .before .before .before .before .before .before .before .before .args .units .of) (c .before .before .before .before .before .before .before .before .before .before .before .before .before .before .before .before .args .occupancy) (c .before .before .before .before .before .before .before .before .before .before .before .before .before .before .before .before .args .areas) (c .before .before .before .before .before .before .before .before .before .before .before .before .before .before .before .before .args .channels) _ (c .before .before .before .before .before .before .before .before .before .before .before .before .count .result .of) (omega (arith, c .before .before .before .before .before .before .before .before .before .before .before .before .before .before .before .before .good)) (c .before .before .before .before .before .before .before .before .before .before .before .before .count .ensures) (c .before .before .before .before .before .before .before .before .before .before .before .drum-length .ensures) (c .before .before .before .before .first-lacking .ensures) (c .before .before .enum-told .given .1)) (c .before .assign .result) (c .before .assign .ensures) (c .picked .result) (c .picked .ensures)
+returns c = walk-found (c .before .before .before .before .before .before .before .before .before .before .before .before .before .before .before .before .args .schedule) (full (c .before .before .before .before .before .before .before .before .before .before .before .before .before .before .before .before .args .schedule) _ (c .before .before .before .before .before .before .before .before .before .before .before .before .before .before .before .before .good .0)) (c .before .before .before .before .before .before .before .before .before .before .before .before .before .before .before .size .ensures) (c .before .before .before .before .before .before .before .before .before .before .before .before .before .before .all .ensures) (supplyOf (c .before .before .before .before .before .before .before .before .before .before .before .before .before .before .before .before .args .units .of) (c .before .before .before .before .before .before .before .before .before .before .before .before .before .before .before .before .args .occupancy) (c .before .before .before .before .before .before .before .before .before .before .before .before .before .before .before .before .args .areas) (c .before .before .before .before .before .before .before .before .before .before .before .before .before .before .before .before .args .channels)) (c .before .before .before .before .before .before .before .before .before .before .loop .so-far) (c .before .before .before .before .before .before .before .before .before .before .loop .inv) (omega arith) _ (c .before .before .before .before .before .before .before .before .if1 .taken) (told (c .before .before .before .before .before .before .before .before .before .before .before .before .before .before .before .before .args .units .of) (c .before .before .before .before .before .before .before .before .before .before .before .before .before .before .before .before .args .occupancy) (c .before .before .before .before .before .before .before .before .before .before .before .before .before .before .before .before .args .areas) (c .before .before .before .before .before .before .before .before .before .before .before .before .before .before .before .before .args .channels) _ (c .before .before .before .before .before .before .before .before .before .before .before .before .count .result) (omega (arith, c .before .before .before .before .before .before .before .before .before .before .before .before .before .before .before .before .good)) (c .before .before .before .before .before .before .before .before .before .before .before .before .count .ensures) (c .before .before .before .before .before .before .before .before .before .before .before .drum-length .ensures) (c .before .before .before .before .first-lacking .ensures) (c .before .before .enum-told .given .1)) (c .before .assign .result) (c .before .assign .ensures) (c .picked .result) (c .picked .ensures)
 
 note-requires : tie.Need-note-requires Inv-loop μ-loop
 note-requires c κs = search needs
@@ -71,7 +71,7 @@ loop-less : tie.Need-loop-less Inv-loop μ-loop
 loop-less c = search needs
 
 loop-again : tie.Need-loop-again Inv-loop μ-loop
-loop-again c = ⊎-elim (λ w. walk-next (c .before .before .before .before .before .before .before .before .args .schedule) (full (c .before .before .before .before .before .before .before .before .args .schedule) _ (c .before .before .before .before .before .before .before .before .good .0)) (c .before .before .before .before .before .before .before .size .ensures) (c .before .before .before .before .before .before .all .ensures) (supplyOf (c .before .before .before .before .before .before .before .before .args .units .of) (c .before .before .before .before .before .before .before .before .args .occupancy) (c .before .before .before .before .before .before .before .before .args .areas) (c .before .before .before .before .before .before .before .before .args .channels)) (c .before .before .loop .so-far) (c .before .before .loop .inv) (omega arith) _ (w .0 .taken) (w .6 .given .0 .0) (told (c .before .before .before .before .before .before .before .before .args .units .of) (c .before .before .before .before .before .before .before .before .args .occupancy) (c .before .before .before .before .before .before .before .before .args .areas) (c .before .before .before .before .before .before .before .before .args .channels) _ (c .before .before .before .before .count .result .of) (omega arith) (c .before .before .before .before .count .ensures) (c .before .before .before .drum-length .ensures) (w .4 .ensures) (w .6 .given .1)) (c .if1 .so-far) (w .9 ∙ w .8 .ensures)) (λ w. subst (λ (x : Noted). Walked (take (c .before .before .before .before .before .before .before .size .result) (c .before .before .before .before .before .before .before .before .args .schedule .entries)) (supplyOf (c .before .before .before .before .before .before .before .before .args .units .of) (c .before .before .before .before .before .before .before .before .args .occupancy) (c .before .before .before .before .before .before .before .before .args .areas) (c .before .before .before .before .before .before .before .before .args .channels)) (x .lacking) (x .at) (c .before .before .loop .k + 1)) (sym (w .1)) (walk-on (c .before .before .before .before .before .before .before .before .args .schedule) (full (c .before .before .before .before .before .before .before .before .args .schedule) _ (c .before .before .before .before .before .before .before .before .good .0)) (c .before .before .before .before .before .before .before .size .ensures) (c .before .before .before .before .before .before .all .ensures) (supplyOf (c .before .before .before .before .before .before .before .before .args .units .of) (c .before .before .before .before .before .before .before .before .args .occupancy) (c .before .before .before .before .before .before .before .before .args .areas) (c .before .before .before .before .before .before .before .before .args .channels)) (c .before .before .loop .so-far) (c .before .before .loop .inv) (omega arith) (w .0 .left))) (c .if1 .came)
+loop-again c = ⊎-elim (λ w. walk-next (c .before .before .before .before .before .before .before .before .args .schedule) (full (c .before .before .before .before .before .before .before .before .args .schedule) _ (c .before .before .before .before .before .before .before .before .good .0)) (c .before .before .before .before .before .before .before .size .ensures) (c .before .before .before .before .before .before .all .ensures) (supplyOf (c .before .before .before .before .before .before .before .before .args .units .of) (c .before .before .before .before .before .before .before .before .args .occupancy) (c .before .before .before .before .before .before .before .before .args .areas) (c .before .before .before .before .before .before .before .before .args .channels)) (c .before .before .loop .so-far) (c .before .before .loop .inv) (omega arith) _ (w .0 .taken) (w .6 .given .0 .0) (told (c .before .before .before .before .before .before .before .before .args .units .of) (c .before .before .before .before .before .before .before .before .args .occupancy) (c .before .before .before .before .before .before .before .before .args .areas) (c .before .before .before .before .before .before .before .before .args .channels) _ (c .before .before .before .before .count .result) (omega arith) (c .before .before .before .before .count .ensures) (c .before .before .before .drum-length .ensures) (w .4 .ensures) (w .6 .given .1)) (c .if1 .so-far) (w .9 ∙ w .8 .ensures)) (λ w. subst (λ (x : Noted). Walked (take (c .before .before .before .before .before .before .before .size .result) (c .before .before .before .before .before .before .before .before .args .schedule .entries)) (supplyOf (c .before .before .before .before .before .before .before .before .args .units .of) (c .before .before .before .before .before .before .before .before .args .occupancy) (c .before .before .before .before .before .before .before .before .args .areas) (c .before .before .before .before .before .before .before .before .args .channels)) (x .lacking) (x .at) (c .before .before .loop .k + 1)) (sym (w .1)) (walk-on (c .before .before .before .before .before .before .before .before .args .schedule) (full (c .before .before .before .before .before .before .before .before .args .schedule) _ (c .before .before .before .before .before .before .before .before .good .0)) (c .before .before .before .before .before .before .before .size .ensures) (c .before .before .before .before .before .before .all .ensures) (supplyOf (c .before .before .before .before .before .before .before .before .args .units .of) (c .before .before .before .before .before .before .before .before .args .occupancy) (c .before .before .before .before .before .before .before .before .args .areas) (c .before .before .before .before .before .before .before .before .args .channels)) (c .before .before .loop .so-far) (c .before .before .loop .inv) (omega arith) (w .0 .left))) (c .if1 .came)
 
 none-picked-requires : tie.Need-none-picked-requires Inv-loop μ-loop
 none-picked-requires c κs = search needs
