@@ -6,8 +6,10 @@ use channels::Configuration;
 use keyboard::Asked;
 use keyboard_answers::Told;
 use lists::StatusAnswer;
+use numbers::ChannelNumber;
 use numbers::Outcome;
 use numbers::Refusal;
+use numbers::UnitNumber;
 use packets::Act;
 use packets::Acted;
 use packets::Answer;
@@ -15,6 +17,8 @@ use packets::Leaving;
 use packets::Lists;
 use schedule_list::Schedule;
 ghost use mathlib.Core.Path.{_≡_};
+ghost use Rattle.units.specs.declared.Mark.the-variants.{Down};
+ghost use Rattle.packets.specs.declared.Act.the-variants.{Mark};
 ghost use Rattle.cell.specs.Calls.{freshCell, acted, leftBy, followed, releasing};
 ghost use Rattle.cell.specs.Calls.{deleting, answerOf, outcomeOf, statusOf, Enters, SelectsIn, called, heeded, Keys};
 
@@ -175,6 +179,19 @@ pub fn act(cell: Cell, act: Act) -> Answered
     with_schedule(acted, follow(schedule, answer))
 }
 
+// The down mark of a unit, which a keyboard message sets or clears; the schedule stays. It goes to `lists::mark`, so that
+// a program makes the calls of `lists::act` at one place: the compiler folds copies of the lists only there.
+fn mark_down(cell: Cell, channel: ChannelNumber, unit: UnitNumber, on: bool) -> Answered
+    ensures { λ r. ⌜ r ≡ acted cell (Mark channel unit Down on) ⌝ }
+{
+    let lists = cell.lists;
+    let schedule = cell.schedule;
+    with_schedule(
+        lists::mark(lists, channel, unit, units::Mark::Down, on),
+        schedule,
+    )
+}
+
 // How a call that only changes the schedule ends.
 fn answer_of(outcome: Outcome) -> Answer
     ensures { λ r. ⌜ r ≡ answerOf outcome ⌝ }
@@ -254,9 +271,7 @@ fn heed(cell: Cell, asks: Asked, id: [u8; 6]) -> Heeded
             told: Told::Mistyped(fault),
             cell,
         },
-        Asked::Mark(channel, unit, on) => {
-            called(act(cell, Act::Mark(channel, unit, units::Mark::Down, on)))
-        }
+        Asked::Mark(channel, unit, on) => called(mark_down(cell, channel, unit, on)),
         Asked::Release => called(release(cell, id)),
         Asked::Delete => called(delete(cell, id)),
     }

@@ -15,7 +15,7 @@ ghost use mathlib.Core.Path.{_≡_};
 ghost use Rattle.text.specs.Room.{Written};
 ghost use Rattle.packets.specs.declared.Answer.the-variants.{Done};
 ghost use Rattle.shift_packets.specs.Texts.{answerText, statusAnswerText, spotOn, placed};
-ghost use Rattle.shift_packets.specs.OnLists.{isForLists, Gives, Handles};
+ghost use Rattle.shift_packets.specs.OnLists.{isForLists, nothingDone, Tells, Gives, Handles};
 
 // The request lists after a line, what the call answered (done, for a status, refused or not, and for a line that is no
 // such call), and where its text ends in the lent room.
@@ -126,6 +126,19 @@ fn unchanged(lists: Lists, at: usize) -> Handled
     }
 }
 
+// A packet's status, and the request lists as they are. They are taken over before the text is put, so that no call
+// keeps them for that.
+fn with_status(out: &mut [u8], lists: Lists, status: StatusAnswer) -> Handled
+    ensures { λ r. ⌜ Tells (statusAnswerText status) (nothingDone lists) (now (out .entry)) (now (out .exit)) r ⌝ }
+{
+    let kept = lists;
+    Handled {
+        lists: kept,
+        answer: Answer::Done,
+        at: put_status(out, status),
+    }
+}
+
 // The answer to a line that is a call on the request lists; any other line gets none here, and changes nothing.
 pub fn reply(lists: Lists, call: Line, out: &mut [u8]) -> Handled
     ensures { λ r. ⌜ Handles lists call (now (out .entry)) (now (out .exit)) r ⌝ }
@@ -143,7 +156,7 @@ pub fn reply(lists: Lists, call: Line, out: &mut [u8]) -> Handled
         Line::Release => unchanged(lists, 0),
         Line::Delete => unchanged(lists, 0),
         Line::Status(place, packet) => {
-            unchanged(lists, put_status(out, lists::status(lists, place, packet)))
+            with_status(out, lists, lists::status(lists, place, packet))
         }
         Line::Key => unchanged(lists, 0),
     }

@@ -14,8 +14,8 @@ enum-known-asks c = search needs
 enum-known-asks-2 : tie.Need-enum-known-asks-2
 enum-known-asks-2 c = search needs
 
-act-requires : tie.Need-act-requires
-act-requires c κs = search needs
+mark-down-requires : tie.Need-mark-down-requires
+mark-down-requires c κs = search needs
 
 called-requires : tie.Need-called-requires
 called-requires c κs = search needs
@@ -45,7 +45,7 @@ returns-2 : tie.Need-returns-2
 returns-2 c = rw (c .before .asks .given .1)
 
 returns-3 : tie.Need-returns-3
-returns-3 c = c .called .ensures ∙ ap called (c .before .act .ensures) ∙ rw (c .before .before .before .asks2 .given .1)
+returns-3 c = c .called .ensures ∙ ap called (c .before .mark-down .ensures) ∙ rw (c .before .before .before .asks2 .given .1)
 
 returns-4 : tie.Need-returns-4
 returns-4 c = c .called2 .ensures ∙ ap called (c .before .release .ensures) ∙ rw (c .before .before .enum-told2 .given .1)
@@ -60,7 +60,7 @@ heed-spec =
     enum-told
     enum-known-asks
     enum-known-asks-2
-    act-requires
+    mark-down-requires
     called-requires
     enum-told-2
     release-requires

@@ -69,17 +69,14 @@ enum-known-call-2 c = search needs
 status-requires : tie.Need-status-requires
 status-requires c κs = search needs
 
-put-status-requires : tie.Need-put-status-requires
-put-status-requires c κs = search needs
-
-unchanged-requires-8 : tie.Need-unchanged-requires-8
-unchanged-requires-8 c κs = search needs
+with-status-requires : tie.Need-with-status-requires
+with-status-requires c κs = search needs
 
 enum-told-8 : tie.Need-enum-told-8
 enum-told-8 c = search needs
 
-unchanged-requires-9 : tie.Need-unchanged-requires-9
-unchanged-requires-9 c κs = search needs
+unchanged-requires-8 : tie.Need-unchanged-requires-8
+unchanged-requires-8 c κs = search needs
 
 returns : tie.Need-returns
 returns c = rw (c .before .enum-told .given .1) (told (c .unchanged .ensures) (none (c .before .before .before .before .args .out .now) 0))
@@ -117,12 +114,11 @@ same-length-2 : tie.Need-same-length-2
 same-length-2 c = search needs
 
 returns-9 : tie.Need-returns-9
-returns-9 c = let asked = c .before .before .before .before in
-    rw (asked .before .before .before .call2 .given .1)
-    (told (c .unchanged8 .ensures) (rw (← asked .status .ensures) (c .before .before .before .put-status .ensures)))
+returns-9 c = let asked = c .before .before .before in
+    rw (asked .before .before .before .call2 .given .1, ← asked .status .ensures) (c .before .before .with-status .ensures)
 
 returns-10 : tie.Need-returns-10
-returns-10 c = rw (c .before .enum-told8 .given .1) (told (c .unchanged9 .ensures) (none (c .before .before .before .before .args .out .now) 0))
+returns-10 c = rw (c .before .enum-told8 .given .1) (told (c .unchanged8 .ensures) (none (c .before .before .before .before .args .out .now) 0))
 
 pub reply-spec : {M : Type 1} → statement M
 reply-spec =
@@ -148,10 +144,9 @@ reply-spec =
     unchanged-requires-7
     enum-known-call-2
     status-requires
-    put-status-requires
-    unchanged-requires-8
+    with-status-requires
     enum-told-8
-    unchanged-requires-9
+    unchanged-requires-8
     returns
     returns-2
     returns-3
