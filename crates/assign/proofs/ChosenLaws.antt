@@ -88,30 +88,35 @@ module _ (supply : Supply) (wanted : Facilities) where
   lacks : (part : Part) → FirstLacking supply wanted (Lacking.First part) → {r : Provision} → r ≡ without part → Assigns supply wanted r
   lacks part f e = subst (Assigns supply wanted) (sym e) (f, refl)
 
-  pub no-core : Core.LeastPair (supply .occupancy) (wanted .ib) (wanted .db) C.Nothing → {r : Provision} → r ≡ without Part.Core → Assigns supply wanted r
+  pub no-core : Core.LeastPair (supply .occupancy) (wanted .ib) (wanted .db) C.Nothing → {r : Provision} → r ≡ without Part.Core
+      → Assigns supply wanted r
   no-core c = lacks Part.Core (inl (λ h. c (h .ib) (h .db) (h .fits), refl))
 
   module _ {p : Pair} (c : Core.LeastPair (supply .occupancy) (wanted .ib) (wanted .db) (C.At p)) where
     has-core : HasCore (supply .occupancy) wanted
     has-core = record { ib = p .0; db = p .1; fits = c .0 }
 
-    pub no-drum : Drum.LowestStart (supply .areas) (drumLength (supply .channels)) (wanted .md) D.Nothing → {r : Provision} → r ≡ without Part.Drum → Assigns supply wanted r
+    pub no-drum : Drum.LowestStart (supply .areas) (drumLength (supply .channels)) (wanted .md) D.Nothing → {r : Provision}
+        → r ≡ without Part.Drum → Assigns supply wanted r
     no-drum d = lacks Part.Drum (inr (has-core, inl (λ h. d (h .start) (h .fits), refl)))
 
     pub no-kind : {s : ℕ} → Drum.LowestStart (supply .areas) (drumLength (supply .channels)) (wanted .md) (D.At s)
         → {order : ℕ} → KindLacking (freeOf supply) wanted order → {r : Provision} → r ≡ without (Part.Units (kindAt order)) → Assigns supply wanted r
-    no-kind {s} d {order} k = lacks (Part.Units (kindAt order))
+    no-kind {s} d {order} k =
+        lacks (Part.Units (kindAt order))
         (inr (
           has-core,
           inr (
             record { start = s; fits = d .0 },
-            first-kind (Has supply wanted) (HasKind supply wanted) (λ m x. x) (λ m x. x) order (k .is-kind) (λ kind h. possible-kind kind (k .before kind h)) (λ h. let p = kind-possible order h in k .never (p .0) (p .1)),
+            first-kind (Has supply wanted) (HasKind supply wanted) (λ m x. x) (λ m x. x) order (k .is-kind)
+                (λ kind h. possible-kind kind (k .before kind h)) (λ h. let p = kind-possible order h in k .never (p .0) (p .1)),
           ),
         ))
 
   -- ---- all parts
   module _ (p : Pair) (s : ℕ) (named : List KindChannels) (heads : List Head)
-      (c : Core.LeastPair (supply .occupancy) (wanted .ib) (wanted .db) (C.At p)) (d : Drum.LowestStart (supply .areas) (drumLength (supply .channels)) (wanted .md) (D.At s))
+      (c : Core.LeastPair (supply .occupancy) (wanted .ib) (wanted .db) (C.At p))
+      (d : Drum.LowestStart (supply .areas) (drumLength (supply .channels)) (wanted .md) (D.At s))
       (k : KindsDone (freeOf supply) wanted named heads unitKinds) where
     abbrev all : Assigned
     all = record { ib = p .0; db = p .1; drum = s; channels = named; heads = heads }
@@ -143,7 +148,9 @@ module _ (supply : Supply) (wanted : Facilities) where
         (three (record { 0 = a .ib; 1 = a .db }) (record { 0 = b .ib; 1 = b .db }))
 
     drum-one : a .drum ≡ b .drum
-    drum-one = ⊎-elim (λ l. ⊎-elim (λ e. e) (λ m. absurd (q .drum a (p .is) m)) (eq-or-lt-of-le l)) (λ m. absurd (p .drum b (q .is) m)) (le-or-lt (a .drum) (b .drum))
+    drum-one =
+        ⊎-elim (λ l. ⊎-elim (λ e. e) (λ m. absurd (q .drum a (p .is) m)) (eq-or-lt-of-le l)) (λ m. absurd (p .drum b (q .is) m))
+        (le-or-lt (a .drum) (b .drum))
 
     named-one : (kind : ℕ) → kind < unitKinds → channelsOf a kind ≡ channelsOf b kind
     named-one kind h = lex-both (channelsOf a kind) (channelsOf b kind) (p .channels kind h b (q .is)) (q .channels kind h a (p .is))
@@ -158,12 +165,14 @@ module _ (supply : Supply) (wanted : Facilities) where
     of-kind zero i = inr (λ kind h. absurd (omega arith))
     of-kind (suc n) i =
         by-bool (freeOf supply n i) (λ t. inl (n, (omega arith, t)))
-        (λ f. ⊎-elim (λ r. inl (r .0, (omega (arith, r .1 .0), r .1 .1))) (λ g. inr (λ kind h. one-more (λ (x : ℕ). freeOf supply x i ≡ false) n g f kind (omega arith))) (of-kind n i))
+        (λ f. ⊎-elim (λ r. inl (r .0, (omega (arith, r .1 .0), r .1 .1)))
+        (λ g. inr (λ kind h. one-more (λ (x : ℕ). freeOf supply x i ≡ false) n g f kind (omega arith))) (of-kind n i))
 
     of-free : (x : Assigned) (kind i : ℕ) → freeOf supply kind i ≡ true → givenOf supply kind x i ≡ given x i
     of-free x kind i t = ap (λ (z : Bool). cond z (given x i) Nothing) t
 
-    not-given : (x : Assigned) → IsAssignment supply wanted x → (i : ℕ) → ((kind : ℕ) → kind < unitKinds → freeOf supply kind i ≡ false) → given x i ≡ Nothing
+    not-given : (x : Assigned) → IsAssignment supply wanted x → (i : ℕ) → ((kind : ℕ) → kind < unitKinds → freeOf supply kind i ≡ false)
+        → given x i ≡ Nothing
     not-given x e i none = nothing-else (given x i) (λ t. let r = e .only i t in never (r .free) (none (r .kind) (r .is-kind)))
       where
         nothing-else : (g : Given) → (isGiven g ≡ true → ⊥) → g ≡ Nothing
@@ -177,8 +186,10 @@ module _ (supply : Supply) (wanted : Facilities) where
         let kind = r .0 in
         let m : kind < unitKinds = r .1 .0 in
         let s : Served (freeOf supply kind) (want (wantsOf wanted kind)) (on (channelsOf b kind)) (givenOf supply kind a) =
-        subst (λ (cs : List ChannelNumber). Served (freeOf supply kind) (want (wantsOf wanted kind)) (on cs) (givenOf supply kind a)) (named-one kind m) (p .is .kinds kind m) in
-        let e = units-one (freeOf supply kind) (want (wantsOf wanted kind)) (on (channelsOf b kind)) (givenOf supply kind a) (givenOf supply kind b) s (p .units kind m) (q .is .kinds kind m) (q .units kind m) i h in
+        subst (λ (cs : List ChannelNumber). Served (freeOf supply kind) (want (wantsOf wanted kind)) (on cs) (givenOf supply kind a))
+        (named-one kind m) (p .is .kinds kind m) in
+        let e = units-one (freeOf supply kind) (want (wantsOf wanted kind)) (on (channelsOf b kind)) (givenOf supply kind a)
+        (givenOf supply kind b) s (p .units kind m) (q .is .kinds kind m) (q .units kind m) i h in
         sym (of-free a kind i (r .1 .1)) ∙ e ∙ of-free b kind i (r .1 .1))
         (λ none. not-given a (p .is) i none ∙ sym (not-given b (q .is) i none))
         (of-kind unitKinds i)
@@ -225,12 +236,15 @@ module _ (supply : Supply) (wanted : Facilities) where
       λ i. record { lacking = e .0 i; assigned = e .1 i }
 
 -- ---- what the kinds answer, by what it says of itself
-pub kinds-served : {free : ℕ → ℕ → Bool} {asked : Facilities} (r : Kinds) → r .ok ≡ true → ServesKinds free asked r → KindsDone free asked (r .channels) (r .heads) unitKinds
+pub kinds-served : {free : ℕ → ℕ → Bool} {asked : Facilities} (r : Kinds) → r .ok ≡ true → ServesKinds free asked r
+    → KindsDone free asked (r .channels) (r .heads) unitKinds
 kinds-served {free} {asked} r e s = subst (λ (b : Bool). KindsAnswer b free asked r) e s
 
-pub kinds-lacking : {free : ℕ → ℕ → Bool} {asked : Facilities} (r : Kinds) → r .ok ≡ false → ServesKinds free asked r → KindLacking free asked (r .order)
+pub kinds-lacking : {free : ℕ → ℕ → Bool} {asked : Facilities} (r : Kinds) → r .ok ≡ false → ServesKinds free asked r
+    → KindLacking free asked (r .order)
 kinds-lacking {free} {asked} r e s = subst (λ (b : Bool). KindsAnswer b free asked r) e s
 
 -- the drum's answer for the length that was worked out
-pub for-length : (areas : List Area) (words : ℕ) {n m : ℕ} {r s : Start} → n ≡ m → r ≡ s → Drum.LowestStart areas n words r → Drum.LowestStart areas m words s
+pub for-length : (areas : List Area) (words : ℕ) {n m : ℕ} {r s : Start} → n ≡ m → r ≡ s → Drum.LowestStart areas n words r
+    → Drum.LowestStart areas m words s
 for-length areas words {n} {m} {r} {s} e f a = subst (λ (x : ℕ). Drum.LowestStart areas x words s) e (subst (Drum.LowestStart areas n words) f a)

@@ -52,7 +52,9 @@ module _ (units : List (List Unit)) (channels : List Channel) (asked : Facilitie
   kindsFrom zero order named heads = record { ok = true; order = order; channels = named; heads = heads }
   kindsFrom (suc n) order named heads =
       cond (eqb (total (wantsOf asked order .0)) 0) (kindsFrom n (order + 1) named heads)
-      (cond (serviceAt order heads .ok) (kindsFrom n (order + 1) (set named order (record { on = serviceAt order heads .on })) (serviceAt order heads .heads)) (record { ok = false; order = order; channels = named; heads = heads }))
+      (cond (serviceAt order heads .ok)
+      (kindsFrom n (order + 1) (set named order (record { on = serviceAt order heads .on })) (serviceAt order heads .heads))
+      (record { ok = false; order = order; channels = named; heads = heads }))
 
   abbrev pub kindsOf : Kinds
   kindsOf = kindsFrom unitKinds 0 (replicate unitKinds noChannels) (replicate 256 blank)
@@ -62,25 +64,40 @@ module _ (units : List (List Unit)) (channels : List Channel) (asked : Facilitie
     long order h = refl
 
     -- the next kind is served, or it is lacking
-    step : (n order : ℕ) (named : List KindChannels) (heads : List Head) → order < unitKinds → (s : Service) → Serving.Serves (marksOf units channels order) (wantsOf asked order) heads s
-        → (KindsDone (isFreeOf units channels) asked (set named order (record { on = s .on })) (s .heads) (order + 1) → ServesKinds (isFreeOf units channels) asked (kindsFrom n (order + 1) (set named order (record { on = s .on })) (s .heads)))
+    step : (n order : ℕ) (named : List KindChannels) (heads : List Head) → order < unitKinds → (s : Service)
+        → Serving.Serves (marksOf units channels order) (wantsOf asked order) heads s
+        → (KindsDone (isFreeOf units channels) asked (set named order (record { on = s .on })) (s .heads) (order + 1)
+        → ServesKinds (isFreeOf units channels) asked (kindsFrom n (order + 1) (set named order (record { on = s .on })) (s .heads)))
         → KindsDone (isFreeOf units channels) asked named heads order
-        → ServesKinds (isFreeOf units channels) asked (cond (s .ok) (kindsFrom n (order + 1) (set named order (record { on = s .on })) (s .heads)) (record { ok = false; order = order; channels = named; heads = heads }))
+        → ServesKinds (isFreeOf units channels) asked (cond (s .ok)
+        (kindsFrom n (order + 1) (set named order (record { on = s .on })) (s .heads))
+        (record { ok = false; order = order; channels = named; heads = heads }))
     step n order named heads h s a more k = by-answer (s .ok) refl
       where
-        by-answer : (b : Bool) → s .ok ≡ b → ServesKinds (isFreeOf units channels) asked (cond (s .ok) (kindsFrom n (order + 1) (set named order (record { on = s .on })) (s .heads)) (record { ok = false; order = order; channels = named; heads = heads }))
-        by-answer true e = rw e (more (one-more units channels asked size order h (marks-answer units channels order) refl (served-so (marksOf units channels order) (wantsOf asked order) heads s e a) k))
-        by-answer false e = rw e (lacking units channels asked size order h (marks-answer units channels order) refl (lacking-so (marksOf units channels order) (wantsOf asked order) heads s e a) k)
+        by-answer : (b : Bool) → s .ok ≡ b
+            → ServesKinds (isFreeOf units channels) asked (cond (s .ok)
+            (kindsFrom n (order + 1) (set named order (record { on = s .on })) (s .heads))
+            (record { ok = false; order = order; channels = named; heads = heads }))
+        by-answer true e =
+            rw e (more (one-more units channels asked size order h (marks-answer units channels order) refl
+            (served-so (marksOf units channels order) (wantsOf asked order) heads s e a) k))
+        by-answer false e =
+            rw e (lacking units channels asked size order h (marks-answer units channels order) refl
+            (lacking-so (marksOf units channels order) (wantsOf asked order) heads s e a) k)
 
-    kinds-from : (n order : ℕ) (named : List KindChannels) (heads : List Head) → order + n ≡ unitKinds → KindsDone (isFreeOf units channels) asked named heads order
+    kinds-from : (n order : ℕ) (named : List KindChannels) (heads : List Head) → order + n ≡ unitKinds
+        → KindsDone (isFreeOf units channels) asked named heads order
         → ServesKinds (isFreeOf units channels) asked (kindsFrom n order named heads)
     unfolding kindsFrom
     kinds-from zero order named heads e k = all-done (omega arith) k
     kinds-from (suc n) order named heads e k =
         by-bool (eqb (total (wantsOf asked order .0)) 0)
-        (λ t. rw t (kinds-from n (order + 1) named heads (omega arith) (unasked units channels asked order (omega arith) (eqb-true (total (wantsOf asked order .0)) 0 t) k)))
-        (λ f. rw f (step n order named heads (omega arith) (serviceAt order heads) (serve-answers (marksOf units channels order) (wantsOf asked order) heads refl (long order (omega arith)) (k .wide))
-        (kinds-from n (order + 1) (set named order (record { on = serviceAt order heads .on })) (serviceAt order heads .heads) (omega arith)) k))
+        (λ t. rw t (kinds-from n (order + 1) named heads (omega arith)
+        (unasked units channels asked order (omega arith) (eqb-true (total (wantsOf asked order .0)) 0 t) k)))
+        (λ f. rw f (step n order named heads (omega arith) (serviceAt order heads)
+        (serve-answers (marksOf units channels order) (wantsOf asked order) heads refl (long order (omega arith)) (k .wide))
+        (kinds-from n (order + 1) (set named order (record { on = serviceAt order heads .on })) (serviceAt order heads .heads) (omega arith))
+        k))
 
     pub kinds-answer : ServesKinds (isFreeOf units channels) asked kindsOf
     kinds-answer = kinds-from unitKinds 0 (replicate unitKinds noChannels) (replicate 256 blank) refl (none-yet (isFreeOf units channels) asked)
@@ -105,19 +122,23 @@ unfoldable pub assignOf : Supply → Facilities → Provision
 assignOf supply wanted = withCore supply wanted (searchOf (supply .occupancy) (wanted .ib) (wanted .db))
 
 module _ (supply : Supply) (wanted : Facilities) (size : length (supply .channels) ≡ 16) (full : length (wanted .units) ≡ counts) where
-  with-kinds : (p : Pair) (s : ℕ) → Core.LeastPair (supply .occupancy) (wanted .ib) (wanted .db) (C.At p) → Drum.LowestStart (supply .areas) (drumLength (supply .channels)) (wanted .md) (D.At s)
+  with-kinds : (p : Pair) (s : ℕ) → Core.LeastPair (supply .occupancy) (wanted .ib) (wanted .db) (C.At p)
+      → Drum.LowestStart (supply .areas) (drumLength (supply .channels)) (wanted .md) (D.At s)
       → (k : Kinds) (b : Bool) → k .ok ≡ b → KindsAnswer b (freeOf supply) wanted k → Assigns supply wanted (withKinds p s k)
   with-kinds p s c d k true e a = rw e (assigned supply wanted p s (k .channels) (k .heads) c d a)
   with-kinds p s c d k false e a = rw e (no-kind supply wanted c d a refl)
 
-  with-drum : (p : Pair) → Core.LeastPair (supply .occupancy) (wanted .ib) (wanted .db) (C.At p) → (r : Start) → Drum.LowestStart (supply .areas) (drumLength (supply .channels)) (wanted .md) r → Assigns supply wanted (withDrum supply wanted p r)
+  with-drum : (p : Pair) → Core.LeastPair (supply .occupancy) (wanted .ib) (wanted .db) (C.At p) → (r : Start)
+      → Drum.LowestStart (supply .areas) (drumLength (supply .channels)) (wanted .md) r → Assigns supply wanted (withDrum supply wanted p r)
   with-drum p c (D.At s) d =
       let k = kindsOf (supply .units) (supply .channels) wanted in
       with-kinds p s c d k (k .ok) refl (kinds-answer (supply .units) (supply .channels) wanted size full)
   with-drum p c D.Nothing d = no-drum supply wanted c d refl
 
   with-core : (r : Found) → Core.LeastPair (supply .occupancy) (wanted .ib) (wanted .db) r → Assigns supply wanted (withCore supply wanted r)
-  with-core (C.At p) c = with-drum p c (startOf (supply .areas) (drumLength (supply .channels)) (wanted .md)) (start-answers (supply .areas) (drumLength (supply .channels)) (wanted .md))
+  with-core (C.At p) c =
+      with-drum p c (startOf (supply .areas) (drumLength (supply .channels)) (wanted .md))
+      (start-answers (supply .areas) (drumLength (supply .channels)) (wanted .md))
   with-core C.Nothing c = no-core supply wanted c refl
 
   -- there is always an answer, and it is the computed one

@@ -35,7 +35,8 @@ module _ (has : Part → Type 0) where
       (λ x. ⊎-elim (λ y. absurd (y .0 (x .0))) (λ y. first-one ps r s (x .1) (y .1)) b) a
 
   -- the same by another reading of the parts, where the next part and the others say the same
-  pub first-next : (other : Part → Type 0) (p : Part) (ps : List Part) (r : Lacking) → (has p → other p) → (other p → has p) → (FirstOf has ps r → FirstOf other ps r)
+  pub first-next : (other : Part → Type 0) (p : Part) (ps : List Part) (r : Lacking) → (has p → other p) → (other p → has p)
+      → (FirstOf has ps r → FirstOf other ps r)
       → FirstOf has (p ∷ ps) r → FirstOf other (p ∷ ps) r
   first-next other p ps r to from rest a = ⊎-elim (λ x. inl (λ h. x .0 (from h), x .1)) (λ x. inr (to (x .0), rest (x .1))) a
 
@@ -52,7 +53,8 @@ module _ (has : Part → Type 0) where
   first-none d (p ∷ ps) all = inr (all 0 (omega arith), first-none d ps (λ j l. all (suc j) (omega arith)))
 
   -- the same by another reading, where every part of the list says the same
-  pub first-same : (other : Part → Type 0) (d : Part) (ps : List Part) (r : Lacking) → ((j : ℕ) → j < length ps → has (getD ps j d) → other (getD ps j d))
+  pub first-same : (other : Part → Type 0) (d : Part) (ps : List Part) (r : Lacking)
+      → ((j : ℕ) → j < length ps → has (getD ps j d) → other (getD ps j d))
       → ((j : ℕ) → j < length ps → other (getD ps j d) → has (getD ps j d)) → FirstOf has ps r → FirstOf other ps r
   first-same other d [] r to from f = f
   first-same other d (p ∷ ps) r to from f =
@@ -65,7 +67,8 @@ kind-part : (i : ℕ) → i < unitKinds → getD kinds i Core ≡ Units (kindAt 
 kind-part i h = map-at (λ k. Units k) Core inOrder Md i h
 
 -- a reading of the parts that tells a kind by its place
-module _ (has : Part → Type 0) (at : ℕ → Type 0) (to : (k : Kind) → at (orderOf k) → has (Units k)) (from : (k : Kind) → has (Units k) → at (orderOf k)) where
+module _ (has : Part → Type 0) (at : ℕ → Type 0) (to : (k : Kind) → at (orderOf k) → has (Units k))
+    (from : (k : Kind) → has (Units k) → at (orderOf k)) where
   pub kind-there : (i : ℕ) → i < unitKinds → at i → has (getD kinds i Core)
   kind-there i h a = subst has (sym (kind-part i h)) (to (kindAt i) (subst at (sym (kind-order i h)) a))
 

@@ -54,7 +54,8 @@ none-yet free asked = record {
         by-bool (ltb i 256) (λ t. getD-replicate 256 i blank blank (ltb-true i 256 t))
         (λ t. List·getD-eq-default (replicate 256 blank) blank {n = i} (ltb-false i 256 t))
 
-module _ (units : List (List Unit)) (channels : List Channel) (asked : Facilities) (size : length channels ≡ 16) (order : ℕ) (more : order < unitKinds) {free : List Bool} {wants : ByLogical}
+module _ (units : List (List Unit)) (channels : List Channel) (asked : Facilities) (size : length channels ≡ 16) (order : ℕ)
+    (more : order < unitKinds) {free : List Bool} {wants : ByLogical}
     (has : FreeUnits units channels order free) (are : wants ≡ wantsOf asked order) where
   abbrev freeOf : ℕ → ℕ → Bool
   freeOf = isFreeOf units channels
@@ -70,7 +71,8 @@ module _ (units : List (List Unit)) (channels : List Channel) (asked : Facilitie
   possible {others} p = record {
     long = p .long;
     to = p .to;
-    served = subst (λ (w : ByLogical). Served (freeAt free) (want w) (on others) (p .to)) (sym are) (subst (λ (f : ℕ → Bool). Served f (want (wantsOf asked order)) (on others) (p .to)) (sym marks-are) (p .served));
+    served = subst (λ (w : ByLogical). Served (freeAt free) (want w) (on others) (p .to)) (sym are)
+        (subst (λ (f : ℕ → Bool). Served f (want (wantsOf asked order)) (on others) (p .to)) (sym marks-are) (p .served));
   }
 
   pub lacking : {before heads : List Head} {mine : List ChannelNumber} {named : List KindChannels} → Serving.Lacking free wants before mine heads
@@ -102,12 +104,14 @@ module _ (units : List (List Unit)) (channels : List Channel) (asked : Facilitie
         other : (i : ℕ) → freeOf kind i ≡ true → freeAt free i ≡ false
         other i t = by-bool (freeAt free i) (λ u. absurd (omega (arith, one-kind units channels kind order i t (sym (marked i) ∙ u)))) (λ u. u)
 
-    pub one-more : {named : List KindChannels} → KindsDone freeOf asked named before order → KindsDone freeOf asked (set named order (record { on = mine })) heads (order + 1)
+    pub one-more : {named : List KindChannels} → KindsDone freeOf asked named before order
+        → KindsDone freeOf asked (set named order (record { on = mine })) heads (order + 1)
     one-more {named} k = record {
       high = omega arith;
       count = length-set named order (record { on = mine }) ∙ k .count;
       wide = c .wide;
-      each = stored (λ (kind : ℕ) (x : KindChannels). KindDone freeOf asked kind (x .on) (toOf freeOf kind heads)) named order unitKinds (record { on = mine }) noChannels (k .count) more
+      each = stored (λ (kind : ℕ) (x : KindChannels). KindDone freeOf asked kind (x .on) (toOf freeOf kind heads)) named order unitKinds
+          (record { on = mine }) noChannels (k .count) more
           (λ kind h. subst (KindDone freeOf asked kind (getD named kind noChannels .on)) (kept kind h) (k .each kind h)) now-done;
       rest = λ kind h. getD-set-other named order kind (record { on = mine }) noChannels (λ e. omega arith) ∙ k .rest kind (omega arith);
       only = λ i t. by-bool (freeAt free i) (λ u. (order, (omega arith, sym (marked i) ∙ u)))
@@ -117,7 +121,8 @@ module _ (units : List (List Unit)) (channels : List Channel) (asked : Facilitie
     }
 
 -- the last kind was served
-pub all-done : {free : ℕ → ℕ → Bool} {asked : Facilities} {channels : List KindChannels} {heads : List Head} {order : ℕ} → unitKinds ≤ order → KindsDone free asked channels heads order → KindsDone free asked channels heads unitKinds
+pub all-done : {free : ℕ → ℕ → Bool} {asked : Facilities} {channels : List KindChannels} {heads : List Head} {order : ℕ} → unitKinds ≤ order
+    → KindsDone free asked channels heads order → KindsDone free asked channels heads unitKinds
 all-done {free} {asked} {channels} {heads} {order} h k = subst (KindsDone free asked channels heads) (upto order h (k .high)) k
   where
     upto : (order : ℕ) → unitKinds ≤ order → order ≤ unitKinds → order ≡ unitKinds
@@ -135,7 +140,8 @@ not-given : (g : Given) → isGiven g ≡ false → g ≡ Nothing
 not-given Nothing e = refl
 not-given (To l) e = never refl e
 
-module _ (units : List (List Unit)) (channels : List Channel) (asked : Facilities) (order : ℕ) (more : order < unitKinds) (none : total (wantsOf asked order .0) ≡ 0)
+module _ (units : List (List Unit)) (channels : List Channel) (asked : Facilities) (order : ℕ) (more : order < unitKinds)
+    (none : total (wantsOf asked order .0) ≡ 0)
     {named : List KindChannels} {heads : List Head} (k : KindsDone (isFreeOf units channels) asked named heads order) where
   abbrev free : ℕ → Bool
   free = isFreeOf units channels order
@@ -180,17 +186,22 @@ module _ (units : List (List Unit)) (channels : List Channel) (asked : Facilitie
     high = omega arith;
     count = k .count;
     wide = k .wide;
-    each = all-below (λ (kind : ℕ). KindDone (isFreeOf units channels) asked kind (getD named kind noChannels .on) (toOf (isFreeOf units channels) kind heads)) order (k .each)
-        (subst (λ (x : KindChannels). KindDone (isFreeOf units channels) asked order (x .on) (toOf (isFreeOf units channels) order heads)) (sym (k .rest order (omega arith))) unasked-done);
+    each = all-below (λ (kind : ℕ). KindDone (isFreeOf units channels) asked kind (getD named kind noChannels .on)
+        (toOf (isFreeOf units channels) kind heads))
+        order (k .each)
+        (subst (λ (x : KindChannels). KindDone (isFreeOf units channels) asked order (x .on) (toOf (isFreeOf units channels) order heads))
+        (sym (k .rest order (omega arith))) unasked-done);
     rest = λ kind h. k .rest kind (omega arith);
     only = λ i t. let r = k .only i t in (r .0, (omega (arith, r .1 .0), r .1 .1));
   }
 
 -- the same of lists that are these
-pub as-stored : {free : ℕ → ℕ → Bool} {asked : Facilities} {order : ℕ} {channels named : List KindChannels} {heads given : List Head} → named ≡ channels → given ≡ heads
+pub as-stored : {free : ℕ → ℕ → Bool} {asked : Facilities} {order : ℕ} {channels named : List KindChannels} {heads given : List Head}
+    → named ≡ channels → given ≡ heads
     → KindsDone free asked channels heads order → KindsDone free asked named given order
 as-stored {free} {asked} {order} {channels} {named} {heads} {given} c h k =
-    subst (λ (x : List KindChannels). KindsDone free asked x given order) (sym c) (subst (λ (x : List Head). KindsDone free asked channels x order) (sym h) k)
+    subst (λ (x : List KindChannels). KindsDone free asked x given order) (sym c)
+    (subst (λ (x : List Head). KindsDone free asked channels x order) (sym h) k)
 
 -- no number of a kind's entries is more than none
 pub nothing-asked : (asked : Facilities) (wants : ByLogical) (order n : ℕ) → wants ≡ wantsOf asked order → n ≡ total (wants .0) → n ≤ 0

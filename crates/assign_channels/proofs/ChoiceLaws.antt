@@ -51,7 +51,8 @@ set-other (x ∷ xs) zero (suc k) h = refl
 set-other (x ∷ xs) (suc c) zero h = refl
 set-other (x ∷ xs) (suc c) (suc k) h = set-other xs c k (λ e. h (ap suc e))
 
-each-zero : (c : ChannelNumber) (ns : List ℕ) (cs : List ChannelNumber) (counts : List ℕ) → c .0 ≡ 0 → Each counts ns cs → Each counts (0 ∷ ns) (c ∷ cs)
+each-zero : (c : ChannelNumber) (ns : List ℕ) (cs : List ChannelNumber) (counts : List ℕ) → c .0 ≡ 0 → Each counts ns cs
+    → Each counts (0 ∷ ns) (c ∷ cs)
 each-zero c ns cs counts z r = record { long = ap suc (r .long); fits = fits; own = own; none = none }
   where
     fits : (i : ℕ) → 1 ≤ want (0 ∷ ns) i → want (0 ∷ ns) i ≤ getD counts (on (c ∷ cs) i) 0
@@ -67,7 +68,8 @@ each-zero c ns cs counts z r = record { long = ap suc (r .long); fits = fits; ow
     none zero l h = z
     none (suc i) l h = r .none i (le-of-suc-le-suc l) h
 
-each-suc : (n : ℕ) (c : ChannelNumber) (ns : List ℕ) (cs : List ChannelNumber) (counts : List ℕ) → suc n ≤ getD counts (c .0) 0 → Each (set counts (c .0) 0) ns cs → Each counts (suc n ∷ ns) (c ∷ cs)
+each-suc : (n : ℕ) (c : ChannelNumber) (ns : List ℕ) (cs : List ChannelNumber) (counts : List ℕ) → suc n ≤ getD counts (c .0) 0
+    → Each (set counts (c .0) 0) ns cs → Each counts (suc n ∷ ns) (c ∷ cs)
 each-suc n c ns cs counts f r = record { long = ap suc (r .long); fits = fits; own = own; none = none }
   where
     fits : (i : ℕ) → 1 ≤ want (suc n ∷ ns) i → want (suc n ∷ ns) i ≤ getD counts (on (c ∷ cs) i) 0
@@ -86,7 +88,12 @@ each-suc n c ns cs counts f r = record { long = ap suc (r .long); fits = fits; o
     none (suc i) l h = r .none i (le-of-suc-le-suc l) h
 
 choice-each : (ns : List ℕ) (cs : List ChannelNumber) (counts : List ℕ) → Choice counts ns cs → Each counts ns cs
-choice-each [] [] counts q = record { long = refl; fits = λ i h. absurd (omega arith); own = λ i j l p q e. omega arith; none = λ i l h. absurd (omega arith) }
+choice-each [] [] counts q = record {
+  long = refl;
+  fits = λ i h. absurd (omega arith);
+  own = λ i j l p q e. omega arith;
+  none = λ i l h. absurd (omega arith);
+}
 choice-each [] (c ∷ cs) counts q = absurd q
 choice-each (n ∷ ns) [] counts q = absurd q
 choice-each (zero ∷ ns) (c ∷ cs) counts q = each-zero c ns cs counts (q .0) (choice-each ns cs counts (q .1))
@@ -150,22 +157,29 @@ module _ (counts : List ℕ) (n : ℕ) (ns : List ℕ) (c : ChannelNumber) (cs :
 
 -- ---- the greedy choice meets the promise
 module _ (counts : List ℕ) (n : ℕ) (ns : List ℕ) (wide : length counts ≡ 16) (long : length ns ≡ 15) where
-  no-list : ((c : ChannelNumber) (cs : List ChannelNumber) → Placed (byChannel counts) (byLogical (n ∷ ns)) (c ∷ cs) → ⊥) → NoList (byChannel counts) (byLogical (n ∷ ns)) (replicate 16 (channel 0))
+  no-list : ((c : ChannelNumber) (cs : List ChannelNumber) → Placed (byChannel counts) (byLogical (n ∷ ns)) (c ∷ cs) → ⊥)
+      → NoList (byChannel counts) (byLogical (n ∷ ns)) (replicate 16 (channel 0))
   no-list h = record { never = never′; blank = refl }
     where
       never′ : (others : List ChannelNumber) → Placed (byChannel counts) (byLogical (n ∷ ns)) others → ⊥
       never′ [] p = omega (arith, p .long)
       never′ (c ∷ cs) p = h c cs p
 
-  least-list : leb (total (n ∷ ns)) (total counts) ≡ true → hallB counts ns ≡ true → Least (byChannel counts) (byLogical (n ∷ ns)) (channel 0 ∷ picks counts ns)
+  least-list : leb (total (n ∷ ns)) (total counts) ≡ true → hallB counts ns ≡ true
+      → Least (byChannel counts) (byLogical (n ∷ ns)) (channel 0 ∷ picks counts ns)
   least-list t u = record {
-    placed = each-placed counts n ns (channel 0) (picks counts ns) long (leb-true (total (n ∷ ns)) (total counts) t) refl (choice-each ns (picks counts ns) counts (picks-choice ns counts (omega arith) (hall-sound counts ns u)));
+    placed = each-placed counts n ns (channel 0) (picks counts ns) long (leb-true (total (n ∷ ns)) (total counts) t) refl
+        (choice-each ns (picks counts ns) counts (picks-choice ns counts (omega arith) (hall-sound counts ns u)));
     least = least;
   }
     where
       least : (others : List ChannelNumber) → Placed (byChannel counts) (byLogical (n ∷ ns)) others → LexLe (channel 0 ∷ picks counts ns) others
       least [] p = absurd (omega (arith, p .long))
-      least (d ∷ ds) p = inr (sym (p .none-0), picks-least ns counts (omega arith) (hall-sound counts ns u) ds (each-choice ns ds counts (placed-each counts n ns d ds long p)))
+      least (d ∷ ds) p =
+          inr (
+            sym (p .none-0),
+            picks-least ns counts (omega arith) (hall-sound counts ns u) ds (each-choice ns ds counts (placed-each counts n ns d ds long p)),
+          )
 
   pub chosen-cons : LeastList (byChannel counts) (byLogical (n ∷ ns)) (chooseOf (byChannel counts) (byLogical (n ∷ ns)))
   unfolding chooseOf
@@ -195,7 +209,8 @@ lex-both (x ∷ xs) (y ∷ ys) p q =
     (λ e. ⊎-elim (λ m. absurd (omega arith)) (λ m. let h : x ≡ y = λ i. record { 0 = e .0 i } in cc (h, lex-both xs ys (e .1) (m .1))) q)
     p
 
-one-of : (counts : ByChannel) (wants : ByLogical) (a b : Bool) (p q : List ChannelNumber) → LeastList counts wants (record { ok = a; on = p }) → LeastList counts wants (record { ok = b; on = q })
+one-of : (counts : ByChannel) (wants : ByLogical) (a b : Bool) (p q : List ChannelNumber) → LeastList counts wants (record { ok = a; on = p })
+    → LeastList counts wants (record { ok = b; on = q })
     → _≡_ {A = Picks} (record { ok = a; on = p }) (record { ok = b; on = q })
 one-of counts wants true true p q h k = let e = lex-both p q (h .least q (k .placed)) (k .least p (h .placed)) in λ i. record { ok = true; on = e i }
 one-of counts wants true false p q h k = absurd (k .never p (h .placed))
@@ -206,7 +221,8 @@ pub answers-one : (counts : ByChannel) (wants : ByLogical) (r s : Picks) → Lea
 answers-one counts wants r s = one-of counts wants (r .ok) (s .ok) (r .on) (s .on)
 
 -- so an answer is what the definition computes
-pub computed : (counts : ByChannel) (wants : ByLogical) (r : Picks) → length (counts .0) ≡ 16 → length (wants .0) ≡ 16 → LeastList counts wants r → r ≡ chooseOf counts wants
+pub computed : (counts : ByChannel) (wants : ByLogical) (r : Picks) → length (counts .0) ≡ 16 → length (wants .0) ≡ 16
+    → LeastList counts wants r → r ≡ chooseOf counts wants
 computed counts wants r w l a = answers-one counts wants r (chooseOf counts wants) a (chosen counts wants w l)
 
 -- ---- an answer by what it says of itself

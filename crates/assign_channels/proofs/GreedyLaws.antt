@@ -17,7 +17,8 @@ use Rattle.numbers.proofs.Tests.{by-bool, never}
 use Rattle.numbers.specs.declared.ChannelNumber.{ChannelNumber}
 use Rattle.assign_channels.specs.Choice.{total, LexLe}
 use Rattle.assign_channels.specs.Greedy.{Hall, hallB, lowestFrom, lowestOf, picks}
-use Rattle.assign_channels.proofs.HallLaws.{ge-yes, ge-cases, cnt-set, best-fit, hall-step, hall-zero, channel-below, hall-sound, hall-complete}
+use Rattle.assign_channels.proofs.HallLaws.{ge-yes, ge-cases, cnt-set, best-fit, hall-step, hall-zero}
+use Rattle.assign_channels.proofs.HallLaws.{channel-below, hall-sound, hall-complete}
 
 abbrev pub Choice : List ℕ → List ℕ → List ChannelNumber → Type 0
 Choice counts [] [] = Unit {0}
@@ -57,24 +58,30 @@ module _ (counts : List ℕ) (n : ℕ) (rest : List ℕ) where
   }
 
   -- the search finds it where some channel will do
-  find : (k c : ℕ) → ((b : ℕ) → c ≤ b → b < c + k → n ≤ getD counts b 0 → Hall (set counts b 0) rest → ⊥) ⊎ LowestAt counts n rest c (lowestFrom counts n rest k c)
+  find : (k c : ℕ) → ((b : ℕ) → c ≤ b → b < c + k → n ≤ getD counts b 0 → Hall (set counts b 0) rest → ⊥)
+      ⊎ LowestAt counts n rest c (lowestFrom counts n rest k c)
   unfolding lowestFrom
   find zero c = inl (λ b p q f g. omega arith)
   find (suc k) c =
       by-bool (leb n (getD counts c 0))
       (λ t. by-bool (hallB (set counts c 0) rest)
-      (λ u. inr (rw (t, u) (record { fits = leb-true n (getD counts c 0) t; after = hall-sound (set counts c 0) rest u; none = λ b p q f g. omega arith })))
+      (λ u. inr (rw (t, u)
+      (record { fits = leb-true n (getD counts c 0) t; after = hall-sound (set counts c 0) rest u; none = λ b p q f g. omega arith })))
       (λ u.
       let no : n ≤ getD counts c 0 → Hall (set counts c 0) rest → ⊥ = λ f g. never (hall-complete (set counts c 0) rest g) u in
-      ⊎-elim (λ none. inl (λ b p q f g. ⊎-elim (λ e. passed c b no e f g) (λ m. none b m (omega arith) f g) (eq-or-lt-of-le p))) (λ l. inr (rw (t, u) (skip k c (lowestFrom counts n rest k (suc c)) no l))) (find k (suc c))))
+      ⊎-elim (λ none. inl (λ b p q f g. ⊎-elim (λ e. passed c b no e f g) (λ m. none b m (omega arith) f g) (eq-or-lt-of-le p)))
+      (λ l. inr (rw (t, u) (skip k c (lowestFrom counts n rest k (suc c)) no l))) (find k (suc c))))
       (λ t.
       let no : n ≤ getD counts c 0 → Hall (set counts c 0) rest → ⊥ = λ f g. omega (arith, leb-false n (getD counts c 0) t) in
-      ⊎-elim (λ none. inl (λ b p q f g. ⊎-elim (λ e. passed c b no e f g) (λ m. none b m (omega arith) f g) (eq-or-lt-of-le p))) (λ l. inr (rw t (skip k c (lowestFrom counts n rest k (suc c)) no l))) (find k (suc c)))
+      ⊎-elim (λ none. inl (λ b p q f g. ⊎-elim (λ e. passed c b no e f g) (λ m. none b m (omega arith) f g) (eq-or-lt-of-le p)))
+      (λ l. inr (rw t (skip k c (lowestFrom counts n rest k (suc c)) no l))) (find k (suc c)))
 
   pub lowest-at : 1 ≤ n → length counts ≤ 16 → Hall counts (n ∷ rest) → LowestAt counts n rest 0 (lowestOf counts n rest)
   lowest-at p q h =
       let b = best-fit n p counts (omega (arith, h n p, ge-yes {t = n} {x = n} (omega arith))) in
-      ⊎-elim (λ none. absurd (none (b .at) (omega arith) (omega (arith, channel-below counts (b .at) n p (b .fits))) (b .fits) (hall-step counts n rest p h b))) (λ l. l) (find 16 0)
+      ⊎-elim (λ none. absurd (none (b .at) (omega arith) (omega (arith, channel-below counts (b .at) n p (b .fits))) (b .fits)
+      (hall-step counts n rest p h b)))
+      (λ l. l) (find 16 0)
 
 -- the greedy choice is one
 pub picks-choice : (ns counts : List ℕ) → length counts ≤ 16 → Hall counts ns → Choice counts ns (picks counts ns)
@@ -82,11 +89,14 @@ unfolding picks
 picks-choice [] counts q h = tt
 picks-choice (zero ∷ ns) counts q h = (refl, picks-choice ns counts q (hall-zero counts ns h))
 picks-choice (suc n ∷ ns) counts q h =
-    let l = lowest-at counts (suc n) ns (omega arith) q h in
-    (l .fits, picks-choice ns (set counts (lowestOf counts (suc n) ns) 0) (omega (arith, length-set counts (lowestOf counts (suc n) ns) 0)) (l .after))
+    let l = lowest-at counts (suc n) ns (omega arith) q h in (
+      l .fits,
+      picks-choice ns (set counts (lowestOf counts (suc n) ns) 0) (omega (arith, length-set counts (lowestOf counts (suc n) ns) 0)) (l .after),
+    )
 
 -- and none comes before it
-pub picks-least : (ns counts : List ℕ) → length counts ≤ 16 → Hall counts ns → (ds : List ChannelNumber) → Choice counts ns ds → LexLe (picks counts ns) ds
+pub picks-least : (ns counts : List ℕ) → length counts ≤ 16 → Hall counts ns → (ds : List ChannelNumber) → Choice counts ns ds
+    → LexLe (picks counts ns) ds
 unfolding picks
 picks-least [] counts q h ds c = tt
 picks-least (n ∷ ns) counts q h [] c = absurd c
@@ -95,7 +105,12 @@ picks-least (suc n ∷ ns) counts q h (d ∷ ds) c =
     let l = lowest-at counts (suc n) ns (omega arith) q h in
     let e = lowestOf counts (suc n) ns in
     ⊎-elim
-    (λ ge. ⊎-elim (λ s. inr (s, picks-least ns (set counts e 0) (omega (arith, length-set counts e 0)) (l .after) ds (subst (λ (x : ℕ). Choice (set counts x 0) ns ds) (sym s) (c .1)))) (λ lt. inl lt) (eq-or-lt-of-le ge))
+    (λ ge. ⊎-elim (λ s. inr (
+      s,
+      picks-least ns (set counts e 0) (omega (arith, length-set counts e 0)) (l .after) ds
+          (subst (λ (x : ℕ). Choice (set counts x 0) ns ds) (sym s) (c .1)),
+    ))
+    (λ lt. inl lt) (eq-or-lt-of-le ge))
     (λ lt. absurd (l .none (d .0) (omega arith) lt (c .0) (choice-hall ns ds (set counts (d .0) 0) (c .1))))
     (le-or-lt e (d .0))
 

@@ -52,7 +52,8 @@ cnt-mono : (n t : ℕ) → n ≤ t → (xs : List ℕ) → cnt t xs ≤ cnt n xs
 cnt-mono n t h [] = omega arith
 cnt-mono n t h (x ∷ xs) =
     let i = cnt-mono n t h xs in
-    ⊎-elim (λ a. ⊎-elim (λ b. omega arith) (λ b. omega arith) (ge-cases t x)) (λ a. ⊎-elim (λ b. omega arith) (λ b. omega arith) (ge-cases t x)) (ge-cases n x)
+    ⊎-elim (λ a. ⊎-elim (λ b. omega arith) (λ b. omega arith) (ge-cases t x))
+    (λ a. ⊎-elim (λ b. omega arith) (λ b. omega arith) (ge-cases t x)) (ge-cases n x)
 
 cnt-same : (n t : ℕ) → n ≤ t → (xs : List ℕ) → ((k : ℕ) → n ≤ getD xs k 0 → t ≤ getD xs k 0) → cnt t xs ≡ cnt n xs
 cnt-same n t h [] g = refl
@@ -87,7 +88,8 @@ best-fit n p (x ∷ xs) h =
     (λ none. ⊎-elim (λ a. here n x xs (a .0) (λ k l. absurd (omega (arith, cnt-some n p xs k l)))) (λ a. absurd (omega arith)) (ge-cases n x))
     (λ some.
     let b = best-fit n p xs some in
-    ⊎-elim (λ l. ⊎-elim (λ a. here n x xs (a .0) (λ k m. omega (arith, b .best k m))) (λ a. later n x xs b (λ q. absurd (omega arith))) (ge-cases n x))
+    ⊎-elim
+    (λ l. ⊎-elim (λ a. here n x xs (a .0) (λ k m. omega (arith, b .best k m))) (λ a. later n x xs b (λ q. absurd (omega arith))) (ge-cases n x))
     (λ l. later n x xs b (λ q. omega arith))
     (le-or-lt x (getD xs (b .at) 0)))
     (eq-zero-or-pos (cnt n xs))

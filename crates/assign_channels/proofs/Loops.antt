@@ -61,7 +61,8 @@ module _ (counts : List ℕ) (n : ℕ) (rest : List ℕ) (c : ℕ) (below : c < 
   unfolding lowestFrom
   lowest-small f = sym (rw (left, lt-leb n (getD counts c 0) f, ← add-one c) refl)
 
-  pub lowest-barred : n ≤ getD counts c 0 → hallB (set counts c 0) rest ≡ false → lowestFrom counts n rest (16 - (c + 1)) (c + 1) ≡ lowestFrom counts n rest (16 - c) c
+  pub lowest-barred : n ≤ getD counts c 0 → hallB (set counts c 0) rest ≡ false
+      → lowestFrom counts n rest (16 - (c + 1)) (c + 1) ≡ lowestFrom counts n rest (16 - c) c
   unfolding lowestFrom
   lowest-barred f t = sym (rw (left, le-leb n (getD counts c 0) f, t, ← add-one c) refl)
 
@@ -91,7 +92,8 @@ start counts wants w h = record {
   so = refl;
 }
 
-module _ {counts wants : List ℕ} {on : List ChannelNumber} {left : List ℕ} {l : ℕ} (size : length wants ≡ 16) (more : l < 16) (g : Going counts wants on left l) where
+module _ {counts wants : List ℕ} {on : List ChannelNumber} {left : List ℕ} {l : ℕ} (size : length wants ≡ 16) (more : l < 16)
+    (g : Going counts wants on left l) where
   rest : drop l wants ≡ getD wants l 0 ∷ drop (l + 1) wants
   rest = next wants l (omega arith)
 
@@ -110,10 +112,14 @@ module _ {counts wants : List ℕ} {on : List ChannelNumber} {left : List ℕ} {
     wide = g .wide;
     blank = λ j p q. g .blank j (omega arith) q;
     hall = hall-zero left (drop (l + 1) wants) (subst (λ (n : ℕ). Hall left (n ∷ drop (l + 1) wants)) z asks);
-    so =
-        let e : take (l + 1) on ≡ take l on ++ (channel 0 ∷ []) = ap (λ (k : ℕ). take k on) (add-one l) ∙ take-suc on l (channel 0) (omega (arith, g .long)) ∙ ap (λ (x : ChannelNumber). take l on ++ (x ∷ [])) (g .blank l (omega arith) more) in
-        let f : picks left (drop l wants) ≡ channel 0 ∷ picks left (drop (l + 1) wants) = ap (picks left) rest ∙ ap (λ (n : ℕ). picks left (n ∷ drop (l + 1) wants)) z in
-        ap (λ (x : List ChannelNumber). x ++ picks left (drop (l + 1) wants)) e ∙ append-assoc (take l on) (channel 0 ∷ []) (picks left (drop (l + 1) wants)) ∙ ap (λ (x : List ChannelNumber). take l on ++ x) (sym f) ∙ g .so;
+    so = let e : take (l + 1) on ≡ take l on ++ (channel 0 ∷ []) =
+        ap (λ (k : ℕ). take k on) (add-one l) ∙ take-suc on l (channel 0) (omega (arith, g .long))
+        ∙ ap (λ (x : ChannelNumber). take l on ++ (x ∷ [])) (g .blank l (omega arith) more) in
+        let f : picks left (drop l wants) ≡ channel 0 ∷ picks left (drop (l + 1) wants) =
+        ap (picks left) rest ∙ ap (λ (n : ℕ). picks left (n ∷ drop (l + 1) wants)) z in
+        ap (λ (x : List ChannelNumber). x ++ picks left (drop (l + 1) wants)) e
+        ∙ append-assoc (take l on) (channel 0 ∷ []) (picks left (drop (l + 1) wants)) ∙ ap (λ (x : List ChannelNumber). take l on ++ x) (sym f)
+        ∙ g .so;
   }
 
   pub turn : {c : ℕ} → 0 < getD wants l 0 → c ≡ lowestOf left (getD wants l 0) (drop (l + 1) wants)
@@ -128,10 +134,13 @@ module _ {counts wants : List ℕ} {on : List ChannelNumber} {left : List ℕ} {
         wide = length-set left c 0 ∙ g .wide;
         blank = λ j q r. getD-set-other on l j (channel c) (channel 0) (λ s. omega arith) ∙ g .blank j (omega arith) r;
         hall = subst (λ (x : ℕ). Hall (set left x 0) (drop (l + 1) wants)) (sym d) (low .after);
-        so =
-            let a : take (l + 1) (set on l (channel c)) ≡ take l on ++ (channel c ∷ []) = ap (λ (k : ℕ). take k (set on l (channel c))) (add-one l) ∙ take-suc-set on l (channel c) (omega (arith, g .long)) in
-            let f : picks left (drop l wants) ≡ channel c ∷ picks (set left c 0) (drop (l + 1) wants) = ap (picks left) rest ∙ first (getD wants l 0) p (drop (l + 1) wants) d in
-            ap (λ (x : List ChannelNumber). x ++ picks (set left c 0) (drop (l + 1) wants)) a ∙ append-assoc (take l on) (channel c ∷ []) (picks (set left c 0) (drop (l + 1) wants)) ∙ ap (λ (x : List ChannelNumber). take l on ++ x) (sym f) ∙ g .so;
+        so = let a : take (l + 1) (set on l (channel c)) ≡ take l on ++ (channel c ∷ []) =
+            ap (λ (k : ℕ). take k (set on l (channel c))) (add-one l) ∙ take-suc-set on l (channel c) (omega (arith, g .long)) in
+            let f : picks left (drop l wants) ≡ channel c ∷ picks (set left c 0) (drop (l + 1) wants) =
+            ap (picks left) rest ∙ first (getD wants l 0) p (drop (l + 1) wants) d in
+            ap (λ (x : List ChannelNumber). x ++ picks (set left c 0) (drop (l + 1) wants)) a
+            ∙ append-assoc (take l on) (channel c ∷ []) (picks (set left c 0) (drop (l + 1) wants))
+            ∙ ap (λ (x : List ChannelNumber). take l on ++ x) (sym f) ∙ g .so;
       }
     where
       first : (n : ℕ) → 0 < n → (ns : List ℕ) → c ≡ lowestOf left n ns → picks left (n ∷ ns) ≡ channel c ∷ picks (set left c 0) ns
@@ -142,13 +151,16 @@ module _ {counts wants : List ℕ} {on : List ChannelNumber} {left : List ℕ} {
 pub same : {counts wants : List ℕ} {on on′ : List ChannelNumber} {left left′ : ByChannel} {l : ℕ} → on ≡ on′ → left ≡ left′
     → Going counts wants on′ (left′ .0) l → Going counts wants on (left .0) l
 same {counts} {wants} {on} {on′} {left} {left′} {l} e f g =
-    subst (λ (x : ByChannel). Going counts wants on (x .0) l) (sym f) (subst (λ (x : List ChannelNumber). Going counts wants x (left′ .0) l) (sym e) g)
+    subst (λ (x : ByChannel). Going counts wants on (x .0) l) (sym f)
+    (subst (λ (x : List ChannelNumber). Going counts wants x (left′ .0) l) (sym e) g)
 
-pub end : {counts wants : List ℕ} {on : List ChannelNumber} {left : List ℕ} {l : ℕ} → length wants ≡ 16 → 16 ≤ l → Going counts wants on left l → on ≡ channel 0 ∷ picks counts (drop 1 wants)
+pub end : {counts wants : List ℕ} {on : List ChannelNumber} {left : List ℕ} {l : ℕ} → length wants ≡ 16 → 16 ≤ l → Going counts wants on left l
+    → on ≡ channel 0 ∷ picks counts (drop 1 wants)
 unfolding picks
 end {counts} {wants} {on} {left} {l} size h g =
     let a : drop l wants ≡ [] = drop-of-length-le wants {i = l} (omega arith) in
-    let b : take l on ++ picks left (drop l wants) ≡ on = ap (λ (x : List ℕ). take l on ++ picks left x) a ∙ append-nil (take l on) ∙ take-all l on (omega (arith, g .long)) in
+    let b : take l on ++ picks left (drop l wants) ≡ on =
+    ap (λ (x : List ℕ). take l on ++ picks left x) a ∙ append-nil (take l on) ∙ take-all l on (omega (arith, g .long)) in
     sym b ∙ g .so
 
 -- ---- the three answers

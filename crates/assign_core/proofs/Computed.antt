@@ -30,11 +30,13 @@ free-sound : (w i n : ℕ) → freeB w i n ≡ true → (b : ℕ) → b < i + n 
 free-sound w i zero t b h l = absurd (omega arith)
 free-sound w i (suc n) t b h l =
     let p = both (eqb (bit w i) 0) (freeB w (suc i) n) t in
-    ⊎-elim (λ e. subst (λ (x : ℕ). bit w x ≡ 0) e (eqb-true (bit w i) 0 (p .0))) (λ m. free-sound w (suc i) n (p .1) b (omega arith) m) (eq-or-lt-of-le l)
+    ⊎-elim (λ e. subst (λ (x : ℕ). bit w x ≡ 0) e (eqb-true (bit w i) 0 (p .0))) (λ m. free-sound w (suc i) n (p .1) b (omega arith) m)
+    (eq-or-lt-of-le l)
 
 free-complete : (w i n : ℕ) → ((b : ℕ) → b < i + n → i ≤ b → bit w b ≡ 0) → freeB w i n ≡ true
 free-complete w i zero f = refl
-free-complete w i (suc n) f = rw (eq-eqb (bit w i) 0 (f i (omega arith) (omega arith)), free-complete w (suc i) n (λ b h l. f b (omega arith) (omega arith)))
+free-complete w i (suc n) f =
+    rw (eq-eqb (bit w i) 0 (f i (omega arith) (omega arith)), free-complete w (suc i) n (λ b h l. f b (omega arith) (omega arith)))
 
 unfoldable pub runB : ℕ → ℕ → ℕ → Bool
 runB w n i = leb firstBlock i && (leb (i + n) (lastBlock + 1) && freeB w i n)
@@ -63,7 +65,8 @@ module _ (w ib db i j : ℕ) where
       let p = both (runB w ib i) (eqb db 0 || (runB w db j && apartB)) t in
       record {
         instructions = run-sound w ib i (p .0);
-        data-run = λ h. ⊎-elim (λ z. absurd (omega (arith, eqb-true db 0 z))) (λ q. beside (both (runB w db j) apartB q)) (either (eqb db 0) (runB w db j && apartB) (p .1));
+        data-run = λ h. ⊎-elim (λ z. absurd (omega (arith, eqb-true db 0 z))) (λ q. beside (both (runB w db j) apartB q))
+            (either (eqb db 0) (runB w db j && apartB) (p .1));
       }
     where
       beside : (runB w db j ≡ true) × (apartB ≡ true) → Beside w i ib db j
@@ -105,7 +108,12 @@ pub record Tried (w ib db a b : ℕ) : Type 0 where
 
 tried : (w ib db a b : ℕ) → Fits w ib db a b → Tried w ib db a b
 tried w ib db a b f =
-    ⊎-elim (λ z. record { at = 0; low = omega arith; small = omega arith; fits = record { instructions = f .instructions; data-run = λ p. absurd (omega arith) } })
+    ⊎-elim (λ z. record {
+      at = 0;
+      low = omega arith;
+      small = omega arith;
+      fits = record { instructions = f .instructions; data-run = λ p. absurd (omega arith) };
+    })
     (λ p. record { at = b; low = omega arith; small = omega (arith, f .data-run p .run); fits = f })
     (eq-zero-or-pos db)
 
@@ -121,7 +129,8 @@ answers-of w ib db (hit m) p = (
   fits-sound w ib db (m / 32) (m % 32) (p .0),
   λ a b f before.
       let t = tried w ib db a b f in
-      p .1 (a * 32 + t .at) (omega arith) (⊎-elim (λ l. omega (arith, t)) (λ e. omega (arith, t)) before) (passes w ib db a (t .at) (t .small) (t .fits)),
+      p .1 (a * 32 + t .at) (omega arith) (⊎-elim (λ l. omega (arith, t)) (λ e. omega (arith, t)) before)
+      (passes w ib db a (t .at) (t .small) (t .fits)),
 )
 answers-of w ib db none p = λ a b f.
     let t = tried w ib db a b f in
@@ -129,7 +138,8 @@ answers-of w ib db none p = λ a b f.
 
 pub computed : (w ib db : ℕ) (r : Found) → LeastPair w ib db r → r ≡ searchOf w ib db
 unfolding searchOf
-computed w ib db r p = answers-one w ib db r (found (seek (test w ib db) 1024 0)) p (answers-of w ib db (seek (test w ib db) 1024 0) (first (test w ib db) 1024 0))
+computed w ib db r p =
+    answers-one w ib db r (found (seek (test w ib db) 1024 0)) p (answers-of w ib db (seek (test w ib db) 1024 0) (first (test w ib db) 1024 0))
 
 -- the computed search is an answer
 pub search-answers : (w ib db : ℕ) → LeastPair w ib db (searchOf w ib db)

@@ -15,7 +15,8 @@ pub three : (p q : Pair) → Before (p .0) (p .1) (q .0) (q .1) ⊎ ((p ≡ q) �
 three p q =
     ⊎-elim (λ l. inl (inl l))
     (λ m. ⊎-elim
-    (λ e. ⊎-elim (λ l. inl (inr (e, l))) (λ n. ⊎-elim (λ f. inr (inl λ i. record { 0 = e i; 1 = f i })) (λ g. inr (inr (inr (sym e, g)))) n) (of-two (p .1) (q .1)))
+    (λ e. ⊎-elim (λ l. inl (inr (e, l))) (λ n. ⊎-elim (λ f. inr (inl λ i. record { 0 = e i; 1 = f i })) (λ g. inr (inr (inr (sym e, g)))) n)
+    (of-two (p .1) (q .1)))
     (λ g. inr (inr (inl g)))
     m)
     (of-two (p .0) (q .0))

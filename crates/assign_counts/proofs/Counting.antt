@@ -42,7 +42,8 @@ module _ (grid : List (List Unit)) (c n u : ℕ) {count next : ℕ} (so-far : co
   pub unit-past : n ≤ u → next ≡ count → next ≡ howMany (u + 1) (counts grid c n)
   unit-past h m = count-more (counts grid c n) u count next false (rw (le-ltb u n h) refl) so-far (omega arith)
 
-pub all-seen : (grid : List (List Unit)) (c n u : ℕ) {count : ℕ} → u ≤ 16 → 16 ≤ u → count ≤ u → count ≡ howMany u (counts grid c n) → AssignableOn grid c n count
+pub all-seen : (grid : List (List Unit)) (c n u : ℕ) {count : ℕ} → u ≤ 16 → 16 ≤ u → count ≤ u → count ≡ howMany u (counts grid c n)
+    → AssignableOn grid c n count
 all-seen grid c n u h k l e = let s : u ≡ 16 = omega arith in record { is = e ∙ ap (λ (x : ℕ). howMany x (counts grid c n)) s; few = omega arith }
 
 -- ---- the channels
@@ -56,9 +57,11 @@ module _ (units : List (List Unit)) (channels : List Channel) (c : ℕ) where
   channel = getD channels c noChannel
 
   -- the count of a channel's own kind
-  own-count : {n order : ℕ} → order < unitKinds → c < 16 → order ≡ orderIn (channel .has) → AssignableOn units c (unitsOf channel) n → n ≡ countOn units channels order c
+  own-count : {n order : ℕ} → order < unitKinds → c < 16 → order ≡ orderIn (channel .has) → AssignableOn units c (unitsOf channel) n
+      → n ≡ countOn units channels order c
   unfolding isFreeOf
-  own-count {n} {order} h k e a = a .is ∙ sum-same 16 (λ u. one (counts units c (unitsOf channel) u)) (λ u. one (isFreeOf units channels order (c * 16 + u))) each
+  own-count {n} {order} h k e a =
+      a .is ∙ sum-same 16 (λ u. one (counts units c (unitsOf channel) u)) (λ u. one (isFreeOf units channels order (c * 16 + u))) each
     where
       its : unitsOfKind order channel ≡ unitsOf channel
       its = ap (λ (b : Bool). cond b (unitsOf channel) 0) (fitted-order (channel .has) order h ∙ eq-eqb (orderIn (channel .has)) order (sym e))
@@ -151,7 +154,8 @@ module _ {units : List (List Unit)} {channels : List Channel} {of : List ByChann
 
     -- what holds of the kind's own row and of the others holds of all
     by-row : (P : ℕ → ByChannel → Type 0) → P order (byChannel its)
-        → ((other : ℕ) → (order ≡ other → ⊥) → other < unitKinds → P other (row of other)) → (other : ℕ) → other < unitKinds → P other (row stored other)
+        → ((other : ℕ) → (order ≡ other → ⊥) → other < unitKinds → P other (row of other)) → (other : ℕ) → other < unitKinds
+        → P other (row stored other)
     by-row P own others other l =
         by-bool (eqb order other)
         (λ t. subst (λ (x : ℕ). P x (row stored x)) (eqb-true order other t) (subst (P order) (sym own-row) own))

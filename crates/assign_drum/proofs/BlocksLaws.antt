@@ -21,7 +21,8 @@ module _ (held : List Area) (n s : ℕ) where
   -- no free start from s up to the end of an area that is in the way of s
   pub none-before : {e : ℕ} → 1 ≤ n → InTheWay held s n e → (t : ℕ) → s ≤ t → t < e → Free held n t → ⊥
   none-before {e} p w t l h free =
-      let m : Meets (getD held (w .at) noArea) t n = record { before = omega (arith, w .meets); after = omega (arith, w .is); some = w .meets .some } in
+      let m : Meets (getD held (w .at) noArea) t n =
+      record { before = omega (arith, w .meets); after = omega (arith, w .is); some = w .meets .some } in
       let x = shared (getD held (w .at) noArea) t n p m in
       free (x .0) (x .1 .0) (x .1 .1 .0) (w .at) (x .1 .1 .1)
 

@@ -72,7 +72,8 @@ found none = Nothing
 unfoldable pub startOf : List Area → ℕ → ℕ → Start
 startOf held size n = cond (eqb n 0) (At 0) (found (seek (areaB held size n) (size - lowestAddress) lowestAddress))
 
-found-answers : (held : List Area) (size n : ℕ) → 1 ≤ n → (h : Hit) → First (areaB held size n) (size - lowestAddress) lowestAddress h → LowestStart held size n (found h)
+found-answers : (held : List Area) (size n : ℕ) → 1 ≤ n → (h : Hit) → First (areaB held size n) (size - lowestAddress) lowestAddress h
+    → LowestStart held size n (found h)
 found-answers held size n p (hit s) f = (
   (λ o. area-sound held size n p s (f .0)),
   λ b h a. f .1 b (a p .low) h (area-complete held size n p b (a p)),
@@ -85,4 +86,5 @@ unfolding startOf
 start-answers held size n =
     by-bool (eqb n 0)
     (λ t. rw t ((λ h. absurd (omega (arith, eqb-true n 0 t))), λ b h a. omega arith))
-    (λ t. rw t (found-answers held size n (⊎-elim (λ e. absurd (eqb-false n 0 t e)) (λ p. p) (eq-zero-or-pos n)) (seek (areaB held size n) (size - lowestAddress) lowestAddress) (first (areaB held size n) (size - lowestAddress) lowestAddress)))
+    (λ t. rw t (found-answers held size n (⊎-elim (λ e. absurd (eqb-false n 0 t e)) (λ p. p) (eq-zero-or-pos n))
+    (seek (areaB held size n) (size - lowestAddress) lowestAddress) (first (areaB held size n) (size - lowestAddress) lowestAddress)))

@@ -22,10 +22,14 @@ use Rattle.assign_free.specs.Assignable.{isFitted, unitsOfKind, isFreeOf
 
 module _ {channel : Channel} {kind : Kind} {n : ℕ} (order : ℕ) (e : channel .has ≡ With kind n) where
   pub other-kind : (orderOf kind ≡ order → ⊥) → unitsOfKind order channel ≡ 0
-  other-kind d = let f : isFitted order (channel .has) ≡ false = ap (isFitted order) e ∙ ne-eqb (orderOf kind) order d in ap (λ (b : Bool). cond b (unitsOf channel) 0) f
+  other-kind d =
+      let f : isFitted order (channel .has) ≡ false = ap (isFitted order) e ∙ ne-eqb (orderOf kind) order d in
+      ap (λ (b : Bool). cond b (unitsOf channel) 0) f
 
   pub same-kind : orderOf kind ≡ order → unitsOfKind order channel ≡ unitsOf channel
-  same-kind d = let f : isFitted order (channel .has) ≡ true = ap (isFitted order) e ∙ eq-eqb (orderOf kind) order d in ap (λ (b : Bool). cond b (unitsOf channel) 0) f
+  same-kind d =
+      let f : isFitted order (channel .has) ≡ true = ap (isFitted order) e ∙ eq-eqb (orderOf kind) order d in
+      ap (λ (b : Bool). cond b (unitsOf channel) 0) f
 
 pub nothing-there : {channel : Channel} (order : ℕ) → channel .has ≡ Nothing → unitsOfKind order channel ≡ 0
 nothing-there {channel} order e = ap (λ (b : Bool). cond b (unitsOf channel) 0) (ap (isFitted order) e)
@@ -38,10 +42,13 @@ fitted-one (With kind n) a b p q = sym (eqb-true (orderOf kind) a p) ∙ eqb-tru
 has-some : (order u : ℕ) (channel : Channel) → ltb u (unitsOfKind order channel) ≡ true → isFitted order (channel .has) ≡ true
 has-some order u channel t =
     by-bool (isFitted order (channel .has)) (λ e. e)
-    (λ e. let z : unitsOfKind order channel ≡ 0 = ap (λ (b : Bool). cond b (unitsOf channel) 0) e in absurd (omega (arith, ltb-true u (unitsOfKind order channel) t)))
+    (λ e.
+    let z : unitsOfKind order channel ≡ 0 = ap (λ (b : Bool). cond b (unitsOf channel) 0) e in
+    absurd (omega (arith, ltb-true u (unitsOfKind order channel) t)))
 
 module _ (units : List (List Unit)) (channels : List Channel) where
-  parts : (order i : ℕ) → isFreeOf units channels order i ≡ true → (ltb (i % 16) (unitsOfKind order (getD channels (i / 16) noChannel)) ≡ true) × (assignable (unitIn units (i / 16) (i % 16)) ≡ true)
+  parts : (order i : ℕ) → isFreeOf units channels order i ≡ true
+      → (ltb (i % 16) (unitsOfKind order (getD channels (i / 16) noChannel)) ≡ true) × (assignable (unitIn units (i / 16) (i % 16)) ≡ true)
   unfolding isFreeOf
   parts order i t = both (ltb (i % 16) (unitsOfKind order (getD channels (i / 16) noChannel))) (assignable (unitIn units (i / 16) (i % 16))) t
 
@@ -60,11 +67,15 @@ module _ (units : List (List Unit)) (channels : List Channel) where
       rw (le-ltb (i % 16) (unitsOfKind order (getD channels (i / 16) noChannel)) (omega arith)) refl
 
   -- the marks say it of every number
-  pub marks : {order : ℕ} {free : List Bool} → length channels ≡ 16 → FreeUnits units channels order free → (i : ℕ) → getD free i false ≡ isFreeOf units channels order i
+  pub marks : {order : ℕ} {free : List Bool} → length channels ≡ 16 → FreeUnits units channels order free → (i : ℕ)
+      → getD free i false ≡ isFreeOf units channels order i
   marks {order} {free} e f i =
       by-bool (ltb i 256) (λ t. f .each i (ltb-true i 256 t))
-      (λ t. List·getD-eq-default free false {n = i} (omega (arith, ltb-false i 256 t, f .long)) ∙ sym (past-last e order i (omega (arith, ltb-false i 256 t))))
+      (λ t. List·getD-eq-default free false {n = i} (omega (arith, ltb-false i 256 t, f .long))
+      ∙ sym (past-last e order i (omega (arith, ltb-false i 256 t))))
 
 -- two answers are one
-pub free-one : (units : List (List Unit)) (channels : List Channel) (order : ℕ) (a b : List Bool) → FreeUnits units channels order a → FreeUnits units channels order b → a ≡ b
-free-one units channels order a b p q = ext-getD false a b (p .long ∙ sym (q .long)) λ i h. p .each i (omega (arith, p .long)) ∙ sym (q .each i (omega (arith, p .long)))
+pub free-one : (units : List (List Unit)) (channels : List Channel) (order : ℕ) (a b : List Bool) → FreeUnits units channels order a
+    → FreeUnits units channels order b → a ≡ b
+free-one units channels order a b p q =
+    ext-getD false a b (p .long ∙ sym (q .long)) λ i h. p .each i (omega (arith, p .long)) ∙ sym (q .each i (omega (arith, p .long)))

@@ -12,4 +12,7 @@ abbrev pub marksOf : List (List Unit) → List Channel → ℕ → List Bool
 marksOf units channels order = values 256 (isFreeOf units channels order)
 
 pub marks-answer : (units : List (List Unit)) (channels : List Channel) (order : ℕ) → FreeUnits units channels order (marksOf units channels order)
-marks-answer units channels order = record { long = values-long 256 (isFreeOf units channels order); each = λ i h. values-at 256 (isFreeOf units channels order) i false h }
+marks-answer units channels order = record {
+  long = values-long 256 (isFreeOf units channels order);
+  each = λ i h. values-at 256 (isFreeOf units channels order) i false h;
+}

@@ -66,12 +66,14 @@ module _ (wants : ByLogical) (channels : List ChannelNumber) (c : ℕ) where
     below = omega arith;
     asks = λ h. absurd (omega arith);
     there = λ h. absurd (omega arith);
-    none = λ z l h k a e. f l (omega arith) (omega arith) (rw (lt-ltb 0 l h, lt-ltb l 16 k, lt-ltb 0 (want wants l) a, eq-eqb (on channels l) c e) refl);
+    none = λ z l h k a e. f l (omega arith) (omega arith)
+        (rw (lt-ltb 0 l h, lt-ltb l 16 k, lt-ltb 0 (want wants l) a, eq-eqb (on channels l) c e) refl);
   }
 
 owners-are : (wants : ByLogical) (channels : List ChannelNumber) → Owners wants channels (ownersOf wants channels)
 owners-are wants channels = record {
-  each = λ c h. subst (λ (o : LogicalChannel). OwnerIs wants channels c (o .0)) (sym (values-at 16 (λ d. logical (ownerAt (seek (owned wants channels d) 16 0))) c (logical 0) h))
+  each = λ c h. subst (λ (o : LogicalChannel). OwnerIs wants channels c (o .0))
+      (sym (values-at 16 (λ d. logical (ownerAt (seek (owned wants channels d) 16 0))) c (logical 0) h))
       (owner-of wants channels c (seek (owned wants channels c) 16 0) (first (owned wants channels c) 16 0));
 }
 
@@ -80,16 +82,19 @@ unfoldable pub giveFrom : List Bool → List LogicalChannel → ℕ → ℕ → 
 giveFrom free own zero i left heads = heads
 giveFrom free own (suc n) i left heads =
     cond (freeAt free i)
-    (giveFrom free own n (i + 1) (lessOf left (takerOf left (getD own (i / 16) (logical 0)))) (set heads i (record { to = takerOf left (getD own (i / 16) (logical 0)) })))
+    (giveFrom free own n (i + 1) (lessOf left (takerOf left (getD own (i / 16) (logical 0))))
+    (set heads i (record { to = takerOf left (getD own (i / 16) (logical 0)) })))
     (giveFrom free own n (i + 1) left heads)
 
-give-from : (free : List Bool) (own : List LogicalChannel) (wants : ByLogical) (before : List Head) → Logical own → (n i : ℕ) (left : ByLogical) (heads : List Head) → i + n ≡ 256
+give-from : (free : List Bool) (own : List LogicalChannel) (wants : ByLogical) (before : List Head) → Logical own
+    → (n i : ℕ) (left : ByLogical) (heads : List Head) → i + n ≡ 256
     → Gave free own wants before heads left i → GaveOut free own wants before (giveFrom free own n i left heads)
 unfolding giveFrom
 give-from free own wants before l zero i left heads e g = gave-all (omega arith) g
 give-from free own wants before l (suc n) i left heads e g =
     by-bool (freeAt free i)
-    (λ t. rw t (give-from free own wants before l n (i + 1) (lessOf left (takerOf left (getD own (i / 16) (logical 0)))) (set heads i (record { to = takerOf left (getD own (i / 16) (logical 0)) })) (omega arith) (gave-one (omega arith) g t l)))
+    (λ t. rw t (give-from free own wants before l n (i + 1) (lessOf left (takerOf left (getD own (i / 16) (logical 0))))
+    (set heads i (record { to = takerOf left (getD own (i / 16) (logical 0)) })) (omega arith) (gave-one (omega arith) g t l)))
     (λ t. rw t (give-from free own wants before l n (i + 1) left heads (omega arith) (gave-over (omega arith) g t)))
 
 -- ---- the whole
@@ -101,14 +106,18 @@ serviceOf free wants before picks = cond (picks .ok)
 unfoldable pub serveOf : List Bool → ByLogical → List Head → Service
 serveOf free wants before = serviceOf free wants before (chooseOf (countsOf free) wants)
 
-module _ (free : List Bool) (wants : ByLogical) (before : List Head) (units : length free ≡ 256) (size : length (wants .0) ≡ 16) (wide : length before ≡ 256) where
+module _ (free : List Bool) (wants : ByLogical) (before : List Head) (units : length free ≡ 256) (size : length (wants .0) ≡ 16)
+    (wide : length before ≡ 256) where
   service-is : (p : Picks) (b : Bool) → p .ok ≡ b → Answer b (countsOf free) wants (p .on) → Serves free wants before (serviceOf free wants before p)
   unfolding serviceOf
-  service-is p true e a = rw e
+  service-is p true e a =
+      rw e
       (chosen units size (counts-are free) a (owners-are wants (p .on))
-      (give-from free (ownersOf wants (p .on)) wants before (owners-logical (owners-are wants (p .on))) 256 0 wants before (omega arith) (gave-none free (ownersOf wants (p .on)) wants before wide size)))
+      (give-from free (ownersOf wants (p .on)) wants before (owners-logical (owners-are wants (p .on))) 256 0 wants before (omega arith)
+      (gave-none free (ownersOf wants (p .on)) wants before wide size)))
   service-is p false e a = rw e (lacking units size (counts-are free) a)
 
   pub serve-answers : Serves free wants before (serveOf free wants before)
   unfolding serveOf
-  serve-answers = service-is (chooseOf (countsOf free) wants) (chooseOf (countsOf free) wants .ok) refl (Choice.chosen (countsOf free) wants refl size)
+  serve-answers =
+      service-is (chooseOf (countsOf free) wants) (chooseOf (countsOf free) wants .ok) refl (Choice.chosen (countsOf free) wants refl size)

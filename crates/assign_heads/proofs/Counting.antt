@@ -48,7 +48,12 @@ given-once (To m) k =
 
 pub given-most : (g : Given) → sumTo 16 (λ l. one (isTo l g)) ≤ one (isGiven g)
 given-most Nothing = omega (arith, sum-zero 16)
-given-most (To m) = omega (arith, sum-only 16 (m .0) (λ l. one (eqb (m .0) l)) (λ l h n. ap one (ne-eqb (m .0) l (λ e. n (sym e)))), ap one (eq-eqb (m .0) (m .0) refl))
+given-most (To m) =
+    omega (
+      arith,
+      sum-only 16 (m .0) (λ l. one (eqb (m .0) l)) (λ l h n. ap one (ne-eqb (m .0) l (λ e. n (sym e)))),
+      ap one (eq-eqb (m .0) (m .0) refl),
+    )
 
 module _ (to : ℕ → Given) where
   -- entry by entry, or unit by unit

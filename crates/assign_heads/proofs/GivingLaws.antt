@@ -43,12 +43,14 @@ pub record Took (free : Bool) (left : ByLogical) (o : ℕ) (g : Given) (after : 
 
 module _ (left : ByLogical) (long : length (left .0) ≡ 16) where
   -- taken by an entry that lacks a unit
-  less-at : (m : LogicalChannel) → m .0 < 16 → 1 ≤ getD (left .0) (m .0) 0 → (l : ℕ) → l < 16 → one (isTo l (To m)) + getD (lessOf left (To m) .0) l 0 ≡ getD (left .0) l 0
+  less-at : (m : LogicalChannel) → m .0 < 16 → 1 ≤ getD (left .0) (m .0) 0 → (l : ℕ) → l < 16
+      → one (isTo l (To m)) + getD (lessOf left (To m) .0) l 0 ≡ getD (left .0) l 0
   less-at m b p l h =
       by-bool (eqb (m .0) l)
       (λ t.
       let e : m .0 ≡ l = eqb-true (m .0) l t in
-      let s : getD (lessOf left (To m) .0) (m .0) 0 ≡ getD (left .0) (m .0) 0 - 1 = getD-set-same (left .0) (m .0) (getD (left .0) (m .0) 0 - 1) 0 (omega arith) in
+      let s : getD (lessOf left (To m) .0) (m .0) 0 ≡ getD (left .0) (m .0) 0 - 1 =
+      getD-set-same (left .0) (m .0) (getD (left .0) (m .0) 0 - 1) 0 (omega arith) in
       let a : getD (lessOf left (To m) .0) (m .0) 0 ≡ getD (lessOf left (To m) .0) l 0 = ap (λ (x : ℕ). getD (lessOf left (To m) .0) x 0) e in
       let d : getD (left .0) (m .0) 0 ≡ getD (left .0) l 0 = ap (λ (x : ℕ). getD (left .0) x 0) e in
       let o : one (eqb (m .0) l) ≡ 1 = ap one t in
@@ -62,7 +64,8 @@ module _ (left : ByLogical) (long : length (left .0) ≡ 16) where
       by-bool (eqb (m .0) l)
       (λ t.
       let e : m .0 ≡ l = eqb-true (m .0) l t in
-      let s : getD (lessOf left (To m) .0) (m .0) 0 ≡ getD (left .0) (m .0) 0 - 1 = getD-set-same (left .0) (m .0) (getD (left .0) (m .0) 0 - 1) 0 (omega arith) in
+      let s : getD (lessOf left (To m) .0) (m .0) 0 ≡ getD (left .0) (m .0) 0 - 1 =
+      getD-set-same (left .0) (m .0) (getD (left .0) (m .0) 0 - 1) 0 (omega arith) in
       let a : getD (lessOf left (To m) .0) (m .0) 0 ≡ getD (lessOf left (To m) .0) l 0 = ap (λ (x : ℕ). getD (lessOf left (To m) .0) x 0) e in
       let d : getD (left .0) (m .0) 0 ≡ getD (left .0) l 0 = ap (λ (x : ℕ). getD (left .0) x 0) e in
       omega arith)
@@ -72,7 +75,8 @@ module _ (left : ByLogical) (long : length (left .0) ≡ 16) where
   lacked-at m l p t = subst (λ (x : ℕ). 1 ≤ getD (left .0) x 0) (eqb-true (m .0) l t) p
 
   -- taken by none: it is not free, or none that may have it lacks a unit
-  by-none : (o : ℕ) (free : Bool) → (free ≡ true → 1 ≤ getD (left .0) o 0 → ⊥) → (free ≡ true → 1 ≤ getD (left .0) 0 0 → ⊥) → Took free left o Nothing left
+  by-none : (o : ℕ) (free : Bool) → (free ≡ true → 1 ≤ getD (left .0) o 0 → ⊥) → (free ≡ true → 1 ≤ getD (left .0) 0 0 → ⊥)
+      → Took free left o Nothing left
   by-none o free z y = record {
     less = λ l h. omega arith;
     fewer = λ l. omega arith;
@@ -91,7 +95,8 @@ module _ (left : ByLogical) (long : length (left .0) ≡ 16) where
       (λ t. rw t (by-own (ltb-true 0 (getD (left .0) (own .0) 0) t)))
       (λ t. by-bool (ltb 0 (getD (left .0) 0 0))
       (λ u. rw (t, u) (by-zero (ltb-false 0 (getD (left .0) (own .0) 0) t) (ltb-true 0 (getD (left .0) 0 0) u)))
-      (λ u. rw (t, u) (by-none (own .0) true (λ f q. omega (arith, ltb-false 0 (getD (left .0) (own .0) 0) t)) (λ f q. omega (arith, ltb-false 0 (getD (left .0) 0 0) u)))))
+      (λ u. rw (t, u) (by-none (own .0) true (λ f q. omega (arith, ltb-false 0 (getD (left .0) (own .0) 0) t))
+      (λ f q. omega (arith, ltb-false 0 (getD (left .0) 0 0) u)))))
     where
       by-own : 1 ≤ getD (left .0) (own .0) 0 → Took true left (own .0) (To own) (lessOf left (To own))
       by-own p = record {

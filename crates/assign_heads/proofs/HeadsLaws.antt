@@ -27,8 +27,10 @@ use Rattle.assign_heads.specs.GaveOut.{Passed}
 use Rattle.assign_heads.proofs.Counting.{free-below, counts-total, wants-total, given-once, given-most, by-entry, on-channel, only-channel}
 
 -- ---- all units given
-module _ (free : List Bool) (wants : ByLogical) (counts : ByChannel) (channels : List ChannelNumber) (own : List LogicalChannel) (to : ℕ → Given) (left : ByLogical)
-    (units : length free ≡ 256) (size : length (wants .0) ≡ 16) (has : FreeCounts free counts) (placed : Placed counts wants channels) (owners : Owners wants channels own)
+module _ (free : List Bool) (wants : ByLogical) (counts : ByChannel) (channels : List ChannelNumber) (own : List LogicalChannel)
+    (to : ℕ → Given) (left : ByLogical)
+    (units : length free ≡ 256) (size : length (wants .0) ≡ 16) (has : FreeCounts free counts) (placed : Placed counts wants channels)
+    (owners : Owners wants channels own)
     (only : (i : ℕ) → isGiven (to i) ≡ true → freeAt free i ≡ true)
     (p : Passed (freeAt free) (λ c. getD own c (logical 0) .0) (want wants) to left 256) where
   abbrev o : ℕ → ℕ
@@ -87,16 +89,20 @@ module _ (free : List Bool) (wants : ByLogical) (counts : ByChannel) (channels :
       absurd (omega (arith, has .each c b, on-channel to (λ i. isTo l (to i)) c b)))
       (eq-zero-or-pos (getD (left .0) l 0))
     where
-      given : (c l : ℕ) → o c ≡ l → c < 16 → 1 ≤ getD (left .0) l 0 → (u : ℕ) → u < 16 → freeAt free (c * 16 + u) ≡ true → isTo l (to (c * 16 + u)) ≡ true
+      given : (c l : ℕ) → o c ≡ l → c < 16 → 1 ≤ getD (left .0) l 0 → (u : ℕ) → u < 16 → freeAt free (c * 16 + u) ≡ true
+          → isTo l (to (c * 16 + u)) ≡ true
       given c l w b m u v t =
           let d : (c * 16 + u) / 16 ≡ c = omega arith in
           let e : o ((c * 16 + u) / 16) ≡ l = ap o d ∙ w in
-          subst (λ (x : ℕ). isTo x (to (c * 16 + u)) ≡ true) e (p .first (c * 16 + u) (omega arith) t (subst (λ (x : ℕ). 1 ≤ getD (left .0) x 0) (sym e) m))
+          subst (λ (x : ℕ). isTo x (to (c * 16 + u)) ≡ true) e
+          (p .first (c * 16 + u) (omega arith) t (subst (λ (x : ℕ). 1 ≤ getD (left .0) x 0) (sym e) m))
 
   pub all-served : Served (freeAt free) (want wants) (on channels) to
   all-served = record {
     only = only;
-    all = λ l h. ⊎-elim (λ z. let e : getD (left .0) l 0 ≡ getD (left .0) 0 0 = ap (λ (x : ℕ). getD (left .0) x 0) z in omega (arith, p .counted l h, none-left-0)) (λ q. omega (arith, p .counted l h, none-left l q h)) (eq-zero-or-pos l);
+    all = λ l h. ⊎-elim (λ z.
+        let e : getD (left .0) l 0 ≡ getD (left .0) 0 0 = ap (λ (x : ℕ). getD (left .0) x 0) z in omega (arith, p .counted l h, none-left-0))
+        (λ q. omega (arith, p .counted l h, none-left l q h)) (eq-zero-or-pos l);
     known = known;
     there = there;
     own = placed .own;
@@ -111,13 +117,15 @@ module _ (free : List Bool) (wants : ByLogical) (counts : ByChannel) (channels :
   }
 
 -- ---- an assignment's channels are as Choice says
-module _ (free : List Bool) (wants : ByLogical) (counts : ByChannel) (channels : List ChannelNumber) (to : ℕ → Given) (size : length (wants .0) ≡ 16) (long : length channels ≡ 16) (has : FreeCounts free counts)
+module _ (free : List Bool) (wants : ByLogical) (counts : ByChannel) (channels : List ChannelNumber) (to : ℕ → Given)
+    (size : length (wants .0) ≡ 16) (long : length channels ≡ 16) (has : FreeCounts free counts)
     (s : Served (freeAt free) (want wants) (on channels) to) where
   count-at : (l : ℕ) → 1 ≤ l → l < 16 → 1 ≤ want wants l → want wants l ≤ countAt counts (on channels l)
   count-at l h k q =
       let c = on channels l in
       let a = only-channel to (λ i. isTo l (to i)) c (λ i t. s .there i l h t) in
-      let m = sum-mono 16 (λ u. one (isTo l (to (c * 16 + u)))) (λ u. one (freeAt free (c * 16 + u))) (λ u v. one-le (λ t. s .only (c * 16 + u) (to-given (to (c * 16 + u)) l t))) in
+      let m = sum-mono 16 (λ u. one (isTo l (to (c * 16 + u)))) (λ u. one (freeAt free (c * 16 + u)))
+      (λ u v. one-le (λ t. s .only (c * 16 + u) (to-given (to (c * 16 + u)) l t))) in
       let n = s .all l k in
       let b : c < 16 = channel-of in
       omega (arith, has .each c b)
@@ -132,7 +140,8 @@ module _ (free : List Bool) (wants : ByLogical) (counts : ByChannel) (channels :
   rest : total (wants .0) ≤ total (counts .0)
   rest =
       let a = sum-same 16 (λ l. howMany 256 (λ i. isTo l (to i))) (want wants) (s .all) in
-      let b = sum-mono 256 (λ i. sumTo 16 (λ l. one (isTo l (to i)))) (λ i. one (freeAt free i)) (λ i k. omega (arith, given-most (to i), one-le (s .only i))) in
+      let b = sum-mono 256 (λ i. sumTo 16 (λ l. one (isTo l (to i)))) (λ i. one (freeAt free i))
+      (λ i k. omega (arith, given-most (to i), one-le (s .only i))) in
       omega (arith, by-entry to, wants-total wants size, counts-total has)
 
   pub served-placed : Placed counts wants channels

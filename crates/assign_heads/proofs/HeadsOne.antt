@@ -30,16 +30,24 @@ alike (To m) (To n) p q = let e : m .0 ≡ n .0 = sym (eqb-true (n .0) (m .0) (p
 
 -- a unit that an entry has in the one way, after units that are alike, is in the other way passed over by a later
 -- one, or the entry has it too
-later : (want i l : ℕ) (a b : ℕ → Given) → i < 256 → ((j : ℕ) → j < i → a j ≡ b j) → howMany 256 (λ j. isTo l (a j)) ≡ want → howMany 256 (λ j. isTo l (b j)) ≡ want
+later : (want i l : ℕ) (a b : ℕ → Given) → i < 256 → ((j : ℕ) → j < i → a j ≡ b j) → howMany 256 (λ j. isTo l (a j)) ≡ want
+    → howMany 256 (λ j. isTo l (b j)) ≡ want
     → isTo l (a i) ≡ true → isTo l (b i) ≡ false → (j : ℕ) × ((i < j) × (isTo l (b j) ≡ true))
 later want i l a b h same ca cb t e =
     let n = sum-same i (λ j. one (isTo l (a j))) (λ j. one (isTo l (b j))) (λ j k. ap (λ (g : Given). one (isTo l g)) (same j k)) in
     let x : one (isTo l (a i)) ≡ 1 = ap one t in
     let y : one (isTo l (b i)) ≡ 0 = ap one e in
-    let r = passes-later 256 (suc i) (λ j. isTo l (b j)) (omega (arith, sum-suc i (λ j. one (isTo l (a j))), sum-suc i (λ j. one (isTo l (b j))), grows (suc i) 256 (λ j. isTo l (a j)) (omega arith))) in
+    let r = passes-later 256 (suc i) (λ j. isTo l (b j))
+    (omega (
+      arith,
+      sum-suc i (λ j. one (isTo l (a j))),
+      sum-suc i (λ j. one (isTo l (b j))),
+      grows (suc i) 256 (λ j. isTo l (a j)) (omega arith),
+    )) in
     (r .0, (omega (arith, r .1 .0), r .1 .1 .1))
 
-module _ (free : ℕ → Bool) (want on : ℕ → ℕ) (a b : ℕ → Given) (sa : Served free want on a) (sb : Served free want on b) (lb : Lowest free b) (i : ℕ) (small : i < 256) (same : (j : ℕ) → j < i → a j ≡ b j) where
+module _ (free : ℕ → Bool) (want on : ℕ → ℕ) (a b : ℕ → Given) (sa : Served free want on a) (sb : Served free want on b) (lb : Lowest free b)
+    (i : ℕ) (small : i < 256) (same : (j : ℕ) → j < i → a j ≡ b j) where
   -- an entry with a channel has the unit in both
   follows : (l : ℕ) → 1 ≤ l → isTo l (a i) ≡ true → isTo l (b i) ≡ true
   follows l h t =
@@ -58,9 +66,11 @@ module _ (free : ℕ → Bool) (want on : ℕ → ℕ) (a b : ℕ → Given) (sa
       let r = later (want 0) i 0 a b small same (sa .all 0 (omega arith)) (sb .all 0 (omega arith)) t u in
       lb .rest i (r .0) (r .1 .0) (r .1 .1) (sa .only i (to-given (a i) 0 t)))
 
-module _ (free : ℕ → Bool) (want on : ℕ → ℕ) (a b : ℕ → Given) (sa : Served free want on a) (la : Lowest free a) (sb : Served free want on b) (lb : Lowest free b) where
+module _ (free : ℕ → Bool) (want on : ℕ → ℕ) (a b : ℕ → Given) (sa : Served free want on a) (la : Lowest free a) (sb : Served free want on b)
+    (lb : Lowest free b) where
   -- so an entry of the one is the entry of the other
-  half : (c d : ℕ → Given) → Served free want on c → Lowest free c → Served free want on d → Lowest free d → (i : ℕ) → i < 256 → ((j : ℕ) → j < i → c j ≡ d j) → (l : ℕ) → isTo l (c i) ≡ true → isTo l (d i) ≡ true
+  half : (c d : ℕ → Given) → Served free want on c → Lowest free c → Served free want on d → Lowest free d → (i : ℕ) → i < 256
+      → ((j : ℕ) → j < i → c j ≡ d j) → (l : ℕ) → isTo l (c i) ≡ true → isTo l (d i) ≡ true
   half c d sc lc sd ld i h same l t =
       ⊎-elim (λ z.
       let t0 : isTo 0 (c i) ≡ true = subst (λ (x : ℕ). isTo x (c i) ≡ true) z t in
@@ -75,7 +85,8 @@ module _ (free : ℕ → Bool) (want on : ℕ → ℕ) (a b : ℕ → Given) (sa
   below zero h j k = absurd (omega arith)
   below (suc n) h j k =
       let before = below n (omega arith) in
-      one-more (λ (x : ℕ). a x ≡ b x) n before (alike (a n) (b n) (half a b sa la sb lb n h before) (half b a sb lb sa la n h (λ i l. sym (before i l)))) j (omega arith)
+      one-more (λ (x : ℕ). a x ≡ b x) n before
+      (alike (a n) (b n) (half a b sa la sb lb n h before) (half b a sb lb sa la n h (λ i l. sym (before i l)))) j (omega arith)
 
   pub units-one : (j : ℕ) → j < 256 → a j ≡ b j
   units-one = below 256 (omega arith)

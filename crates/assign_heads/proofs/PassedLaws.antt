@@ -19,7 +19,9 @@ module _ {free : ℕ → Bool} {own want : ℕ → ℕ} {to : ℕ → Given} {le
   -- units from i on do not matter
   pub carried : (next : ℕ → Given) → ((j : ℕ) → j < i → next j ≡ to j) → Passed free own want next left i
   carried next same = record {
-    counted = λ l h. ap (λ (n : ℕ). n + getD (left .0) l 0) (sum-same i (λ j. one (isTo l (next j))) (λ j. one (isTo l (to j))) (λ j k. ap (λ (g : Given). one (isTo l g)) (same j k))) ∙ p .counted l h;
+    counted = λ l h. ap (λ (n : ℕ). n + getD (left .0) l 0)
+        (sum-same i (λ j. one (isTo l (next j))) (λ j. one (isTo l (to j))) (λ j k. ap (λ (g : Given). one (isTo l g)) (same j k)))
+        ∙ p .counted l h;
     whose = λ j l h t. p .whose j l h (sym (ap (isTo l) (same j h)) ∙ t);
     first = λ j h f q. ap (isTo (own (j / 16))) (same j h) ∙ p .first j h f q;
     some = λ j h f q. ap isGiven (same j h) ∙ p .some j h f q;
@@ -30,7 +32,10 @@ module _ {free : ℕ → Bool} {own want : ℕ → ℕ} {to : ℕ → Given} {le
   -- one more
   pub onward : {after : ByLogical} → Took (free i) left (own (i / 16)) (to i) after → Passed free own want to after (i + 1)
   onward {after} s = record {
-    counted = λ l h. let e : howMany (i + 1) (λ j. isTo l (to j)) ≡ one (isTo l (to i)) + howMany i (λ j. isTo l (to j)) = ap (λ (n : ℕ). howMany n (λ j. isTo l (to j))) (add-one i) ∙ sum-suc i (λ j. one (isTo l (to j))) in omega (arith, s .less l h, p .counted l h);
+    counted = λ l h.
+        let e : howMany (i + 1) (λ j. isTo l (to j)) ≡ one (isTo l (to i)) + howMany i (λ j. isTo l (to j)) =
+        ap (λ (n : ℕ). howMany n (λ j. isTo l (to j))) (add-one i) ∙ sum-suc i (λ j. one (isTo l (to j))) in
+        omega (arith, s .less l h, p .counted l h);
     whose = λ j l. one-more (λ (x : ℕ). isTo l (to x) ≡ true → (l ≡ own (x / 16)) ⊎ (l ≡ 0)) i (λ x m. p .whose x l m) (s .whose l) j;
     first = one-more (λ (x : ℕ). free x ≡ true → 1 ≤ getD (after .0) (own (x / 16)) 0 → isTo (own (x / 16)) (to x) ≡ true) i
         (λ x m f q. p .first x m f (omega (arith, s .fewer (own (x / 16))))) (λ f q. s .first f (omega (arith, s .fewer (own (i / 16)))));

@@ -28,20 +28,28 @@ use Rattle.assign_heads.specs.Serving.{Chosen, Lacking, Answer, Serves}
 pub owners-logical : {wants : ByLogical} {channels : List ChannelNumber} {own : List LogicalChannel} → Owners wants channels own → Logical own
 owners-logical o = record { each = λ c h. o .each c h .below }
 
-module _ {free : List Bool} {wants : ByLogical} {counts : ByChannel} {before : List Head} {channels : List ChannelNumber} (units : length free ≡ 256) (size : length (wants .0) ≡ 16) (has : FreeCounts free counts) where
+module _ {free : List Bool} {wants : ByLogical} {counts : ByChannel} {before : List Head} {channels : List ChannelNumber}
+    (units : length free ≡ 256) (size : length (wants .0) ≡ 16) (has : FreeCounts free counts) where
   -- a list that some assignment has is one of the lists that the choice is from
-  pub chosen : {own : List LogicalChannel} {after : List Head} → Least counts wants channels → Owners wants channels own → GaveOut free own wants before after → Chosen free wants before channels after
+  pub chosen : {own : List LogicalChannel} {after : List Head} → Least counts wants channels → Owners wants channels own
+      → GaveOut free own wants before after → Chosen free wants before channels after
   chosen {own} {after} l o g = record {
     long = l .placed .long;
     wide = g .gave .wide;
-    served = all-served free wants counts channels own (toAt free after) (g .left) units size has (l .placed) o (only-free free after) (g .gave .passed);
+    served = all-served free wants counts channels own (toAt free after) (g .left) units size has (l .placed) o (only-free free after)
+        (g .gave .passed);
     least = λ others p. l .least others (served-placed free wants counts others (p .to) size (p .long) has (p .served));
-    lowest = all-lowest free wants counts channels own (toAt free after) (g .left) units size has (l .placed) o (only-free free after) (g .gave .passed);
+    lowest = all-lowest free wants counts channels own (toAt free after) (g .left) units size has (l .placed) o (only-free free after)
+        (g .gave .passed);
     kept = g .gave .kept;
   }
 
   pub lacking : NoList counts wants channels → Lacking free wants before channels before
-  lacking n = record { never = λ others p. n .never others (served-placed free wants counts others (p .to) size (p .long) has (p .served)); none = n .blank; same = refl }
+  lacking n = record {
+    never = λ others p. n .never others (served-placed free wants counts others (p .to) size (p .long) has (p .served));
+    none = n .blank;
+    same = refl;
+  }
 
 -- ---- one answer
 module _ (free : List Bool) (wants : ByLogical) (before : List Head) where
@@ -50,17 +58,21 @@ module _ (free : List Bool) (wants : ByLogical) (before : List Head) where
       ext-getD blank g h (p .wide ∙ sym (q .wide)) λ i l.
       by-bool (freeAt free i)
       (λ t.
-      let e = units-one (freeAt free) (want wants) (on channels) (toAt free g) (toAt free h) (p .served) (p .lowest) (q .served) (q .lowest) i (omega (arith, p .wide)) in
+      let e = units-one (freeAt free) (want wants) (on channels) (toAt free g) (toAt free h) (p .served) (p .lowest) (q .served) (q .lowest) i
+      (omega (arith, p .wide)) in
       let a : toAt free g i ≡ getD g i blank .to = ap (λ (b : Bool). cond b (getD g i blank .to) Nothing) t in
       let b : toAt free h i ≡ getD h i blank .to = ap (λ (b : Bool). cond b (getD h i blank .to) Nothing) t in
       let f : getD g i blank .to ≡ getD h i blank .to = sym a ∙ e ∙ b in
       λ j. record { to = f j })
       (λ t. p .kept i t ∙ sym (q .kept i t))
 
-  one-of : (a b : Bool) (c d : List ChannelNumber) (g h : List Head) → Serves free wants before (record { ok = a; on = c; heads = g }) → Serves free wants before (record { ok = b; on = d; heads = h })
+  one-of : (a b : Bool) (c d : List ChannelNumber) (g h : List Head) → Serves free wants before (record { ok = a; on = c; heads = g })
+      → Serves free wants before (record { ok = b; on = d; heads = h })
       → _≡_ {A = Service} (record { ok = a; on = c; heads = g }) (record { ok = b; on = d; heads = h })
   one-of true true c d g h p q =
-      let e : c ≡ d = lex-both c d (p .least d (record { long = q .long; to = toAt free h; served = q .served })) (q .least c (record { long = p .long; to = toAt free g; served = p .served })) in
+      let e : c ≡ d =
+      lex-both c d (p .least d (record { long = q .long; to = toAt free h; served = q .served }))
+      (q .least c (record { long = p .long; to = toAt free g; served = p .served })) in
       let f : g ≡ h = heads-one d g h (subst (λ (x : List ChannelNumber). Chosen free wants before x g) e p) q in
       λ i. record { ok = true; on = e i; heads = f i }
   one-of true false c d g h p q = absurd (q .never c (record { long = p .long; to = toAt free g; served = p .served }))
@@ -75,8 +87,10 @@ module _ (free : List Bool) (wants : ByLogical) (before : List Head) where
   serves-one r s = one-of (r .ok) (s .ok) (r .on) (s .on) (r .heads) (s .heads)
 
 -- ---- an answer by what it says of itself
-pub served-so : (free : List Bool) (wants : ByLogical) (before : List Head) (r : Service) → r .ok ≡ true → Serves free wants before r → Chosen free wants before (r .on) (r .heads)
+pub served-so : (free : List Bool) (wants : ByLogical) (before : List Head) (r : Service) → r .ok ≡ true → Serves free wants before r
+    → Chosen free wants before (r .on) (r .heads)
 served-so free wants before r e s = subst (λ (b : Bool). Answer b free wants before (r .on) (r .heads)) e s
 
-pub lacking-so : (free : List Bool) (wants : ByLogical) (before : List Head) (r : Service) → r .ok ≡ false → Serves free wants before r → Lacking free wants before (r .on) (r .heads)
+pub lacking-so : (free : List Bool) (wants : ByLogical) (before : List Head) (r : Service) → r .ok ≡ false → Serves free wants before r
+    → Lacking free wants before (r .on) (r .heads)
 lacking-so free wants before r e s = subst (λ (b : Bool). Answer b free wants before (r .on) (r .heads)) e s

@@ -58,7 +58,9 @@ sum-only zero c f h = omega arith
 sum-only (suc n) c f h =
     ⊎-elim
     (λ l. ⊎-elim
-    (λ e. let z = sum-zero n in let s = sum-same n f (λ i. 0) (λ i k. h i (omega arith) (λ q. omega arith)) in let a : f n ≡ f c = ap f e in omega arith)
+    (λ e.
+    let z = sum-zero n in
+    let s = sum-same n f (λ i. 0) (λ i k. h i (omega arith) (λ q. omega arith)) in let a : f n ≡ f c = ap f e in omega arith)
     (λ k. omega (arith, h n (omega arith) (λ q. omega arith), sum-only n c f (λ i m. h i (omega arith))))
     (eq-or-lt-of-le l))
     (λ k. omega (arith, h n (omega arith) (λ q. omega arith), sum-only n c f (λ i m. h i (omega arith))))
@@ -101,10 +103,14 @@ unfolding sumTo
 passes-later zero m f h = absurd (omega arith)
 passes-later (suc n) m f h =
     ⊎-elim
-    (λ l. by-bool (f n) (λ t. (n, (l, (omega arith, t)))) (λ e. let z : one (f n) ≡ 0 = ap one e in let r = passes-later n m f (omega arith) in (r .0, (r .1 .0, (omega (arith, r .1 .1 .0), r .1 .1 .1)))))
+    (λ l. by-bool (f n) (λ t. (n, (l, (omega arith, t))))
+    (λ e.
+    let z : one (f n) ≡ 0 = ap one e in let r = passes-later n m f (omega arith) in (r .0, (r .1 .0, (omega (arith, r .1 .1 .0), r .1 .1 .1)))))
     (λ l. absurd (omega (arith, grows (suc n) m f (omega arith))))
     (le-or-lt m n)
 
 -- a test counts as many as another that agrees with it
 pub one-le : {a b : Bool} → (a ≡ true → b ≡ true) → one a ≤ one b
-one-le {a} {b} h = by-bool a (λ t. let e : one a ≡ 1 = ap one t in let f : one b ≡ 1 = ap one (h t) in omega arith) (λ t. let e : one a ≡ 0 = ap one t in omega arith)
+one-le {a} {b} h =
+    by-bool a (λ t. let e : one a ≡ 1 = ap one t in let f : one b ≡ 1 = ap one (h t) in omega arith)
+    (λ t. let e : one a ≡ 0 = ap one t in omega arith)

@@ -21,7 +21,8 @@ use Rattle.assign.proofs.FirstLaws.{first-next, first-same, kind-there, kind-he
 use Rattle.assign_lacking.specs.ByCounts.{Servable, HasBy}
 use Rattle.assign_lacking.proofs.KindLaws.{kind-servable, servable-kind}
 
-module _ (units : List (List Unit)) (occupancy : ℕ) (areas : List Area) (channels : List Channel) (wanted : Facilities) (counts : Counts) (size : length channels ≡ 16)
+module _ (units : List (List Unit)) (occupancy : ℕ) (areas : List Area) (channels : List Channel) (wanted : Facilities) (counts : Counts)
+    (size : length channels ≡ 16)
     (full : length (wanted .units) ≡ many) (c : Counted units channels counts) where
   abbrev supply : Supply
   supply = supplyOf units occupancy areas channels
@@ -43,5 +44,7 @@ module _ (units : List (List Unit)) (occupancy : ℕ) (areas : List Area) (chann
       first-next counted (Has supply wanted) Core (Drum ∷ kinds) r (λ h. h) (λ h. h)
       (first-next counted (Has supply wanted) Drum kinds r (λ h. h) (λ h. h)
       (first-same counted (Has supply wanted) Core kinds r
-      (λ i l h. kind-there (Has supply wanted) (HasKind supply wanted) (λ k x. x) (λ k x. x) i l (to-kind i l (kind-here counted servable (λ k x. x) (λ k x. x) i l h)))
-      (λ i l h. kind-there counted servable (λ k x. x) (λ k x. x) i l (from-kind i l (kind-here (Has supply wanted) (HasKind supply wanted) (λ k x. x) (λ k x. x) i l h)))))
+      (λ i l h. kind-there (Has supply wanted) (HasKind supply wanted) (λ k x. x) (λ k x. x) i l
+      (to-kind i l (kind-here counted servable (λ k x. x) (λ k x. x) i l h)))
+      (λ i l h. kind-there counted servable (λ k x. x) (λ k x. x) i l
+      (from-kind i l (kind-here (Has supply wanted) (HasKind supply wanted) (λ k x. x) (λ k x. x) i l h)))))

@@ -36,7 +36,8 @@ use Rattle.assign.specs.Assignment.{wantsOf}
 use Rattle.assign.proofs.ChosenLaws.{listed, by-list}
 use Rattle.assign_lacking.specs.ByCounts.{Servable}
 
-module _ (units : List (List Unit)) (channels : List Channel) (size : length channels ≡ 16) (order : ℕ) (is : order < unitKinds) (counts : Counts) (asked : Facilities) (full : length (asked .units) ≡ many)
+module _ (units : List (List Unit)) (channels : List Channel) (size : length channels ≡ 16) (order : ℕ) (is : order < unitKinds)
+    (counts : Counts) (asked : Facilities) (full : length (asked .units) ≡ many)
     (c : Counted units channels counts) where
   wants-long : length (wantsOf asked order .0) ≡ 16
   wants-long = refl
@@ -61,11 +62,13 @@ module _ (units : List (List Unit)) (channels : List Channel) (size : length cha
       room .each d k ∙ sym (values-at 16 (λ c. howMany 16 (λ u. freeAt free (c * 16 + u))) d 0 k))
 
   -- entries that are served can have channels
-  pub kind-servable : (its : ℕ → ℕ) (to : ℕ → Given) → Served (isFreeOf units channels order) (want (wantsOf asked order)) its to → Servable (countsOf counts order) (wantsOf asked order)
+  pub kind-servable : (its : ℕ → ℕ) (to : ℕ → Given) → Served (isFreeOf units channels order) (want (wantsOf asked order)) its to
+      → Servable (countsOf counts order) (wantsOf asked order)
   kind-servable its to s = record {
     channels = listed its;
     placed = served-placed free (wantsOf asked order) (countsOf counts order) (listed its) to wants-long refl room
-        (subst (λ (f : ℕ → Bool). Served f (want (wantsOf asked order)) (on (listed its)) to) (sym marked) (by-list (isFreeOf units channels order) (want (wantsOf asked order)) its to s));
+        (subst (λ (f : ℕ → Bool). Served f (want (wantsOf asked order)) (on (listed its)) to) (sym marked)
+        (by-list (isFreeOf units channels order) (want (wantsOf asked order)) its to s));
   }
 
   -- entries that can have channels are served, by the serving that antt computes
@@ -82,7 +85,13 @@ module _ (units : List (List Unit)) (channels : List Channel) (size : length cha
       by-bool (chooseOf (free-counts free) (wantsOf asked order) .ok)
       (λ t.
       let r = serveOf free (wantsOf asked order) none in
-      let k = served-so free (wantsOf asked order) none r (serve-ok t) (serve-answers free (wantsOf asked order) none refl wants-long refl) in
-      (on (r .on), (toAt free (r .heads), subst (λ (f : ℕ → Bool). Served f (want (wantsOf asked order)) (on (r .on)) (toAt free (r .heads))) marked (k .served))))
-      (λ t. absurd (found-none (free-counts free) (wantsOf asked order) (chooseOf (free-counts free) (wantsOf asked order)) t (chosen (free-counts free) (wantsOf asked order) refl wants-long) .never (s .channels)
+      let k = served-so free (wantsOf asked order) none r (serve-ok t) (serve-answers free (wantsOf asked order) none refl wants-long refl) in (
+        on (r .on),
+        (
+          toAt free (r .heads),
+          subst (λ (f : ℕ → Bool). Served f (want (wantsOf asked order)) (on (r .on)) (toAt free (r .heads))) marked (k .served),
+        ),
+      ))
+      (λ t. absurd (found-none (free-counts free) (wantsOf asked order) (chooseOf (free-counts free) (wantsOf asked order)) t
+      (chosen (free-counts free) (wantsOf asked order) refl wants-long) .never (s .channels)
       (subst (λ (x : ByChannel). Placed x (wantsOf asked order) (s .channels)) room-one (s .placed))))

@@ -76,6 +76,7 @@ module _ (counts : ByChannel) (wants : ByLogical) (wide : length (counts .0) ≡
   )
 
 -- two answers are one
-pub answers-one : (counts : Counts) (occupancy : ℕ) (areas : List Area) (size : ℕ) (wanted : Facilities) (r s : Lacking) → LackingByCounts counts occupancy areas size wanted r
+pub answers-one : (counts : Counts) (occupancy : ℕ) (areas : List Area) (size : ℕ) (wanted : Facilities) (r s : Lacking)
+    → LackingByCounts counts occupancy areas size wanted r
     → LackingByCounts counts occupancy areas size wanted s → r ≡ s
 answers-one counts occupancy areas size wanted r s a b = first-one (HasBy counts occupancy areas size wanted) parts r s (a .first) (b .first)

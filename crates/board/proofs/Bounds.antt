@@ -81,7 +81,13 @@ id-few (e ∷ es) p h = by-bool (inPlace p (e .state)) (λ t. rw t (h 0 (omega a
 
 job-few : (p : ℕ) (id word : List ℕ) → p < 16 → length id ≤ 6 → length (jobText p id word) ≤ 15 + length word
 job-few p id word h k =
-    omega (arith, length-append (decimalText p) (bytes " " ++ (spaceless id ++ word)), length-append (spaceless id) word, few-digits 1 p (omega arith), spaceless-short id)
+    omega (
+      arith,
+      length-append (decimalText p) (bytes " " ++ (spaceless id ++ word)),
+      length-append (spaceless id) word,
+      few-digits 1 p (omega arith),
+      spaceless-short id,
+    )
 
 place-few : (p : ℕ) (id : List ℕ) (state : JobState) → p < 16 → length id ≤ 6 → length (placeText p id state) ≤ 23
 place-few p id J.Empty h k = omega arith
@@ -120,7 +126,8 @@ line-few : (c u : ℕ) (unit : UnitState) → ByteHolder (unit .holder) → leng
 unfolding unitLine
 line-few c u unit b = by-bool (assignable unit) (λ t. rw t (omega arith)) (λ f. rw f (state-few c u unit b))
 
-channel-few : (grid : List (List UnitState)) (c : ℕ) (channel : Channel) → ((u : ℕ) → ByteHolder (unitIn grid c u .holder)) → length (channelText grid c channel) ≤ 816
+channel-few : (grid : List (List UnitState)) (c : ℕ) (channel : Channel) → ((u : ℕ) → ByteHolder (unitIn grid c u .holder))
+    → length (channelText grid c channel) ≤ 816
 unfolding channelText
 channel-few grid c channel h =
     omega (arith, each-bound (λ u. unitLine c u (unitIn grid c u)) 51 (min (unitsOf channel) 16) 0 (λ u a b. line-few c u (unitIn grid c u) (h u)))
@@ -132,18 +139,25 @@ core-few jobs =
 
 -- ---- drum
 module _ (jobs : List Job) where
-  inserted-long : (p : ℕ) (qs : List ℕ) → length (eachOf (areaLine jobs) (inserted jobs p qs)) ≡ length (areaLine jobs p) + length (eachOf (areaLine jobs) qs)
+  inserted-long : (p : ℕ) (qs : List ℕ)
+      → length (eachOf (areaLine jobs) (inserted jobs p qs)) ≡ length (areaLine jobs p) + length (eachOf (areaLine jobs) qs)
   unfolding eachOf inserted
   inserted-long p [] = length-append (areaLine jobs p) []
   inserted-long p (q ∷ qs) =
       by-bool (leb (jobIn jobs p .from) (jobIn jobs q .from))
       (λ t. rw t (length-append (areaLine jobs p) (areaLine jobs q ++ eachOf (areaLine jobs) qs)))
-      (λ f. rw f (omega (arith, length-append (areaLine jobs q) (eachOf (areaLine jobs) (inserted jobs p qs)), length-append (areaLine jobs q) (eachOf (areaLine jobs) qs), inserted-long p qs)))
+      (λ f. rw f (omega (
+        arith,
+        length-append (areaLine jobs q) (eachOf (areaLine jobs) (inserted jobs p qs)),
+        length-append (areaLine jobs q) (eachOf (areaLine jobs) qs),
+        inserted-long p qs,
+      )))
 
   ascending-long : (ps : List ℕ) → length (eachOf (areaLine jobs) (ascending jobs ps)) ≡ length (eachOf (areaLine jobs) ps)
   unfolding eachOf ascending
   ascending-long [] = refl
-  ascending-long (p ∷ ps) = omega (arith, inserted-long p (ascending jobs ps), length-append (areaLine jobs p) (eachOf (areaLine jobs) ps), ascending-long ps)
+  ascending-long (p ∷ ps) =
+      omega (arith, inserted-long p (ascending jobs ps), length-append (areaLine jobs p) (eachOf (areaLine jobs) ps), ascending-long ps)
 
   module _ (small : (p : ℕ) → (jobIn jobs p .from < 2 ^ 32) × (jobIn jobs p .words < 2 ^ 32)) where
     area-few : (p : ℕ) → p < 16 → length (areaLine jobs p) ≤ 30
@@ -166,7 +180,12 @@ module _ (jobs : List Job) where
     holders-few zero p h = omega arith
     holders-few (suc n) p h =
         by-bool (holds jobs p)
-        (λ t. rw t (omega (arith, length-append (areaLine jobs p) (eachOf (areaLine jobs) (holders jobs n (p + 1))), area-few p (omega arith), holders-few n (p + 1) (omega arith))))
+        (λ t. rw t (omega (
+          arith,
+          length-append (areaLine jobs p) (eachOf (areaLine jobs) (holders jobs n (p + 1))),
+          area-few p (omega arith),
+          holders-few n (p + 1) (omega arith),
+        )))
         (λ f. rw f (omega (arith, holders-few n (p + 1) (omega arith))))
 
     drum-few : length (drumText jobs) ≤ 480
@@ -181,13 +200,23 @@ motion-few : (c : ℕ) (m : Motion) → ByteMotion m → length (motionText c m)
 motion-few c Idle b = omega arith
 motion-few c (Busy p k) b =
     line-few-of (bytes "MOVES ") c p k 7
-    (omega (arith, length-append (decimalText p) (bytes " " ++ decimalText k), few-digits 2 p (omega (arith, b .0)), few-digits 2 k (omega (arith, b .1))))
+    (omega (
+      arith,
+      length-append (decimalText p) (bytes " " ++ decimalText k),
+      few-digits 2 p (omega (arith, b .0)),
+      few-digits 2 k (omega (arith, b .1)),
+    ))
 
 entry-few : (ps : List Packet) (e : ℕ) → e < 256 → length (entryText ps e) ≤ 16
 unfolding entryText placeOf packetOf
 entry-few ps e h =
     line-few-of (bytes "LISTED ") (getD ps (e % 16) noPacket .channel .0) (e / 16) (e % 16) 5
-    (omega (arith, length-append (decimalText (e / 16)) (bytes " " ++ decimalText (e % 16)), few-digits 1 (e / 16) (omega arith), few-digits 1 (e % 16) (omega arith)))
+    (omega (
+      arith,
+      length-append (decimalText (e / 16)) (bytes " " ++ decimalText (e % 16)),
+      few-digits 1 (e / 16) (omega arith),
+      few-digits 1 (e % 16) (omega arith),
+    ))
 
 -- ---- requests
 word-of-few : (s : State) → length (stateWord s) ≤ 11
@@ -216,23 +245,39 @@ module _ (lists : Lists) (schedule : Schedule) (t : InTypes lists schedule) wher
       rw (getD-take (schedule .count) (schedule .entries) i blank (omega arith)) (t .ids i)
 
   places-few : length (placesText (lists .jobs) (inSchedule schedule)) ≤ 368
-  places-few = each-bound (λ p. placeText p (idIn (inSchedule schedule) p) (jobIn (lists .jobs) p .state)) 23 16 0 (λ p a b. place-few p (idIn (inSchedule schedule) p) (jobIn (lists .jobs) p .state) b (id-few (inSchedule schedule) p ids-few))
+  places-few =
+      each-bound (λ p. placeText p (idIn (inSchedule schedule) p) (jobIn (lists .jobs) p .state)) 23 16 0
+      (λ p a b. place-few p (idIn (inSchedule schedule) p) (jobIn (lists .jobs) p .state) b (id-few (inSchedule schedule) p ids-few))
 
   units-few : length (unitsText (lists .channels) (lists .units .of)) ≤ 13056
-  units-few = each-bound (λ c. channelText (lists .units .of) c (getD (lists .channels) c noChannel)) 816 16 0 (λ c a b. channel-few (lists .units .of) c (getD (lists .channels) c noChannel) (t .holders c))
+  units-few =
+      each-bound (λ c. channelText (lists .units .of) c (getD (lists .channels) c noChannel)) 816 16 0
+      (λ c a b. channel-few (lists .units .of) c (getD (lists .channels) c noChannel) (t .holders c))
 
   moves-few : length (movesText (lists .moving)) ≤ 272
-  moves-few = each-bound (λ c. motionText c (getD (lists .moving) c idle .motion)) 17 16 0 (λ c a b. motion-few c (getD (lists .moving) c idle .motion) (t .motions c))
+  moves-few =
+      each-bound (λ c. motionText c (getD (lists .moving) c idle .motion)) 17 16 0
+      (λ c a b. motion-few c (getD (lists .moving) c idle .motion) (t .motions c))
 
   listed-few : length (listedText (lists .jobs) (queueOf lists)) ≤ 4096
   listed-few =
       let l = length-take (lists .list .count) (lists .list .entries) in
-      omega (arith, t .queue, of-bound (listedLine (lists .jobs)) 0 16 (queueOf lists) (λ i h. entry-few _ (getD (queueOf lists) i 0) (rw (getD-take (lists .list .count) (lists .list .entries) i 0 (omega arith)) (t .packets i))))
+      omega (
+        arith,
+        t .queue,
+        of-bound (listedLine (lists .jobs)) 0 16 (queueOf lists)
+            (λ i h. entry-few _ (getD (queueOf lists) i 0)
+            (rw (getD-take (lists .list .count) (lists .list .entries) i 0 (omega arith)) (t .packets i))),
+      )
 
   requests-few : length (requestsText (inSchedule schedule)) ≤ 1472
   requests-few =
       let l = length-take (schedule .count) (schedule .entries) in
-      omega (arith, t .entries, of-bound requestText blank 23 (inSchedule schedule) (λ i h. request-few (getD (inSchedule schedule) i blank) (ids-few i h)))
+      omega (
+        arith,
+        t .entries,
+        of-bound requestText blank 23 (inSchedule schedule) (λ i h. request-few (getD (inSchedule schedule) i blank) (ids-few i h)),
+      )
 
   -- every board fits
   pub board-bound : length (boardText lists schedule) ≤ most

@@ -56,7 +56,9 @@ request id sequence precedence =
     }
 
 unfoldable pub schedule : Schedule
-schedule = scheduleOf (record { request = request (bytes "A1    ") 2 5; state = S.Running 0 } ∷ record { request = request (bytes "B2    ") 0 7; state = S.Waiting } ∷ [])
+schedule =
+    scheduleOf (record { request = request (bytes "A1    ") 2 5; state = S.Running 0 }
+    ∷ record { request = request (bytes "B2    ") 0 7; state = S.Waiting } ∷ [])
 
 unfoldable pub unit : Holder → Bool → Bool → U.Unit
 unit holder down lock = record { holder = holder; down = down; reserved = false; interlock = lock }
@@ -85,10 +87,11 @@ lists =
       jobs = job ∷ replicate 15 noJob;
       list = record { entries = 1 ∷ replicate 255 0; count = 1 };
       moving = set (replicate 16 idle) 3 (record { motion = Busy 0 0 });
-      units =
-          record {
-            of = unitSet (unitSet (unitSet (unitSet noneHeld 3 0 (unit (Returning 0) true false)) 3 1 (unit (Held 0) false true)) 3 2 (unit (Held 0) false false)) 3 3 (freshUnit true);
-          };
+      units = record {
+        of = unitSet (unitSet (unitSet (unitSet noneHeld 3 0 (unit (Returning 0) true false)) 3 1 (unit (Held 0) false true)) 3 2
+            (unit (Held 0) false false))
+            3 3 (freshUnit true);
+      };
     }
 
 pub board-of-a1 : boardText lists schedule
@@ -101,5 +104,6 @@ pub board-of-a1 : boardText lists schedule
     ++ (bytes "DRUM 35329-36828 0\n"
     ++ (bytes "MOVES 03 0 0\n"
     ++ (bytes "LISTED 03 0 1\n" ++ (bytes "A1 02A05 RUNS\n" ++ (bytes "B2 A07 WAITS\n" ++ bytes "END OF BOARD\n"))))))))))
-unfolding request schedule unit moving listed job lists scheduleOf unitIn unitSet assignable placeOf packetOf digitsText priorityText eachFrom eachOf idIn holdsBlock holderIn blockByte stateText unitLine channelText holds holders inserted ascending entryText requestText
+unfolding request schedule unit moving listed job lists scheduleOf unitIn unitSet assignable placeOf packetOf digitsText priorityText eachFrom
+    eachOf idIn holdsBlock holderIn blockByte stateText unitLine channelText holds holders inserted ascending entryText requestText
 board-of-a1 = refl

@@ -55,13 +55,15 @@ row-bytes row s u = everywhere Unit′.the-field 16 (λ unit. ByteHolder (unit .
 grid-bytes : (units : Units) (vs : List Val) → Is Units′.the-row units vs → (c u : ℕ) → ByteHolder (unitIn (units .of) c u .holder)
 unfolding unitIn
 grid-bytes units vs p c =
-    everywhere (array-field Unit′.the-field 16) 16 (λ row. (u : ℕ) → ByteHolder (getD row u (freshUnit false) .holder)) (units .of) (p .0 .0) (p .1 .1 .0) row-bytes [] (λ u. tt) c
+    everywhere (array-field Unit′.the-field 16) 16 (λ row. (u : ℕ) → ByteHolder (getD row u (freshUnit false) .holder)) (units .of) (p .0 .0)
+    (p .1 .1 .0) row-bytes [] (λ u. tt) c
 
 short : (e : Entry) → Some Entry′.the-field e → length (e .request .id) ≤ 6
 short e s = let l = long u8-field 6 (e .request .id) _ (s .1 .1 .1 .0 .1 .1 .0) in omega arith
 
 -- ---- and the whole
-pub typed : (lists : Lists) (schedule : Schedule) (vs us : List Val) → Is Lists′.the-row lists vs → Is Schedule′.the-row schedule us → InTypes lists schedule
+pub typed : (lists : Lists) (schedule : Schedule) (vs us : List Val) → Is Lists′.the-row lists vs → Is Schedule′.the-row schedule us
+    → InTypes lists schedule
 typed lists schedule vs us p q =
     let entries = long Entry′.the-field mostRequests (schedule .entries) (q .0 .0) (q .1 .1 .0) in
     let jobs = p .1 .1 .1 .1 .0 in
@@ -69,16 +71,20 @@ typed lists schedule vs us p q =
     let moving = p .1 .1 .1 .1 .1 .1 .0 in
     record {
       entries = omega arith;
-      ids = everywhere Entry′.the-field mostRequests (λ e. length (e .request .id) ≤ 6) (schedule .entries) _ (q .1 .1 .0) short blank (omega arith);
+      ids = everywhere Entry′.the-field mostRequests (λ e. length (e .request .id) ≤ 6) (schedule .entries) _ (q .1 .1 .0) short
+          blank (omega arith);
       holders = grid-bytes (lists .units) _ (p .1 .1 .1 .1 .1 .1 .1 .0);
-      areas = everywhere Job′.the-field 16 (λ j. (j .from < 2 ^ 32) × (j .words < 2 ^ 32)) (lists .jobs) _ jobs (λ j s. (s .1 .1 .1 .1 .1 .0 .1, s .1 .1 .1 .1 .1 .1 .0 .1)) noJob (omega arith, omega arith);
-      motions = everywhere Carrier′.the-field 16 (λ c. ByteMotion (c .motion)) (lists .moving) _ moving (λ c s. motion-bytes (c .motion) (s .1 .0 .0, s .1 .1 .1 .0)) idle tt;
+      areas = everywhere Job′.the-field 16 (λ j. (j .from < 2 ^ 32) × (j .words < 2 ^ 32)) (lists .jobs) _ jobs
+          (λ j s. (s .1 .1 .1 .1 .1 .0 .1, s .1 .1 .1 .1 .1 .1 .0 .1)) noJob (omega arith, omega arith);
+      motions = everywhere Carrier′.the-field 16 (λ c. ByteMotion (c .motion)) (lists .moving) _ moving
+          (λ c s. motion-bytes (c .motion) (s .1 .0 .0, s .1 .1 .1 .0)) idle tt;
       queue = omega (arith, long u8-field 256 (lists .list .entries) _ (list .1 .1 .0));
       packets = everywhere u8-field 256 (λ e. e < 256) (lists .list .entries) _ (list .1 .1 .0) (λ e s. s .1 .1) 0 (omega arith);
     }
 
 -- so a board that was put into a room of so many bytes stands there whole
-pub boarded : {room after : List ℕ} {at r : ℕ} {lists : Lists} {schedule : Schedule} → InTypes lists schedule → Written room at (boardText lists schedule) after r → Boarded room at lists schedule after r
+pub boarded : {room after : List ℕ} {at r : ℕ} {lists : Lists} {schedule : Schedule} → InTypes lists schedule
+    → Written room at (boardText lists schedule) after r → Boarded room at lists schedule after r
 boarded {room} {after} {at} {r} {lists} {schedule} t w = record {
   text = w;
   whole = λ h.

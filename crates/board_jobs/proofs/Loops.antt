@@ -36,7 +36,8 @@ module _ {entries : List Entry} {count place i : ℕ} (full : length entries ≡
   entries-end h = over (omega (arith, length-take count entries))
 
   module _ (h : i < count) (k : i < mostRequests) (d : Entry) {b : Bool} (is : b ≡ inPlace place (getD entries i d .state)) where
-    here : idIn (take count entries) place ≡ cond (inPlace place (getD entries i d .state)) (getD entries i d .request .id) (idIn (drop (suc i) (take count entries)) place)
+    here : idIn (take count entries) place
+        ≡ cond (inPlace place (getD entries i d .state)) (getD entries i d .request .id) (idIn (drop (suc i) (take count entries)) place)
     unfolding idIn
     here =
         let l : i < length (take count entries) = omega (arith, length-take count entries) in
@@ -62,7 +63,8 @@ module _ {jobs : List Job} {block p : ℕ} (full : length jobs ≡ 16) (w : AtPl
   places-end h = rw (drop-of-length-le jobs {i = p} (omega arith)) at (w .same)
 
   module _ (k : p < 16) {b : Bool} (is : b ≡ holdsBlock (jobIn jobs p .state) (jobIn jobs p .core) block) where
-    here-held : holderIn 0 jobs block ≡ cond (holdsBlock (jobIn jobs p .state) (jobIn jobs p .core) block) (digit p) (holderIn (suc p) (drop (suc p) jobs) block)
+    here-held : holderIn 0 jobs block
+        ≡ cond (holdsBlock (jobIn jobs p .state) (jobIn jobs p .core) block) (digit p) (holderIn (suc p) (drop (suc p) jobs) block)
     unfolding holderIn
     here-held = sym (w .same) ∙ rw (drop-cons jobs p noJob (omega arith))
 

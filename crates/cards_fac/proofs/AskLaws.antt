@@ -17,7 +17,8 @@ use Rattle.cards_fields.specs.Fields.{malformed}
 use Rattle.cards_request.specs.Errors.{good, errorIf, orElse}
 use Rattle.cards_request.specs.Requests.{noFacilities}
 use Rattle.cards_request.proofs.ErrorLaws.{good-is, or-else-some, or-else-good}
-use Rattle.cards_fac.specs.Fac.{numberText, slotOf, formError, nothing, entryAnswer, entryOf, entered, entriesError, allEntered, asksOf, askedAnswer, askedOf, coreError, entriesOf, asked, facError, facOf}
+use Rattle.cards_fac.specs.Fac.{numberText, slotOf, formError, nothing, entryAnswer, entryOf, entered, entriesError, allEntered}
+use Rattle.cards_fac.specs.Fac.{asksOf, askedAnswer, askedOf, coreError, entriesOf, asked, facError, facOf}
 use Rattle.cards_fac.proofs.EntryLaws.{small-number}
 use Rattle.cards_request.specs.declared.CardError.the-variants.{FacMalformed, WrongEntry, TooMuchCore, NoIb}
 use Rattle.cards_request.specs.declared.CardVerdict.{CardVerdict}
@@ -75,7 +76,12 @@ module _ (asks : List ℕ) (ts : List (List ℕ)) (k : ℕ) (h : k < length ts) 
   unfolding askedOf
   entry-wrong n =
       let f = verdict-is t e is in
-      rw (at, ← f, or-else-some (e .verdict) (errorIf (ltb 0 (getD asks (slotOf t) 0)) WrongEntry) n, or-else-some (e .verdict) (entriesError (entered asks t) later) n)
+      rw (
+        at,
+        ← f,
+        or-else-some (e .verdict) (errorIf (ltb 0 (getD asks (slotOf t) 0)) WrongEntry) n,
+        or-else-some (e .verdict) (entriesError (entered asks t) later) n,
+      )
       (asked-alone (e .verdict) (allEntered (entered asks t) later) n)
 
   module _ (z : good (e .verdict) ≡ true) where
@@ -92,7 +98,8 @@ unfolding askedOf
 entries-done asks ts k h = rw (drop-of-length-le ts {i = k} h)
 
 -- an error alone, as the code makes it
-pub none-alone : (v : CardVerdict) (f : Facilities) → good v ≡ false → f ≡ noFacilities → _≡_ {A = Asked} (record { verdict = v; facilities = f }) (askedAnswer v nothing)
+pub none-alone : (v : CardVerdict) (f : Facilities) → good v ≡ false → f ≡ noFacilities
+    → _≡_ {A = Asked} (record { verdict = v; facilities = f }) (askedAnswer v nothing)
 none-alone Good f h e = never refl h
 none-alone (Wrong x) f h e = rw e
 

@@ -20,7 +20,8 @@ use Rattle.cards_fields.specs.Fields.{padded}
 use Rattle.cards_fields.proofs.FieldLaws.{rest-is}
 use Rattle.cards_request.specs.Errors.{good, errorIf}
 use Rattle.cards_request.proofs.ErrorLaws.{not-good, or-else-none}
-use Rattle.cards_fac.specs.Fac.{codes, lastCode, indexIn, codeText, channelText, slashAt, numberText, channelGood, most, numberGood, entryGood, slot, codeOf, slotOf, codeError, formError, entryAnswer, entryOf}
+use Rattle.cards_fac.specs.Fac.{codes, lastCode, indexIn, codeText, channelText, slashAt, numberText, channelGood, most, numberGood}
+use Rattle.cards_fac.specs.Fac.{entryGood, slot, codeOf, slotOf, codeError, formError, entryAnswer, entryOf}
 use Rattle.cards_request.specs.declared.CardError.the-variants.{LongCode, UnknownCode, WrongEntry}
 use Rattle.cards_request.specs.declared.CardVerdict.{CardVerdict}
 use Rattle.cards_request.specs.declared.CardVerdict.the-variants.{Good, Wrong}
@@ -40,7 +41,8 @@ leading-padded p zero t h = refl
 leading-padded p (suc w) [] h = absurd (omega arith)
 leading-padded p (suc w) (b ∷ t) h = test (leading-padded p w t (le-of-suc-le-suc h)) (p b)
   where
-    test : leading p (padded w t) ≡ take w (leading p t) → (x : Bool) → cond x (b ∷ leading p (padded w t)) [] ≡ take (suc w) (cond x (b ∷ leading p t) [])
+    test : leading p (padded w t) ≡ take w (leading p t) → (x : Bool)
+        → cond x (b ∷ leading p (padded w t)) [] ≡ take (suc w) (cond x (b ∷ leading p t) [])
     test ih true = ap (λ (l : List ℕ). b ∷ l) ih
     test ih false = refl
 
@@ -51,7 +53,8 @@ next-code c [] i h = absurd (omega arith)
 next-code c (k ∷ ks) zero h = refl
 next-code c (k ∷ ks) (suc i) h = next-code c ks i (omega arith)
 
-module _ (c : List ℕ) (i : ℕ) (low : i ≤ lastCode) (before : indexIn codes c ≡ i + indexIn (drop i codes) c) {r : Bool} (is : r ≡ same (getD codes i []) c) where
+module _ (c : List ℕ) (i : ℕ) (low : i ≤ lastCode) (before : indexIn codes c ≡ i + indexIn (drop i codes) c) {r : Bool}
+    (is : r ≡ same (getD codes i []) c) where
   so : indexIn (drop i codes) c ≡ cond r 0 (suc (indexIn (drop (i + 1) codes) c))
   so = next-code c codes i (omega (arith, codes-many)) ∙ rw (add-one i, is)
 
@@ -118,14 +121,16 @@ most-six code = test (eqb code 2)
     test false = omega arith
 
 pub number-few : (code : ℕ) (s : List ℕ) → numberGood code s ≡ true → length s ≤ 6
-number-few code s e = omega (arith, leb-true (length s) (most code) (both (leb (length s) (most code)) (every isDigit s && leb 1 (value s)) e .0), most-six code)
+number-few code s e =
+    omega (arith, leb-true (length s) (most code) (both (leb (length s) (most code)) (every isDigit s && leb 1 (value s)) e .0), most-six code)
 
 -- an entry whose code is known
 module _ (t : List ℕ) (known : codeError t ≡ Good) where
   pub code-low : codeOf t ≤ lastCode
   code-low =
       ⊎-elim (λ z. omega arith)
-      (λ p. ⊎-elim (λ z. not-good (sym (code-unknown t (omega arith) (omega arith)) ∙ known)) (λ q. not-good (sym (code-long t (omega arith)) ∙ known)) (eq-zero-or-pos (length (codeText t) - 2)))
+      (λ p. ⊎-elim (λ z. not-good (sym (code-unknown t (omega arith) (omega arith)) ∙ known))
+      (λ q. not-good (sym (code-long t (omega arith)) ∙ known)) (eq-zero-or-pos (length (codeText t) - 2)))
       (eq-zero-or-pos (codeOf t - lastCode))
 
   pub code-short : length (codeText t) ≤ 2
@@ -140,7 +145,8 @@ module _ (t : List ℕ) (known : codeError t ≡ Good) where
   entry-good e = rw (known, e)
 
   -- as the code takes it apart
-  module _ (n code at : ℕ) (en : n ≡ length (codeText t)) (ec : code ≡ indexIn codes (take n t)) (ea : at ≡ n + length (leading (isnt 47) (take (length t - n) (drop n t)))) where
+  module _ (n code at : ℕ) (en : n ≡ length (codeText t)) (ec : code ≡ indexIn codes (take n t))
+      (ea : at ≡ n + length (leading (isnt 47) (take (length t - n) (drop n t)))) where
     pub code-is : code ≡ codeOf t
     code-is = ec ∙ ap (indexIn codes) (rw en (leading-front isLetter t))
 
@@ -171,10 +177,12 @@ module _ (t : List ℕ) (known : codeError t ≡ Good) where
       pub bad-channel : (b : Bool) → b ≡ channelGood code (take (at - n) (drop n t)) → b ≡ false → entryOf t ≡ entryAnswer (Wrong WrongEntry) 0 0
       bad-channel b e z = entry-bad (rw (slash, channel-good b e, z))
 
-      pub bad-number : (b : Bool) → b ≡ channelGood code (take (at - n) (drop n t)) → b ≡ true → (d : Bool) → d ≡ numberGood code (take (length t - (at + 1)) (drop (at + 1) t)) → d ≡ false → entryOf t ≡ entryAnswer (Wrong WrongEntry) 0 0
+      pub bad-number : (b : Bool) → b ≡ channelGood code (take (at - n) (drop n t)) → b ≡ true → (d : Bool)
+          → d ≡ numberGood code (take (length t - (at + 1)) (drop (at + 1) t)) → d ≡ false → entryOf t ≡ entryAnswer (Wrong WrongEntry) 0 0
       bad-number b e y d f z = entry-bad (rw (slash, channel-good b e, y, number-good d f, z))
 
-      pub good-entry : (b : Bool) → b ≡ channelGood code (take (at - n) (drop n t)) → b ≡ true → (d : Bool) → d ≡ numberGood code (take (length t - (at + 1)) (drop (at + 1) t)) → d ≡ true
+      pub good-entry : (b : Bool) → b ≡ channelGood code (take (at - n) (drop n t)) → b ≡ true → (d : Bool)
+          → d ≡ numberGood code (take (length t - (at + 1)) (drop (at + 1) t)) → d ≡ true
           → (k v : ℕ) → k ≡ slot code (value (take (at - n) (drop n t))) → v ≡ value (take (length t - (at + 1)) (drop (at + 1) t))
           → _≡_ {A = Entry} (record { verdict = Good; slot = k; number = v }) (entryOf t)
       good-entry b e y d f z k v ek ev =
@@ -191,7 +199,13 @@ entry-long t known h = entry-bad t known (test (entryGood (codeOf t) t) refl)
     test true e =
         let p = both (ltb (slashAt t) (length t)) (channelGood (codeOf t) (channelText t) && numberGood (codeOf t) (numberText t)) e in
         let q = both (channelGood (codeOf t) (channelText t)) (numberGood (codeOf t) (numberText t)) (p .1) in
-        absurd (omega (arith, code-short t known, channel-short (codeOf t) (channelText t) (q .0), number-few (codeOf t) (numberText t) (q .1), length-drop (slashAt t + 1) t))
+        absurd (omega (
+          arith,
+          code-short t known,
+          channel-short (codeOf t) (channelText t) (q .0),
+          number-few (codeOf t) (numberText t) (q .1),
+          length-drop (slashAt t + 1) t,
+        ))
 
 pub entry-error : (t : List ℕ) (e : CardVerdict) → e ≡ codeError t → good e ≡ false → entryOf t ≡ entryAnswer e 0 0
 unfolding entryOf formError

@@ -110,7 +110,8 @@ card-closed f [] p = closed-front f (46 ∷ []) (p .0) ∙ closed-mark [] .0
 card-closed f (g ∷ fs) p = closed-front f (tailText (g ∷ fs)) (p .0) ∙ closed-mark (cardText (g ∷ fs)) .1 ∙ card-closed g fs (p .1)
 
 -- a written card of at most 80 characters is not malformed
-pub card-good : (f : List ℕ) (fs : List (List ℕ)) → AllPlain (f ∷ fs) → length (cardText (f ∷ fs)) ≤ cardLength → malformed (cardText (f ∷ fs)) ≡ false
+pub card-good : (f : List ℕ) (fs : List (List ℕ)) → AllPlain (f ∷ fs) → length (cardText (f ∷ fs)) ≤ cardLength
+    → malformed (cardText (f ∷ fs)) ≡ false
 card-good f fs p l = by-form (cardText (f ∷ fs)) true l (card-closed f fs p)
 
 no-lf-front : (f s : List ℕ) → every plain f ≡ true → NoLf s → NoLf (f ++ s)

@@ -36,7 +36,8 @@ found s at h len is =
       most = m;
       long = length-take-le len (drop at s) (omega (arith, length-drop at s));
       ends = λ e. no-line (drop at s) (omega (arith, length-drop at s));
-      goes = λ e. first-line (drop at s) (omega (arith, length-drop at s)) ∙ rw (drop-drop (suc (length (lineOf (drop at s)))) at s, k) (ap (λ (l : List ℕ). l ∷ cardsOf (drop (at + len + 1) s)) f);
+      goes = λ e. first-line (drop at s) (omega (arith, length-drop at s))
+          ∙ rw (drop-drop (suc (length (lineOf (drop at s)))) at s, k) (ap (λ (l : List ℕ). l ∷ cardsOf (drop (at + len + 1) s)) f);
     }
 
 -- a part from one position to another, as long as it is
@@ -59,7 +60,8 @@ module _ (s : List ℕ) (at left : ℕ) where
     pub card-here : left ≡ 0 → getD (cardsOf (drop at s)) left [] ≡ c
     card-here z = rw (e, z)
 
-  pub card-later : (c : List ℕ) (next : ℕ) → cardsOf (drop at s) ≡ c ∷ cardsOf (drop next s) → (left ≡ 0 → ⊥) → getD (cardsOf (drop at s)) left [] ≡ getD (cardsOf (drop next s)) (left - 1) []
+  pub card-later : (c : List ℕ) (next : ℕ) → cardsOf (drop at s) ≡ c ∷ cardsOf (drop next s) → (left ≡ 0 → ⊥)
+      → getD (cardsOf (drop at s)) left [] ≡ getD (cardsOf (drop next s)) (left - 1) []
   card-later c next e n = rw e (later left n)
     where
       later : (k : ℕ) → (k ≡ 0 → ⊥) → getD (c ∷ cardsOf (drop next s)) k [] ≡ getD (cardsOf (drop next s)) (k - 1) []
@@ -78,7 +80,8 @@ module _ (s : List ℕ) (at left : ℕ) where
   pub front-done : left ≡ 0 → size (take left (cardsOf (drop at s))) ≡ 0
   front-done z = rw z
 
-  pub front-more : (c : List ℕ) (next : ℕ) → cardsOf (drop at s) ≡ c ∷ cardsOf (drop next s) → (left ≡ 0 → ⊥) → size (take left (cardsOf (drop at s))) ≡ length c + 1 + size (take (left - 1) (cardsOf (drop next s)))
+  pub front-more : (c : List ℕ) (next : ℕ) → cardsOf (drop at s) ≡ c ∷ cardsOf (drop next s) → (left ≡ 0 → ⊥)
+      → size (take left (cardsOf (drop at s))) ≡ length c + 1 + size (take (left - 1) (cardsOf (drop next s)))
   front-more c next e n = rw e (more left n)
     where
       more : (k : ℕ) → (k ≡ 0 → ⊥) → size (take k (c ∷ cardsOf (drop next s))) ≡ length c + 1 + size (take (k - 1) (cardsOf (drop next s)))
@@ -90,14 +93,17 @@ module _ (s : List ℕ) (at : ℕ) (c : List ℕ) (next : ℕ) (e : cardsOf (dro
   pub end-here : isTermination c ≡ true → (terminated (cardsOf (drop at s)) ≡ true) × (size (before (cardsOf (drop at s))) ≡ 0)
   end-here t = (rw (e, t), rw (e, t))
 
-  pub end-later : isTermination c ≡ false → (terminated (cardsOf (drop at s)) ≡ terminated (cardsOf (drop next s))) × (size (before (cardsOf (drop at s))) ≡ length c + 1 + size (before (cardsOf (drop next s))))
+  pub end-later : isTermination c ≡ false
+      → (terminated (cardsOf (drop at s)) ≡ terminated (cardsOf (drop next s)))
+      × (size (before (cardsOf (drop at s))) ≡ length c + 1 + size (before (cardsOf (drop next s))))
   end-later t = (rw (e, t), rw (e, t))
 
   -- the first group, one card further
   pub group-here : opens (cardsOf (drop next s)) ≡ true → size (firstGroup (cardsOf (drop at s))) ≡ length c + 1
   group-here o = rw (e, o) (omega arith)
 
-  pub group-later : opens (cardsOf (drop next s)) ≡ false → size (firstGroup (cardsOf (drop at s))) ≡ length c + 1 + size (firstGroup (cardsOf (drop next s)))
+  pub group-later : opens (cardsOf (drop next s)) ≡ false
+      → size (firstGroup (cardsOf (drop at s))) ≡ length c + 1 + size (firstGroup (cardsOf (drop next s)))
   group-later o = rw (e, o) (onto (groupsOf (cardsOf (drop next s))))
     where
       onto : (gs : List (List (List ℕ))) → size (getD (ontoGroup c false gs) 0 []) ≡ length c + 1 + size (getD gs 0 [])

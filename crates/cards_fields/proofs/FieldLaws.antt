@@ -36,7 +36,8 @@ full-padded (suc w) (x ∷ s) t h = ap (λ (l : List ℕ). x ∷ l) (full-padded
 
 more-padded : (w : ℕ) (s : List ℕ) (b : ℕ) → cond (ltb (length s) w) (set (padded w s) (length s) b) (padded w s) ≡ padded w (s ++ (b ∷ []))
 more-padded w s b =
-    ⊎-elim (λ z. rw (lt-ltb (length s) w (omega arith)) (set-padded w s b)) (λ p. rw (le-ltb (length s) w (omega arith)) (full-padded w s (b ∷ []) (omega arith)))
+    ⊎-elim (λ z. rw (lt-ltb (length s) w (omega arith)) (set-padded w s b))
+    (λ p. rw (le-ltb (length s) w (omega arith)) (full-padded w s (b ∷ []) (omega arith)))
     (eq-zero-or-pos ((length s + 1) - w))
 
 add-one : (s : List ℕ) (b : ℕ) → added (fieldOf s) b ≡ fieldOf (s ++ (b ∷ []))
@@ -128,9 +129,13 @@ module _ (s : List ℕ) (i : ℕ) (h : i < length s) where
 
   pub field-skip : (k : ℕ) → (getD s i 0 ≡ 46 → ⊥) → (getD s i 0 ≡ 44 → ⊥) → (k ≡ 0 → ⊥) → field (drop i s) k ≡ field (drop (i + 1) s) k
   field-skip zero p c z = absurd (z refl)
-  field-skip (suc k) p c z = ⊎-elim (λ e. rw (drop-step s i h, fields-space (drop (i + 1) s) e)) (λ q. rw (drop-step s i h, fields-other (drop (i + 1) s) p c q) (onto-later (getD s i 0) k (fields (drop (i + 1) s)))) (space-or (getD s i 0))
+  field-skip (suc k) p c z =
+      ⊎-elim (λ e. rw (drop-step s i h, fields-space (drop (i + 1) s) e))
+      (λ q. rw (drop-step s i h, fields-other (drop (i + 1) s) p c q) (onto-later (getD s i 0) k (fields (drop (i + 1) s))))
+      (space-or (getD s i 0))
 
-  pub field-byte : (f : Field) (k : ℕ) → (getD s i 0 ≡ 46 → ⊥) → (getD s i 0 ≡ 44 → ⊥) → k ≡ 0 → addedAll f (field (drop i s) k) ≡ addedAll (pushed f (getD s i 0)) (field (drop (i + 1) s) k)
+  pub field-byte : (f : Field) (k : ℕ) → (getD s i 0 ≡ 46 → ⊥) → (getD s i 0 ≡ 44 → ⊥) → k ≡ 0
+      → addedAll f (field (drop i s) k) ≡ addedAll (pushed f (getD s i 0)) (field (drop (i + 1) s) k)
   field-byte f k p c z =
       ⊎-elim (λ e. rw (z, drop-step s i h, fields-space (drop (i + 1) s) e, eq-eqb (getD s i 0) 32 e))
       (λ q. rw (z, drop-step s i h, fields-other (drop (i + 1) s) p c q, onto-first (getD s i 0) (fields (drop (i + 1) s)), ne-eqb (getD s i 0) 32 q))
@@ -145,7 +150,8 @@ module _ (s : List ℕ) (i : ℕ) (h : i < length s) where
   pub count-other : (getD s i 0 ≡ 46 → ⊥) → (getD s i 0 ≡ 44 → ⊥) → length (fields (drop i s)) ≡ length (fields (drop (i + 1) s))
   count-other p c =
       ⊎-elim (λ e. rw (drop-step s i h, fields-space (drop (i + 1) s) e))
-      (λ q. rw (drop-step s i h, fields-other (drop (i + 1) s) p c q) (onto-length (getD s i 0) (fields (drop (i + 1) s)) (fields-some (drop (i + 1) s))))
+      (λ q. rw (drop-step s i h, fields-other (drop (i + 1) s) p c q)
+      (onto-length (getD s i 0) (fields (drop (i + 1) s)) (fields-some (drop (i + 1) s))))
       (space-or (getD s i 0))
 
   pub closed-bad : (over : Bool) → cardByte (getD s i 0) ≡ false → closed over (drop i s) ≡ false
@@ -155,10 +161,12 @@ module _ (s : List ℕ) (i : ℕ) (h : i < length s) where
   pub closed-more : (over : Bool) → over ≡ true → (getD s i 0 ≡ 32 → ⊥) → closed over (drop i s) ≡ false
   closed-more over o q = rw (o, drop-step s i h, ne-eqb (getD s i 0) 32 q) (and-false (cardByte (getD s i 0)))
 
-  pub closed-blank : (over : Bool) → cardByte (getD s i 0) ≡ true → over ≡ true → getD s i 0 ≡ 32 → closed over (drop i s) ≡ closed over (drop (i + 1) s)
+  pub closed-blank : (over : Bool) → cardByte (getD s i 0) ≡ true → over ≡ true → getD s i 0 ≡ 32
+      → closed over (drop i s) ≡ closed over (drop (i + 1) s)
   closed-blank over c o e = rw (o, drop-step s i h, c, eq-eqb (getD s i 0) 32 e)
 
-  pub closed-next : (over : Bool) → cardByte (getD s i 0) ≡ true → over ≡ false → closed over (drop i s) ≡ closed (eqb (getD s i 0) 46) (drop (i + 1) s)
+  pub closed-next : (over : Bool) → cardByte (getD s i 0) ≡ true → over ≡ false
+      → closed over (drop i s) ≡ closed (eqb (getD s i 0) 46) (drop (i + 1) s)
   closed-next over c o = rw (o, drop-step s i h, c)
 
 pub count-end : (s : List ℕ) (i : ℕ) → length s ≤ i → length (fields (drop i s)) ≡ 1

@@ -21,7 +21,8 @@ use Rattle.words.specs.Lines.{lineOf, lf, ontoLine}
 use Rattle.words.proofs.WordLaws.{same-equal}
 use Rattle.words.proofs.LineLaws.{NoLf, first-ended, no-line, first-line, line-split, line-clean}
 use Rattle.cards_fields.specs.Fields.{isPty}
-use Rattle.cards_fields.specs.Deck.{cardsOf, termination, isTermination, terminated, before, size, deckEnd, opens, ontoGroup, groupsOf, firstGroup, groupSize}
+use Rattle.cards_fields.specs.Deck.{cardsOf, termination, isTermination, terminated, before, size, deckEnd}
+use Rattle.cards_fields.specs.Deck.{opens, ontoGroup, groupsOf, firstGroup, groupSize}
 use Rattle.cards_fields.specs.declared.DeckEnd.the-variants.{At, Refused}
 
 -- cards take no more bytes than the text has that they are read from
@@ -96,7 +97,8 @@ first-size : (c : List ℕ) (cs : List (List ℕ)) → (1 ≤ size (firstGroup (
 first-size c [] = (omega arith, omega arith)
 first-size c (d ∷ ds) = by (opens (d ∷ ds)) (groupsOf (d ∷ ds)) (first-size d ds .1)
   where
-    by : (b : Bool) (gs : List (List (List ℕ))) → size (getD gs 0 []) ≤ size (d ∷ ds) → (1 ≤ size (getD (ontoGroup c b gs) 0 [])) × (size (getD (ontoGroup c b gs) 0 []) ≤ length c + 1 + size (d ∷ ds))
+    by : (b : Bool) (gs : List (List (List ℕ))) → size (getD gs 0 []) ≤ size (d ∷ ds)
+        → (1 ≤ size (getD (ontoGroup c b gs) 0 [])) × (size (getD (ontoGroup c b gs) 0 []) ≤ length c + 1 + size (d ∷ ds))
     by true gs h = (omega arith, omega arith)
     by false [] h = (omega arith, omega arith)
     by false (g ∷ gs) h = (omega arith, omega arith)
@@ -145,7 +147,8 @@ before-front : (cs : List (List ℕ)) → cs ≡ before cs ++ drop (length (befo
 before-front [] = refl
 before-front (c ∷ cs) = test (isTermination c) (before-front cs)
   where
-    test : (x : Bool) → cs ≡ before cs ++ drop (length (before cs)) cs → c ∷ cs ≡ cond x [] (c ∷ before cs) ++ drop (length (cond x [] (c ∷ before cs))) (c ∷ cs)
+    test : (x : Bool) → cs ≡ before cs ++ drop (length (before cs)) cs
+        → c ∷ cs ≡ cond x [] (c ∷ before cs) ++ drop (length (cond x [] (c ∷ before cs))) (c ∷ cs)
     test true ih = refl
     test false ih = ap (λ (l : List (List ℕ)). c ∷ l) ih
 
@@ -154,7 +157,9 @@ size-before : (cs : List (List ℕ)) → terminated cs ≡ true → size (before
 size-before [] t = never t refl
 size-before (c ∷ cs) t = by (isTermination c) refl t (size-before cs)
   where
-    by : (x : Bool) → isTermination c ≡ x → cond x true (terminated cs) ≡ true → (terminated cs ≡ true → size (before cs) + (cardLength + 1) ≤ size cs) → size (cond x [] (c ∷ before cs)) + (cardLength + 1) ≤ length c + 1 + size cs
+    by : (x : Bool) → isTermination c ≡ x → cond x true (terminated cs) ≡ true
+        → (terminated cs ≡ true → size (before cs) + (cardLength + 1) ≤ size cs)
+        → size (cond x [] (c ∷ before cs)) + (cardLength + 1) ≤ length c + 1 + size cs
     by true e t h = let l : length c ≡ cardLength = ap length (same-equal c termination e) in omega arith
     by false e t h = omega (arith, h t)
 

@@ -50,7 +50,8 @@ module _ (cut : ℕ) (s : List ℕ) (from : ℕ) (len : ℕ) (is : len ≡ lengt
   piece-none zero f h e = absurd (omega arith)
   piece-none (suc k) f h e = rw (pieces-last cut (drop from s) (omega (arith, long, length-drop from s))) (no-card k)
 
-  pub piece-next : (k : ℕ) → from ≤ length s → 0 < k → (len ≡ length s - from → ⊥) → getD (pieces cut (drop (from + len + 1) s)) (k - 1) [] ≡ getD (pieces cut (drop from s)) k []
+  pub piece-next : (k : ℕ) → from ≤ length s → 0 < k → (len ≡ length s - from → ⊥)
+      → getD (pieces cut (drop (from + len + 1) s)) (k - 1) [] ≡ getD (pieces cut (drop from s)) k []
   piece-next zero f h n = absurd (omega arith)
   piece-next (suc k) f h n =
       let m : length (leading (isnt cut) (drop from s)) < length (drop from s) = omega (arith, long, piece-within f, length-drop from s) in
@@ -80,7 +81,8 @@ module _ (cut : ℕ) (s : List ℕ) (i : ℕ) where
   cut-here h e = rw (drop-step s i h, eq-eqb (getD s i 0) cut e) (omega arith)
 
   pub cut-later : i < length s → (getD s i 0 ≡ cut → ⊥) → length (pieces cut (drop i s)) ≡ length (pieces cut (drop (i + 1) s))
-  cut-later h n = rw (drop-step s i h, ne-eqb (getD s i 0) cut n) (onto-length (getD s i 0) (pieces cut (drop (i + 1) s)) (pieces-some cut (drop (i + 1) s)))
+  cut-later h n =
+      rw (drop-step s i h, ne-eqb (getD s i 0) cut n) (onto-length (getD s i 0) (pieces cut (drop (i + 1) s)) (pieces-some cut (drop (i + 1) s)))
 
   pub cut-end : length s ≤ i → length (pieces cut (drop i s)) ≡ 1
   cut-end h = rw (drop-of-length-le s h)
@@ -94,7 +96,8 @@ pub before-period : (s : List ℕ) (n : ℕ) → n ≡ length (leading (isnt 46)
 before-period s n e = rw e (leading-front (isnt 46) s) ∙ sym (up-to s)
 
 -- gathered byte by byte
-pub gather-step : (s : List ℕ) (i : ℕ) (f : Field) → i < length s → addedAll (pushed f (getD s i 0)) (spaceless (drop (i + 1) s)) ≡ addedAll f (spaceless (drop i s))
+pub gather-step : (s : List ℕ) (i : ℕ) (f : Field) → i < length s
+    → addedAll (pushed f (getD s i 0)) (spaceless (drop (i + 1) s)) ≡ addedAll f (spaceless (drop i s))
 gather-step s i f h = rw (drop-step s i h) (by-bool (eqb (getD s i 0) 32) (λ e. rw e) (λ e. rw e))
 
 pub gather-end : (s : List ℕ) (i : ℕ) (f : Field) → length s ≤ i → addedAll f (spaceless (drop i s)) ≡ f

@@ -67,7 +67,8 @@ module _ (cut : ℕ) where
   joined-pieces [] = refl
   joined-pieces (b ∷ s) =
       by-bool (eqb b cut)
-      (λ e. rw e (fronted (pieces cut s) (pieces-some cut s) ∙ ap (λ (l : List ℕ). cut ∷ l) (joined-pieces s) ∙ ap (λ (x : ℕ). x ∷ s) (sym (eqb-true b cut e))))
+      (λ e. rw e (fronted (pieces cut s) (pieces-some cut s) ∙ ap (λ (l : List ℕ). cut ∷ l) (joined-pieces s)
+      ∙ ap (λ (x : ℕ). x ∷ s) (sym (eqb-true b cut e))))
       (λ e. rw e (grown (pieces cut s) (pieces-some cut s) ∙ ap (λ (l : List ℕ). b ∷ l) (joined-pieces s)))
     where
       fronted : (ps : List (List ℕ)) → 1 ≤ length ps → joined ([] ∷ ps) ≡ cut ∷ joined ps
@@ -97,7 +98,9 @@ named t h =
 -- a number has no more digits than the text that it was read from
 pub digits-few : (s : List ℕ) → every isDigit s ≡ true → 1 ≤ length s → length (decimalText (value s)) ≤ length s
 digits-few [] d h = absurd (omega arith)
-digits-few (b ∷ s) d h = few-digits (length s) (value (b ∷ s)) (subst (λ (n : ℕ). value (b ∷ s) < n) (tens-is (suc (length s))) (value-below (suc (length s)) (b ∷ s) d (omega arith)))
+digits-few (b ∷ s) d h =
+    few-digits (length s) (value (b ∷ s))
+    (subst (λ (n : ℕ). value (b ∷ s) < n) (tens-is (suc (length s))) (value-below (suc (length s)) (b ∷ s) d (omega arith)))
   where
     tens-is : (k : ℕ) → tens k ≡ 10 ^ k
     tens-is zero = refl

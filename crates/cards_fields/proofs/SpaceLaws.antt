@@ -59,7 +59,8 @@ module _ (cut : ℕ) (n : eqb 32 cut ≡ false) where
       (λ e. let i = eqb-true b 32 e in rw (i, n) (leading-spaceless s))
       (λ e. rw e (by-bool (eqb b cut) (λ f. rw f) (λ f. rw (f, e) (ap (λ (l : List ℕ). b ∷ l) (leading-spaceless s)))))
 
-  pub behind-spaceless : (s : List ℕ) → drop (suc (length (leading (isnt cut) (spaceless s)))) (spaceless s) ≡ spaceless (drop (suc (length (leading (isnt cut) s))) s)
+  pub behind-spaceless : (s : List ℕ)
+      → drop (suc (length (leading (isnt cut) (spaceless s)))) (spaceless s) ≡ spaceless (drop (suc (length (leading (isnt cut) s))) s)
   behind-spaceless [] = refl
   behind-spaceless (b ∷ s) =
       by-bool (eqb b 32)
@@ -73,7 +74,8 @@ getD-spaceless (p ∷ ps) zero = refl
 getD-spaceless (p ∷ ps) (suc k) = getD-spaceless ps k
 
 -- THE PIECE AT AN INDEX
-pub piece-spaceless : (cut : ℕ) → eqb 32 cut ≡ false → (s : List ℕ) (k : ℕ) → getD (pieces cut (spaceless s)) k [] ≡ spaceless (getD (pieces cut s) k [])
+pub piece-spaceless : (cut : ℕ) → eqb 32 cut ≡ false → (s : List ℕ) (k : ℕ)
+    → getD (pieces cut (spaceless s)) k [] ≡ spaceless (getD (pieces cut s) k [])
 piece-spaceless cut n s k = ap (λ (ps : List (List ℕ)). getD ps k []) (pieces-spaceless cut n s) ∙ getD-spaceless (pieces cut s) k
 
 -- A FIELD as it stands on its card, without its spaces
@@ -91,4 +93,5 @@ count-spaceless cut n s = ap (length {A = List ℕ}) (pieces-spaceless cut n s) 
 
 -- THE FIELDS FROM ONE ON: the first of them, as it stands on its card, and those behind it
 pub fields-step : (card : List ℕ) (k : ℕ) → k < length (fields card) → drop k (fields card) ≡ spaceless (rawField card k) ∷ drop (k + 1) (fields card)
-fields-step card k h = rw (add-one k) (drop-cons (fields card) k [] h) ∙ ap (λ (t : List ℕ). t ∷ drop (k + 1) (fields card)) (sym (raw-spaceless card k))
+fields-step card k h =
+    rw (add-one k) (drop-cons (fields card) k [] h) ∙ ap (λ (t : List ℕ). t ∷ drop (k + 1) (fields card)) (sym (raw-spaceless card k))

@@ -18,4 +18,5 @@ pub fourteen-in : (v : FullRequest) (vs : List Val) → Is T.the-row v vs → le
 fourteen-in v vs g = fourteen (v .further) _ (LL.owed T.the-type T′.the-laws v vs g .1 .0)
 
 pub six-in : (v : FullRequest) (vs : List Val) → Is T.the-row v vs → length (v .request .id) ≡ 6
-six-in v vs g = sym (length-map (v .request .id) _) ∙ LL.owed R.the-type R′.the-laws (v .request) _ (LL.owed T.the-type T′.the-laws v vs g .0) .0 .1 .0 .1
+six-in v vs g =
+    sym (length-map (v .request .id) _) ∙ LL.owed R.the-type R′.the-laws (v .request) _ (LL.owed T.the-type T′.the-laws v vs g .0) .0 .1 .0 .1

@@ -47,8 +47,10 @@ module _ (id : List ℕ) (cards : List FurtherCard) (n : ℕ) (w : n ≤ length 
   abbrev pub lines-left : ℕ → List ℕ
   lines-left k = linesText (behindId id (textsIn (drop k (take n cards))))
 
-  pub lines-turn : i < n → {room₀ whole room out : List ℕ} {at₀ at next : ℕ} → Going room₀ at₀ whole room at (linesText (behindId id (textsIn (drop i (take n cards)))))
-      → Written room at (cardLine id (getD cards i past)) out next → Going room₀ at₀ whole out next (linesText (behindId id (textsIn (drop (i + 1) (take n cards)))))
+  pub lines-turn : i < n → {room₀ whole room out : List ℕ} {at₀ at next : ℕ}
+      → Going room₀ at₀ whole room at (linesText (behindId id (textsIn (drop i (take n cards)))))
+      → Written room at (cardLine id (getD cards i past)) out next
+      → Going room₀ at₀ whole out next (linesText (behindId id (textsIn (drop (i + 1) (take n cards)))))
   lines-turn h g p = turn (rw (cards-step cards n w i past h) at g) p
 
   pub lines-end : n ≤ i → linesText (behindId id (textsIn (drop i (take n cards)))) ≡ []
@@ -56,15 +58,18 @@ module _ (id : List ℕ) (cards : List FurtherCard) (n : ℕ) (w : n ≤ length 
 
   -- whether each has at most 80 characters
   module _ (before len : ℕ) (b : before ≡ length id + 1) (l : len ≡ length (textOf (getD cards i past))) (h : i < n) where
-    here : short (behindId id (textsIn (drop i (take n cards)))) ≡ leb (before + len) cardLength && short (behindId id (textsIn (drop (i + 1) (take n cards))))
+    here : short (behindId id (textsIn (drop i (take n cards))))
+        ≡ leb (before + len) cardLength && short (behindId id (textsIn (drop (i + 1) (take n cards))))
     here =
-        let c : length (id ++ (byte "," ∷ textOf (getD cards i past))) ≡ before + len = omega (arith, length-append id (byte "," ∷ textOf (getD cards i past))) in
+        let c : length (id ++ (byte "," ∷ textOf (getD cards i past))) ≡ before + len =
+        omega (arith, length-append id (byte "," ∷ textOf (getD cards i past))) in
         rw (cards-step cards n w i past h, c)
 
     pub short-long : before ≤ cardLength → cardLength - before < len → short (behindId id (textsIn (drop i (take n cards)))) ≡ false
     short-long m g = here ∙ rw (lt-leb (before + len) cardLength (omega arith))
 
-    pub short-on : before ≤ cardLength → len ≤ cardLength - before → short (behindId id (textsIn (drop i (take n cards)))) ≡ short (behindId id (textsIn (drop (i + 1) (take n cards))))
+    pub short-on : before ≤ cardLength → len ≤ cardLength - before
+        → short (behindId id (textsIn (drop i (take n cards)))) ≡ short (behindId id (textsIn (drop (i + 1) (take n cards))))
     short-on m g = here ∙ rw (le-leb (before + len) cardLength (omega arith))
 
   pub short-end : n ≤ i → short (behindId id (textsIn (drop i (take n cards)))) ≡ true
@@ -79,7 +84,9 @@ id-few f id e h = omega (arith, ap (λ (x : Field). x .len) e, spaceless-short i
 -- two values' cards, one by one
 module _ (cs ds : List FurtherCard) (i : ℕ) (h : i < length cs) (g : i < length ds) (b : Bool)
     (is : b ≡ (eqb (getD cs i past .len) (getD ds i past .len) && same (getD cs i past .text) (getD ds i past .text))) where
-  step : sameCards (drop i cs) (drop i ds) ≡ eqb (getD cs i past .len) (getD ds i past .len) && (same (getD cs i past .text) (getD ds i past .text) && sameCards (drop (i + 1) cs) (drop (i + 1) ds))
+  step : sameCards (drop i cs) (drop i ds)
+      ≡ eqb (getD cs i past .len) (getD ds i past .len)
+      && (same (getD cs i past .text) (getD ds i past .text) && sameCards (drop (i + 1) cs) (drop (i + 1) ds))
   step = rw (add-one i, drop-cons cs i past h, drop-cons ds i past g)
 
   both-tests : (x y z : Bool) → x && (y && z) ≡ (x && y) && z
@@ -88,7 +95,8 @@ module _ (cs ds : List FurtherCard) (i : ℕ) (h : i < length cs) (g : i < lengt
 
   here-and : sameCards (drop i cs) (drop i ds) ≡ b && sameCards (drop (i + 1) cs) (drop (i + 1) ds)
   here-and =
-      step ∙ both-tests (eqb (getD cs i past .len) (getD ds i past .len)) (same (getD cs i past .text) (getD ds i past .text)) (sameCards (drop (i + 1) cs) (drop (i + 1) ds))
+      step ∙ both-tests (eqb (getD cs i past .len) (getD ds i past .len)) (same (getD cs i past .text) (getD ds i past .text))
+      (sameCards (drop (i + 1) cs) (drop (i + 1) ds))
       ∙ ap (λ (x : Bool). x && sameCards (drop (i + 1) cs) (drop (i + 1) ds)) (sym is)
 
   pub same-other : b ≡ false → sameCards (drop i cs) (drop i ds) ≡ false
@@ -110,12 +118,18 @@ line-put c n e {room} {after = after} {id = id} {at = at} {next = next} w₁ w�
     (ap (λ (x : List ℕ). id ++ (44 ∷ (x ++ (10 ∷ [])))) e ∙ sym (append-assoc id (44 ∷ textOf c) (10 ∷ []))) w
 
 -- the further cards without an ID, as they stand in their room of 1,120 bytes
-bare-few : (ts : List (List ℕ)) (m : ℕ) → length ts ≤ m → ((k : ℕ) → length (getD ts k []) ≤ textLength) → length (linesText (behindId [] ts)) ≤ cardLength * m
+bare-few : (ts : List (List ℕ)) (m : ℕ) → length ts ≤ m → ((k : ℕ) → length (getD ts k []) ≤ textLength)
+    → length (linesText (behindId [] ts)) ≤ cardLength * m
 bare-few [] m h g = omega arith
 bare-few (t ∷ ts) zero h g = absurd (omega arith)
 bare-few (t ∷ ts) (suc m) h g =
     let a : length t ≤ textLength = g 0 in
-    omega (arith, bare-few ts m (omega arith) (λ k. g (suc k)), length-append (lineText (byte "," ∷ t)) (linesText (behindId [] ts)), length-append t (10 ∷ []))
+    omega (
+      arith,
+      bare-few ts m (omega arith) (λ k. g (suc k)),
+      length-append (lineText (byte "," ∷ t)) (linesText (behindId [] ts)),
+      length-append t (10 ∷ []),
+    )
 
 texts-few : (cs : List FurtherCard) → ((c : ℕ) → length (getD cs c past .text) ≤ textLength) → (k : ℕ) → length (getD (textsIn cs) k []) ≤ textLength
 texts-few [] g zero = omega arith
@@ -123,7 +137,8 @@ texts-few [] g (suc k) = omega arith
 texts-few (c ∷ cs) g zero = omega (arith, g 0, length-take (c .len) (c .text))
 texts-few (c ∷ cs) g (suc k) = texts-few cs (λ j. g (suc j)) k
 
-taken-78 : (n : ℕ) (cs : List FurtherCard) → ((c : ℕ) → length (getD cs c past .text) ≤ textLength) → (c : ℕ) → length (getD (take n cs) c past .text) ≤ textLength
+taken-78 : (n : ℕ) (cs : List FurtherCard) → ((c : ℕ) → length (getD cs c past .text) ≤ textLength) → (c : ℕ)
+    → length (getD (take n cs) c past .text) ≤ textLength
 taken-78 zero cs g zero = omega arith
 taken-78 zero cs g (suc c) = omega arith
 taken-78 (suc n) [] g zero = omega arith
@@ -132,11 +147,13 @@ taken-78 (suc n) (x ∷ cs) g zero = g 0
 taken-78 (suc n) (x ∷ cs) g (suc c) = taken-78 n cs (λ j. g (suc j)) c
 
 -- read without an ID: they stand in the room whole
-module _ (f : Further) (l : length (f .cards) ≡ mostFurther) (w : (c : ℕ) → length (getD (f .cards) c past .text) ≤ textLength) {after : List ℕ} {n : ℕ}
+module _ (f : Further) (l : length (f .cards) ≡ mostFurther) (w : (c : ℕ) → length (getD (f .cards) c past .text) ≤ textLength) {after : List ℕ}
+    {n : ℕ}
     (p : Written (replicate (mostFurther * (textLength + 2)) 0) 0 (linesText (behindId [] (texts f))) after n) where
   whole : take n after ≡ linesText (behindId [] (texts f))
   whole =
-      let b = bare-few (texts f) mostFurther (omega (arith, texts-many (f .count) (f .cards))) (texts-few (take (f .count) (f .cards)) (taken-78 (f .count) (f .cards) w)) in
+      let b = bare-few (texts f) mostFurther (omega (arith, texts-many (f .count) (f .cards)))
+      (texts-few (take (f .count) (f .cards)) (taken-78 (f .count) (f .cards) w)) in
       put-whole (mostFurther * (textLength + 2)) p (omega arith) .1
 
   cards-are : cardsOf (take n after) ≡ bare f
@@ -156,10 +173,12 @@ module _ (f : Further) (l : length (f .cards) ≡ mostFurther) (w : (c : ℕ) �
     pub not-counted : (again .count ≡ f .count → ⊥) → false ≡ takesFurther f
     unfolding takesFurther
     not-counted e =
-        let c : eqb (held (canonicals (bare f)) .count) (f .count) ≡ false = ne-eqb (held (canonicals (bare f)) .count) (f .count) (λ q. e (counted ∙ q)) in
+        let c : eqb (held (canonicals (bare f)) .count) (f .count) ≡ false =
+        ne-eqb (held (canonicals (bare f)) .count) (f .count) (λ q. e (counted ∙ q)) in
         by-bool (good (furtherError (bare f))) (λ t. rw (t, c)) (λ t. rw t)
 
-    pub compared : good (furtherError (cardsOf (take n after))) ≡ true → again .count ≡ f .count → (r : Bool) → r ≡ sameCards (again .cards) (f .cards) → r ≡ takesFurther f
+    pub compared : good (furtherError (cardsOf (take n after))) ≡ true → again .count ≡ f .count → (r : Bool)
+        → r ≡ sameCards (again .cards) (f .cards) → r ≡ takesFurther f
     unfolding takesFurther
     compared e q r h =
         let g : good (furtherError (bare f)) ≡ true = ap (λ (cs : List (List ℕ)). good (furtherError cs)) (sym cards-are) ∙ e in

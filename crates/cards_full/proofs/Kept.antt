@@ -21,10 +21,12 @@ use Rattle.cards_fields.specs.Fields.{field, fields, spaceless, padded, malform
 use Rattle.cards_fields.proofs.FieldLaws.{padded-length}
 use Rattle.cards_request.specs.Errors.{good, errorIf, orElse}
 use Rattle.cards_request.proofs.ErrorLaws.{or-else-none}
-use Rattle.cards_pty.specs.Pty.{rules, ruleAt, sequenceText, letterOf, precedenceText, sequenceGood, precedence, precedenceGood, lastOfAll, ranked, priorityOf, fieldError, fieldsError, ptyError}
+use Rattle.cards_pty.specs.Pty.{rules, ruleAt, sequenceText, letterOf, precedenceText, sequenceGood, precedence}
+use Rattle.cards_pty.specs.Pty.{precedenceGood, lastOfAll, ranked, priorityOf, fieldError, fieldsError, ptyError}
 use Rattle.cards_pty.proofs.PtyLaws.{right-at, good-field, right, fields-good}
 use Rattle.cards_pty.proofs.PriorityLaws.{rank-good}
-use Rattle.cards_fac.specs.Fac.{codeOf, slotOf, most, numberText, nothing, formError, entryError, entered, entriesError, allEntered, coreError, facilitiesOf, asksOf, facError, entriesOf, asked}
+use Rattle.cards_fac.specs.Fac.{codeOf, slotOf, most, numberText, nothing, formError, entryError, entered, entriesError}
+use Rattle.cards_fac.specs.Fac.{allEntered, coreError, facilitiesOf, asksOf, facError, entriesOf, asked}
 use Rattle.cards_fac.proofs.EntryLaws.{good-number, number-below, small-number}
 use Rattle.cards_group.specs.Group.{mark, requestOf}
 use Rattle.cards_request.specs.declared.CardError.the-variants.{WrongEntry, FacMalformed}
@@ -79,7 +81,8 @@ sequence-low t g = by-bool (isLetter (getD t 0 0)) (λ e. rw e (omega arith)) (�
   where
     written : isLetter (getD t 0 0) ≡ false → value (sequenceText t) < 64
     written e =
-        let p = both (every isDigit (sequenceText t)) (isLetter (getD t 0 0) || (leb 1 (value (sequenceText t)) && leb (value (sequenceText t)) 63)) g in
+        let p = both (every isDigit (sequenceText t))
+        (isLetter (getD t 0 0) || (leb 1 (value (sequenceText t)) && leb (value (sequenceText t)) 63)) g in
         let o : leb 1 (value (take 2 t)) && leb (value (take 2 t)) 63 ≡ true = rw e at (p .1) in
         let m = leb-true (value (take 2 t)) 63 (both (leb 1 (value (take 2 t))) (leb (value (take 2 t)) 63) o .1) in
         rw e (omega arith)
@@ -151,11 +154,13 @@ pub more : {v w : CardVerdict} → v ≡ Good → w ≡ Good → orElse v w ≡ 
 more e g = rw e g
 
 -- the text of a good priority is a good field
-pub priority-text : (q l p : ℕ) → q < 64 → p < 64 → isLetter l ≡ true → lastOfAll l p ≡ false → fieldError 9 (ruleAt 9) (cond (eqb q 0) [] (twoText q) ++ (l ∷ twoText p)) ≡ Good
+pub priority-text : (q l p : ℕ) → q < 64 → p < 64 → isLetter l ≡ true → lastOfAll l p ≡ false
+    → fieldError 9 (ruleAt 9) (cond (eqb q 0) [] (twoText q) ++ (l ∷ twoText p)) ≡ Good
 unfolding rules
 priority-text q l p hq hp hl z =
     right 9 (ruleAt 9) (cond (eqb q 0) [] (twoText q) ++ (l ∷ twoText p)) (sizes .0) (sizes .1)
-    (ap (λ (x : Priority). x .good) (priority-ranked q l p hq hp hl ∙ rank-good q l (twoText p) hl (omega arith) (two-digits p (omega arith)) p (sym (two-back p)) (omega arith) z))
+    (ap (λ (x : Priority). x .good) (priority-ranked q l p hq hp hl
+    ∙ rank-good q l (twoText p) hl (omega arith) (two-digits p (omega arith)) p (sym (two-back p)) (omega arith) z))
   where
     sizes : (1 ≤ length (cond (eqb q 0) [] (twoText q) ++ (l ∷ twoText p))) × (length (cond (eqb q 0) [] (twoText q) ++ (l ∷ twoText p)) ≤ 5)
     sizes = by-bool (eqb q 0) (λ e. rw e (omega arith, omega arith)) (λ e. rw e (omega arith, omega arith))
@@ -170,9 +175,11 @@ pub count-text : (n : ℕ) → n ≤ 99 → fieldError 2 (ruleAt 2) (decimalText
 unfolding rules
 count-text n h = right 2 (ruleAt 2) (decimalText n) (omega (arith, number-some n)) (few-digits 1 n (omega arith)) (number-digits n)
 
-module _ (n : ℕ) (few : n ≤ 99) (pty asks : List ℕ) (e : fieldsError (fields pty) ≡ Good) (f : numbersFit 0 asks ≡ true) (c : coreError asks ≡ Good) where
+module _ (n : ℕ) (few : n ≤ 99) (pty asks : List ℕ) (e : fieldsError (fields pty) ≡ Good) (f : numbersFit 0 asks ≡ true)
+    (c : coreError asks ≡ Good) where
   -- what its rule says of each field
-  rule-of : (k : ℕ) → k < 14 → (ruleAt k .least ≤ length (field pty k)) × ((length (field pty k) ≤ ruleAt k .most) × (ruleAt k .content (field pty k) ≡ true))
+  rule-of : (k : ℕ) → k < 14 → (ruleAt k .least ≤ length (field pty k))
+      × ((length (field pty k) ≤ ruleAt k .most) × (ruleAt k .content (field pty k) ≡ true))
   rule-of k h = good-field k (ruleAt k) (field pty k) (right-at (fields pty) e k h)
 
   -- a text that is the field again is right again
@@ -212,17 +219,25 @@ module _ (n : ℕ) (few : n ≤ 99) (pty asks : List ℕ) (e : fieldsError (fiel
       more (again 0 (omega arith) (spaceless (padded 6 (field pty 0))) (unpadded 6 (field pty 0) id-plain (rule-of 0 (omega arith) .1 .0)))
       (more refl
       (more (count-text n few)
-      (more (again 3 (omega arith) (markText (mark (field pty 3))) (mark-again (field pty 3) (listed (bytes "S") (field pty 3) refl (rule-of 3 (omega arith) .1 .1)) (rule-of 3 (omega arith) .1 .0)))
-      (more (again 4 (omega arith) (spaceless (padded 12 (field pty 4))) (unpadded 12 (field pty 4) program-plain (rule-of 4 (omega arith) .1 .0)))
-      (more (again 5 (omega arith) (markText (mark (field pty 5))) (mark-again (field pty 5) (listed (bytes "I") (field pty 5) refl (rule-of 5 (omega arith) .1 .1)) (rule-of 5 (omega arith) .1 .0)))
-      (more (again 6 (omega arith) (markText (mark (field pty 6))) (mark-again (field pty 6) (listed (bytes "TAC") (field pty 6) refl (rule-of 6 (omega arith) .1 .1)) (rule-of 6 (omega arith) .1 .0)))
+      (more (again 3 (omega arith) (markText (mark (field pty 3)))
+      (mark-again (field pty 3) (listed (bytes "S") (field pty 3) refl (rule-of 3 (omega arith) .1 .1)) (rule-of 3 (omega arith) .1 .0)))
+      (more
+      (again 4 (omega arith) (spaceless (padded 12 (field pty 4))) (unpadded 12 (field pty 4) program-plain (rule-of 4 (omega arith) .1 .0)))
+      (more (again 5 (omega arith) (markText (mark (field pty 5)))
+      (mark-again (field pty 5) (listed (bytes "I") (field pty 5) refl (rule-of 5 (omega arith) .1 .1)) (rule-of 5 (omega arith) .1 .0)))
+      (more (again 6 (omega arith) (markText (mark (field pty 6)))
+      (mark-again (field pty 6) (listed (bytes "TAC") (field pty 6) refl (rule-of 6 (omega arith) .1 .1)) (rule-of 6 (omega arith) .1 .0)))
       (more (again 7 (omega arith) (spaceless (padded 6 (field pty 7))) (unpadded 6 (field pty 7) medium-plain (rule-of 7 (omega arith) .1 .0)))
-      (more (again 8 (omega arith) (markText (mark (field pty 8))) (mark-again (field pty 8) (listed (bytes "SP") (field pty 8) refl (rule-of 8 (omega arith) .1 .1)) (rule-of 8 (omega arith) .1 .0)))
+      (more (again 8 (omega arith) (markText (mark (field pty 8)))
+      (mark-again (field pty 8) (listed (bytes "SP") (field pty 8) refl (rule-of 8 (omega arith) .1 .1)) (rule-of 8 (omega arith) .1 .0)))
       (more (priority-text (r .sequence) (r .letter) (r .precedence) (rank .sequence) (rank .precedence) (rank .letter) (rank .last))
-      (more (again 10 (omega arith) (markText (mark (field pty 10))) (mark-again (field pty 10) (listed (bytes "PC") (field pty 10) refl (rule-of 10 (omega arith) .1 .1)) (rule-of 10 (omega arith) .1 .0)))
+      (more (again 10 (omega arith) (markText (mark (field pty 10)))
+      (mark-again (field pty 10) (listed (bytes "PC") (field pty 10) refl (rule-of 10 (omega arith) .1 .1)) (rule-of 10 (omega arith) .1 .0)))
       (more (minutes-text (value (field pty 11)) minutes)
-      (more (again 12 (omega arith) (markText (mark (field pty 12))) (mark-again (field pty 12) (listed (bytes "TACZ") (field pty 12) refl (rule-of 12 (omega arith) .1 .1)) (rule-of 12 (omega arith) .1 .0)))
-      (more (again 13 (omega arith) (spaceless (padded 6 (field pty 13))) (unpadded 6 (field pty 13) library-plain (rule-of 13 (omega arith) .1 .0)))
+      (more (again 12 (omega arith) (markText (mark (field pty 12)))
+      (mark-again (field pty 12) (listed (bytes "TACZ") (field pty 12) refl (rule-of 12 (omega arith) .1 .1)) (rule-of 12 (omega arith) .1 .0)))
+      (more
+      (again 13 (omega arith) (spaceless (padded 6 (field pty 13))) (unpadded 6 (field pty 13) library-plain (rule-of 13 (omega arith) .1 .0)))
       refl)))))))))))))
 
   pub request-taken : takes n r ≡ true
@@ -248,7 +263,8 @@ module _ (n : ℕ) (few : n ≤ 99) (pty asks : List ℕ) (e : fieldsError (fiel
 pub read-taken : (n : ℕ) → n ≤ 99 → (pty fac : List ℕ) → ptyError pty ≡ Good → facError fac ≡ Good → takes n (requestOf pty (asked fac)) ≡ true
 unfolding facError
 read-taken n few pty fac p f =
-    let m = or-else-none (errorIf (malformed fac) FacMalformed) (orElse (entriesError nothing (entriesOf fac)) (orElse (coreError (asked fac)) Good)) f .1 in
+    let m = or-else-none (errorIf (malformed fac) FacMalformed)
+    (orElse (entriesError nothing (entriesOf fac)) (orElse (coreError (asked fac)) Good)) f .1 in
     let s = or-else-none (entriesError nothing (entriesOf fac)) (orElse (coreError (asked fac)) Good) m in
     let c = or-else-none (coreError (asked fac)) Good (s .1) .0 in
     request-taken n few pty (asked fac) (fields-good pty p) (fit-all nothing (entriesOf fac) refl (s .0)) c

@@ -27,7 +27,8 @@ use Rattle.cards_group.specs.Group.{mark, requestOf}
 use Rattle.cards_pty.specs.declared.Priority.{Priority}
 use Rattle.cards_request.specs.declared.Request.{Request}
 use Rattle.cards_request.specs.declared.CardVerdict.the-variants.{Good}
-use Rattle.cards_writing.specs.Writing.{priorityText, markText, ptyFields, trimmed, facFields, ptyText, facText, formed, numbersFit, namesFormed, rangesGood, takes}
+use Rattle.cards_writing.specs.Writing.{priorityText, markText, ptyFields, trimmed, facFields, ptyText, facText}
+use Rattle.cards_writing.specs.Writing.{formed, numbersFit, namesFormed, rangesGood, takes}
 use Rattle.cards_writing.proofs.PutLaws.{trimmed-at, some-written}
 use Rattle.cards_fields.proofs.CardLaws.{plain, AllPlain, fields-back, card-good, card-line, alnum-plain, digit-plain, number-back, number-digits}
 use Rattle.cards_writing.proofs.Back.{trimmed-plain, trimmed-few, trimmed-error, listed, named, name-back, priority-back, priority-plain}
@@ -53,9 +54,13 @@ pub record Taken (n : ℕ) (r : Request) : Type 0 where
 pub taken : (n : ℕ) (r : Request) → takes n r ≡ true → Taken n r
 unfolding takes
 taken n r t =
-    let a = both (namesFormed r) (rangesGood r && (good (fieldsError (ptyFields n r)) && (numbersFit 0 (asksOf (r .facilities)) && good (coreError (asksOf (r .facilities)))))) t in
-    let b = both (rangesGood r) (good (fieldsError (ptyFields n r)) && (numbersFit 0 (asksOf (r .facilities)) && good (coreError (asksOf (r .facilities))))) (a .1) in
-    let c = both (good (fieldsError (ptyFields n r))) (numbersFit 0 (asksOf (r .facilities)) && good (coreError (asksOf (r .facilities)))) (b .1) in
+    let a = both (namesFormed r)
+    (rangesGood r && (good (fieldsError (ptyFields n r)) && (numbersFit 0 (asksOf (r .facilities)) && good (coreError (asksOf (r .facilities))))))
+    t in
+    let b = both (rangesGood r)
+    (good (fieldsError (ptyFields n r)) && (numbersFit 0 (asksOf (r .facilities)) && good (coreError (asksOf (r .facilities))))) (a .1) in
+    let c = both (good (fieldsError (ptyFields n r)))
+    (numbersFit 0 (asksOf (r .facilities)) && good (coreError (asksOf (r .facilities)))) (b .1) in
     let d = both (numbersFit 0 (asksOf (r .facilities))) (good (coreError (asksOf (r .facilities)))) (c .1) in
     let n₁ = both (formed 6 (r .id)) (formed 12 (r .program) && (formed 6 (r .medium) && formed 6 (r .library))) (a .0) in
     let n₂ = both (formed 12 (r .program)) (formed 6 (r .medium) && formed 6 (r .library)) (n₁ .1) in
@@ -168,7 +173,8 @@ module _ (n : ℕ) (r : Request) (t : Taken n r) where
   pub pty-right : length (ptyText n r) ≤ cardLength → ptyError (ptyText n r) ≡ Good
   unfolding ptyText
   pty-right h =
-      pty-fields (ptyText n r) is-pty (card-form kept some-kept (trimmed-plain (ptyFields n r) pty-plain) h) (omega (arith, ap (length {A = List ℕ}) pty-fields-are, trimmed-few (ptyFields n r), fourteen))
+      pty-fields (ptyText n r) is-pty (card-form kept some-kept (trimmed-plain (ptyFields n r) pty-plain) h)
+      (omega (arith, ap (length {A = List ℕ}) pty-fields-are, trimmed-few (ptyFields n r), fourteen))
       ∙ ap fieldsError pty-fields-are ∙ trimmed-error 0 rules (ptyFields n r) ∙ t .fields
 
   -- THE FAC CARD
@@ -214,7 +220,8 @@ module _ (n : ℕ) (r : Request) (t : Taken n r) where
   pub request-back : requestOf (ptyText n r) (asked (facText r)) ≡ r
   unfolding ptyFields priorityText rules
   request-back =
-      let p = ap priorityOf (at 9) ∙ priority-back (r .sequence) (r .letter) (r .precedence) (t .sequence) (t .precedence) (t .letter) (content 9 (omega arith)) in
+      let p = ap priorityOf (at 9) ∙ priority-back (r .sequence) (r .letter) (r .precedence) (t .sequence) (t .precedence) (t .letter)
+      (content 9 (omega arith)) in
       let a₀ = ap (padded 6) (at 0) ∙ name-back 6 (r .id) (t .id) in
       let a₃ = ap mark (at 3) ∙ mark-back (r .rush) in
       let a₄ = ap (padded 12) (at 4) ∙ name-back 12 (r .program) (t .program) in

@@ -70,7 +70,12 @@ module _ (v : FullRequest) (room : List ℕ) where
 
         pub fac-long : cardLength < f → (Refused NoRoom ≡ writeAnswer v (length room)) × (room ≡ written v room)
         unfolding fits cardsIn
-        fac-long h = let e = put-reached (cardLength + 1) wf in not-fit (rw (le-leb (length (ptyText n (v .request))) cardLength pty-is, lt-leb (length (facText (v .request))) cardLength (omega arith)))
+        fac-long h =
+            let e = put-reached (cardLength + 1) wf in
+            not-fit (rw (
+              le-leb (length (ptyText n (v .request))) cardLength pty-is,
+              lt-leb (length (facText (v .request))) cardLength (omega arith),
+            ))
 
         module _ (hf : f ≤ cardLength) where
           fac-is : length (facText (v .request)) ≤ cardLength
@@ -78,11 +83,23 @@ module _ (v : FullRequest) (room : List ℕ) where
 
           pub card-long : short further ≡ false → (Refused NoRoom ≡ writeAnswer v (length room)) × (room ≡ written v room)
           unfolding fits cardsIn
-          card-long h = not-fit (rw (le-leb (length (ptyText n (v .request))) cardLength pty-is, le-leb (length (facText (v .request))) cardLength fac-is, h))
+          card-long h =
+              not-fit (rw (
+                le-leb (length (ptyText n (v .request))) cardLength pty-is,
+                le-leb (length (facText (v .request))) cardLength fac-is,
+                h,
+              ))
 
-          module _ (hs : short further ≡ true) (room-14 : length (v .further .cards) ≡ mostFurther) {lines : List ℕ} {k : ℕ} (wl : Written (replicate (mostFurther * (cardLength + 1)) 0) 0 (linesText further) lines k) where
+          module _ (hs : short further ≡ true) (room-14 : length (v .further .cards) ≡ mostFurther) {lines : List ℕ} {k : ℕ}
+              (wl : Written (replicate (mostFurther * (cardLength + 1)) 0) 0 (linesText further) lines k) where
             lines-fit : length (linesText further) ≤ (mostFurther * (cardLength + 1))
-            lines-fit = omega (arith, lines-few further hs, behind-many (spaceless (v .request .id)) (texts (v .further)), texts-many (v .further .count) (v .further .cards))
+            lines-fit =
+                omega (
+                  arith,
+                  lines-few further hs,
+                  behind-many (spaceless (v .request .id)) (texts (v .further)),
+                  texts-many (v .further .count) (v .further .cards),
+                )
 
             all-short : short (cardsIn v) ≡ true
             unfolding cardsIn

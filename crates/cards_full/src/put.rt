@@ -17,7 +17,8 @@ ghost use Rattle.cards_full.specs.Full.{behindId, short};
 
 // Puts a card behind an ID: a comma, its text from the type on, and LF.
 fn put_card(room: &mut [u8], at: usize, id: &[u8], card: FurtherCard) -> usize
-    ensures { λ r. ⌜ Written (now (room .entry)) at (lineText (spaceless (now (id .entry)) ++ (byte "," ∷ take (card .len) (card .text)))) (now (room .exit)) r ⌝ }
+    ensures { λ r. ⌜ Written (now (room .entry)) at (lineText (spaceless (now (id .entry)) ++ (byte "," ∷ take (card .len) (card .text))))
+        (now (room .exit)) r ⌝ }
 {
     let name = parts::put_name(room, at, id);
     let comma = text::put_byte(room, name, b',');

@@ -121,7 +121,8 @@ pub record Holding (cards : List FurtherCard) (count : ℕ) (left whole : List (
 pub hold-start : (whole : List (List ℕ)) → Holding (replicate mostFurther noCard) 0 whole whole
 hold-start whole = record { done = []; is = sym (none-held mostFurther); many = refl; joined = refl }
 
-pub hold-turn : {cards : List FurtherCard} {count : ℕ} {t : List ℕ} {left whole : List (List ℕ)} → Holding cards count (t ∷ left) whole → Holding (set cards count (heldCard t)) (count + 1) left whole
+pub hold-turn : {cards : List FurtherCard} {count : ℕ} {t : List ℕ} {left whole : List (List ℕ)} → Holding cards count (t ∷ left) whole
+    → Holding (set cards count (heldCard t)) (count + 1) left whole
 hold-turn {cards} {count} {t} {left} {whole} h = record {
   done = h .done ++ (t ∷ []);
   is = rw (h .is, h .many) (set-held mostFurther (h .done) t);
@@ -129,7 +130,8 @@ hold-turn {cards} {count} {t} {left} {whole} h = record {
   joined = append-assoc (h .done) (t ∷ []) left ∙ h .joined;
 }
 
-pub hold-end : {cards : List FurtherCard} {count : ℕ} {whole : List (List ℕ)} → count ≤ mostFurther → Holding cards count [] whole → _≡_ {A = Further} (record { cards = cards; count = count }) (held whole)
+pub hold-end : {cards : List FurtherCard} {count : ℕ} {whole : List (List ℕ)} → count ≤ mostFurther → Holding cards count [] whole
+    → _≡_ {A = Further} (record { cards = cards; count = count }) (held whole)
 unfolding held
 hold-end {cards} {count} {whole} c h =
     let e : h .done ≡ whole = sym (append-nil (h .done)) ∙ h .joined in
@@ -137,10 +139,12 @@ hold-end {cards} {count} {whole} c h =
     let b : count ≡ min (length whole) mostFurther = omega (arith, h .many, ap length e) in
     cc
 
-pub hold-full : {cards : List FurtherCard} {count : ℕ} {left whole : List (List ℕ)} → count ≡ mostFurther → Holding cards count left whole → _≡_ {A = Further} (record { cards = cards; count = count }) (held whole)
+pub hold-full : {cards : List FurtherCard} {count : ℕ} {left whole : List (List ℕ)} → count ≡ mostFurther → Holding cards count left whole
+    → _≡_ {A = Further} (record { cards = cards; count = count }) (held whole)
 unfolding held
 hold-full {cards} {count} {left} {whole} c h =
-    let a : cards ≡ heldIn mostFurther whole = h .is ∙ full-held mostFurther (h .done) left (omega (arith, h .many)) ∙ ap (heldIn mostFurther) (h .joined) in
+    let a : cards ≡ heldIn mostFurther whole =
+    h .is ∙ full-held mostFurther (h .done) left (omega (arith, h .many)) ∙ ap (heldIn mostFurther) (h .joined) in
     let l : length whole ≡ length (h .done) + length left = ap length (sym (h .joined)) ∙ length-append (h .done) left in
     let b : count ≡ min (length whole) mostFurther = omega (arith, h .many) in
     cc
@@ -150,10 +154,12 @@ module _ (p : List ℕ → Bool) (want : Bool) (s : List ℕ) (at : ℕ) where
   pub past-none : cardsOf (drop at s) ≡ [] → cardsOf (drop at s) ≡ past want p (cardsOf (drop at s))
   past-none e = rw e
 
-  pub past-here : (c : List ℕ) (next : ℕ) → cardsOf (drop at s) ≡ c ∷ cardsOf (drop next s) → (p c ≡ want → ⊥) → cardsOf (drop at s) ≡ past want p (cardsOf (drop at s))
+  pub past-here : (c : List ℕ) (next : ℕ) → cardsOf (drop at s) ≡ c ∷ cardsOf (drop next s) → (p c ≡ want → ⊥)
+      → cardsOf (drop at s) ≡ past want p (cardsOf (drop at s))
   past-here c next e n = rw e (sym (past-stays p c (cardsOf (drop next s)) want n))
 
-  pub past-on : (c : List ℕ) (next : ℕ) → cardsOf (drop at s) ≡ c ∷ cardsOf (drop next s) → p c ≡ want → past want p (cardsOf (drop next s)) ≡ past want p (cardsOf (drop at s))
+  pub past-on : (c : List ℕ) (next : ℕ) → cardsOf (drop at s) ≡ c ∷ cardsOf (drop next s) → p c ≡ want
+      → past want p (cardsOf (drop next s)) ≡ past want p (cardsOf (drop at s))
   past-on c next e t = rw e (sym (past-goes p c (cardsOf (drop next s)) want t))
 
 -- a text put into blanks is the text as it is held
@@ -167,7 +173,8 @@ blanks-padded : (w : ℕ) → replicate w 32 ≡ padded w []
 blanks-padded zero = refl
 blanks-padded (suc w) = ap (λ (l : List ℕ). 32 ∷ l) (blanks-padded w)
 
-pub card-held : {t after : List ℕ} {r : ℕ} → Written (replicate textLength 32) 0 t after r → _≡_ {A = FurtherCard} (record { text = after; len = r }) (heldCard t)
+pub card-held : {t after : List ℕ} {r : ℕ} → Written (replicate textLength 32) 0 t after r
+    → _≡_ {A = FurtherCard} (record { text = after; len = r }) (heldCard t)
 card-held {t} {after} {r} w =
     let a : after ≡ padded textLength t = w .bytes ∙ ap (λ (l : List ℕ). sets l 0 t) (blanks-padded textLength) ∙ sets-padded textLength [] t in
     let b : r ≡ min (length t) textLength = omega (arith, w .reached, length-replicate {A = ℕ} textLength 32) in
@@ -189,8 +196,11 @@ any-left p s at len h e is =
 -- what is left behind a run, as the code lends it
 pub apart-left : (p : List ℕ → Bool) (s : List ℕ) (a b : ℕ) → cardsOf (drop a s) ≡ past false p (cardsOf s)
     → cardsOf (drop b (take (length s - a) (drop a s))) ≡ past true p (cardsOf (take (length s - a) (drop a s)))
-    → any p (cardsOf (take (length (take (length s - a) (drop a s)) - b) (drop b (take (length s - a) (drop a s))))) ≡ any p (past true p (past false p (cardsOf s)))
+    → any p (cardsOf (take (length (take (length s - a) (drop a s)) - b) (drop b (take (length s - a) (drop a s)))))
+    ≡ any p (past true p (past false p (cardsOf s)))
 apart-left p s a b e f =
     let r = rest-is s a in
-    let x : cardsOf (take (length (take (length s - a) (drop a s)) - b) (drop b (take (length s - a) (drop a s)))) ≡ cardsOf (drop b (take (length s - a) (drop a s))) = ap cardsOf (rest-is (take (length s - a) (drop a s)) b) in
+    let x : cardsOf (take (length (take (length s - a) (drop a s)) - b) (drop b (take (length s - a) (drop a s))))
+    ≡ cardsOf (drop b (take (length s - a) (drop a s))) =
+    ap cardsOf (rest-is (take (length s - a) (drop a s)) b) in
     ap (any p) (x ∙ f ∙ ap (past true p) (ap cardsOf r ∙ e))

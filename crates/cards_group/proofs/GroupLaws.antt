@@ -23,7 +23,8 @@ use Rattle.cards_further.specs.Together.{apart}
 use Rattle.cards_further.specs.Further.{answer as asking, typesError, togetherError, contentsError, pmWrong, unknown, unnumbered}
 use Rattle.cards_further.specs.declared.Question.the-variants as Asks
 pub use Rattle.cards_group.specs.Steps.{frontError, orderError}
-use Rattle.cards_group.specs.Group.{wrongCount, otherId, mark, orderedError, requestOf, answer, fullAnswer, furtherOf, readCards, readGroup, readFull}
+use Rattle.cards_group.specs.Group.{wrongCount, otherId, mark, orderedError, requestOf, answer}
+use Rattle.cards_group.specs.Group.{fullAnswer, furtherOf, readCards, readGroup, readFull}
 use Rattle.cards_request.specs.declared.CardError.the-variants.{
   WrongCount,
   NoFac,
@@ -75,7 +76,8 @@ module _ (n : ℕ) (pty fac : List ℕ) where
 pub other-id : (pty c id : List ℕ) → id ≡ field pty 0 → length (field pty 0) ≤ 12 → not (fieldIs c 0 id) ≡ otherId pty c
 other-id pty c id e h = rw (e, le-leb (length (field pty 0)) 12 h)
 
-pub any-other : (pty id : List ℕ) (cs : List (List ℕ)) → id ≡ field pty 0 → length (field pty 0) ≤ 12 → any (asking Asks.OtherId id) cs ≡ any (otherId pty) cs
+pub any-other : (pty id : List ℕ) (cs : List (List ℕ)) → id ≡ field pty 0 → length (field pty 0) ≤ 12
+    → any (asking Asks.OtherId id) cs ≡ any (otherId pty) cs
 any-other pty id [] e h = refl
 any-other pty id (c ∷ cs) e h = rw (other-id pty c id e h, any-other pty id cs e h)
 
@@ -91,7 +93,8 @@ module _ (pty fac : List ℕ) (further : List (List ℕ)) (e : CardVerdict) (is 
   order-together h o = rw (← is, good-is e h, o) (or-else-good (togetherError further))
 
 -- an error alone, as the code makes it
-pub error-alone : (v : CardVerdict) (r : Request) → good v ≡ false → r ≡ noRequest → _≡_ {A = Reading} (record { verdict = v; request = r }) (answer v noRequest)
+pub error-alone : (v : CardVerdict) (r : Request) → good v ≡ false → r ≡ noRequest
+    → _≡_ {A = Reading} (record { verdict = v; request = r }) (answer v noRequest)
 error-alone Good r h e = never refl h
 error-alone (Wrong x) r h e = rw e
 
@@ -102,7 +105,8 @@ answer-alone (Wrong e) r h = refl
 -- THE ORDER IN FOUR STEPS: the front, what goes by number, the FAC card's, the further cards'
 chain : (a b c d e f g h i j k l : CardVerdict)
     → orElse a (orElse b (orElse c (orElse d (orElse e (orElse f (orElse g (orElse h (orElse i (orElse j (orElse k (orElse l Good)))))))))))
-    ≡ orElse (orElse a (orElse b (orElse c Good))) (orElse (orElse (orElse d e) (orElse f (orElse (orElse g (orElse h (orElse i (orElse j Good)))) Good))) (orElse k l))
+    ≡ orElse (orElse a (orElse b (orElse c Good)))
+    (orElse (orElse (orElse d e) (orElse f (orElse (orElse g (orElse h (orElse i (orElse j Good)))) Good))) (orElse k l))
 chain (Wrong x) b c d e f g h i j k l = refl
 chain Good (Wrong x) c d e f g h i j k l = refl
 chain Good Good (Wrong x) d e f g h i j k l = refl
@@ -118,7 +122,8 @@ chain Good Good Good Good Good Good Good Good Good Good Good (Wrong x) = refl
 chain Good Good Good Good Good Good Good Good Good Good Good Good = refl
 
 pub in-steps : (n : ℕ) (pty fac : List ℕ) (further : List (List ℕ))
-    → orderedError n pty fac further ≡ orElse (frontError n pty fac) (orElse (orderError pty fac further) (orElse (facError fac) (contentsError false further)))
+    → orderedError n pty fac further
+    ≡ orElse (frontError n pty fac) (orElse (orderError pty fac further) (orElse (facError fac) (contentsError false further)))
 unfolding orderedError typesError togetherError
 in-steps n pty fac further =
     chain
@@ -169,16 +174,19 @@ module _ (n : ℕ) (pty fac : List ℕ) (further : List (List ℕ)) (front : Car
         pub read-contents : good k ≡ false → readCards n pty fac further ≡ answer k noRequest
         read-contents h = alone k last h
 
-        pub read-good : good k ≡ true → (r : Request) → r ≡ requestOf pty (asksOf (f .facilities)) → _≡_ {A = Reading} (record { verdict = Good; request = r }) (readCards n pty fac further)
+        pub read-good : good k ≡ true → (r : Request) → r ≡ requestOf pty (asksOf (f .facilities))
+            → _≡_ {A = Reading} (record { verdict = Good; request = r }) (readCards n pty fac further)
         unfolding readCards facOf
         read-good q r m =
             let g = good-is (f .verdict) x in
-            let a : f .facilities ≡ facilitiesOf (asked fac) = ap (λ (y : Asked). y .facilities) (of ∙ ap (λ (v : CardVerdict). askedAnswer v (asked fac)) (sym fac-verdict ∙ g)) in
+            let a : f .facilities ≡ facilitiesOf (asked fac) =
+            ap (λ (y : Asked). y .facilities) (of ∙ ap (λ (v : CardVerdict). askedAnswer v (asked fac)) (sym fac-verdict ∙ g)) in
             let b : requestOf pty (asksOf (f .facilities)) ≡ requestOf pty (asked fac) = ap (λ (y : Facilities). requestOf pty (asksOf y)) a in
             rw (last ∙ good-is k q, m, b)
 
 -- with the further cards
-full-good : (v : CardVerdict) (q : Request) (f : Further) → good v ≡ true → _≡_ {A = FullReading} (record { verdict = v; full = record { request = q; further = f } }) (fullAnswer v q f)
+full-good : (v : CardVerdict) (q : Request) (f : Further) → good v ≡ true
+    → _≡_ {A = FullReading} (record { verdict = v; full = record { request = q; further = f } }) (fullAnswer v q f)
 full-good Good q f h = refl
 full-good (Wrong e) q f h = never h refl
 
@@ -191,7 +199,8 @@ full-read cards r e g f h =
     ∙ ap (fullAnswer (readGroup cards .verdict) (readGroup cards .request)) h
 
 wrong-alone : (v : CardVerdict) (q : Request) (f g : Further) → good (answer v q .verdict) ≡ false → f ≡ noFurther
-    → _≡_ {A = FullReading} (record { verdict = answer v q .verdict; full = record { request = answer v q .request; further = f } }) (fullAnswer (answer v q .verdict) (answer v q .request) g)
+    → _≡_ {A = FullReading} (record { verdict = answer v q .verdict; full = record { request = answer v q .request; further = f } })
+    (fullAnswer (answer v q .verdict) (answer v q .request) g)
 wrong-alone Good q f g h e = never refl h
 wrong-alone (Wrong x) q f g h e = rw e
 

@@ -74,11 +74,23 @@ module _ (card shown : List ℕ) {b : Bool} (a : b ≡ isPty card) where
 
         pub shown-other : t ≡ false → shown ≡ shownBy card shown
         unfolding shownBy isName
-        shown-other q = rw (sym a ∙ e, le-leb 1 (length (field card 0)) (omega (arith, long)), le-leb (length (field card 0)) 6 (omega (arith, long)), name-is ∙ q)
+        shown-other q =
+            rw (
+              sym a ∙ e,
+              le-leb 1 (length (field card 0)) (omega (arith, long)),
+              le-leb (length (field card 0)) 6 (omega (arith, long)),
+              name-is ∙ q,
+            )
 
         pub shown-formed : t ≡ true → {r : List ℕ} → r ≡ padded 6 (field card 0) → r ≡ shownBy card shown
         unfolding shownBy isName
-        shown-formed q m = m ∙ rw (sym a ∙ e, le-leb 1 (length (field card 0)) (omega (arith, long)), le-leb (length (field card 0)) 6 (omega (arith, long)), name-is ∙ q)
+        shown-formed q m =
+            m ∙ rw (
+              sym a ∙ e,
+              le-leb 1 (length (field card 0)) (omega (arith, long)),
+              le-leb (length (field card 0)) 6 (omega (arith, long)),
+              name-is ∙ q,
+            )
 
 -- numbers of two digits
 below-100 : (e : CardError) → errorNumber e < 100
@@ -114,7 +126,13 @@ below-100 ScheduleFull = omega arith
 
 pub error-short : (id : List ℕ) (e : CardError) → length id ≤ 6 → length (errorLine id e) ≤ 16
 error-short id e h =
-    omega (arith, length-append (spaceless id) (bytes " ER " ++ (decimalText (errorNumber e) ++ bytes "\n")), length-append (decimalText (errorNumber e)) (bytes "\n"), spaceless-short id, few-digits 1 (errorNumber e) (below-100 e))
+    omega (
+      arith,
+      length-append (spaceless id) (bytes " ER " ++ (decimalText (errorNumber e) ++ bytes "\n")),
+      length-append (decimalText (errorNumber e)) (bytes "\n"),
+      spaceless-short id,
+      few-digits 1 (errorNumber e) (below-100 e),
+    )
 
 pub shown-few : (card shown : List ℕ) → length shown ≤ 6 → length (shownBy card shown) ≤ 6
 unfolding shownBy

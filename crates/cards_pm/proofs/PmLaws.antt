@@ -101,7 +101,8 @@ body-length s (suc n) g h e l =
     let q : getD s n 0 ≡ 46 = rw p at e in
     p ∙ sym (ap length (body-at s n h q l) ∙ length-take-le n s (omega arith))
 
-pub period-later : (s : List ℕ) (n : ℕ) → 0 < n → n ≤ length s → (getD s (n - 1) 0 ≡ 46 → ⊥) → has (drop n s) 46 ≡ false → has (drop (n - 1) s) 46 ≡ false
+pub period-later : (s : List ℕ) (n : ℕ) → 0 < n → n ≤ length s → (getD s (n - 1) 0 ≡ 46 → ⊥) → has (drop n s) 46 ≡ false
+    → has (drop (n - 1) s) 46 ≡ false
 period-later s zero g h e l = absurd (omega arith)
 period-later s (suc n) g h e l =
     let p : suc n - 1 ≡ n = omega arith in
@@ -177,9 +178,12 @@ module _ (card : List ℕ) where
 
         pub fault-behind : every (has (bytes " ")) (take (length card - (n + 1)) (drop (n + 1) card)) ≡ false → pmMalformed card ≡ true
         unfolding pmMalformed
-        fault-behind t = let u : every (has (bytes " ")) (drop (length (body card) + 1) card) ≡ false = ap (every (has (bytes " "))) (sym tail-is) ∙ t in rw (le-ltb cardLength (length card) h, b, p, u)
+        fault-behind t =
+            let u : every (has (bytes " ")) (drop (length (body card) + 1) card) ≡ false = ap (every (has (bytes " "))) (sym tail-is) ∙ t in
+            rw (le-ltb cardLength (length card) h, b, p, u)
 
-        pub fault-comma : every (has (bytes " ")) (take (length card - (n + 1)) (drop (n + 1) card)) ≡ true → not (has (behindComma (take n card)) 44) ≡ pmMalformed card
+        pub fault-comma : every (has (bytes " ")) (take (length card - (n + 1)) (drop (n + 1) card)) ≡ true
+            → not (has (behindComma (take n card)) 44) ≡ pmMalformed card
         unfolding pmMalformed
         fault-comma t =
             let u : every (has (bytes " ")) (drop (length (body card) + 1) card) ≡ true = ap (every (has (bytes " "))) (sym tail-is) ∙ t in

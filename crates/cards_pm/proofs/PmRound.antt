@@ -114,10 +114,14 @@ module _ (id : List ℕ) (s : Sheet) (named : every plain id ≡ true) (p : Prop
 
   -- its fields
   two : fields (cardOf id s) ≡ id ∷ fields (sheetOf s)
-  two = in-front id (44 ∷ sheetOf s) [] (fields (sheetOf s)) named (fields-comma (sheetOf s) refl) ∙ ap (λ (l : List ℕ). l ∷ fields (sheetOf s)) (append-nil id)
+  two =
+      in-front id (44 ∷ sheetOf s) [] (fields (sheetOf s)) named (fields-comma (sheetOf s) refl)
+      ∙ ap (λ (l : List ℕ). l ∷ fields (sheetOf s)) (append-nil id)
 
   three : fields (sheetOf s) ≡ (80 ∷ 77 ∷ (48 + s .digit) ∷ []) ∷ fields (s .letters ++ (46 ∷ []))
-  three = in-front (80 ∷ 77 ∷ (48 + s .digit) ∷ []) (44 ∷ (s .letters ++ (46 ∷ []))) [] (fields (s .letters ++ (46 ∷ []))) kind-plain (fields-comma (s .letters ++ (46 ∷ [])) refl)
+  three =
+      in-front (80 ∷ 77 ∷ (48 + s .digit) ∷ []) (44 ∷ (s .letters ++ (46 ∷ []))) [] (fields (s .letters ++ (46 ∷ []))) kind-plain
+      (fields-comma (s .letters ++ (46 ∷ [])) refl)
 
   id-field : field (cardOf id s) 0 ≡ id
   id-field = ap (λ (l : List (List ℕ)). getD l 0 []) two
@@ -135,10 +139,13 @@ module _ (id : List ℕ) (s : Sheet) (named : every plain id ≡ true) (p : Prop
   behind-id : behindComma (body (cardOf id s)) ≡ 80 ∷ 77 ∷ (48 + s .digit) ∷ 44 ∷ s .letters
   behind-id =
       ap behindComma body-is
-      ∙ behind-first id (80 ∷ 77 ∷ (48 + s .digit) ∷ 44 ∷ s .letters) (every-weaker plain (isnt 44) (λ b h. isnt-true 44 b (clean b h .comma)) id named)
+      ∙ behind-first id (80 ∷ 77 ∷ (48 + s .digit) ∷ 44 ∷ s .letters)
+      (every-weaker plain (isnt 44) (λ b h. isnt-true 44 b (clean b h .comma)) id named)
 
   behind-kind : behindComma (behindComma (body (cardOf id s))) ≡ s .letters
-  behind-kind = ap behindComma behind-id ∙ behind-first (80 ∷ 77 ∷ (48 + s .digit) ∷ []) (s .letters) (every-weaker plain (isnt 44) (λ b h. isnt-true 44 b (clean b h .comma)) (80 ∷ 77 ∷ (48 + s .digit) ∷ []) kind-plain)
+  behind-kind =
+      ap behindComma behind-id ∙ behind-first (80 ∷ 77 ∷ (48 + s .digit) ∷ []) (s .letters)
+      (every-weaker plain (isnt 44) (λ b h. isnt-true 44 b (clean b h .comma)) (80 ∷ 77 ∷ (48 + s .digit) ∷ []) kind-plain)
 
   letters-is : letters (cardOf id s) ≡ s .letters
   unfolding letters
@@ -252,12 +259,14 @@ body-begins (b ∷ s) =
 -- a field has no more characters than the part of the card that it is read from
 field-first : (card : List ℕ) → length (field card 0) ≤ length (leading (isnt 44) (body card))
 field-first card =
-    let g : length (leading (isnt 44) (upToPeriod card)) ≤ length (leading (isnt 44) (body card)) = rw (body-begins card) (lead-grows (isnt 44) (upToPeriod card) (drop (length (upToPeriod card)) (body card))) in
+    let g : length (leading (isnt 44) (upToPeriod card)) ≤ length (leading (isnt 44) (body card)) =
+    rw (body-begins card) (lead-grows (isnt 44) (upToPeriod card) (drop (length (upToPeriod card)) (body card))) in
     omega (arith, g, first-size (upToPeriod card), spaceless-short (rawField card 0), ap length (raw-spaceless card 0))
 
 field-second : (card : List ℕ) → length (field card 1) ≤ length (leading (isnt 44) (behindComma (body card)))
 field-second card =
-    let g : length (leading (isnt 44) (behindComma (upToPeriod card))) ≤ length (leading (isnt 44) (behindComma (body card))) = rw (body-begins card) (behind-grows (upToPeriod card) (drop (length (upToPeriod card)) (body card))) in
+    let g : length (leading (isnt 44) (behindComma (upToPeriod card))) ≤ length (leading (isnt 44) (behindComma (body card))) =
+    rw (body-begins card) (behind-grows (upToPeriod card) (drop (length (upToPeriod card)) (body card))) in
     omega (arith, g, second-size (upToPeriod card), spaceless-short (rawField card 1), ap length (raw-spaceless card 1))
 
 -- a text with a comma: what stands before it, the comma, and what stands behind it
@@ -298,9 +307,15 @@ module _ (card : List ℕ) (number : numbered card ≡ true) (good : pmFault car
   form : (every cardByte card ≡ true) × ((has card 46 ≡ true) × (has (behindComma (body card)) 44 ≡ true))
   unfolding pmMalformed
   form =
-      let a = neither (ltb cardLength (length card)) (not (every cardByte card && (has card 46 && (every (has (bytes " ")) (drop (length (body card) + 1) card) && has (behindComma (body card)) 44)))) (kept .0) in
-      let b = not-false (every cardByte card && (has card 46 && (every (has (bytes " ")) (drop (length (body card) + 1) card) && has (behindComma (body card)) 44))) (a .1) in
-      let c = both (every cardByte card) (has card 46 && (every (has (bytes " ")) (drop (length (body card) + 1) card) && has (behindComma (body card)) 44)) b in
+      let a = neither (ltb cardLength (length card))
+      (not (every cardByte card && (has card 46
+      && (every (has (bytes " ")) (drop (length (body card) + 1) card) && has (behindComma (body card)) 44))))
+      (kept .0) in
+      let b = not-false (every cardByte card
+      && (has card 46 && (every (has (bytes " ")) (drop (length (body card) + 1) card) && has (behindComma (body card)) 44)))
+      (a .1) in
+      let c = both (every cardByte card)
+      (has card 46 && (every (has (bytes " ")) (drop (length (body card) + 1) card) && has (behindComma (body card)) 44)) b in
       let d = both (has card 46) (every (has (bytes " ")) (drop (length (body card) + 1) card) && has (behindComma (body card)) 44) (c .1) in
       let e = both (every (has (bytes " ")) (drop (length (body card) + 1) card)) (has (behindComma (body card)) 44) (d .1) in
       (c .0, (d .0, e .1))
@@ -315,13 +330,25 @@ module _ (card : List ℕ) (number : numbered card ≡ true) (good : pmFault car
   letters-stand : every cardByte (letters card) ≡ true
   unfolding letters
   letters-stand =
-      let b : every cardByte (body card) ≡ true = ap (every cardByte) (sym (body-front card)) ∙ every-take cardByte (length (body card)) card (form .0) in
-      every-drop cardByte (length (leading (isnt 44) (behindComma (body card))) + 1) (behindComma (body card)) (every-drop cardByte (length (leading (isnt 44) (body card)) + 1) (body card) b)
+      let b : every cardByte (body card) ≡ true =
+      ap (every cardByte) (sym (body-front card)) ∙ every-take cardByte (length (body card)) card (form .0) in
+      every-drop cardByte (length (leading (isnt 44) (behindComma (body card))) + 1) (behindComma (body card))
+      (every-drop cardByte (length (leading (isnt 44) (body card)) + 1) (body card) b)
 
   room : length (letters card) + 6 + length (field card 0) ≤ length card
   unfolding letters
   room =
-      omega (arith, body-shorter card (form .1 .0), behind-length (body card), behind-length (behindComma (body card)), has-some (behindComma (body card)) 44 (form .1 .1), lead-shorter (behindComma (body card)) (form .1 .1), field-first card, field-second card, numbers .0)
+      omega (
+        arith,
+        body-shorter card (form .1 .0),
+        behind-length (body card),
+        behind-length (behindComma (body card)),
+        has-some (behindComma (body card)) 44 (form .1 .1),
+        lead-shorter (behindComma (body card)) (form .1 .1),
+        field-first card,
+        field-second card,
+        numbers .0,
+      )
 
   pub held : Held card
   unfolding pmText

@@ -56,7 +56,9 @@ module _ (t : List ℕ) where
   module _ (e : isLetter (getD t 0 0) ≡ false) where
     pub short : length t < 3 → priorityOf t ≡ noPriority
     unfolding priorityOf
-    short h = rw (e, List·getD-eq-default t 0 {n = 2} (omega arith), rank-letter (value (take 2 t)) 0 (drop 3 t) no-letter) (either (every isDigit (take 2 t) && (leb 1 (value (take 2 t)) && leb (value (take 2 t)) 63)))
+    short h =
+        rw (e, List·getD-eq-default t 0 {n = 2} (omega arith), rank-letter (value (take 2 t)) 0 (drop 3 t) no-letter)
+        (either (every isDigit (take 2 t) && (leb 1 (value (take 2 t)) && leb (value (take 2 t)) 63)))
 
     pub no-digits : every isDigit (take 2 t) ≡ false → priorityOf t ≡ noPriority
     unfolding priorityOf

@@ -86,7 +86,8 @@ module _ (k : ℕ) (r : Rule) (t : List ℕ) where
       (λ p. not-good (sym (too-short (omega arith)) ∙ e))
       (eq-zero-or-pos (r .least - length t))
     where
-      by : (x : Bool) → r .content t ≡ x → r .least ≤ length t → length t ≤ r .most → (r .least ≤ length t) × ((length t ≤ r .most) × (r .content t ≡ true))
+      by : (x : Bool) → r .content t ≡ x → r .least ≤ length t → length t ≤ r .most
+          → (r .least ≤ length t) × ((length t ≤ r .most) × (r .content t ≡ true))
       by true c h g = (h, (g, c))
       by false c h g = not-good (sym (wrong h g c) ∙ e)
 
@@ -105,7 +106,8 @@ next-none j (r ∷ rs) zero h = refl
 next-none j (r ∷ rs) (suc k) h = let e : j + suc k ≡ suc j + k = omega arith in rw e (next-none (suc j) rs k (le-of-suc-le-suc h))
 
 next : (j : ℕ) (rs : List Rule) (fs : List (List ℕ)) (k : ℕ) → k < length rs
-    → fieldsFrom (j + k) (drop k rs) (drop k fs) ≡ orElse (fieldError (j + k) (getD rs k noRule) (getD fs k [])) (fieldsFrom (suc (j + k)) (drop (suc k) rs) (drop (suc k) fs))
+    → fieldsFrom (j + k) (drop k rs) (drop k fs)
+    ≡ orElse (fieldError (j + k) (getD rs k noRule) (getD fs k [])) (fieldsFrom (suc (j + k)) (drop (suc k) rs) (drop (suc k) fs))
 next j [] fs k h = absurd (omega arith)
 next j (r ∷ rs) [] zero h = refl
 next j (r ∷ rs) (f ∷ fs) zero h = refl
@@ -143,7 +145,8 @@ nil-at : (k : ℕ) → _≡_ {A = List ℕ} (getD [] k []) []
 nil-at zero = refl
 nil-at (suc k) = refl
 
-all-right : (j : ℕ) (rs : List Rule) (fs : List (List ℕ)) → fieldsFrom j rs fs ≡ Good → (k : ℕ) → k < length rs → fieldError (j + k) (getD rs k noRule) (getD fs k []) ≡ Good
+all-right : (j : ℕ) (rs : List Rule) (fs : List (List ℕ)) → fieldsFrom j rs fs ≡ Good → (k : ℕ) → k < length rs
+    → fieldError (j + k) (getD rs k noRule) (getD fs k []) ≡ Good
 all-right j [] fs e k h = absurd (omega arith)
 all-right j (r ∷ rs) [] e zero h = let i : j + 0 ≡ j = omega arith in rw i (or-else-none (fieldError j r []) (fieldsFrom (suc j) rs []) e .0)
 all-right j (r ∷ rs) (f ∷ fs) e zero h = let i : j + 0 ≡ j = omega arith in rw i (or-else-none (fieldError j r f) (fieldsFrom (suc j) rs fs) e .0)

@@ -40,7 +40,13 @@ refused-short r = omega (arith, length-append (decimalText (numberOf r)) (bytes 
 
 refusal-short : (id : List ℕ) (r : Refusal) → length id ≤ 6 → length (refusalLine id r) ≤ 16
 refusal-short id r h =
-    omega (arith, length-append (spaceless id) (bytes " NO " ++ (decimalText (numberOf r) ++ bytes "\n")), length-append (decimalText (numberOf r)) (bytes "\n"), spaceless-short id, few-digits 1 (numberOf r) (two-digits r))
+    omega (
+      arith,
+      length-append (spaceless id) (bytes " NO " ++ (decimalText (numberOf r) ++ bytes "\n")),
+      length-append (decimalText (numberOf r)) (bytes "\n"),
+      spaceless-short id,
+      few-digits 1 (numberOf r) (two-digits r),
+    )
 
 -- WHAT WAS WRITTEN: the cards stand at the room's start, and take no more than it has
 pub record Stands (v : FullRequest) (n : ℕ) (room : List ℕ) : Type 0 where
@@ -64,7 +70,8 @@ wrote v n room e =
     (λ u. let q : Refused NoRoom ≡ Cards n = rw (t, u) at e in let z : _≡_ {A = ℕ} 0 1 = cc in absurd (omega arith)))
     (λ t. let q : Refused WrongRequest ≡ Cards n = rw t at e in let z : _≡_ {A = ℕ} 0 1 = cc in absurd (omega arith))
 
-module _ (v : FullRequest) (room : List ℕ) {w : Wrote} {after· : List ℕ} (a : w ≡ writeAnswer v (length room)) (h : after· ≡ written v room) (l : length room ≡ cardsRoom) where
+module _ (v : FullRequest) (room : List ℕ) {w : Wrote} {after· : List ℕ} (a : w ≡ writeAnswer v (length room)) (h : after· ≡ written v room)
+    (l : length room ≡ cardsRoom) where
   module _ (n : ℕ) (e : w ≡ Cards n) where
     so : Stands v n room
     so = wrote v n room (sym a ∙ e)
@@ -78,19 +85,22 @@ module _ (v : FullRequest) (room : List ℕ) {w : Wrote} {after· : List ℕ} (a
     pub cards-within : n ≤ length after·
     cards-within = omega (arith, ap length (h ∙ so .now), length-append (textOf v) (drop n room), so .is)
 
-    pub cards-put : (shown : List ℕ) {out b c : List ℕ} {at i r : ℕ} → Written out at (take n after·) b i → Written b i (tableText (v .further)) c r → Written out at (textBy Good v shown) c r
+    pub cards-put : (shown : List ℕ) {out b c : List ℕ} {at i r : ℕ} → Written out at (take n after·) b i
+        → Written b i (tableText (v .further)) c r → Written out at (textBy Good v shown) c r
     cards-put shown {out} {b} {c} {at} {i} {r} x y =
         let p : Written out at (textOf v) b i = rw front at x in
         let q : Cards n ≡ writeAnswer v cardsRoom = sym e ∙ a ∙ ap (writeAnswer v) l in
         subst (λ (u : Wrote). Written out at (goodText u v shown) c r) q (andThen p y)
 
-  pub not-put : (refusal : Refusal) → w ≡ Refused refusal → (shown : List ℕ) {out b : List ℕ} {at r : ℕ} → Written out at (refusalLine shown refusal) b r → Written out at (textBy Good v shown) b r
+  pub not-put : (refusal : Refusal) → w ≡ Refused refusal → (shown : List ℕ) {out b : List ℕ} {at r : ℕ}
+      → Written out at (refusalLine shown refusal) b r → Written out at (textBy Good v shown) b r
   not-put refusal e shown {out} {b} {at} {r} x =
       let q : Refused refusal ≡ writeAnswer v cardsRoom = sym e ∙ a ∙ ap (writeAnswer v) l in
       subst (λ (u : Wrote). Written out at (goodText u v shown) b r) q x
 
 -- EACH TEXT OF A GROUP HAS AT MOST 2,048 BYTES
-good-short : (v : FullRequest) (shown room : List ℕ) (w : Wrote) → length room ≡ cardsRoom → writeAnswer v (length room) ≡ w → length shown ≤ 6 → length (goodText w v shown) ≤ 2048
+good-short : (v : FullRequest) (shown room : List ℕ) (w : Wrote) → length room ≡ cardsRoom → writeAnswer v (length room) ≡ w → length shown ≤ 6
+    → length (goodText w v shown) ≤ 2048
 good-short v shown room (Cards n) l e h =
     let q = wrote v n room e in
     omega (arith, length-append (textOf v) (tableText (v .further)), table-short (v .further), q .is, q .within, l)
@@ -101,8 +111,10 @@ text-short Good v shown h = good-short v shown (replicate cardsRoom 0) (writeAns
 text-short (Wrong e) v shown h = omega (arith, error-short shown e h)
 
 -- what was read of a group, by its verdict
-pub group-by : (cards : List (List ℕ)) (shown : List ℕ) {reading : FullReading} → reading ≡ readFull cards → {v : CardVerdict} → reading .verdict ≡ v
-    → {out b : List ℕ} {at r : ℕ} → Written out at (textBy v (reading .full) shown) b r → Written out at (textBy (readFull cards .verdict) (readFull cards .full) shown) b r
+pub group-by : (cards : List (List ℕ)) (shown : List ℕ) {reading : FullReading} → reading ≡ readFull cards → {v : CardVerdict}
+    → reading .verdict ≡ v
+    → {out b : List ℕ} {at r : ℕ} → Written out at (textBy v (reading .full) shown) b r
+    → Written out at (textBy (readFull cards .verdict) (readFull cards .full) shown) b r
 group-by cards shown {reading} e {v} q {out} {b} {at} {r} w =
     subst (λ (x : FullReading). Written out at (textBy (x .verdict) (x .full) shown) b r) e
     (subst (λ (x : CardVerdict). Written out at (textBy x (reading .full) shown) b r) (sym q) w)

@@ -47,14 +47,16 @@ to from end shown = record { coming = Groups; from = from; end = end; shown = sh
 
 module _ (s : List ℕ) (p : Printing) where
   module _ {room after· : List ℕ} (l : length room ≡ 2048) where
-    prints : (piece· : List ℕ) (next : Printing) → piece· ≡ piece s p → next ≡ after s p → length piece· ≤ 2048 → {at : ℕ} → Written room 0 piece· after· at
+    prints : (piece· : List ℕ) (next : Printing) → piece· ≡ piece s p → next ≡ after s p → length piece· ≤ 2048 → {at : ℕ}
+        → Written room 0 piece· after· at
         → Prints s p room after· (record { at = at; printing = next })
     prints piece· next a b h {at} w = record {
       text = subst (λ (x : List ℕ). Whole x room after· at) a (entire w (omega (arith, h, l)));
       then = b;
     }
 
-    pub refused-prints : (refusal : Refusal) → p .coming ≡ Refused refusal → {at : ℕ} → Written room 0 (refusedText refusal) after· at → {next : Printing} → next ≡ over p
+    pub refused-prints : (refusal : Refusal) → p .coming ≡ Refused refusal → {at : ℕ} → Written room 0 (refusedText refusal) after· at
+        → {next : Printing} → next ≡ over p
         → Prints s p room after· (record { at = at; printing = next })
     refused-prints refusal e w {next} n =
         prints (refusedText refusal) next
@@ -63,14 +65,16 @@ module _ (s : List ℕ) (p : Printing) where
         (omega (arith, refused-short refusal)) w
 
   module _ {d g : List ℕ} (r : d ≡ take (p .end - p .from) (drop (p .from) s)) (f : g ≡ take (groupSize d) d) where
-    by-left : p .coming ≡ Groups → (gs : List (List (List ℕ))) → groupsOf (cardsOf d) ≡ gs → (pieceBy Groups gs (p .shown) ≡ piece s p) × (nextBy Groups gs p ≡ after s p)
+    by-left : p .coming ≡ Groups → (gs : List (List (List ℕ))) → groupsOf (cardsOf d) ≡ gs
+        → (pieceBy Groups gs (p .shown) ≡ piece s p) × (nextBy Groups gs p ≡ after s p)
     by-left e gs q =
         let k : gs ≡ left s p = sym q ∙ ap (λ (x : List ℕ). groupsOf (cardsOf x)) r in (
           ap (λ (x : List (List (List ℕ))). pieceBy Groups x (p .shown)) k ∙ ap (λ (x : Coming). pieceBy x (left s p) (p .shown)) (sym e),
           ap (λ (x : List (List (List ℕ))). nextBy Groups x p) k ∙ ap (λ (x : Coming). nextBy x (left s p) p) (sym e),
         )
 
-    pub end-prints : p .coming ≡ Groups → length g ≡ 0 → {room after· : List ℕ} → length room ≡ 2048 → {at : ℕ} → Written room 0 endText after· at → {next : Printing} → next ≡ over p
+    pub end-prints : p .coming ≡ Groups → length g ≡ 0 → {room after· : List ℕ} → length room ≡ 2048 → {at : ℕ}
+        → Written room 0 endText after· at → {next : Printing} → next ≡ over p
         → Prints s p room after· (record { at = at; printing = next })
     end-prints e z l w {next} n =
         let x = by-left e [] (no-groups d (sym (ap length f) ∙ z)) in prints l endText next (x .0) (n ∙ x .1) (omega arith) w
@@ -80,19 +84,33 @@ module _ (s : List ℕ) (p : Printing) where
       found = first-group d (λ k. z (ap length f ∙ k))
 
       pub group-within : p .from + length g ≤ length s
-      group-within = omega (arith, found .some, found .within, ap length f, length-take (groupSize d) d, ap length r, length-take (p .end - p .from) (drop (p .from) s), length-drop (p .from) s)
+      group-within =
+          omega (
+            arith,
+            found .some,
+            found .within,
+            ap length f,
+            length-take (groupSize d) d,
+            ap length r,
+            length-take (p .end - p .from) (drop (p .from) s),
+            length-drop (p .from) s,
+          )
 
-      pub group-prints : p .coming ≡ Groups → {card shown room after· : List ℕ} → length room ≡ 2048 → card ≡ getD (cardsOf g) 0 [] → shown ≡ shownBy card (p .shown) → length shown ≡ 6
+      pub group-prints : p .coming ≡ Groups → {card shown room after· : List ℕ} → length room ≡ 2048 → card ≡ getD (cardsOf g) 0 []
+          → shown ≡ shownBy card (p .shown) → length shown ≡ 6
           → {at : ℕ} → Written room 0 (textBy (readFull (cardsOf g) .verdict) (readFull (cardsOf g) .full) shown) after· at
-          → Prints s p room after· (record { at = at; printing = record { coming = Groups; from = p .from + length g; end = p .end; shown = shown } })
+          → Prints s p room after·
+          (record { at = at; printing = record { coming = Groups; from = p .from + length g; end = p .end; shown = shown } })
       unfolding groupText
       group-prints e {card} {shown} l c h m w =
           let q : groupsOf (cardsOf d) ≡ cardsOf g ∷ groupsOf (cardsOf (drop (groupSize d) d)) =
           found .next ∙ ap (λ (x : List ℕ). cardsOf x ∷ groupsOf (cardsOf (drop (groupSize d) d))) (sym f) in
           let x = by-left e (cardsOf g ∷ groupsOf (cardsOf (drop (groupSize d) d))) q in
-          let n : length g ≡ size (cardsOf g) = ap length f ∙ length-take-le (groupSize d) d (found .within) ∙ sym (found .sized) ∙ ap (λ (y : List ℕ). size (cardsOf y)) (sym f) in
+          let n : length g ≡ size (cardsOf g) =
+          ap length f ∙ length-take-le (groupSize d) d (found .within) ∙ sym (found .sized) ∙ ap (λ (y : List ℕ). size (cardsOf y)) (sym f) in
           let i : shown ≡ shownBy (getD (cardsOf g) 0 []) (p .shown) = h ∙ ap (λ (y : List ℕ). shownBy y (p .shown)) c in
-          let j : to (p .from + length g) (p .end) shown ≡ after s p = ap (λ (k : ℕ). to (p .from + k) (p .end) shown) n ∙ ap (λ (y : List ℕ). to (p .from + size (cardsOf g)) (p .end) y) i ∙ x .1 in
+          let j : to (p .from + length g) (p .end) shown ≡ after s p =
+          ap (λ (k : ℕ). to (p .from + k) (p .end) shown) n ∙ ap (λ (y : List ℕ). to (p .from + size (cardsOf g)) (p .end) y) i ∙ x .1 in
           prints l (textBy (readFull (cardsOf g) .verdict) (readFull (cardsOf g) .full) shown)
           (to (p .from + length g) (p .end) shown)
           (ap (λ (y : List ℕ). textBy (readFull (cardsOf g) .verdict) (readFull (cardsOf g) .full) y) i ∙ x .0)
@@ -100,9 +118,11 @@ module _ (s : List ℕ) (p : Printing) where
           (text-short (readFull (cardsOf g) .verdict) (readFull (cardsOf g) .full) shown (omega (arith, m)))
           w
 
-pub over-prints : (s : List ℕ) (p : Printing) (room : List ℕ) → p .coming ≡ Over → {next : Printing} → next ≡ over p → Prints s p room room (record { at = 0; printing = next })
+pub over-prints : (s : List ℕ) (p : Printing) (room : List ℕ) → p .coming ≡ Over → {next : Printing} → next ≡ over p
+    → Prints s p room room (record { at = 0; printing = next })
 over-prints s p room e {next} n = record {
-  text = subst (λ (x : List ℕ). Whole x room room 0) (ap (λ (x : Coming). pieceBy x (left s p) (p .shown)) (sym e)) (entire (none room 0) (omega arith));
+  text = subst (λ (x : List ℕ). Whole x room room 0) (ap (λ (x : Coming). pieceBy x (left s p) (p .shown)) (sym e))
+      (entire (none room 0) (omega arith));
   then = n ∙ ap (λ (x : Coming). nextBy x (left s p) p) (sym e);
 }
 

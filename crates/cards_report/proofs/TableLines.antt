@@ -42,10 +42,13 @@ line-turn {room₀} {whole} {room} {a} {b} {c} {at₀} {at} {i} {j} {k} table n 
     let e : (n - from) / pmLength ≡ suc ((n - (from + pmLength)) / pmLength) = omega arith in
     let y : Written a i (take pmLength (drop from table)) b j = rw (part-is table from pmLength) at w in
     let p : Written room at (lineText (byte "=" ∷ take pmLength (drop from table))) c k = andThen v (andThen y x) in
-    let q : Going room₀ at₀ whole room at (lineText (byte "=" ∷ take pmLength (drop from table)) ++ linesFrom table (from + pmLength) ((n - (from + pmLength)) / pmLength)) = rw e at g in
+    let q : Going room₀ at₀ whole room at
+    (lineText (byte "=" ∷ take pmLength (drop from table)) ++ linesFrom table (from + pmLength) ((n - (from + pmLength)) / pmLength)) =
+    rw e at g in
     turn q p
 
-pub lines-end : {room₀ whole room : List ℕ} {at₀ at : ℕ} (table : List ℕ) (n from : ℕ) → n ≤ from → Going room₀ at₀ whole room at (linesFrom table from ((n - from) / pmLength)) → Written room₀ at₀ whole room at
+pub lines-end : {room₀ whole room : List ℕ} {at₀ at : ℕ} (table : List ℕ) (n from : ℕ) → n ≤ from
+    → Going room₀ at₀ whole room at (linesFrom table from ((n - from) / pmLength)) → Written room₀ at₀ whole room at
 lines-end table n from h g = let e : (n - from) / pmLength ≡ 0 = omega arith in end (rw e at g)
 
 -- by place
@@ -57,14 +60,18 @@ module _ (f : Further) {room table : List ℕ} {n : ℕ} (t : Table f room table
   places-are zero i h = refl
   places-are (suc k) i h =
       let d : drop i table ≡ getD table i 0 ∷ drop (suc i) table = drop-cons table i 0 (omega (arith, w)) in
-      ap (take (suc k)) d ∙ ap (λ (b : ℕ). b ∷ take k (drop (suc i) table)) (t .places i (omega arith)) ∙ ap (λ (l : List ℕ). place f i ∷ l) (places-are k (suc i) (omega arith))
+      ap (take (suc k)) d ∙ ap (λ (b : ℕ). b ∷ take k (drop (suc i) table)) (t .places i (omega arith))
+      ∙ ap (λ (l : List ℕ). place f i ∷ l) (places-are k (suc i) (omega arith))
 
   lines-are : (k d : ℕ) → pmLength * d + pmLength * k ≤ n → linesFrom table (pmLength * d) k ≡ rowLines f d k
   lines-are zero d h = refl
   lines-are (suc k) d h =
       let e : pmLength * d + pmLength ≡ pmLength * suc d = omega arith in
-      let a : linesFrom table (pmLength * d + pmLength) k ≡ rowLines f (suc d) k = ap (λ (j : ℕ). linesFrom table j k) e ∙ lines-are k (suc d) (omega arith) in
-      ap (λ (l : List ℕ). lineText (byte "=" ∷ l) ++ linesFrom table (pmLength * d + pmLength) k) (places-are pmLength (pmLength * d) (omega arith)) ∙ ap (λ (l : List ℕ). lineText (byte "=" ∷ placesFrom f (pmLength * d) pmLength) ++ l) a
+      let a : linesFrom table (pmLength * d + pmLength) k ≡ rowLines f (suc d) k =
+      ap (λ (j : ℕ). linesFrom table j k) e ∙ lines-are k (suc d) (omega arith) in
+      ap (λ (l : List ℕ). lineText (byte "=" ∷ l) ++ linesFrom table (pmLength * d + pmLength) k)
+      (places-are pmLength (pmLength * d) (omega arith))
+      ∙ ap (λ (l : List ℕ). lineText (byte "=" ∷ placesFrom f (pmLength * d) pmLength) ++ l) a
 
   pub table-lines : linesFrom table 0 (n / pmLength) ≡ rowLines f 0 (tableSize f / pmLength)
   table-lines = lines-are (n / pmLength) 0 (omega arith) ∙ ap (λ (m : ℕ). rowLines f 0 (m / pmLength)) (t .size)
@@ -74,7 +81,8 @@ module _ (f : Further) {room table : List ℕ} {n : ℕ} (t : Table f room table
   unfolding tableText
   no-table e {out} at = rw (eq-eqb (tableSize f) 0 (sym (t .size) ∙ e)) (none out at)
 
-  pub all-table : (n ≡ 0 → ⊥) → {out a b c r : List ℕ} {at i j k o : ℕ} → Written out at (bytes "PMT ") a i → Written a i (decimalText n) b j → Written b j (lf ∷ []) c k
+  pub all-table : (n ≡ 0 → ⊥) → {out a b c r : List ℕ} {at i j k o : ℕ} → Written out at (bytes "PMT ") a i → Written a i (decimalText n) b j
+      → Written b j (lf ∷ []) c k
       → Written c k (linesFrom table 0 ((n - 0) / pmLength)) r o → Written out at (tableText f) r o
   unfolding tableText
   all-table z {out} {a} {b} {c} {r} {at} {i} {j} {k} {o} u v x y =
@@ -92,7 +100,8 @@ rows-length : (f : Further) (d k : ℕ) → length (rowLines f d k) ≡ 68 * k
 rows-length f d zero = refl
 rows-length f d (suc k) =
     let a : length (placesFrom f (pmLength * d) pmLength) ≡ pmLength = places-length f (pmLength * d) pmLength in
-    let b : length (placesFrom f (pmLength * d) pmLength ++ (lf ∷ [])) ≡ 67 = length-append (placesFrom f (pmLength * d) pmLength) (lf ∷ []) ∙ ap (λ (n : ℕ). n + 1) a in
+    let b : length (placesFrom f (pmLength * d) pmLength ++ (lf ∷ [])) ≡ 67 =
+    length-append (placesFrom f (pmLength * d) pmLength) (lf ∷ []) ∙ ap (λ (n : ℕ). n + 1) a in
     let c : length (lineText (byte "=" ∷ placesFrom f (pmLength * d) pmLength)) ≡ 68 = ap suc b in
     omega (arith, length-append (lineText (byte "=" ∷ placesFrom f (pmLength * d) pmLength)) (rowLines f (suc d) k), c, rows-length f (suc d) k)
 
@@ -103,4 +112,10 @@ table-short f =
     let d : length (decimalText (tableSize f)) ≤ 3 = few-digits 2 (tableSize f) (omega (arith, s .1)) in
     by-bool (eqb (tableSize f) 0)
     (λ e. rw e (omega arith))
-    (λ e. rw e (omega (arith, s .1, d, length-append (decimalText (tableSize f)) (bytes "\n" ++ rowLines f 0 (tableSize f / pmLength)), rows-length f 0 (tableSize f / pmLength))))
+    (λ e. rw e (omega (
+      arith,
+      s .1,
+      d,
+      length-append (decimalText (tableSize f)) (bytes "\n" ++ rowLines f 0 (tableSize f / pmLength)),
+      rows-length f 0 (tableSize f / pmLength),
+    )))

@@ -13,7 +13,8 @@ use Rattle.cards_fields.proofs.Groups.{size-cards, deck-cards, Either, empty, f
 use Rattle.cards_fields.specs.declared.DeckEnd.{DeckEnd}
 use Rattle.cards_fields.specs.declared.DeckEnd.the-variants as Ends
 use Rattle.cards_lines.specs.Shown.{shownBy, refusedText}
-use Rattle.cards_report.specs.Cards.{groupText, groupsText, endText, cardsBy, cardsText, beginBy, begin, left, pieceBy, over, nextBy, after, turns}
+use Rattle.cards_report.specs.Cards.{groupText, groupsText, endText, cardsBy, cardsText, beginBy}
+use Rattle.cards_report.specs.Cards.{begin, left, pieceBy, over, nextBy, after, turns}
 use Rattle.cards_report.proofs.Pieces.{to}
 use Rattle.cards_report.specs.declared.Coming.{Coming}
 use Rattle.cards_report.specs.declared.Coming.the-variants.{Groups, Refused, Over}
@@ -76,21 +77,24 @@ nothing (suc n) s p e =
     }
 
 -- the groups in turn, then the last line
-in-groups : (n : ℕ) (s : List ℕ) (from end : ℕ) (shown : List ℕ) (gs : List (List (List ℕ))) → groupsOf (cardsOf (take (end - from) (drop from s))) ≡ gs → length gs < n
+in-groups : (n : ℕ) (s : List ℕ) (from end : ℕ) (shown : List ℕ) (gs : List (List (List ℕ)))
+    → groupsOf (cardsOf (take (end - from) (drop from s))) ≡ gs → length gs < n
     → All n s (to from end shown) (groupsText shown gs)
 in-groups zero s from end shown gs e h = absurd (omega arith)
 in-groups (suc n) s from end shown [] e h =
     let p = to from end shown in
     let ih = nothing n s (over p) refl in
     record {
-      whole = ap (λ (x : List (List (List ℕ))). pieceBy Groups x shown ++ turns n s (nextBy Groups x p)) e ∙ ap (λ (l : List ℕ). endText ++ l) (ih .whole);
+      whole = ap (λ (x : List (List (List ℕ))). pieceBy Groups x shown ++ turns n s (nextBy Groups x p)) e
+          ∙ ap (λ (l : List ℕ). endText ++ l) (ih .whole);
       then = ap (λ (x : List (List (List ℕ))). afterAll n s (nextBy Groups x p) .coming) e ∙ ih .then;
     }
 in-groups (suc n) s from end shown (g ∷ gs) e h =
     let p = to from end shown in
     let ih = in-groups n s (from + size g) end (shownBy (getD g 0 []) shown) gs (others s from end g gs e) (omega arith) in
     record {
-      whole = ap (λ (x : List (List (List ℕ))). pieceBy Groups x shown ++ turns n s (nextBy Groups x p)) e ∙ ap (λ (l : List ℕ). groupText shown g ++ l) (ih .whole);
+      whole = ap (λ (x : List (List (List ℕ))). pieceBy Groups x shown ++ turns n s (nextBy Groups x p)) e
+          ∙ ap (λ (l : List ℕ). groupText shown g ++ l) (ih .whole);
       then = ap (λ (x : List (List (List ℕ))). afterAll n s (nextBy Groups x p) .coming) e ∙ ih .then;
     }
 
@@ -112,8 +116,10 @@ all-printed s n h = by (deckEnd s) refl
     by : (x : DeckEnd) → deckEnd s ≡ x → All n s (beginBy x) (cardsBy x s)
     by (Ends.At m) e =
         let z : m - 0 ≡ m = omega arith in
-        let d : groupsOf (cardsOf (take (m - 0) (drop 0 s))) ≡ deckGroups s = ap (λ (k : ℕ). groupsOf (cardsOf (take k s))) z ∙ ap groupsOf (deck-cards s m e) in
-        let l : length (deckGroups s) < n = omega (arith, ap length (sym d), groups-few (cardsOf (take (m - 0) s)), size-cards (take (m - 0) s), length-take (m - 0) s, h) in
+        let d : groupsOf (cardsOf (take (m - 0) (drop 0 s))) ≡ deckGroups s =
+        ap (λ (k : ℕ). groupsOf (cardsOf (take k s))) z ∙ ap groupsOf (deck-cards s m e) in
+        let l : length (deckGroups s) < n =
+        omega (arith, ap length (sym d), groups-few (cardsOf (take (m - 0) s)), size-cards (take (m - 0) s), length-take (m - 0) s, h) in
         in-groups n s 0 m (bytes "------") (deckGroups s) d l
     by (Ends.Refused refusal) e = refused n h
       where

@@ -94,7 +94,9 @@ fn put_good(out: &mut [u8], at: usize, shown: [u8; 6], full: FullRequest) -> usi
 
 // Puts what is printed of a group; the ID is the one that an error line shows.
 fn put_group(out: &mut [u8], at: usize, shown: [u8; 6], group: &[u8]) -> usize
-    ensures { λ r. ⌜ Written (now (out .entry)) at (textBy (readFull (cardsOf (now (group .entry))) .verdict) (readFull (cardsOf (now (group .entry))) .full) shown) (now (out .exit)) r ⌝ }
+    ensures { λ r. ⌜ Written (now (out .entry)) at
+        (textBy (readFull (cardsOf (now (group .entry))) .verdict) (readFull (cardsOf (now (group .entry))) .full) shown)
+        (now (out .exit)) r ⌝ }
 {
     let reading = cards_group::read_full(group);
     let verdict = reading.verdict;

@@ -90,7 +90,8 @@ units-fit k (n ∷ ns) h f (suc i) = units-fit (suc k) ns (omega arith) (both (l
 
 module _ (n : ℕ) (few : n ≤ 99) (r : Request) (a : Allowed r) where
   -- a field that is this text
-  is-right : (k : ℕ) (t s : List ℕ) → s ≡ t → ruleAt k .least ≤ length t → length t ≤ ruleAt k .most → ruleAt k .content t ≡ true → fieldError k (ruleAt k) s ≡ Good
+  is-right : (k : ℕ) (t s : List ℕ) → s ≡ t → ruleAt k .least ≤ length t → length t ≤ ruleAt k .most → ruleAt k .content t ≡ true
+      → fieldError k (ruleAt k) s ≡ Good
   is-right k t s e l m c = ap (fieldError k (ruleAt k)) e ∙ right k (ruleAt k) t l m c
 
   not-last : lastOfAll (r .letter) (r .precedence) ≡ false
@@ -119,20 +120,25 @@ module _ (n : ℕ) (few : n ≤ 99) (r : Request) (a : Allowed r) where
       let mode = mark-one (bytes "SP") (r .mode) refl (a .mode) in
       let mix = mark-one (bytes "PC") (r .mix) refl (a .mix) in
       let store = mark-listed (bytes "TACZ") (r .store) (a .store) in
-      more (is-right 0 (a .id .text) (spaceless (r .id)) (name-text isAlnum alnum-plain 1 6 (r .id) (a .id)) (a .id .long .0) (a .id .long .1) (a .id .each))
+      more (is-right 0 (a .id .text) (spaceless (r .id)) (name-text isAlnum alnum-plain 1 6 (r .id) (a .id)) (a .id .long .0)
+      (a .id .long .1) (a .id .each))
       (more refl
       (more (count-text n few)
       (more (right 3 (ruleAt 3) (markText (r .rush)) (omega arith) (rush .0) (rush .1))
-      (more (is-right 4 (a .program .text) (spaceless (r .program)) (name-text (passes Hyphened) hyphened-plain 1 12 (r .program) (a .program)) (a .program .long .0) (a .program .long .1) program-right)
+      (more (is-right 4 (a .program .text) (spaceless (r .program)) (name-text (passes Hyphened) hyphened-plain 1 12 (r .program) (a .program))
+      (a .program .long .0) (a .program .long .1) program-right)
       (more (right 5 (ruleAt 5) (markText (r .immediate)) (omega arith) (immediate .0) (immediate .1))
       (more (right 6 (ruleAt 6) (markText (r .device)) (omega arith) (device .0) (device .1))
-      (more (is-right 7 (a .medium .text) (spaceless (r .medium)) (name-text isAlnum alnum-plain 1 6 (r .medium) (a .medium)) (a .medium .long .0) (a .medium .long .1) (a .medium .each))
+      (more (is-right 7 (a .medium .text) (spaceless (r .medium)) (name-text isAlnum alnum-plain 1 6 (r .medium) (a .medium))
+      (a .medium .long .0) (a .medium .long .1) (a .medium .each))
       (more (right 8 (ruleAt 8) (markText (r .mode)) (omega (arith, mode .0)) (omega (arith, mode .0)) (mode .1))
-      (more (priority-text (r .sequence) (r .letter) (r .precedence) (omega (arith, a .sequence)) (omega (arith, a .precedence)) (a .letter) not-last)
+      (more
+      (priority-text (r .sequence) (r .letter) (r .precedence) (omega (arith, a .sequence)) (omega (arith, a .precedence)) (a .letter) not-last)
       (more (right 10 (ruleAt 10) (markText (r .mix)) (omega (arith, mix .0)) (omega (arith, mix .0)) (mix .1))
       (more (minutes-text (r .minutes) (omega (arith, a .minutes)))
       (more (right 12 (ruleAt 12) (markText (r .store)) (omega arith) (store .0) (store .1))
-      (more (is-right 13 (a .library .text) (spaceless (r .library)) (name-text isAlnum alnum-plain 0 6 (r .library) (a .library)) (a .library .long .0) (a .library .long .1) (a .library .each))
+      (more (is-right 13 (a .library .text) (spaceless (r .library)) (name-text isAlnum alnum-plain 0 6 (r .library) (a .library))
+      (a .library .long .0) (a .library .long .1) (a .library .each))
       refl)))))))))))))
 
   -- NO RULE REFUSES IT
@@ -165,10 +171,12 @@ module _ (n : ℕ) (few : n ≤ 99) (r : Request) (a : Allowed r) where
 -- ---- what is taken is allowed
 
 module _ (n : ℕ) (r : Request) (t : Taken n r) where
-  rule-of : (k : ℕ) → k < 14 → (ruleAt k .least ≤ length (getD (ptyFields n r) k [])) × ((length (getD (ptyFields n r) k []) ≤ ruleAt k .most) × (ruleAt k .content (getD (ptyFields n r) k []) ≡ true))
+  rule-of : (k : ℕ) → k < 14 → (ruleAt k .least ≤ length (getD (ptyFields n r) k []))
+      × ((length (getD (ptyFields n r) k []) ≤ ruleAt k .most) × (ruleAt k .content (getD (ptyFields n r) k []) ≡ true))
   rule-of k h = good-field k (ruleAt k) (getD (ptyFields n r) k []) (right-at (ptyFields n r) (t .fields) k h)
 
-  a-name : (class : ℕ → Bool) (least most : ℕ) (s : List ℕ) → formed most s ≡ true → least ≤ length (spaceless s) → length (spaceless s) ≤ most → every class (spaceless s) ≡ true → Name class least most s
+  a-name : (class : ℕ → Bool) (least most : ℕ) (s : List ℕ) → formed most s ≡ true → least ≤ length (spaceless s) → length (spaceless s) ≤ most
+      → every class (spaceless s) ≡ true → Name class least most s
   a-name class least most s f l m e = record { text = spaceless s; long = (l, m); each = e; is = sym (name-back most s f) }
 
   named-so : programName (spaceless (r .program)) ≡ true
@@ -196,7 +204,9 @@ module _ (n : ℕ) (r : Request) (t : Taken n r) where
 
   minutes-of : r .minutes < 10000
   unfolding ptyFields rules
-  minutes-of = subst (λ (n : ℕ). n < 10000) (number-back (r .minutes)) (value-below 4 (decimalText (r .minutes)) (rule-of 11 (omega arith) .1 .1) (rule-of 11 (omega arith) .1 .0))
+  minutes-of =
+      subst (λ (n : ℕ). n < 10000) (number-back (r .minutes))
+      (value-below 4 (decimalText (r .minutes)) (rule-of 11 (omega arith) .1 .1) (rule-of 11 (omega arith) .1 .0))
 
   numbers-of : (r .facilities .md < 1000000) × (numbersFit 3 (r .facilities .units) ≡ true)
   numbers-of =

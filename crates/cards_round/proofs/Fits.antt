@@ -90,7 +90,8 @@ taken-request v t = both (takesFurther (v .further)) (takes (cardCount v) (v .re
 module _ (n : ℕ) (pty fac : List ℕ) (further : List (List ℕ)) (e : orderedError n pty fac further ≡ Good) where
   pub steps : (frontError n pty fac ≡ Good) × ((orderError pty fac further ≡ Good) × ((facError fac ≡ Good) × (contentsError false further ≡ Good)))
   steps =
-      let a = or-else-none (frontError n pty fac) (orElse (orderError pty fac further) (orElse (facError fac) (contentsError false further))) (sym (in-steps n pty fac further) ∙ e) in
+      let a = or-else-none (frontError n pty fac) (orElse (orderError pty fac further) (orElse (facError fac) (contentsError false further)))
+      (sym (in-steps n pty fac further) ∙ e) in
       let b = or-else-none (orderError pty fac further) (orElse (facError fac) (contentsError false further)) (a .1) in
       (a .0, (b .0, or-else-none (facError fac) (contentsError false further) (b .1)))
 
@@ -115,8 +116,11 @@ module _ (n : ℕ) (pty fac : List ℕ) (further : List (List ℕ)) (e : ordered
   pub entries-good : (malformed fac ≡ false) × (entriesError nothing (entriesOf fac) ≡ Good)
   unfolding facError
   entries-good =
-      let a = or-else-none (errorIf (malformed fac) FacMalformed) (orElse (entriesError nothing (entriesOf fac)) (orElse (coreError (asked fac)) Good)) (steps .1 .1 .0) in
-      (not-error (malformed fac) FacMalformed (a .0), or-else-none (entriesError nothing (entriesOf fac)) (orElse (coreError (asked fac)) Good) (a .1) .0)
+      let a = or-else-none (errorIf (malformed fac) FacMalformed)
+      (orElse (entriesError nothing (entriesOf fac)) (orElse (coreError (asked fac)) Good)) (steps .1 .1 .0) in (
+        not-error (malformed fac) FacMalformed (a .0),
+        or-else-none (entriesError nothing (entriesOf fac)) (orElse (coreError (asked fac)) Good) (a .1) .0,
+      )
 
   meant : FurtherMeant further
   meant = further-meant further (order-tests .0) (order-tests .1 .1 .1) (steps .1 .1 .1)
@@ -139,10 +143,13 @@ module _ (n : ℕ) (pty fac : List ℕ) (further : List (List ℕ)) (e : ordered
   fac-no-longer =
       subst (λ (asks : List ℕ). length (cardText (id ∷ bytes "FAC" ∷ entryTexts 0 asks)) ≤ length fac)
       (sym (asks-held (asked fac) (fit-all nothing (entriesOf fac) refl (entries-good .1))))
-      (fac-short id fac (entries-good .0) (front-tests .1 .1) (omega (arith, name-short 6 (field pty 0), same-id pty fac (order-tests .1 .0))) (entries-good .1))
+      (fac-short id fac (entries-good .0) (front-tests .1 .1) (omega (arith, name-short 6 (field pty 0), same-id pty fac (order-tests .1 .0)))
+      (entries-good .1))
 
   fac-few : length fac ≤ cardLength
-  fac-few = by-bool (ltb cardLength (length fac)) (λ t. never (too-long fac (ltb-true cardLength (length fac) t)) (entries-good .0)) (λ t. ltb-false cardLength (length fac) t)
+  fac-few =
+      by-bool (ltb cardLength (length fac)) (λ t. never (too-long fac (ltb-true cardLength (length fac) t)) (entries-good .0))
+      (λ t. ltb-false cardLength (length fac) t)
 
   module _ (few : length further ≤ mostFurther) where
     count-few : cardCount v ≤ 99
@@ -152,7 +159,8 @@ module _ (n : ℕ) (pty fac : List ℕ) (further : List (List ℕ)) (e : ordered
     v-taken : takesFull v ≡ true
     unfolding takesFull
     v-taken =
-        let a : AllowedFurther (held (canonicals further)) = record { cards = meant .cards; kept = meant .kept few few-texts; is = ap held (meant .is) } in
+        let a : AllowedFurther (held (canonicals further)) =
+        record { cards = meant .cards; kept = meant .kept few few-texts; is = ap held (meant .is) } in
         rw (further-taken (held (canonicals further)) a, read-taken (cardCount v) count-few pty fac (front-tests .0) (steps .1 .1 .0))
 
     cards-are : cardsIn v ≡ ptyText (cardCount v) (v .request) ∷ facText (v .request) ∷ behindId id (canonicals further)
@@ -172,20 +180,21 @@ module _ (n : ℕ) (pty fac : List ℕ) (further : List (List ℕ)) (e : ordered
       takes = v-taken;
       first = subst (λ (cs : List (List ℕ)). length (getD cs 0 []) ≤ 64) (sym cards-are) pty-few;
       others = subst (λ (cs : List (List ℕ)). NoLonger (drop 1 cs) (fac ∷ further)) (sym cards-are) (fac-no-longer, others .0);
-      small =
-          ap short cards-are
+      small = ap short cards-are
           ∙ rw (
             le-leb (length (ptyText (cardCount v) (v .request))) cardLength (omega (arith, pty-few)),
             le-leb (length (facText (v .request))) cardLength (omega (arith, fac-no-longer, fac-few)),
             others .1,
           );
       divided = ap (λ (cs : List (List ℕ)). drop 2 cs) cards-are;
-      many = subst (λ (cs : List (List ℕ)). length cs ≤ mostCards) (sym cards-are) (omega (arith, behind-many id (canonicals further), canonicals-many further));
+      many = subst (λ (cs : List (List ℕ)). length cs ≤ mostCards) (sym cards-are)
+          (omega (arith, behind-many id (canonicals further), canonicals-many further));
     }
 
 -- ---- what was read
 
-full-answered : (w : CardVerdict) (q : Request) (f : Further) (v : FullRequest) → fullAnswer (answer w q .verdict) (answer w q .request) f ≡ record { verdict = Good; full = v }
+full-answered : (w : CardVerdict) (q : Request) (f : Further) (v : FullRequest)
+    → fullAnswer (answer w q .verdict) (answer w q .request) f ≡ record { verdict = Good; full = v }
     → (w ≡ Good) × _≡_ {A = FullRequest} (record { request = q; further = f }) v
 full-answered Good q f v e = (refl, ap (λ (x : FullReading). x .full) e)
 full-answered (CardVerdict.Wrong x) q f v e = not-good (ap (λ (y : FullReading). y .verdict) e)
@@ -196,7 +205,8 @@ pub answered : (group : List (List ℕ)) (v : FullRequest) → readFull group �
     × _≡_ {A = FullRequest} (record { request = requestOf (getD group 0 []) (asked (getD group 1 [])); further = held (canonicals (drop 2 group)) }) v
 unfolding readFull readCards
 answered group v e =
-    full-answered (orderedError (length group) (getD group 0 []) (getD group 1 []) (drop 2 group)) (requestOf (getD group 0 []) (asked (getD group 1 []))) (held (canonicals (drop 2 group))) v e
+    full-answered (orderedError (length group) (getD group 0 []) (getD group 1 []) (drop 2 group))
+    (requestOf (getD group 0 []) (asked (getD group 1 []))) (held (canonicals (drop 2 group))) v e
 
 no-fac : isFac [] ≡ false
 unfolding fields
@@ -215,14 +225,16 @@ pub read-takes : (group : List (List ℕ)) (v : FullRequest) → readFull group 
 read-takes group v e = again group v e .takes
 
 -- NOR 12 where the room has 1,296 bytes
-pub read-fits : (group : List (List ℕ)) (v : FullRequest) (room : ℕ) → readFull group ≡ record { verdict = Good; full = v } → cardsRoom ≤ room → fits v room ≡ true
+pub read-fits : (group : List (List ℕ)) (v : FullRequest) (room : ℕ) → readFull group ≡ record { verdict = Good; full = v } → cardsRoom ≤ room
+    → fits v room ≡ true
 unfolding fits
 read-fits group v room e h =
     let a = again group v e in
     rw (a .small, le-leb (length (textOf v)) room (omega (arith, lines-few (cardsIn v) (a .small), a .many)))
 
 -- EVERY REQUEST READ FROM CARDS IS WRITTEN, and read back as itself
-pub always-written : (group : List (List ℕ)) (v : FullRequest) (room : List ℕ) → readFull group ≡ record { verdict = Good; full = v } → cardsRoom ≤ length room
+pub always-written : (group : List (List ℕ)) (v : FullRequest) (room : List ℕ) → readFull group ≡ record { verdict = Good; full = v }
+    → cardsRoom ≤ length room
     → (writeAnswer v (length room) ≡ Cards (length (textOf v)))
     × (readFull (cardsOf (take (length (textOf v)) (written v room))) ≡ record { verdict = Good; full = v })
 always-written group v room e h = room-read v room (read-takes group v e) (read-fits group v (length room) e h)

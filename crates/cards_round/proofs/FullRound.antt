@@ -31,17 +31,20 @@ use Rattle.cards_full.specs.declared.Wrote.the-variants.{Cards}
 use Rattle.cards_full.proofs.Round.{Taken, taken, at, pty-right, is-fac, fac-right, same-ids, count-is, request-back, pty-line, fac-line, id-plain}
 use Rattle.cards_full.proofs.WriteLaws.{behind-many}
 use Rattle.cards_round.specs.AllowedFurther.{Card, textsOf, AllowedFurther}
-use Rattle.cards_round.proofs.FurtherRound.{cards-back, written-lines, written-ids, written-types, written-together, written-content-all, written-again}
+use Rattle.cards_round.proofs.FurtherRound.{cards-back, written-lines, written-ids, written-types}
+use Rattle.cards_round.proofs.FurtherRound.{written-together, written-content-all, written-again}
 use Rattle.cards_round.proofs.HeldLaws.{kept-texts, texts-many}
 use Rattle.cards_round.proofs.Taking.{further-allowed}
 
 -- what a group without error reads as
 pub read-as : (pty fac : List ℕ) (further : List (List ℕ)) → orderedError (length (pty ∷ fac ∷ further)) pty fac further ≡ Good
-    → readFull (pty ∷ fac ∷ further) ≡ record { verdict = Good; full = record { request = requestOf pty (asked fac); further = held (canonicals further) } }
+    → readFull (pty ∷ fac ∷ further)
+    ≡ record { verdict = Good; full = record { request = requestOf pty (asked fac); further = held (canonicals further) } }
 unfolding readFull readCards
 read-as pty fac further e = rw e
 
-pub full-of : (v : FullRequest) (r : Request) (f : Further) → r ≡ v .request → f ≡ v .further → _≡_ {A = FullRequest} (record { request = r; further = f }) v
+pub full-of : (v : FullRequest) (r : Request) (f : Further) → r ≡ v .request → f ≡ v .further
+    → _≡_ {A = FullRequest} (record { request = r; further = f }) v
 full-of v r f a b = ap (λ (x : Request). record { request = x; further = f }) a ∙ ap (λ (y : Further). record { request = v .request; further = y }) b
 
 module _ (v : FullRequest) (t : takesFull v ≡ true) where
@@ -89,7 +92,8 @@ module _ (v : FullRequest) (t : takesFull v ≡ true) where
   pub cut : cardsOf (textOf v) ≡ cardsIn v
   cut =
       ap (λ (cs : List (List ℕ)). cardsOf (linesText cs)) cards-are
-      ∙ cards-back (ptyText n r ∷ facText r ∷ further) (pty-line n r request-taken, (fac-line n r request-taken, written-lines id (id-plain n r request-taken) ms (allowed .kept .each)))
+      ∙ cards-back (ptyText n r ∷ facText r ∷ further)
+      (pty-line n r request-taken, (fac-line n r request-taken, written-lines id (id-plain n r request-taken) ms (allowed .kept .each)))
       ∙ sym cards-are
 
   module _ (s : short (cardsIn v) ≡ true) where
@@ -134,19 +138,23 @@ module _ (v : FullRequest) (t : takesFull v ≡ true) where
 
     pub read-back : readFull (cardsOf (textOf v)) ≡ record { verdict = Good; full = v }
     read-back =
-        let again : held (canonicals further) ≡ v .further = ap held (written-again id (id-plain n r request-taken) ms (allowed .kept) (sizes .1 .1)) ∙ sym (allowed .is) in
+        let again : held (canonicals further) ≡ v .further =
+        ap held (written-again id (id-plain n r request-taken) ms (allowed .kept) (sizes .1 .1)) ∙ sym (allowed .is) in
         ap readFull (cut ∙ cards-are)
         ∙ read-as (ptyText n r) (facText r) further no-error
-        ∙ ap (λ (x : FullRequest). record { verdict = Good; full = x }) (full-of v (requestOf (ptyText n r) (asked (facText r))) (held (canonicals further)) (request-back n r request-taken) again)
+        ∙ ap (λ (x : FullRequest). record { verdict = Good; full = x })
+        (full-of v (requestOf (ptyText n r) (asked (facText r))) (held (canonicals further)) (request-back n r request-taken) again)
 
 -- EVERY REQUEST THAT THE WRITER TAKES AND WHOSE CARDS FIT IS READ BACK FROM THEM
-pub round-trip : (v : FullRequest) (room : ℕ) → takesFull v ≡ true → fits v room ≡ true → readFull (cardsOf (textOf v)) ≡ record { verdict = Good; full = v }
+pub round-trip : (v : FullRequest) (room : ℕ) → takesFull v ≡ true → fits v room ≡ true
+    → readFull (cardsOf (textOf v)) ≡ record { verdict = Good; full = v }
 unfolding fits
 round-trip v room t f = read-back v t (both (short (cardsIn v)) (leb (length (textOf v)) room) f .0)
 
 -- AND SO FROM THE ROOM: the bytes that writing says it wrote are read as the request
 pub room-read : (v : FullRequest) (room : List ℕ) → takesFull v ≡ true → fits v (length room) ≡ true
-    → (writeAnswer v (length room) ≡ Cards (length (textOf v))) × (readFull (cardsOf (take (length (textOf v)) (written v room))) ≡ record { verdict = Good; full = v })
+    → (writeAnswer v (length room) ≡ Cards (length (textOf v)))
+    × (readFull (cardsOf (take (length (textOf v)) (written v room))) ≡ record { verdict = Good; full = v })
 unfolding writeAnswer written
 room-read v room t f = (
   rw (t, f),

@@ -29,11 +29,13 @@ use Rattle.cards_tal.specs.Tal.{isTal}
 use Rattle.cards_trn.specs.Trn.{isTrn, hasCount}
 use Rattle.cards_pm.specs.Pm.{isPm, rising}
 use Rattle.cards_further.specs.Together.{apart}
-use Rattle.cards_further.specs.Further.{unknown, unnumbered, faulty, typesError, pmWrong, togetherError, contentError, contentsError, canonical, canonicals}
+use Rattle.cards_further.specs.Further.{unknown, unnumbered, faulty, typesError, pmWrong, togetherError}
+use Rattle.cards_further.specs.Further.{contentError, contentsError, canonical, canonicals}
 use Rattle.cards_group.specs.Group.{otherId}
 use Rattle.cards_full.specs.Full.{behindId, short}
 use Rattle.cards_round.specs.AllowedFurther.{Card, tal, trn, pm, textIn, textsOf, Proper, AllProper, counts, Kept}
-use Rattle.cards_round.proofs.Meaning.{Stands, AllStand, counted, none-of, tals-as, trns-as, pms-as, rises-as, written-stands, written-content, written-id, written-line, Meant, meant}
+use Rattle.cards_round.proofs.Meaning.{Stands, AllStand, counted, none-of, tals-as, trns-as, pms-as, rises-as}
+use Rattle.cards_round.proofs.Meaning.{written-stands, written-content, written-id, written-line, Meant, meant}
 use Rattle.cards_fields.proofs.RoundLaws.{neither}
 
 -- ---- lists
@@ -46,7 +48,9 @@ AllLines (c ∷ cs) = NoLf c × AllLines cs
 -- so that they are cut where they were put together
 pub cards-back : (cs : List (List ℕ)) → AllLines cs → cardsOf (linesText cs) ≡ cs
 cards-back [] n = refl
-cards-back (c ∷ cs) n = ap cardsOf (append-assoc c (lf ∷ []) (linesText cs)) ∙ first-ended c (linesText cs) (n .0) ∙ ap (λ (l : List (List ℕ)). c ∷ l) (cards-back cs (n .1))
+cards-back (c ∷ cs) n =
+    ap cardsOf (append-assoc c (lf ∷ []) (linesText cs)) ∙ first-ended c (linesText cs) (n .0)
+    ∙ ap (λ (l : List (List ℕ)). c ∷ l) (cards-back cs (n .1))
 
 -- each text has at most 78 characters
 abbrev pub AllFew : List (List ℕ) → Type 0
@@ -106,7 +110,8 @@ module _ (id : List ℕ) (d : every plain id ≡ true) where
       let q = both (leb (length (id ++ (44 ∷ textIn m))) cardLength) (short (behind ms)) h in
       (written-stands id d m (p .0 .0) (leb-true (length (id ++ (44 ∷ textIn m))) cardLength (q .0)), written-stand ms (p .1) (q .1))
 
-  pub written-contents : (already : Bool) (ms : List Card) → AllProper ms → short (behind ms) ≡ true → (already ≡ true → counts ms ≡ 0) → counts ms ≤ 1 → contentsError already (behind ms) ≡ Good
+  pub written-contents : (already : Bool) (ms : List Card) → AllProper ms → short (behind ms) ≡ true → (already ≡ true → counts ms ≡ 0)
+      → counts ms ≤ 1 → contentsError already (behind ms) ≡ Good
   written-contents already [] p h f n = refl
   written-contents already (m ∷ ms) p h f n =
       let c = id ++ (44 ∷ textIn m) in
@@ -115,7 +120,8 @@ module _ (id : List ℕ) (d : every plain id ≡ true) where
       let s = written-stands id d m (p .0 .0) l in
       let u = count-step m ms in
       rw (
-        written-content id d m (p .0 .0) l already (λ e. by-bool already (λ a. let v : counts (m ∷ ms) ≡ suc (counts ms) = rw e at u in absurd (omega (arith, f a))) (λ a. a)),
+        written-content id d m (p .0 .0) l already
+            (λ e. by-bool already (λ a. let v : counts (m ∷ ms) ≡ suc (counts ms) = rw e at u in absurd (omega (arith, f a))) (λ a. a)),
         s .count,
       )
       (written-contents (already || counted m) ms (p .1) (q .1) (λ a. rest a) (omega (arith, less)))
@@ -162,7 +168,8 @@ record AllMeant (already : Bool) (cs : List (List ℕ)) : Type 0 where
   pub first : already ≡ true → counts cards ≡ 0
   pub room : AllRoom cs
 
-all-meant : (already : Bool) (cs : List (List ℕ)) → any isFac cs ≡ false → any unknown cs ≡ false → any unnumbered cs ≡ false → any faulty cs ≡ false → contentsError already cs ≡ Good → AllMeant already cs
+all-meant : (already : Bool) (cs : List (List ℕ)) → any isFac cs ≡ false → any unknown cs ≡ false → any unnumbered cs ≡ false
+    → any faulty cs ≡ false → contentsError already cs ≡ Good → AllMeant already cs
 all-meant already [] a b c d e = record { cards = []; stand = tt; each = tt; many = omega arith; first = λ x. refl; room = tt }
 all-meant already (x ∷ xs) a b c d e =
     let a₁ = neither (isFac x) (any isFac xs) a in
@@ -181,9 +188,10 @@ all-meant already (x ∷ xs) a b c d e =
           cards = here .card ∷ rest .cards;
           stand = (here .stands, rest .stand);
           each = (here .proper, rest .each);
-          many =
-              by-bool (counted (here .card))
-              (λ t. let z : already || counted (here .card) ≡ true = by-bool already (λ y. rw y) (λ y. rw (y, t)) in let v : counts (here .card ∷ rest .cards) ≡ suc (counts (rest .cards)) = rw t at u in omega (arith, rest .first z))
+          many = by-bool (counted (here .card))
+              (λ t.
+              let z : already || counted (here .card) ≡ true = by-bool already (λ y. rw y) (λ y. rw (y, t)) in
+              let v : counts (here .card ∷ rest .cards) ≡ suc (counts (rest .cards)) = rw t at u in omega (arith, rest .first z))
               (λ t. let v : counts (here .card ∷ rest .cards) ≡ counts (rest .cards) = rw t at u in omega (arith, rest .many));
           first = λ y.
               let t = here .first y in
@@ -225,7 +233,8 @@ module _ (cs : List (List ℕ)) (types : typesError cs ≡ Good) (together : tog
   unfolding togetherError
   together-tests =
       let last = orElse (errorIf (apart isTrn cs) TrnApart) Good in
-      let a = or-else-none (errorIf (any unnumbered cs) PmNumber) (orElse (errorIf (pmWrong cs) PmWrong) (orElse (errorIf (apart isTal cs) TalApart) last)) together in
+      let a = or-else-none (errorIf (any unnumbered cs) PmNumber)
+      (orElse (errorIf (pmWrong cs) PmWrong) (orElse (errorIf (apart isTal cs) TalApart) last)) together in
       let b = or-else-none (errorIf (pmWrong cs) PmWrong) (orElse (errorIf (apart isTal cs) TalApart) last) (a .1) in
       let c = or-else-none (errorIf (apart isTal cs) TalApart) last (b .1) in
       let d = or-else-none (errorIf (apart isTrn cs) TrnApart) Good (c .1) in (

@@ -72,7 +72,8 @@ pty-short n r t = omega (arith, trimmed-short (spaceless (r .id)) (drop 1 (ptyFi
 -- ---- the FAC card
 
 -- the card with this ID that is written for what a good FAC card asks for
-pub fac-short : (id fac : List ℕ) → malformed fac ≡ false → isFac fac ≡ true → length id ≤ length (field fac 0) → entriesError nothing (entriesOf fac) ≡ Good
+pub fac-short : (id fac : List ℕ) → malformed fac ≡ false → isFac fac ≡ true → length id ≤ length (field fac 0)
+    → entriesError nothing (entriesOf fac) ≡ Good
     → length (cardText (id ∷ bytes "FAC" ∷ entryTexts 0 (asked fac))) ≤ length fac
 fac-short id fac m i l e =
     let three : length (field fac 1) ≡ 3 = ap length (same-equal (field fac 1) (bytes "FAC") i) in

@@ -57,7 +57,9 @@ past-marks false p (c ∷ cs) = by-bool (p c) (λ e. rw e (ap (λ (b : Bool). b 
 
 apart-marks : {A : Type 0} (p : A → Bool) (cs : List A) → apart p cs ≡ apart itself (marks p cs)
 unfolding apart
-apart-marks p cs = any-marks p (past true p (past false p cs)) ∙ ap (any itself) (past-marks true p (past false p cs) ∙ ap (past true itself) (past-marks false p cs))
+apart-marks p cs =
+    any-marks p (past true p (past false p cs))
+    ∙ ap (any itself) (past-marks true p (past false p cs) ∙ ap (past true itself) (past-marks false p cs))
 
 -- cards stand apart as their meanings do
 pub apart-as : {A B : Type 0} (p : A → Bool) (q : B → Bool) (cs : List A) (ms : List B) → marks p cs ≡ marks q ms → apart p cs ≡ apart q ms
@@ -96,13 +98,15 @@ AllStand (m ∷ ms) (c ∷ cs) = Stands m c × AllStand ms cs
 
 module _ where
   -- a test that no card of a list passes, and one that each passes as its meaning does
-  pub none-of : (p : List ℕ → Bool) → ((m : Card) (c : List ℕ) → Stands m c → p c ≡ false) → (ms : List Card) (cs : List (List ℕ)) → AllStand ms cs → any p cs ≡ false
+  pub none-of : (p : List ℕ → Bool) → ((m : Card) (c : List ℕ) → Stands m c → p c ≡ false) → (ms : List Card) (cs : List (List ℕ))
+      → AllStand ms cs → any p cs ≡ false
   none-of p h [] [] s = refl
   none-of p h [] (c ∷ cs) s = absurd s
   none-of p h (m ∷ ms) [] s = refl
   none-of p h (m ∷ ms) (c ∷ cs) s = rw (h m c (s .0)) (none-of p h ms cs (s .1))
 
-  marks-as : (p : List ℕ → Bool) (q : Card → Bool) → ((m : Card) (c : List ℕ) → Stands m c → p c ≡ q m) → (ms : List Card) (cs : List (List ℕ)) → AllStand ms cs → marks p cs ≡ marks q ms
+  marks-as : (p : List ℕ → Bool) (q : Card → Bool) → ((m : Card) (c : List ℕ) → Stands m c → p c ≡ q m) → (ms : List Card) (cs : List (List ℕ))
+      → AllStand ms cs → marks p cs ≡ marks q ms
   marks-as p q h [] [] s = refl
   marks-as p q h [] (c ∷ cs) s = absurd s
   marks-as p q h (m ∷ ms) [] s = absurd s
@@ -131,7 +135,8 @@ rise-from l k h (m ∷ ms) [] s = absurd s
 rise-from l k h (tal is ∷ ms) (c ∷ cs) s = rw (s .0 .pmed) (rise-from l k h ms cs (s .1))
 rise-from l k h (trn n ts ∷ ms) (c ∷ cs) s = rw (s .0 .pmed) (rise-from l k h ms cs (s .1))
 rise-from l k h (pm x ∷ ms) (c ∷ cs) s =
-    let r : rising (suc (48 + x .digit)) cs ≡ digitsRise (suc (x .digit)) ms = rise-from (suc (48 + x .digit)) (suc (x .digit)) (shift (x .digit)) ms cs (s .1) in
+    let r : rising (suc (48 + x .digit)) cs ≡ digitsRise (suc (x .digit)) ms =
+    rise-from (suc (48 + x .digit)) (suc (x .digit)) (shift (x .digit)) ms cs (s .1) in
     rw (s .0 .pmed, s .0 .digit refl, h (x .digit), r)
 
 pub rises-as : (ms : List Card) (cs : List (List ℕ)) → AllStand ms cs → rising 0 cs ≡ digitsRise 0 ms
@@ -189,7 +194,8 @@ module _ (id : List ℕ) (d : every plain id ≡ true) where
         text = rw (a, r) (w .text-is);
       }
 
-  pub written-content : (m : Card) → Proper m → length (behind m) ≤ cardLength → (already : Bool) → (counted m ≡ true → already ≡ false) → contentError already (behind m) ≡ Good
+  pub written-content : (m : Card) → Proper m → length (behind m) ≤ cardLength → (already : Bool) → (counted m ≡ true → already ≡ false)
+      → contentError already (behind m) ≡ Good
   written-content (tal is) p l already h = let w = tal-written id is d p in rw (w .tal) (w .good l)
   written-content (trn c ts) p l already h = let w = trn-written id c ts d p in rw (w .other, w .trn) (w .good already h l)
   written-content (pm s) p l already h =
@@ -217,9 +223,11 @@ pub record Meant (already : Bool) (c : List ℕ) : Type 0 where
   pub short : length c ≤ cardLength
 
 short-card : (c : List ℕ) → malformed c ≡ false → length c ≤ cardLength
-short-card c m = by-bool (ltb cardLength (length c)) (λ e. never (too-long c (ltb-true cardLength (length c) e)) m) (λ e. ltb-false cardLength (length c) e)
+short-card c m =
+    by-bool (ltb cardLength (length c)) (λ e. never (too-long c (ltb-true cardLength (length c) e)) m) (λ e. ltb-false cardLength (length c) e)
 
-module _ (already : Bool) (c : List ℕ) (fac : isFac c ≡ false) (known : unknown c ≡ false) (number : unnumbered c ≡ false) (form : faulty c ≡ false) (good : contentError already c ≡ Good) where
+module _ (already : Bool) (c : List ℕ) (fac : isFac c ≡ false) (known : unknown c ≡ false) (number : unnumbered c ≡ false)
+    (form : faulty c ≡ false) (good : contentError already c ≡ Good) where
   of-tal : isTal c ≡ true → Meant already c
   unfolding isPm talError
   of-tal t =

@@ -16,7 +16,8 @@ use Rattle.words.specs.Words.{every, value}
 use Rattle.cards_request.specs.Errors.{errorIf, orElse}
 use Rattle.cards_request.proofs.ErrorLaws.{not-error, or-else-none}
 use Rattle.cards_fields.specs.Fields.{field, fields, malformed}
-use Rattle.cards_fac.specs.Fac.{coreError, facError, channelText, codeOf, entered, entriesError, entryError, allEntered, formError, most, nothing, numberText, slotOf, slots, asked, entriesOf}
+use Rattle.cards_fac.specs.Fac.{coreError, facError, channelText, codeOf, entered, entriesError, entryError, allEntered}
+use Rattle.cards_fac.specs.Fac.{formError, most, nothing, numberText, slotOf, slots, asked, entriesOf}
 use Rattle.cards_fac.proofs.EntryLaws.{channel-low, code-low, good-number}
 use Rattle.cards_further.specs.Further.{canonicals, held}
 use Rattle.cards_group.specs.Group.{orderedError, requestOf, readFull}
@@ -73,8 +74,10 @@ permuted (Permuted.swap {t} {u} {ts}) asks l e =
     let a = right asks t (x .0) in
     let b = right (entered asks t) u (y .0) in
     let n : slotOf t ≡ slotOf u → ⊥ = apart t u a (b .1) in
-    let c : entered (entered asks t) u ≡ entered (entered asks u) t = set-swap asks (slotOf t) (slotOf u) (value (numberText t)) (value (numberText u)) n in
-    let o : getD (entered asks t) (slotOf u) 0 ≡ getD asks (slotOf u) 0 = getD-set-other asks (slotOf t) (slotOf u) (value (numberText t)) 0 (λ i. n (sym i)) in
+    let c : entered (entered asks t) u ≡ entered (entered asks u) t =
+    set-swap asks (slotOf t) (slotOf u) (value (numberText t)) (value (numberText u)) n in
+    let o : getD (entered asks t) (slotOf u) 0 ≡ getD asks (slotOf u) 0 =
+    getD-set-other asks (slotOf t) (slotOf u) (value (numberText t)) 0 (λ i. n (sym i)) in
     let m : getD (entered asks u) (slotOf t) 0 ≡ getD asks (slotOf t) 0 = getD-set-other asks (slotOf u) (slotOf t) (value (numberText u)) 0 n in
     let f : entryError asks u ≡ Good = is-right asks u (b .0) (omega (arith, o, b .1)) in
     let g : entryError (entered asks u) t ≡ Good = is-right (entered asks u) t (a .0) (omega (arith, m, a .1)) in
@@ -82,7 +85,8 @@ permuted (Permuted.swap {t} {u} {ts}) asks l e =
   where
     apart : (v w : List ℕ) → (formError v ≡ Good) × (getD asks (slotOf v) 0 ≤ 0) → getD (entered asks v) (slotOf w) 0 ≤ 0 → slotOf v ≡ slotOf w → ⊥
     apart v w a h i =
-        let s : getD (entered asks v) (slotOf v) 0 ≡ value (numberText v) = getD-set-same asks (slotOf v) (value (numberText v)) 0 (omega (arith, slot-low v (a .0))) in
+        let s : getD (entered asks v) (slotOf v) 0 ≡ value (numberText v) =
+        getD-set-same asks (slotOf v) (value (numberText v)) 0 (omega (arith, slot-low v (a .0))) in
         let k : getD (entered asks v) (slotOf v) 0 ≤ 0 = subst (λ (x : ℕ). getD (entered asks v) x 0 ≤ 0) (sym i) h in
         omega (arith, number-some v (a .0))
 permuted (Permuted.next {ts} {us} {vs} p q) asks l e =
@@ -118,16 +122,20 @@ module _ (pty fac other : List ℕ) (further : List (List ℕ)) (well : malforme
       let q = permuted p nothing refl e in
       let core : coreError (asked fac) ≡ Good =
       or-else-none (coreError (asked fac)) Good (or-else-none (entriesError nothing (entriesOf fac)) (orElse (coreError (asked fac)) Good)
-      (or-else-none (errorIf (malformed fac) FacMalformed) (orElse (entriesError nothing (entriesOf fac)) (orElse (coreError (asked fac)) Good)) g .1) .1) .0 in
+      (or-else-none (errorIf (malformed fac) FacMalformed)
+      (orElse (entriesError nothing (entriesOf fac)) (orElse (coreError (asked fac)) Good)) g .1) .1) .0 in
       rw (well, q .0, ← q .1, core)
 
-  pub same-request : (v : FullRequest) → readFull (pty ∷ fac ∷ further) ≡ record { verdict = Good; full = v } → readFull (pty ∷ other ∷ further) ≡ record { verdict = Good; full = v }
+  pub same-request : (v : FullRequest) → readFull (pty ∷ fac ∷ further) ≡ record { verdict = Good; full = v }
+      → readFull (pty ∷ other ∷ further) ≡ record { verdict = Good; full = v }
   same-request v e =
       let n = length (pty ∷ fac ∷ further) in
       let a = answered (pty ∷ fac ∷ further) v e in
       let s = steps n pty fac further (a .0) in
       let g = entries-good n pty fac further (a .0) .1 in
-      let w : orderedError n pty other further ≡ Good = in-steps n pty other further ∙ rw (front-as n, s .0, order-as, s .1 .0, fac-as (s .1 .1 .0) g) (s .1 .1 .1) in
+      let w : orderedError n pty other further ≡ Good =
+      in-steps n pty other further ∙ rw (front-as n, s .0, order-as, s .1 .0, fac-as (s .1 .1 .0) g) (s .1 .1 .1) in
       let q : asked other ≡ asked fac = sym (permuted p nothing refl g .1) in
       read-as pty other further w
-      ∙ ap (λ (x : FullRequest). record { verdict = Good; full = x }) (ap (λ (l : List ℕ). record { request = requestOf pty l; further = held (canonicals further) }) q ∙ a .1)
+      ∙ ap (λ (x : FullRequest). record { verdict = Good; full = x })
+      (ap (λ (l : List ℕ). record { request = requestOf pty l; further = held (canonicals further) }) q ∙ a .1)

@@ -14,7 +14,8 @@ use Rattle.text.specs.Class.{isDigit}
 use Rattle.words.specs.Words.{every, same, value}
 use Rattle.words.proofs.WordLaws.{same-equal}
 use Rattle.cards_fields.proofs.RoundLaws.{total, digits-few}
-use Rattle.cards_fac.specs.Fac.{codes, codeText, codeOf, channelText, slashAt, numberText, channelGood, most, numberGood, entryGood, slot, slotOf, codeError, formError, entryError, entered, entriesError, allEntered, nothing}
+use Rattle.cards_fac.specs.Fac.{codes, codeText, codeOf, channelText, slashAt, numberText, channelGood, most, numberGood, entryGood, slot}
+use Rattle.cards_fac.specs.Fac.{slotOf, codeError, formError, entryError, entered, entriesError, allEntered, nothing}
 use Rattle.cards_fac.specs.Fac.{indexIn, lastCode}
 use Rattle.cards_request.specs.Errors.{errorIf}
 use Rattle.cards_request.proofs.ErrorLaws.{or-else-none, not-good}
@@ -30,13 +31,17 @@ code-again : (code channel : ℕ) → code ≤ lastCode → channel ≤ 15 → c
 code-again code channel h l =
     by-bool (ltb code 3)
     (λ t. rw (t, t))
-    (λ t. let n = ltb-false code 3 t in rw t (by-bool (ltb (3 + (code - 3) * 16 + channel) 3) (λ u. absurd (omega (arith, ltb-true (3 + (code - 3) * 16 + channel) 3 u))) (λ u. rw u (omega arith))))
+    (λ t.
+    let n = ltb-false code 3 t in
+    rw t (by-bool (ltb (3 + (code - 3) * 16 + channel) 3) (λ u. absurd (omega (arith, ltb-true (3 + (code - 3) * 16 + channel) 3 u)))
+    (λ u. rw u (omega arith))))
 
 channel-again : (code channel : ℕ) → channel ≤ 15 → (code < 3 → channel ≡ 0) → channelAt (slot code channel) ≡ channel
 channel-again code channel l z =
     by-bool (ltb code 3)
     (λ t. let e = z (ltb-true code 3 t) in rw (t, t) (sym e))
-    (λ t. rw t (by-bool (ltb (3 + (code - 3) * 16 + channel) 3) (λ u. absurd (omega (arith, ltb-true (3 + (code - 3) * 16 + channel) 3 u))) (λ u. rw u (omega arith))))
+    (λ t. rw t (by-bool (ltb (3 + (code - 3) * 16 + channel) 3) (λ u. absurd (omega (arith, ltb-true (3 + (code - 3) * 16 + channel) 3 u)))
+    (λ u. rw u (omega arith))))
 
 -- a known code is as long as its text
 code-length : (ks : List (List ℕ)) (c : List ℕ) → indexIn ks c < length ks → length (getD ks (indexIn ks c) []) ≡ length c
@@ -76,10 +81,14 @@ module _ (t : List ℕ) (e : formError t ≡ Good) where
 
   good : entryGood (codeOf t) t ≡ true
   unfolding formError
-  good = by-bool (entryGood (codeOf t) t) (λ g. g) (λ g. not-good (rw g at (or-else-none (codeError t) (errorIf (not (entryGood (codeOf t) t)) WrongEntry) e .1)))
+  good =
+      by-bool (entryGood (codeOf t) t) (λ g. g)
+      (λ g. not-good (rw g at (or-else-none (codeError t) (errorIf (not (entryGood (codeOf t) t)) WrongEntry) e .1)))
 
   slashed : slashAt t < length t
-  slashed = ltb-true (slashAt t) (length t) (both (ltb (slashAt t) (length t)) (channelGood (codeOf t) (channelText t) && numberGood (codeOf t) (numberText t)) good .0)
+  slashed =
+      ltb-true (slashAt t) (length t)
+      (both (ltb (slashAt t) (length t)) (channelGood (codeOf t) (channelText t) && numberGood (codeOf t) (numberText t)) good .0)
 
   pub channelled : channelGood (codeOf t) (channelText t) ≡ true
   channelled =
@@ -121,7 +130,8 @@ module _ (t : List ℕ) (e : formError t ≡ Good) where
       rw (
         c,
         h,
-        length-append (getD codes (codeOf t) []) (cond (eqb (value (channelText t)) 0) [] (decimalText (value (channelText t))) ++ (47 ∷ decimalText (value (numberText t)))),
+        length-append (getD codes (codeOf t) [])
+            (cond (eqb (value (channelText t)) 0) [] (decimalText (value (channelText t))) ++ (47 ∷ decimalText (value (numberText t)))),
         length-append (cond (eqb (value (channelText t)) 0) [] (decimalText (value (channelText t)))) (47 ∷ decimalText (value (numberText t))),
       )
       (omega (arith, l, channel-few (codeOf t) (channelText t) channelled, number-few, slashed, length-drop (slashAt t + 1) t))

@@ -33,7 +33,8 @@ rows-of (trn c ts ∷ cs) p = omega (arith, rows-of cs (p .1))
 rows-of (pm s ∷ cs) p = rw (sheet-is-pm s (p .0 .0), sheet-digit-in s, rows-of cs (p .1)) (omega arith)
 
 -- BY PLACE: character i is character i mod 66 of the text of the PM card with the digit i div 66, or a blank
-pub table-place : (cards : List Card) → Kept cards → (i : ℕ) → place (held (textsOf cards)) i ≡ getD (sheetAt (i / pmLength) cards) (i % pmLength) (byte " ")
+pub table-place : (cards : List Card) → Kept cards → (i : ℕ)
+    → place (held (textsOf cards)) i ≡ getD (sheetAt (i / pmLength) cards) (i % pmLength) (byte " ")
 unfolding place
 table-place cards k i = rw (kept-texts cards k, card-at (i / pmLength) cards (k .each))
 

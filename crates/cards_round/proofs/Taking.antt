@@ -26,7 +26,8 @@ use Rattle.words.specs.Lines.{linesText}
 use Rattle.cards_full.specs.Full.{behindId, short, furtherError, bare, sameCards, takesFurther}
 use Rattle.cards_full.proofs.WriteLaws.{behind-many}
 use Rattle.cards_round.specs.AllowedFurther.{Card, textsOf, Kept, AllowedFurther}
-use Rattle.cards_round.proofs.FurtherRound.{AllLines, AllFew, AllRoom, cards-back, written-lines, written-types, written-together, written-content-all, written-again, FurtherMeant, further-meant}
+use Rattle.cards_round.proofs.FurtherRound.{AllLines, AllFew, AllRoom, cards-back, written-lines, written-types, written-together}
+use Rattle.cards_round.proofs.FurtherRound.{written-content-all, written-again, FurtherMeant, further-meant}
 use Rattle.cards_round.proofs.HeldLaws.{kept-few, kept-texts}
 
 -- ---- two values that are held alike
@@ -68,7 +69,10 @@ held-lines zero zero ts l = tt
 held-lines zero (suc k) ts l = tt
 held-lines (suc n) zero ts l = tt
 held-lines (suc n) (suc k) [] l = (((λ e. omega arith), tt), held-lines n k [] tt)
-held-lines (suc n) (suc k) (t ∷ ts) l = (((λ e. omega arith), take-lf (min (length t) textLength) (padded textLength t) (padded-lf textLength t (l .0))), held-lines n k ts (l .1))
+held-lines (suc n) (suc k) (t ∷ ts) l = (
+  ((λ e. omega arith), take-lf (min (length t) textLength) (padded textLength t) (padded-lf textLength t (l .0))),
+  held-lines n k ts (l .1),
+)
 
 take-few : {A : Type 0} (k : ℕ) (l : List A) → length (take k l) ≤ k
 take-few zero l = omega arith
@@ -105,8 +109,10 @@ module _ (f : Further) (t : takesFurther f ≡ true) where
   unfolding takesFurther
   tests =
       let a = both (good (furtherError cs)) (eqb (held ds .count) (f .count) && sameCards (held ds .cards) (f .cards)) t in
-      let b = both (eqb (held ds .count) (f .count)) (sameCards (held ds .cards) (f .cards)) (a .1) in
-      (good-is (furtherError cs) (a .0), alike (held ds) f (eqb-true (held ds .count) (f .count) (b .0)) (same-cards (held ds .cards) (f .cards) (b .1)))
+      let b = both (eqb (held ds .count) (f .count)) (sameCards (held ds .cards) (f .cards)) (a .1) in (
+        good-is (furtherError cs) (a .0),
+        alike (held ds) f (eqb-true (held ds .count) (f .count) (b .0)) (same-cards (held ds .cards) (f .cards) (b .1)),
+      )
 
   meant : FurtherMeant cs
   unfolding furtherError
@@ -121,7 +127,9 @@ module _ (f : Further) (t : takesFurther f ≡ true) where
 
   cards-are : cs ≡ behindId [] (texts f)
   unfolding held
-  cards-are = cards-back (behindId [] (texts f)) (subst (λ (ts : List (List ℕ)). AllLines (behindId [] ts)) (sym of-texts) (held-lines mostFurther (min (length ds) mostFurther) ds (meant .lines)))
+  cards-are =
+      cards-back (behindId [] (texts f)) (subst (λ (ts : List (List ℕ)). AllLines (behindId [] ts)) (sym of-texts)
+      (held-lines mostFurther (min (length ds) mostFurther) ds (meant .lines)))
 
   few : length cs ≤ mostFurther
   unfolding held
@@ -148,7 +156,9 @@ bare-short (t ∷ ts) f = rw (le-leb (suc (length t)) cardLength (omega (arith, 
 
 module _ (ms : List Card) (k : Kept ms) where
   bare-is : bare (held (textsOf ms)) ≡ behindId [] (textsOf ms)
-  bare-is = ap (λ (ts : List (List ℕ)). cardsOf (linesText (behindId [] ts))) (kept-texts ms k) ∙ cards-back (behindId [] (textsOf ms)) (written-lines [] refl ms (k .each))
+  bare-is =
+      ap (λ (ts : List (List ℕ)). cardsOf (linesText (behindId [] ts))) (kept-texts ms k)
+      ∙ cards-back (behindId [] (textsOf ms)) (written-lines [] refl ms (k .each))
 
   small : short (behindId [] (textsOf ms)) ≡ true
   small = bare-short (textsOf ms) (kept-few ms (k .each))

@@ -121,7 +121,8 @@ pub padded-step : (w : ℕ) (s : List ℕ) (k : ℕ) → k < w → padded (w - k
 padded-step w s k h =
     let e : w - k ≡ suc (w - (k + 1)) = omega arith in
     let j : suc k ≡ k + 1 = omega arith in
-    rw e (first (w - (k + 1)) (drop k s) ∙ ap (λ (b : ℕ). b ∷ padded (w - (k + 1)) (drop 1 (drop k s))) (here s k) ∙ ap (λ (l : List ℕ). getD s k 32 ∷ padded (w - (k + 1)) l) (behind s k))
+    rw e (first (w - (k + 1)) (drop k s) ∙ ap (λ (b : ℕ). b ∷ padded (w - (k + 1)) (drop 1 (drop k s))) (here s k)
+    ∙ ap (λ (l : List ℕ). getD s k 32 ∷ padded (w - (k + 1)) l) (behind s k))
   where
     first : (m : ℕ) (l : List ℕ) → padded (suc m) l ≡ getD l 0 32 ∷ padded m (drop 1 l)
     first m [] = refl
@@ -166,14 +167,21 @@ row-turn {room₀} {whole} {room} {at₀ = at₀} {at = at} {b = b} s k h e g w 
     let z : Going room₀ at₀ whole room at (b ∷ padded (pmLength - (k + 1)) (drop (k + 1) s)) = rw e (rw (padded-step pmLength s k h) at g) in
     turn z w
 
-pub row-end : {room₀ whole room : List ℕ} {at₀ at : ℕ} (s : List ℕ) (k : ℕ) → pmLength ≤ k → Going room₀ at₀ whole room at (padded (pmLength - k) (drop k s)) → Written room₀ at₀ whole room at
+pub row-end : {room₀ whole room : List ℕ} {at₀ at : ℕ} (s : List ℕ) (k : ℕ) → pmLength ≤ k
+    → Going room₀ at₀ whole room at (padded (pmLength - k) (drop k s)) → Written room₀ at₀ whole room at
 row-end s k h g = end (rw (padded-end pmLength s k h) at g)
 
 -- ---- the rows, one after the other
 
 pub rows-length : (n d : ℕ) (ts : List (List ℕ)) → length (rowsFrom n d ts) ≡ pmLength * n
 rows-length zero d ts = refl
-rows-length (suc n) d ts = omega (arith, length-append (padded pmLength (cardAt d ts)) (rowsFrom n (suc d) ts), padded-length pmLength (cardAt d ts), rows-length n (suc d) ts)
+rows-length (suc n) d ts =
+    omega (
+      arith,
+      length-append (padded pmLength (cardAt d ts)) (rowsFrom n (suc d) ts),
+      padded-length pmLength (cardAt d ts),
+      rows-length n (suc d) ts,
+    )
 
 -- no row is put, and one more
 pub table-start : (f : Further) (room : List ℕ) (n : ℕ) → n ≡ rows (texts f) → Going room 0 (tableText f) room 0 (rowsFrom (n - 0) 0 (texts f))
@@ -188,7 +196,8 @@ table-turn {room₀} {whole} {room} {at₀ = at₀} {at = at} n d ts s h e g w =
     let z : Going room₀ at₀ whole room at (padded pmLength (cardAt d ts) ++ rowsFrom (n - (d + 1)) (suc d) ts) = rw k at g in
     turn (rw (← e, j) at z) w
 
-pub table-end : {room₀ whole room : List ℕ} {at₀ at : ℕ} (n d : ℕ) (ts : List (List ℕ)) → n ≤ d → Going room₀ at₀ whole room at (rowsFrom (n - d) d ts) → Written room₀ at₀ whole room at
+pub table-end : {room₀ whole room : List ℕ} {at₀ at : ℕ} (n d : ℕ) (ts : List (List ℕ)) → n ≤ d
+    → Going room₀ at₀ whole room at (rowsFrom (n - d) d ts) → Written room₀ at₀ whole room at
 table-end n d ts h g = let k : n - d ≡ 0 = omega arith in end (rw k at g)
 
 -- at most ten rows
@@ -208,7 +217,8 @@ padded-at (suc w) [] (suc k) h = padded-at w [] k (le-of-suc-le-suc h) ∙ List�
 padded-at (suc w) (b ∷ s) zero h = refl
 padded-at (suc w) (b ∷ s) (suc k) h = padded-at w s k (le-of-suc-le-suc h)
 
-rows-place : (n d : ℕ) (ts : List (List ℕ)) (i : ℕ) → i < pmLength * n → getD (rowsFrom n d ts) i 0 ≡ getD (cardAt (d + i / pmLength) ts) (i % pmLength) (byte " ")
+rows-place : (n d : ℕ) (ts : List (List ℕ)) (i : ℕ) → i < pmLength * n
+    → getD (rowsFrom n d ts) i 0 ≡ getD (cardAt (d + i / pmLength) ts) (i % pmLength) (byte " ")
 rows-place zero d ts i h = absurd (omega arith)
 rows-place (suc n) d ts i h =
     let l : length (padded pmLength (cardAt d ts)) ≡ pmLength = padded-length pmLength (cardAt d ts) in
@@ -216,7 +226,8 @@ rows-place (suc n) d ts i h =
     (λ z.
     let q : d + i / pmLength ≡ d = omega arith in
     let m : i % pmLength ≡ i = omega arith in
-    rw (q, m) (List·getD-append (padded pmLength (cardAt d ts)) (rowsFrom n (suc d) ts) 0 i (omega arith) ∙ padded-at pmLength (cardAt d ts) i (omega arith)))
+    rw (q, m) (List·getD-append (padded pmLength (cardAt d ts)) (rowsFrom n (suc d) ts) 0 i (omega arith)
+    ∙ padded-at pmLength (cardAt d ts) i (omega arith)))
     (λ z.
     let j : length (padded pmLength (cardAt d ts)) + (i - pmLength) ≡ i = omega arith in
     let q : suc d + (i - pmLength) / pmLength ≡ d + i / pmLength = omega arith in
@@ -253,7 +264,8 @@ table-put f {room} {after} {r} l w =
     }
 
 -- A TABLE LEAVES ONE OUTCOME
-pub table-one : {f : Further} {room after₁ after₂ : List ℕ} {r₁ r₂ : ℕ} → Table f room after₁ r₁ → Table f room after₂ r₂ → (after₁ ≡ after₂) × (r₁ ≡ r₂)
+pub table-one : {f : Further} {room after₁ after₂ : List ℕ} {r₁ r₂ : ℕ} → Table f room after₁ r₁ → Table f room after₂ r₂
+    → (after₁ ≡ after₂) × (r₁ ≡ r₂)
 table-one {f} {room} {after₁} {after₂} {r₁} {r₂} v w =
     let e : r₁ ≡ r₂ = v .size ∙ sym (w .size) in (
       ext-getD 0 after₁ after₂ (v .long ∙ sym (w .long))

@@ -57,7 +57,8 @@ slashed-spaceless (b ∷ s) =
     (λ e.
     rw e (by-bool (eqb b 47)
     (λ f. rw f (sooner (length (spaceless s)) ∙ sym (sooner (length s))))
-    (λ f. rw f (one-more (length (nameOf (spaceless s))) (length (spaceless s)) ∙ slashed-spaceless s ∙ sym (one-more (length (nameOf s)) (length s))))))
+    (λ f. rw f
+    (one-more (length (nameOf (spaceless s))) (length (spaceless s)) ∙ slashed-spaceless s ∙ sym (one-more (length (nameOf s)) (length s))))))
   where
     sooner : (n : ℕ) → ltb 0 (suc n) ≡ true
     sooner n = lt-ltb 0 (suc n) (omega arith)
@@ -93,16 +94,19 @@ module _ (t : List ℕ) (at : ℕ) (is : at ≡ length (leading (isnt 47) t)) wh
     unfolding entryError
     entry-nameless e = rw (cut, ← name-is, e)
 
-    pub entry-named : isName (spaceless (take at t)) ≡ true → numberError (spaceless (take (length t - (at + 1)) (drop (at + 1) t))) ≡ entryError (spaceless t)
+    pub entry-named : isName (spaceless (take at t)) ≡ true
+        → numberError (spaceless (take (length t - (at + 1)) (drop (at + 1) t))) ≡ entryError (spaceless t)
     unfolding entryError
     entry-named e = rw (rest, cut, ← name-is, e)
 
   -- and its text
-  module _ {room named cutted after : List ℕ} {from a b next n : ℕ} (v : Written room from (spaceless (take at t)) named a) (w : Written named a (47 ∷ []) cutted b) (x : Written cutted b (decimalText n) after next) where
+  module _ {room named cutted after : List ℕ} {from a b next n : ℕ} (v : Written room from (spaceless (take at t)) named a)
+      (w : Written named a (47 ∷ []) cutted b) (x : Written cutted b (decimalText n) after next) where
     put-parts : n ≡ numberIn (numberOf (spaceless t)) → Written room from (entryText (spaceless t)) after next
     unfolding entryText
     put-parts e =
-        let d : spaceless (take at t) ++ (47 ∷ decimalText n) ≡ nameOf (spaceless t) ++ (47 ∷ decimalText (numberIn (numberOf (spaceless t)))) = rw (name-is, e) in
+        let d : spaceless (take at t) ++ (47 ∷ decimalText n) ≡ nameOf (spaceless t) ++ (47 ∷ decimalText (numberIn (numberOf (spaceless t)))) =
+        rw (name-is, e) in
         rw d at (andThen v (andThen w x))
 
     pub put-numberless : at ≡ length t → n ≡ 0 → Written room from (entryText (spaceless t)) after next
@@ -136,7 +140,8 @@ module _ (card : List ℕ) (k : ℕ) where
     pub entries-done : entriesError left ≡ Good
     entries-done = rw (drop-of-length-le (fields card) {i = k + 1} h)
 
-    pub entries-end : {room₀ whole room after : List ℕ} {at₀ from next : ℕ} → Going room₀ at₀ whole room from (tailText (entryTexts left)) → Written room from (46 ∷ []) after next → Written room₀ at₀ whole after next
+    pub entries-end : {room₀ whole room after : List ℕ} {at₀ from next : ℕ} → Going room₀ at₀ whole room from (tailText (entryTexts left))
+        → Written room from (46 ∷ []) after next → Written room₀ at₀ whole after next
     entries-end {after = after} {next = next} g w = (rw (drop-of-length-le (fields card) {i = k + 1} h) at g) after next w
 
 -- the card
@@ -155,6 +160,7 @@ module _ (card : List ℕ) where
     tal-entries h = rw (m, lt-leb (length (fields card)) 2 h) (sym (or-else-good (entriesError (drop 2 (fields card)))))
 
   -- its word, and the entries behind it
-  pub tal-put : {room word after : List ℕ} {from a next : ℕ} → Written room from (84 ∷ 65 ∷ 76 ∷ []) word a → Written word a (tailText (entryTexts (drop 2 (fields card)))) after next → Written room from (talText card) after next
+  pub tal-put : {room word after : List ℕ} {from a next : ℕ} → Written room from (84 ∷ 65 ∷ 76 ∷ []) word a
+      → Written word a (tailText (entryTexts (drop 2 (fields card)))) after next → Written room from (talText card) after next
   unfolding talText
   tal-put v w = andThen v w

@@ -25,7 +25,8 @@ use Rattle.cards_request.specs.Errors.{errorIf, firstOf}
 use Rattle.cards_request.proofs.ErrorLaws.{or-else-none, or-else-good, not-error}
 use Rattle.cards_request.specs.declared.CardError.the-variants.{TalWrong, TalLong}
 use Rattle.cards_request.specs.declared.CardVerdict.the-variants.{Good}
-use Rattle.cards_tal.specs.Tal.{isTal, nameOf, numberOf, slashed, numberError, entryError, entriesError, entriesOf, talError, entryText, entryTexts, talText}
+use Rattle.cards_tal.specs.Tal.{isTal, nameOf, numberOf, slashed, numberError, entryError, entriesError}
+use Rattle.cards_tal.specs.Tal.{entriesOf, talError, entryText, entryTexts, talText}
 use Rattle.cards_tal.specs.Increments.{Increment, ProperIncrement, EachIncrement, ProperIncrements, incrementText, incrementTexts, talOf}
 
 -- ---- what a card means
@@ -74,11 +75,21 @@ module _ (i : Increment) (p : ProperIncrement i) where
 
   increment-slashed : slashed (incrementText i) ≡ true
   unfolding incrementText
-  increment-slashed = rw name-back (lt-ltb (length (i .name)) (length (incrementText i)) (omega (arith, length-append (i .name) (47 ∷ decimalText (i .number)))))
+  increment-slashed =
+      rw name-back (lt-ltb (length (i .name)) (length (incrementText i)) (omega (arith, length-append (i .name) (47 ∷ decimalText (i .number)))))
 
   pub increment-good : entryError (incrementText i) ≡ Good
   unfolding entryError numberError
-  increment-good = rw (increment-slashed, digits-back, name-back, p .0, le-ltb 5 (length (decimalText (i .number))) few, le-leb 1 (length (decimalText (i .number))) some, number-digits (i .number))
+  increment-good =
+      rw (
+        increment-slashed,
+        digits-back,
+        name-back,
+        p .0,
+        le-ltb 5 (length (decimalText (i .number))) few,
+        le-leb 1 (length (decimalText (i .number))) some,
+        number-digits (i .number),
+      )
 
   pub increment-again : entryText (incrementText i) ≡ incrementText i
   unfolding entryText incrementText
@@ -188,8 +199,10 @@ module _ (t : List ℕ) (h : entryError t ≡ Good) where
   numbers : (length (numberOf t) ≤ 5) × (digits (numberOf t) ≡ true)
   unfolding numberError
   numbers =
-      let q = or-else-none (errorIf (ltb 5 (length (numberOf t))) TalLong) (errorIf (not (digits (numberOf t))) TalWrong) (parts .1) in
-      (ltb-false 5 (length (numberOf t)) (not-error (ltb 5 (length (numberOf t))) TalLong (q .0)), not-false _ (not-error (not (digits (numberOf t))) TalWrong (q .1)))
+      let q = or-else-none (errorIf (ltb 5 (length (numberOf t))) TalLong) (errorIf (not (digits (numberOf t))) TalWrong) (parts .1) in (
+        ltb-false 5 (length (numberOf t)) (not-error (ltb 5 (length (numberOf t))) TalLong (q .0)),
+        not-false _ (not-error (not (digits (numberOf t))) TalWrong (q .1)),
+      )
 
   number-is : numberIn (numberOf t) ≡ value (numberOf t)
   number-is = number-short (numberOf t) (omega (arith, numbers .0))
@@ -210,7 +223,13 @@ module _ (t : List ℕ) (h : entryError t ≡ Good) where
   unfolding entryText
   entry-short =
       rw number-is
-      (omega (arith, length-append (nameOf t) (47 ∷ decimalText (value (numberOf t))), digits-few (numberOf t) (all-digits .1) (all-digits .0), length-drop (length (nameOf t) + 1) t, cut))
+      (omega (
+        arith,
+        length-append (nameOf t) (47 ∷ decimalText (value (numberOf t))),
+        digits-few (numberOf t) (all-digits .1) (all-digits .0),
+        length-drop (length (nameOf t) + 1) t,
+        cut,
+      ))
 
 pub entry-meant : (t : List ℕ) → entryText t ≡ incrementText (incrementOf t)
 unfolding entryText incrementOf incrementText
@@ -241,7 +260,8 @@ module _ (card : List ℕ) (h : talError card ≡ Good) where
   tests : (malformed card ≡ false) × ((3 ≤ length (fields card)) × (entriesError (entriesOf card) ≡ Good))
   unfolding talError
   tests =
-      let p = or-else-none (errorIf (malformed card) TalWrong) (firstOf (errorIf (leb (length (fields card)) 2) TalWrong ∷ entriesError (entriesOf card) ∷ [])) h in
+      let p = or-else-none (errorIf (malformed card) TalWrong)
+      (firstOf (errorIf (leb (length (fields card)) 2) TalWrong ∷ entriesError (entriesOf card) ∷ [])) h in
       let q = or-else-none (errorIf (leb (length (fields card)) 2) TalWrong) (firstOf (entriesError (entriesOf card) ∷ [])) (p .1) in
       let l = leb-false (length (fields card)) 2 (not-error (leb (length (fields card)) 2) TalWrong (q .0)) in
       (not-error (malformed card) TalWrong (p .0), (omega arith, sym (or-else-good (entriesError (entriesOf card))) ∙ q .1))
@@ -255,14 +275,22 @@ module _ (card : List ℕ) (h : talError card ≡ Good) where
   unfolding talText
   tal-short z =
       let w : length (field card 1) ≡ 3 = ap length (same-equal (field card 1) (bytes "TAL") z) in
-      omega (arith, tail-total (entryTexts (entriesOf card)), all-short (entriesOf card) (tests .1 .1), total-two (fields card) (omega (arith, tests .1 .0)), fields-total card (tests .0), w)
+      omega (
+        arith,
+        tail-total (entryTexts (entriesOf card)),
+        all-short (entriesOf card) (tests .1 .1),
+        total-two (fields card) (omega (arith, tests .1 .0)),
+        fields-total card (tests .0),
+        w,
+      )
 
 -- ---- equal texts mean the same
 
 -- a text from the type on is a card without an ID
 read-back : (is : List Increment) → EachIncrement is → incrementsOf (drop 1 (fields (talOf is))) ≡ is
 unfolding talOf isAlnum isLetter isDigit
-read-back is p = ap (λ (fs : List (List ℕ)). incrementsOf (drop 1 fs)) (fields-back (bytes "TAL") (incrementTexts is) (refl, all-plain is p)) ∙ all-back is p
+read-back is p =
+    ap (λ (fs : List (List ℕ)). incrementsOf (drop 1 fs)) (fields-back (bytes "TAL") (incrementTexts is) (refl, all-plain is p)) ∙ all-back is p
 
 pub tal-once : (is js : List Increment) → EachIncrement is → EachIncrement js → talOf is ≡ talOf js → is ≡ js
 tal-once is js p q e = sym (read-back is p) ∙ ap (λ (s : List ℕ). incrementsOf (drop 1 (fields s))) e ∙ read-back js q

@@ -25,7 +25,8 @@ use Rattle.cards_request.proofs.ErrorLaws.{good-is, or-else-some, or-else-good}
 use Rattle.cards_request.specs.declared.CardError.the-variants.{TrnWrong, TrnLong}
 use Rattle.cards_request.specs.declared.CardVerdict.{CardVerdict}
 use Rattle.cards_request.specs.declared.CardVerdict.the-variants.{Good, Wrong}
-use Rattle.cards_trn.specs.Trn.{isCount, hasCount, countError, isType, isSuccessor, partsOf, part, mostAt, rightAt, partError, partsError, transferError, thirdError, transfersError, trnError, thirdText, trnText}
+use Rattle.cards_trn.specs.Trn.{isCount, hasCount, countError, isType, isSuccessor, partsOf, part, mostAt, rightAt, partError}
+use Rattle.cards_trn.specs.Trn.{partsError, transferError, thirdError, transfersError, trnError, thirdText, trnText}
 
 -- a count has no slash, with its spaces or without
 pub count-is : (t : List ℕ) (x : Bool) → x ≡ has t 47 → not x ≡ isCount (spaceless t)
@@ -53,11 +54,18 @@ module _ (t : List ℕ) (f : Field) (is : f ≡ fieldOf t) where
 
         pub count-digits : 1 ≤ f .len → (x : Bool) → x ≡ every isDigit (take (f .len) (f .bytes)) → countError counted t ≡ errorIf (not x) TrnWrong
         unfolding countError
-        count-digits g x i = rw (le-ltb 2 (length t) (omega (arith, size)), e, le-leb 1 (length t) (omega (arith, size)), i, whole f t is (omega arith))
+        count-digits g x i =
+            rw (le-ltb 2 (length t) (omega (arith, size)), e, le-leb 1 (length t) (omega (arith, size)), i, whole f t is (omega arith))
 
   pub type-long : 2 < f .len → isType t ≡ false
   type-long h =
-      rw (other (bytes "D") (omega arith), other (bytes "T") (omega arith), other (bytes "N") (omega arith), other (bytes "*T") (omega arith), other (bytes "*N") (omega arith))
+      rw (
+        other (bytes "D") (omega arith),
+        other (bytes "T") (omega arith),
+        other (bytes "N") (omega arith),
+        other (bytes "*T") (omega arith),
+        other (bytes "*N") (omega arith),
+      )
     where
       other : (w : List ℕ) → length w ≤ 2 → same t w ≡ false
       other w g = same-long t w (λ e. omega (arith, size))
@@ -168,7 +176,8 @@ module _ (counted : Bool) (t : List ℕ) where
   third-transfer e = rw e
 
 module _ (t : List ℕ) {room after : List ℕ} {from next : ℕ} where
-  pub put-count : isCount t ≡ true → (n : ℕ) → n ≡ numberIn t → Written room from (decimalText n) after next → Written room from (thirdText t) after next
+  pub put-count : isCount t ≡ true → (n : ℕ) → n ≡ numberIn t → Written room from (decimalText n) after next
+      → Written room from (thirdText t) after next
   unfolding thirdText
   put-count e n i w =
       let d : decimalText n ≡ thirdText t = rw (e, i) in
@@ -205,7 +214,8 @@ module _ (card : List ℕ) (k : ℕ) where
     pub transfers-done : transfersError left ≡ Good
     transfers-done = rw (drop-of-length-le (fields card) {i = k + 1} h)
 
-    pub transfers-end : {room₀ whole room after : List ℕ} {at₀ from next : ℕ} → Going room₀ at₀ whole room from (tailText left) → Written room from (46 ∷ []) after next → Written room₀ at₀ whole after next
+    pub transfers-end : {room₀ whole room after : List ℕ} {at₀ from next : ℕ} → Going room₀ at₀ whole room from (tailText left)
+        → Written room from (46 ∷ []) after next → Written room₀ at₀ whole after next
     transfers-end {after = after} {next = next} g w = (rw (drop-of-length-le (fields card) {i = k + 1} h) at g) after next w
 
 -- the card
@@ -242,13 +252,16 @@ module _ (card : List ℕ) where
 
   -- its word, the third field and those behind it
   module _ {room word : List ℕ} {from a : ℕ} (v : Written room from (84 ∷ 82 ∷ 78 ∷ []) word a) where
-    pub trn-empty : length (fields card) ≤ 2 → {after : List ℕ} {next : ℕ} → Written word a (46 ∷ []) after next → Written room from (trnText card) after next
+    pub trn-empty : length (fields card) ≤ 2 → {after : List ℕ} {next : ℕ} → Written word a (46 ∷ []) after next
+        → Written room from (trnText card) after next
     unfolding trnText
     trn-empty h w = rw (drop-of-length-le (fields card) {i = 2} h) (andThen v w)
 
-    pub trn-put : 2 < length (fields card) → {comma third after : List ℕ} {b c next : ℕ} → Written word a (44 ∷ []) comma b → Written comma b (thirdText (spaceless (rawField card 2))) third c
+    pub trn-put : 2 < length (fields card) → {comma third after : List ℕ} {b c next : ℕ} → Written word a (44 ∷ []) comma b
+        → Written comma b (thirdText (spaceless (rawField card 2))) third c
         → Written third c (tailText (drop 3 (fields card))) after next → Written room from (trnText card) after next
     unfolding trnText
     trn-put h w x y =
-        let e : drop 2 (fields card) ≡ spaceless (rawField card 2) ∷ drop 3 (fields card) = drop-cons (fields card) 2 [] h ∙ ap (λ (t : List ℕ). t ∷ drop 3 (fields card)) (sym (raw-spaceless card 2)) in
+        let e : drop 2 (fields card) ≡ spaceless (rawField card 2) ∷ drop 3 (fields card) =
+        drop-cons (fields card) 2 [] h ∙ ap (λ (t : List ℕ). t ∷ drop 3 (fields card)) (sym (raw-spaceless card 2)) in
         rw e (andThen v (andThen w (andThen x y)))

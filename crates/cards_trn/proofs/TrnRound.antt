@@ -22,12 +22,15 @@ use Rattle.words.proofs.WordLaws.{every-append, every-weaker, number-short, sam
 use Rattle.words.proofs.LineLaws.{NoLf}
 use Rattle.cards_fields.specs.Fields.{field, fields, isName, malformed, cardText}
 use Rattle.cards_fields.proofs.CardLaws.{plain, AllPlain, alnum-plain, digit-plain, fields-back, card-good, card-line, number-back, number-digits}
-use Rattle.cards_fields.proofs.RoundLaws.{has-not, pieces-join, pieces-one, joined, joined-pieces, named, digits-few, number-some, total, tail-total, total-two, fields-total, neither}
+use Rattle.cards_fields.proofs.RoundLaws.{has-not, pieces-join, pieces-one, joined, joined-pieces, named, digits-few}
+use Rattle.cards_fields.proofs.RoundLaws.{number-some, total, tail-total, total-two, fields-total, neither}
 use Rattle.cards_request.specs.Errors.{errorIf, firstOf}
 use Rattle.cards_request.proofs.ErrorLaws.{or-else-none, or-else-good, not-error}
 use Rattle.cards_request.specs.declared.CardError.the-variants.{TrnWrong, TrnLong}
 use Rattle.cards_request.specs.declared.CardVerdict.the-variants.{Good}
-use Rattle.cards_trn.specs.Trn.{isTrn, isCount, hasCount, countError, isType, isSuccessor, partsOf, part, mostAt, rightAt, partError, partsError, transferError, thirdError, transfersError, trnError, thirdText, fieldTexts, trnText}
+use Rattle.cards_trn.specs.Trn.{isTrn, isCount, hasCount, countError, isType, isSuccessor, partsOf, part}
+use Rattle.cards_trn.specs.Trn.{mostAt, rightAt, partError, partsError, transferError, thirdError}
+use Rattle.cards_trn.specs.Trn.{transfersError, trnError, thirdText, fieldTexts, trnText}
 use Rattle.cards_trn.specs.Transfers.{Transfer, ProperTransfer, EachTransfer, isThere, transferText, transferTexts, trnFields, ProperTrn, trnOf}
 
 -- ---- what a card means
@@ -158,7 +161,8 @@ module _ (t : Transfer) (p : ProperTransfer t) where
 
   pub transfer-back : transferOf (transferText t) ≡ t
   unfolding transferOf
-  transfer-back = ap (λ (ps : List (List ℕ)). record { name1 = getD ps 0 []; kind = getD ps 1 []; successor = getD ps 2 []; name2 = getD ps 3 [] }) parts-back
+  transfer-back =
+      ap (λ (ps : List (List ℕ)). record { name1 = getD ps 0 []; kind = getD ps 1 []; successor = getD ps 2 []; name2 = getD ps 3 [] }) parts-back
 
   pub transfer-plain : every plain (transferText t) ≡ true
   unfolding transferText
@@ -361,9 +365,15 @@ count-read : (counted : Bool) (t : List ℕ) → countError counted t ≡ Good �
 unfolding countError
 count-read counted t h =
     let p = or-else-none (errorIf (ltb 2 (length t)) TrnLong) (errorIf (counted || not (leb 1 (length t) && every isDigit t)) TrnWrong) h in
-    let q = neither counted (not (leb 1 (length t) && every isDigit t)) (not-error (counted || not (leb 1 (length t) && every isDigit t)) TrnWrong (p .1)) in
+    let q = neither counted (not (leb 1 (length t) && every isDigit t))
+    (not-error (counted || not (leb 1 (length t) && every isDigit t)) TrnWrong (p .1)) in
     let r = both (leb 1 (length t)) (every isDigit t) (not-false _ (q .1)) in
-    record { first = q .0; most = ltb-false 2 (length t) (not-error (ltb 2 (length t)) TrnLong (p .0)); least = leb-true 1 (length t) (r .0); digits = r .1 }
+    record {
+      first = q .0;
+      most = ltb-false 2 (length t) (not-error (ltb 2 (length t)) TrnLong (p .0));
+      least = leb-true 1 (length t) (r .0);
+      digits = r .1;
+    }
 
 number-is : {counted : Bool} (t : List ℕ) → Counted counted t → numberIn t ≡ value t
 number-is t c = number-short t (omega (arith, c .most))
@@ -375,7 +385,8 @@ pub record FieldsMean (counted : Bool) (fs : List (List ℕ)) : Type 0 where
   pub short : total (fieldTexts fs) ≤ total fs
   pub first : isThere (countIn fs) ≡ true → counted ≡ false
 
-fields-mean : (counted : Bool) (f : List ℕ) (fs : List (List ℕ)) → thirdError counted f ≡ Good → transfersError fs ≡ Good → FieldsMean counted (f ∷ fs)
+fields-mean : (counted : Bool) (f : List ℕ) (fs : List (List ℕ)) → thirdError counted f ≡ Good → transfersError fs ≡ Good
+    → FieldsMean counted (f ∷ fs)
 unfolding thirdText
 fields-mean counted f fs h g =
     by-bool (isCount f)
@@ -399,11 +410,15 @@ fields-mean counted f fs h g =
     })
 
 module _ (counted : Bool) (card : List ℕ) (h : trnError counted card ≡ Good) where
-  card-tests : (malformed card ≡ false) × ((2 < length (fields card)) × ((thirdError counted (field card 2) ≡ Good) × (transfersError (drop 3 (fields card)) ≡ Good)))
+  card-tests : (malformed card ≡ false)
+      × ((2 < length (fields card)) × ((thirdError counted (field card 2) ≡ Good) × (transfersError (drop 3 (fields card)) ≡ Good)))
   unfolding trnError
   card-tests =
-      let p = or-else-none (errorIf (malformed card) TrnWrong) (firstOf (errorIf (leb (length (fields card)) 2) TrnWrong ∷ thirdError counted (field card 2) ∷ transfersError (drop 3 (fields card)) ∷ [])) h in
-      let q = or-else-none (errorIf (leb (length (fields card)) 2) TrnWrong) (firstOf (thirdError counted (field card 2) ∷ transfersError (drop 3 (fields card)) ∷ [])) (p .1) in
+      let p = or-else-none (errorIf (malformed card) TrnWrong)
+      (firstOf (errorIf (leb (length (fields card)) 2) TrnWrong ∷ thirdError counted (field card 2) ∷ transfersError (drop 3 (fields card)) ∷ []))
+      h in
+      let q = or-else-none (errorIf (leb (length (fields card)) 2) TrnWrong)
+      (firstOf (thirdError counted (field card 2) ∷ transfersError (drop 3 (fields card)) ∷ [])) (p .1) in
       let r = or-else-none (thirdError counted (field card 2)) (firstOf (transfersError (drop 3 (fields card)) ∷ [])) (q .1) in
       let l = leb-false (length (fields card)) 2 (not-error (leb (length (fields card)) 2) TrnWrong (q .0)) in
       (not-error (malformed card) TrnWrong (p .0), (omega arith, (r .0, sym (or-else-good (transfersError (drop 3 (fields card)))) ∙ r .1)))
@@ -426,7 +441,8 @@ module _ (counted : Bool) (card : List ℕ) (h : trnError counted card ≡ Good)
   -- it has a count where it means one
   pub trn-counts : hasCount card ≡ isThere (meantCount card)
   unfolding hasCount
-  trn-counts = rw (lt-ltb 2 (length (fields card)) (card-tests .1 .0)) (there (field card 2) ∙ ap (λ (fs : List (List ℕ)). isThere (countIn fs)) third-on)
+  trn-counts =
+      rw (lt-ltb 2 (length (fields card)) (card-tests .1 .0)) (there (field card 2) ∙ ap (λ (fs : List (List ℕ)). isThere (countIn fs)) third-on)
     where
       there : (f : List ℕ) → isCount f ≡ isThere (cond (isCount f) (some (numberIn f)) none)
       there f = by-bool (isCount f) (λ e. rw e) (λ e. rw e)
@@ -440,7 +456,14 @@ module _ (counted : Bool) (card : List ℕ) (h : trnError counted card ≡ Good)
   unfolding trnText
   trn-short z =
       let w : length (field card 1) ≡ 3 = ap length (same-equal (field card 1) (bytes "TRN") z) in
-      omega (arith, tail-total (fieldTexts (drop 2 (fields card))), mean .short, total-two (fields card) (omega (arith, card-tests .1 .0)), fields-total card (card-tests .0), w)
+      omega (
+        arith,
+        tail-total (fieldTexts (drop 2 (fields card))),
+        mean .short,
+        total-two (fields card) (omega (arith, card-tests .1 .0)),
+        fields-total card (card-tests .0),
+        w,
+      )
 
 -- ---- equal texts mean the same
 

@@ -18,7 +18,8 @@ use Rattle.text.specs.Writing.{decimalText}
 use Rattle.text.proofs.Undo.{few-digits}
 use Rattle.words.specs.Words.{every, value, leading, isnt}
 use Rattle.words.proofs.WordLaws.{every-append, every-weaker}
-use Rattle.cards_fac.specs.Fac.{codes, lastCode, indexIn, codeText, channelText, slashAt, numberText, channelGood, most, numberGood, slot, slots, codeOf, slotOf, formError, entriesError, allEntered, nothing}
+use Rattle.cards_fac.specs.Fac.{codes, lastCode, indexIn, codeText, channelText, slashAt, numberText, channelGood, most}
+use Rattle.cards_fac.specs.Fac.{numberGood, slot, slots, codeOf, slotOf, formError, entriesError, allEntered, nothing}
 use Rattle.cards_fac.proofs.EntryLaws.{code-known, code-size}
 use Rattle.cards_request.specs.declared.CardVerdict.the-variants.{Good}
 use Rattle.cards_writing.specs.Writing.{codeAt, channelAt, entryText, entryTexts, limit, numbersFit}
@@ -49,7 +50,9 @@ code-back code (x ∷ ch) d l h = leading-all isLetter code (ch ++ (47 ∷ d)) x
 
 module _ (code ch d : List ℕ) (l : every isLetter code ≡ true) (h : every isDigit ch ≡ true) where
   channel-back : channelText (entry code ch d) ≡ ch
-  channel-back = rw (code-back code ch d l h, drop-append-seam code (ch ++ (47 ∷ d))) (leading-all (isnt 47) ch d 47 (every-weaker isDigit (isnt 47) no-slash ch h) refl)
+  channel-back =
+      rw (code-back code ch d l h, drop-append-seam code (ch ++ (47 ∷ d)))
+      (leading-all (isnt 47) ch d 47 (every-weaker isDigit (isnt 47) no-slash ch h) refl)
 
   slash-back : slashAt (entry code ch d) ≡ length code + length ch
   slash-back = rw (channel-back, code-back code ch d l h)
@@ -62,7 +65,8 @@ module _ (code ch d : List ℕ) (l : every isLetter code ≡ true) (h : every is
   entry-size : length (entry code ch d) ≡ length code + length ch + 1 + length d
   entry-size = omega (arith, length-append code (ch ++ (47 ∷ d)), length-append ch (47 ∷ d))
 
-  module _ (c : ℕ) (is : indexIn codes code ≡ c) (low : c ≤ lastCode) (short : length code ≤ 2) (cg : channelGood c ch ≡ true) (ng : numberGood c d ≡ true) where
+  module _ (c : ℕ) (is : indexIn codes code ≡ c) (low : c ≤ lastCode) (short : length code ≤ 2) (cg : channelGood c ch ≡ true)
+      (ng : numberGood c d ≡ true) where
     code-of : codeOf (entry code ch d) ≡ c
     code-of = ap (indexIn codes) (code-back code ch d l h) ∙ is
 
@@ -114,7 +118,14 @@ channel-good k h =
     ⊎-elim (λ z. rw (lt-ltb k 3 (omega arith), lt-ltb k 3 (omega arith)))
     (λ p.
     let w = channel-written ((k - 3) % 16) (omega arith) in
-    rw (le-ltb k 3 (omega arith), le-ltb (3 + (k - 3) / 16) 3 (omega arith), le-leb (length (channelOf ((k - 3) % 16))) 2 (w .2), w .0, w .1, le-leb ((k - 3) % 16) 15 (omega arith)))
+    rw (
+      le-ltb k 3 (omega arith),
+      le-ltb (3 + (k - 3) / 16) 3 (omega arith),
+      le-leb (length (channelOf ((k - 3) % 16))) 2 (w .2),
+      w .0,
+      w .1,
+      le-leb ((k - 3) % 16) 15 (omega arith),
+    ))
     (eq-zero-or-pos (k - 2))
 
 code-low : (k : ℕ) → k < slots → codeAt k ≤ lastCode
@@ -124,13 +135,17 @@ channel-low : (k : ℕ) → channelAt k ≤ 15
 channel-low k = ⊎-elim (λ z. rw (lt-ltb k 3 (omega arith)) (omega arith)) (λ p. rw (le-ltb k 3 (omega arith)) (omega arith)) (eq-zero-or-pos (k - 2))
 
 number-good : (k n : ℕ) → k < slots → 0 < n → n < limit k → numberGood (codeAt k) (decimalText n) ≡ true
-number-good k n h p l = by-bool (eqb k 2) (λ e. all 6 (most-md (eqb-true k 2 e)) (few-digits 5 n (rw e at l))) (λ e. all 2 (most-other (eqb-false k 2 e)) (few-digits 1 n (rw e at l)))
+number-good k n h p l =
+    by-bool (eqb k 2) (λ e. all 6 (most-md (eqb-true k 2 e)) (few-digits 5 n (rw e at l)))
+    (λ e. all 2 (most-other (eqb-false k 2 e)) (few-digits 1 n (rw e at l)))
   where
     most-md : k ≡ 2 → most (codeAt k) ≡ 6
     most-md e = rw e
 
     most-other : (k ≡ 2 → ⊥) → most (codeAt k) ≡ 2
-    most-other q = ⊎-elim (λ z. rw (lt-ltb k 3 (omega arith), ne-eqb k 2 q)) (λ r. rw (le-ltb k 3 (omega arith), ne-eqb (3 + (k - 3) / 16) 2 (λ e. omega arith))) (eq-zero-or-pos (k - 2))
+    most-other q =
+        ⊎-elim (λ z. rw (lt-ltb k 3 (omega arith), ne-eqb k 2 q))
+        (λ r. rw (le-ltb k 3 (omega arith), ne-eqb (3 + (k - 3) / 16) 2 (λ e. omega arith))) (eq-zero-or-pos (k - 2))
 
     all : (j : ℕ) → most (codeAt k) ≡ j → length (decimalText n) ≤ j → numberGood (codeAt k) (decimalText n) ≡ true
     all j e g = rw (e, le-leb (length (decimalText n)) j g, number-digits n, number-back n, le-leb 1 n p)
@@ -157,11 +172,12 @@ entered-back k n h p l =
     let g = number-good k n h p l in
     record {
       form = form-back code ch (decimalText n) (f .0) (w .0) (codeAt k) (f .1) (code-low k h) s (channel-good k h) g;
-      at = slot-back code ch (decimalText n) (f .0) (w .0) (codeAt k) (f .1) (code-low k h) s (channel-good k h) g ∙ ap (slot (codeAt k)) (w .1) ∙ slot-at k;
+      at = slot-back code ch (decimalText n) (f .0) (w .0) (codeAt k) (f .1) (code-low k h) s (channel-good k h) g ∙ ap (slot (codeAt k)) (w .1)
+          ∙ slot-at k;
       number = number-of-back code ch (decimalText n) (f .0) (w .0) (codeAt k) (f .1) (code-low k h) s (channel-good k h) g ∙ number-back n;
-      bytes =
-          every-append plain code (ch ++ (47 ∷ decimalText n)) (every-weaker isLetter plain letter-plain code (f .0))
-          (every-append plain ch (47 ∷ decimalText n) (every-weaker isDigit plain digit-plain ch (w .0)) (rw slash-plain (every-weaker isDigit plain digit-plain (decimalText n) (number-digits n))));
+      bytes = every-append plain code (ch ++ (47 ∷ decimalText n)) (every-weaker isLetter plain letter-plain code (f .0))
+          (every-append plain ch (47 ∷ decimalText n) (every-weaker isDigit plain digit-plain ch (w .0))
+          (rw slash-plain (every-weaker isDigit plain digit-plain (decimalText n) (number-digits n))));
     }
 
 -- all entries
@@ -170,9 +186,11 @@ pub record AllEntered (asks ns : List ℕ) (k : ℕ) (whole : List ℕ) : Type 0
   pub sum : allEntered asks (entryTexts k ns) ≡ whole
   pub bytes : AllPlain (entryTexts k ns)
 
-first-entry : (asks ns whole : List ℕ) (k n : ℕ) → Entered k n → getD asks k 0 ≡ 0 → (n ≡ 0 → ⊥) → AllEntered (set asks k n) ns (suc k) whole → AllEntered asks (n ∷ ns) k whole
+first-entry : (asks ns whole : List ℕ) (k n : ℕ) → Entered k n → getD asks k 0 ≡ 0 → (n ≡ 0 → ⊥) → AllEntered (set asks k n) ns (suc k) whole
+    → AllEntered asks (n ∷ ns) k whole
 first-entry asks ns whole k n e z p a =
-    let s : allEntered (set asks (slotOf (entryText k n)) (value (numberText (entryText k n)))) (entryTexts (suc k) ns) ≡ whole = rw (e .at, e .number) (a .sum) in
+    let s : allEntered (set asks (slotOf (entryText k n)) (value (numberText (entryText k n)))) (entryTexts (suc k) ns) ≡ whole =
+    rw (e .at, e .number) (a .sum) in
     record {
       right = rw (ne-eqb n 0 p, e .form, e .at, e .number, z) (a .right);
       sum = rw (ne-eqb n 0 p) s;
@@ -186,11 +204,13 @@ entries-from (n ∷ ns) k done e f g =
     let q = both (ltb n (limit k)) (numbersFit (suc k) ns) g in
     let l = ltb-true n (limit k) (q .0) in
     let ih : (m : ℕ) → AllEntered (done ++ (m ∷ replicate (length ns) 0)) ns (suc k) (done ++ (m ∷ ns)) =
-    λ m. rw (← append-snoc done m (replicate (length ns) 0), ← append-snoc done m ns) (entries-from ns (suc k) (done ++ (m ∷ [])) (length-append done (m ∷ []) ∙ omega arith) (omega arith) (q .1)) in
+    λ m. rw (← append-snoc done m (replicate (length ns) 0), ← append-snoc done m ns)
+    (entries-from ns (suc k) (done ++ (m ∷ [])) (length-append done (m ∷ []) ∙ omega arith) (omega arith) (q .1)) in
     ⊎-elim (λ z. rw z (record { right = ih 0 .right; sum = ih 0 .sum; bytes = ih 0 .bytes }))
     (λ p.
     let acc = done ++ (0 ∷ replicate (length ns) 0) in
-    first-entry acc ns (done ++ (n ∷ ns)) k n (entered-back k n (omega arith) p l) (getD-at done 0 (replicate (length ns) 0) 0 k e) (λ w. omega arith)
+    first-entry acc ns (done ++ (n ∷ ns)) k n (entered-back k n (omega arith) p l) (getD-at done 0 (replicate (length ns) 0) 0 k e)
+    (λ w. omega arith)
     (rw (set-at done 0 (replicate (length ns) 0) n k e) (ih n)))
     (eq-zero-or-pos n)
 

@@ -103,14 +103,16 @@ module _ (q l p : ℕ) (hq : q < 64) (hp : p < 64) (hl : isLetter l ≡ true) wh
       ⊎-elim
       (λ e. rw (eq-eqb q 0 e) (lettered (l ∷ twoText p) hl ∙ ap (λ (k : ℕ). ranked k l (twoText p)) (sym e)))
       (λ n. rw (ne-eqb q 0 (λ e. omega arith))
-      (sequenced (twoText q ++ (l ∷ twoText p)) (digit-no-letter (48 + q / 10) (is-digit (q / 10) (omega arith))) (two-digits q (omega arith)) q (sym (two-back q)) n (omega arith)))
+      (sequenced (twoText q ++ (l ∷ twoText p)) (digit-no-letter (48 + q / 10) (is-digit (q / 10) (omega arith))) (two-digits q (omega arith)) q
+      (sym (two-back q)) n (omega arith)))
       (eq-zero-or-pos q)
 
   pub priority-back : priorityOf text .good ≡ true → priorityOf text ≡ record { good = true; sequence = q; letter = l; precedence = p }
   priority-back g =
       priority-ranked
       ∙ by-bool (lastOfAll l p)
-      (λ z. never g (ap (λ (x : Priority). x .good) (priority-ranked ∙ rank-last q l (twoText p) hl (omega arith) (two-digits p (omega arith)) p (sym (two-back p)) (omega arith) z)))
+      (λ z. never g (ap (λ (x : Priority). x .good)
+      (priority-ranked ∙ rank-last q l (twoText p) hl (omega arith) (two-digits p (omega arith)) p (sym (two-back p)) (omega arith) z)))
       (λ z. rank-good q l (twoText p) hl (omega arith) (two-digits p (omega arith)) p (sym (two-back p)) (omega arith) z)
 
   pub priority-plain : every plain text ≡ true

@@ -105,7 +105,9 @@ module _ (n : ℕ) (r : Request) where
   -- the card starts with the first field
   pub pty-first : ptyText n r ≡ getD (ptyFields n r) 0 [] ++ tailText (drop 1 (trimmed (ptyFields n r)))
   unfolding ptyText
-  pty-first = cards-first (trimmed (ptyFields n r)) some-written ∙ ap (λ (f : List ℕ). f ++ tailText (drop 1 (trimmed (ptyFields n r)))) (trimmed-at (ptyFields n r) 0)
+  pty-first =
+      cards-first (trimmed (ptyFields n r)) some-written
+      ∙ ap (λ (f : List ℕ). f ++ tailText (drop 1 (trimmed (ptyFields n r)))) (trimmed-at (ptyFields n r) 0)
     where
       cards-first : (fs : List (List ℕ)) → 0 < length fs → cardText fs ≡ getD fs 0 [] ++ tailText (drop 1 fs)
       cards-first [] h = absurd (omega arith)
@@ -118,7 +120,8 @@ module _ (n : ℕ) (r : Request) where
         → Going room₀ at₀ whole after next (tailText (drop (k + 1) (trimmed (ptyFields n r))))
     pty-turn k h g v w =
         let e : drop k (trimmed (ptyFields n r)) ≡ getD (ptyFields n r) k [] ∷ drop (k + 1) (trimmed (ptyFields n r)) =
-        rw (add-one k) (drop-cons (trimmed (ptyFields n r)) k [] h) ∙ ap (λ (f : List ℕ). f ∷ drop (k + 1) (trimmed (ptyFields n r))) (trimmed-at (ptyFields n r) k) in
+        rw (add-one k) (drop-cons (trimmed (ptyFields n r)) k [] h)
+        ∙ ap (λ (f : List ℕ). f ∷ drop (k + 1) (trimmed (ptyFields n r))) (trimmed-at (ptyFields n r) k) in
         turn {whole = whole} (turn {whole = whole} (rw e at g) v) w
 
     pub pty-end : {room after : List ℕ} {at next : ℕ} (k : ℕ) → length (trimmed (ptyFields n r)) ≤ k
@@ -143,7 +146,8 @@ module _ (asks : List ℕ) where
         → Written room at (44 ∷ []) comma c → Written comma c (entryText k n) after next
         → Going room₀ at₀ (from 0) after next (from (k + 1))
     entry-turn k n h e z g v w =
-        let d : entryTexts k (drop k asks) ≡ entryText k n ∷ entryTexts (k + 1) (drop (k + 1) asks) = rw (add-one k, drop-cons asks k 0 h, ← e, ne-eqb n 0 z) in
+        let d : entryTexts k (drop k asks) ≡ entryText k n ∷ entryTexts (k + 1) (drop (k + 1) asks) =
+        rw (add-one k, drop-cons asks k 0 h, ← e, ne-eqb n 0 z) in
         turn {whole = from 0} (turn {whole = from 0} (rw d at g) v) w
 
     pub entry-end : {room after : List ℕ} {at next : ℕ} (k : ℕ) → length asks ≤ k

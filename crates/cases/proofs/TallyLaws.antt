@@ -11,7 +11,9 @@ use Rattle.cases.specs.declared.Tally.{Tally}
 
 two-on : (at count : ℕ) → at < count → (at < twoOn at count) × (twoOn at count ≤ count)
 two-on at count h =
-    by-bool (ltb 2 (count - at)) (λ t. rw (lt-ltb at count h, t) (omega (arith, ltb-true 2 (count - at) t), omega (arith, ltb-true 2 (count - at) t))) (λ t. rw (lt-ltb at count h, t) (h, omega arith))
+    by-bool (ltb 2 (count - at))
+    (λ t. rw (lt-ltb at count h, t) (omega (arith, ltb-true 2 (count - at) t), omega (arith, ltb-true 2 (count - at) t)))
+    (λ t. rw (lt-ltb at count h, t) (h, omega arith))
 
 -- what is left grows less
 pub fewer : (t : Tally) (agrees : Bool) {r : Tally} → r ≡ judgedOf t agrees → t .at < t .count → r .count - r .at < t .count - t .at

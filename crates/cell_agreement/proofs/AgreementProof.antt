@@ -59,7 +59,8 @@ candidate-waits es e h =
     both (waiting (e .state)) (not (lowerStands es e) && (not (runningAlone es) && not (serial (e .request) && running es))) h .0
 
 module _ (s : Schedule) (lists : Lists) (I : Inv (stateOf lists)) (A : Agree s (stateOf lists)) where
-  agree-taken : (r : Selection) → Selected (inSchedule s) lists r → Agree (Schedules.taken s (r .at) (r .place)) (stateOf (outcome lists (takingOf r) .lists))
+  agree-taken : (r : Selection) → Selected (inSchedule s) lists r
+      → Agree (Schedules.taken s (r .at) (r .place)) (stateOf (outcome lists (takingOf r) .lists))
   agree-taken r h =
       let asg = assignmentOf (r .request .facilities) (r .assigned) in
       rw (outcome-is lists (takingOf r) .1) (unfold step accept in
@@ -104,10 +105,12 @@ plain-agree c d Select reply p h I A =
 plain-agree c d (Do x) reply p h I A = agree-acts c d x (h .1) A
 plain-agree c d (Release id) reply p h I A =
     subst AgreeIn (sym (h .1))
-    (agree-kept (c .schedule) (Schedules.released (c .schedule) id .schedule) (inside c) (inside c) (λ j. kept-released j (c .schedule) id) (λ j. refl) A)
+    (agree-kept (c .schedule) (Schedules.released (c .schedule) id .schedule) (inside c) (inside c) (λ j. kept-released j (c .schedule) id)
+    (λ j. refl) A)
 plain-agree c d (Delete id) reply p h I A =
     subst AgreeIn (sym (h .1))
-    (agree-kept (c .schedule) (Schedules.deleted (c .schedule) id .schedule) (inside c) (inside c) (λ j. kept-deleted j (c .schedule) id) (λ j. refl) A)
+    (agree-kept (c .schedule) (Schedules.deleted (c .schedule) id .schedule) (inside c) (inside c) (λ j. kept-deleted j (c .schedule) id)
+    (λ j. refl) A)
 plain-agree c d (Status place packet) reply p h I A = subst AgreeIn (sym (h .1)) A
 plain-agree c d (Key message) reply p h I A = absurd p
 

@@ -41,7 +41,8 @@ use Rattle.schedule_entering.proofs.Clashes.{barred-at}
 use Rattle.schedule_deck.specs.Report.{after, begin, deckSchedule, endFrom, scheduleBy, triedBy}
 use Rattle.schedule_deck.specs.declared.Progress.{Progress}
 use Rattle.cell_agreement.specs.Agreement.{statesIn}
-use Rattle.cell_agreement.proofs.StandingLaws.{changed-alone, changed-apart, changed-into, first-there, in-one, inserted-apart, without-alone, without-apart}
+use Rattle.cell_agreement.proofs.StandingLaws.{changed-alone, changed-apart, changed-into, first-there, in-one}
+use Rattle.cell_agreement.proofs.StandingLaws.{inserted-apart, without-alone, without-apart}
 
 -- the states of the requests of a schedule in a place
 abbrev pub seen : ℕ → Schedule → List State
@@ -132,10 +133,12 @@ module _ (j : ℕ) where
   unfolding releasedAt
   kept-releasedAt k s =
       by-bool (there k (inSchedule s) && suspended (entryAt (inSchedule s) k .state))
-      (λ t. let two = both (there k (inSchedule s)) (suspended (entryAt (inSchedule s) k .state)) t in
+      (λ t.
+      let two = both (there k (inSchedule s)) (suspended (entryAt (inSchedule s) k .state)) t in
       rw t
       (seen-of j (withState k Waiting (inSchedule s))
-      ∙ changed-apart j k Waiting (inSchedule s) (ltb-true k (length (inSchedule s)) (two .0)) (idle-nowhere j (entryAt (inSchedule s) k .state) (suspended-idle (entryAt (inSchedule s) k .state) (two .1))) refl))
+      ∙ changed-apart j k Waiting (inSchedule s) (ltb-true k (length (inSchedule s)) (two .0))
+      (idle-nowhere j (entryAt (inSchedule s) k .state) (suspended-idle (entryAt (inSchedule s) k .state) (two .1))) refl))
       (λ t. rw t)
 
   pub kept-released : (s : Schedule) (id : List ℕ) → seen j (released s id .schedule) ≡ seen j s
@@ -176,7 +179,8 @@ seen-changed j k x s h = rw (lt-ltb k (length (inSchedule s)) h) (seen-of j (wit
 pub put-taken : (s : Schedule) (k place : ℕ) → k < length (inSchedule s) → waiting (entryAt (inSchedule s) k .state) ≡ true → seen place s ≡ []
     → Put place (Running place ∷ []) s (taken s k place)
 put-taken s k place h w e =
-    let n : (j : ℕ) → inPlace j (entryAt (inSchedule s) k .state) ≡ false = λ j. idle-nowhere j (entryAt (inSchedule s) k .state) (waiting-idle (entryAt (inSchedule s) k .state) w) in
+    let n : (j : ℕ) → inPlace j (entryAt (inSchedule s) k .state) ≡ false =
+    λ j. idle-nowhere j (entryAt (inSchedule s) k .state) (waiting-idle (entryAt (inSchedule s) k .state) w) in
     by-place place (Running place ∷ []) s (taken s k place)
     (seen-changed place k (Running place) s h ∙ changed-into place k (Running place) (inSchedule s) h (n place) e ∙ rw (eqb-self place))
     (λ i d. seen-changed i k (Running place) s h ∙ changed-apart i k (Running place) (inSchedule s) h (n i) (other-place i place d))
@@ -193,7 +197,8 @@ put-closing s place y e =
     ∙ changed-apart i k (Closing place) (inSchedule s) (f .0) (in-one i place (entryAt (inSchedule s) k .state) d (f .1)) (other-place i place d)))
 
 -- the job of a place has returned
-put-returnedAt : (s : Schedule) (place k : ℕ) (y : State) (inError : Bool) → k < length (inSchedule s) → inPlace place (entryAt (inSchedule s) k .state) ≡ true → seen place s ≡ y ∷ []
+put-returnedAt : (s : Schedule) (place k : ℕ) (y : State) (inError : Bool) → k < length (inSchedule s)
+    → inPlace place (entryAt (inSchedule s) k .state) ≡ true → seen place s ≡ y ∷ []
     → Put place [] s (returnedAt k s inError)
 unfolding returnedAt
 put-returnedAt s place k y inError h f e =

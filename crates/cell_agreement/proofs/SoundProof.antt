@@ -75,7 +75,8 @@ plain-sound c d (Deck bytes) reply p h s =
 plain-sound c d Select reply p h s =
     let r = h .0 in
     subst SoundIn (sym (h .1 .1 .1))
-    (subst (λ (t : Schedule × Lists). Sound (t .0)) (sym (h .1 .0 .takes .leaves)) (sound-select (c .schedule) s (Selecting.isJob (r .selection .choice)) (c .lists) (r .selection)))
+    (subst (λ (t : Schedule × Lists). Sound (t .0)) (sym (h .1 .0 .takes .leaves))
+    (sound-select (c .schedule) s (Selecting.isJob (r .selection .choice)) (c .lists) (r .selection)))
 plain-sound c d (Do x) reply p h s =
     unfold acted in subst SoundIn (sym (h .1)) (sound-followed (c .schedule) s (outcome (c .lists) (Rules.Do x) .answer))
 plain-sound c d (Release id) reply p h s = subst SoundIn (sym (h .1)) (sound-released (c .schedule) s id)

@@ -89,7 +89,8 @@ abbrev pub Agree : Schedule → State → Type 0
 Agree s st = (j : ℕ) → Stands s st j
 
 -- neither changes
-pub agree-kept : (s t : Schedule) (st after : State) → ((j : ℕ) → seen j t ≡ seen j s) → ((j : ℕ) → stateIn (after .jobs) j ≡ stateIn (st .jobs) j) → Agree s st → Agree t after
+pub agree-kept : (s t : Schedule) (st after : State) → ((j : ℕ) → seen j t ≡ seen j s)
+    → ((j : ℕ) → stateIn (after .jobs) j ≡ stateIn (st .jobs) j) → Agree s st → Agree t after
 agree-kept s t st after e d A j = e j ∙ A j ∙ ap (λ (x : JobState). standing x j) (sym (d j))
 
 -- both change in one place

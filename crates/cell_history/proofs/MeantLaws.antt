@@ -25,7 +25,8 @@ Plain (Status place packet) = Unit {0}
 Plain (Key message) = ⊥
 
 -- what holds where nothing is done, and of each call that is no message, holds of every call as the one that it means
-module _ (P : Option Call → Type 0) (c d : Cell) (reply : Reply) (nothing : d ≡ c → P none) (plain : (y : Call) → Plain y → Does c y reply d → P (some y)) where
+module _ (P : Option Call → Type 0) (c d : Cell) (reply : Reply) (nothing : d ≡ c → P none)
+    (plain : (y : Call) → Plain y → Does c y reply d → P (some y)) where
   -- a message, by what it asks for
   by-asked : (a : Asked) (id : List ℕ) (h : Heeded) → h ≡ heeded c a id → reply ≡ replyOf (h .told) → d ≡ h .cell → P (callOf a id)
   by-asked Asked′.Unknown id h e r s = nothing (s ∙ ap (λ (x : Heeded). x .cell) e)

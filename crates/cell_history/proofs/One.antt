@@ -58,8 +58,10 @@ does-one c (Deck bytes) r s d e a b =
     let k = enters-one c bytes (a .0) (a .1) (b .0) (b .1) (a .2 .0) (b .2 .0) (a .2 .1 .0) (b .2 .1 .0) in
     (a .2 .1 .1 .0 ∙ ap Entered (k .0) ∙ sym (b .2 .1 .1 .0), a .2 .1 .1 .1 ∙ k .1 ∙ sym (b .2 .1 .1 .1))
 does-one c Select r s d e a b =
-    let k = selects-in-one c (a .0) (b .0) (a .1 .0) (b .1 .0) in
-    (a .1 .1 .0 ∙ ap (λ (y : SelectAnswer). Chosen (y .outcome) (y .selection)) k ∙ sym (b .1 .1 .0), a .1 .1 .1 ∙ ap (λ (y : SelectAnswer). y .cell) k ∙ sym (b .1 .1 .1))
+    let k = selects-in-one c (a .0) (b .0) (a .1 .0) (b .1 .0) in (
+      a .1 .1 .0 ∙ ap (λ (y : SelectAnswer). Chosen (y .outcome) (y .selection)) k ∙ sym (b .1 .1 .0),
+      a .1 .1 .1 ∙ ap (λ (y : SelectAnswer). y .cell) k ∙ sym (b .1 .1 .1),
+    )
 does-one c (Do x) r s d e a b = (a .0 ∙ sym (b .0), a .1 ∙ sym (b .1))
 does-one c (Release id) r s d e a b = (a .0 ∙ sym (b .0), a .1 ∙ sym (b .1))
 does-one c (Delete id) r s d e a b = (a .0 ∙ sym (b .0), a .1 ∙ sym (b .1))

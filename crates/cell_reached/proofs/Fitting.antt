@@ -79,17 +79,21 @@ module _ (es : List Entry) (lists : Lists) (s : Selection) (d : Selected es list
       let there : getD (map areaOf jobs) i noArea ≡ record { start = jobIn jobs i .from; words = jobIn jobs i .words } =
       List·getD-map areaOf jobs i noJob ∙ live-area (jobIn jobs i) alive in
       is .drum (omega (arith, low, high)) .free x low high i
-      (subst (λ (a : Area). In a x) (sym there) (record { from = leb-true (jobIn jobs i .from) x (k .0); below = ltb-true x (jobIn jobs i .from + jobIn jobs i .words) (k .1) }))
+      (subst (λ (a : Area). In a x) (sym there)
+      (record { from = leb-true (jobIn jobs i .from) x (k .0); below = ltb-true x (jobIn jobs i .from + jobIn jobs i .words) (k .1) }))
 
   -- a block that a live job holds is not free in the occupancy word
-  held-bit : (i b : ℕ) → isEmpty (stateIn jobs i) ≡ false → inCore (jobIn jobs i) b ≡ true → b < blocks → bit (occupancy (anyHas (map coreOf jobs)) blocks) b ≡ 0 → ⊥
+  held-bit : (i b : ℕ) → isEmpty (stateIn jobs i) ≡ false → inCore (jobIn jobs i) b ≡ true → b < blocks
+      → bit (occupancy (anyHas (map coreOf jobs)) blocks) b ≡ 0 → ⊥
   unfolding stateIn
   held-bit i b alive hold h z =
       let f : Core → Bool = λ (core : Core). inBlocks core b in
       let a : any f (map coreOf jobs) ≡ true =
-      any-here f (map coreOf jobs) i (coreOf noJob) (subst (λ (n : ℕ). i < n) (sym (length-map jobs coreOf)) (alive-in jobs i (unfold stateIn in alive)))
+      any-here f (map coreOf jobs) i (coreOf noJob)
+      (subst (λ (n : ℕ). i < n) (sym (length-map jobs coreOf)) (alive-in jobs i (unfold stateIn in alive)))
       (ap f (List·getD-map coreOf jobs i noJob ∙ live-core (jobIn jobs i) alive) ∙ hold) in
-      let o : bit (occupancy (anyHas (map coreOf jobs)) blocks) b ≡ cond (anyHas (map coreOf jobs) b) 1 0 = occupancy-bit (anyHas (map coreOf jobs)) blocks b h in
+      let o : bit (occupancy (anyHas (map coreOf jobs)) blocks) b ≡ cond (anyHas (map coreOf jobs) b) 1 0 =
+      occupancy-bit (anyHas (map coreOf jobs)) blocks b h in
       let one : _≡_ {A = ℕ} (cond (anyHas (map coreOf jobs) b) 1 0) 1 = ap (λ (t : Bool). cond t 1 0) a in
       let n : _≡_ {A = ℕ} 0 1 = sym z ∙ o ∙ one in
       absurd (omega arith)
@@ -107,12 +111,15 @@ module _ (es : List Entry) (lists : Lists) (s : Selection) (d : Selected es list
       held-bit i b alive hold (omega (arith, r .1, k .high)) (k .free b (r .1) (r .0)))
 
   -- units that are free and unmarked
-  pub units-fit : (c u : ℕ) → c < 16 → u < 16 → wanted (assignmentOf asks (s .assigned)) c u ≡ true → assignable (unitIn (lists .units .of) c u) ≡ true
+  pub units-fit : (c u : ℕ) → c < 16 → u < 16 → wanted (assignmentOf asks (s .assigned)) c u ≡ true
+      → assignable (unitIn (lists .units .of) c u) ≡ true
   unfolding isFreeOf
   units-fit c u h k e =
-      let g : isTaken (getD (s .assigned .heads) (c * 16 + u) blank) ≡ true = sym (List·getD-map isTaken (s .assigned .heads) (c * 16 + u) blank) ∙ e in
+      let g : isTaken (getD (s .assigned .heads) (c * 16 + u) blank) ≡ true =
+      sym (List·getD-map isTaken (s .assigned .heads) (c * 16 + u) blank) ∙ e in
       let f = is .only (c * 16 + u) g in
-      let a = both (ltb ((c * 16 + u) % 16) (unitsOfKind (f .kind) (getD (lists .channels) ((c * 16 + u) / 16) noChannel))) (assignable (unitIn (lists .units .of) ((c * 16 + u) / 16) ((c * 16 + u) % 16))) (f .free) .1 in
+      let a = both (ltb ((c * 16 + u) % 16) (unitsOfKind (f .kind) (getD (lists .channels) ((c * 16 + u) / 16) noChannel)))
+      (assignable (unitIn (lists .units .of) ((c * 16 + u) / 16) ((c * 16 + u) % 16))) (f .free) .1 in
       let x : (c * 16 + u) / 16 ≡ c = omega arith in
       let y : (c * 16 + u) % 16 ≡ u = omega arith in
       subst (λ (m : ℕ). assignable (unitIn (lists .units .of) c m) ≡ true) y

@@ -27,7 +27,8 @@ use Rattle.cell_taken.specs.Taken.{LowestFree}
 use Rattle.cell_taken.proofs.TakenLaws.{lowest-one}
 use Rattle.cell_taken.specs.declared.FreePlace.{FreePlace}
 use Rattle.cell_taken.specs.declared.FreePlace.the-variants.{At, Full}
-use Rattle.cell_selection.specs.Selecting.{AllHeld, FirstFit, FirstLacks, NoFit, Selected, Selects, SelectsBy, Takes, Unselected, isJob, leftBy, supplyIn, takingOf, unselected}
+use Rattle.cell_selection.specs.Selecting.{AllHeld, FirstFit, FirstLacks, NoFit, Selected, Selects, SelectsBy, Takes}
+use Rattle.cell_selection.specs.Selecting.{Unselected, isJob, leftBy, supplyIn, takingOf, unselected}
 use Rattle.cell_selection.specs.declared.Choice.{Choice}
 use Rattle.cell_selection.specs.declared.Choice.the-variants.{Job, NoPlace, NoCandidates, Lacks}
 use Rattle.cell_selection.specs.declared.Selection.{Selection}
@@ -83,7 +84,8 @@ module _ (es : List Entry) (lists : Lists) where
   is-selected r NoCandidates t s = never t refl
   is-selected r (Lacks part) t s = never t refl
 
-  pub not-selected : (r : Selection) (c : Choice) → isJob c ≡ false → SelectsBy c es lists r → Unselected c es lists (r .first) × (r ≡ unselected c (r .first))
+  pub not-selected : (r : Selection) (c : Choice) → isJob c ≡ false → SelectsBy c es lists r
+      → Unselected c es lists (r .first) × (r ≡ unselected c (r .first))
   not-selected r Job t s = never refl t
   not-selected r NoPlace t s = s
   not-selected r NoCandidates t s = s
@@ -163,6 +165,7 @@ takes-one schedule lists r s a b =
 
 -- ---- the lists accept the taking
 
-pub taking-granted : (schedule : Schedule) (lists : Lists) (r : Selection) → Selected (inSchedule schedule) lists r → refusal (stateOf lists) (takingOf r) ≡ Granted
+pub taking-granted : (schedule : Schedule) (lists : Lists) (r : Selection) → Selected (inSchedule schedule) lists r
+    → refusal (stateOf lists) (takingOf r) ≡ Granted
 unfolding refusal
 taking-granted schedule lists r a = rw (lt-ltb (r .place) 16 (a .place .0), a .place .1 .0) refl

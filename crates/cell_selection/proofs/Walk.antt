@@ -35,7 +35,8 @@ use Rattle.assign_lacking.proofs.InCellLaws.{in-cell}
 use Rattle.packets.specs.declared.Lists.{Lists}
 use Rattle.cell_taken.specs.Taken.{LowestFree}
 use Rattle.cell_taken.specs.declared.FreePlace.the-variants.{At}
-use Rattle.cell_selection.specs.Selecting.{AllHeld, Candidate, FirstFit, FirstLacks, HasNone, NoFit, Selected, SelectsBy, Starts, isJob, noId, supplyIn, unselected}
+use Rattle.cell_selection.specs.Selecting.{AllHeld, Candidate, FirstFit, FirstLacks, HasNone, NoFit, Selected}
+use Rattle.cell_selection.specs.Selecting.{SelectsBy, Starts, isJob, noId, supplyIn, unselected}
 use Rattle.cell_selection.specs.Noting.{Picks, PicksBy, PicksNone, atThen, lackingThen, nonePicked, noted, picked}
 use Rattle.cell_selection.specs.declared.Choice.the-variants.{Job, NoPlace, NoCandidates, Lacks}
 use Rattle.cell_selection.specs.declared.Noted.{Noted}
@@ -103,14 +104,19 @@ module _ (es : List Entry) (supply : Supply) (k : ℕ) where
       by-lack (Lacking.First part) x = (none, (x .1, g))
 
 -- what the counts tell of a cell
-pub told : (units : List (List Unit)) (occupancy : ℕ) (areas : List Area) (channels : List Channel) (wanted : Facilities) (counts : Counts) {drum : ℕ} {l m : Lacking} → length channels ≡ 16
-    → Counted units channels counts → drum ≡ drumLength channels → LackingByCounts counts occupancy areas drum wanted l → l ≡ m → FirstLacking (supplyOf units occupancy areas channels) wanted m
+pub told : (units : List (List Unit)) (occupancy : ℕ) (areas : List Area) (channels : List Channel) (wanted : Facilities) (counts : Counts)
+    {drum : ℕ} {l m : Lacking}
+    → length channels ≡ 16
+    → Counted units channels counts → drum ≡ drumLength channels → LackingByCounts counts occupancy areas drum wanted l → l ≡ m
+    → FirstLacking (supplyOf units occupancy areas channels) wanted m
 told units occupancy areas channels wanted counts {drum} {l} {m} size c e a q =
     in-cell units occupancy areas channels wanted counts size (a .full) c m
-    (subst (λ (x : ℕ). FirstOf (HasBy counts occupancy areas x wanted) parts m) e (subst (FirstOf (HasBy counts occupancy areas drum wanted) parts) q (a .first)))
+    (subst (λ (x : ℕ). FirstOf (HasBy counts occupancy areas x wanted) parts m) e
+    (subst (FirstOf (HasBy counts occupancy areas drum wanted) parts) q (a .first)))
 
 -- ---- the walk over a schedule's array, by the marks of its candidates
-module _ (s : Schedule) (wide : length (s .entries) ≡ mostRequests) {n : ℕ} (size : n ≡ length (inSchedule s)) {may : List Bool} (marks : Marks (inSchedule s) may) (supply : Supply) where
+module _ (s : Schedule) (wide : length (s .entries) ≡ mostRequests) {n : ℕ} (size : n ≡ length (inSchedule s)) {may : List Bool}
+    (marks : Marks (inSchedule s) may) (supply : Supply) where
   part : take n (s .entries) ≡ inSchedule s
   part = schedule-sized s size
 
@@ -162,7 +168,8 @@ module _ (s : Schedule) (wide : length (s .entries) ≡ mostRequests) {n : ℕ} 
 pub refused-full : (es : List Entry) (lists : Lists) (r : Selection) → AllHeld lists → r ≡ unselected NoPlace noId → SelectsBy (r .choice) es lists r
 refused-full es lists r f e = rw e ((f, refl), refl)
 
-module _ (es : List Entry) (lists : Lists) (p : Pick) (place : ℕ) (entry : Entry) (picks : Picks es (supplyIn lists) p) (l : LowestFree (lists .jobs) (At place))
+module _ (es : List Entry) (lists : Lists) (p : Pick) (place : ℕ) (entry : Entry) (picks : Picks es (supplyIn lists) p)
+    (l : LowestFree (lists .jobs) (At place))
     (is : entry ≡ entryAt es (p .at)) where
   module _ (f : p .found ≡ false) where
     none : {l : Lacking} → p .lacking ≡ l → PicksNone l es (supplyIn lists) p
@@ -188,7 +195,8 @@ module _ (es : List Entry) (lists : Lists) (p : Pick) (place : ℕ) (entry : Ent
   }
 
 -- the starts of an assignment's blocks are numbers of blocks
-pub starts : (es : List Entry) (lists : Lists) (r : Selection) → isJob (r .choice) ≡ true → SelectsBy (r .choice) es lists r → Starts (r .request .facilities) (r .assigned)
+pub starts : (es : List Entry) (lists : Lists) (r : Selection) → isJob (r .choice) ≡ true → SelectsBy (r .choice) es lists r
+    → Starts (r .request .facilities) (r .assigned)
 starts es lists r f s =
     let d : Selected es lists r = is-selected es lists r (r .choice) f s in
     let k = d .fit .chosen .is .core in

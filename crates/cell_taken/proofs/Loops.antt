@@ -39,14 +39,22 @@ module _ (taken : ℕ → Bool) {word left : ℕ} (k : Worded taken word left) w
   -- there is room for one bit more
   pub word-small : 0 < left → word * 2 + 1 < 4294967296
   word-small h =
-      omega (arith, k .is, k .high, word-below taken left (blocks - left), pow-le-pow-right {n = 2} (omega arith) {i = blocks - left} {j = 31} (omega (arith, k .high)))
+      omega (
+        arith,
+        k .is,
+        k .high,
+        word-below taken left (blocks - left),
+        pow-le-pow-right {n = 2} (omega arith) {i = blocks - left} {j = 31} (omega (arith, k .high)),
+      )
 
   pub word-turn : (next : ℕ) → 0 < left → next ≡ word * 2 + cond (taken (left - 1)) 1 0 → Worded taken next (left - 1)
   word-turn next h e =
       record {
         high = omega (arith, k .high);
-        is = e ∙ ap (λ (w : ℕ). w * 2 + cond (taken (left - 1)) 1 0) (k .is ∙ ap (λ (m : ℕ). wordFrom taken m (blocks - left)) (let z : left ≡ suc (left - 1) = omega arith in z))
-            ∙ sym (more (blocks - left) (left - 1)) ∙ ap (λ (n : ℕ). wordFrom taken (left - 1) n) (let z : suc (blocks - left) ≡ blocks - (left - 1) = omega (arith, k .high) in z);
+        is = e ∙ ap (λ (w : ℕ). w * 2 + cond (taken (left - 1)) 1 0)
+            (k .is ∙ ap (λ (m : ℕ). wordFrom taken m (blocks - left)) (let z : left ≡ suc (left - 1) = omega arith in z))
+            ∙ sym (more (blocks - left) (left - 1))
+            ∙ ap (λ (n : ℕ). wordFrom taken (left - 1) n) (let z : suc (blocks - left) ≡ blocks - (left - 1) = omega (arith, k .high) in z);
       }
     where
       more : (n m : ℕ) → wordFrom taken m (suc n) ≡ wordFrom taken (suc m) n * 2 + cond (taken m) 1 0

@@ -52,7 +52,9 @@ pub lowest-one : (jobs : List Job) (a b : FreePlace) → LowestFree jobs a → L
 lowest-one jobs (At p) (At q) f g = ap At (same p q (λ h. never (f .1 .0) (g .1 .1 p h)) (λ h. never (g .1 .0) (f .1 .1 q h)))
   where
     same : (p q : ℕ) → (p < q → ⊥) → (q < p → ⊥) → p ≡ q
-    same p q l r = ⊎-elim (λ e. ⊎-elim (λ d. omega arith) (λ d. absurd (r (omega arith))) (eq-zero-or-pos (p - q))) (λ e. absurd (l (omega arith))) (eq-zero-or-pos (q - p))
+    same p q l r =
+        ⊎-elim (λ e. ⊎-elim (λ d. omega arith) (λ d. absurd (r (omega arith))) (eq-zero-or-pos (p - q))) (λ e. absurd (l (omega arith)))
+        (eq-zero-or-pos (q - p))
 lowest-one jobs (At p) Full f g = never (f .1 .0) (g p (f .0))
 lowest-one jobs Full (At q) f g = never (g .1 .0) (f q (g .0))
 lowest-one jobs Full Full f g = refl

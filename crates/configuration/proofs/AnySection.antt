@@ -53,7 +53,16 @@ abbrev pub channelsBy : ℕ → ℕ → ℕ → ChannelsAt → List ℕ → Chan
 channelsBy left line at c s = channelsFrom left line at (c .next) (c .drum) (c .of) s
 
 abbrev pub channelSection : Section
-channelSection = record { State = ChannelsAt; Answer = Channels; from = channelsBy; bad = badChannels; lineOf = λ r. r .line; atOf = λ r. r .at; bad-line = λ line. refl; bad-at = λ line. refl }
+channelSection = record {
+  State = ChannelsAt;
+  Answer = Channels;
+  from = channelsBy;
+  bad = badChannels;
+  lineOf = λ r. r .line;
+  atOf = λ r. r .at;
+  bad-line = λ line. refl;
+  bad-at = λ line. refl;
+}
 
 module _ {c : ChannelsAt} {s : List ℕ} where
   pub channels-wrong : channelLine s ≡ ChannelLine′.Wrong → Stops channelSection c s
@@ -80,7 +89,16 @@ module _ (channels : List Channel) where
   downsBy left line at d s = downsFrom left line at (d .next) channels (d .of) s
 
   abbrev pub downSection : Section
-  downSection = record { State = DownsAt; Answer = Downs; from = downsBy; bad = badDowns; lineOf = λ r. r .line; atOf = λ r. r .at; bad-line = λ line. refl; bad-at = λ line. refl }
+  downSection = record {
+    State = DownsAt;
+    Answer = Downs;
+    from = downsBy;
+    bad = badDowns;
+    lineOf = λ r. r .line;
+    atOf = λ r. r .at;
+    bad-line = λ line. refl;
+    bad-at = λ line. refl;
+  }
 
 module _ (channels : List Channel) {d : DownsAt} {s : List ℕ} where
   pub downs-wrong : downLine s ≡ DownLine′.Wrong → Stops (downSection channels) d s
@@ -106,7 +124,16 @@ abbrev pub codesBy : ℕ → ℕ → ℕ → CodesAt → List ℕ → Codes
 codesBy left line at c s = codesFrom left line at (c .next) (c .of) s
 
 abbrev pub codeSection : Section
-codeSection = record { State = CodesAt; Answer = Codes; from = codesBy; bad = badCodes; lineOf = λ r. r .line; atOf = λ r. r .at; bad-line = λ line. refl; bad-at = λ line. refl }
+codeSection = record {
+  State = CodesAt;
+  Answer = Codes;
+  from = codesBy;
+  bad = badCodes;
+  lineOf = λ r. r .line;
+  atOf = λ r. r .at;
+  bad-line = λ line. refl;
+  bad-at = λ line. refl;
+}
 
 module _ {c : CodesAt} {s : List ℕ} where
   pub codes-wrong : codeLine s ≡ CodeLine′.Wrong → Stops codeSection c s

@@ -17,7 +17,8 @@ module _ (S : Section) where
     pub same : S .from left line at state (drop at s) ≡ S .from count first start begin (drop start s)
 
 -- at first all are left
-pub at-first : {S : Section} {s : List ℕ} {count first start : ℕ} {begin : S .State} → start ≤ length s → At S s count first start begin count first start begin
+pub at-first : {S : Section} {s : List ℕ} {count first start : ℕ} {begin : S .State} → start ≤ length s
+    → At S s count first start begin count first start begin
 at-first {first = first} h = record { within = h; counted = omega arith; same = refl }
 
 module _ {S : Section} {s : List ℕ} {count first start : ℕ} {begin : S .State} {left line at : ℕ} {state : S .State}
@@ -41,7 +42,8 @@ module _ {S : Section} {s : List ℕ} {count first start : ℕ} {begin : S .Stat
         record { is = o ∙ (sym (q .by (left - 1) line at) ∙ one-left); within = omega arith; few = omega (arith, p .counted) }
 
     -- a line that is taken
-    pub at-turn : {k : ℕ} {next : S .State} → GoesOn S state (drop at s) k next → k ≤ length s - at → At S s count first start begin (left - 1) (line + 1) (at + k) next
+    pub at-turn : {k : ℕ} {next : S .State} → GoesOn S state (drop at s) k next → k ≤ length s - at
+        → At S s count first start begin (left - 1) (line + 1) (at + k) next
     at-turn {k} {next} g w =
         record {
           within = omega (arith, p .within);

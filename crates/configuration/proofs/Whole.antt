@@ -21,7 +21,8 @@ module _ (s : List ℕ) (line at : ℕ) where
   unfolding thirdSection
   no-codes e = rw e
 
-  module _ {n k : ℕ} {third : Codes} (e : lastNumber 0 mostCodes (drop at s) ≡ Is n k) (q : third ≡ codesFrom n (line + 1) (at + k) 0 noCodes (drop (at + k) s)) where
+  module _ {n k : ℕ} {third : Codes} (e : lastNumber 0 mostCodes (drop at s) ≡ Is n k)
+      (q : third ≡ codesFrom n (line + 1) (at + k) 0 noCodes (drop (at + k) s)) where
     whole-last : thirdSection s line at ≡ andNoMore s third
     unfolding thirdSection
     whole-last = rw (e, ← q)

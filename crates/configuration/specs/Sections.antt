@@ -87,4 +87,5 @@ abbrev pub ChannelsRead : List ℕ → ℕ → ℕ → Channels → Type 0
 ChannelsRead s count start r = SectionRead s count 2 (channelsFrom count 2 start 0 false noChannels (drop start s)) r (r .at) (r .line)
 
 abbrev pub DownsRead : List ℕ → ℕ → ℕ → ℕ → List Channel → Downs → Type 0
-DownsRead s count first start channels r = SectionRead s count first (downsFrom count first start 0 channels noDown (drop start s)) r (r .at) (r .line)
+DownsRead s count first start channels r =
+    SectionRead s count first (downsFrom count first start 0 channels noDown (drop start s)) r (r .at) (r .line)

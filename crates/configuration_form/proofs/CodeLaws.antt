@@ -45,7 +45,12 @@ is-code k e =
     let p = both (leb 2 k) (leb k 63 && (not (eqb k 14) && not (eqb k 15))) e in
     let q = both (leb k 63) (not (eqb k 14) && not (eqb k 15)) (p .1) in
     let r = both (not (eqb k 14)) (not (eqb k 15)) (q .1) in
-    record { least = leb-true 2 k (p .0); most = leb-true k 63 (q .0); not16 = eqb-false k 14 (not-true (eqb k 14) (r .0)); not17 = eqb-false k 15 (not-true (eqb k 15) (r .1)) }
+    record {
+      least = leb-true 2 k (p .0);
+      most = leb-true k 63 (q .0);
+      not16 = eqb-false k 14 (not-true (eqb k 14) (r .0));
+      not17 = eqb-false k 15 (not-true (eqb k 15) (r .1));
+    }
 
 code-is : (k : ℕ) → Code k → isCode k ≡ true
 code-is k c = rw (le-leb 2 k (c .least), le-leb k 63 (c .most), ne-eqb k 14 (c .not16), ne-eqb k 15 (c .not17))
@@ -67,7 +72,8 @@ pub code-redone : (s : List ℕ) (k : ℕ) → codeLine s ≡ CodeLine′.Is k �
 unfolding codeLine
 code-redone s k e = number (twoDigitsOf s) refl e
   where
-    put : (n j : ℕ) → n % 10 ≤ 7 → isCode (n / 10 * 8 + n % 10) ≡ true → getD s 2 0 ≡ 10 → s ≡ twoText n ++ drop 2 s → n / 10 * 8 + n % 10 ≡ j → CodeIs s j
+    put : (n j : ℕ) → n % 10 ≤ 7 → isCode (n / 10 * 8 + n % 10) ≡ true → getD s 2 0 ≡ 10 → s ≡ twoText n ++ drop 2 s → n / 10 * 8 + n % 10 ≡ j
+        → CodeIs s j
     put n j h c l two i =
         let f : drop 2 s ≡ 10 ∷ drop 3 s = head-at s 2 9 l in
         let o : twoText n ≡ octalText j = octal n j h (sym i) in
@@ -130,7 +136,8 @@ module _ (of : List Channel) (marks : List Bool) where
   codesDue left p = Due.codes left (p .next) of marks (p .of)
 
   -- where a code line is due, a right line is read as a code that the reader allows
-  right-read : {left next word : ℕ} {item : Item} {end : Due} (s t : List ℕ) → Right (Due.codes (suc left) next of marks word) item end → s ≡ line item ++ t
+  right-read : {left next word : ℕ} {item : Item} {end : Due} (s t : List ℕ) → Right (Due.codes (suc left) next of marks word) item end
+      → s ≡ line item ++ t
       → (k : ℕ) × (codeLine s ≡ CodeLine′.Is k) × (leb next k ≡ true)
   right-read {next = next} s t (Right.codeLine {k = k} a b d e h) q =
       (k, ap codeLine q ∙ code-undone k t (record { least = a; most = b; not16 = d; not17 = e }), le-leb next k h)
@@ -145,7 +152,9 @@ module _ (of : List Channel) (marks : List Bool) where
       by CodeLine′.Wrong e = Step.stops (none (λ k q a. let z : _≡_ {A = ℕ} 0 1 = cc in omega arith)) (codes-wrong e)
       by (CodeLine′.Is k) e =
           by-bool (leb (p .next) k)
-          (λ t. let i = code-redone s k e in
+          (λ t.
+          let i = code-redone s k e in
           let c = i .code in
-          Step.takes 3 _ (λ left. Right.codeLine (c .least) (c .most) (c .not16) (c .not17) (leb-true (p .next) k t)) (i .starts .same) (codes-go e t))
+          Step.takes 3 _ (λ left. Right.codeLine (c .least) (c .most) (c .not16) (c .not17) (leb-true (p .next) k t))
+          (i .starts .same) (codes-go e t))
           (λ t. Step.stops (none (λ j q a. let w : k ≡ j = is-same (sym e ∙ q) in never (rw (← w) at a) t)) (codes-refused e t))

@@ -23,7 +23,8 @@ use Rattle.configuration_form.proofs.LineLaws.{down-redone, down-undone
 use Rattle.configuration_form.proofs.SectionLaws.{Step}
 
 -- what the reader allows is what is right
-allowed : (next : ℕ) (on : Channel) (c : ChannelNumber) (u : UnitNumber) → downAllowed next on c u ≡ true → (next ≤ c .0 * 16 + u .0) × (u .0 < unitsOf on)
+allowed : (next : ℕ) (on : Channel) (c : ChannelNumber) (u : UnitNumber) → downAllowed next on c u ≡ true
+    → (next ≤ c .0 * 16 + u .0) × (u .0 < unitsOf on)
 unfolding downAllowed
 allowed next on c u e =
     let p = both (leb next (c .0 * 16 + u .0)) (ltb (u .0) (unitsOf on)) e in
@@ -37,8 +38,12 @@ allows next on c u h k = rw (le-leb next (c .0 * 16 + u .0) h, lt-ltb (u .0) (un
 module _ {left next : ℕ} {of : List Channel} {marks : List Bool} where
   right-read : {item : Item} {end : Due} (s t : List ℕ) → Right (Due.downs (suc left) next of marks) item end → s ≡ line item ++ t
       → (c : ChannelNumber) × (u : UnitNumber) × (downLine s ≡ DownLine′.Is c u) × (downAllowed next (getD of (c .0) noChannel) c u ≡ true)
-  right-read s t (Right.downLine {c = c} {u = u} a b d e) q =
-      (record { 0 = c }, record { 0 = u }, ap downLine q ∙ down-undone c u t a b, allows next (getD of c noChannel) (record { 0 = c }) (record { 0 = u }) d e)
+  right-read s t (Right.downLine {c = c} {u = u} a b d e) q = (
+    record { 0 = c },
+    record { 0 = u },
+    ap downLine q ∙ down-undone c u t a b,
+    allows next (getD of c noChannel) (record { 0 = c }) (record { 0 = u }) d e,
+  )
 
 module _ (of : List Channel) where
   -- what is due where `left` lines are left

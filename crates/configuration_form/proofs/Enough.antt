@@ -70,7 +70,8 @@ longer s more number h f =
         text = ap (λ (p : List ℕ). p ++ more) (r .text) ∙ append-assoc (written (r .items)) (f .rest) more;
       };
       bad = record {
-        none = λ item next t q e. f .bad .none item next (drop (length (line item)) (f .rest)) q (starts (line item) (f .rest) more t (omega (arith, share q .1)) e);
+        none = λ item next t q e. f .bad .none item next (drop (length (line item)) (f .rest)) q
+            (starts (line item) (f .rest) more t (omega (arith, share q .1)) e);
         more = λ of marks word c e. let z : length (f .rest ++ more) ≡ 0 = ap length e in omega (arith, length-append (f .rest) more);
       };
     }

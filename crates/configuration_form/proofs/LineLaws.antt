@@ -55,20 +55,24 @@ unfolding lastNumber
 last-redone low high s n k e = by (decimalOf s) refl e
   where
     by : (d : Number) → decimalOf s ≡ d
-        → onNumber d Number′.Wrong (λ n k. cond (leb low n) (cond (leb n high) (cond (stands (byte "\n") k s) (Number′.Is n (k + 1)) Number′.Wrong) Number′.Wrong) Number′.Wrong) ≡ Number′.Is n k
+        → onNumber d Number′.Wrong (λ n k. cond (leb low n)
+        (cond (leb n high) (cond (stands (byte "\n") k s) (Number′.Is n (k + 1)) Number′.Wrong) Number′.Wrong) Number′.Wrong)
+        ≡ Number′.Is n k
         → Counted low high s n k
     by Number′.Wrong d e = not-wrong e
     by (Number′.Is m j) d e =
         by-bool (leb low m)
         (λ a. by-bool (leb m high)
         (λ b. by-bool (stands (byte "\n") j s)
-        (λ t. let i : Number′.Is m (j + 1) ≡ Number′.Is n k = rw (a, b, t) at e in
+        (λ t.
+        let i : Number′.Is m (j + 1) ≡ Number′.Is n k = rw (a, b, t) at e in
         let p : m ≡ n = cc in
         let q : j + 1 ≡ k = cc in
         let r = decimal-redone s m j d in
         let f : drop j s ≡ 10 ∷ drop (suc j) s = head-at s j 9 (eqb-true (getD s j 0) 10 t) in
         let g : suc j ≡ k = omega arith in
-        let w : s ≡ line (Item.count m) ++ drop (suc j) s = r .same ∙ ap (λ (l : List ℕ). decimalText m ++ l) f ∙ sym (append-assoc (decimalText m) (bytes "\n") (drop (suc j) s)) in
+        let w : s ≡ line (Item.count m) ++ drop (suc j) s =
+        r .same ∙ ap (λ (l : List ℕ). decimalText m ++ l) f ∙ sym (append-assoc (decimalText m) (bytes "\n") (drop (suc j) s)) in
         let l : suc j ≡ length (line (Item.count m)) = omega (arith, r .long, length-append (decimalText m) (bytes "\n")) in
         rw (← p, ← g) (record { least = leb-true low m a; most = leb-true m high b; starts = record { same = w; long = l } }))
         (λ t. not-wrong (rw (a, b, t) at e)))
@@ -131,20 +135,29 @@ module _ (s : List ℕ) (c : ℕ) (kind : Kind) (n k : ℕ) where
         small = small;
         least = last .least;
         most = last .most;
-        starts = record { same = whole ∙ regroup ∙ ap (λ (l : List ℕ). line (Item.channel c kind n) ++ l) (drop-drop k 6 s); long = ap (λ (m : ℕ). 6 + m) (last .starts .long) ∙ sym (channel-long c kind n) };
+        starts = record {
+          same = whole ∙ regroup ∙ ap (λ (l : List ℕ). line (Item.channel c kind n) ++ l) (drop-drop k 6 s);
+          long = ap (λ (m : ℕ). 6 + m) (last .starts .long) ∙ sym (channel-long c kind n);
+        };
       }
     where
-      regroup : twoText c ++ (bytes " " ++ (codeOf kind ++ (bytes " " ++ (line (Item.count n) ++ drop k (drop 6 s))))) ≡ line (Item.channel c kind n) ++ drop k (drop 6 s)
-      regroup = ap (λ (l : List ℕ). twoText c ++ (bytes " " ++ l)) (sym (append-assoc (codeOf kind) (bytes " " ++ line (Item.count n)) (drop k (drop 6 s))))
+      regroup : twoText c ++ (bytes " " ++ (codeOf kind ++ (bytes " " ++ (line (Item.count n) ++ drop k (drop 6 s)))))
+          ≡ line (Item.channel c kind n) ++ drop k (drop 6 s)
+      regroup =
+          ap (λ (l : List ℕ). twoText c ++ (bytes " " ++ l))
+          (sym (append-assoc (codeOf kind) (bytes " " ++ line (Item.count n)) (drop k (drop 6 s))))
 
 -- what is read as `cc KK n` is that line written
-pub channel-redone : (s : List ℕ) (c : ChannelNumber) (kind : Kind) (n k : ℕ) → channelLine s ≡ ChannelLine′.Is c kind n k → ChannelIs s (c .0) kind n k
+pub channel-redone : (s : List ℕ) (c : ChannelNumber) (kind : Kind) (n k : ℕ) → channelLine s ≡ ChannelLine′.Is c kind n k
+    → ChannelIs s (c .0) kind n k
 unfolding channelLine
 channel-redone s c kind n k e = number (twoDigitsOf s) refl e
   where
-    last : (b : ℕ) (m : Kind) (d : Number) → lastNumber (least m) (most m) (drop 6 s) ≡ d → b ≤ 15 → s ≡ twoText b ++ drop 2 s → getD s 2 0 ≡ byte " "
+    last : (b : ℕ) (m : Kind) (d : Number) → lastNumber (least m) (most m) (drop 6 s) ≡ d → b ≤ 15 → s ≡ twoText b ++ drop 2 s
+        → getD s 2 0 ≡ byte " "
         → kindOf (getD s 3 0) (getD s 4 0) ≡ Coded′.Is m → getD s 5 0 ≡ byte " "
-        → onNumber d ChannelLine′.Wrong (λ n k. ChannelLine′.Is (record { 0 = b }) m n (6 + k)) ≡ ChannelLine′.Is c kind n k → ChannelIs s (c .0) kind n k
+        → onNumber d ChannelLine′.Wrong (λ n k. ChannelLine′.Is (record { 0 = b }) m n (6 + k)) ≡ ChannelLine′.Is c kind n k
+        → ChannelIs s (c .0) kind n k
     last b m Number′.Wrong d h two sp code tp e = no-channel e
     last b m (Number′.Is i j) d h two sp code tp e =
         let r = joined s b m i j h two sp code tp (last-redone (least m) (most m) (drop 6 s) i j d) in
@@ -156,8 +169,11 @@ channel-redone s c kind n k e = number (twoDigitsOf s) refl e
         rw (← same, ← kinds, ← ns, ← ks) r
 
     code : (b : ℕ) (d : Coded) → kindOf (getD s 3 0) (getD s 4 0) ≡ d → b ≤ 15 → s ≡ twoText b ++ drop 2 s → getD s 2 0 ≡ byte " "
-        → onKind d ChannelLine′.Wrong (λ m. cond (stands (byte " ") 5 s) (onNumber (lastNumber (least m) (most m) (drop 6 s)) ChannelLine′.Wrong λ n k. ChannelLine′.Is (record { 0 = b }) m n (6 + k)) ChannelLine′.Wrong)
-        ≡ ChannelLine′.Is c kind n k → ChannelIs s (c .0) kind n k
+        → onKind d ChannelLine′.Wrong (λ m. cond (stands (byte " ") 5 s)
+        (onNumber (lastNumber (least m) (most m) (drop 6 s)) ChannelLine′.Wrong λ n k. ChannelLine′.Is (record { 0 = b }) m n (6 + k))
+        ChannelLine′.Wrong)
+        ≡ ChannelLine′.Is c kind n k
+        → ChannelIs s (c .0) kind n k
     code b Coded′.Unknown d h two sp e = no-channel e
     code b (Coded′.Is m) d h two sp e =
         by-bool (stands (byte " ") 5 s)
@@ -165,15 +181,22 @@ channel-redone s c kind n k e = number (twoDigitsOf s) refl e
         (λ f. no-channel (rw f at e))
 
     number : (d : Number) → twoDigitsOf s ≡ d
-        → onNumber d ChannelLine′.Wrong (λ c _. cond (leb c 15) (cond (stands (byte " ") 2 s)
+        → onNumber d ChannelLine′.Wrong (λ c _. cond (leb c 15)
+        (cond (stands (byte " ") 2 s)
         (onKind (kindOf (getD s 3 0) (getD s 4 0)) ChannelLine′.Wrong λ kind.
-        cond (stands (byte " ") 5 s) (onNumber (lastNumber (least kind) (most kind) (drop 6 s)) ChannelLine′.Wrong λ n k. ChannelLine′.Is (record { 0 = c }) kind n (6 + k)) ChannelLine′.Wrong)
-        ChannelLine′.Wrong) ChannelLine′.Wrong) ≡ ChannelLine′.Is c kind n k → ChannelIs s (c .0) kind n k
+        cond (stands (byte " ") 5 s)
+        (onNumber (lastNumber (least kind) (most kind) (drop 6 s)) ChannelLine′.Wrong λ n k. ChannelLine′.Is (record { 0 = c }) kind n (6 + k))
+        ChannelLine′.Wrong)
+        ChannelLine′.Wrong)
+        ChannelLine′.Wrong)
+        ≡ ChannelLine′.Is c kind n k
+        → ChannelIs s (c .0) kind n k
     number Number′.Wrong d e = no-channel e
     number (Number′.Is b j) d e =
         by-bool (leb b 15)
         (λ t. by-bool (stands (byte " ") 2 s)
-        (λ u. code b (kindOf (getD s 3 0) (getD s 4 0)) refl (leb-true b 15 t) (two-redone s b j d .2) (eqb-true (getD s 2 0) (byte " ") u) (rw (t, u) at e))
+        (λ u. code b (kindOf (getD s 3 0) (getD s 4 0)) refl (leb-true b 15 t) (two-redone s b j d .2) (eqb-true (getD s 2 0) (byte " ") u)
+        (rw (t, u) at e))
         (λ u. no-channel (rw (t, u) at e)))
         (λ t. no-channel (rw t at e))
 
@@ -182,7 +205,8 @@ most-small kind = by-bool (isDrum kind) (λ t. rw t (omega arith)) (λ f. rw f (
 
 -- a channel line whose code is the letters x, y
 spelt : (c n x y : ℕ) (kind : Kind) (rest : List ℕ) → kindOf x y ≡ Coded′.Is kind → c ≤ 15 → least kind ≤ n → n ≤ most kind
-    → channelLine (twoText c ++ (bytes " " ++ ((x ∷ y ∷ []) ++ (bytes " " ++ (line (Item.count n) ++ rest))))) ≡ ChannelLine′.Is (record { 0 = c }) kind n (6 + length (line (Item.count n)))
+    → channelLine (twoText c ++ (bytes " " ++ ((x ∷ y ∷ []) ++ (bytes " " ++ (line (Item.count n) ++ rest)))))
+    ≡ ChannelLine′.Is (record { 0 = c }) kind n (6 + length (line (Item.count n)))
 unfolding channelLine
 spelt c n x y kind rest e a b d =
     rw (
@@ -197,7 +221,8 @@ pub channel-undone : (c : ℕ) (kind : Kind) (n : ℕ) (rest : List ℕ) → c �
     → channelLine (line (Item.channel c kind n) ++ rest) ≡ ChannelLine′.Is (record { 0 = c }) kind n (length (line (Item.channel c kind n)))
 channel-undone c kind n rest a b d =
     subst
-    (λ (code : List ℕ). channelLine ((twoText c ++ (bytes " " ++ (code ++ (bytes " " ++ line (Item.count n))))) ++ rest) ≡ ChannelLine′.Is (record { 0 = c }) kind n (6 + length (line (Item.count n))))
+    (λ (code : List ℕ). channelLine ((twoText c ++ (bytes " " ++ (code ++ (bytes " " ++ line (Item.count n))))) ++ rest)
+    ≡ ChannelLine′.Is (record { 0 = c }) kind n (6 + length (line (Item.count n))))
     (code-two kind) (spelt c n (getD (codeOf kind) 0 0) (getD (codeOf kind) 1 0) kind rest (code-read kind) a b d)
     ∙ ap (ChannelLine′.Is (record { 0 = c }) kind n) (sym (channel-long c kind n))
 
@@ -217,7 +242,8 @@ five (a ∷ b ∷ x ∷ []) c u e p f q = absurd (omega arith)
 five (a ∷ b ∷ x ∷ y ∷ []) c u e p f q = absurd (omega arith)
 five (a ∷ b ∷ x ∷ y ∷ z ∷ []) c u e p f q = absurd (omega arith)
 five (a ∷ b ∷ x ∷ y ∷ z ∷ w ∷ s) c u e p f q =
-    e ∙ ap (λ (l : List ℕ). twoText c ++ l) (ap (λ (v : ℕ). v ∷ y ∷ z ∷ w ∷ s) p ∙ ap (λ (l : List ℕ). byte " " ∷ l) (f ∙ ap (λ (v : ℕ). twoText u ++ (v ∷ s)) q))
+    e ∙ ap (λ (l : List ℕ). twoText c ++ l)
+    (ap (λ (v : ℕ). v ∷ y ∷ z ∷ w ∷ s) p ∙ ap (λ (l : List ℕ). byte " " ∷ l) (f ∙ ap (λ (v : ℕ). twoText u ++ (v ∷ s)) q))
 
 -- what is read as `cc uu` is that line written
 pub down-redone : (s : List ℕ) (c : ChannelNumber) (u : UnitNumber) → downLine s ≡ DownLine′.Is c u → DownIs s (c .0) (u .0)
@@ -225,7 +251,9 @@ unfolding downLine
 down-redone s c u e = number (twoDigitsOf s) refl e
   where
     last : (a : ℕ) (d : Number) → twoDigitsOf (drop 3 s) ≡ d → a ≤ 15 → s ≡ twoText a ++ drop 2 s → getD s 2 0 ≡ byte " "
-        → onNumber d DownLine′.Wrong (λ b _. cond (leb b 15) (cond (stands (byte "\n") 5 s) (DownLine′.Is (record { 0 = a }) (record { 0 = b })) DownLine′.Wrong) DownLine′.Wrong) ≡ DownLine′.Is c u
+        → onNumber d DownLine′.Wrong (λ b _. cond (leb b 15)
+        (cond (stands (byte "\n") 5 s) (DownLine′.Is (record { 0 = a }) (record { 0 = b })) DownLine′.Wrong) DownLine′.Wrong)
+        ≡ DownLine′.Is c u
         → DownIs s (c .0) (u .0)
     last a Number′.Wrong d h two sp e = no-down e
     last a (Number′.Is b j) d h two sp e =
@@ -258,7 +286,8 @@ down-redone s c u e = number (twoDigitsOf s) refl e
         (λ t. no-down (rw t at e))
 
 -- and `cc uu` written is read as itself
-pub down-undone : (c u : ℕ) (rest : List ℕ) → c ≤ 15 → u ≤ 15 → downLine (line (Item.down c u) ++ rest) ≡ DownLine′.Is (record { 0 = c }) (record { 0 = u })
+pub down-undone : (c u : ℕ) (rest : List ℕ) → c ≤ 15 → u ≤ 15
+    → downLine (line (Item.down c u) ++ rest) ≡ DownLine′.Is (record { 0 = c }) (record { 0 = u })
 unfolding downLine
 down-undone c u rest a b =
     rw (

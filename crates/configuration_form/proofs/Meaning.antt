@@ -60,7 +60,8 @@ means-good {s} {of} {marks} {word} w =
     }
 
 -- nothing is right behind the last code line
-pub nothing-due : {next word : ℕ} {of : List Channel} {marks : List Bool} {item : Item} {end : Due} → Right (Due.codes 0 next of marks word) item end → ⊥
+pub nothing-due : {next word : ℕ} {of : List Channel} {marks : List Bool} {item : Item} {end : Due}
+    → Right (Due.codes 0 next of marks word) item end → ⊥
 nothing-due = elim [ ]
 
 module _ (s : List ℕ) where
@@ -88,9 +89,11 @@ module _ (s : List ℕ) where
       follows : to < length s → drop to s ≡ [] → ⊥
       follows h q = let l : length (drop to s) ≡ 0 = ap length q in omega (arith, length-drop to s)
 
-  after-codes : (of : List Channel) (marks : List Bool) (third : Codes) → Through codeSection (codesDue of marks) (code-step of marks) s third → Means s (withCodes of marks (andNoMore s third))
+  after-codes : (of : List Channel) (marks : List Bool) (third : Codes) → Through codeSection (codesDue of marks) (code-step of marks) s third
+      → Means s (withCodes of marks (andNoMore s third))
   unfolding andNoMore
-  after-codes of marks third (Through.good line to last e far) = subst (λ (r : Codes). Means s (withCodes of marks (andNoMore s r))) (sym e) (no-more of marks line to last far)
+  after-codes of marks third (Through.good line to last e far) =
+      subst (λ (r : Codes). Means s (withCodes of marks (andNoMore s r))) (sym e) (no-more of marks line to last far)
   after-codes of marks third (Through.bad number e b) = subst (λ (r : Codes). Means s (withCodes of marks (andNoMore s r))) (sym e) (means-bad b)
 
   -- the second section was read, and then the third follows
@@ -98,16 +101,20 @@ module _ (s : List ℕ) where
       → Means s (afterDowns s of (downsFrom 0 line to (last .next) of (last .of) (drop to s)))
   unfolding afterDowns thirdSection downsFrom
   with-third of line to last far =
-      counted codeSection (codesDue of (last .of)) (code-step of (last .of)) mostCodes (omega arith) (downsDue of 0 last) (record { next = 0; of = noCodes })
+      counted codeSection (codesDue of (last .of)) (code-step of (last .of)) mostCodes (omega arith) (downsDue of 0 last)
+      (record { next = 0; of = noCodes })
       (λ n h. Right.codeCount h) only (λ o m w c. c)
-      (λ (third : Codes). Means s (withCodes of (last .of) third)) (badCodes line) (andNoMore s) s line to far means-bad (after-codes of (last .of))
+      (λ (third : Codes). Means s (withCodes of (last .of) third)) (badCodes line) (andNoMore s) s line to far means-bad
+      (after-codes of (last .of))
     where
       only : (item : Item) (next : Due) → Right (downsDue of 0 last) item next → (n : ℕ) × (n ≤ mostCodes) × (item ≡ Item.count n)
       only item next (Right.codeCount {n = n} l) = (n, l, refl)
 
-  after-downs : (of : List Channel) (second : Downs) → Through (downSection of) (downsDue of) (down-step of) s second → Means s (afterDowns s of second)
+  after-downs : (of : List Channel) (second : Downs) → Through (downSection of) (downsDue of) (down-step of) s second
+      → Means s (afterDowns s of second)
   unfolding afterDowns
-  after-downs of second (Through.good line to last e far) = subst (λ (r : Downs). Means s (afterDowns s of r)) (sym e) (with-third of line to last far)
+  after-downs of second (Through.good line to last e far) =
+      subst (λ (r : Downs). Means s (afterDowns s of r)) (sym e) (with-third of line to last far)
   after-downs of second (Through.bad number e b) = subst (λ (r : Downs). Means s (afterDowns s of r)) (sym e) (means-bad b)
 
   -- the first section was read, and then the second follows
@@ -115,7 +122,8 @@ module _ (s : List ℕ) where
       → Means s (afterChannels s (channelsFrom 0 line to (last .next) (last .drum) (last .of) (drop to s)))
   unfolding afterChannels channelsFrom
   with-second line to last far =
-      counted (downSection (last .of)) (downsDue (last .of)) (down-step (last .of)) 256 (omega arith) (channelsDue 0 last) (record { next = 0; of = noDown })
+      counted (downSection (last .of)) (downsDue (last .of)) (down-step (last .of)) 256 (omega arith) (channelsDue 0 last)
+      (record { next = 0; of = noDown })
       (λ n h. Right.downCount h) only (λ o m w c. c)
       (Means s) (refused line) (afterDowns s (last .of)) s line to far means-bad (after-downs (last .of))
     where
@@ -124,7 +132,8 @@ module _ (s : List ℕ) where
 
   after-channels : (first : Channels) → Through channelSection channelsDue channel-step s first → Means s (afterChannels s first)
   unfolding afterChannels
-  after-channels first (Through.good line to last e far) = subst (λ (r : Channels). Means s (afterChannels s r)) (sym e) (with-second line to last far)
+  after-channels first (Through.good line to last e far) =
+      subst (λ (r : Channels). Means s (afterChannels s r)) (sym e) (with-second line to last far)
   after-channels first (Through.bad number e b) = subst (λ (r : Channels). Means s (afterChannels s r)) (sym e) (means-bad b)
 
 -- what the reader answers

@@ -13,7 +13,8 @@ pub no-lines : (due : Due) (s : List ℕ) → Reads due s 0 due s
 no-lines due s = record { items = []; many = refl; right = AllRight.none; text = refl }
 
 -- one line, and then others
-pub one-more : {due next end : Due} {s t rest : List ℕ} {item : Item} {count : ℕ} → Right due item next → s ≡ line item ++ t → Reads next t count end rest → Reads due s (suc count) end rest
+pub one-more : {due next end : Due} {s t rest : List ℕ} {item : Item} {count : ℕ} → Right due item next → s ≡ line item ++ t
+    → Reads next t count end rest → Reads due s (suc count) end rest
 one-more {item = item} r e m =
     record {
       items = item ∷ m .items;
@@ -29,7 +30,8 @@ then-all (AllRight.more r a) b = AllRight.more r (then-all a b)
 
 written-append : (items others : List Item) → written (items ++ others) ≡ written items ++ written others
 written-append [] others = refl
-written-append (item ∷ items) others = ap (λ (l : List ℕ). line item ++ l) (written-append items others) ∙ sym (append-assoc (line item) (written items) (written others))
+written-append (item ∷ items) others =
+    ap (λ (l : List ℕ). line item ++ l) (written-append items others) ∙ sym (append-assoc (line item) (written items) (written others))
 
 pub and-then : {due next end : Due} {s t rest : List ℕ} {m n : ℕ} → Reads due s m next t → Reads next t n end rest → Reads due s (m + n) end rest
 and-then {rest = rest} a b =
@@ -73,4 +75,11 @@ ended-more {s = s} {from = from} {at = at} k r e m =
 pub stopped-more : {due next : Due} {s t : List ℕ} {item : Item} {from number : ℕ} → Right due item next → s ≡ line item ++ t
     → Stopped next t (from + 1) number → Stopped due s from number
 stopped-more r e m =
-    record { before = suc (m .before); counted = omega (arith, m .counted); end = m .end; rest = m .rest; reads = one-more r e (m .reads); bad = m .bad }
+    record {
+      before = suc (m .before);
+      counted = omega (arith, m .counted);
+      end = m .end;
+      rest = m .rest;
+      reads = one-more r e (m .reads);
+      bad = m .bad;
+    }

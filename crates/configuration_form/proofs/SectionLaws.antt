@@ -44,12 +44,14 @@ far-bad p e =
 module _ (S : Section) (due : ℕ → S .State → Due) where
   -- what the reader makes of the line that a text starts with
   pub data Step (state : S .State) (s : List ℕ) : Type 0 where
-    takes : {item : Item} (k : ℕ) (next : S .State) → ((left : ℕ) → Right (due (suc left) state) item (due left next)) → s ≡ line item ++ drop k s → GoesOn S state s k next → Step state s
+    takes : {item : Item} (k : ℕ) (next : S .State) → ((left : ℕ) → Right (due (suc left) state) item (due left next))
+        → s ≡ line item ++ drop k s → GoesOn S state s k next → Step state s
     stops : ((left : ℕ) → Bad (due (suc left) state) s) → Stops S state s → Step state s
 
   -- what it finds: all the lines, right ones, or the first that is not
   pub data Found (left line at : ℕ) (state : S .State) (s : List ℕ) (r : S .Answer) : Type 0 where
-    good : (to : ℕ) (last : S .State) → r ≡ S .from 0 (line + left) to last (drop (to - at) s) → Ended (due left state) s left (due 0 last) at to → Found left line at state s r
+    good : (to : ℕ) (last : S .State) → r ≡ S .from 0 (line + left) to last (drop (to - at) s)
+        → Ended (due left state) s left (due 0 last) at to → Found left line at state s r
     bad : (number : ℕ) → r ≡ S .bad number → Stopped (due left state) s line number → Found left line at state s r
 
   module _ (step : (state : S .State) (s : List ℕ) → Step state s) where
@@ -60,7 +62,8 @@ module _ (S : Section) (due : ℕ → S .State → Due) where
         Found.good at state (rw (z, l) refl) (record { on = omega arith; reads = rw z (no-lines (due 0 state) s) })
     found (suc left) line at state s = by (step state s) (found left)
       where
-        further : {item : Item} (k : ℕ) (next : S .State) → Right (due (suc left) state) item (due left next) → s ≡ Form.line item ++ drop k s → {r : S .Answer}
+        further : {item : Item} (k : ℕ) (next : S .State) → Right (due (suc left) state) item (due left next) → s ≡ Form.line item ++ drop k s
+            → {r : S .Answer}
             → Found left (line + 1) (at + k) next (drop k s) r → Found (suc left) line at state s r
         further k next right e (Found.good to last q m) =
             let d : k + (to - (at + k)) ≡ to - at = omega (arith, m .on) in
@@ -72,7 +75,8 @@ module _ (S : Section) (due : ℕ → S .State → Due) where
         by : Step state s → ((line at : ℕ) (state : S .State) (s : List ℕ) → Found left line at state s (S .from left line at state s))
             → Found (suc left) line at state s (S .from (suc left) line at state s)
         by (Step.takes k next right e g) rest =
-            subst (Found (suc left) line at state s) (sym (g .by left line at)) (further k next (right left) e (rest (line + 1) (at + k) next (drop k s)))
+            subst (Found (suc left) line at state s) (sym (g .by left line at))
+            (further k next (right left) e (rest (line + 1) (at + k) next (drop k s)))
         by (Step.stops b q) rest = Found.bad line (q .by left line at) (at-once line (b left))
 
     -- the same of a section in a text that is right so far
@@ -92,7 +96,8 @@ module _ (S : Section) (due : ℕ → S .State → Due) where
           → P (onNumber (lastNumber 0 most (drop at s)) wrong λ n k. go (S .from n (line + 1) (at + k) begin (drop (at + k) s)))
       counted P wrong go s line at far missing known = by (lastNumber 0 most (drop at s)) refl
         where
-          none : lastNumber 0 most (drop at s) ≡ Number′.Wrong → (item : Item) (next : Due) (t : List ℕ) → Right counts item next → drop at s ≡ Form.line item ++ t → ⊥
+          none : lastNumber 0 most (drop at s) ≡ Number′.Wrong → (item : Item) (next : Due) (t : List ℕ) → Right counts item next
+              → drop at s ≡ Form.line item ++ t → ⊥
           none e item next t r q =
               let o = only item next r in
               let w : drop at s ≡ Form.line (Item.count (o .0)) ++ t = q ∙ ap (λ (j : Item). Form.line j ++ t) (o .2) in
@@ -107,11 +112,15 @@ module _ (S : Section) (due : ℕ → S .State → Due) where
               Through.good (l + n) end last (rw e at q) (far-on f m)
           through f (Found.bad number q m) = Through.bad number q (far-bad f m)
 
-          by : (d : Number) → lastNumber 0 most (drop at s) ≡ d → P (onNumber d wrong λ n k. go (S .from n (line + 1) (at + k) begin (drop (at + k) s)))
+          by : (d : Number) → lastNumber 0 most (drop at s) ≡ d
+              → P (onNumber d wrong λ n k. go (S .from n (line + 1) (at + k) begin (drop (at + k) s)))
           by Number′.Wrong e = missing (far-bad far (at-once line (record { none = none e; more = λ of marks word c q. due-yet of marks word c })))
           by (Number′.Is n k) e =
               let c = last-redone 0 most (drop at s) n k e in
-              let one : Reads counts (drop at s) 1 (due n begin) (drop (at + k) s) = rw (drop-drop k at s) at (one-more (right n (c .most)) (c .starts .same) (no-lines (due n begin) (drop k (drop at s)))) in
+              let one : Reads counts (drop at s) 1 (due n begin) (drop (at + k) s) =
+              rw (drop-drop k at s) at (one-more (right n (c .most)) (c .starts .same) (no-lines (due n begin) (drop k (drop at s)))) in
               let z : at + k - at ≡ k = omega arith in
-              let ended : Ended counts (drop at s) 1 (due n begin) at (at + k) = record { on = omega arith; reads = rw (z, drop-drop k at s) one } in
-              known (S .from n (line + 1) (at + k) begin (drop (at + k) s)) (through (far-on far ended) (found n (line + 1) (at + k) begin (drop (at + k) s)))
+              let ended : Ended counts (drop at s) 1 (due n begin) at (at + k) =
+              record { on = omega arith; reads = rw (z, drop-drop k at s) one } in
+              known (S .from n (line + 1) (at + k) begin (drop (at + k) s))
+              (through (far-on far ended) (found n (line + 1) (at + k) begin (drop (at + k) s)))

@@ -46,7 +46,8 @@ same-channel c d k l m n s t c15 km mk d15 ln nl e =
     number : (x y : ChannelNumber) {i j : ℕ} → ChannelLine′.Is x k m i ≡ ChannelLine′.Is y l n j → x ≡ y
     number x y e = cc
 
-same-down : (c d u v : ℕ) (s t : List ℕ) → c ≤ 15 → u ≤ 15 → d ≤ 15 → v ≤ 15 → line (Item.down c u) ++ s ≡ line (Item.down d v) ++ t → (c ≡ d) × (u ≡ v)
+same-down : (c d u v : ℕ) (s t : List ℕ) → c ≤ 15 → u ≤ 15 → d ≤ 15 → v ≤ 15 → line (Item.down c u) ++ s ≡ line (Item.down d v) ++ t
+    → (c ≡ d) × (u ≡ v)
 same-down c d u v s t c15 u15 d15 v15 e =
     let r = sym (down-undone c u s c15 u15) ∙ ap downLine e ∙ down-undone d v t d15 v15 in
     let w = numbers (record { 0 = c }) (record { 0 = d }) (record { 0 = u }) (record { 0 = v }) r in
@@ -71,7 +72,8 @@ one s t (Right.downLine {c = c} {u = u} c15 u15 p q) (Right.downLine {c = d} {u 
 one s t (Right.codeCount {n = m} a) (Right.codeCount {n = n} b) e =
     let z = same-count mostCodes m n s t (omega arith) a b e in rw z (refl, refl)
 one s t (Right.codeLine {k = j} a b d f p) (Right.codeLine {k = k} x y z w q) e =
-    let i = same-code j k s t (record { least = a; most = b; not16 = d; not17 = f }) (record { least = x; most = y; not16 = z; not17 = w }) e in rw i (refl, refl)
+    let i = same-code j k s t (record { least = a; most = b; not16 = d; not17 = f }) (record { least = x; most = y; not16 = z; not17 = w }) e in
+    rw i (refl, refl)
 
 -- nothing right follows
 abbrev Stop : Due → List ℕ → Type 0
@@ -81,7 +83,8 @@ cancel : (l s t : List ℕ) → l ++ s ≡ l ++ t → s ≡ t
 cancel l s t e = sym (drop-append-seam l s) ∙ ap (drop (length l)) e ∙ drop-append-seam l t
 
 -- two readings that go as far as they can go as far
-same : (items others : List Item) {due a b : Due} (s t : List ℕ) → AllRight due items a → AllRight due others b → written items ++ s ≡ written others ++ t → Stop a s → Stop b t
+same : (items others : List Item) {due a b : Due} (s t : List ℕ) → AllRight due items a → AllRight due others b
+    → written items ++ s ≡ written others ++ t → Stop a s → Stop b t
     → (length items ≡ length others) × (a ≡ b) × (s ≡ t)
 same [] [] s t AllRight.none AllRight.none e p q = (refl, refl, e)
 same [] (j ∷ others) s t AllRight.none (AllRight.more {next = next} r b) e p q =
@@ -89,13 +92,17 @@ same [] (j ∷ others) s t AllRight.none (AllRight.more {next = next} r b) e p q
 same (i ∷ items) [] s t (AllRight.more {next = next} r a) AllRight.none e p q =
     absurd (q i next (written items ++ s) r (sym e ∙ append-assoc (line i) (written items) s))
 same (i ∷ items) (j ∷ others) s t (AllRight.more {next = next} {end = last} r a) (AllRight.more {next = end} x b) e p q =
-    let f : line i ++ (written items ++ s) ≡ line j ++ (written others ++ t) = sym (append-assoc (line i) (written items) s) ∙ e ∙ append-assoc (line j) (written others) t in
+    let f : line i ++ (written items ++ s) ≡ line j ++ (written others ++ t) =
+    sym (append-assoc (line i) (written items) s) ∙ e ∙ append-assoc (line j) (written others) t in
     let o = one (written items ++ s) (written others ++ t) r x f in
-    let g : line i ++ (written items ++ s) ≡ line i ++ (written others ++ t) = f ∙ ap (λ (k : Item). line k ++ (written others ++ t)) (sym (o .0)) in
-    let z = same items others s t (subst (λ (d : Due). AllRight d items last) (o .1) a) b (cancel (line i) (written items ++ s) (written others ++ t) g) p q in
+    let g : line i ++ (written items ++ s) ≡ line i ++ (written others ++ t) =
+    f ∙ ap (λ (k : Item). line k ++ (written others ++ t)) (sym (o .0)) in
+    let z = same items others s t (subst (λ (d : Due). AllRight d items last) (o .1) a) b
+    (cancel (line i) (written items ++ s) (written others ++ t) g) p q in
     (ap suc (z .0), z .1, z .2)
 
-pub reads-once : {due a b : Due} {s t u : List ℕ} {m n : ℕ} → Reads due s m a t → Stop a t → Reads due s n b u → Stop b u → (m ≡ n) × (a ≡ b) × (t ≡ u)
+pub reads-once : {due a b : Due} {s t u : List ℕ} {m n : ℕ} → Reads due s m a t → Stop a t → Reads due s n b u → Stop b u
+    → (m ≡ n) × (a ≡ b) × (t ≡ u)
 reads-once {t = t} {u = u} x p y q =
     let z = same (x .items) (y .items) t u (x .right) (y .right) (sym (x .text) ∙ y .text) p q in
     (sym (x .many) ∙ z .0 ∙ y .many, z .1, z .2)
@@ -104,7 +111,8 @@ reads-once {t = t} {u = u} x p y q =
 pub all-stops : (due : Due) (of : List Channel) (marks : List Bool) (word : ℕ) (rest : List ℕ) → Complete due of marks word → Stop due rest
 all-stops (Due.codes zero next o m w) of marks word rest c = λ item end t r e. nothing-due r
 
-all-once : (due : Due) (of o : List Channel) (marks m : List Bool) (word w : ℕ) → Complete due of marks word → Complete due o m w → (of ≡ o) × (marks ≡ m) × (word ≡ w)
+all-once : (due : Due) (of o : List Channel) (marks m : List Bool) (word w : ℕ) → Complete due of marks word → Complete due o m w
+    → (of ≡ o) × (marks ≡ m) × (word ≡ w)
 all-once (Due.codes zero next x y z) of o marks m word w c d = (sym (c .0) ∙ d .0, sym (c .1) ∙ d .1, sym (c .2) ∙ d .2)
 
 -- every configuration in the written form is read as itself

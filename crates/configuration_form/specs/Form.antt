@@ -58,7 +58,8 @@ pub data Right : Due → Item → Due → Type 0 where
       → c ≤ 15 → u ≤ 15 → next ≤ c * 16 + u → u < unitsOf (getD of c noChannel)
       → Right (downs (suc left) next of marks) (down c u) (downs left (c * 16 + u + 1) of (set marks (c * 16 + u) true))
   -- "a third section after its count, at most 60, the codes that set interlock"
-  codeCount : {next n : ℕ} {of : List Channel} {marks : List Bool} → n ≤ mostCodes → Right (downs 0 next of marks) (count n) (codes n 0 of marks noCodes)
+  codeCount : {next n : ℕ} {of : List Channel} {marks : List Bool} → n ≤ mostCodes
+      → Right (downs 0 next of marks) (count n) (codes n 0 of marks noCodes)
   -- "strictly ascending, each 02 to 77 octal and neither 16 nor 17"; code k is bit k of the word, which it sets
   codeLine : {left next k word : ℕ} {of : List Channel} {marks : List Bool}
       → 0o02 ≤ k → k ≤ 0o77 → (k ≡ 0o16 → ⊥) → (k ≡ 0o17 → ⊥) → next ≤ k

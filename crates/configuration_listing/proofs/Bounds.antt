@@ -26,10 +26,12 @@ use Rattle.configuration_listing.specs.Listing.{isListed, assignableUnit
 use Rattle.configuration_listing.proofs.Counting.{one-at-most}
 
 -- as many assignable units as are looked at, at most
-count-bound : (configuration : Configuration) (grid : List (List Unit)) (channel : ChannelNumber) (upto : ℕ) → assignableUnits configuration grid channel upto ≤ upto
+count-bound : (configuration : Configuration) (grid : List (List Unit)) (channel : ChannelNumber) (upto : ℕ)
+    → assignableUnits configuration grid channel upto ≤ upto
 unfolding assignableUnits
 count-bound configuration grid channel zero = omega arith
-count-bound configuration grid channel (suc upto) = omega (arith, count-bound configuration grid channel upto, one-at-most configuration grid channel (record { 0 = upto }))
+count-bound configuration grid channel (suc upto) =
+    omega (arith, count-bound configuration grid channel upto, one-at-most configuration grid channel (record { 0 = upto }))
 
 channel-bound : (configuration : Configuration) (channel : ChannelNumber) → length (channelText configuration channel) ≤ 6
 unfolding channelText
@@ -38,17 +40,30 @@ channel-bound configuration channel = by (isListed (channelIn configuration chan
     n : ℕ
     n = assignableUnits configuration (freshUnits (configuration .down)) channel 16
 
-    by : (b : Bool) → length (cond b (twoText (channel .0) ++ (bytes " " ++ (decimalText (assignableUnits configuration (freshUnits (configuration .down)) channel 16) ++ bytes "\n"))) []) ≤ 6
+    by : (b : Bool) → length (cond b
+        (twoText (channel .0) ++ (bytes " "
+        ++ (decimalText (assignableUnits configuration (freshUnits (configuration .down)) channel 16) ++ bytes "\n")))
+        [])
+        ≤ 6
     by true =
         let k = assignableUnits configuration (freshUnits (configuration .down)) channel 16 in
-        omega (arith, length-append (decimalText k) (bytes "\n"), few-digits 1 k (omega (arith, count-bound configuration (freshUnits (configuration .down)) channel 16)))
+        omega (
+          arith,
+          length-append (decimalText k) (bytes "\n"),
+          few-digits 1 k (omega (arith, count-bound configuration (freshUnits (configuration .down)) channel 16)),
+        )
     by false = omega arith
 
 lines-bound : (configuration : Configuration) (left c : ℕ) → length (linesFrom configuration left c) ≤ 6 * left
 unfolding linesFrom
 lines-bound configuration zero c = omega arith
 lines-bound configuration (suc left) c =
-    omega (arith, length-append (channelText configuration (record { 0 = c })) (linesFrom configuration left (c + 1)), channel-bound configuration (record { 0 = c }), lines-bound configuration left (c + 1))
+    omega (
+      arith,
+      length-append (channelText configuration (record { 0 = c })) (linesFrom configuration left (c + 1)),
+      channel-bound configuration (record { 0 = c }),
+      lines-bound configuration left (c + 1),
+    )
 
 pub listing-bound : (s : List ℕ) → length (listingOf s) ≤ 96
 listing-bound s = by (meaning s .said)
@@ -57,7 +72,13 @@ listing-bound s = by (meaning s .said)
     by (Said.goods of marks word e) = rw e (omega (arith, lines-bound (record { channels = of; down = marks; codes = word }) 16 0))
     by (Said.bads n e) =
         let number = decimalText (numberOf BadConfiguration) in
-        rw e (omega (arith, length-append number (bytes " LINE " ++ (decimalText n ++ bytes "\n")), few-digits 1 (numberOf BadConfiguration) (omega arith), length-append (decimalText n) (bytes "\n"), few-digits 2 n (omega (arith, few-lines s n (meaning s .first n e)))))
+        rw e (omega (
+          arith,
+          length-append number (bytes " LINE " ++ (decimalText n ++ bytes "\n")),
+          few-digits 1 (numberOf BadConfiguration) (omega arith),
+          length-append (decimalText n) (bytes "\n"),
+          few-digits 2 n (omega (arith, few-lines s n (meaning s .first n e))),
+        ))
 
 -- so what was put is the listing
 pub listed : (s : List ℕ) {room after : List ℕ} {r : ℕ} → Written room 0 (listingOf s) after r → Listed s room after r

@@ -32,11 +32,13 @@ pub units-start : (n : ℕ) (row : List Unit) → AtUnits n row 0 0
 unfolding assignableUnits
 units-start n row = record { within = omega arith; few = omega arith; same = λ configuration grid channel a b. refl }
 
-pub one-at-most : (configuration : Configuration) (grid : List (List Unit)) (channel : ChannelNumber) (unit : UnitNumber) → counted configuration grid channel unit ≤ 1
+pub one-at-most : (configuration : Configuration) (grid : List (List Unit)) (channel : ChannelNumber) (unit : UnitNumber)
+    → counted configuration grid channel unit ≤ 1
 unfolding counted
 one-at-most configuration grid channel unit = at-most-one (hasUnit configuration channel unit && assignable (unitIn grid (channel .0) (unit .0)))
 
-module _ {n : ℕ} {row : List Unit} {found u : ℕ} (p : AtUnits n row found u) {r : ℕ} (e : r ≡ cond (ltb u n && assignable (getD row u (freshUnit false))) 1 0) where
+module _ {n : ℕ} {row : List Unit} {found u : ℕ} (p : AtUnits n row found u) {r : ℕ}
+    (e : r ≡ cond (ltb u n && assignable (getD row u (freshUnit false))) 1 0) where
   one : r ≤ 1
   one = rw e (at-most-one (ltb u n && assignable (getD row u (freshUnit false))))
 

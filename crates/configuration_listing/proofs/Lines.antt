@@ -15,7 +15,8 @@ use Rattle.configuration.specs.declared.Answer.{Answer}
 use Rattle.configuration.specs.Configured.{configurationOf}
 use Rattle.configuration_listing.specs.Listing.{isListed, freshCount, channelText, linesFrom, listingOf, answerText}
 
-module _ (configuration : Configuration) (channel : ChannelNumber) {on : Channel} {t : Bool} (a : on ≡ channelIn configuration channel) (b : t ≡ isListed on) where
+module _ (configuration : Configuration) (channel : ChannelNumber) {on : Channel} {t : Bool} (a : on ≡ channelIn configuration channel)
+    (b : t ≡ isListed on) where
   listed-is : isListed (channelIn configuration channel) ≡ t
   listed-is = sym (b ∙ ap isListed a)
 
@@ -29,7 +30,8 @@ module _ (configuration : Configuration) (channel : ChannelNumber) {on : Channel
   no-line e = rw (listed-is ∙ e)
 
 module _ (configuration : Configuration) (c : ℕ) where
-  pub lines-turn : c < 16 → linesFrom configuration (16 - c) c ≡ channelText configuration (record { 0 = c }) ++ linesFrom configuration (16 - (c + 1)) (c + 1)
+  pub lines-turn : c < 16 → linesFrom configuration (16 - c) c
+      ≡ channelText configuration (record { 0 = c }) ++ linesFrom configuration (16 - (c + 1)) (c + 1)
   unfolding linesFrom
   lines-turn h = let e : 16 - c ≡ suc (16 - (c + 1)) = omega arith in rw e
 
@@ -39,4 +41,5 @@ module _ (configuration : Configuration) (c : ℕ) where
 
 -- the answer's text is the listing
 pub answered : (s : List ℕ) {a : Answer} (v : TextVerdict) → a ≡ configurationOf s → a .verdict ≡ v → answerText v (a .configuration) ≡ listingOf s
-answered s {a} v e f = ap (λ (w : TextVerdict). answerText w (a .configuration)) (sym f) ∙ ap (λ (b : Answer). answerText (b .verdict) (b .configuration)) e
+answered s {a} v e f =
+    ap (λ (w : TextVerdict). answerText w (a .configuration)) (sym f) ∙ ap (λ (b : Answer). answerText (b .verdict) (b .configuration)) e

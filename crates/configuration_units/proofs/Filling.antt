@@ -40,7 +40,8 @@ module _ {down : List Bool} {grid : List (List Unit)} {i : ℕ} (f : Filled down
   fill-up d =
       record {
         within = omega arith;
-        passed = passed-left (made down) noneHeld grid i (f .passed) h (none-read (i / 16) (i % 16) (omega arith) (omega arith) ∙ ap freshUnit (sym d) ∙ place);
+        passed = passed-left (made down) noneHeld grid i (f .passed) h
+            (none-read (i / 16) (i % 16) (omega arith) (omega arith) ∙ ap freshUnit (sym d) ∙ place);
       }
 
 pub fill-end : {down : List Bool} {grid : List (List Unit)} {i : ℕ} → Filled down grid i → 256 ≤ i → grid ≡ freshUnits down

@@ -98,7 +98,8 @@ module _ {id repair day : List ℕ} {deck from length deck′ from′ length′ 
   }
 
   -- and `Located` leaves one outcome
-  pub located-one : {deck″ from″ length″ q : ℕ} → Located id repair day deck from length deck′ from′ length′ r → Located id repair day deck from length deck″ from″ length″ q
+  pub located-one : {deck″ from″ length″ q : ℕ} → Located id repair day deck from length deck′ from′ length′ r
+      → Located id repair day deck from length deck″ from″ length″ q
       → (r ≡ q) × (deck′ ≡ deck″) × (from′ ≡ from″) × (length′ ≡ length″)
   located-one v w =
       let f : v .found ≡ w .found = shows-one (v .shows) (w .shows) .0 in (

@@ -30,7 +30,8 @@ each-at P [] j d h e = absurd (omega arith)
 each-at P (r ∷ rs) zero d h e = e .0
 each-at P (r ∷ rs) (suc j) d h e = each-at P rs j d (le-of-suc-le-suc h) (e .1)
 
-pairs-at : (R : Request → Request → Type 0) (rs : List Request) (i j : ℕ) (d : Request) → i < j → j < length rs → Pairs R rs → R (getD rs i d) (getD rs j d)
+pairs-at : (R : Request → Request → Type 0) (rs : List Request) (i j : ℕ) (d : Request) → i < j → j < length rs → Pairs R rs
+    → R (getD rs i d) (getD rs j d)
 pairs-at R [] i j d l h p = absurd (omega arith)
 pairs-at R (r ∷ rs) i zero d l h p = absurd (omega arith)
 pairs-at R (r ∷ rs) zero (suc j) d l h p = each-at (R r) rs j d (le-of-suc-le-suc h) (p .0)
@@ -40,7 +41,9 @@ pairs-at R (r ∷ rs) (suc i) (suc j) d l h p = pairs-at R rs i j d (le-of-suc-l
 not-itself : (k : Key) → precedes k k ≡ true → ⊥
 unfolding precedes
 not-itself k e =
-    let a : precedes k k ≡ false = rw (eq-eqb (k .letter) (k .letter) refl, eq-eqb (k .precedence) (k .precedence) refl, le-ltb (k .sequence) (k .sequence) (omega arith)) refl in
+    let a : precedes k k ≡ false =
+    rw (eq-eqb (k .letter) (k .letter) refl, eq-eqb (k .precedence) (k .precedence) refl, le-ltb (k .sequence) (k .sequence) (omega arith))
+    refl in
     never e a
 
 -- the schedule stands in the order
@@ -57,9 +60,11 @@ module _ (es : List Entry) (keys : Pairs Ahead (requests es)) where
   before i k h e =
       by-bool (ltb i k) (ltb-true i k)
       (λ t. by-bool (eqb i k)
-      (λ q. absurd (not-itself (keyOf (entryAt es k .request)) (subst (λ (m : ℕ). precedes (keyOf (entryAt es m .request)) (keyOf (entryAt es k .request)) ≡ true) (eqb-true i k q) e)))
+      (λ q. absurd (not-itself (keyOf (entryAt es k .request))
+      (subst (λ (m : ℕ). precedes (keyOf (entryAt es m .request)) (keyOf (entryAt es k .request)) ≡ true) (eqb-true i k q) e)))
       (λ q. absurd (not-itself (keyOf (entryAt es i .request))
-      (precedes-on (keyOf (entryAt es i .request)) (keyOf (entryAt es k .request)) (keyOf (entryAt es i .request)) e (ahead k i (past (ltb-false i k t) (eqb-false i k q)) h)))))
+      (precedes-on (keyOf (entryAt es i .request)) (keyOf (entryAt es k .request)) (keyOf (entryAt es i .request)) e
+      (ahead k i (past (ltb-false i k t) (eqb-false i k q)) h)))))
     where
       past : k ≤ i → (i ≡ k → ⊥) → k < i
       past l n = omega arith
@@ -67,7 +72,8 @@ module _ (es : List Entry) (keys : Pairs Ahead (requests es)) where
 -- a candidate that comes before the job selected in the selection order has no assignment
 pub first-in-order : (configuration : Configuration) (es : List Event) (c : Cell) → Reached configuration es c
     → (job : Selection) → Selected (inSchedule (c .schedule)) (c .lists) job
-    → (i : ℕ) → Candidate (inSchedule (c .schedule)) i → precedes (keyOf (entryAt (inSchedule (c .schedule)) i .request)) (keyOf (job .request)) ≡ true
+    → (i : ℕ) → Candidate (inSchedule (c .schedule)) i
+    → precedes (keyOf (entryAt (inSchedule (c .schedule)) i .request)) (keyOf (job .request)) ≡ true
     → HasNone (supplyIn (c .lists)) (entryAt (inSchedule (c .schedule)) i .request)
 first-in-order configuration es c h job w i k e =
     let sound = sound-always configuration es c h in

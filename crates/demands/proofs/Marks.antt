@@ -26,7 +26,8 @@ use Rattle.packets.proofs.Reaching.{accepted-granted, step-accepted}
 use Rattle.numbers.specs.Elements.{All, find}
 use Rattle.packets.specs.Rules as Rules
 use Rattle.packets.specs.Rules.{accept, closed, completed, finished, isDone, isTrouble, locked, returnIfDone, siteOf, startable, started, submitted}
-use Rattle.packets.specs.State.{State, isUnit, motionOn, packetIn, release, setLock, takeUnit, wanted, withLock, freedAt, setHolder, unitAt, withHolder}
+use Rattle.packets.specs.State.{State, isUnit, motionOn, packetIn, release, setLock, takeUnit, wanted}
+use Rattle.packets.specs.State.{withLock, freedAt, setHolder, unitAt, withHolder}
 use Rattle.packets.specs.declared.Act.{Act}
 use Rattle.packets.specs.declared.Act.the-variants as Act′
 use Rattle.packets.specs.declared.Answer.{Answer}
@@ -47,7 +48,8 @@ use Rattle.cell.specs.declared.Cell.{Cell}
 use Rattle.cell_history.proofs.Reaching.{fresh-inside}
 use Rattle.cell_history.proofs.ToldLaws.{does-told, leads-told}
 use Rattle.cell_history.specs.Told.{chosen, doneAs, inside, said, told, toldBy, toldOf}
-use Rattle.cell_history.specs.History.{Call, Chosen, Deck, Delete, Do, Does, Entered, Event, Key, Mistyped, Reached, Release, Reply, Said, Select, Shown, Status, meant}
+use Rattle.cell_history.specs.History.{Call, Chosen, Deck, Delete, Do, Does, Entered, Event, Key, Mistyped}
+use Rattle.cell_history.specs.History.{Reached, Release, Reply, Said, Select, Shown, Status, meant}
 use Rattle.demands.specs.Demands.{AnsweredSo, SameMarks}
 use Rattle.demands.specs.Refusing.{refusalIn}
 
@@ -80,8 +82,10 @@ abbrev UnmarkingAs : Lists.Event → Type 0
 UnmarkingAs e = Unmarking (e .call)
 
 -- for anything that is read of a unit and that locks, new holders, returns and takings leave alone
-module _ (f : UnitState → Bool) (locks : (v : UnitState) (b : Bool) → f (withLock v b) ≡ f v) (holds : (v : UnitState) (h : Holder) → f (withHolder v h) ≡ f v)
-    (frees : (j : ℕ) (v : UnitState) → f (release j v) ≡ f v) (takes : (j : ℕ) (w : Bool) (v : UnitState) → f (takeUnit j w v) ≡ f v) (d w : ℕ) where
+module _ (f : UnitState → Bool) (locks : (v : UnitState) (b : Bool) → f (withLock v b) ≡ f v)
+    (holds : (v : UnitState) (h : Holder) → f (withHolder v h) ≡ f v)
+    (frees : (j : ℕ) (v : UnitState) → f (release j v) ≡ f v)
+    (takes : (j : ℕ) (w : Bool) (v : UnitState) → f (takeUnit j w v) ≡ f v) (d w : ℕ) where
   abbrev read : State → Bool
   read s = f (unitIn (s .units) d w)
 
@@ -219,6 +223,7 @@ done-only (Outcomes.Refused r) a e n = absurd (refused (sym (ap refusalIn e) ∙
     refused : some r ≡ none → ⊥
     refused z = let y : _≡_ {A = ℕ} 0 1 = cc in omega arith
 
-pub changes-so : (c d : Cell) (id : List ℕ) (a : Answer) → Does c (Release id) (Said a) d ⊎ Does c (Delete id) (Said a) d → refusalIn (Said a) ≡ none → a ≡ Answers.Done
+pub changes-so : (c d : Cell) (id : List ℕ) (a : Answer) → Does c (Release id) (Said a) d ⊎ Does c (Delete id) (Said a) d
+    → refusalIn (Said a) ≡ none → a ≡ Answers.Done
 changes-so c d id a h n =
     ⊎-elim (λ k. done-only (released (c .schedule) id .outcome) a (k .0) n) (λ k. done-only (deleted (c .schedule) id .outcome) a (k .0) n) h

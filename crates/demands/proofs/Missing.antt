@@ -29,7 +29,8 @@ use Rattle.demands.specs.Demands.{Missing, RefusedSo}
 use Rattle.demands.proofs.InOrder.{ahead}
 
 -- what a selection's answer is: its outcome and its selection, as the contract has them
-answer-of : (c d : Cell) (o : Outcome) (s : Selection) → Does c Select (Chosen o s) d → (o ≡ outcomeOf (s .choice)) × Selects (c .schedule) (c .lists) s
+answer-of : (c d : Cell) (o : Outcome) (s : Selection) → Does c Select (Chosen o s) d
+    → (o ≡ outcomeOf (s .choice)) × Selects (c .schedule) (c .lists) s
 answer-of c d o s h =
     let e = chosen-is (h .1 .1 .0) in (
       e .0 ∙ h .1 .0 .outcome ∙ ap (λ (x : Selection). outcomeOf (x .choice)) (sym (e .1)),
@@ -97,7 +98,8 @@ below : {i at : ℕ} → (i ≡ at → ⊥) → i ≤ at → i < at
 below n l = omega arith
 
 module _ (configuration : Configuration) (es : List Event) (c : Cell) (leads : Reached configuration es c) (s : Selection) where
-  missing-by : (x : Choice) → s .choice ≡ x → Refused Refusals.NoAssignment ≡ outcomeOf x → SelectsBy x (inSchedule (c .schedule)) (c .lists) s → Missing c s
+  missing-by : (x : Choice) → s .choice ≡ x → Refused Refusals.NoAssignment ≡ outcomeOf x → SelectsBy x (inSchedule (c .schedule)) (c .lists) s
+      → Missing c s
   missing-by Job t e h = absurd (apart e λ q. omega arith)
   missing-by NoPlace t e h = absurd (apart e λ q. omega arith)
   missing-by NoCandidates t e h = absurd (apart e λ q. omega arith)
@@ -108,7 +110,8 @@ module _ (configuration : Configuration) (es : List Event) (c : Cell) (leads : R
         at = at;
         candidate = f .candidate;
         first = λ i k n.
-            by-bool (ltb at i) (λ p. ahead (inSchedule (c .schedule)) (sound-always configuration es c leads .orderly .keys) at i (ltb-true at i p) (k .0))
+            by-bool (ltb at i)
+            (λ p. ahead (inSchedule (c .schedule)) (sound-always configuration es c leads .orderly .keys) at i (ltb-true at i p) (k .0))
             (λ p. absurd (f .first i (below n (ltb-false at i p)) k));
         id = h .0 .1 .1 .1 .1;
         part = part;

@@ -157,11 +157,14 @@ plain-named c d (Deck bytes) reply p h s n =
 plain-named c d Select reply p h s n =
     let r = h .0 in
     subst NamedIn (sym (h .1 .1 .1))
-    (subst (λ (t : Schedule × Lists). EachIn Formed (t .0)) (sym (h .1 .0 .takes .leaves)) (each-select Formed (c .schedule) n (Selecting.isJob (r .selection .choice)) (c .lists) (r .selection)))
+    (subst (λ (t : Schedule × Lists). EachIn Formed (t .0)) (sym (h .1 .0 .takes .leaves))
+    (each-select Formed (c .schedule) n (Selecting.isJob (r .selection .choice)) (c .lists) (r .selection)))
 plain-named c d (Do x) reply p h s n =
     unfold acted in subst NamedIn (sym (h .1)) (each-followed Formed (c .schedule) n (outcome (c .lists) (Rules.Do x) .answer))
-plain-named c d (Release id) reply p h s n = subst NamedIn (sym (h .1)) (each-released Formed (c .schedule) n (find (isNamed id) (inSchedule (c .schedule))) id)
-plain-named c d (Delete id) reply p h s n = subst NamedIn (sym (h .1)) (each-deleted Formed (c .schedule) n (find (isNamed id) (inSchedule (c .schedule))) id)
+plain-named c d (Release id) reply p h s n =
+    subst NamedIn (sym (h .1)) (each-released Formed (c .schedule) n (find (isNamed id) (inSchedule (c .schedule))) id)
+plain-named c d (Delete id) reply p h s n =
+    subst NamedIn (sym (h .1)) (each-deleted Formed (c .schedule) n (find (isNamed id) (inSchedule (c .schedule))) id)
 plain-named c d (Status place packet) reply p h s n = subst NamedIn (sym (h .1)) n
 plain-named c d (Key message) reply p h s n = absurd p
 

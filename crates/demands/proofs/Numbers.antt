@@ -59,7 +59,8 @@ use Rattle.cell_history.proofs.MeantLaws.{Plain}
 use Rattle.cell_history.specs.Told.{inside}
 use Rattle.cell_history.specs.History.{Call, Deck, Delete, Do, Does, Key, Release, Reply, Select, Status, callOf, replyOf}
 use Rattle.demands.specs.Refusing.{ofAnswer, ofOutcome, ofStatus, refusalIn}
-use Rattle.demands.specs.Table.{RefusedBy, Row, SelectRefused, actRows, canStart, has, isActive, isOpen, isSelect, isSuspended, isThere, lowest, meantRows, returnRows, row, rows, submitRows}
+use Rattle.demands.specs.Table.{RefusedBy, Row, SelectRefused, actRows, canStart, has, isActive, isOpen, isSelect}
+use Rattle.demands.specs.Table.{isSuspended, isThere, lowest, meantRows, returnRows, row, rows, submitRows}
 
 -- a verdict as a refusal, if it is one
 abbrev pub ofVerdict : Verdict → Option Refusal
@@ -136,7 +137,8 @@ none-can t u same (e ∷ q) =
     by-bool (u e) (λ h. rw (is, h) refl) (λ h. rw (is, h) (none-can t u same q))
 
 -- a return, by what the channel has
-return-is : (s : State) (on : Fitted) (j k u : ℕ) → Rules.returnRefusal on (stateIn (s .jobs) j) (unitIn (s .units) k u) j k u ≡ chain (returnRows s on j k u)
+return-is : (s : State) (on : Fitted) (j k u : ℕ)
+    → Rules.returnRefusal on (stateIn (s .jobs) j) (unitIn (s .units) k u) j k u ≡ chain (returnRows s on j k u)
 return-is s Nothing j k u = refl
 return-is s (With kind n) j k u = refl
 
@@ -166,11 +168,13 @@ rules-rows s (Act′.Mark k u m on) =
 
 -- ---- a deck, release, delete, a status
 
-deck-rows : (bytes : List ℕ) → ofOutcome (outcomeBy (deckEnd bytes)) ≡ cond (not (leb (length bytes) deckBytes && terminated (cardsOf bytes))) (some BadDeck) none
+deck-rows : (bytes : List ℕ) → ofOutcome (outcomeBy (deckEnd bytes))
+    ≡ cond (not (leb (length bytes) deckBytes && terminated (cardsOf bytes))) (some BadDeck) none
 unfolding deckEnd
 deck-rows bytes = by-bool (leb (length bytes) deckBytes && terminated (cardsOf bytes)) (λ e. rw e refl) (λ e. rw e refl)
 
-release-rows : (o : Option Entry) (s : Schedule) (id : List ℕ) → ofAnswer (answerOf (releasedBy o s id .outcome)) ≡ cond (not (isSuspended o)) (some NoSuchRequest) none
+release-rows : (o : Option Entry) (s : Schedule) (id : List ℕ)
+    → ofAnswer (answerOf (releasedBy o s id .outcome)) ≡ cond (not (isSuspended o)) (some NoSuchRequest) none
 release-rows none s id = refl
 release-rows (some e) s id = by-bool (suspended (e .state)) (λ t. rw t refl) (λ t. rw t refl)
 
@@ -212,14 +216,19 @@ key-numbers c d message reply h =
     go (readMessage message .asks) (readMessage message .id) (record { told = h .2 .0 .told; cell = h .2 .0 .cell })
     (h .2 .1 .0 .does) (h .2 .1 .1 .0) (h .2 .1 .1 .1) (known-by message)
   where
-    go : (a : Asked) (id : List ℕ) (x : Heeded) → x ≡ heeded c a id → reply ≡ replyOf (x .told) → d ≡ x .cell → known (messageWords message) ≡ isKnown a
-        → refusalIn reply ≡ lowest (row UnknownMessage (not (known (messageWords message))) ∷ meantRows (inside c) (inSchedule (c .schedule)) (callOf a id))
+    go : (a : Asked) (id : List ℕ) (x : Heeded) → x ≡ heeded c a id → reply ≡ replyOf (x .told) → d ≡ x .cell
+        → known (messageWords message) ≡ isKnown a
+        → refusalIn reply ≡ lowest (row UnknownMessage (not (known (messageWords message)))
+        ∷ meantRows (inside c) (inSchedule (c .schedule)) (callOf a id))
     go Asked′.Unknown id x e r s k = rw k (ap refusalIn (r ∙ ap (λ (y : Heeded). replyOf (y .told)) e))
     go (Asked′.Wrong word fault) id x e r s k = rw k (ap refusalIn (r ∙ ap (λ (y : Heeded). replyOf (y .told)) e))
     go (Asked′.Mark channel unit on) id x e r s k =
-        rw k (plain-numbers c d (Do (Act′.Mark channel unit Mark″.Down on)) reply tt (r ∙ ap (λ (y : Heeded). replyOf (y .told)) e, s ∙ ap (λ (y : Heeded). y .cell) e))
-    go Asked′.Release id x e r s k = rw k (plain-numbers c d (Release id) reply tt (r ∙ ap (λ (y : Heeded). replyOf (y .told)) e, s ∙ ap (λ (y : Heeded). y .cell) e))
-    go Asked′.Delete id x e r s k = rw k (plain-numbers c d (Delete id) reply tt (r ∙ ap (λ (y : Heeded). replyOf (y .told)) e, s ∙ ap (λ (y : Heeded). y .cell) e))
+        rw k (plain-numbers c d (Do (Act′.Mark channel unit Mark″.Down on)) reply tt
+        (r ∙ ap (λ (y : Heeded). replyOf (y .told)) e, s ∙ ap (λ (y : Heeded). y .cell) e))
+    go Asked′.Release id x e r s k =
+        rw k (plain-numbers c d (Release id) reply tt (r ∙ ap (λ (y : Heeded). replyOf (y .told)) e, s ∙ ap (λ (y : Heeded). y .cell) e))
+    go Asked′.Delete id x e r s k =
+        rw k (plain-numbers c d (Delete id) reply tt (r ∙ ap (λ (y : Heeded). replyOf (y .told)) e, s ∙ ap (λ (y : Heeded). y .cell) e))
 
 -- WHICH NUMBER ANSWERS
 pub numbers : (c d : Cell) (x : Call) (reply : Reply) → Does c x reply d → RefusedBy (isSelect x) c x (refusalIn reply)

@@ -11,8 +11,10 @@ use borrow.Author.Tests.{eqb-true}
 use Rattle.numbers.proofs.Tests.{by-bool, never}
 use Rattle.numbers.specs.Elements.{All, find, keep}
 use Rattle.packets.specs.Rules as Rules
-use Rattle.packets.specs.Rules.{aimed, always, closed, closing, codeFor, cut, failed, finished, freshJob, isAt, isDone, isTrouble, locked, over, packet, returnIfDone, siteOf, startable, started, submitted}
-use Rattle.packets.specs.State.{State, entryOf, isEmpty, isListed, isStill, isUnit, motionOn, packetIn, packetOf, packetsIn, placeOf, put, lock, relist, restatus, restatusAll, stateIn, store, sweep, withStatus}
+use Rattle.packets.specs.Rules.{aimed, always, closed, closing, codeFor, cut, failed, finished, freshJob, isAt, isDone, isTrouble}
+use Rattle.packets.specs.Rules.{locked, over, packet, returnIfDone, siteOf, startable, started, submitted}
+use Rattle.packets.specs.State.{State, entryOf, isEmpty, isListed, isStill, isUnit, motionOn, packetIn, packetOf, packetsIn}
+use Rattle.packets.specs.State.{placeOf, put, lock, relist, restatus, restatusAll, stateIn, store, sweep, withStatus}
 use Rattle.packets.specs.declared.Act.the-variants as Act′
 use Rattle.packets.proofs.ByNumber.{Complete, Start}
 use Rattle.packets.specs.declared.Assignment.{Assignment}
@@ -30,7 +32,8 @@ use Rattle.packets.specs.declared.Verdict.the-variants.{Granted}
 use Rattle.packets.proofs.Inv.{Elsewhere, EntryOk, Inv, kept-still, running-alive}
 use Rattle.packets.proofs.InvStores.{enlisted-is, put-elsewhere, restatus-elsewhere}
 use Rattle.packets.proofs.Laws.{all-imp, find-holds, keep-all, keep-same}
-use Rattle.packets.proofs.Steps.{Ready, busy-of, find-some, listed-new, over-fits, over-inside, ready-fits, ready-inside, ready-store, start-fits, startable-on}
+use Rattle.packets.proofs.Steps.{Ready, busy-of, find-some, listed-new, over-fits, over-inside, ready-fits}
+use Rattle.packets.proofs.Steps.{ready-inside, ready-store, start-fits, startable-on}
 use Rattle.packets.proofs.Store.{alive-in, size-restatus, packet-fresh, packet-put, packet-restatus, packet-state, sizeIn}
 use Rattle.packets.proofs.Told.{Submits, assigns-to, completes-on, cut-unlisted, ends-of, returns-of, starts-on, submits}
 use Rattle.packets.proofs.Handing.{returns-inside}
@@ -105,7 +108,8 @@ thins-same : (s s′ : State) → s′ .queue ≡ s .queue → ((i n : ℕ) → 
 thins-same s s′ q e h =
     let is : (x : ℕ) → isStill (s′ .jobs) x ≡ isStill (s .jobs) x = λ x. ap (λ (y : Packet). isListed (y .status)) (e (placeOf x) (packetOf x)) in
     record {
-      queue = q ∙ sym (keep-all (isStill (s′ .jobs)) (s .queue) (all-imp (λ (x : ℕ). isStill (s .jobs) x ≡ true) (λ (x : ℕ). isStill (s′ .jobs) x ≡ true) (λ x k. is x ∙ k) (s .queue) h));
+      queue = q ∙ sym (keep-all (isStill (s′ .jobs)) (s .queue)
+          (all-imp (λ (x : ℕ). isStill (s .jobs) x ≡ true) (λ (x : ℕ). isStill (s′ .jobs) x ≡ true) (λ x k. is x ∙ k) (s .queue) h));
       fewer = λ x l. sym (is x) ∙ l;
     }
 
@@ -148,12 +152,14 @@ module _ (s : State) (I : Inv s) (j p f c : ℕ) (w : Spot) (k : Submits s j p f
 
   -- what is stored without being listed, after a sweep or not
   passed : (s₁ : State) → Thins s s₁ → p < sizeIn (s₁ .jobs) j → Thins s (store s₁ j p (packet (Ended 0o00) f c a))
-  passed s₁ t fits = thins-on s s₁ (store s₁ j p (packet (Ended 0o00) f c a)) t (thins-store s₁ j p (packet (Ended 0o00) f c a) fits refl (thins-still s s₁ t))
+  passed s₁ t fits =
+      thins-on s s₁ (store s₁ j p (packet (Ended 0o00) f c a)) t (thins-store s₁ j p (packet (Ended 0o00) f c a) fits refl (thins-still s s₁ t))
 
   sized-swept : (t : Packet → Bool) (g : Status → Status) → p < sizeIn (restatusAll (s .jobs) j t g) j
   sized-swept t g = rw (size-restatus (s .jobs) j t g j) (ready-fits s I j p now-ready)
 
-  order-submit : submitted s j p f c w .queue ≡ keep (isStill (submitted s j p f c w .jobs)) (s .queue) ++ cond (eqb f 0o07 || eqb f 0o23) [] (entryOf j p ∷ [])
+  order-submit : submitted s j p f c w .queue
+      ≡ keep (isStill (submitted s j p f c w .jobs)) (s .queue) ++ cond (eqb f 0o07 || eqb f 0o23) [] (entryOf j p ∷ [])
   order-submit =
       let inside = ready-inside s j p now-ready in
       let h = still-all s I in
@@ -165,19 +171,24 @@ module _ (s : State) (I : Inv s) (j p f c : ℕ) (w : Spot) (k : Submits s j p f
       let s₂ = lock s₁ c a false in
       let t₂ : Thins s s₂ = record { queue = t₁ .queue; fewer = t₁ .fewer } in
       thinned s (store s₂ j p (packet (Ended 0o00) f c a)) (passed s₂ t₂ (sized-swept (isAt c a) failed))))
-      (λ d. rw (e, d) (thinned s (store s j p (packet (Ended 0o00) f c a)) (thins-store s j p (packet (Ended 0o00) f c a) (ready-fits s I j p now-ready) refl h))))
+      (λ d. rw (e, d) (thinned s (store s j p (packet (Ended 0o00) f c a))
+      (thins-store s j p (packet (Ended 0o00) f c a) (ready-fits s I j p now-ready) refl h))))
       (λ e. by-bool (eqb f 0o23)
       (λ d. rw (e, d)
       (let t = aimed c w in
-      thinned s (store (sweep s j t cut) j p (packet (Ended 0o00) f c a)) (passed (sweep s j t cut) (thins-sweep s j t cut inside refl cut-less h) (sized-swept t cut))))
+      thinned s (store (sweep s j t cut) j p (packet (Ended 0o00) f c a))
+      (passed (sweep s j t cut) (thins-sweep s j t cut inside refl cut-less h) (sized-swept t cut))))
       (λ d. rw (e, d)
       (let q = packet Listed f c a in
       enlisted-is (store s j p q) (ready-store s I j p q now-ready) j p (listed-new s I j p f c w k)
-      ∙ ap (λ (l : List ℕ). l ++ (entryOf j p ∷ [])) (relisted (s .jobs) (put (s .jobs) j p q) j (s .queue) (put-elsewhere (s .jobs) j p q (ready-fits s I j p now-ready)) h))))
+      ∙ ap (λ (l : List ℕ). l ++ (entryOf j p ∷ []))
+      (relisted (s .jobs) (put (s .jobs) j p q) j (s .queue) (put-elsewhere (s .jobs) j p q (ready-fits s I j p now-ready)) h))))
 
 module _ (s : State) (I : Inv s) (c : ℕ) (small : c < 16) (how : How) (j p : ℕ) (is : motionOn s c ≡ Busy j p) where
   thins-over : Thins s (over s c j p (codeFor how))
-  thins-over = let t = thins-store s j p (withStatus (packetIn (s .jobs) j p) (Ended (codeFor how))) (over-fits s I c small j p is) refl (still-all s I) in record { queue = t .queue; fewer = t .fewer }
+  thins-over =
+      let t = thins-store s j p (withStatus (packetIn (s .jobs) j p) (Ended (codeFor how))) (over-fits s I c small j p is) refl (still-all s I) in
+      record { queue = t .queue; fewer = t .fewer }
 
   thins-finished : Thins s (finished s c how j p)
   thins-finished =
@@ -185,18 +196,23 @@ module _ (s : State) (I : Inv s) (c : ℕ) (small : c < 16) (how : How) (j p : �
       let a = packetIn (s .jobs) j p .at in
       by-bool (isTrouble (s .codes) how && isUnit a)
       (λ e. rw e
-      (let t = thins-on s s₁ (sweep s₁ j (isAt c a) failed) thins-over (thins-sweep s₁ j (isAt c a) failed (over-inside s I c small j p is (codeFor how)) refl failed-less (thins-still s s₁ thins-over)) in
+      (let t =
+      thins-on s s₁ (sweep s₁ j (isAt c a) failed) thins-over
+      (thins-sweep s₁ j (isAt c a) failed (over-inside s I c small j p is (codeFor how)) refl failed-less (thins-still s s₁ thins-over)) in
       record { queue = t .queue; fewer = t .fewer }))
       (λ e. rw e thins-over)
 
 order-taken : (s : State) → Inv s → (j : ℕ) (asg : Assignment) → j < 16 → isEmpty (stateIn (s .jobs) j) ≡ true
     → s .queue ≡ keep (isStill (Rules.assigned s j asg .jobs)) (s .queue) ++ []
 order-taken s I j asg small none-there =
-    sym (append-nil (keep (isStill (Rules.assigned s j asg .jobs)) (s .queue)) ∙ keep-all (isStill (Rules.assigned s j asg .jobs)) (s .queue)
+    sym (append-nil (keep (isStill (Rules.assigned s j asg .jobs)) (s .queue))
+    ∙ keep-all (isStill (Rules.assigned s j asg .jobs)) (s .queue)
     (all-imp (EntryOk s) (λ (e : ℕ). isStill (Rules.assigned s j asg .jobs) e ≡ true)
     (λ e k. by-bool (eqb (placeOf e) j)
-    (λ t. never none-there (subst (λ (n : ℕ). isEmpty (stateIn (s .jobs) n) ≡ false) (eqb-true (placeOf e) j t) (running-alive (stateIn (s .jobs) (placeOf e)) (k .running))))
-    (λ t. let z : packetIn (Rules.assigned s j asg .jobs) (placeOf e) (packetOf e) ≡ packetIn (s .jobs) (placeOf e) (packetOf e) =
+    (λ t. never none-there (subst (λ (n : ℕ). isEmpty (stateIn (s .jobs) n) ≡ false) (eqb-true (placeOf e) j t)
+    (running-alive (stateIn (s .jobs) (placeOf e)) (k .running))))
+    (λ t.
+    let z : packetIn (Rules.assigned s j asg .jobs) (placeOf e) (packetOf e) ≡ packetIn (s .jobs) (placeOf e) (packetOf e) =
     packet-fresh (s .jobs) j asg (placeOf e) (rw (I .places) small) (packetOf e) ∙ rw t refl in
     ap (λ (y : Packet). isListed (y .status)) z ∙ k .listed))
     (s .queue) (I .queued)))
@@ -212,8 +228,10 @@ ordered s I (Rules.Do (Act′.Start c)) r =
     let e = o .0 in
     let z = find-holds (EntryOk s) (startable s (c .0)) (s .queue) e (I .queued) (o .1) in
     let q = withStatus (packetIn (s .jobs) (placeOf e) (packetOf e)) InProgress in
-    let t = thins-store s (placeOf e) (packetOf e) q (start-fits s I (c .0) (k .0) e (z .0) (startable-on s (c .0) e (z .1))) refl (still-all s I) in
-    subst (λ (m : Option ℕ). Ordered s (Start (c .0)) (started s (c .0) m)) (sym (o .1)) (thinned s (started s (c .0) (some e)) (record { queue = t .queue; fewer = t .fewer }))
+    let t = thins-store s (placeOf e) (packetOf e) q (start-fits s I (c .0) (k .0) e (z .0) (startable-on s (c .0) e (z .1))) refl
+    (still-all s I) in
+    subst (λ (m : Option ℕ). Ordered s (Start (c .0)) (started s (c .0) m)) (sym (o .1))
+    (thinned s (started s (c .0) (some e)) (record { queue = t .queue; fewer = t .fewer }))
 ordered s I (Rules.Do (Act′.Complete c how)) r =
     let k = completes-on s (c .0) how r in
     let o = busy-of (motionOn s (c .0)) (k .1) in
@@ -226,9 +244,13 @@ ordered s I (Rules.Do (Act′.End j e)) r =
     let s₁ = sweep s j always cut in
     let t = thins-sweep s j always cut inside refl cut-less (still-all s I) in
     let s₂ = closed s j e in
-    let t₂ : Thins s s₂ = thins-on s s₁ s₂ t (thins-same s₁ s₂ refl (λ i n. packet-state (restatusAll (s .jobs) j always cut) j (closing e) i n) (thins-still s s₁ t)) in
+    let t₂ : Thins s s₂ =
+    thins-on s s₁ s₂ t
+    (thins-same s₁ s₂ refl (λ i n. packet-state (restatusAll (s .jobs) j always cut) j (closing e) i n) (thins-still s s₁ t)) in
     thinned s (returnIfDone j s₂) (thins-on s s₂ (returnIfDone j s₂) t₂ (thins-returned s₂ j (thins-still s s₂ t₂)))
 ordered s I (Rules.Do (Act′.Return j c u)) r =
     let a = AtUnit u in
-    thinned s (sweep s j (isAt (c .0) a) cut) (thins-sweep s j (isAt (c .0) a) cut (returns-inside s I j (c .0) (u .0) (returns-of s j (c .0) (u .0) r)) refl cut-less (still-all s I))
-ordered s I (Rules.Do (Act′.Mark c u m on)) r = thinned s (Rules.marked s (c .0) (u .0) m on) (thins-same s (Rules.marked s (c .0) (u .0) m on) refl (λ i n. refl) (still-all s I))
+    thinned s (sweep s j (isAt (c .0) a) cut)
+    (thins-sweep s j (isAt (c .0) a) cut (returns-inside s I j (c .0) (u .0) (returns-of s j (c .0) (u .0) r)) refl cut-less (still-all s I))
+ordered s I (Rules.Do (Act′.Mark c u m on)) r =
+    thinned s (Rules.marked s (c .0) (u .0) m on) (thins-same s (Rules.marked s (c .0) (u .0) m on) refl (λ i n. refl) (still-all s I))

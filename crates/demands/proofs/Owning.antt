@@ -35,8 +35,10 @@ use Rattle.cell_reached.proofs.ReachedProof.{every-cell}
 
 module _ (configuration : Configuration) (es : List Event) (c : Cell) (l : Reached configuration es c) where
   -- a job of which a packet moves is in its place
-  pub still-there : (place packet : ℕ) → inMotion (packetIn (inside c .jobs) place packet .status) ≡ true → isEmpty (stateIn (inside c .jobs) place) ≡ false
-  still-there place packet m = every-cell configuration es c l .always .live place packet (motion-busy (packetIn (inside c .jobs) place packet .status) m)
+  pub still-there : (place packet : ℕ) → inMotion (packetIn (inside c .jobs) place packet .status) ≡ true
+      → isEmpty (stateIn (inside c .jobs) place) ≡ false
+  still-there place packet m =
+      every-cell configuration es c l .always .live place packet (motion-busy (packetIn (inside c .jobs) place packet .status) m)
 
   pub still-own : (place : ℕ) → isEmpty (stateIn (inside c .jobs) place) ≡ false
       → (given : Assignment) × (taking (told es) place ≡ some given)
@@ -46,7 +48,13 @@ module _ (configuration : Configuration) (es : List Event) (c : Cell) (l : Reach
       let g = r .given place .live alive in (
         g .0,
         g .1,
-        record { there = alive; holds = g .2; heads = λ i k u p q. held-once (unitIn (inside c .units) k u .holder) i place q p; drum = λ i x a p q. r .drum i place x a alive q p; core = λ i x a p q. r .core i place x a alive q p },
+        record {
+          there = alive;
+          holds = g .2;
+          heads = λ i k u p q. held-once (unitIn (inside c .units) k u .holder) i place q p;
+          drum = λ i x a p q. r .drum i place x a alive q p;
+          core = λ i x a p q. r .core i place x a alive q p;
+        },
       )
 
   pub free-place : (place : ℕ) → isEmpty (stateIn (inside c .jobs) place) ≡ true
@@ -55,7 +63,8 @@ module _ (configuration : Configuration) (es : List Event) (c : Cell) (l : Reach
   unfolding stateIn
   free-place place e = (every-cell configuration es c l .given place .empty e, (rw e refl, rw e refl))
 
-  pub on-its-own : (place packet : ℕ) → inMotion (packetIn (inside c .jobs) place packet .status) ≡ true → OnItsOwn (inside c) place (packetIn (inside c .jobs) place packet)
+  pub on-its-own : (place packet : ℕ) → inMotion (packetIn (inside c .jobs) place packet .status) ≡ true
+      → OnItsOwn (inside c) place (packetIn (inside c .jobs) place packet)
   on-its-own place packet m =
       let r = every-cell configuration es c l in
       let b = motion-busy (packetIn (inside c .jobs) place packet .status) m in

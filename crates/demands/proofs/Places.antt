@@ -57,7 +57,8 @@ use Rattle.keyboard.specs.declared.Asked.the-variants as Asked′
 use Rattle.cell_history.proofs.MeantLaws.{Plain, by-meant}
 use Rattle.cell_history.proofs.ToldLaws.{does-told}
 use Rattle.cell_history.specs.Told.{chosen, doneAs, inside}
-use Rattle.cell_history.specs.History.{Call, Chosen, Deck, Delete, Do, Does, Entered, Key, Mistyped, Release, Reply, Said, Select, Shown, Status, callOf, meant}
+use Rattle.cell_history.specs.History.{Call, Chosen, Deck, Delete, Do, Does, Entered, Key, Mistyped, Release}
+use Rattle.cell_history.specs.History.{Reply, Said, Select, Shown, Status, callOf, meant}
 use Rattle.demands.specs.Demands.{Ends, withUnits}
 use Rattle.demands.specs.Refusing.{refusalIn}
 use Rattle.demands.proofs.Accepted.{accepted-is}
@@ -78,7 +79,8 @@ states-taken : (s : State) (j : ℕ) (asg : Assignment) (i : ℕ) → isEmpty (s
     → stateIn (set (s .jobs) j (freshJob asg)) i ≡ stateIn (s .jobs) i
 unfolding stateIn
 states-taken s j asg i a b =
-    ap (λ (k : Job). k .state) (getD-set-other (s .jobs) j i (freshJob asg) noJob (λ e. never (ap (λ (n : ℕ). isEmpty (getD (s .jobs) n noJob .state)) e ∙ a) b))
+    ap (λ (k : Job). k .state)
+    (getD-set-other (s .jobs) j i (freshJob asg) noJob (λ e. never (ap (λ (n : ℕ). isEmpty (getD (s .jobs) n noJob .state)) e ∙ a) b))
 
 states-started : (s : State) (k i : ℕ) → stateIn (Rules.started s k (find (Rules.startable s k) (s .queue)) .jobs) i ≡ stateIn (s .jobs) i
 states-started s k i = go (find (Rules.startable s k) (s .queue))
@@ -169,7 +171,8 @@ module _ (c d : Cell) (i : ℕ) (alive : isEmpty (stateIn (inside c .jobs) i) �
 
   others-keep : (x : Call) (reply : Reply) → Does c x reply d → OtherBy (meant x) → Same d
   others-keep x reply h o =
-      by-meant (λ m. OtherBy m → Same d) c d reply (λ e o. ap (λ (x : Cell). stateIn (inside x .jobs) i) e) (λ y z k o. plain-keep y reply z k o) x h o
+      by-meant (λ m. OtherBy m → Same d) c d reply (λ e o. ap (λ (x : Cell). stateIn (inside x .jobs) i) e)
+      (λ y z k o. plain-keep y reply z k o) x h o
 
 -- ---- what a completion and an end leave
 
@@ -200,7 +203,10 @@ over-left : (c : Cell) (s : State) (j : ℕ) (e : Bool) (other : Schedule) → s
     → Over c j e (returnIfDone j s) (leftBy (leaving j s) (c .schedule) j other)
 over-left c s j e other is =
     by-bool (isDone s j)
-    (λ t. rw t (inr (states-returned s j t j ∙ rw (eqb-self j) refl, ap (λ (x : JobState). leftBy (leavingAs x) (c .schedule) j other) is ∙ left-as e (c .schedule) other j)))
+    (λ t. rw t (inr (
+      states-returned s j t j ∙ rw (eqb-self j) refl,
+      ap (λ (x : JobState). leftBy (leavingAs x) (c .schedule) j other) is ∙ left-as e (c .schedule) other j,
+    )))
     (λ t. rw t (inl is))
 
 over-as : (c : Cell) (j : ℕ) (e : Bool) {s s′ : State} {x x′ : Schedule} → s ≡ s′ → x ≡ x′ → Over c j e s x → Over c j e s′ x′
@@ -236,16 +242,21 @@ module _ (c d : Cell) (reply : Reply) (ok : refusalIn reply ≡ none) (place : �
       let a = accepted-is c d (Act′.End j b) reply h ok in
       let run = ends-of s j b (a .0) in
       let s₁ = closed s j b in
-      let g : d .schedule ≡ leftBy (leaving j s₁) (c .schedule) j (Schedules.closing (c .schedule) j) = schedule-after c d (Act′.End j b) (h .1) (a .0) in
+      let g : d .schedule ≡ leftBy (leaving j s₁) (c .schedule) j (Schedules.closing (c .schedule) j) =
+      schedule-after c d (Act′.End j b) (h .1) (a .0) in
       ⊎-elim
-      (λ q. let v : stateIn (s₁ .jobs) j ≡ closing b = states-closed s j b run j ∙ rw (eqb-self j) refl in
-      let w : Over c j b (inside d) (d .schedule) = over-as c j b (sym (a .1)) (sym g) (over-left c s₁ j b (Schedules.closing (c .schedule) j) v) in
+      (λ q.
+      let v : stateIn (s₁ .jobs) j ≡ closing b = states-closed s j b run j ∙ rw (eqb-self j) refl in
+      let w : Over c j b (inside d) (d .schedule) =
+      over-as c j b (sym (a .1)) (sym g) (over-left c s₁ j b (Schedules.closing (c .schedule) j) v) in
       let x : j ≡ place = cc in
       let y : b ≡ inError = cc in
       subst (λ (n : ℕ). Over c n inError (inside d) (d .schedule)) x (subst (λ (z : Bool). Over c j z (inside d) (d .schedule)) y w))
-      (λ e. let n : eqb place j ≡ false =
+      (λ e.
+      let n : eqb place j ≡ false =
       by-bool (eqb place j)
-      (λ t. absurd (never (subst (λ (m : ℕ). isRunning (stateIn (s .jobs) m) ≡ true) (sym (eqb-true place j t)) run) (ap isRunning e ∙ closing-live inError .1)))
+      (λ t. absurd (never (subst (λ (m : ℕ). isRunning (stateIn (s .jobs) m) ≡ true) (sym (eqb-true place j t)) run)
+      (ap isRunning e ∙ closing-live inError .1)))
       (λ t. t) in
       inl (ap (λ (x : State). stateIn (x .jobs) place) (a .1) ∙ states-left s₁ j place n ∙ states-closed s j b run place ∙ rw n e))
       en
@@ -269,7 +280,8 @@ module _ (c d : Cell) (reply : Reply) (ok : refusalIn reply ≡ none) (place : �
   ended-so (Delete id) h en = ended-kept (Delete id) h tt (λ q. let z : _≡_ {A = ℕ} 0 1 = cc in omega arith) en
   ended-so (Status j p) h en = ended-kept (Status j p) h tt (λ q. let z : _≡_ {A = ℕ} 0 1 = cc in omega arith) en
   ended-so (Key message) h en =
-      ended-kept (Key message) h (key-other (readMessage message .asks) (readMessage message .id)) (λ q. let z : _≡_ {A = ℕ} 0 1 = cc in omega arith) en
+      ended-kept (Key message) h (key-other (readMessage message .asks) (readMessage message .id))
+      (λ q. let z : _≡_ {A = ℕ} 0 1 = cc in omega arith) en
 
 -- ---- a running job
 
@@ -299,14 +311,18 @@ module _ (c d : Cell) (reply : Reply) (place : ℕ) (e : stateIn (inside c .jobs
       let v : stateIn (s₁ .jobs) place ≡ Running = states-finished s k how (o .0) (o .1) place ∙ e in
       ap (λ (x : State). stateIn (x .jobs) place) i ∙ runs-left s₁ (o .0) v)
 
-  runs-end : (j : ℕ) (b : Bool) → Does c (Do (Act′.End j b)) reply d → (Do (Act′.End j b) ≡ Do (Act′.End place b) → ⊥) → stateIn (inside d .jobs) place ≡ Running
+  runs-end : (j : ℕ) (b : Bool) → Does c (Do (Act′.End j b)) reply d → (Do (Act′.End j b) ≡ Do (Act′.End place b) → ⊥)
+      → stateIn (inside d .jobs) place ≡ Running
   unfolding Rules.accept
   runs-end j b h n =
       by-refusal c d (Do (Act′.End j b)) reply h (λ x. stateIn (inside x .jobs) place ≡ Running) e
-      (λ ok. let s = inside c in
+      (λ ok.
+      let s = inside c in
       let a = accepted-is c d (Act′.End j b) reply h ok in
-      let f : eqb place j ≡ false = by-bool (eqb place j) (λ t. absurd (n (ap (λ (m : ℕ). Do (Act′.End m b)) (sym (eqb-true place j t))))) (λ t. t) in
-      ap (λ (x : State). stateIn (x .jobs) place) (a .1) ∙ states-left (closed s j b) j place f ∙ states-closed s j b (ends-of s j b (a .0)) place ∙ rw f e)
+      let f : eqb place j ≡ false =
+      by-bool (eqb place j) (λ t. absurd (n (ap (λ (m : ℕ). Do (Act′.End m b)) (sym (eqb-true place j t))))) (λ t. t) in
+      ap (λ (x : State). stateIn (x .jobs) place) (a .1) ∙ states-left (closed s j b) j place f
+      ∙ states-closed s j b (ends-of s j b (a .0)) place ∙ rw f e)
 
   pub runs-on : (x : Call) → Does c x reply d → ((inError : Bool) → x ≡ Do (Act′.End place inError) → ⊥) → stateIn (inside d .jobs) place ≡ Running
   runs-on (Deck bytes) h n = kept (Deck bytes) h tt

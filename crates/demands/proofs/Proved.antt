@@ -25,7 +25,8 @@ use Rattle.cards_round.proofs.FullRound.{room-read}
 use Rattle.cards_round.proofs.HeldLaws.{held-once}
 use Rattle.cards_round.proofs.Order.{same-request}
 use Rattle.cards_round.proofs.TableRound.{table-place, table-size}
-use Rattle.desk_show.proofs.Own.{bad-if, bad-then, day-cards, day-if, day-then, empty-if, empty-then, no-id, nobody-if, nobody-then, repair-cards, repair-if, repair-then}
+use Rattle.desk_show.proofs.Own.{bad-if, bad-then, day-cards, day-if, day-then, empty-if, empty-then, no-id}
+use Rattle.desk_show.proofs.Own.{nobody-if, nobody-then, repair-cards, repair-if, repair-then}
 use Rattle.desk_show.proofs.Unique.{tied}
 use Rattle.desk_hearing.proofs.Program.{program}
 use Rattle.units.specs.State.{unitIn}
@@ -198,11 +199,15 @@ demand-2 =
       missing = missing-so;
       exists = exists-exactly;
       alone = alone-so;
-      busy = λ configuration es c h channel place packet. (every-cell configuration es c h .always .moving channel place packet, every-cell configuration es c h .always .movers place packet);
+      busy = λ configuration es c h channel place packet. (
+        every-cell configuration es c h .always .moving channel place packet,
+        every-cell configuration es c h .always .movers place packet,
+      );
       told = does-told;
       codes = told-so (λ before y after. (place packet : ℕ) → packetIn (after .jobs) place packet .status ≡ statusAfter before y place packet)
           (λ l s y r g. codes l s r y g);
-      interlocks = told-so (λ before y after. (channel unit : ℕ) → unitIn (after .units) channel unit .interlock ≡ interlockAfter before y channel unit)
+      interlocks = told-so
+          (λ before y after. (channel unit : ℕ) → unitIn (after .units) channel unit .interlock ≡ interlockAfter before y channel unit)
           (λ l s y r g channel unit. lock-after s (Lists′.reached-inv l s r) channel unit y g);
       before = (all-listed, as-before);
       elsewhere = only-completions;

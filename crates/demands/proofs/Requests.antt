@@ -45,7 +45,8 @@ not-returned s j e c =
     absurd (never (ap isEmpty z) (ap isEmpty y ∙ closing-live e .0)))
     (λ t. t)
 
-pub closes-so : (c d : Cell) (j : ℕ) (e : Bool) (reply : Reply) → Does c (Do (Act′.End j e)) reply d → stateIn (inside d .jobs) j ≡ closing e → refusalIn reply ≡ none
+pub closes-so : (c d : Cell) (j : ℕ) (e : Bool) (reply : Reply) → Does c (Do (Act′.End j e)) reply d → stateIn (inside d .jobs) j ≡ closing e
+    → refusalIn reply ≡ none
     → d .schedule ≡ Schedules.closing (c .schedule) j
 unfolding Rules.accept Rules.answer
 closes-so c d j e reply h is ok =

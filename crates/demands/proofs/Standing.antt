@@ -89,7 +89,8 @@ module _ (c : Cell) (id : List ℕ) (n : Refusal) where
   abbrev back : Changed → Cell
   back r = cellOf (r .schedule) (c .lists)
 
-  release-stands : (o : Option Entry) → ofAnswer (answerOf (releasedBy o (c .schedule) id .outcome)) ≡ some n → back (releasedBy o (c .schedule) id) ≡ c
+  release-stands : (o : Option Entry) → ofAnswer (answerOf (releasedBy o (c .schedule) id .outcome)) ≡ some n
+      → back (releasedBy o (c .schedule) id) ≡ c
   release-stands none e = refl
   release-stands (some x) e = by-bool (suspended (x .state)) (λ t. absurd (not-some (rw t at e))) (λ t. rw t refl)
 
@@ -107,14 +108,17 @@ deck-notes : (end : DeckEnd) (s : Schedule) (bytes : List ℕ) (n : Refusal) →
 deck-notes (Ends.At k) s bytes n e = absurd (not-some (ap ofOutcome e))
 deck-notes (Ends.Refused m) s bytes n e = refl
 
-deck-stands : (c : Cell) (bytes room after : List ℕ) (r : DeckAnswer) (n : Refusal) → Enters c bytes room after r → ofOutcome (r .outcome) ≡ some n → r .cell ≡ c
+deck-stands : (c : Cell) (bytes room after : List ℕ) (r : DeckAnswer) (n : Refusal) → Enters c bytes room after r
+    → ofOutcome (r .outcome) ≡ some n → r .cell ≡ c
 deck-stands c bytes room after r n h e =
-    let s : r .cell .schedule ≡ c .schedule = h .deck .then ∙ deck-schedule (deckEnd bytes) (c .schedule) bytes n (sym (ap ofOutcome (h .deck .outcome)) ∙ e) in
+    let s : r .cell .schedule ≡ c .schedule =
+    h .deck .then ∙ deck-schedule (deckEnd bytes) (c .schedule) bytes n (sym (ap ofOutcome (h .deck .outcome)) ∙ e) in
     let l : r .cell .lists ≡ c .lists = h .lists in
     λ i. record { schedule = s i; lists = l i }
 
 -- the lent room: nothing is put
-pub deck-lent : (c : Cell) (bytes room after : List ℕ) (r : DeckAnswer) (n : Refusal) → Enters c bytes room after r → r .outcome ≡ Outcomes.Refused n → after ≡ room
+pub deck-lent : (c : Cell) (bytes room after : List ℕ) (r : DeckAnswer) (n : Refusal) → Enters c bytes room after r
+    → r .outcome ≡ Outcomes.Refused n → after ≡ room
 deck-lent c bytes room after r n h e =
     let none : notesBy (deckEnd bytes) (c .schedule) bytes ≡ [] = deck-notes (deckEnd bytes) (c .schedule) bytes n (sym (h .deck .outcome) ∙ e) in
     let w : Whole [] room after (r .at) = rw none at (h .deck .text) in
@@ -137,11 +141,14 @@ select-stands c r n h e =
 
 -- after a refused call that is no message the cell stands
 plain-stands : (c d : Cell) (x : Call) (reply : Reply) (n : Refusal) → Plain x → Does c x reply d → refusalIn reply ≡ some n → d ≡ c
-plain-stands c d (Deck bytes) reply n z h e = h .2 .1 .1 .1 ∙ deck-stands c bytes (h .0) (h .1) (h .2 .0) n (h .2 .1 .0) (sym (ap refusalIn (h .2 .1 .1 .0)) ∙ e)
+plain-stands c d (Deck bytes) reply n z h e =
+    h .2 .1 .1 .1 ∙ deck-stands c bytes (h .0) (h .1) (h .2 .0) n (h .2 .1 .0) (sym (ap refusalIn (h .2 .1 .1 .0)) ∙ e)
 plain-stands c d Select reply n z h e = h .1 .1 .1 ∙ select-stands c (h .0) n (h .1 .0) (sym (ap refusalIn (h .1 .1 .0)) ∙ e)
 plain-stands c d (Do x) reply n z h e = h .1 ∙ acts-stand c x n (sym (ap refusalIn (h .0)) ∙ e)
-plain-stands c d (Release id) reply n z h e = h .1 ∙ release-stands c id n (find (isNamed id) (inSchedule (c .schedule))) (sym (ap refusalIn (h .0)) ∙ e)
-plain-stands c d (Delete id) reply n z h e = h .1 ∙ delete-stands c id n (find (isNamed id) (inSchedule (c .schedule))) (sym (ap refusalIn (h .0)) ∙ e)
+plain-stands c d (Release id) reply n z h e =
+    h .1 ∙ release-stands c id n (find (isNamed id) (inSchedule (c .schedule))) (sym (ap refusalIn (h .0)) ∙ e)
+plain-stands c d (Delete id) reply n z h e =
+    h .1 ∙ delete-stands c id n (find (isNamed id) (inSchedule (c .schedule))) (sym (ap refusalIn (h .0)) ∙ e)
 plain-stands c d (Status j p) reply n z h e = h .1
 plain-stands c d (Key message) reply n z h e = absurd z
 

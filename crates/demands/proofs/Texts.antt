@@ -48,17 +48,23 @@ kept-room r room n e =
     not-cards {k} q = let z : _≡_ {A = ℕ} 0 1 = cc in omega arith
 
 -- what is entered and what is read with the further cards are the same
-pub groups-alike : (group : List (List ℕ)) → (readFull group .verdict ≡ readGroup group .verdict) × (readFull group .full .request ≡ readGroup group .request)
+pub groups-alike : (group : List (List ℕ))
+    → (readFull group .verdict ≡ readGroup group .verdict) × (readFull group .full .request ≡ readGroup group .request)
 unfolding readFull readCards
-groups-alike group = by (orderedError (length group) (getD group 0 []) (getD group 1 []) (drop 2 group)) (requestOf (getD group 0 []) (asked (getD group 1 []))) (furtherOf group)
+groups-alike group =
+    by (orderedError (length group) (getD group 0 []) (getD group 1 []) (drop 2 group)) (requestOf (getD group 0 []) (asked (getD group 1 [])))
+    (furtherOf group)
   where
-    by : (v : CardVerdict) (q : Request) (f : Further) → (fullAnswer (answer v q .verdict) (answer v q .request) f .verdict ≡ answer v q .verdict) × (fullAnswer (answer v q .verdict) (answer v q .request) f .full .request ≡ answer v q .request)
+    by : (v : CardVerdict) (q : Request) (f : Further)
+        → (fullAnswer (answer v q .verdict) (answer v q .request) f .verdict ≡ answer v q .verdict)
+        × (fullAnswer (answer v q .verdict) (answer v q .request) f .full .request ≡ answer v q .request)
     by Good q f = (refl, refl)
     by (Wrong e) q f = (refl, refl)
 
 pub group-first : (cards : List (List ℕ)) → readGroup cards .verdict ≡ orderedError (length cards) (getD cards 0 []) (getD cards 1 []) (drop 2 cards)
 unfolding readCards
-group-first cards = by (orderedError (length cards) (getD cards 0 []) (getD cards 1 []) (drop 2 cards)) (requestOf (getD cards 0 []) (asked (getD cards 1 [])))
+group-first cards =
+    by (orderedError (length cards) (getD cards 0 []) (getD cards 1 []) (drop 2 cards)) (requestOf (getD cards 0 []) (asked (getD cards 1 [])))
   where
     by : (v : CardVerdict) (q : Request) → answer v q .verdict ≡ v
     by Good q = refl
@@ -70,7 +76,8 @@ listed-bad s room after r line f l h =
     l .whole h .0 ∙ ap (λ (a : Answer). answerText (a .verdict) (a .configuration)) (first-named s line f)
 
 -- and where it does not, holds the cards
-pub written-so : (r : FullRequest) (room : List ℕ) → takesFull r ≡ true → fits r (length room) ≡ true → written r room ≡ textOf r ++ drop (length (textOf r)) room
+pub written-so : (r : FullRequest) (room : List ℕ) → takesFull r ≡ true → fits r (length room) ≡ true
+    → written r room ≡ textOf r ++ drop (length (textOf r)) room
 unfolding written
 written-so r room t f = rw (t, f) refl
 
@@ -90,8 +97,10 @@ counted-to configuration grid channel (suc n) = omega (arith, counted-to configu
 
 pub counted-fresh : (configuration : Configuration) (channel : ChannelNumber)
     → assignableUnits configuration (freshUnits (configuration .down)) channel 16
-    ≡ howMany 16 (λ u. hasUnit configuration channel (record { 0 = u }) && assignable (unitIn (inside (freshCell configuration) .units) (channel .0) u))
+    ≡ howMany 16
+    (λ u. hasUnit configuration channel (record { 0 = u }) && assignable (unitIn (inside (freshCell configuration) .units) (channel .0) u))
 unfolding fresh
 counted-fresh configuration channel =
     counted-to configuration (freshUnits (configuration .down)) channel 16
-    ∙ ap (λ (s : State). howMany 16 (λ u. hasUnit configuration channel (record { 0 = u }) && assignable (unitIn (s .units) (channel .0) u))) (sym (fresh-inside configuration))
+    ∙ ap (λ (s : State). howMany 16 (λ u. hasUnit configuration channel (record { 0 = u }) && assignable (unitIn (s .units) (channel .0) u)))
+    (sym (fresh-inside configuration))

@@ -28,7 +28,8 @@ use Rattle.cell.specs.declared.KeyAnswer.{KeyAnswer}
 use Rattle.cell_history.proofs.MeantLaws.{by-meant}
 use Rattle.cell_history.specs.History.{Call, Does, Key, Mistyped, Reply, meant, replyOf}
 
-pub typed-so : (c d : Cell) (message : List ℕ) (reply : Reply) (x : Call) → Does c (Key message) reply d → meant (Key message) ≡ some x → Does c x reply d
+pub typed-so : (c d : Cell) (message : List ℕ) (reply : Reply) (x : Call) → Does c (Key message) reply d → meant (Key message) ≡ some x
+    → Does c x reply d
 typed-so c d message reply x h q =
     by-meant (λ o. o ≡ some x → Does c x reply d) c d reply (λ e n. absurd (let z : _≡_ {A = ℕ} 0 1 = cc in omega arith))
     (λ y p k s. let i : y ≡ x = cc in subst (λ (w : Call). Does c w reply d) i k) (Key message) h q
@@ -62,5 +63,8 @@ pub unknown-so : (c : Cell) (message room after : List ℕ) (r : KeyAnswer) → 
 unknown-so c message room after r h k =
     let q : readMessage message .asks ≡ Asked′.Unknown = ap (λ (m : Message). m .asks) (first-of-all message .0 k) in
     let e = h .does ∙ ap (λ (a : Asked). heeded c a (readMessage message .id)) q in
-    let t : r .told ≡ Said (Refused UnknownMessage) = ap (λ (x : Heeded). x .told) e in
-    (subst (λ (p : List ℕ). Whole p room after (r .at)) (ap (λ (a : Asked). answerText a (r .told)) q ∙ ap (answerText Asked′.Unknown) t ∙ unknown-text) (h .text), ap (λ (x : Heeded). x .cell) e)
+    let t : r .told ≡ Said (Refused UnknownMessage) = ap (λ (x : Heeded). x .told) e in (
+      subst (λ (p : List ℕ). Whole p room after (r .at))
+          (ap (λ (a : Asked). answerText a (r .told)) q ∙ ap (answerText Asked′.Unknown) t ∙ unknown-text) (h .text),
+      ap (λ (x : Heeded). x .cell) e,
+    )

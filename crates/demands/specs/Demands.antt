@@ -166,7 +166,8 @@ pub record Demand1 : Type 0 where
   pub short : (v : FullRequest) (room : ℕ) → AllowedFull v → fits v room ≡ false → writeAnswer v room ≡ Wrote′.Refused NoRoom
   -- Every group of any cards is answered, with its first error alone, or with its request; what a schedule enters of it and
   -- what is read with the further cards are the same verdict and the same request
-  pub groups : (group : List (List ℕ)) → (readFull group .verdict ≡ readGroup group .verdict) × (readFull group .full .request ≡ readGroup group .request)
+  pub groups : (group : List (List ℕ))
+      → (readFull group .verdict ≡ readGroup group .verdict) × (readFull group .full .request ≡ readGroup group .request)
   pub group : (cards : List (List ℕ))
       → readGroup cards .verdict ≡ orderedError (length cards) (getD cards 0 []) (getD cards 1 []) (drop 2 cards)
   -- The room that was lent for a keyboard message's answer holds that answer, refused or not, whole at its start; every
@@ -488,7 +489,8 @@ pub record Demand3 : Type 0 where
   -- own, and nothing else: the rest "return together". It has returned a unit when it asked for that and nothing moves there
   pub own : (configuration : Configuration) (es : List Event) (c : Cell) → Reached configuration es c
       → (place : ℕ) → isEmpty (stateIn (inside c .jobs) place) ≡ false
-      → (given : Assignment) × (taking (told es) place ≡ some given) × StillOwn (inside c) place given (asking (told es) place) (hasReturned (told es) place)
+      → (given : Assignment) × (taking (told es) place ≡ some given)
+      × StillOwn (inside c) place given (asking (told es) place) (hasReturned (told es) place)
   -- among it the unit, or on the drum the address, that the packet is on
   pub head : (configuration : Configuration) (es : List Event) (c : Cell) → Reached configuration es c
       → (place packet : ℕ) → inMotion (packetIn (inside c .jobs) place packet .status) ≡ true

@@ -28,7 +28,12 @@ use Rattle.desk_hearing.specs.Putting.{Answered}
 
 refused-few : (refusal : Refusal) → length (noLine refusal) ≤ 6
 refused-few refusal =
-    omega (arith, length-append (noText refusal) (bytes "\n"), length-append (bytes "NO ") (decimalText (numberOf refusal)), few-digits 1 (numberOf refusal) (two-digits refusal))
+    omega (
+      arith,
+      length-append (noText refusal) (bytes "\n"),
+      length-append (bytes "NO ") (decimalText (numberOf refusal)),
+      few-digits 1 (numberOf refusal) (two-digits refusal),
+    )
 
 closing-few : (which : Which) → length (closing which) ≤ 12
 closing-few Repair = omega arith
@@ -53,7 +58,8 @@ module _ {id repair day : List ℕ} {r : Extent} {part : List ℕ} (w : Shows id
       by (nobody e d n z p) = omega (arith, ap length p)
 
   -- the part is put, and then the line behind it
-  pub answered : {out mid after· : List ℕ} {end at : ℕ} → length out ≡ 16396 → Written out 0 part mid end → Written mid end (closing (r .which)) after· at
+  pub answered : {out mid after· : List ℕ} {end at : ℕ} → length out ≡ 16396 → Written out 0 part mid end
+      → Written mid end (closing (r .which)) after· at
       → Answered id repair day out after· at
   answered l p c = record {
     text = part ++ closing (r .which);
@@ -61,7 +67,8 @@ module _ {id repair day : List ℕ} {r : Extent} {part : List ℕ} (w : Shows id
     put = entire (andThen p c) (omega (arith, l, few, closing-few (r .which), length-append part (closing (r .which))));
   }
 
-pub refused-put : {out after· : List ℕ} {at : ℕ} → length out ≡ 16396 → Written out 0 (noLine BadDeck) after· at → Whole (noLine BadDeck) out after· at
+pub refused-put : {out after· : List ℕ} {at : ℕ} → length out ≡ 16396 → Written out 0 (noLine BadDeck) after· at
+    → Whole (noLine BadDeck) out after· at
 refused-put l w = entire w (omega (arith, l, refused-few BadDeck))
 
 pub nothing-put : (out : List ℕ) → Whole [] out out 0

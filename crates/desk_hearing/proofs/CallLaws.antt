@@ -46,8 +46,10 @@ module _ (s : Standing) {piece line′ : List ℕ} {cut : Cut} (k : TakesUp (s .
   waits f {d} e out = heard {t = standing d line′ (s .repair) (s .day)} k false f (e, refl, refl, refl) (nothing-put out)
 
   module _ (w : cut .whole ≡ true) {card : List ℕ} (c : card ≡ take (cut .kept) line′) where
-    whole : {t : Standing} {text out after· : List ℕ} {at : ℕ} → TakesUp (s .line) (s .desk .line) piece (t .line) cut → t .line ≡ line′ → (stage : Stage)
-        → s .desk .stage ≡ stage → Turns stage card s t text → t .desk .line ≡ 0 → Whole text out after· at → Heard s piece t (cut .taken) out after· at
+    whole : {t : Standing} {text out after· : List ℕ} {at : ℕ} → TakesUp (s .line) (s .desk .line) piece (t .line) cut → t .line ≡ line′
+        → (stage : Stage)
+        → s .desk .stage ≡ stage → Turns stage card s t text → t .desk .line ≡ 0 → Whole text out after· at
+        → Heard s piece t (cut .taken) out after· at
     whole {t} {text} j l stage e turns z put =
         heard {t = t} j true w (
           subst (λ (p : Stage). Turns p (take (cut .kept) (t .line)) s t text) (sym e)
@@ -60,14 +62,16 @@ module _ (s : Standing) {piece line′ : List ℕ} {cut : Cut} (k : TakesUp (s .
         → Heard s piece (standing d line′ room (s .day)) (cut .taken) out out 0
     of-repair e {room} {n} put {p} next {d} is out =
         subst (λ (x : Desk). Heard s piece (standing x line′ room (s .day)) (cut .taken) out out 0) (sym is)
-        (whole {t = standing (deskOf p n (s .desk .day) 0) line′ room (s .day)} k refl GathersRepair e (put, next, (refl, refl), refl) refl (nothing-put out))
+        (whole {t = standing (deskOf p n (s .desk .day) 0) line′ room (s .day)} k refl GathersRepair e (put, next, (refl, refl), refl) refl
+        (nothing-put out))
 
     pub of-day : s .desk .stage ≡ GathersDay → {room : List ℕ} {n : ℕ} → Written (s .day) (s .desk .day) (lineText card) room n
         → {p : Stage} → p ≡ cond (isTermination card) Asks GathersDay → {d : Desk} → d ≡ deskOf p (s .desk .repair) n 0 → (out : List ℕ)
         → Heard s piece (standing d line′ (s .repair) room) (cut .taken) out out 0
     of-day e {room} {n} put {p} next {d} is out =
         subst (λ (x : Desk). Heard s piece (standing x line′ (s .repair) room) (cut .taken) out out 0) (sym is)
-        (whole {t = standing (deskOf p (s .desk .repair) n 0) line′ (s .repair) room} k refl GathersDay e (put, next, (refl, refl), refl) refl (nothing-put out))
+        (whole {t = standing (deskOf p (s .desk .repair) n 0) line′ (s .repair) room} k refl GathersDay e (put, next, (refl, refl), refl) refl
+        (nothing-put out))
 
     pub of-asks : s .desk .stage ≡ Asks → {out after· : List ℕ} {at : ℕ} → Answered card (repairIn s) (dayIn s) out after· at
         → {d : Desk} → d ≡ deskOf Asks (s .desk .repair) (s .desk .day) 0
@@ -78,14 +82,17 @@ module _ (s : Standing) {piece line′ : List ℕ} {cut : Cut} (k : TakesUp (s .
         (a .says, refl, (refl, refl), (refl, refl)) refl (a .put))
 
 -- as the code hands it back
-pub as-heard : {s : Standing} {d : Desk} {piece line repair day out after· : List ℕ} {taken at : ℕ} {r : Hearing} → r ≡ record { desk = d; taken = taken; at = at }
-    → Heard s piece (standing d line repair day) taken out after· at → Heard s piece (standing (r .desk) line repair day) (r .taken) out after· (r .at)
+pub as-heard : {s : Standing} {d : Desk} {piece line repair day out after· : List ℕ} {taken at : ℕ} {r : Hearing}
+    → r ≡ record { desk = d; taken = taken; at = at }
+    → Heard s piece (standing d line repair day) taken out after· at
+    → Heard s piece (standing (r .desk) line repair day) (r .taken) out after· (r .at)
 as-heard {s} {d} {piece} {line} {repair} {day} {out} {after·} e w =
     subst (λ (x : Hearing). Heard s piece (standing (x .desk) line repair day) (x .taken) out after· (x .at)) (sym e) w
 
 -- ---- the end of the input
 module _ (s : Standing) where
-  ended : {text out after· : List ℕ} {at : ℕ} → (stage : Stage) → s .desk .stage ≡ stage → Ends stage s text → Whole text out after· at → Ended s out after· at
+  ended : {text out after· : List ℕ} {at : ℕ} → (stage : Stage) → s .desk .stage ≡ stage → Ends stage s text → Whole text out after· at
+      → Ended s out after· at
   ended {text} stage e w put = record { text = text; ends = subst (λ (p : Stage). Ends p s text) (sym e) w; put = put }
 
   module _ {out after· : List ℕ} {at : ℕ} (l : length out ≡ 16396) (put : Written out 0 (noLine BadDeck) after· at) where
@@ -98,7 +105,8 @@ module _ (s : Standing) where
   pub no-line : s .desk .stage ≡ Asks → s .desk .line ≡ 0 → (out : List ℕ) → Ended s out out 0
   no-line e z out = ended Asks e (subst (λ (b : Bool). EndsIf b s []) (sym (eq-eqb (s .desk .line) 0 z)) refl) (nothing-put out)
 
-  pub last-line : s .desk .stage ≡ Asks → (s .desk .line ≡ 0 → ⊥) → {out after· : List ℕ} {at : ℕ} → Answered (lineIn s) (repairIn s) (dayIn s) out after· at
+  pub last-line : s .desk .stage ≡ Asks → (s .desk .line ≡ 0 → ⊥) → {out after· : List ℕ} {at : ℕ}
+      → Answered (lineIn s) (repairIn s) (dayIn s) out after· at
       → Ended s out after· at
   last-line e n a = ended Asks e (subst (λ (b : Bool). EndsIf b s (a .text)) (sym (ne-eqb (s .desk .line) 0 n)) (a .says)) (a .put)
 

@@ -50,14 +50,16 @@ module _ (a b : List ℕ) (e : (card : List ℕ) → opensFor a card ≡ opensFo
     bytes = f .bytes;
   }
 
-  answers-same : {repair day : List ℕ} {which : Which} {from : ℕ} {part : List ℕ} → ShowsFrom a repair day which from part → ShowsFrom b repair day which from part
+  answers-same : {repair day : List ℕ} {which : Which} {from : ℕ} {part : List ℕ} → ShowsFrom a repair day which from part
+      → ShowsFrom b repair day which from part
   answers-same (bad w h f p) = bad w h f p
   answers-same (ofRepair w r h) = ofRepair w r (first-same h)
   answers-same {repair} (ofDay w r n h) = ofDay w r (none-same (deckGroups repair) n) (first-same h)
   answers-same {repair} {day} (nobody w r n f p) = nobody w r (none-same (deckGroups repair) (n .0), none-same (deckGroups day) (n .1)) f p
 
 -- nothing is shown where there is a refusal, of whatever decks
-refused-part : (w : Which) (refusal : Refusal) → w ≡ Refused refusal → (from len : ℕ) (a b c d : List ℕ) → partIn w from len a b ≡ partIn w from len c d
+refused-part : (w : Which) (refusal : Refusal) → w ≡ Refused refusal → (from len : ℕ) (a b c d : List ℕ)
+    → partIn w from len a b ≡ partIn w from len c d
 refused-part w refusal e from len a b c d = rw e
 
 -- ---- cut somewhere behind 16,384 bytes

@@ -53,7 +53,8 @@ stored k room text n (x ∷ p) w =
     (stored k (set room n x) (text ++ (x ∷ [])) (suc n) p v))
     (eq-zero-or-pos (k - n))
 
-pub kept-more : {k n next : ℕ} {room text piece after : List ℕ} → Kept k room text n → Written room n piece after next → Kept k after (text ++ piece) next
+pub kept-more : {k n next : ℕ} {room text piece after : List ℕ} → Kept k room text n → Written room n piece after next
+    → Kept k after (text ++ piece) next
 kept-more {k} {n} {next} {room} {text} {piece} {after} w v =
     let e : reach n (length piece) k ≡ next = omega (arith, v .reached, w .long) in
     subst₂ (λ (l : List ℕ) (m : ℕ). Kept k l (text ++ piece) m) (sym (v .bytes)) e (stored k room text n piece w)

@@ -51,7 +51,8 @@ record Alike (t u : Standing) (x y : List ℕ) : Type 0 where
   days· : t .day ≡ u .day
   text· : x ≡ y
 
-turns-one : (stage : Stage) (line : List ℕ) (s t u : Standing) (x y : List ℕ) → t .desk .line ≡ u .desk .line → Turns stage line s t x → Turns stage line s u y
+turns-one : (stage : Stage) (line : List ℕ) (s t u : Standing) (x y : List ℕ) → t .desk .line ≡ u .desk .line → Turns stage line s t x
+    → Turns stage line s u y
     → Alike t u x y
 turns-one GathersRepair line s t u x y l v w =
     let p = written-one (v .0) (w .0) in
@@ -118,7 +119,8 @@ stands-is : (d d′ : Desk) (l l′ r r′ y y′ : List ℕ) → d ≡ d′ →
 stands-is d d′ l l′ r r′ y y′ i j k m = cc
 
 -- WHAT A CALL LEAVES AND ANSWERS IS ONE
-pub heard-one : {s t u : Standing} {piece out after· after′ : List ℕ} {taken taken′ at at′ : ℕ} → Heard s piece t taken out after· at → Heard s piece u taken′ out after′ at′
+pub heard-one : {s t u : Standing} {piece out after· after′ : List ℕ} {taken taken′ at at′ : ℕ} → Heard s piece t taken out after· at
+    → Heard s piece u taken′ out after′ at′
     → (t ≡ u) × (taken ≡ taken′) × (after· ≡ after′) × (at ≡ at′)
 heard-one {s} {t} {u} {out = out} {after· = after·} {at = at} v w =
     let q = takes-one (v .hears .takes) (w .hears .takes) in
@@ -127,7 +129,8 @@ heard-one {s} {t} {u} {out = out} {after· = after·} {at = at} v w =
     (subst (λ (k : Cut). TurnsIf (k .whole) (k .kept) s u (w .text)) (sym c) (w .hears .turns)) in
     let p = whole-one (subst (λ (x : List ℕ). Whole x out after· at) (a .text·) (v .put)) (w .put) in (
       stands-is (t .desk) (u .desk) (t .line) (u .line) (t .repair) (u .repair) (t .day) (u .day)
-          (desk-is (t .desk .stage) (u .desk .stage) (t .desk .repair) (u .desk .repair) (t .desk .day) (u .desk .day) (t .desk .line) (u .desk .line) (a .stage·) (a .repair·) (a .day·) (a .line·))
+          (desk-is (t .desk .stage) (u .desk .stage) (t .desk .repair) (u .desk .repair) (t .desk .day) (u .desk .day) (t .desk .line)
+          (u .desk .line) (a .stage·) (a .repair·) (a .day·) (a .line·))
           (q .1) (a .repairs·) (a .days·),
       v .hears .took ∙ ap (λ (k : Cut). k .taken) c ∙ sym (w .hears .took),
       p .0,
@@ -144,7 +147,8 @@ ends-one GathersRepair s x y v w = v ∙ sym w
 ends-one GathersDay s x y v w = v ∙ sym w
 ends-one Asks s x y v w = ends-if-one (eqb (s .desk .line) 0) s x y v w
 
-pub ended-one : {s : Standing} {out after· after′ : List ℕ} {at at′ : ℕ} → Ended s out after· at → Ended s out after′ at′ → (after· ≡ after′) × (at ≡ at′)
+pub ended-one : {s : Standing} {out after· after′ : List ℕ} {at at′ : ℕ} → Ended s out after· at → Ended s out after′ at′
+    → (after· ≡ after′) × (at ≡ at′)
 ended-one {s} {out} {after·} {at = at} v w =
     let e = ends-one (s .desk .stage) s (v .text) (w .text) (v .ends) (w .ends) in
     whole-one (subst (λ (x : List ℕ). Whole x out after· at) e (v .put)) (w .put)

@@ -18,7 +18,8 @@ use Rattle.cards_fields.specs.Deck.{isTermination}
 use Rattle.input_lines.specs.Lines.{TakesUp}
 use Rattle.input_lines.specs.declared.Cut.{Cut}
 use Rattle.desk_hearing.specs.Printing.{lastLine, Says, SaysAll, Prints}
-use Rattle.desk_hearing.specs.Hearing.{Standing, lineIn, repairIn, dayIn, Turns, TurnsIf, Hears, EndsIf, Ends, Call, Runs, inputOf, printed, Begins}
+use Rattle.desk_hearing.specs.Hearing.{Standing, lineIn, repairIn, dayIn, Turns, TurnsIf, Hears, EndsIf}
+use Rattle.desk_hearing.specs.Hearing.{Ends, Call, Runs, inputOf, printed, Begins}
 use Rattle.desk_hearing.specs.declared.Stage.{Stage}
 use Rattle.desk_hearing.specs.declared.Stage.the-variants.{GathersRepair, GathersDay, Asks}
 use Rattle.desk_hearing.specs.declared.Desk.{Desk}
@@ -77,7 +78,8 @@ module _ (k : ℕ) (big : deckBytes < k) where
       let h : Says (lineIn s) (repairIn s) (dayIn s) last = subst (λ (b : Bool). EndsIf b s last) z e in
       (last, [], says w (subst (λ (l : List ℕ). Says l (repairIn s) (dayIn s) last) (w .line .front) h), refl, sym (append-nil last))
 
-  at-end : (stage : Stage) (s : Standing) (line repair day last : List ℕ) → Stands k s line repair day → Ends stage s last → Claims stage repair day line last
+  at-end : (stage : Stage) (s : Standing) (line repair day last : List ℕ) → Stands k s line repair day → Ends stage s last
+      → Claims stage repair day line last
   at-end GathersRepair s line repair day last w e = gather-none (DayFrom last day) repair line (w .clean) e
   at-end GathersDay s line repair day last w e = gather-none (AsksFrom last repair) day line (w .clean) e
   at-end Asks s line repair day last w e = rw (asked-last line (w .clean)) (last-line s line repair day last w e)
@@ -88,11 +90,14 @@ module _ (k : ℕ) (big : deckBytes < k) where
       → Kept k (m .line) [] (m .desk .line) → Turns stage (take k line) s m text
       → ((r d : List ℕ) → Stands k m [] r d → Claims (m .desk .stage) r d rest more) → Claims stage repair day (lineText line ++ rest) (text ++ more)
   turned GathersRepair s m part line repair day rest text more w n l t on =
-      let v = on (repair ++ lineText line) day (record { line = l; clean = tt; repair = kept-line line (w .repair) (t .0); day = kept-same (w .day) (t .2) }) in
-      let c : Claims (cond (isTermination line) GathersDay GathersRepair) (repair ++ lineText line) day rest more = rw (t .1, ends-cut k big line) at v in
+      let v = on (repair ++ lineText line) day
+      (record { line = l; clean = tt; repair = kept-line line (w .repair) (t .0); day = kept-same (w .day) (t .2) }) in
+      let c : Claims (cond (isTermination line) GathersDay GathersRepair) (repair ++ lineText line) day rest more =
+      rw (t .1, ends-cut k big line) at v in
       rw (t .3) (gather-line (DayFrom more day) repair line rest n (λ e. rw e at c) (λ e. rw e at c))
   turned GathersDay s m part line repair day rest text more w n l t on =
-      let v = on repair (day ++ lineText line) (record { line = l; clean = tt; repair = kept-same (w .repair) (t .2); day = kept-line line (w .day) (t .0) }) in
+      let v = on repair (day ++ lineText line)
+      (record { line = l; clean = tt; repair = kept-same (w .repair) (t .2); day = kept-line line (w .day) (t .0) }) in
       let c : Claims (cond (isTermination line) Asks GathersDay) repair (day ++ lineText line) rest more = rw (t .1, ends-cut k big line) at v in
       rw (t .3) (gather-line (AsksFrom more repair) day line rest n (λ e. rw e at c) (λ e. rw e at c))
   turned Asks s m part line repair day rest text more w n l t on =
@@ -102,7 +107,8 @@ module _ (k : ℕ) (big : deckBytes < k) where
 
   -- ---- ONE CALL
 
-  step : {s m : Standing} {piece text line repair day : List ℕ} {taken : ℕ} (rest more : List ℕ) → Stands k s line repair day → Hears s piece m taken text
+  step : {s m : Standing} {piece text line repair day : List ℕ} {taken : ℕ} (rest more : List ℕ) → Stands k s line repair day
+      → Hears s piece m taken text
       → ((l r d : List ℕ) → Stands k m l r d → Claims (m .desk .stage) r d (l ++ rest) more)
       → Claims (s .desk .stage) repair day (line ++ (take taken piece ++ rest)) (text ++ more)
   step {s} {m} {piece} {text} {line} {repair} {day} {taken} rest more w h on = by (h .cut .whole) refl (h .turns)

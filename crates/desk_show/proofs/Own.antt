@@ -52,7 +52,8 @@ one-clean (x ∷ e) own l h = one-clean e own l (h .1)
 pub own-cards : (id s : List ℕ) {from : ℕ} {part : List ℕ} (v : FirstOf id (deckGroups s) from part) → cardsOf part ≡ v .own
 own-cards id s v =
     let all : AllClean (deckGroups s) = groups-clean (before (cardsOf s)) (before-clean (cardsOf s) (lines-clean s)) in
-    ap cardsOf (v .bytes) ∙ lines-again (v .own) (one-clean (v .earlier) (v .own) (v .later) (subst (λ (gs : List (List (List ℕ))). AllClean gs) (v .among) all))
+    ap cardsOf (v .bytes) ∙ lines-again (v .own)
+    (one-clean (v .earlier) (v .own) (v .later) (subst (λ (gs : List (List (List ℕ))). AllClean gs) (v .among) all))
 
 -- ---- a group that has an ID has a byte
 has-byte : (id : List ℕ) (own : List (List ℕ)) → hasId id own ≡ true → 1 ≤ length (linesText own)
@@ -106,7 +107,8 @@ module _ (id repair day : List ℕ) {r : Extent} {part : List ℕ} (w : Shows id
   pub nobody-if : r .which ≡ Refused NoGroup → (IsRead repair × IsRead day) × (NoneHas id (deckGroups repair) × NoneHas id (deckGroups day))
   nobody-if e = by (w .answers)
     where
-      by : ShowsFrom id repair day (r .which) (r .from) part → (IsRead repair × IsRead day) × (NoneHas id (deckGroups repair) × NoneHas id (deckGroups day))
+      by : ShowsFrom id repair day (r .which) (r .from) part
+          → (IsRead repair × IsRead day) × (NoneHas id (deckGroups repair) × NoneHas id (deckGroups day))
       by (bad f b z n) = absurd (clash-numbers e f)
       by (ofRepair f d v) = absurd (clash-repair f e)
       by (ofDay f d m v) = absurd (clash-day f e)
@@ -146,7 +148,8 @@ module _ (id repair day : List ℕ) {r : Extent} {part : List ℕ} (w : Shows id
   pub day-if : r .which ≡ Day → (IsRead repair × IsRead day) × (NoneHas id (deckGroups repair) × (NoneHas id (deckGroups day) → ⊥))
   day-if e = by (w .answers)
     where
-      by : ShowsFrom id repair day (r .which) (r .from) part → (IsRead repair × IsRead day) × (NoneHas id (deckGroups repair) × (NoneHas id (deckGroups day) → ⊥))
+      by : ShowsFrom id repair day (r .which) (r .from) part
+          → (IsRead repair × IsRead day) × (NoneHas id (deckGroups repair) × (NoneHas id (deckGroups day) → ⊥))
       by (bad f b z n) = absurd (clash-day e f)
       by (ofRepair f d v) = absurd (clash-decks f e)
       by (ofDay f d m v) = (d, (m, λ k. first-none k v))
@@ -192,7 +195,8 @@ module _ (id repair day : List ℕ) {r : Extent} {part : List ℕ} (w : Shows id
   pub day-cards : r .which ≡ Day → NoneHas id (deckGroups repair) × ((v : FirstOf id (deckGroups day) (r .from) part) × (cardsOf part ≡ v .own))
   day-cards e = by (w .answers)
     where
-      by : ShowsFrom id repair day (r .which) (r .from) part → NoneHas id (deckGroups repair) × ((v : FirstOf id (deckGroups day) (r .from) part) × (cardsOf part ≡ v .own))
+      by : ShowsFrom id repair day (r .which) (r .from) part
+          → NoneHas id (deckGroups repair) × ((v : FirstOf id (deckGroups day) (r .from) part) × (cardsOf part ≡ v .own))
       by (bad f b z n) = absurd (clash-day e f)
       by (ofRepair f d v) = absurd (clash-decks f e)
       by (ofDay f d m v) = (m, (v, own-cards id day v))

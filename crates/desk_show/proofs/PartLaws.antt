@@ -42,7 +42,8 @@ module _ (id s : List ℕ) (n : ℕ) (e : deckEnd s ≡ Ends.At n) where
     first-in : FirstOf id (deckGroups s) from (take len (drop from s))
     first-in =
         subst (λ (gs : List (List (List ℕ))). FirstOf id gs from (take len (drop from s))) groups-are
-        (subst (λ (part : List ℕ). FirstOf id (groupsIn (take n s)) from part) (part-front s from len n (omega (arith, w .within, length-take n s))) (w .first))
+        (subst (λ (part : List ℕ). FirstOf id (groupsIn (take n s)) from part)
+        (part-front s from len n (omega (arith, w .within, length-take n s))) (w .first))
 
     long-in : len ≡ length (take len (drop from s))
     long-in = sym (length-take-le len (drop from s) (omega (arith, w .within, length-take n s, length-drop from s)))
@@ -102,7 +103,8 @@ clipped-part s from len =
     (λ long.
     let b : min (from + len) (length s) - from ≡ length s - from = omega arith in
     rw (a, b)
-    (take-all (length s - from) (drop from s) (omega (arith, length-drop from s)) ∙ sym (take-all len (drop from s) (omega (arith, length-drop from s)))))
+    (take-all (length s - from) (drop from s) (omega (arith, length-drop from s))
+    ∙ sym (take-all len (drop from s) (omega (arith, length-drop from s)))))
     (eq-zero-or-pos (from + len - length s)))
     (eq-zero-or-pos (length s - from))
 

@@ -53,7 +53,8 @@ module _ {id cards : List ℕ} {from : ℕ} (w : Seeking id cards from) where
   seek-end h = none-left (rw (drop-of-length-le cards h))
 
   -- the group that the code has found
-  module _ {g : List ℕ} (is : g ≡ take (groupSize (take (length cards - from) (drop from cards))) (take (length cards - from) (drop from cards))) where
+  module _ {g : List ℕ}
+      (is : g ≡ take (groupSize (take (length cards - from) (drop from cards))) (take (length cards - from) (drop from cards))) where
     group-is : g ≡ take (groupSize (drop from cards)) (drop from cards)
     group-is = is ∙ ap (λ (l : List ℕ). take (groupSize l) l) (rest-is cards from)
 
@@ -90,7 +91,8 @@ module _ {id cards : List ℕ} {from : ℕ} (w : Seeking id cards from) where
         seek-turn f = record {
           within = seek-within;
           earlier = w .earlier ++ (cardsOf g ∷ []);
-          among = w .among ∙ ap (λ (l : List (List (List ℕ))). w .earlier ++ l) next ∙ sym (append-assoc (w .earlier) (cardsOf g ∷ []) (groupsIn (drop (from + length g) cards)));
+          among = w .among ∙ ap (λ (l : List (List (List ℕ))). w .earlier ++ l) next
+              ∙ sym (append-assoc (w .earlier) (cardsOf g ∷ []) (groupsIn (drop (from + length g) cards)));
           others = none-one id (w .earlier) (cardsOf g) (w .others) (sym has ∙ f);
           start = omega (arith, w .start, text-one (w .earlier) (cardsOf g), ap length text);
         }

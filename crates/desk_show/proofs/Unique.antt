@@ -12,7 +12,8 @@ use Rattle.numbers.specs.declared.Refusal.the-variants.{BadDeck}
 use Rattle.words.specs.Lines.{linesText}
 use Rattle.cards_fields.specs.Deck.{deckEnd}
 use Rattle.cards_fields.specs.declared.DeckEnd.the-variants as Ends
-use Rattle.desk_show.specs.Showing.{hasId, NoneHas, groupsText, FirstOf, IsBad, IsRead, ShowsFrom, bad, ofRepair, ofDay, nobody, partOf, Shows, Shown}
+use Rattle.desk_show.specs.Showing.{hasId, NoneHas, groupsText, FirstOf, IsBad, IsRead, ShowsFrom, bad}
+use Rattle.desk_show.specs.Showing.{ofRepair, ofDay, nobody, partOf, Shows, Shown}
 use Rattle.desk_show.specs.declared.Which.{Which}
 use Rattle.desk_show.specs.declared.Extent.{Extent}
 
@@ -32,13 +33,15 @@ split-one id (x ∷ e) (y ∷ e′) own own′ l l′ q n h n′ h′ =
 first-one : {id : List ℕ} {gs : List (List (List ℕ))} {from from′ : ℕ} {part part′ : List ℕ} → FirstOf id gs from part → FirstOf id gs from′ part′
     → (from ≡ from′) × (part ≡ part′)
 first-one {id} v w =
-    let r = split-one id (v .earlier) (w .earlier) (v .own) (w .own) (v .later) (w .later) (sym (v .among) ∙ w .among) (v .others) (v .its) (w .others) (w .its) in (
+    let r = split-one id (v .earlier) (w .earlier) (v .own) (w .own) (v .later) (w .later) (sym (v .among) ∙ w .among) (v .others) (v .its)
+    (w .others) (w .its) in (
       v .start ∙ ap (λ (e : List (List (List ℕ))). length (groupsText e)) (r .0) ∙ sym (w .start),
       v .bytes ∙ ap linesText (r .1) ∙ sym (w .bytes),
     )
 
 -- where none has the ID there is no first
-has-none : (id : List ℕ) (e : List (List (List ℕ))) (own : List (List ℕ)) (l gs : List (List (List ℕ))) → gs ≡ e ++ (own ∷ l) → hasId id own ≡ true → NoneHas id gs → ⊥
+has-none : (id : List ℕ) (e : List (List (List ℕ))) (own : List (List ℕ)) (l gs : List (List (List ℕ))) → gs ≡ e ++ (own ∷ l)
+    → hasId id own ≡ true → NoneHas id gs → ⊥
 has-none id [] own l [] q h n = let z : _≡_ {A = ℕ} 0 1 = cc in absurd (omega arith)
 has-none id (x ∷ e) own l [] q h n = let z : _≡_ {A = ℕ} 0 1 = cc in absurd (omega arith)
 has-none id [] own l (g ∷ gs) q h n = let i : g ≡ own = cc in never h (ap (hasId id) (sym i) ∙ n .0)
@@ -67,17 +70,23 @@ answers-one {repair = repair} {day = day} (bad e b z n) (ofRepair e′ d v) = ab
 answers-one {repair = repair} {day = day} (bad e b z n) (ofDay e′ d m v) = absurd (not-both repair day b d)
 answers-one {repair = repair} {day = day} (bad e b z n) (nobody e′ d m z′ n′) = absurd (not-both repair day b d)
 answers-one {repair = repair} {day = day} (ofRepair e d v) (bad e′ b z n) = absurd (not-both repair day b d)
-answers-one {repair = repair} {day = day} (ofRepair e d v) (ofRepair e′ d′ v′) = let r = first-one v v′ in record { which· = e ∙ sym e′; from· = r .0; part· = r .1 }
+answers-one {repair = repair} {day = day} (ofRepair e d v) (ofRepair e′ d′ v′) =
+    let r = first-one v v′ in record { which· = e ∙ sym e′; from· = r .0; part· = r .1 }
 answers-one {repair = repair} {day = day} (ofRepair e d v) (ofDay e′ d′ m v′) = absurd (first-none m v)
 answers-one {repair = repair} {day = day} (ofRepair e d v) (nobody e′ d′ m z n) = absurd (first-none (m .0) v)
 answers-one {repair = repair} {day = day} (ofDay e d m v) (bad e′ b z n) = absurd (not-both repair day b d)
 answers-one {repair = repair} {day = day} (ofDay e d m v) (ofRepair e′ d′ v′) = absurd (first-none m v′)
-answers-one {repair = repair} {day = day} (ofDay e d m v) (ofDay e′ d′ m′ v′) = let r = first-one v v′ in record { which· = e ∙ sym e′; from· = r .0; part· = r .1 }
+answers-one {repair = repair} {day = day} (ofDay e d m v) (ofDay e′ d′ m′ v′) =
+    let r = first-one v v′ in record { which· = e ∙ sym e′; from· = r .0; part· = r .1 }
 answers-one {repair = repair} {day = day} (ofDay e d m v) (nobody e′ d′ m′ z n) = absurd (first-none (m′ .1) v)
 answers-one {repair = repair} {day = day} (nobody e d m z n) (bad e′ b z′ n′) = absurd (not-both repair day b d)
 answers-one {repair = repair} {day = day} (nobody e d m z n) (ofRepair e′ d′ v) = absurd (first-none (m .0) v)
 answers-one {repair = repair} {day = day} (nobody e d m z n) (ofDay e′ d′ m′ v) = absurd (first-none (m .1) v)
-answers-one {repair = repair} {day = day} (nobody e d m z n) (nobody e′ d′ m′ z′ n′) = record { which· = e ∙ sym e′; from· = z ∙ sym z′; part· = n ∙ sym n′ }
+answers-one {repair = repair} {day = day} (nobody e d m z n) (nobody e′ d′ m′ z′ n′) = record {
+  which· = e ∙ sym e′;
+  from· = z ∙ sym z′;
+  part· = n ∙ sym n′;
+}
 
 found-is : (w w′ : Which) (f f′ l l′ : ℕ) → w ≡ w′ → f ≡ f′ → l ≡ l′
     → _≡_ {A = Extent} (record { which = w; from = f; len = l }) (record { which = w′; from = f′; len = l′ })
@@ -93,5 +102,6 @@ shows-one {r = r} {r′ = r′} v w =
     )
 
 -- so what is shown is the part of what is found
-pub tied : {id repair day part : List ℕ} {r : Extent} → Shows id repair day r (partOf r repair day) → Shown id repair day part → part ≡ partOf r repair day
+pub tied : {id repair day part : List ℕ} {r : Extent} → Shows id repair day r (partOf r repair day) → Shown id repair day part
+    → part ≡ partOf r repair day
 tied v w = sym (shows-one v (w .shows) .1)

@@ -111,7 +111,8 @@ legal-at k c h =
     let l : rowOf k * 64 + c < length legalTable = omega (arith, long) in
     let d : (rowOf k * 64 + c) / 64 ≡ rowOf k = omega arith in
     let m : (rowOf k * 64 + c) % 64 ≡ c = omega arith in
-    let t = same→eq (getD legalTable (rowOf k * 64 + c) false) (legalOf (kindIn ((rowOf k * 64 + c) / 64)) ((rowOf k * 64 + c) % 64)) (at false right legalTable tested (rowOf k * 64 + c) l) in
+    let t = same→eq (getD legalTable (rowOf k * 64 + c) false) (legalOf (kindIn ((rowOf k * 64 + c) / 64)) ((rowOf k * 64 + c) % 64))
+    (at false right legalTable tested (rowOf k * 64 + c) l) in
     t ∙ cc (ap kindIn d, row-kind k)
 
 eq→T : {b : Bool} → b ≡ true → T b

@@ -12,7 +12,8 @@ use Rattle.words.proofs.WordLaws.{leading-most, leading-front}
 use Rattle.words.specs.Lines.{lineOf}
 use Rattle.input_lines.specs.Lines.{TakesUp}
 
-module _ {line after : List ℕ} {kept n end : ℕ} (piece : List ℕ) (e : n ≡ length (lineOf piece)) (w : Written line kept (take n piece) after end) where
+module _ {line after : List ℕ} {kept n end : ℕ} (piece : List ℕ) (e : n ≡ length (lineOf piece))
+    (w : Written line kept (take n piece) after end) where
   put : Written line kept (lineOf piece) after end
   put = subst (λ (text : List ℕ). Written line kept text after end) (ap (λ (m : ℕ). take m piece) e ∙ leading-front (isnt 10) piece) w
 

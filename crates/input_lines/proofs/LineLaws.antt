@@ -36,7 +36,8 @@ module _ {line piece after : List ℕ} {kept : ℕ} {r : Cut} (t : TakesUp line 
       omega (arith, ltb-false (length (lineOf piece)) (length piece) v, leading-most (isnt 10) piece)
 
 -- the same of what a piece has from a position on
-pub taken-within : {line after : List ℕ} {kept : ℕ} {r : Cut} (s : List ℕ) (at : ℕ) → at < length s → TakesUp line kept (take (length s - at) (drop at s)) after r
+pub taken-within : {line after : List ℕ} {kept : ℕ} {r : Cut} (s : List ℕ) (at : ℕ) → at < length s
+    → TakesUp line kept (take (length s - at) (drop at s)) after r
     → (at + r .taken ≤ length s) × (0 < r .taken)
 taken-within s at h t =
     let n = length-take (length s - at) (drop at s) in
@@ -47,6 +48,7 @@ pub in-pieces : (p : ℕ → Bool) (a b : List ℕ) → leading p a ≡ a → le
 in-pieces p [] b h = refl
 in-pieces p (x ∷ a) b h = by (p x) h (in-pieces p a b)
   where
-    by : (t : Bool) → cond t (x ∷ leading p a) [] ≡ x ∷ a → (leading p a ≡ a → leading p (a ++ b) ≡ a ++ leading p b) → cond t (x ∷ leading p (a ++ b)) [] ≡ x ∷ (a ++ leading p b)
+    by : (t : Bool) → cond t (x ∷ leading p a) [] ≡ x ∷ a → (leading p a ≡ a → leading p (a ++ b) ≡ a ++ leading p b)
+        → cond t (x ∷ leading p (a ++ b)) [] ≡ x ∷ (a ++ leading p b)
     by true h ih = ap (λ (l : List ℕ). x ∷ l) (ih cc)
     by false h ih = absurd (omega (arith, ap length h))

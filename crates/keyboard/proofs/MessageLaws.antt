@@ -91,7 +91,8 @@ no-more [] zero = refl
 no-more [] (suc k) = sym (le-leb 0 (suc k) (omega arith))
 no-more (w ∷ ws) k = by-bool (ltb 0 (length w)) (λ t. rw t (here k t (no-more ws))) (λ t. rw t (no-more ws k))
   where
-    here : (k : ℕ) → ltb 0 (length w) ≡ true → ((j : ℕ) → eqb (length (getD (filled ws) j [])) 0 ≡ leb (length (filled ws)) j) → eqb (length (getD (w ∷ filled ws) k [])) 0 ≡ leb (suc (length (filled ws))) k
+    here : (k : ℕ) → ltb 0 (length w) ≡ true → ((j : ℕ) → eqb (length (getD (filled ws) j [])) 0 ≡ leb (length (filled ws)) j)
+        → eqb (length (getD (w ∷ filled ws) k [])) 0 ≡ leb (suc (length (filled ws))) k
     here zero t ih = ne-eqb (length w) 0 (λ z. omega (arith, ltb-true 0 (length w) t)) ∙ sym (lt-leb (suc (length (filled ws))) 0 (omega arith))
     here (suc k) t ih = ih k ∙ sym (suc-leb (length (filled ws)) k)
 
@@ -101,7 +102,8 @@ module _ (s mc first : List ℕ) (most : ℕ) (is : first ≡ getD (messageWords
   unfolding isMessage
   other-word e = rw (← is, e)
 
-  pub this-word : same first mc ≡ true → (after : List ℕ) → after ≡ getD (messageWords s) most [] → eqb (length after) 0 ≡ isMessage mc most (messageWords s)
+  pub this-word : same first mc ≡ true → (after : List ℕ) → after ≡ getD (messageWords s) most []
+      → eqb (length after) 0 ≡ isMessage mc most (messageWords s)
   unfolding isMessage messageWords
   this-word e after a = ap (λ (w : List ℕ). eqb (length w) 0) a ∙ no-more (Forms.wordsOf s) most ∙ rw (← is, e)
 
@@ -135,7 +137,14 @@ module _ (letter : ℕ) (large : Fault) (field : List ℕ) where
 
         pub field-large : 15 < n → Wrong large ≡ numberField letter large field
         unfolding numberField
-        field-large l = rw (lt-leb (length field) 1 h, ← is, eq-eqb first letter e, digits-are true k, lt-ltb 15 (value (drop 1 field)) (omega (arith, small)))
+        field-large l =
+            rw (
+              lt-leb (length field) 1 h,
+              ← is,
+              eq-eqb first letter e,
+              digits-are true k,
+              lt-ltb 15 (value (drop 1 field)) (omega (arith, small)),
+            )
 
         pub field-is : n ≤ 15 → Is n ≡ numberField letter large field
         unfolding numberField

@@ -106,9 +106,17 @@ unfolding messageOf isMessage
 read-back Unknown id h = absurd h
 read-back (Wrong word fault) id h = absurd h
 read-back (Mark channel unit true) id h =
-    rw (h .0, unit-words (bytes "DWN") (channel .0) (unit .0) (omega arith) refl (h .1) (h .2), unit-back Dwn true (bytes "DWN") (channel .0) (unit .0) (h .1) (h .2))
+    rw (
+      h .0,
+      unit-words (bytes "DWN") (channel .0) (unit .0) (omega arith) refl (h .1) (h .2),
+      unit-back Dwn true (bytes "DWN") (channel .0) (unit .0) (h .1) (h .2),
+    )
 read-back (Mark channel unit false) id h =
-    rw (h .0, unit-words (bytes "AVL") (channel .0) (unit .0) (omega arith) refl (h .1) (h .2), unit-back Avl false (bytes "AVL") (channel .0) (unit .0) (h .1) (h .2))
+    rw (
+      h .0,
+      unit-words (bytes "AVL") (channel .0) (unit .0) (omega arith) refl (h .1) (h .2),
+      unit-back Avl false (bytes "AVL") (channel .0) (unit .0) (h .1) (h .2),
+    )
 read-back Release id h = rw (request-words (bytes "SEL") id (omega arith) refl h, request-back Sel Release (bytes "SEL") id h)
 read-back Delete id h = rw (request-words (bytes "DEL") id (omega arith) refl h, request-back Del Delete (bytes "DEL") id h)
 
@@ -159,20 +167,42 @@ module _ (word : List ℕ) (fields : List (List ℕ)) where
   unfolding fieldsOf
   known-tests =
       by-bool (same word (bytes "DWN"))
-      (λ a. rw (is-word (bytes "DWN") 2 a, other (bytes "DWN") (bytes "AVL") 3 a refl, other (bytes "DWN") (bytes "SEL") 2 a refl, other (bytes "DWN") (bytes "DEL") 2 a refl, a)
+      (λ a. rw (
+        is-word (bytes "DWN") 2 a,
+        other (bytes "DWN") (bytes "AVL") 3 a refl,
+        other (bytes "DWN") (bytes "SEL") 2 a refl,
+        other (bytes "DWN") (bytes "DEL") 2 a refl,
+        a,
+      )
       (or-false (leb (length fields) 2)))
       (λ a. by-bool (same word (bytes "AVL"))
-      (λ b. rw (no-word (bytes "DWN") 3 a, is-word (bytes "AVL") 2 b, other (bytes "AVL") (bytes "SEL") 2 b refl, other (bytes "AVL") (bytes "DEL") 2 b refl, a, b)
+      (λ b. rw (
+        no-word (bytes "DWN") 3 a,
+        is-word (bytes "AVL") 2 b,
+        other (bytes "AVL") (bytes "SEL") 2 b refl,
+        other (bytes "AVL") (bytes "DEL") 2 b refl,
+        a,
+        b,
+      )
       (or-false (leb (length fields) 2)))
       (λ b. by-bool (same word (bytes "SEL"))
-      (λ e. rw (no-word (bytes "DWN") 3 a, no-word (bytes "AVL") 3 b, is-word (bytes "SEL") 1 e, other (bytes "SEL") (bytes "DEL") 2 e refl, a, b, e)
+      (λ e. rw (
+        no-word (bytes "DWN") 3 a,
+        no-word (bytes "AVL") 3 b,
+        is-word (bytes "SEL") 1 e,
+        other (bytes "SEL") (bytes "DEL") 2 e refl,
+        a,
+        b,
+        e,
+      )
       (or-false (leb (length fields) 1)))
       (λ e. by-bool (same word (bytes "DEL"))
       (λ f. rw (no-word (bytes "DWN") 3 a, no-word (bytes "AVL") 3 b, no-word (bytes "SEL") 2 e, is-word (bytes "DEL") 1 f, a, b, e, f))
       (λ f. rw (no-word (bytes "DWN") 3 a, no-word (bytes "AVL") 3 b, no-word (bytes "SEL") 2 e, no-word (bytes "DEL") 2 f, a, b, e, f)))))
 
 -- where one of them holds the message is read as known, and where none does as unknown
-read-known : (ws : List (List ℕ)) → isMessage (bytes "DWN") 3 ws || (isMessage (bytes "AVL") 3 ws || (isMessage (bytes "SEL") 2 ws || isMessage (bytes "DEL") 2 ws))
+read-known : (ws : List (List ℕ))
+    → isMessage (bytes "DWN") 3 ws || (isMessage (bytes "AVL") 3 ws || (isMessage (bytes "SEL") 2 ws || isMessage (bytes "DEL") 2 ws))
     ≡ isKnown (messageOf ws .asks)
 unfolding messageOf
 read-known ws =

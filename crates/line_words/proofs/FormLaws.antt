@@ -84,7 +84,8 @@ tens-most i (suc k) = let e : i + suc k ≡ suc (i + k) = omega arith in rw e (o
 pub tens-nine : (i k : ℕ) → i ≤ k → tens i ≤ tens k
 tens-nine i k h = let e : i + (k - i) ≡ k = omega arith in rw e at (tens-most i (k - i))
 
-pub value-step : (base : ℕ) (s : List ℕ) (i n : ℕ) → i < length s → valueIn base n (drop i s) ≡ valueIn base (n * base + (getD s i 0 - 48)) (drop (i + 1) s)
+pub value-step : (base : ℕ) (s : List ℕ) (i n : ℕ) → i < length s
+    → valueIn base n (drop i s) ≡ valueIn base (n * base + (getD s i 0 - 48)) (drop (i + 1) s)
 value-step base s i n h = rw (drop-step s i h)
 
 pub value-end : (base : ℕ) (s : List ℕ) (i n : ℕ) → length s ≤ i → valueIn base n (drop i s) ≡ n

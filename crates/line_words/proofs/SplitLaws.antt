@@ -37,8 +37,10 @@ unfolding wordsOf
 first-word [] h = absurd (omega arith)
 first-word (b ∷ s) h = test (eqb b 32) (first-word s) h
   where
-    test : (x : Bool) → (length (lead s) < length s → wordsOf s ≡ lead s ∷ wordsOf (drop (suc (length (lead s))) s)) → length (cond (not x) (b ∷ lead s) []) < suc (length s)
-        → cond x ([] ∷ wordsOf s) (onto b (wordsOf s)) ≡ cond (not x) (b ∷ lead s) [] ∷ wordsOf (drop (suc (length (cond (not x) (b ∷ lead s) []))) (b ∷ s))
+    test : (x : Bool) → (length (lead s) < length s → wordsOf s ≡ lead s ∷ wordsOf (drop (suc (length (lead s))) s))
+        → length (cond (not x) (b ∷ lead s) []) < suc (length s)
+        → cond x ([] ∷ wordsOf s) (onto b (wordsOf s))
+        ≡ cond (not x) (b ∷ lead s) [] ∷ wordsOf (drop (suc (length (cond (not x) (b ∷ lead s) []))) (b ∷ s))
     test true ih h = refl
     test false ih h = rw (ih (le-of-suc-le-suc h))
 
@@ -56,7 +58,8 @@ word s at h len is =
     let m : at + len ≤ length s = omega (arith, leading-most (isnt 32) (drop at s), length-drop at s) in
     let k : at + suc (length (lead (drop at s))) ≡ at + len + 1 = omega arith in
     let f : lead (drop at s) ≡ take len (drop at s) = sym (leading-front (isnt 32) (drop at s)) ∙ ap (λ (m : ℕ). take m (drop at s)) (sym n) in
-    let w : wordsOf (drop at s) ≡ lead (drop at s) ∷ [] → wordsOf (drop at s) ≡ take len (drop at s) ∷ [] = λ e. e ∙ ap (λ (l : List ℕ). l ∷ []) f in
+    let w : wordsOf (drop at s) ≡ lead (drop at s) ∷ [] → wordsOf (drop at s) ≡ take len (drop at s) ∷ [] =
+    λ e. e ∙ ap (λ (l : List ℕ). l ∷ []) f in
     ⊎-elim
     (λ e. record {
       most = m;
@@ -68,7 +71,8 @@ word s at h len is =
     (λ e. record {
       most = m;
       rest = wordsOf (drop (at + len + 1) s);
-      first = first-word (drop at s) (omega (arith, length-drop at s)) ∙ rw (drop-drop (suc (length (lead (drop at s)))) at s, k) (ap (λ (l : List ℕ). l ∷ wordsOf (drop (at + len + 1) s)) f);
+      first = first-word (drop at s) (omega (arith, length-drop at s))
+          ∙ rw (drop-drop (suc (length (lead (drop at s)))) at s, k) (ap (λ (l : List ℕ). l ∷ wordsOf (drop (at + len + 1) s)) f);
       last = λ q. absurd (omega arith);
       more = λ q. refl;
     })
@@ -86,10 +90,12 @@ module _ (s : List ℕ) (at len left : ℕ) (w : Word s at len) where
       past zero n = absurd (n refl)
       past (suc k) n = refl
 
-  pub at-later : (left ≡ 0 → ⊥) → (at + len ≡ length s → ⊥) → getD (wordsOf (drop (at + len + 1) s)) (left - 1) [] ≡ getD (wordsOf (drop at s)) left []
+  pub at-later : (left ≡ 0 → ⊥) → (at + len ≡ length s → ⊥)
+      → getD (wordsOf (drop (at + len + 1) s)) (left - 1) [] ≡ getD (wordsOf (drop at s)) left []
   at-later n e = rw (w .first, w .more (omega (arith, w .most))) (later left n)
     where
-      later : (k : ℕ) → (k ≡ 0 → ⊥) → getD (wordsOf (drop (at + len + 1) s)) (k - 1) [] ≡ getD (take len (drop at s) ∷ wordsOf (drop (at + len + 1) s)) k []
+      later : (k : ℕ) → (k ≡ 0 → ⊥) → getD (wordsOf (drop (at + len + 1) s)) (k - 1) []
+          ≡ getD (take len (drop at s) ∷ wordsOf (drop (at + len + 1) s)) k []
       later zero n = absurd (n refl)
       later (suc k) n = let p : suc k - 1 ≡ k = omega arith in rw p
 
@@ -110,7 +116,8 @@ module _ (s t : List ℕ) (at len on size : ℕ) (w : Word s at len) (f : Word t
   fit-last e h =
       ⊎-elim
       (λ q. rw (first-fits true e, w .last (omega arith), f .last (omega arith), eq-eqb (on + size) (length t) q))
-      (λ q. rw (first-fits true e, w .last (omega arith), f .more q, ne-eqb (on + size) (length t) (λ z. omega arith)) (some (drop (on + size + 1) t)))
+      (λ q. rw (first-fits true e, w .last (omega arith), f .more q, ne-eqb (on + size) (length t) (λ z. omega arith))
+      (some (drop (on + size + 1) t)))
       (eq-or-lt-of-le (f .most))
     where
       some : (s : List ℕ) → false ≡ fitting (wordsOf s) []

@@ -19,7 +19,8 @@ use Rattle.channels.specs.declared.Fitted.the-variants.{Nothing}
 use Rattle.packets.proofs.Laws.{and-left, passes}
 use Rattle.packets.specs.Rules.{Call, Take, accept, always, answer, closed, closing, cut, first, freshJob, leaving, reaches, refusal, returnIfDone}
 use Rattle.packets.proofs.ByNumber.{End, Mark}
-use Rattle.packets.specs.State.{State, close, configured, fittedOn, isEmpty, isThereOf, isRunning, jobIn, noJob, relist, releaseAll, stateIn, sweep, takeAll, wanted}
+use Rattle.packets.specs.State.{State, close, configured, fittedOn, isEmpty, isThereOf, isRunning, jobIn}
+use Rattle.packets.specs.State.{noJob, relist, releaseAll, stateIn, sweep, takeAll, wanted}
 use Rattle.packets.specs.declared.Acted.{Acted}
 use Rattle.packets.specs.declared.Answer.{Answer}
 use Rattle.packets.specs.declared.Answer.the-variants.{Closed, Done, Refused}
@@ -73,7 +74,8 @@ relisted-is r full j ps left R =
 -- ---- a job's end
 
 module _ (r : Lists) (j : ℕ) (err : Bool) where
-  pub end-verdict : (v : Verdict) → v ≡ first (not (ltb j 16)) OutOfRange (first (not (isRunning (getD (r .jobs) (j % 16) noJob .state))) NoJob Granted)
+  pub end-verdict : (v : Verdict) → v
+      ≡ first (not (ltb j 16)) OutOfRange (first (not (isRunning (getD (r .jobs) (j % 16) noJob .state))) NoJob Granted)
       → refusal (stateOf r) (End j err) ≡ v
   unfolding refusal stateIn
   end-verdict v e = by-bool (ltb j 16) (λ t. rw (e, t, small-is j t)) (λ t. rw (e, t))
@@ -92,16 +94,26 @@ module _ (r : Lists) (j : ℕ) (err : Bool) where
     shut-is : closed (stateOf r) j err ≡ focus (stateOf r) j shutJob shutList
     shut-is =
         ap (λ (s : State). close (sweep s j always cut) j (closing err)) (focus-self (stateOf r) j)
-        ∙ ap (λ (s : State). close s j (closing err)) (focus-sweep (stateOf r) j (omega (arith, size, small)) (jobIn (r .jobs) j) (listOf (r .list)) always cut)
+        ∙ ap (λ (s : State). close s j (closing err))
+        (focus-sweep (stateOf r) j (omega (arith, size, small)) (jobIn (r .jobs) j) (listOf (r .list)) always cut)
         ∙ focus-close (stateOf r) j (omega (arith, size, small)) _ _ (closing err)
 
     pub end-is : (shut : Ending) → shut ≡ endingOf (closedJob (getD (r .jobs) (j % 16) noJob) err) (r .moving) j
         → (left : RequestList) → left ≡ padded (relist j (shut .job .packets) (listOf (r .list)))
         → (units : Units) → units ≡ unitsFrom (cond (shut .done) (releaseAll (r .units .of) j) (r .units .of))
-        → _≡_ {A = Acted} (record {
-          lists = record { channels = r .channels; codes = r .codes; jobs = set (r .jobs) (j % 16) (shut .job); list = left; moving = r .moving; units = units };
+        → _≡_ {A = Acted}
+        (record {
+          lists = record {
+            channels = r .channels;
+            codes = r .codes;
+            jobs = set (r .jobs) (j % 16) (shut .job);
+            list = left;
+            moving = r .moving;
+            units = units;
+          };
           answer = Closed j (shut .leaving);
-        }) (outcome r (End j err))
+        })
+        (outcome r (End j err))
     unfolding accept answer
     end-is shut e left l units u =
         let k : j % 16 ≡ j = omega (arith, small) in
@@ -121,17 +133,27 @@ module _ (r : Lists) (j : ℕ) (asg : Assignment) where
   pub take-is : refusal (stateOf r) (Take j asg) ≡ Granted
       → (job : Job) → job ≡ freshJob asg
       → (units : Units) → units ≡ unitsFrom (takeAll (r .units .of) j (wanted asg))
-      → _≡_ {A = Acted} (record {
-        lists = record { channels = r .channels; codes = r .codes; jobs = set (r .jobs) (j % 16) job; list = r .list; moving = r .moving; units = units };
+      → _≡_ {A = Acted}
+      (record {
+        lists = record {
+          channels = r .channels;
+          codes = r .codes;
+          jobs = set (r .jobs) (j % 16) job;
+          list = r .list;
+          moving = r .moving;
+          units = units;
+        };
         answer = Done;
-      }) (outcome r (Take j asg))
+      })
+      (outcome r (Take j asg))
   unfolding accept answer
   take-is granted job e units u =
       let k : j % 16 ≡ j = small-is j small in
       granted-is r (Take j asg) granted _ _ (rw (e, u, k)) refl
     where
       small : ltb j 16 ≡ true
-      small = unfold refusal in and-left (ltb j 16) _ (not-false _ (passes (not (ltb j 16 && isEmpty (stateIn (r .jobs) j))) NoPlaceFree Granted granted .0))
+      small = unfold refusal in
+          and-left (ltb j 16) _ (not-false _ (passes (not (ltb j 16 && isEmpty (stateIn (r .jobs) j))) NoPlaceFree Granted granted .0))
 
 -- ---- marks
 

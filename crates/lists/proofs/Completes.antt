@@ -15,9 +15,12 @@ use Rattle.units.specs.declared.Units.{Units}
 use Rattle.channels.specs.declared.Channel.{Channel}
 use Rattle.channels.specs.declared.Fitted.the-variants.{Nothing}
 use Rattle.packets.proofs.Laws.{and-left, and-right, neither, passes}
-use Rattle.packets.specs.Rules.{accept, answer, isAt, broken, codeFor, completed, completes, failed, finished, first, freeIfReturning, isTrouble, isWrong, leaving, over, refusal, returnIfDone}
+use Rattle.packets.specs.Rules.{accept, answer, isAt, broken, codeFor, completed, completes, failed, finished, first}
+use Rattle.packets.specs.Rules.{freeIfReturning, isTrouble, isWrong, leaving, over, refusal, returnIfDone}
 use Rattle.packets.proofs.ByNumber.{Complete}
-use Rattle.packets.specs.State.{State, blank, carrying, configured, isIdle, isListed, isThereOf, isUnit, jobIn, lock, motionOn, movingStatus, move, noJob, packetIn, relist, restatus, setLock, store, sweep, unitAt, withPackets, withStatus}
+use Rattle.packets.specs.State.{State, blank, carrying, configured, isIdle, isListed, isThereOf, isUnit, jobIn, lock, motionOn}
+use Rattle.packets.specs.State.{movingStatus, move, noJob, packetIn, relist, restatus, setLock, store, sweep, unitAt, withPackets}
+use Rattle.packets.specs.State.{withStatus}
 use Rattle.packets.proofs.Told.{configured-in}
 use Rattle.packets.specs.declared.Acted.{Acted}
 use Rattle.packets.specs.declared.Answer.the-variants.{Completed}
@@ -40,7 +43,8 @@ use Rattle.packets_queue.specs.Padded.{listOf, padded}
 use Rattle.packets_job.specs.Aims.{statusSet}
 use Rattle.packets_end.specs.Over.{brokenFor, endingOf, overJob}
 use Rattle.lists.proofs.Calls.{granted-is, on-is, small-is}
-use Rattle.lists.proofs.Focus.{ending-packets, fewer-map, focus, focus-leaving, focus-return, focus-self, focus-store, focus-sweep, relist-twice, reunit}
+use Rattle.lists.proofs.Focus.{ending-packets, fewer-map, focus, focus-leaving, focus-return}
+use Rattle.lists.proofs.Focus.{focus-self, focus-store, focus-sweep, relist-twice, reunit}
 use Rattle.lists.specs.Outcomes.{listsOf, outcome, stateOf}
 use Rattle.lists.specs.Parts.{packetNo, placeIn, unitsAfter}
 
@@ -75,7 +79,8 @@ module _ (s : State) (c j p : ℕ) (how : How) (h : j < length (s .jobs)) where
       ap (λ (z : State). store z j p q) (focus-self (move s c Idle) j) ∙ focus-store (move s c Idle) j h job (s .queue) p q
 
   broken-is : broken (over s c j p (codeFor how)) c at j
-      ≡ focus (reunit (move s c Idle) (setLock (s .units) c at true)) j (withPackets job (map (restatus (isAt c at) failed) ended)) (relist j (map (restatus (isAt c at) failed) ended) (s .queue))
+      ≡ focus (reunit (move s c Idle) (setLock (s .units) c at true)) j (withPackets job (map (restatus (isAt c at) failed) ended))
+      (relist j (map (restatus (isAt c at) failed) ended) (s .queue))
   broken-is =
       let qs = map (restatus (isAt c at) failed) ended in
       ap (λ (z : State). lock z c at true)
@@ -86,7 +91,8 @@ module _ (s : State) (c j p : ℕ) (how : How) (h : j < length (s .jobs)) where
   -- what a completion leaves before facilities return
   pub finished-is : let b = isTrouble (s .codes) how && isUnit at in
       let after = overJob job p how c b in
-      finished s c how j p ≡ focus (reunit (move s c Idle) (cond b (setLock (s .units) c at true) (s .units))) j after (relist j (after .packets) (s .queue))
+      finished s c how j p ≡ focus (reunit (move s c Idle) (cond b (setLock (s .units) c at true) (s .units))) j after
+      (relist j (after .packets) (s .queue))
   unfolding packetIn
   finished-is =
       by-bool (isTrouble (s .codes) how && isUnit at)
@@ -98,7 +104,8 @@ busy : (m : Motion) → isIdle m ≡ false → (m ≡ Busy (placeIn m) (packetNo
 busy Idle i = never {b = true} refl i
 busy (Busy a b) i = (refl, ltb-true a 16 (and-left (ltb a 16) _ (not-false _ i)))
 
-same : (s : State) (m : Motion) → isIdle m ≡ false → getD (getD (s .jobs) (placeIn m % 16) noJob .packets) (packetNo m) blank .status ≡ movingStatus s m
+same : (s : State) (m : Motion) → isIdle m ≡ false
+    → getD (getD (s .jobs) (placeIn m % 16) noJob .packets) (packetNo m) blank .status ≡ movingStatus s m
 unfolding packetIn
 same s Idle i = never {b = true} refl i
 same s (Busy j p) i = let k : j % 16 ≡ j = small-is j (and-left (ltb j 16) _ (not-false _ i)) in rw k
@@ -106,7 +113,8 @@ same s (Busy j p) i = let k : j % 16 ≡ j = small-is j (and-left (ltb j 16) _ (
 module _ (r : Lists) (c : ℕ) (how : How) (m : Motion) (is : m ≡ getD (r .moving) (c % 16) (carrying Idle) .motion)
     (j p : ℕ) (ji : j ≡ placeIn m) (pi : p ≡ packetNo m) (q : Packet) (qi : q ≡ getD (getD (r .jobs) (j % 16) noJob .packets) p blank) where
   pub complete-verdict : (on : Channel) → on ≡ getD (r .channels) (c % 16) (record { has = Nothing }) → (v : Verdict)
-      → v ≡ first (not (ltb c 16 && isThereOf (on .has))) OutOfRange (first (isIdle m) NothingInProgress (first (isWrong (q .status) how) WrongCompletion Granted))
+      → v ≡ first (not (ltb c 16 && isThereOf (on .has))) OutOfRange
+      (first (isIdle m) NothingInProgress (first (isWrong (q .status) how) WrongCompletion Granted))
       → refusal (stateOf r) (Complete c how) ≡ v
   unfolding refusal
   complete-verdict on oi v e =
@@ -154,10 +162,19 @@ module _ (r : Lists) (c : ℕ) (how : How) (m : Motion) (is : m ≡ getD (r .mov
         → (over : Ending) → over ≡ endingOf (overJob (getD (r .jobs) (j % 16) noJob) p how c b) (set (r .moving) (c % 16) idle) j
         → (left : RequestList) → left ≡ padded (relist j (over .job .packets) (listOf (r .list)))
         → (units : Units) → units ≡ unitsFrom (unitsAfter (r .units .of) c (q .at) b j (over .done))
-        → _≡_ {A = Acted} (record {
-          lists = record { channels = r .channels; codes = r .codes; jobs = set (r .jobs) (j % 16) (over .job); list = left; moving = set (r .moving) (c % 16) idle; units = units };
+        → _≡_ {A = Acted}
+        (record {
+          lists = record {
+            channels = r .channels;
+            codes = r .codes;
+            jobs = set (r .jobs) (j % 16) (over .job);
+            list = left;
+            moving = set (r .moving) (c % 16) idle;
+            units = units;
+          };
           answer = Completed j p (over .leaving);
-        }) (outcome r (Complete c how))
+        })
+        (outcome r (Complete c how))
     unfolding accept answer packetIn
     complete-is idle i b bi over o left l units u =
         let k : c % 16 ≡ c = (let h = told .0 in omega arith) in
@@ -165,7 +182,8 @@ module _ (r : Lists) (c : ℕ) (how : How) (m : Motion) (is : m ≡ getD (r .mov
         let h : j < length (r .jobs) = omega (arith, size, moves .1) in
         granted-is r (Complete c how) granted _ _
         (rw (l, u, o, bi, qi, i, k, n, ending-packets _ overs)
-        (sym (ap (λ (x : Motion). listsOf (completed (stateOf r) c how x)) (moves .0) ∙ ap (λ (z : State). listsOf (freeIfReturning z c site)) (ap (returnIfDone j) whole ∙ focus-return shut j h overs kept))))
+        (sym (ap (λ (x : Motion). listsOf (completed (stateOf r) c how x)) (moves .0)
+        ∙ ap (λ (z : State). listsOf (freeIfReturning z c site)) (ap (returnIfDone j) whole ∙ focus-return shut j h overs kept))))
         (rw (o, bi, qi, i, k, n)
         (sym (ap (completes (stateOf r) c how) (moves .0) ∙ ap (Completed j p) (ap (leaving j) whole ∙ focus-leaving shut j h overs kept))))
 

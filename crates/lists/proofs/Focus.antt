@@ -12,7 +12,8 @@ use Rattle.packets.specs.Rules.{leaving, returnIfDone}
 use Rattle.packets_end.specs.Over.{endingIf, endingOf}
 use Rattle.numbers.specs.Elements.{keep}
 use lib.Dec.{eqb}
-use Rattle.packets.specs.State.{State, anyMoves, blank, close, isClosing, isKept, isListed, jobIn, noJob, packetOf, placeOf, put, releaseAll, relist, restatus, restatusAll, setState, stateIn, store, sweep, withPackets, withState}
+use Rattle.packets.specs.State.{State, anyMoves, blank, close, isClosing, isKept, isListed, jobIn, noJob, packetOf, placeOf, put}
+use Rattle.packets.specs.State.{releaseAll, relist, restatus, restatusAll, setState, stateIn, store, sweep, withPackets, withState}
 use Rattle.packets.specs.declared.Job.{Job}
 use Rattle.packets.specs.declared.JobState.{JobState}
 use Rattle.packets.specs.declared.JobState.the-variants.{Empty}
@@ -34,7 +35,8 @@ module _ (jobs : List Job) (j : ℕ) (h : j < length jobs) (x : Job) where
   unfolding put
   put-here p y = rw (job-here, set-set jobs j)
 
-  restatus-here : (t : Packet → Bool) (f : Status → Status) → restatusAll (set jobs j x) j t f ≡ set jobs j (withPackets x (map (restatus t f) (x .packets)))
+  restatus-here : (t : Packet → Bool) (f : Status → Status)
+      → restatusAll (set jobs j x) j t f ≡ set jobs j (withPackets x (map (restatus t f) (x .packets)))
   unfolding restatusAll
   restatus-here t f = rw (job-here, set-set jobs j)
 
@@ -43,12 +45,17 @@ module _ (jobs : List Job) (j : ℕ) (h : j < length jobs) (x : Job) where
   state-here t = rw (job-here, set-set jobs j)
 
 module _ (s : State) (j : ℕ) (h : j < length (s .jobs)) (x : Job) (q : List ℕ) where
-  pub focus-store : (p : ℕ) (y : Packet) → store (focus s j x q) j p y ≡ focus s j (withPackets x (set (x .packets) p y)) (relist j (set (x .packets) p y) q)
+  pub focus-store : (p : ℕ) (y : Packet)
+      → store (focus s j x q) j p y ≡ focus s j (withPackets x (set (x .packets) p y)) (relist j (set (x .packets) p y) q)
   focus-store p y = rw (put-here (s .jobs) j h x p y, ap (λ (k : Job). k .packets) (job-here (s .jobs) j h (withPackets x (set (x .packets) p y))))
 
   pub focus-sweep : (t : Packet → Bool) (f : Status → Status)
       → sweep (focus s j x q) j t f ≡ focus s j (withPackets x (map (restatus t f) (x .packets))) (relist j (map (restatus t f) (x .packets)) q)
-  focus-sweep t f = rw (restatus-here (s .jobs) j h x t f, ap (λ (k : Job). k .packets) (job-here (s .jobs) j h (withPackets x (map (restatus t f) (x .packets)))))
+  focus-sweep t f =
+      rw (
+        restatus-here (s .jobs) j h x t f,
+        ap (λ (k : Job). k .packets) (job-here (s .jobs) j h (withPackets x (map (restatus t f) (x .packets)))),
+      )
 
   pub focus-close : (t : JobState) → close (focus s j x q) j t ≡ focus s j (withState x t) q
   focus-close t = rw (state-here (s .jobs) j h x t)
@@ -112,7 +119,8 @@ fewer-set (x ∷ ps) zero y e (suc n) t = t
 fewer-set (x ∷ ps) (suc p) y e zero t = t
 fewer-set (x ∷ ps) (suc p) y e (suc n) t = fewer-set ps p y e n t
 
-pub fewer-map : (ps : List Packet) (t : Packet → Bool) (f : Status → Status) → ((x : Status) → isListed (f x) ≡ true → isListed x ≡ true) → Fewer ps (map (restatus t f) ps)
+pub fewer-map : (ps : List Packet) (t : Packet → Bool) (f : Status → Status) → ((x : Status) → isListed (f x) ≡ true → isListed x ≡ true)
+    → Fewer ps (map (restatus t f) ps)
 fewer-map [] t f k n e = e
 fewer-map (x ∷ ps) t f k zero e = by-bool (t x) (λ d. k (x .status) (rw d at e)) (λ d. rw d at e)
 fewer-map (x ∷ ps) t f k (suc n) e = fewer-map ps t f k n e

@@ -15,4 +15,6 @@ pub places : (s : S.Lists) (vs : List Val) → Is T.the-row s vs → length (s .
 places s vs g = sym (length-map (s .jobs) _) ∙ LL.owed T.the-type T′.the-laws s vs g .1 .1 .0 .1 .0 .1
 
 pub entries : (s : S.Lists) (vs : List Val) → Is T.the-row s vs → length (s .list .entries) ≡ 256
-entries s vs g = sym (length-map (s .list .entries) _) ∙ LL.owed Q.the-type Q′.the-laws (s .list) _ (LL.owed T.the-type T′.the-laws s vs g .1 .1 .1 .0) .0 .1 .0 .1
+entries s vs g =
+    sym (length-map (s .list .entries) _)
+    ∙ LL.owed Q.the-type Q′.the-laws (s .list) _ (LL.owed T.the-type T′.the-laws s vs g .1 .1 .1 .0) .0 .1 .0 .1

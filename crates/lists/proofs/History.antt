@@ -28,7 +28,8 @@ leaves-is r (Do (Act′.Return j c u)) = state-of (accept (stateOf r) (Return j 
 leaves-is r (Do (Act′.Mark c u m on)) = refl
 
 -- one call: the rules' answer, and the rules' state
-pub outcome-is : (r : Lists) (x : Call) → (outcome r x .answer ≡ step (stateOf r) x .answer) × (stateOf (outcome r x .lists) ≡ step (stateOf r) x .state)
+pub outcome-is : (r : Lists) (x : Call)
+    → (outcome r x .answer ≡ step (stateOf r) x .answer) × (stateOf (outcome r x .lists) ≡ step (stateOf r) x .state)
 unfolding outcome step
 outcome-is r x = go (refusal (stateOf r) x)
   where

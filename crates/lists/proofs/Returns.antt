@@ -19,7 +19,8 @@ use Rattle.channels.specs.declared.Fitted.the-variants.{Nothing}
 use Rattle.packets.proofs.Laws.{and-left, and-right, passes}
 use Rattle.packets.specs.Rules.{accept, answer, cut, isAt, movesAt, reaches, refusal, returnRefusal}
 use Rattle.packets.proofs.ByNumber.{Return}
-use Rattle.packets.specs.State.{State, carrying, fittedOn, hold, jobIn, motionOn, noJob, packetIn, relist, restatus, setHolder, stateIn, sweep, withPackets}
+use Rattle.packets.specs.State.{State, carrying, fittedOn, hold, jobIn, motionOn, noJob, packetIn}
+use Rattle.packets.specs.State.{relist, restatus, setHolder, stateIn, sweep, withPackets}
 use Rattle.packets.specs.declared.Acted.{Acted}
 use Rattle.packets.specs.declared.Answer.the-variants.{Done}
 use Rattle.packets.specs.declared.Job.{Job}
@@ -45,7 +46,8 @@ moves-in s j c a Idle = refl
 moves-in s j c a (Busy k p) = refl
 
 module _ (r : Lists) (j c u : ℕ) where
-  pub return-verdict : (on : Channel) → on ≡ getD (r .channels) (c % 16) (record { has = Nothing }) → (was : UnitState) → was ≡ unitIn (r .units .of) c u
+  pub return-verdict : (on : Channel) → on ≡ getD (r .channels) (c % 16) (record { has = Nothing }) → (was : UnitState)
+      → was ≡ unitIn (r .units .of) c u
       → (v : Verdict) → v ≡ returnRefusal (on .has) (getD (r .jobs) (j % 16) noJob .state) was j c u → refusal (stateOf r) (Return j c u) ≡ v
   unfolding refusal stateIn fittedOn
   return-verdict on oi was wi v e =
@@ -58,25 +60,37 @@ module _ (r : Lists) (j c u : ℕ) where
   module _ (size : length (r .jobs) ≡ 16) (granted : refusal (stateOf r) (Return j c u) ≡ Granted) where
     inside : (j < 16) × (c < 16)
     inside = unfold refusal in
-        let t = not-false _ (passes (not (ltb j 16 && (ltb c 16 && reaches (fittedOn (r .channels) c) (OnUnit (record { 0 = u }))))) OutOfRange _ granted .0) in
+        let t = not-false _
+        (passes (not (ltb j 16 && (ltb c 16 && reaches (fittedOn (r .channels) c) (OnUnit (record { 0 = u }))))) OutOfRange _ granted .0) in
         (ltb-true j 16 (and-left (ltb j 16) _ t), ltb-true c 16 (and-left (ltb c 16) _ (and-right (ltb j 16) _ t)))
 
     abbrev a : Site
     a = AtUnit (record { 0 = u })
 
-    swept-is : sweep (stateOf r) j (isAt c a) cut ≡ focus (stateOf r) j (cutJob (jobIn (r .jobs) j) c a) (relist j (cutJob (jobIn (r .jobs) j) c a .packets) (listOf (r .list)))
+    swept-is : sweep (stateOf r) j (isAt c a) cut
+        ≡ focus (stateOf r) j (cutJob (jobIn (r .jobs) j) c a) (relist j (cutJob (jobIn (r .jobs) j) c a .packets) (listOf (r .list)))
     swept-is =
         ap (λ (s : State). sweep s j (isAt c a) cut) (focus-self (stateOf r) j)
         ∙ focus-sweep (stateOf r) j (omega (arith, size, inside .0)) (jobIn (r .jobs) j) (listOf (r .list)) (isAt c a) cut
 
     pub return-is : (changed : Job) → changed ≡ cutJob (getD (r .jobs) (j % 16) noJob) c a
         → (left : RequestList) → left ≡ padded (relist j (changed .packets) (listOf (r .list)))
-        → (holder : Holder) → holder ≡ holderAfter (getD (r .jobs) (j % 16) noJob .packets) j c a (getD (r .moving) (c % 16) (carrying Idle) .motion)
+        → (holder : Holder) → holder ≡ holderAfter (getD (r .jobs) (j % 16) noJob .packets) j c a
+        (getD (r .moving) (c % 16) (carrying Idle) .motion)
         → (units : Units) → units ≡ unitsFrom (setHolder (r .units .of) c a holder)
-        → _≡_ {A = Acted} (record {
-          lists = record { channels = r .channels; codes = r .codes; jobs = set (r .jobs) (j % 16) changed; list = left; moving = r .moving; units = units };
+        → _≡_ {A = Acted}
+        (record {
+          lists = record {
+            channels = r .channels;
+            codes = r .codes;
+            jobs = set (r .jobs) (j % 16) changed;
+            list = left;
+            moving = r .moving;
+            units = units;
+          };
           answer = Done;
-        }) (outcome r (Return j c u))
+        })
+        (outcome r (Return j c u))
     unfolding accept answer
     return-is changed g left l holder o units x =
         let k : j % 16 ≡ j = (let h = inside .0 in omega arith) in

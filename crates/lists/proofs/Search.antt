@@ -41,7 +41,8 @@ module _ (r : Lists) (c : ℕ) (row : List UnitState) (R : RowOf (r .units .of) 
   found-of : (o : Option ℕ) → find test (take end (r .list .entries)) ≡ o → foundOf o ≡ wanted
   found-of o e =
       sym (ap foundOf e)
-      ∙ ap (λ (l : List ℕ). foundOf (find test l)) (ap (λ (n : ℕ). take n (r .list .entries)) (S .is) ∙ listed-is (r .list .entries) (r .list .count) (omega (arith, full)))
+      ∙ ap (λ (l : List ℕ). foundOf (find test l))
+      (ap (λ (n : ℕ). take n (r .list .entries)) (S .is) ∙ listed-is (r .list .entries) (r .list .count) (omega (arith, full)))
       ∙ ap foundOf (found-is (r .units .of) (r .jobs) c row R (listOf (r .list)))
 
   module _ (k : ℕ) (found : Found) (L : Searching row (r .jobs) c (r .list .entries) end k found) where

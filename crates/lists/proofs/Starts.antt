@@ -16,7 +16,8 @@ use Rattle.packets.proofs.Laws.{passes}
 use Rattle.numbers.specs.Elements.{find}
 use Rattle.packets.specs.Rules.{accept, answer, begins, begun, first, isNone, refusal, startable, startableOn, started}
 use Rattle.packets.proofs.ByNumber.{Start}
-use Rattle.packets.specs.State.{State, carrying, configured, isIdle, isThereOf, jobIn, motionOn, move, noJob, packetIn, packetOf, placeOf, relist, store, withPackets, withStatus}
+use Rattle.packets.specs.State.{State, carrying, configured, isIdle, isThereOf, jobIn, motionOn, move, noJob}
+use Rattle.packets.specs.State.{packetIn, packetOf, placeOf, relist, store, withPackets, withStatus}
 use Rattle.packets.proofs.Told.{configured-in}
 use Rattle.packets.specs.declared.Acted.{Acted}
 use Rattle.packets.specs.declared.Answer.{Answer}
@@ -63,12 +64,15 @@ module _ (r : Lists) (c : ℕ) (found : Found) (is : found ≡ foundOf (find (st
   first-found = find (startable (stateOf r) c) (listOf (r .list))
 
   pub start-verdict : (on : Channel) → on ≡ getD (r .channels) (c % 16) (record { has = Nothing }) → (v : Verdict)
-      → v ≡ first (not (ltb c 16 && isThereOf (on .has))) OutOfRange (first (not (isIdle (getD (r .moving) (c % 16) (carrying Idle) .motion))) ChannelBusy (first (isNowhere found) NothingStartable Granted))
+      → v ≡ first (not (ltb c 16 && isThereOf (on .has))) OutOfRange
+      (first (not (isIdle (getD (r .moving) (c % 16) (carrying Idle) .motion))) ChannelBusy (first (isNowhere found) NothingStartable Granted))
       → refusal (stateOf r) (Start c) ≡ v
   unfolding refusal
   start-verdict on oi v e =
       by-bool (configured (r .channels) c)
-      (λ t. let h = configured-in (r .channels) c t in let k : c % 16 ≡ c = omega arith in rw (e, on-is (r .channels) c on oi, is, nowhere-is first-found, k))
+      (λ t.
+      let h = configured-in (r .channels) c t in
+      let k : c % 16 ≡ c = omega arith in rw (e, on-is (r .channels) c on oi, is, nowhere-is first-found, k))
       (λ t. rw (e, on-is (r .channels) c on oi, t))
 
   module _ (size : length (r .jobs) ≡ 16) (granted : refusal (stateOf r) (Start c) ≡ Granted) where
@@ -79,11 +83,13 @@ module _ (r : Lists) (c : ℕ) (found : Found) (is : found ≡ foundOf (find (st
         (configured-in (r .channels) c (not-false _ (r₁ .0)), passes (isNone first-found) NothingStartable Granted (r₂ .1) .0)
 
     pub start-is : (e : ℕ) → e ≡ entryIn found → placeOf e < 16
-        → (changed : Job) → changed ≡ withPackets (getD (r .jobs) (placeOf e) noJob) (statusSet (getD (r .jobs) (placeOf e) noJob .packets) (packetOf e) InProgress)
+        → (changed : Job) → changed ≡ withPackets (getD (r .jobs) (placeOf e) noJob)
+        (statusSet (getD (r .jobs) (placeOf e) noJob .packets) (packetOf e) InProgress)
         → (a : Answer) → a ≡ startedAt (getD (r .jobs) (placeOf e) noJob .packets) e
         → (left : RequestList) → left ≡ padded (relist (placeOf e) (changed .packets) (listOf (r .list)))
         → (busy : Carrier) → busy ≡ carrying (Busy (placeOf e) (packetOf e))
-        → _≡_ {A = Acted} (record {
+        → _≡_ {A = Acted}
+        (record {
           lists = record {
             channels = r .channels;
             codes = r .codes;
@@ -93,11 +99,13 @@ module _ (r : Lists) (c : ℕ) (found : Found) (is : found ≡ foundOf (find (st
             units = r .units;
           };
           answer = a;
-        }) (outcome r (Start c))
+        })
+        (outcome r (Start c))
     unfolding accept answer packetIn
     start-is e ei small changed p a ai left l busy b =
         let k : c % 16 ≡ c = (let h = told .0 in omega arith) in
         let o : first-found ≡ some e = found-is first-found (told .1) ∙ ap some (sym (ei ∙ ap entryIn is)) in
         granted-is r (Start c) granted _ _
-        (rw (l, b, p, k) (sym (ap (λ (x : Option ℕ). listsOf (started (stateOf r) c x)) o ∙ ap listsOf (begun-is (stateOf r) c e (omega (arith, size))))))
+        (rw (l, b, p, k)
+        (sym (ap (λ (x : Option ℕ). listsOf (started (stateOf r) c x)) o ∙ ap listsOf (begun-is (stateOf r) c e (omega (arith, size))))))
         (ai ∙ sym (ap (begins (stateOf r)) o))

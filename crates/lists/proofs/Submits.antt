@@ -16,7 +16,8 @@ use Rattle.units.specs.declared.Units.{Units}
 use Rattle.channels.specs.declared.Channel.{Channel}
 use Rattle.channels.specs.declared.Fitted.the-variants.{Nothing}
 use Rattle.packets.proofs.Laws.{and-left, and-right, passes}
-use Rattle.packets.specs.Rules.{accept, aimed, answer, cut, enlist, failed, inRange, isAt, locked, packet, pass, refusal, siteOf, submitRefusal, submitted}
+use Rattle.packets.specs.Rules.{accept, aimed, answer, cut, enlist, failed, inRange, isAt, locked}
+use Rattle.packets.specs.Rules.{packet, pass, refusal, siteOf, submitRefusal, submitted}
 use Rattle.packets.proofs.ByNumber.{Submit}
 use Rattle.packets.specs.State.{State, enqueue, entryOf, fittedOn, jobIn, noJob, relist, restatus, setLock, store, sweep, unitAt, withPackets}
 use Rattle.packets.specs.declared.Acted.{Acted}
@@ -59,13 +60,18 @@ module _ (s : State) (j : ℕ) (h : j < length (s .jobs)) (p f c : ℕ) (w : Spo
   pass-is = ap (λ (z : State). store z j p ended) (focus-self s j) ∙ focus-store s j h job (s .queue) p ended
 
   enlist-is : enlist s j p f c a
-      ≡ enqueue (focus s j (withPackets job (set (job .packets) p (packet Listed f c a))) (relist j (set (job .packets) p (packet Listed f c a)) (s .queue))) j p
-  enlist-is = ap (λ (z : State). enqueue z j p) (ap (λ (z : State). store z j p (packet Listed f c a)) (focus-self s j) ∙ focus-store s j h job (s .queue) p (packet Listed f c a))
+      ≡ enqueue (focus s j (withPackets job (set (job .packets) p (packet Listed f c a)))
+      (relist j (set (job .packets) p (packet Listed f c a)) (s .queue)))
+      j p
+  enlist-is =
+      ap (λ (z : State). enqueue z j p)
+      (ap (λ (z : State). store z j p (packet Listed f c a)) (focus-self s j) ∙ focus-store s j h job (s .queue) p (packet Listed f c a))
 
   -- a sweep, with other units then, and the packet stored
   swept-is : (t : Packet → Bool) (g : Status → Status) (units : List (List UnitState))
       → store (reunit (sweep s j t g) units) j p ended
-      ≡ focus (reunit s units) j (withPackets job (set (map (restatus t g) (job .packets)) p ended)) (relist j (set (map (restatus t g) (job .packets)) p ended) (s .queue))
+      ≡ focus (reunit s units) j (withPackets job (set (map (restatus t g) (job .packets)) p ended))
+      (relist j (set (map (restatus t g) (job .packets)) p ended) (s .queue))
   swept-is t g units =
       let ps = map (restatus t g) (job .packets) in
       ap (λ (z : State). store (reunit z units) j p ended) (ap (λ (z : State). sweep z j t g) (focus-self s j) ∙ focus-sweep s j h job (s .queue) t g)
@@ -96,13 +102,15 @@ past true true false = refl
 past true false d = refl
 past false b d = refl
 
-module _ (r : Lists) (j p f c : ℕ) (w : Spot) (on : Channel) (oi : on ≡ getD (r .channels) (c % 16) (record { has = Nothing })) (unit : UnitState) (is : unit ≡ unitAt (r .units .of) c (siteOf w)) where
+module _ (r : Lists) (j p f c : ℕ) (w : Spot) (on : Channel) (oi : on ≡ getD (r .channels) (c % 16) (record { has = Nothing }))
+    (unit : UnitState) (is : unit ≡ unitAt (r .units .of) c (siteOf w)) where
   -- what the channel has, if its number is below 16
   here : ltb c 16 ≡ true → on .has ≡ fittedOn (r .channels) c
   unfolding fittedOn
   here t = rw (oi, small-is c t)
 
-  pub submit-verdict : (v : Verdict) → v ≡ submitRefusal (on .has) (getD (r .jobs) (j % 16) noJob) unit j p f c w → refusal (stateOf r) (Submit j p f c w) ≡ v
+  pub submit-verdict : (v : Verdict) → v ≡ submitRefusal (on .has) (getD (r .jobs) (j % 16) noJob) unit j p f c w
+      → refusal (stateOf r) (Submit j p f c w) ≡ v
   unfolding refusal
   submit-verdict v e =
       by-bool (ltb c 16)
@@ -123,10 +131,19 @@ module _ (r : Lists) (j p f c : ℕ) (w : Spot) (on : Channel) (oi : on ≡ getD
         → (changed : Job) → changed ≡ jobAfter (getD (r .jobs) (j % 16) noJob) p f c w unlocking
         → (left : RequestList) → left ≡ padded (listAfter f (listedAs j p) (relist j (changed .packets) (listOf (r .list))))
         → (units : Units) → units ≡ unitsFrom (cond unlocking (setLock (r .units .of) c (siteOf w) false) (r .units .of))
-        → _≡_ {A = Acted} (record {
-          lists = record { channels = r .channels; codes = r .codes; jobs = set (r .jobs) (j % 16) changed; list = left; moving = r .moving; units = units };
+        → _≡_ {A = Acted}
+        (record {
+          lists = record {
+            channels = r .channels;
+            codes = r .codes;
+            jobs = set (r .jobs) (j % 16) changed;
+            list = left;
+            moving = r .moving;
+            units = units;
+          };
           answer = Done;
-        }) (outcome r (Submit j p f c w))
+        })
+        (outcome r (Submit j p f c w))
     unfolding accept answer entryOf
     submit-is unlocking ul changed g left l units u =
         let k : j % 16 ≡ j = omega (arith, place-small) in

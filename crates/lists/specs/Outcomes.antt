@@ -23,7 +23,14 @@ stateOf r = record { channels = r .channels; codes = r .codes; units = r .units 
 
 -- a state as the code holds it
 abbrev pub listsOf : State → Lists
-listsOf s = record { channels = s .channels; codes = s .codes; jobs = s .jobs; list = padded (s .queue); moving = s .moving; units = unitsFrom (s .units) }
+listsOf s = record {
+  channels = s .channels;
+  codes = s .codes;
+  jobs = s .jobs;
+  list = padded (s .queue);
+  moving = s .moving;
+  units = unitsFrom (s .units);
+}
 
 -- the same where a call does not touch the list, whose bytes stay
 abbrev pub keeping : Lists → State → Lists

@@ -45,10 +45,12 @@ use Rattle.assign_free.specs.Assignable.{isFreeOf}
 use Rattle.assign.specs.Assignment.{drumLength}
 use Rattle.assign.proofs.Computed.{kindsFrom, assignOf}
 use Rattle.packets.specs.Rules.{accept, answer, refusal}
-use Rattle.packets.specs.State.{configured, drumOn, enlisted, entryOf as entryOf′, fittedOn, packetIn, packetOf, placeOf, put, relist, releaseAll, restatusAll, setState, stateIn, takeAll}
+use Rattle.packets.specs.State.{configured, drumOn, enlisted, entryOf as entryOf′, fittedOn, packetIn, packetOf, placeOf}
+use Rattle.packets.specs.State.{put, relist, releaseAll, restatusAll, setState, stateIn, takeAll}
 use Rattle.lists.specs.Outcomes.{outcome}
 use Rattle.cell_taken.specs.Taken.{wordFrom}
-use Rattle.marked_cases.specs.Cases.{All, Errs, Follows, Given, Holds, Missing, Plays, Prints, Step, alone, drumChannels, k1Deck, k4Steps, marked, mtChannels, seen, with·}
+use Rattle.marked_cases.specs.Cases.{All, Errs, Follows, Given, Holds, Missing, Plays, Prints, Step, alone}
+use Rattle.marked_cases.specs.Cases.{drumChannels, k1Deck, k4Steps, marked, mtChannels, seen, with·}
 
 -- what computing has to show
 abbrev Computes : Cell → List Step → Type 0
@@ -64,39 +66,92 @@ follows c (s ∷ ss) k = λ reply d h.
 -- ---- K1 and K3, from the cards' bytes
 
 k1 : Holds (Prints k1Deck (bytes "SP B7 ER 31\nD4 01A05\nA1 02A05\nD4 SCH ACK\n"))
-unfolding after apart askedOf cardByte clashError codeError codes deckEnd digitsText enterError entryOf facError facOf fields formError groupText inserted is2 isAlnum isDigit isLetter isName kindOf lowerSequence malformed numberOfText orderedError pmWrong precedes priorityOf priorityText programName ptyError ranked readCards reportText rules sameKey sameRank sameThere scheduleOf shownBy twoDigitsOf removed setStateIn
+unfolding after apart askedOf cardByte clashError codeError codes deckEnd digitsText enterError entryOf facError facOf fields formError
+    groupText inserted is2 isAlnum isDigit isLetter isName kindOf lowerSequence malformed numberOfText orderedError pmWrong precedes priorityOf
+    priorityText programName ptyError ranked readCards reportText rules sameKey sameRank sameThere scheduleOf shownBy twoDigitsOf
+    removed setStateIn
 k1 = refl
 
 k3 : Holds (Errs (bytes "A1,PTY,2,,ECU,,T,PROG,P,A5,P,3." ∷ bytes "A1,FAC,IB/14,DB/15." ∷ []) 14)
-unfolding apart askedOf cardByte codeError codes digitsText entryOf facError facOf fields formError is2 isAlnum isDigit isLetter isName kindOf malformed numberOfText orderedError pmWrong priorityOf programName ptyError ranked readCards rules twoDigitsOf
+unfolding apart askedOf cardByte codeError codes digitsText entryOf facError facOf fields formError is2 isAlnum isDigit isLetter isName kindOf
+    malformed numberOfText orderedError pmWrong priorityOf programName ptyError ranked readCards rules twoDigitsOf
 k3 = refl
 
 -- ---- K2 and K4 to K8, by the computed cell
 
 module _ (section : ℕ) where
   k2 : Holds (Plays (with· section noChannels) (alone (bytes "IB/28") (Given 0 2 0 0 0 0 0)))
-  unfolding after apart askedOf cardByte clashError codeError codes deckEnd digitsText enterError entryOf facError facOf fields formError inserted is2 isAlnum isDigit isLetter isName kindOf lowerSequence malformed numberOfText orderedError pmWrong precedes priorityOf programName ptyError ranked readCards rules sameKey sameRank sameThere scheduleOf shownBy twoDigitsOf assignOf kindsFrom searchOf runB fitsB startOf areaB drumLength serveOf serviceOf giveFrom chooseOf picks lowestFrom testsB ge sumTo isFreeOf unitIn unitSet assignable legalOf refusal accept answer fresh fittedOn drumOn configured packetIn stateIn put relist enlisted entryOf′ placeOf packetOf setState restatusAll takeAll releaseAll freshCell acted outcome candidate wordFrom freshUnits changedAt withState removed setStateIn
-  k2 = let k : Computes (freshCell (with· section noChannels)) (alone (bytes "IB/28") (Given 0 2 0 0 0 0 0)) = (refl, (refl, (refl, (refl, tt)))) in follows (freshCell (with· section noChannels)) (alone (bytes "IB/28") (Given 0 2 0 0 0 0 0)) k
+  unfolding after apart askedOf cardByte clashError codeError codes deckEnd digitsText enterError entryOf facError facOf fields formError
+      inserted is2 isAlnum isDigit isLetter isName kindOf lowerSequence malformed numberOfText orderedError pmWrong precedes priorityOf
+      programName ptyError ranked readCards rules sameKey sameRank sameThere scheduleOf shownBy twoDigitsOf assignOf kindsFrom searchOf runB
+      fitsB startOf areaB drumLength serveOf serviceOf giveFrom chooseOf picks lowestFrom testsB ge sumTo isFreeOf unitIn unitSet assignable
+      legalOf refusal accept answer fresh fittedOn drumOn configured packetIn stateIn put relist enlisted entryOf′ placeOf packetOf setState
+      restatusAll takeAll releaseAll freshCell acted outcome candidate wordFrom freshUnits changedAt withState removed setStateIn
+  k2 =
+      let k : Computes (freshCell (with· section noChannels)) (alone (bytes "IB/28") (Given 0 2 0 0 0 0 0)) =
+      (refl, (refl, (refl, (refl, tt)))) in
+      follows (freshCell (with· section noChannels)) (alone (bytes "IB/28") (Given 0 2 0 0 0 0 0)) k
 
   k4 : Holds (Plays (with· section noChannels) k4Steps)
-  unfolding after apart askedOf cardByte clashError codeError codes deckEnd digitsText enterError entryOf facError facOf fields formError inserted is2 isAlnum isDigit isLetter isName kindOf lowerSequence malformed numberOfText orderedError pmWrong precedes priorityOf programName ptyError ranked readCards rules sameKey sameRank sameThere scheduleOf shownBy twoDigitsOf assignOf kindsFrom searchOf runB fitsB startOf areaB drumLength serveOf serviceOf giveFrom chooseOf picks lowestFrom testsB ge sumTo isFreeOf unitIn unitSet assignable legalOf refusal accept answer fresh fittedOn drumOn configured packetIn stateIn put relist enlisted entryOf′ placeOf packetOf setState restatusAll takeAll releaseAll freshCell acted outcome candidate wordFrom freshUnits changedAt withState removed setStateIn
-  k4 = let k : Computes (freshCell (with· section noChannels)) k4Steps = (refl, (refl, (refl, (refl, (refl, (refl, (refl, (refl, (refl, (refl, (refl, (refl, (refl, (refl, (refl, (refl, tt)))))))))))))))) in follows (freshCell (with· section noChannels)) k4Steps k
+  unfolding after apart askedOf cardByte clashError codeError codes deckEnd digitsText enterError entryOf facError facOf fields formError
+      inserted is2 isAlnum isDigit isLetter isName kindOf lowerSequence malformed numberOfText orderedError pmWrong precedes priorityOf
+      programName ptyError ranked readCards rules sameKey sameRank sameThere scheduleOf shownBy twoDigitsOf assignOf kindsFrom searchOf runB
+      fitsB startOf areaB drumLength serveOf serviceOf giveFrom chooseOf picks lowestFrom testsB ge sumTo isFreeOf unitIn unitSet assignable
+      legalOf refusal accept answer fresh fittedOn drumOn configured packetIn stateIn put relist enlisted entryOf′ placeOf packetOf setState
+      restatusAll takeAll releaseAll freshCell acted outcome candidate wordFrom freshUnits changedAt withState removed setStateIn
+  k4 =
+      let k : Computes (freshCell (with· section noChannels)) k4Steps =
+      (refl, (refl, (refl, (refl, (refl, (refl, (refl, (refl, (refl, (refl, (refl, (refl, (refl, (refl, (refl, (refl, tt)))))))))))))))) in
+      follows (freshCell (with· section noChannels)) k4Steps k
 
   k5 : Holds (Plays (with· section mtChannels) (alone (bytes "IB/1,MT1/2,MT2/3") (Given 0 2 0 0 0 5 3)))
-  unfolding after apart askedOf cardByte clashError codeError codes deckEnd digitsText enterError entryOf facError facOf fields formError inserted is2 isAlnum isDigit isLetter isName kindOf lowerSequence malformed numberOfText orderedError pmWrong precedes priorityOf programName ptyError ranked readCards rules sameKey sameRank sameThere scheduleOf shownBy twoDigitsOf assignOf kindsFrom searchOf runB fitsB startOf areaB drumLength serveOf serviceOf giveFrom chooseOf picks lowestFrom testsB ge sumTo isFreeOf unitIn unitSet assignable legalOf refusal accept answer fresh fittedOn drumOn configured packetIn stateIn put relist enlisted entryOf′ placeOf packetOf setState restatusAll takeAll releaseAll freshCell acted outcome candidate wordFrom freshUnits changedAt withState removed setStateIn
-  k5 = let k : Computes (freshCell (with· section mtChannels)) (alone (bytes "IB/1,MT1/2,MT2/3") (Given 0 2 0 0 0 5 3)) = (refl, (refl, (refl, (refl, tt)))) in follows (freshCell (with· section mtChannels)) (alone (bytes "IB/1,MT1/2,MT2/3") (Given 0 2 0 0 0 5 3)) k
+  unfolding after apart askedOf cardByte clashError codeError codes deckEnd digitsText enterError entryOf facError facOf fields formError
+      inserted is2 isAlnum isDigit isLetter isName kindOf lowerSequence malformed numberOfText orderedError pmWrong precedes priorityOf
+      programName ptyError ranked readCards rules sameKey sameRank sameThere scheduleOf shownBy twoDigitsOf assignOf kindsFrom searchOf runB
+      fitsB startOf areaB drumLength serveOf serviceOf giveFrom chooseOf picks lowestFrom testsB ge sumTo isFreeOf unitIn unitSet assignable
+      legalOf refusal accept answer fresh fittedOn drumOn configured packetIn stateIn put relist enlisted entryOf′ placeOf packetOf setState
+      restatusAll takeAll releaseAll freshCell acted outcome candidate wordFrom freshUnits changedAt withState removed setStateIn
+  k5 =
+      let k : Computes (freshCell (with· section mtChannels)) (alone (bytes "IB/1,MT1/2,MT2/3") (Given 0 2 0 0 0 5 3)) =
+      (refl, (refl, (refl, (refl, tt)))) in
+      follows (freshCell (with· section mtChannels)) (alone (bytes "IB/1,MT1/2,MT2/3") (Given 0 2 0 0 0 5 3)) k
 
   k6 : Holds (Plays (with· section mtChannels) (alone (bytes "IB/1,MT1/2,MT/4") (Given 0 2 0 0 0 3 0)))
-  unfolding after apart askedOf cardByte clashError codeError codes deckEnd digitsText enterError entryOf facError facOf fields formError inserted is2 isAlnum isDigit isLetter isName kindOf lowerSequence malformed numberOfText orderedError pmWrong precedes priorityOf programName ptyError ranked readCards rules sameKey sameRank sameThere scheduleOf shownBy twoDigitsOf assignOf kindsFrom searchOf runB fitsB startOf areaB drumLength serveOf serviceOf giveFrom chooseOf picks lowestFrom testsB ge sumTo isFreeOf unitIn unitSet assignable legalOf refusal accept answer fresh fittedOn drumOn configured packetIn stateIn put relist enlisted entryOf′ placeOf packetOf setState restatusAll takeAll releaseAll freshCell acted outcome candidate wordFrom freshUnits changedAt withState removed setStateIn
-  k6 = let k : Computes (freshCell (with· section mtChannels)) (alone (bytes "IB/1,MT1/2,MT/4") (Given 0 2 0 0 0 3 0)) = (refl, (refl, (refl, (refl, tt)))) in follows (freshCell (with· section mtChannels)) (alone (bytes "IB/1,MT1/2,MT/4") (Given 0 2 0 0 0 3 0)) k
+  unfolding after apart askedOf cardByte clashError codeError codes deckEnd digitsText enterError entryOf facError facOf fields formError
+      inserted is2 isAlnum isDigit isLetter isName kindOf lowerSequence malformed numberOfText orderedError pmWrong precedes priorityOf
+      programName ptyError ranked readCards rules sameKey sameRank sameThere scheduleOf shownBy twoDigitsOf assignOf kindsFrom searchOf runB
+      fitsB startOf areaB drumLength serveOf serviceOf giveFrom chooseOf picks lowestFrom testsB ge sumTo isFreeOf unitIn unitSet assignable
+      legalOf refusal accept answer fresh fittedOn drumOn configured packetIn stateIn put relist enlisted entryOf′ placeOf packetOf setState
+      restatusAll takeAll releaseAll freshCell acted outcome candidate wordFrom freshUnits changedAt withState removed setStateIn
+  k6 =
+      let k : Computes (freshCell (with· section mtChannels)) (alone (bytes "IB/1,MT1/2,MT/4") (Given 0 2 0 0 0 3 0)) =
+      (refl, (refl, (refl, (refl, tt)))) in
+      follows (freshCell (with· section mtChannels)) (alone (bytes "IB/1,MT1/2,MT/4") (Given 0 2 0 0 0 3 0)) k
 
   k7 : Holds (Plays (with· section mtChannels) (alone (bytes "IB/1,MT1/2,MT/5") (Missing NoAssignment (bytes "A1    ") (Units Mt))))
-  unfolding after apart askedOf cardByte clashError codeError codes deckEnd digitsText enterError entryOf facError facOf fields formError inserted is2 isAlnum isDigit isLetter isName kindOf lowerSequence malformed numberOfText orderedError pmWrong precedes priorityOf programName ptyError ranked readCards rules sameKey sameRank sameThere scheduleOf shownBy twoDigitsOf assignOf kindsFrom searchOf runB fitsB startOf areaB drumLength serveOf serviceOf giveFrom chooseOf picks lowestFrom testsB ge sumTo isFreeOf unitIn unitSet assignable legalOf refusal accept answer fresh fittedOn drumOn configured packetIn stateIn put relist enlisted entryOf′ placeOf packetOf setState restatusAll takeAll releaseAll freshCell acted outcome candidate wordFrom freshUnits changedAt withState removed setStateIn
-  k7 = let k : Computes (freshCell (with· section mtChannels)) (alone (bytes "IB/1,MT1/2,MT/5") (Missing NoAssignment (bytes "A1    ") (Units Mt))) = (refl, (refl, (refl, (refl, tt)))) in follows (freshCell (with· section mtChannels)) (alone (bytes "IB/1,MT1/2,MT/5") (Missing NoAssignment (bytes "A1    ") (Units Mt))) k
+  unfolding after apart askedOf cardByte clashError codeError codes deckEnd digitsText enterError entryOf facError facOf fields formError
+      inserted is2 isAlnum isDigit isLetter isName kindOf lowerSequence malformed numberOfText orderedError pmWrong precedes priorityOf
+      programName ptyError ranked readCards rules sameKey sameRank sameThere scheduleOf shownBy twoDigitsOf assignOf kindsFrom searchOf runB
+      fitsB startOf areaB drumLength serveOf serviceOf giveFrom chooseOf picks lowestFrom testsB ge sumTo isFreeOf unitIn unitSet assignable
+      legalOf refusal accept answer fresh fittedOn drumOn configured packetIn stateIn put relist enlisted entryOf′ placeOf packetOf setState
+      restatusAll takeAll releaseAll freshCell acted outcome candidate wordFrom freshUnits changedAt withState removed setStateIn
+  k7 =
+      let k : Computes (freshCell (with· section mtChannels))
+      (alone (bytes "IB/1,MT1/2,MT/5") (Missing NoAssignment (bytes "A1    ") (Units Mt))) =
+      (refl, (refl, (refl, (refl, tt)))) in
+      follows (freshCell (with· section mtChannels)) (alone (bytes "IB/1,MT1/2,MT/5") (Missing NoAssignment (bytes "A1    ") (Units Mt))) k
 
   k8 : Holds (Plays (with· section drumChannels) (alone (bytes "IB/1,MD/1500") (Given 0 2 0 35329 36828 0 0)))
-  unfolding after apart askedOf cardByte clashError codeError codes deckEnd digitsText enterError entryOf facError facOf fields formError inserted is2 isAlnum isDigit isLetter isName kindOf lowerSequence malformed numberOfText orderedError pmWrong precedes priorityOf programName ptyError ranked readCards rules sameKey sameRank sameThere scheduleOf shownBy twoDigitsOf assignOf kindsFrom searchOf runB fitsB startOf areaB drumLength serveOf serviceOf giveFrom chooseOf picks lowestFrom testsB ge sumTo isFreeOf unitIn unitSet assignable legalOf refusal accept answer fresh fittedOn drumOn configured packetIn stateIn put relist enlisted entryOf′ placeOf packetOf setState restatusAll takeAll releaseAll freshCell acted outcome candidate wordFrom freshUnits changedAt withState removed setStateIn
-  k8 = let k : Computes (freshCell (with· section drumChannels)) (alone (bytes "IB/1,MD/1500") (Given 0 2 0 35329 36828 0 0)) = (refl, (refl, (refl, (refl, tt)))) in follows (freshCell (with· section drumChannels)) (alone (bytes "IB/1,MD/1500") (Given 0 2 0 35329 36828 0 0)) k
+  unfolding after apart askedOf cardByte clashError codeError codes deckEnd digitsText enterError entryOf facError facOf fields formError
+      inserted is2 isAlnum isDigit isLetter isName kindOf lowerSequence malformed numberOfText orderedError pmWrong precedes priorityOf
+      programName ptyError ranked readCards rules sameKey sameRank sameThere scheduleOf shownBy twoDigitsOf assignOf kindsFrom searchOf runB
+      fitsB startOf areaB drumLength serveOf serviceOf giveFrom chooseOf picks lowestFrom testsB ge sumTo isFreeOf unitIn unitSet assignable
+      legalOf refusal accept answer fresh fittedOn drumOn configured packetIn stateIn put relist enlisted entryOf′ placeOf packetOf setState
+      restatusAll takeAll releaseAll freshCell acted outcome candidate wordFrom freshUnits changedAt withState removed setStateIn
+  k8 =
+      let k : Computes (freshCell (with· section drumChannels)) (alone (bytes "IB/1,MD/1500") (Given 0 2 0 35329 36828 0 0)) =
+      (refl, (refl, (refl, (refl, tt)))) in
+      follows (freshCell (with· section drumChannels)) (alone (bytes "IB/1,MD/1500") (Given 0 2 0 35329 36828 0 0)) k
 
 -- K1 TO K9
 pub marked-cases : (section : ℕ) → All (marked section)

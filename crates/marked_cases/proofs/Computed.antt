@@ -45,7 +45,8 @@ use Rattle.cell.specs.declared.Cell.{Cell}
 use Rattle.cell.specs.declared.Heeded.{Heeded}
 use Rattle.cell.specs.declared.SelectAnswer.{SelectAnswer}
 use Rattle.cell_history.proofs.One.{selects-in-one}
-use Rattle.cell_history.specs.History.{Call, Chosen, Deck, Delete, Do, Does, Entered, Key, Release, Reply, Said, Select, Shown, Status, replyOf as toldReply}
+use Rattle.cell_history.specs.History.{Call, Chosen, Deck, Delete, Do, Does, Entered, Key, Release, Reply}
+use Rattle.cell_history.specs.History.{Said, Select, Shown, Status, replyOf as toldReply}
 
 -- ---- the first candidate with an assignment, or what the first of all lacks, of n from index k on
 
@@ -62,7 +63,8 @@ pickFrom es cell (suc n) k l at =
 abbrev pickOf : List Entry → Assign.Cell → Pick
 pickOf es cell = pickFrom es cell (length es) 0 Nothing 0
 
-module _ (es : List Entry) (cell : Assign.Cell) (size : length (cell .channels) ≡ 16) (full : (k : ℕ) → length (entryAt es k .request .facilities .units) ≡ many) where
+module _ (es : List Entry) (cell : Assign.Cell) (size : length (cell .channels) ≡ 16)
+    (full : (k : ℕ) → length (entryAt es k .request .facilities .units) ≡ many) where
   picks-from : (n k : ℕ) (x : Lacking) (at : ℕ) → k + n ≡ length es → Walked es cell x at k → Picks es cell (pickFrom es cell n k x at)
   picks-from zero k x at e w = walked-all es cell k w (omega arith) nothing refl
   picks-from (suc n) k x at e w =
@@ -73,7 +75,8 @@ module _ (es : List Entry) (cell : Assign.Cell) (size : length (cell .channels) 
       (λ c. rw c (picks-from n (k + 1) x at (omega arith) (walk-past es cell k w (λ d. never (d .1) c))))
     where
       tried : candidate es (entryAt es k) ≡ true → (l : Lacking) (a : Assigned) → Answer l cell (entryAt es k .request .facilities) a
-          → ((part : Part) → Walked es cell (lackingThen x part) (atThen x at k) (k + 1) → Picks es cell (pickFrom es cell n (k + 1) (lackingThen x part) (atThen x at k)))
+          → ((part : Part) → Walked es cell (lackingThen x part) (atThen x at k) (k + 1)
+          → Picks es cell (pickFrom es cell n (k + 1) (lackingThen x part) (atThen x at k)))
           → Picks es cell (orNext k l a x at (pickFrom es cell n (k + 1)))
       tried c Nothing a q next = (record { candidate = (omega arith, c); chosen = q; first = w .passed }, refl)
       tried c (First part) a q next = next part (walk-lacks es cell k part (omega arith, c) (q .0) w)
@@ -108,7 +111,14 @@ unselectedBy (First part) schedule p = unselected (Lacks part) (entryAt (inSched
 
 abbrev selectedBy : Bool → Schedule → ℕ → Pick → Selection
 selectedBy true schedule place p =
-    record { choice = Choices.Job; first = noId; place = place; at = p .at; request = entryAt (inSchedule schedule) (p .at) .request; assigned = p .assigned }
+    record {
+      choice = Choices.Job;
+      first = noId;
+      place = place;
+      at = p .at;
+      request = entryAt (inSchedule schedule) (p .at) .request;
+      assigned = p .assigned;
+    }
 selectedBy false schedule place p = unselectedBy (p .lacking) schedule p
 
 abbrev selectedAs : Schedule → ℕ → Pick → Selection
@@ -140,7 +150,8 @@ sized c = eqb (length (c .lists .channels)) 16 && countsFull (inSchedule (c .sch
 
 counts-full : (es : List Entry) → countsFull es ≡ true → (k : ℕ) → length (entryAt es k .request .facilities .units) ≡ many
 counts-full [] f k = refl
-counts-full (e ∷ es) f zero = eqb-true (length (e .request .facilities .units)) many (both (eqb (length (e .request .facilities .units)) many) (countsFull es) f .0)
+counts-full (e ∷ es) f zero =
+    eqb-true (length (e .request .facilities .units)) many (both (eqb (length (e .request .facilities .units)) many) (countsFull es) f .0)
 counts-full (e ∷ es) f (suc k) = counts-full es (both (eqb (length (e .request .facilities .units)) many) (countsFull es) f .1) k
 
 module _ (c : Cell) (s : sized c ≡ true) where
@@ -148,14 +159,18 @@ module _ (c : Cell) (s : sized c ≡ true) where
   parts = both (eqb (length (c .lists .channels)) 16) (countsFull (inSchedule (c .schedule))) s
 
   picked : Picks (inSchedule (c .schedule)) (supplyIn (c .lists)) (pickOf (inSchedule (c .schedule)) (supplyIn (c .lists)))
-  picked = picks (inSchedule (c .schedule)) (supplyIn (c .lists)) (eqb-true (length (c .lists .channels)) 16 (parts .0)) (counts-full (inSchedule (c .schedule)) (parts .1))
+  picked =
+      picks (inSchedule (c .schedule)) (supplyIn (c .lists)) (eqb-true (length (c .lists .channels)) 16 (parts .0))
+      (counts-full (inSchedule (c .schedule)) (parts .1))
 
   module _ (place : ℕ) (l : LowestFree (c .lists .jobs) (At place)) (p : Pick) where
-    by-lack : (x : Lacking) → PicksNone x (inSchedule (c .schedule)) (supplyIn (c .lists)) p → Selects (c .schedule) (c .lists) (unselectedBy x (c .schedule) p)
+    by-lack : (x : Lacking) → PicksNone x (inSchedule (c .schedule)) (supplyIn (c .lists)) p
+        → Selects (c .schedule) (c .lists) (unselectedBy x (c .schedule) p)
     by-lack Nothing w = ((some-free (c .lists) l, (w .0, refl)), refl)
     by-lack (First part) w = ((some-free (c .lists) l, (w .0, (p .at, (w .1 .0, refl)))), refl)
 
-    selects-at : (found : Bool) → PicksBy found (inSchedule (c .schedule)) (supplyIn (c .lists)) p → Selects (c .schedule) (c .lists) (selectedBy found (c .schedule) place p)
+    selects-at : (found : Bool) → PicksBy found (inSchedule (c .schedule)) (supplyIn (c .lists)) p
+        → Selects (c .schedule) (c .lists) (selectedBy found (c .schedule) place p)
     selects-at true w = record { place = l; fit = w .0; request = refl; unnamed = refl }
     selects-at false w = by-lack (p .lacking) w
 
@@ -165,7 +180,13 @@ module _ (c : Cell) (s : sized c ≡ true) where
       let p = pickOf (inSchedule (c .schedule)) (supplyIn (c .lists)) in selects-at place l p (p .found) picked
 
   pub selects : SelectsIn c (selectOf c)
-  selects = record { outcome = refl; takes = record { selects = selects-by (placeFrom (c .lists .jobs) 16 0) (place-from (c .lists .jobs) 16 0 refl (λ q h. absurd (omega arith))); leaves = refl } }
+  selects = record {
+    outcome = refl;
+    takes = record {
+      selects = selects-by (placeFrom (c .lists .jobs) 16 0) (place-from (c .lists .jobs) 16 0 refl (λ q h. absurd (omega arith)));
+      leaves = refl;
+    };
+  }
 
 -- ---- every call
 

@@ -41,10 +41,12 @@ use Rattle.assign_free.specs.Assignable.{isFreeOf}
 use Rattle.assign.specs.Assignment.{drumLength, channelsOf, freeOf, given, givenOf, wantsOf}
 use Rattle.assign.proofs.Computed.{kindsFrom, assignOf}
 use Rattle.packets.specs.Rules.{accept, answer, refusal, freshJob}
-use Rattle.packets.specs.State.{configured, drumOn, enlisted, entryOf as entryOf′, fittedOn, packetIn, packetOf, placeOf, put, relist, releaseAll, restatusAll, setState, stateIn, takeAll, takeUnit}
+use Rattle.packets.specs.State.{configured, drumOn, enlisted, entryOf as entryOf′, fittedOn, packetIn, packetOf, placeOf, put}
+use Rattle.packets.specs.State.{relist, releaseAll, restatusAll, setState, stateIn, takeAll, takeUnit}
 use Rattle.lists.specs.Outcomes.{outcome, listsOf}
 use Rattle.cell_taken.specs.Taken.{wordFrom}
-use Rattle.marked_cases.specs.Cases.{Given, seen, with·, deck, Accepted, Holds, Keeps, Watched, Watches, k9Deck, k9Ending, k9Steps, oneChannel, watched}
+use Rattle.marked_cases.specs.Cases.{Given, seen, with·, deck, Accepted, Holds, Keeps, Watched, Watches}
+use Rattle.marked_cases.specs.Cases.{k9Deck, k9Ending, k9Steps, oneChannel, watched}
 use Prim.Native.Nat.{ℕ, zero, suc, _+_, _*_, _/_, _≤_}
 use native.Mathlib.Omega.{arith}
 use native.Mathlib.Decide.{decLt}
@@ -129,21 +131,29 @@ module _ (section : ℕ) where
   c₁ = cellOf (scheduleOf (record { request = asks; state = Waiting } ∷ [])) lists₁
 
   entered : cellAfter (freshCell (with· section oneChannel)) (Deck k9Deck) ≡ c₁
-  unfolding after apart askedOf cardByte clashError codeError codes deckEnd digitsText enterError entryOf facError facOf fields formError freshCell inserted is2 isAlnum isDigit isLetter isName kindOf lowerSequence malformed numberOfText orderedError pmWrong precedes priorityOf programName ptyError ranked readCards removed rules sameKey sameRank sameThere scheduleOf shownBy twoDigitsOf
+  unfolding after apart askedOf cardByte clashError codeError codes deckEnd digitsText enterError entryOf facError facOf fields formError
+      freshCell inserted is2 isAlnum isDigit isLetter isName kindOf lowerSequence malformed numberOfText orderedError pmWrong precedes
+      priorityOf programName ptyError ranked readCards removed rules sameKey sameRank sameThere scheduleOf shownBy twoDigitsOf
   entered = refl
 
   -- ---- the unit that the selection gives: the lowest of channel 3
 
-  chosen-so : (selectOf c₁ .selection .choice ≡ Job) × ((selectOf c₁ .selection .place ≡ 0) × ((selectOf c₁ .selection .at ≡ 0) × (selectOf c₁ .selection .first ≡ noId)))
-  unfolding areaB assignOf assignable candidate chooseOf drumLength fitsB fresh freshUnits ge giveFrom isFreeOf kindsFrom lowerSequence lowestFrom picks runB sameRank scheduleOf searchOf serveOf serviceOf startOf stateIn sumTo testsB unitIn wordFrom
+  chosen-so : (selectOf c₁ .selection .choice ≡ Job)
+      × ((selectOf c₁ .selection .place ≡ 0) × ((selectOf c₁ .selection .at ≡ 0) × (selectOf c₁ .selection .first ≡ noId)))
+  unfolding areaB assignOf assignable candidate chooseOf drumLength fitsB fresh freshUnits ge giveFrom isFreeOf kindsFrom lowerSequence
+      lowestFrom picks runB sameRank scheduleOf searchOf serveOf serviceOf startOf stateIn sumTo testsB unitIn wordFrom
   chosen-so = (refl, (refl, (refl, refl)))
 
-  what-so : (selectOf c₁ .selection .assigned .ib ≡ 2) × ((selectOf c₁ .selection .assigned .db ≡ 0) × ((selectOf c₁ .selection .assigned .drum ≡ 0) × (on (channelsOf (selectOf c₁ .selection .assigned) 1) 1 ≡ 3)))
-  unfolding areaB assignOf assignable candidate chooseOf drumLength fitsB fresh freshUnits ge giveFrom isFreeOf kindsFrom lowerSequence lowestFrom picks runB sameRank scheduleOf searchOf serveOf serviceOf startOf stateIn sumTo testsB unitIn wordFrom
+  what-so : (selectOf c₁ .selection .assigned .ib ≡ 2)
+      × ((selectOf c₁ .selection .assigned .db ≡ 0)
+      × ((selectOf c₁ .selection .assigned .drum ≡ 0) × (on (channelsOf (selectOf c₁ .selection .assigned) 1) 1 ≡ 3)))
+  unfolding areaB assignOf assignable candidate chooseOf drumLength fitsB fresh freshUnits ge giveFrom isFreeOf kindsFrom lowerSequence
+      lowestFrom picks runB sameRank scheduleOf searchOf serveOf serviceOf startOf stateIn sumTo testsB unitIn wordFrom
   what-so = (refl, (refl, (refl, refl)))
 
   seen-so : seen (replyOf c₁ Select) ≡ Given 0 2 0 0 0 3 0
-  unfolding areaB assignOf assignable candidate chooseOf drumLength fitsB fresh freshUnits ge giveFrom isFreeOf kindsFrom lowerSequence lowestFrom picks runB sameRank scheduleOf searchOf serveOf serviceOf startOf stateIn sumTo testsB unitIn wordFrom
+  unfolding areaB assignOf assignable candidate chooseOf drumLength fitsB fresh freshUnits ge giveFrom isFreeOf kindsFrom lowerSequence
+      lowestFrom picks runB sameRank scheduleOf searchOf serveOf serviceOf startOf stateIn sumTo testsB unitIn wordFrom
   seen-so = refl
 
   sized-so : sized c₁ ≡ true
@@ -185,29 +195,45 @@ module _ (section : ℕ) where
 
   abbrev sel : List KindChannels → List Head → Selection
   sel named heads =
-      record { choice = Job; first = noId; place = 0; at = 0; request = asks; assigned = record { ib = 2; db = 0; drum = 0; channels = named; heads = heads } }
+      record {
+        choice = Job;
+        first = noId;
+        place = 0;
+        at = 0;
+        request = asks;
+        assigned = record { ib = 2; db = 0; drum = 0; channels = named; heads = heads };
+      }
 
   abbrev S : Selection
   S = selectOf c₁ .selection
 
   request-so : S .request ≡ asks
-  unfolding areaB assignOf assignable candidate chooseOf drumLength fitsB fresh freshUnits ge giveFrom isFreeOf kindsFrom lowerSequence lowestFrom picks runB sameRank scheduleOf searchOf serveOf serviceOf startOf stateIn sumTo testsB unitIn wordFrom
+  unfolding areaB assignOf assignable candidate chooseOf drumLength fitsB fresh freshUnits ge giveFrom isFreeOf kindsFrom lowerSequence
+      lowestFrom picks runB sameRank scheduleOf searchOf serveOf serviceOf startOf stateIn sumTo testsB unitIn wordFrom
   request-so = refl
 
   selection-so : S ≡ sel (S .assigned .channels) (S .assigned .heads)
-  selection-so = λ i. record {
-    choice = chosen-so .0 i;
-    first = chosen-so .1 .1 .1 i;
-    place = chosen-so .1 .0 i;
-    at = chosen-so .1 .1 .0 i;
-    request = request-so i;
-    assigned = record { ib = what-so .0 i; db = what-so .1 .0 i; drum = what-so .1 .1 .0 i; channels = S .assigned .channels; heads = S .assigned .heads };
-  }
+  selection-so = λ i.
+      record {
+        choice = chosen-so .0 i;
+        first = chosen-so .1 .1 .1 i;
+        place = chosen-so .1 .0 i;
+        at = chosen-so .1 .1 .0 i;
+        request = request-so i;
+        assigned = record {
+          ib = what-so .0 i;
+          db = what-so .1 .0 i;
+          drum = what-so .1 .1 .0 i;
+          channels = S .assigned .channels;
+          heads = S .assigned .heads;
+        };
+      }
 
   -- the chosen assignment is one
   chosen-one : Chosen seen₁ wants (S .assigned)
   chosen-one =
-      let w : SelectsBy Job (inSchedule (c₁ .schedule)) lists₁ S = subst (λ (x : Choice). SelectsBy x (inSchedule (c₁ .schedule)) lists₁ S) (chosen-so .0) (selects c₁ sized-so .takes .selects) in
+      let w : SelectsBy Job (inSchedule (c₁ .schedule)) lists₁ S =
+      subst (λ (x : Choice). SelectsBy x (inSchedule (c₁ .schedule)) lists₁ S) (chosen-so .0) (selects c₁ sized-so .takes .selects) in
       subst (λ (r : Request). Chosen seen₁ (r .facilities) (S .assigned)) (sym (w .request) ∙ request-so) (w .fit .chosen)
 
   -- ---- the cell after it
@@ -220,8 +246,16 @@ module _ (section : ℕ) where
   plain = record { units = []; from = 0; words = 0; core = record { ib = runOf 2 1; db = runOf 0 0 } }
 
   abbrev base : List (List UnitState) → Cell
-  base units = cellOf (taken (c₁ .schedule) 0 0)
-      (record { channels = oneChannel; codes = section; jobs = set (lists₁ .jobs) 0 (freshJob plain); list = lists₁ .list; moving = lists₁ .moving; units = unitsFrom units })
+  base units =
+      cellOf (taken (c₁ .schedule) 0 0)
+      (record {
+        channels = oneChannel;
+        codes = section;
+        jobs = set (lists₁ .jobs) 0 (freshJob plain);
+        list = lists₁ .list;
+        moving = lists₁ .moving;
+        units = unitsFrom units;
+      })
 
   abbrev unitsOf : List Head → List (List UnitState)
   unitsOf heads = takeAll (freshUnits noDown) 0 (λ c u. getD (map isTaken heads) (c * 16 + u) false)
@@ -240,7 +274,8 @@ module _ (section : ℕ) where
       ∙ ap (λ (b : Bool). takeUnit 0 b (unitIn (freshUnits noDown) 3 0)) t
 
   -- units of which the first of channel 3 is known
-  shaped : (v : UnitState) (P : List (List UnitState) → Type 0) → ((r₀ r₁ r₂ row : List UnitState) (rest : List (List UnitState)) → P (r₀ ∷ r₁ ∷ r₂ ∷ (v ∷ row) ∷ rest))
+  shaped : (v : UnitState) (P : List (List UnitState) → Type 0)
+      → ((r₀ r₁ r₂ row : List UnitState) (rest : List (List UnitState)) → P (r₀ ∷ r₁ ∷ r₂ ∷ (v ∷ row) ∷ rest))
       → (units : List (List UnitState)) → Square units → unitIn units 3 0 ≡ v → P units
   unfolding unitIn
   shaped v P f [] q e = absurd (omega (arith, q .channels))
@@ -252,7 +287,8 @@ module _ (section : ℕ) where
 
   -- the calls that follow, whatever the other units
   ends-so : (r₀ r₁ r₂ row : List UnitState) (rest : List (List UnitState)) → Computed 3 0 (base (r₀ ∷ r₁ ∷ r₂ ∷ (mine ∷ row) ∷ rest)) k9Ending
-  unfolding accept acted answer changedAt configured drumOn enlisted entryOf′ fittedOn fresh legalOf outcome packetIn packetOf placeOf put refusal relist releaseAll removed restatusAll scheduleOf setState setStateIn stateIn unitIn withState
+  unfolding accept acted answer changedAt configured drumOn enlisted entryOf′ fittedOn fresh legalOf outcome packetIn packetOf placeOf put
+      refusal relist releaseAll removed restatusAll scheduleOf setState setStateIn stateIn unitIn withState
   ends-so r₀ r₁ r₂ row rest = (refl, (refl, (refl, (refl, (refl, (refl, (refl, (refl, (refl, (refl, (refl, (refl, tt))))))))))))
 
   -- ---- all together
@@ -275,7 +311,8 @@ module _ (section : ℕ) where
         ap (λ (y : Cell). unitIn (inside y .units) 3 0 .holder) selected-is ∙ ap (λ (v : UnitState). v .holder) (unit-so heads₁ taken-48),
         subst (λ (y : Cell). Computed 3 0 y k9Ending) (sym selected-is)
             (shaped mine (λ units. Computed 3 0 (base units) k9Ending) ends-so (unitsOf heads₁)
-            (take-square (freshUnits noDown) 0 (λ c u. getD (map isTaken heads₁) (c * 16 + u) false) (fresh-square noDown)) (unit-so heads₁ taken-48)),
+            (take-square (freshUnits noDown) 0 (λ c u. getD (map isTaken heads₁) (c * 16 + u) false) (fresh-square noDown))
+            (unit-so heads₁ taken-48)),
       ),
     ),
   )
@@ -285,7 +322,9 @@ module _ (section : ℕ) where
   first-sized = refl
 
   first-seen : seen (replyOf (freshCell (with· section oneChannel)) (Deck k9Deck)) ≡ Accepted
-  unfolding after apart askedOf cardByte clashError codeError codes deckEnd digitsText enterError entryOf facError facOf fields formError freshCell inserted is2 isAlnum isDigit isLetter isName kindOf lowerSequence malformed numberOfText orderedError pmWrong precedes priorityOf programName ptyError ranked readCards removed rules sameKey sameRank sameThere scheduleOf shownBy twoDigitsOf
+  unfolding after apart askedOf cardByte clashError codeError codes deckEnd digitsText enterError entryOf facError facOf fields formError
+      freshCell inserted is2 isAlnum isDigit isLetter isName kindOf lowerSequence malformed numberOfText orderedError pmWrong precedes
+      priorityOf programName ptyError ranked readCards removed rules sameKey sameRank sameThere scheduleOf shownBy twoDigitsOf
   first-seen = refl
 
   first-free : unitIn (inside c₁ .units) 3 0 .holder ≡ Free
@@ -295,5 +334,13 @@ module _ (section : ℕ) where
   -- K9
   pub k9 : Holds (Keeps (with· section oneChannel) 3 0 k9Steps)
   k9 =
-      watches 3 0 (freshCell (with· section oneChannel)) k9Steps
-      (first-sized, (first-seen, (ap (λ (y : Cell). unitIn (inside y .units) 3 0 .holder) entered ∙ first-free, subst (λ (y : Cell). Computed 3 0 y (watched Select (Given 0 2 0 0 0 3 0) (Held 0) ∷ k9Ending)) (sym entered) selected)))
+      watches 3 0 (freshCell (with· section oneChannel)) k9Steps (
+        first-sized,
+        (
+          first-seen,
+          (
+            ap (λ (y : Cell). unitIn (inside y .units) 3 0 .holder) entered ∙ first-free,
+            subst (λ (y : Cell). Computed 3 0 y (watched Select (Given 0 2 0 0 0 3 0) (Held 0) ∷ k9Ending)) (sym entered) selected,
+          ),
+        ),
+      )

@@ -55,7 +55,9 @@ row-low k = ltb-true (rowOf k) kinds (all-kinds (λ m. ltb (rowOf m) kinds) refl
 
 -- the kind at a kind's place of the written order is that kind; the drum stands behind the last
 pub order-kind : (k : Kind) → kindAt (orderOf k) ≡ k
-order-kind k = row-one (kindAt (orderOf k)) k (eqb-true (rowOf (kindAt (orderOf k))) (rowOf k) (all-kinds (λ m. eqb (rowOf (kindAt (orderOf m))) (rowOf m)) refl k))
+order-kind k =
+    row-one (kindAt (orderOf k)) k
+    (eqb-true (rowOf (kindAt (orderOf k))) (rowOf k) (all-kinds (λ m. eqb (rowOf (kindAt (orderOf m))) (rowOf m)) refl k))
 
 -- a test passes of the first n numbers, and then of each of them
 abbrev pub below : (ℕ → Bool) → ℕ → Bool
@@ -113,7 +115,9 @@ code-two k = two (codeOf k) (code-long k)
 -- the code of a kind is read as the kind
 pub code-read : (k : Kind) → kindOf (getD (codeOf k) 0 0) (getD (codeOf k) 1 0) ≡ Is k
 unfolding kindOf is2
-code-read k = is-it (kindOf (getD (codeOf k) 0 0) (getD (codeOf k) 1 0)) (all-kinds (λ m. isIt m (kindOf (getD (codeOf m) 0 0) (getD (codeOf m) 1 0))) refl k)
+code-read k =
+    is-it (kindOf (getD (codeOf k) 0 0) (getD (codeOf k) 1 0))
+    (all-kinds (λ m. isIt m (kindOf (getD (codeOf m) 0 0) (getD (codeOf m) 1 0))) refl k)
   where
     isIt : Kind → Coded → Bool
     isIt m (Is n) = eqb (rowOf n) (rowOf m)

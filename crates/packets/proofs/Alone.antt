@@ -17,12 +17,15 @@ use Rattle.packets.proofs.InvJobs.{held-once, take-held}
 use Rattle.packets.proofs.InvStores.{mark-holder}
 use Rattle.packets.proofs.Laws.{find-holds}
 use Rattle.numbers.specs.Elements.{find}
-use Rattle.packets.specs.Rules.{Call, Do, Take, accept, always, answer, begins, begun, closing, completed, cut, decided, finished, isTrouble, locked, marked, packet, refusal, returnIfDone, siteOf, startable, started, step, submitted}
+use Rattle.packets.specs.Rules.{Call, Do, Take, accept, always, answer, begins, begun, closing, completed}
+use Rattle.packets.specs.Rules.{cut, decided, finished, isTrouble, locked, marked, packet, refusal}
+use Rattle.packets.specs.Rules.{returnIfDone, siteOf, startable, started, step, submitted}
 use Rattle.packets.proofs.ByNumber.{Start}
 use Rattle.packets.specs.declared.Act.the-variants as Act′
 use Rattle.packets.proofs.SeenLaws.{SeenOk}
 use Rattle.packets.proofs.There.{is-there, unit-held}
-use Rattle.packets.specs.State.{State, anyMoves, close, heldBy, isBusy, isClosing, isUnit, motionOn, packetIn, packetOf, placeOf, stateIn, sweep}
+use Rattle.packets.specs.State.{State, anyMoves, close, heldBy, isBusy, isClosing, isUnit, motionOn}
+use Rattle.packets.specs.State.{packetIn, packetOf, placeOf, stateIn, sweep}
 use Rattle.packets.proofs.Sites.{lock-holder}
 use Rattle.packets.proofs.Steps.{startable-on, step-inv}
 use Rattle.packets.proofs.Store.{unit-keep, unit-release}
@@ -91,7 +94,8 @@ accept-same s I (Do (Act′.End k e)) r = return-keeps s (close (sweep s k alway
 accept-same s I (Do (Act′.Return k c u)) r =
     λ d w i j a b. held-once (unitIn (s .units) d w .holder) j i (handed-held s I k (c .0) (u .0) (returns-of s k (c .0) (u .0) r) d w j b) a
 accept-same s I (Do (Act′.Mark c u m on)) r =
-    same-kept s (marked s (c .0) (u .0) m on) (λ e w. unit-keep (λ (v : UnitState). v .holder) (s .units) (c .0) (u .0) (markedUnit m on (unitIn (s .units) (c .0) (u .0))) e w (mark-holder m on (unitIn (s .units) (c .0) (u .0))))
+    same-kept s (marked s (c .0) (u .0) m on) (λ e w. unit-keep (λ (v : UnitState). v .holder) (s .units) (c .0) (u .0)
+    (markedUnit m on (unitIn (s .units) (c .0) (u .0))) e w (mark-holder m on (unitIn (s .units) (c .0) (u .0))))
 
 pub step-same : (s : State) → Inv s → (x : Call) → Same s (step s x .state)
 unfolding step
@@ -120,7 +124,8 @@ pub own-start : (h : Holding) (s : State) → Inv s → Holds s h → h .drum �
 unfolding step answer
 own-start h s I H d t seen x b e a u = go (refusal s (Start (h .channel))) (rw e at a)
   where
-    by-entry : (o : Option ℕ) → find (startable s (h .channel)) (s .queue) ≡ o → begins s o ≡ Started b → (b .place ≡ h .place) × (t (b .packet) ≡ true)
+    by-entry : (o : Option ℕ) → find (startable s (h .channel)) (s .queue) ≡ o → begins s o ≡ Started b
+        → (b .place ≡ h .place) × (t (b .packet) ≡ true)
     by-entry none f g = absurd (let z : _≡_ {A = ℕ} 0 1 = cc in omega arith)
     by-entry (some y) f g =
         let q = packetIn (s .jobs) (placeOf y) (packetOf y) in
@@ -129,7 +134,8 @@ own-start h s I H d t seen x b e a u = go (refusal s (Start (h .channel))) (rw e
         let v : q .at ≡ itsUnit h = ap (λ (r : Begun). r .at) z ∙ u in
         let c : q .channel .0 ≡ h .channel = startable-on s (h .channel) y (k .1) in
         let o : OwnedAt s (placeOf y) (h .channel) (itsUnit h) = rw (c, v) at (k .0 .owned) in
-        let same : placeOf y ≡ h .place = held-once (unitIn (s .units) (h .channel) (h .unit) .holder) (placeOf y) (h .place) (o .1 refl) (unit-held h s H d) in (
+        let same : placeOf y ≡ h .place =
+        held-once (unitIn (s .units) (h .channel) (h .unit) .holder) (placeOf y) (h .place) (o .1 refl) (unit-held h s H d) in (
           sym (ap (λ (r : Begun). r .place) z) ∙ same,
           ap t (sym (ap (λ (r : Begun). r .packet) z))
               ∙ seen-busy h s t seen (packetOf y) (rw same at (listed-busy (q .status) (k .0 .listed))) (rw same at c) (rw same at v) d,

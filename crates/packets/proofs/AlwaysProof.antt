@@ -83,7 +83,8 @@ holds-always s I S H O W =
     entry : (j p : ℕ) → isListed (packetAt s j p .status) ≡ true → OkEntry s j p
     entry j p l =
         let small : p < 16 = (let k = busy-in (s .jobs) j p (listed-busy (packetAt s j p .status) l) in omega (arith, S .sixteen j)) in
-        let k : OkEntry s (placeOf (entryOf j p)) (packetOf (entryOf j p)) = all-any (EntryOk s) (entryOf j p) (s .queue) (I .queued) (S .member j p refl l) in
+        let k : OkEntry s (placeOf (entryOf j p)) (packetOf (entryOf j p)) =
+        all-any (EntryOk s) (entryOf j p) (s .queue) (I .queued) (S .member j p refl l) in
         rw (entry-place j p small, entry-packet j p small) at k
 
     -- of a packet that is listed, from the list; of one that moves, from its motion
@@ -91,7 +92,8 @@ holds-always s I S H O W =
     fact j p b =
         by-bool (isListed (packetAt s j p .status))
         (λ l. let k = entry j p l in (k .owned, running-alive (stateIn (s .jobs) j) (k .running)))
-        (λ l. let k = I .motion (packetAt s j p .channel .0) j p (S .mover j p refl (busy-either (packetAt s j p .status) b l)) in (k .owned, k .alive))
+        (λ l.
+        let k = I .motion (packetAt s j p .channel .0) j p (S .mover j p refl (busy-either (packetAt s j p .status) b l)) in (k .owned, k .alive))
 
 pub invariants : Invariants
 invariants l s r = holds-always s (reached-inv l s r) (reached-sound l s r) (reached-halts l s r) (reached-open l s r) (reached-waits l s r)

@@ -56,7 +56,8 @@ use Rattle.packets.specs.Rules.{
   submitted,
 }
 use Rattle.packets.specs.declared.Act.the-variants as Act′
-use Rattle.packets.specs.State.{State, isClosing, isEmpty, isUnit, jobIn, lock, motionOn, move, noJob, packetIn, packetOf, placeOf, put, restatus, restatusAll, setState, stateIn, store, sweep, withPackets, withState, withStatus}
+use Rattle.packets.specs.State.{State, isClosing, isEmpty, isUnit, jobIn, lock, motionOn, move, noJob, packetIn, packetOf, placeOf}
+use Rattle.packets.specs.State.{put, restatus, restatusAll, setState, stateIn, store, sweep, withPackets, withState, withStatus}
 use Rattle.packets.proofs.Steps.{busy-of, closing-alive, closing-not-running, fresh-state, reached-inv}
 use Rattle.packets.proofs.Store.{alive-in, state-fresh, state-put, state-restatus, state-state}
 use Rattle.packets.proofs.Told.{assigns-to, completes-on, ends-of}
@@ -94,7 +95,8 @@ module _ (part : Part) (L : Lasting part) where
   unfolding put
   same-store s j p q =
       record {
-        holds = λ i x. getD-set-keep (λ (k : Job). part k x) (s .jobs) j (withPackets (jobIn (s .jobs) j) (set (jobIn (s .jobs) j .packets) p q)) i noJob
+        holds = λ i x. getD-set-keep (λ (k : Job). part k x) (s .jobs) j
+            (withPackets (jobIn (s .jobs) j) (set (jobIn (s .jobs) j .packets) p q)) i noJob
             (L .packets (jobIn (s .jobs) j) (set (jobIn (s .jobs) j .packets) p q) x);
         alive = λ i h. rw (state-put (s .jobs) j p q i) at h;
       }
@@ -103,13 +105,15 @@ module _ (part : Part) (L : Lasting part) where
   unfolding restatusAll
   same-sweep s j t f =
       record {
-        holds = λ i x. getD-set-keep (λ (k : Job). part k x) (s .jobs) j (withPackets (jobIn (s .jobs) j) (map (restatus t f) (jobIn (s .jobs) j .packets))) i noJob
+        holds = λ i x. getD-set-keep (λ (k : Job). part k x) (s .jobs) j
+            (withPackets (jobIn (s .jobs) j) (map (restatus t f) (jobIn (s .jobs) j .packets))) i noJob
             (L .packets (jobIn (s .jobs) j) (map (restatus t f) (jobIn (s .jobs) j .packets)) x);
         alive = λ i h. rw (state-restatus (s .jobs) j t f i) at h;
       }
 
   -- a live job closes or returns
-  same-state : (s s′ : State) (j : ℕ) (t : JobState) → s′ .jobs ≡ setState (s .jobs) j t → j < length (s .jobs) → isEmpty (stateIn (s .jobs) j) ≡ false → Held-on s s′
+  same-state : (s s′ : State) (j : ℕ) (t : JobState) → s′ .jobs ≡ setState (s .jobs) j t → j < length (s .jobs)
+      → isEmpty (stateIn (s .jobs) j) ≡ false → Held-on s s′
   same-state s s′ j t is inside was =
       record {
         holds = λ i x. ap (λ (jobs : List Job). part (jobIn jobs i) x) is ∙ keeps i x;
@@ -117,7 +121,8 @@ module _ (part : Part) (L : Lasting part) where
       }
     where
       keeps : (i x : ℕ) → part (jobIn (setState (s .jobs) j t) i) x ≡ part (jobIn (s .jobs) i) x
-      keeps i x = unfold setState in getD-set-keep (λ (k : Job). part k x) (s .jobs) j (withState (jobIn (s .jobs) j) t) i noJob (L .state (jobIn (s .jobs) j) t x)
+      keeps i x = unfold setState in
+          getD-set-keep (λ (k : Job). part k x) (s .jobs) j (withState (jobIn (s .jobs) j) t) i noJob (L .state (jobIn (s .jobs) j) t x)
 
   same-return : (s : State) (j : ℕ) → isEmpty (stateIn (s .jobs) j) ≡ false → Held-on s (returnIfDone j s)
   same-return s j a = by-bool (isDone s j) (λ e. rw e (same-state s (returned s j) j Empty refl (alive-in (s .jobs) j a) a)) (λ e. rw e (same-refl s))
@@ -131,7 +136,8 @@ module _ (part : Part) (L : Lasting part) where
       let a = siteOf w in
       by-bool (eqb f 0o07)
       (λ e. rw e (by-bool (locked s c a)
-      (λ d. rw d (same-trans (same-sweep s j (isAt c a) failed) (same-trans (same-jobs _ (lock (sweep s j (isAt c a) failed) c a false) refl) (same-store _ j p (packet (Ended 0o00) f c a)))))
+      (λ d. rw d (same-trans (same-sweep s j (isAt c a) failed)
+      (same-trans (same-jobs _ (lock (sweep s j (isAt c a) failed) c a false) refl) (same-store _ j p (packet (Ended 0o00) f c a)))))
       (λ d. rw d (same-store s j p (packet (Ended 0o00) f c a)))))
       (λ e. rw e (by-bool (eqb f 0o23)
       (λ d. rw d (same-trans (same-sweep s j (aimed c w) cut) (same-store _ j p (packet (Ended 0o00) f c a))))
@@ -140,16 +146,20 @@ module _ (part : Part) (L : Lasting part) where
   same-finished : (s : State) (c : ℕ) (how : How) (j p : ℕ) → Held-on s (finished s c how j p)
   same-finished s c how j p =
       let s₁ = over s c j p (codeFor how) in
-      let o : Held-on s s₁ = same-trans (same-jobs s (move s c Idle) refl) (same-store (move s c Idle) j p (withStatus (packetIn (s .jobs) j p) (Ended (codeFor how)))) in
+      let o : Held-on s s₁ =
+      same-trans (same-jobs s (move s c Idle) refl)
+      (same-store (move s c Idle) j p (withStatus (packetIn (s .jobs) j p) (Ended (codeFor how)))) in
       by-bool (isTrouble (s .codes) how && isUnit (packetIn (s .jobs) j p .at))
-      (λ e. rw e (same-trans o (same-trans (same-sweep s₁ j (isAt c (packetIn (s .jobs) j p .at)) failed) (same-jobs _ (broken s₁ c (packetIn (s .jobs) j p .at) j) refl))))
+      (λ e. rw e (same-trans o (same-trans (same-sweep s₁ j (isAt c (packetIn (s .jobs) j p .at)) failed)
+      (same-jobs _ (broken s₁ c (packetIn (s .jobs) j p .at) j) refl))))
       (λ e. rw e o)
 
   apart-same : (s s′ : State) → Held-on s s′ → Apart part s → Apart part s′
   apart-same s s′ k A i j x a b h g = A i j x (k .alive i a) (k .alive j b) (sym (k .holds i x) ∙ h) (sym (k .holds j x) ∙ g)
 
   -- a taking that fits
-  apart-taken : (s : State) (j : ℕ) (asg : Assignment) → j < length (s .jobs) → Fits part s (Take j asg) → Apart part s → Apart part (assigned s j asg)
+  apart-taken : (s : State) (j : ℕ) (asg : Assignment) → j < length (s .jobs) → Fits part s (Take j asg) → Apart part s
+      → Apart part (assigned s j asg)
   apart-taken s j asg inside fits A m n x a b h g =
       let hm : part (cond (eqb m j) (freshJob asg) (jobIn (s .jobs) m)) x ≡ true = rw (job m) at h in
       let hn : part (cond (eqb n j) (freshJob asg) (jobIn (s .jobs) n)) x ≡ true = rw (job n) at g in
@@ -176,7 +186,9 @@ module _ (part : Part) (L : Lasting part) where
       go none = A
       go (some e) =
           apart-same s (begun s (c .0) e)
-          (same-trans (same-store s (placeOf e) (packetOf e) (withStatus (packetIn (s .jobs) (placeOf e) (packetOf e)) InProgress)) (same-jobs _ (begun s (c .0) e) refl)) A
+          (same-trans (same-store s (placeOf e) (packetOf e) (withStatus (packetIn (s .jobs) (placeOf e) (packetOf e)) InProgress))
+          (same-jobs _ (begun s (c .0) e) refl))
+          A
   accept-apart s I A (Do (Act′.Complete c how)) r k =
       let m = completes-on s (c .0) how r in
       let o = busy-of (motionOn s (c .0)) (m .1) in
@@ -197,7 +209,10 @@ module _ (part : Part) (L : Lasting part) where
       let a₁ : isEmpty (stateIn (s₁ .jobs) j) ≡ false = rw (state-restatus (s .jobs) j always cut j) a in
       let h₁ = alive-in (s₁ .jobs) j a₁ in
       let a₂ : isEmpty (stateIn (closed s j e .jobs) j) ≡ false = rw (state-state (s₁ .jobs) j (closing e) j h₁, eqb-self j) (closing-alive e) in
-      apart-same s (ended s j e) (same-trans (same-sweep s j always cut) (same-trans (same-state s₁ (closed s j e) j (closing e) refl h₁ a₁) (same-return (closed s j e) j a₂))) A
+      apart-same s (ended s j e)
+      (same-trans (same-sweep s j always cut)
+      (same-trans (same-state s₁ (closed s j e) j (closing e) refl h₁ a₁) (same-return (closed s j e) j a₂)))
+      A
   accept-apart s I A (Do (Act′.Return j c u)) r k =
       let s₁ = sweep s j (isAt (c .0) (AtUnit (record { 0 = (u .0) }))) cut in
       let s₂ = handedBack s j (c .0) (AtUnit (record { 0 = (u .0) })) in

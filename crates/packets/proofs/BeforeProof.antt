@@ -14,9 +14,11 @@ use Rattle.numbers.proofs.Tests.{by-bool, never}
 use Rattle.numbers.specs.declared.Refusal.the-variants.{NothingInProgress, OutOfRange, WrongCompletion}
 use Rattle.channels.specs.Channels.{setsInterlock}
 use Rattle.functions.proofs.Entries.{at, every}
-use Rattle.packets.specs.Before.{AllListed, AsBefore, OnlyCompletions, all60, completedBefore, completesBefore, isCompletion, isFailure, withCodes}
+use Rattle.packets.specs.Before.{AllListed, AsBefore, OnlyCompletions, all60, completedBefore}
+use Rattle.packets.specs.Before.{completesBefore, isCompletion, isFailure, withCodes}
 use Rattle.numbers.specs.Elements.{find}
-use Rattle.packets.specs.Rules.{Call, Do, Take, accept, answer, begins, closed, completed, completes, first, isDone, isTrouble, isWrong, locked, movesAt, refusal, siteOf, startable, started, submitted}
+use Rattle.packets.specs.Rules.{Call, Do, Take, accept, answer, begins, closed, completed, completes, first, isDone, isTrouble}
+use Rattle.packets.specs.Rules.{isWrong, locked, movesAt, refusal, siteOf, startable, started, submitted}
 use Rattle.packets.specs.declared.Act.the-variants as Act′
 use Rattle.packets.specs.State.{State, configured, isIdle, motionOn, movingStatus}
 use Rattle.packets.specs.declared.How.{How}
@@ -45,7 +47,8 @@ a-failure codes all t (Failed k) e =
     all k (above k p q) (ltb-false 0o77 k (d .1)) (eqb-false k 0o16 (c .0)) (eqb-false k 0o17 (d .0))
   where
     above : (k : ℕ) → (k ≡ 0 → ⊥) → (k ≡ 1 → ⊥) → 2 ≤ k
-    above k p q = ⊎-elim (λ z. absurd (p z)) (λ z. ⊎-elim (λ y. absurd (q (omega arith))) (λ y. omega arith) (eq-zero-or-pos (k - 1))) (eq-zero-or-pos k)
+    above k p q =
+        ⊎-elim (λ z. absurd (p z)) (λ z. ⊎-elim (λ y. absurd (q (omega arith))) (λ y. omega arith) (eq-zero-or-pos (k - 1))) (eq-zero-or-pos k)
 
 pub as-before : AsBefore
 unfolding accept answer
@@ -71,8 +74,10 @@ module _ (codes : ℕ) (s : State) where
   no-refusal (Do (Act′.Start c)) = refl
   no-refusal (Do (Act′.Complete c how)) = by-motion (motionOn s (c .0))
     where
-      by-motion : (m : Motion) → first (not (configured (s .channels) (c .0))) OutOfRange (first (isIdle m) NothingInProgress (first (isWrong (movingStatus (withCodes codes s) m) how) WrongCompletion Granted))
-          ≡ first (not (configured (s .channels) (c .0))) OutOfRange (first (isIdle m) NothingInProgress (first (isWrong (movingStatus s m) how) WrongCompletion Granted))
+      by-motion : (m : Motion) → first (not (configured (s .channels) (c .0))) OutOfRange
+          (first (isIdle m) NothingInProgress (first (isWrong (movingStatus (withCodes codes s) m) how) WrongCompletion Granted))
+          ≡ first (not (configured (s .channels) (c .0))) OutOfRange
+          (first (isIdle m) NothingInProgress (first (isWrong (movingStatus s m) how) WrongCompletion Granted))
       by-motion Idle = refl
       by-motion (Busy j p) = refl
   no-refusal (Do (Act′.End j e)) = refl
@@ -84,7 +89,8 @@ module _ (codes : ℕ) (s : State) where
       by-bool (eqb f 0o07) (λ e. by-bool (locked s c (siteOf w)) (λ d. rw (e, d)) (λ d. rw (e, d)))
       (λ e. by-bool (eqb f 0o23) (λ d. rw (e, d)) (λ d. rw (e, d)))
 
-  starts-so : (c : ℕ) (o : Option ℕ) → (started (withCodes codes s) c o ≡ withCodes codes (started s c o)) × (begins (withCodes codes s) o ≡ begins s o)
+  starts-so : (c : ℕ) (o : Option ℕ)
+      → (started (withCodes codes s) c o ≡ withCodes codes (started s c o)) × (begins (withCodes codes s) o ≡ begins s o)
   starts-so c none = (refl, refl)
   starts-so c (some e) = (refl, refl)
 
@@ -127,5 +133,6 @@ tested = tt
 pub all-listed : AllListed all60
 unfolding listed-or-none
 all-listed k low high no-16 no-17 =
-    let t : T (listed-or-none k (getD (replicate 64 0) k 0)) = at 0 listed-or-none (replicate 64 0) tested k (omega (arith, length-replicate {A = ℕ} 64 0)) in
+    let t : T (listed-or-none k (getD (replicate 64 0) k 0)) =
+    at 0 listed-or-none (replicate 64 0) tested k (omega (arith, length-replicate {A = ℕ} 64 0)) in
     by-bool (setsInterlock all60 k) (λ e. e) (λ e. absurd (rw (le-ltb k 2 low, ne-eqb k 0o16 no-16, ne-eqb k 0o17 no-17, e) at t))

@@ -42,7 +42,8 @@ use Rattle.packets.specs.Rules.{
 }
 use Rattle.packets.proofs.ByNumber.{Complete, End, Mark, Return, Start, Submit}
 use Rattle.packets.specs.declared.Act.the-variants as Act′
-use Rattle.packets.specs.State.{State, anyMoves, carrying, inMotion, isClosing, isPacket, isRunning, isUnit, motionOn, moves, packetIn, placeOf, stateIn}
+use Rattle.packets.specs.State.{State, anyMoves, carrying, inMotion, isClosing, isPacket, isRunning}
+use Rattle.packets.specs.State.{isUnit, motionOn, moves, packetIn, placeOf, stateIn}
 use Rattle.packets.proofs.States.{states-begun, states-closed, states-finished, states-handed, states-returned, states-submit}
 use Rattle.packets.proofs.Steps.{busy-of, closing-not-running, ending-inv, find-some, finished-inv, fresh-state, reached-inv}
 use Rattle.packets.proofs.Store.{state-fresh}
@@ -93,7 +94,8 @@ moves-busy j Idle e = never {b = false} e refl
 moves-busy j (Busy k p) e = (p, rw (eqb-true k j e))
 
 -- a job of which a packet moves, if what of it moves is stopping
-still-halts : (s : State) → Inv s → (j : ℕ) → anyMoves j (s .moving) ≡ true → ((n : ℕ) → inMotion (statusIn s j n) ≡ true → statusIn s j n ≡ Stopping) → Halting s j
+still-halts : (s : State) → Inv s → (j : ℕ) → anyMoves j (s .moving) ≡ true
+    → ((n : ℕ) → inMotion (statusIn s j n) ≡ true → statusIn s j n ≡ Stopping) → Halting s j
 still-halts s I j a f =
     let k = some-any (λ (m : Carrier). moves j (m .motion)) (s .moving) (carrying Idle) a in
     let b = moves-busy j (motionOn s (k .0)) (k .1) in
@@ -130,7 +132,8 @@ elsewhere : (s : State) → Inv s → Halts s → (x : Call) → refusal s x ≡
 elsewhere s I H x r i e f c = same-halts s (accept s x) i (λ n. status-after s I x r i n ∙ f n) (H i (sym (ap isClosing e) ∙ c))
 
 -- a job that has ended, or of which a packet has: it is done and no longer closing, or what of it moves is stopping
-returns : (s : State) → Inv s → (j : ℕ) → ((n : ℕ) → isClosing (stateIn (s .jobs) j) ≡ true → inMotion (statusIn s j n) ≡ true → statusIn s j n ≡ Stopping)
+returns : (s : State) → Inv s → (j : ℕ)
+    → ((n : ℕ) → isClosing (stateIn (s .jobs) j) ≡ true → inMotion (statusIn s j n) ≡ true → statusIn s j n ≡ Stopping)
     → isClosing (stateIn (returnIfDone j s .jobs) j) ≡ true → Halting (returnIfDone j s) j
 returns s I j f c =
     by-bool (isDone s j)
@@ -160,9 +163,11 @@ accept-halts s I H (Do (Act′.Start g)) r i c =
     let k = starts-on s (g .0) r in
     let o = find-some (find (startable s (g .0)) (s .queue)) (k .2) in
     let q = find-holds (EntryOk s) (startable s (g .0)) (s .queue) (o .0) (I .queued) (o .1) .0 in
-    let e : stateIn (started s (g .0) (find (startable s (g .0)) (s .queue)) .jobs) i ≡ stateIn (s .jobs) i = rw (o .1) (states-begun s (g .0) (o .0) i) in
+    let e : stateIn (started s (g .0) (find (startable s (g .0)) (s .queue)) .jobs) i ≡ stateIn (s .jobs) i =
+    rw (o .1) (states-begun s (g .0) (o .0) i) in
     by-bool (eqb i (placeOf (o .0)))
-    (λ d. absurd (running-closing (stateIn (s .jobs) (placeOf (o .0))) (q .running) (rw (eqb-true i (placeOf (o .0)) d) at (sym (ap isClosing e) ∙ c))))
+    (λ d. absurd (running-closing (stateIn (s .jobs) (placeOf (o .0))) (q .running)
+    (rw (eqb-true i (placeOf (o .0)) d) at (sym (ap isClosing e) ∙ c))))
     (λ d. elsewhere s I H (Start (g .0)) r i e (λ n. rw (o .1, d)) c)
 accept-halts s I H (Do (Act′.Complete g how)) r i c =
     let k = completes-on s (g .0) how r in
@@ -171,12 +176,16 @@ accept-halts s I H (Do (Act′.Complete g how)) r i c =
     let p = o .1 in
     let s₁ = finished s (g .0) how j p in
     by-bool (eqb i j)
-    (λ d. let same : i ≡ j = eqb-true i j d in
+    (λ d.
+    let same : i ≡ j = eqb-true i j d in
     let c′ : isClosing (stateIn (returnIfDone j s₁ .jobs) j) ≡ true = rw (o .2, same) at c in
     rw (o .2, same)
     (same-halts (returnIfDone j s₁) (freeIfReturning (returnIfDone j s₁) (g .0) (packetIn (s .jobs) j p .at)) j (λ n. refl)
-    (returns s₁ (finished-inv s I (g .0) (k .0) j p (o .2) how) j (λ n x. moved (g .0) how j p (k .0) (o .2) n (sym (ap isClosing (states-finished s (g .0) how j p j)) ∙ x)) c′)))
-    (λ d. let e : stateIn (completed s (g .0) how (motionOn s (g .0)) .jobs) i ≡ stateIn (s .jobs) i = rw (o .2) (returns-other s₁ j i d ∙ states-finished s (g .0) how j p i) in
+    (returns s₁ (finished-inv s I (g .0) (k .0) j p (o .2) how) j
+    (λ n x. moved (g .0) how j p (k .0) (o .2) n (sym (ap isClosing (states-finished s (g .0) how j p j)) ∙ x)) c′)))
+    (λ d.
+    let e : stateIn (completed s (g .0) how (motionOn s (g .0)) .jobs) i ≡ stateIn (s .jobs) i =
+    rw (o .2) (returns-other s₁ j i d ∙ states-finished s (g .0) how j p i) in
     elsewhere s I H (Complete (g .0) how) r i e (λ n. rw (o .2, d)) c)
   where
     -- what of the job still moves is as it was
@@ -184,7 +193,10 @@ accept-halts s I H (Do (Act′.Complete g how)) r i c =
         → inMotion (statusIn (finished s g how j p) j n) ≡ true → statusIn (finished s g how j p) j n ≡ Stopping
     moved g how j p small is n x m =
         let a : statusIn (finished s g how j p) j n ≡ afterComplete s g how (Busy j p) j n = finished-status s I g small how j p is j n in
-        a ∙ go (isPacket j p j n) (eqb j j && ((isTrouble (s .codes) how && isUnit (packetIn (s .jobs) j p .at)) && isAt g (packetIn (s .jobs) j p .at) (packetIn (s .jobs) j n))) (rw a at m)
+        a ∙ go (isPacket j p j n)
+        (eqb j j && ((isTrouble (s .codes) how && isUnit (packetIn (s .jobs) j p .at))
+        && isAt g (packetIn (s .jobs) j p .at) (packetIn (s .jobs) j n)))
+        (rw a at m)
       where
         go : (b d : Bool) → inMotion (cond b (Ended (codeOf how)) (cond d (endsWith 0o01 (statusIn s j n)) (statusIn s j n))) ≡ true
             → cond b (Ended (codeOf how)) (cond d (endsWith 0o01 (statusIn s j n)) (statusIn s j n)) ≡ Stopping
@@ -204,14 +216,16 @@ accept-halts s I H (Do (Act′.End j b)) r i c =
     other : eqb i j ≡ false → cond (eqb i j) (closing b) (stateIn (s .jobs) i) ≡ stateIn (s .jobs) i
     other d = rw d
 
-    cut-all : (n : ℕ) → isClosing (stateIn (closed s j b .jobs) j) ≡ true → inMotion (statusIn (closed s j b) j n) ≡ true → statusIn (closed s j b) j n ≡ Stopping
+    cut-all : (n : ℕ) → isClosing (stateIn (closed s j b .jobs) j) ≡ true → inMotion (statusIn (closed s j b) j n) ≡ true
+        → statusIn (closed s j b) j n ≡ Stopping
     cut-all n x m =
         let a : statusIn (closed s j b) j n ≡ cut (statusIn s j n) = closed-status s j b (ends-of s j b r) j n ∙ rw (eqb-self j) in
         a ∙ cut-halts (statusIn s j n) (sym (ap inMotion a) ∙ m)
 accept-halts s I H (Do (Act′.Return j g u)) r i c =
     let e = states-handed s j (g .0) (unitSite (u .0)) i in
     by-bool (eqb i j)
-    (λ d. absurd (running-closing (stateIn (s .jobs) j) (returns-of s j (g .0) (u .0) r .running) (rw (eqb-true i j d) at (sym (ap isClosing e) ∙ c))))
+    (λ d. absurd (running-closing (stateIn (s .jobs) j) (returns-of s j (g .0) (u .0) r .running)
+    (rw (eqb-true i j d) at (sym (ap isClosing e) ∙ c))))
     (λ d. elsewhere s I H (Return j (g .0) (u .0)) r i e (λ n. rw d) c)
 accept-halts s I H (Do (Act′.Mark g u m on)) r i c = elsewhere s I H (Mark (g .0) (u .0) m on) r i refl (λ n. refl) c
 

@@ -39,7 +39,8 @@ use Rattle.packets.specs.Rules.{
   submitted,
 }
 use Rattle.packets.specs.declared.Act.the-variants as Act′
-use Rattle.packets.specs.State.{isPacket, State, isRunning, isUnit, motionOn, packetIn, packetOf, placeOf, put, restatusAll, stateIn, sweep, withStatus}
+use Rattle.packets.specs.State.{isPacket, State, isRunning, isUnit, motionOn, packetIn, packetOf}
+use Rattle.packets.specs.State.{placeOf, put, restatusAll, stateIn, sweep, withStatus}
 use Rattle.packets.proofs.SimSweep.{cut-stops, failed-ends}
 use Rattle.packets.proofs.Steps.{
   Ready,
@@ -55,7 +56,8 @@ use Rattle.packets.proofs.Steps.{
   startable-on,
 }
 use Rattle.packets.proofs.Store.{alive-in, packet-fresh, packet-put, packet-restatus, packet-state, sizeIn}
-use Rattle.packets.proofs.Told.{Submits, assigns-to, completes-on, cut-going, cut-idle, ends-of, failed-going, failed-idle, returns-of, starts-on, submits}
+use Rattle.packets.proofs.Told.{Submits, assigns-to, completes-on, cut-going, cut-idle, ends-of}
+use Rattle.packets.proofs.Told.{failed-going, failed-idle, returns-of, starts-on, submits}
 use Rattle.packets.proofs.Handing.{returns-inside, unitSite}
 use Rattle.packets.specs.declared.How.{How}
 use Rattle.packets.specs.declared.How.the-variants.{Cut, Failed, Full}
@@ -73,7 +75,8 @@ stored-status : (s : State) (j p : ℕ) (q : Packet) → p < sizeIn (s .jobs) j 
     → packetIn (put (s .jobs) j p q) i n .status ≡ cond (isPacket j p i n) (q .status) (packetIn (s .jobs) i n .status)
 stored-status s j p q fits i n = rw (packet-put (s .jobs) j p q i n fits) (by-bool (isPacket j p i n) (λ e. rw e) (λ e. rw e))
 
-swept-status : (s : State) (j : ℕ) (t : Packet → Bool) (f g : Status → Status) → ((x : Status) → g x ≡ f x) → j < length (s .jobs) → f Blank ≡ Blank → (i n : ℕ)
+swept-status : (s : State) (j : ℕ) (t : Packet → Bool) (f g : Status → Status) → ((x : Status) → g x ≡ f x) → j < length (s .jobs)
+    → f Blank ≡ Blank → (i n : ℕ)
     → packetIn (restatusAll (s .jobs) j t f) i n .status
     ≡ cond (eqb i j && t (packetIn (s .jobs) i n)) (g (packetIn (s .jobs) i n .status)) (packetIn (s .jobs) i n .status)
 swept-status s j t f g same inside fb i n =
@@ -131,7 +134,8 @@ module _ (s : State) (I : Inv s) (c : ℕ) (small : c < 16) (how : How) (j p : �
       let q = withStatus (packetIn (s .jobs) j p) (Ended (codeFor how)) in
       let s₁ = over s c j p (codeFor how) in
       let a = packetIn (s .jobs) j p .at in
-      let read : packetIn (s₁ .jobs) i n ≡ cond (isPacket j p i n) q (packetIn (s .jobs) i n) = packet-put (s .jobs) j p q i n (over-fits s I c small j p is) in
+      let read : packetIn (s₁ .jobs) i n ≡ cond (isPacket j p i n) q (packetIn (s .jobs) i n) =
+      packet-put (s .jobs) j p q i n (over-fits s I c small j p is) in
       by-bool (isTrouble (s .codes) how && isUnit (packetIn (s .jobs) j p .at))
       (λ e. rw e
       (swept-status s₁ j (isAt c a) failed (endsWith 0o01) failed-ends (over-inside s I c small j p is (codeFor how)) refl i n
@@ -149,7 +153,8 @@ closed-status s j e r i n =
     ∙ swept-status s j always cut cut (λ x. refl) (alive-in (s .jobs) j (running-alive (stateIn (s .jobs) j) r)) refl i n
     ∙ by-bool (eqb i j) (λ d. rw d) (λ d. rw d)
 
-pub status-after : (s : State) → Inv s → (x : Call) → refusal s x ≡ Granted → (i n : ℕ) → packetIn (accept s x .jobs) i n .status ≡ statusAfter s x i n
+pub status-after : (s : State) → Inv s → (x : Call) → refusal s x ≡ Granted → (i n : ℕ)
+    → packetIn (accept s x .jobs) i n .status ≡ statusAfter s x i n
 unfolding accept statusAfter
 status-after s I (Take j asg) r i n =
     rw (packet-fresh (s .jobs) j asg i (rw (I .places) (assigns-to s j asg r .0)) n) (by-bool (eqb i j) (λ e. rw e) (λ e. rw e))
@@ -169,7 +174,8 @@ status-after s I (Do (Act′.Complete c how)) r i n =
 status-after s I (Do (Act′.End j e)) r i n =
     returned-status (closed s j e) j i n ∙ closed-status s j e (ends-of s j e r) i n ∙ rw (cut-stops (packetIn (s .jobs) i n .status))
 status-after s I (Do (Act′.Return j c u)) r i n =
-    swept-status s j (isAt (c .0) (unitSite (u .0))) cut (λ x. stops (endsWith 0o16 x)) cut-stops (returns-inside s I j (c .0) (u .0) (returns-of s j (c .0) (u .0) r)) refl i n
+    swept-status s j (isAt (c .0) (unitSite (u .0))) cut (λ x. stops (endsWith 0o16 x)) cut-stops
+    (returns-inside s I j (c .0) (u .0) (returns-of s j (c .0) (u .0) r)) refl i n
 status-after s I (Do (Act′.Mark c u m on)) r i n = refl
 
 pub codes : Codes
@@ -204,15 +210,18 @@ keeps-code s I (Do (Act′.Complete c how)) r i n k e b =
     let g = I .motion (c .0) (o .0) (o .1) (o .2) .going in
     rw (o .2)
     (by-bool (isPacket (o .0) (o .1) i n)
-    (λ t. let x : i ≡ o .0 = eqb-true i (o .0) (and-left (eqb i (o .0)) _ t) in
+    (λ t.
+    let x : i ≡ o .0 = eqb-true i (o .0) (and-left (eqb i (o .0)) _ t) in
     let y : n ≡ o .1 = eqb-true n (o .1) (and-right (eqb i (o .0)) _ t) in
     let e′ : packetIn (s .jobs) (o .0) (o .1) .status ≡ Ended k = rw (x, y) at e in
     never {b = false} (rw e′ at g) refl)
     (λ t. rw (t, e)
-    (by-bool (eqb i (o .0) && ((isTrouble (s .codes) how && isUnit (packetIn (s .jobs) (o .0) (o .1) .at)) && isAt (c .0) (packetIn (s .jobs) (o .0) (o .1) .at) (packetIn (s .jobs) i n)))
+    (by-bool (eqb i (o .0) && ((isTrouble (s .codes) how && isUnit (packetIn (s .jobs) (o .0) (o .1) .at))
+    && isAt (c .0) (packetIn (s .jobs) (o .0) (o .1) .at) (packetIn (s .jobs) i n)))
     (λ d. rw d) (λ d. rw d))))
 keeps-code s I (Do (Act′.End j err)) r i n k e b = rw e (by-bool (eqb i j) (λ d. rw d) (λ d. rw d))
-keeps-code s I (Do (Act′.Return j c u)) r i n k e b = rw e (by-bool (eqb i j && isAt (c .0) (unitSite (u .0)) (packetIn (s .jobs) i n)) (λ d. rw d) (λ d. rw d))
+keeps-code s I (Do (Act′.Return j c u)) r i n k e b =
+    rw e (by-bool (eqb i j && isAt (c .0) (unitSite (u .0)) (packetIn (s .jobs) i n)) (λ d. rw d) (λ d. rw d))
 keeps-code s I (Do (Act′.Mark c u m on)) r i n k e b = e
 
 pub kept : Kept

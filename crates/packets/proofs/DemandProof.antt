@@ -135,9 +135,11 @@ module _ (s : State) (I : Inv s) (j : ℕ) (asg : Assignment) (small : j < 16) (
       no-motion (Busy i p) e = rw (not-j i (I .motion (h .channel) i p e .alive))
 
       -- the unit has just been taken
-      taken-there : h .drum ≡ false → unitIn (takeAll (s .units) j (wanted asg)) (h .channel) (h .unit) ≡ takenUnit (unitIn (s .units) (h .channel) (h .unit))
+      taken-there : h .drum ≡ false → unitIn (takeAll (s .units) j (wanted asg)) (h .channel) (h .unit)
+          ≡ takenUnit (unitIn (s .units) (h .channel) (h .unit))
       taken-there d =
-          let g : heldBy (unitIn (takeAll (s .units) j (wanted asg)) (h .channel) (h .unit) .holder) (h .place) ≡ true = unit-held h (assigned s j asg) H d in
+          let g : heldBy (unitIn (takeAll (s .units) j (wanted asg)) (h .channel) (h .unit) .holder) (h .place) ≡ true =
+          unit-held h (assigned s j asg) H d in
           let m = unit-take (s .units) j (wanted asg) (h .channel) (h .unit) in
           m .1 ∙ go (m .0 && assignable v) (rw (m .1) at g)
         where
@@ -168,7 +170,8 @@ unfolding accept
 assigned-seen s I j asg r h at-j n =
     let k = assigns-to s j asg r in
     let e : step s (Take j asg) .state ≡ assigned s j asg = ap (λ a. a .state) (step-accepted s (Take j asg) r) in
-    let z : packetIn (assigned s j asg .jobs) (h .place) n ≡ blank = packet-fresh (s .jobs) j asg (h .place) (rw (I .places) (k .0)) n ∙ rw (at-j, eqb-self j) in
+    let z : packetIn (assigned s j asg .jobs) (h .place) n ≡ blank =
+    packet-fresh (s .jobs) j asg (h .place) (rw (I .places) (k .0)) n ∙ rw (at-j, eqb-self j) in
     (λ x. never {b = false} x refl, λ b. never {b = false} (rw (e, z) at b) refl)
 
 -- ---- a unit whose return is asked for
@@ -178,18 +181,25 @@ returned-so : (h : Holding) (s : State) → Inv s → Waits s → (l : Lone) →
     → heldBy (unitIn (s .units) (h .channel) (h .unit) .holder) (h .place) ≡ not (isAtRest (l .moving))
 returned-so h s I W l S d r =
     by-bool (heldBy (unitIn (s .units) (h .channel) (h .unit) .holder) (h .place))
-    (λ t. let w = W (h .channel) (h .unit) (waits t) in
+    (λ t.
+    let w = W (h .channel) (h .unit) (waits t) in
     let x : w .place ≡ h .place = held-once (unitIn (s .units) (h .channel) (h .unit) .holder) (w .place) (h .place) (w .held) t in
     let m : motionOn s (h .channel) ≡ Busy (h .place) (w .packet) = rw x at (w .moves) in
     let u : packetIn (s .jobs) (h .place) (w .packet) .at ≡ itsUnit h = rw x at (w .at) in
-    let y : there h (packetIn (s .jobs) (h .place) (w .packet)) ≡ true = is-there h (packetIn (s .jobs) (h .place) (w .packet) .channel .0) (packetIn (s .jobs) (h .place) (w .packet) .at) d (I .motion (h .channel) (h .place) (w .packet) m .channel) u in
+    let y : there h (packetIn (s .jobs) (h .place) (w .packet)) ≡ true =
+    is-there h (packetIn (s .jobs) (h .place) (w .packet) .channel .0) (packetIn (s .jobs) (h .place) (w .packet) .at) d
+    (I .motion (h .channel) (h .place) (w .packet) m .channel) u in
     t ∙ sym (ap (λ (o : Option ℕ). not (isAtRest o)) (S .moving) ∙ rw (m, eqb-self (h .place), y)))
     (λ t. t ∙ sym (ap (λ (o : Option ℕ). not (isAtRest o)) (S .moving ∙ rests t (motionOn s (h .channel)) refl)))
   where
-    waits : heldBy (unitIn (s .units) (h .channel) (h .unit) .holder) (h .place) ≡ true → isReturning (unitIn (s .units) (h .channel) (h .unit) .holder) ≡ true
-    waits t = let e : l .returning ≡ returnThere h (s .units) = S .asked (rw d t) in let e′ : l .returning ≡ isReturning (unitIn (s .units) (h .channel) (h .unit) .holder) = rw d at e in sym e′ ∙ r
+    waits : heldBy (unitIn (s .units) (h .channel) (h .unit) .holder) (h .place) ≡ true
+        → isReturning (unitIn (s .units) (h .channel) (h .unit) .holder) ≡ true
+    waits t =
+        let e : l .returning ≡ returnThere h (s .units) = S .asked (rw d t) in
+        let e′ : l .returning ≡ isReturning (unitIn (s .units) (h .channel) (h .unit) .holder) = rw d at e in sym e′ ∙ r
 
-    rests : heldBy (unitIn (s .units) (h .channel) (h .unit) .holder) (h .place) ≡ false → (m : Motion) → motionOn s (h .channel) ≡ m → movingThere h (s .jobs) m ≡ none
+    rests : heldBy (unitIn (s .units) (h .channel) (h .unit) .holder) (h .place) ≡ false → (m : Motion) → motionOn s (h .channel) ≡ m
+        → movingThere h (s .jobs) m ≡ none
     rests t Idle e = refl
     rests t (Busy j p) e =
         by-bool (eqb j (h .place) && there h (packetIn (s .jobs) (h .place) p))

@@ -56,7 +56,8 @@ unitSite u = AtUnit (record { 0 = u })
 -- ---- the units then
 
 module _ (units : List (List UnitState)) (c u : ℕ) (h : Holder) (taken : isFree (unitIn units c u .holder) ≡ false) where
-  pub held-unit : (d w : ℕ) → unitIn (setHolder units c (unitSite u) h) d w ≡ cond (eqb d c && eqb w u) (withHolder (unitIn units c u) h) (unitIn units d w)
+  pub held-unit : (d w : ℕ) → unitIn (setHolder units c (unitSite u) h) d w
+      ≡ cond (eqb d c && eqb w u) (withHolder (unitIn units c u) h) (unitIn units d w)
   held-unit d w = unit-set units c u (withHolder (unitIn units c u) h) d w taken
 
   -- the unit itself has the new holder, any other its own
@@ -80,7 +81,8 @@ module _ (units : List (List UnitState)) (c u : ℕ) (h : Holder) (taken : isFre
       (λ t. rw t at e′)
 
 -- another holder leaves the interlock of every unit
-pub hold-interlock : (units : List (List UnitState)) (c u : ℕ) (h : Holder) (d w : ℕ) → unitIn (setHolder units c (unitSite u) h) d w .interlock ≡ unitIn units d w .interlock
+pub hold-interlock : (units : List (List UnitState)) (c u : ℕ) (h : Holder) (d w : ℕ)
+    → unitIn (setHolder units c (unitSite u) h) d w .interlock ≡ unitIn units d w .interlock
 hold-interlock units c u h d w = unit-keep (λ (v : UnitState). v .interlock) units c u (withHolder (unitIn units c u) h) d w refl
 
 -- one that is being returned is not free
@@ -105,8 +107,10 @@ module _ (s : State) (I : Inv s) (c u : ℕ) (h : Holder) (taken : isFree (unitI
         places = I .places;
         channels = I .channels;
         single = I .single;
-        queued = all-imp (λ (e : ℕ). EntryOk s e × (isAt c (unitSite u) (packetIn (s .jobs) (placeOf e) (packetOf e)) ≡ false)) (EntryOk (hold s c (unitSite u) h)) entry (s .queue)
-            (all-both (EntryOk s) (λ (e : ℕ). isAt c (unitSite u) (packetIn (s .jobs) (placeOf e) (packetOf e)) ≡ false) (s .queue) (I .queued) quiet);
+        queued = all-imp (λ (e : ℕ). EntryOk s e × (isAt c (unitSite u) (packetIn (s .jobs) (placeOf e) (packetOf e)) ≡ false))
+            (EntryOk (hold s c (unitSite u) h)) entry (s .queue)
+            (all-both (EntryOk s) (λ (e : ℕ). isAt c (unitSite u) (packetIn (s .jobs) (placeOf e) (packetOf e)) ≡ false) (s .queue)
+            (I .queued) quiet);
         motion = λ d i n e. record {
           going = I .motion d i n e .going;
           channel = I .motion d i n e .channel;
@@ -114,14 +118,17 @@ module _ (s : State) (I : Inv s) (c u : ℕ) (h : Holder) (taken : isFree (unitI
           owned = (
             I .motion d i n e .owned .0,
             by-bool (isAt c (unitSite u) (packetIn (s .jobs) i n))
-                (λ t x. rw (held-there (s .units) c u h taken (packetIn (s .jobs) i n .channel .0) (packetIn (s .jobs) i n .at) t) (moving d i n e t))
-                (λ t x. rw (held-apart (s .units) c u h taken (packetIn (s .jobs) i n .channel .0) (packetIn (s .jobs) i n .at) t) (I .motion d i n e .owned .1 x)),
+                (λ t x. rw (held-there (s .units) c u h taken (packetIn (s .jobs) i n .channel .0) (packetIn (s .jobs) i n .at) t)
+                (moving d i n e t))
+                (λ t x. rw (held-apart (s .units) c u h taken (packetIn (s .jobs) i n .channel .0) (packetIn (s .jobs) i n .at) t)
+                (I .motion d i n e .owned .1 x)),
           );
         };
         holders = λ d w i e. I .holders d w i (held-before (s .units) c u h taken who d w i e);
       }
     where
-      entry : (e : ℕ) → EntryOk s e × (isAt c (unitSite u) (packetIn (s .jobs) (placeOf e) (packetOf e)) ≡ false) → EntryOk (hold s c (unitSite u) h) e
+      entry : (e : ℕ) → EntryOk s e × (isAt c (unitSite u) (packetIn (s .jobs) (placeOf e) (packetOf e)) ≡ false)
+          → EntryOk (hold s c (unitSite u) h) e
       entry e k =
           let q = packetIn (s .jobs) (placeOf e) (packetOf e) in
           record {
@@ -174,11 +181,15 @@ back-inv s I c (AtUnit u) idle =
         absurd (let y : _≡_ {A = ℕ} 0 1 = cc in omega arith)
 
     quiet : isReturning (unitIn (s .units) c (u .0) .holder) ≡ true → Quiet s c (u .0)
-    quiet t = all-imp (EntryOk s) (λ (e : ℕ). isAt c (AtUnit u) (packetIn (s .jobs) (placeOf e) (packetOf e)) ≡ false)
+    quiet t =
+        all-imp (EntryOk s) (λ (e : ℕ). isAt c (AtUnit u) (packetIn (s .jobs) (placeOf e) (packetOf e)) ≡ false)
         (λ e k. by-bool (isAt c (AtUnit u) (packetIn (s .jobs) (placeOf e) (packetOf e)))
         (λ x. never {b = isReturning (unitIn (s .units) c (u .0) .holder)} t
-        (let y : packetIn (s .jobs) (placeOf e) (packetOf e) .channel .0 ≡ c = eqb-true _ c (and-left (eqb (packetIn (s .jobs) (placeOf e) (packetOf e) .channel .0) c) _ x) in
-        let z : packetIn (s .jobs) (placeOf e) (packetOf e) .at ≡ AtUnit u = same-is (packetIn (s .jobs) (placeOf e) (packetOf e) .at) (AtUnit u) (and-right (eqb (packetIn (s .jobs) (placeOf e) (packetOf e) .channel .0) c) _ x) in
+        (let y : packetIn (s .jobs) (placeOf e) (packetOf e) .channel .0 ≡ c =
+        eqb-true _ c (and-left (eqb (packetIn (s .jobs) (placeOf e) (packetOf e) .channel .0) c) _ x) in
+        let z : packetIn (s .jobs) (placeOf e) (packetOf e) .at ≡ AtUnit u =
+        same-is (packetIn (s .jobs) (placeOf e) (packetOf e) .at) (AtUnit u)
+        (and-right (eqb (packetIn (s .jobs) (placeOf e) (packetOf e) .channel .0) c) _ x) in
         rw (y, z) at (k .staying)))
         (λ x. x))
         (s .queue) (I .queued)
@@ -186,7 +197,8 @@ back-inv s I c (AtUnit u) idle =
 -- ---- a return
 
 -- what is at a unit that the job in place j holds is of that job
-pub at-held : (s : State) (j c u : ℕ) → heldBy (unitIn (s .units) c u .holder) j ≡ true → (i : ℕ) (q : Packet) → Owned s i q → isAt c (unitSite u) q ≡ true → i ≡ j
+pub at-held : (s : State) (j c u : ℕ) → heldBy (unitIn (s .units) c u .holder) j ≡ true → (i : ℕ) (q : Packet) → Owned s i q
+    → isAt c (unitSite u) q ≡ true → i ≡ j
 at-held s j c u held i q o t =
     let x : q .channel .0 ≡ c = eqb-true (q .channel .0) c (and-left (eqb (q .channel .0) c) _ t) in
     let y : q .at ≡ unitSite u = same-is (q .at) (unitSite u) (and-right (eqb (q .channel .0) c) _ t) in
@@ -201,24 +213,31 @@ module _ (s : State) (I : Inv s) (j c u : ℕ) (k : Returns s j c u) where
   swept-inv = sweep-inv s I j (isAt c (unitSite u)) cut returns-inside refl cut-going
 
   -- where it was submitted
-  pub swept-at : (i n : ℕ) → isAt c (unitSite u) (packetIn (restatusAll (s .jobs) j (isAt c (unitSite u)) cut) i n) ≡ isAt c (unitSite u) (packetIn (s .jobs) i n)
+  pub swept-at : (i n : ℕ) → isAt c (unitSite u) (packetIn (restatusAll (s .jobs) j (isAt c (unitSite u)) cut) i n)
+      ≡ isAt c (unitSite u) (packetIn (s .jobs) i n)
   swept-at i n =
       rw (packet-restatus (s .jobs) j (isAt c (unitSite u)) cut i n returns-inside refl) (by-bool (eqb i j) (λ e. rw e) (λ e. rw e))
 
   quiet : Quiet (sweep s j (isAt c (unitSite u)) cut) c u
   quiet =
-      all-imp (EntryOk (sweep s j (isAt c (unitSite u)) cut)) (λ (e : ℕ). isAt c (unitSite u) (packetIn (restatusAll (s .jobs) j (isAt c (unitSite u)) cut) (placeOf e) (packetOf e)) ≡ false)
+      all-imp (EntryOk (sweep s j (isAt c (unitSite u)) cut))
+      (λ (e : ℕ). isAt c (unitSite u) (packetIn (restatusAll (s .jobs) j (isAt c (unitSite u)) cut) (placeOf e) (packetOf e)) ≡ false)
       (λ e o. by-bool (isAt c (unitSite u) (packetIn (restatusAll (s .jobs) j (isAt c (unitSite u)) cut) (placeOf e) (packetOf e)))
-      (λ t. let x : placeOf e ≡ j = at-held (sweep s j (isAt c (unitSite u)) cut) j c u (k .held) (placeOf e) (packetIn (restatusAll (s .jobs) j (isAt c (unitSite u)) cut) (placeOf e) (packetOf e)) (o .owned) t in
+      (λ t.
+      let x : placeOf e ≡ j =
+      at-held (sweep s j (isAt c (unitSite u)) cut) j c u (k .held) (placeOf e)
+      (packetIn (restatusAll (s .jobs) j (isAt c (unitSite u)) cut) (placeOf e) (packetOf e)) (o .owned) t in
       let t′ : isAt c (unitSite u) (packetIn (s .jobs) (placeOf e) (packetOf e)) ≡ true = sym (swept-at (placeOf e) (packetOf e)) ∙ t in
       let m : eqb (placeOf e) j ≡ true = rw x (eqb-self j) in
       never {b = isListed (packetIn (restatusAll (s .jobs) j (isAt c (unitSite u)) cut) (placeOf e) (packetOf e) .status)} (o .listed)
-      (rw (packet-restatus (s .jobs) j (isAt c (unitSite u)) cut (placeOf e) (packetOf e) returns-inside refl, m, t′) (cut-unlisted (packetIn (s .jobs) (placeOf e) (packetOf e) .status))))
+      (rw (packet-restatus (s .jobs) j (isAt c (unitSite u)) cut (placeOf e) (packetOf e) returns-inside refl, m, t′)
+      (cut-unlisted (packetIn (s .jobs) (placeOf e) (packetOf e) .status))))
       (λ t. t))
       (sweep s j (isAt c (unitSite u)) cut .queue) (swept-inv .queued)
 
   -- what moves on the unit is of the job, and is what the return looks for
-  pub moves-there : (d i n : ℕ) → motionOn s d ≡ Busy i n → isAt c (unitSite u) (packetIn (s .jobs) i n) ≡ true → (i ≡ j) × (movesAt s j c (unitSite u) (motionOn s c) ≡ true)
+  pub moves-there : (d i n : ℕ) → motionOn s d ≡ Busy i n → isAt c (unitSite u) (packetIn (s .jobs) i n) ≡ true
+      → (i ≡ j) × (movesAt s j c (unitSite u) (motionOn s c) ≡ true)
   moves-there d i n e t =
       let x : i ≡ j = at-held s j c u (k .held) i (packetIn (s .jobs) i n) (I .motion d i n e .owned) t in
       let y : d ≡ c = sym (I .motion d i n e .channel) ∙ eqb-true _ c (and-left (eqb (packetIn (s .jobs) i n .channel .0) c) _ t) in
@@ -235,7 +254,8 @@ module _ (s : State) (I : Inv s) (j c u : ℕ) (k : Returns s j c u) where
       (λ t. let x : eqb j i ≡ true = rw t at e in rw (sym (eqb-true j i x)) (k .held))
       (λ t. never {b = false} (rw t at e) refl)
 
-  pub handed-held : (d w i : ℕ) → heldBy (unitIn (handedBack s j c (unitSite u) .units) d w .holder) i ≡ true → heldBy (unitIn (s .units) d w .holder) i ≡ true
+  pub handed-held : (d w i : ℕ) → heldBy (unitIn (handedBack s j c (unitSite u) .units) d w .holder) i ≡ true
+      → heldBy (unitIn (s .units) d w .holder) i ≡ true
   handed-held = held-before (s .units) c u next (held-taken (unitIn (s .units) c u .holder) j (k .held)) next-held
 
   pub handed-inv : Inv (handedBack s j c (unitSite u))

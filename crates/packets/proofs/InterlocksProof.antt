@@ -12,7 +12,8 @@ use Rattle.units.specs.State.{assignable, isFree, markedUnit, unitIn}
 use Rattle.units.specs.declared.Unit.{Unit as UnitState}
 use Rattle.packets.specs.Interlocks.{interlockAfter, isThat}
 use Rattle.numbers.specs.Elements.{find}
-use Rattle.packets.specs.Rules.{Call, Do, Take, accept, assigned, closed, finished, isDone, isTrouble, locked, refusal, returnIfDone, siteOf, startable, started, submitted}
+use Rattle.packets.specs.Rules.{Call, Do, Take, accept, assigned, closed, finished, isDone, isTrouble, locked}
+use Rattle.packets.specs.Rules.{refusal, returnIfDone, siteOf, startable, started, submitted}
 use Rattle.packets.specs.declared.Act.the-variants as Act′
 use Rattle.packets.specs.State.{State, heldBy, isEmpty, isUnit, motionOn, packetIn, setLock, stateIn, unitAt, wanted, withLock}
 use Rattle.packets.specs.declared.Assignment.{Assignment}
@@ -79,7 +80,8 @@ module _ (s : State) (I : Inv s) (c u : ℕ) where
       → unitIn (submitted s j p f d w .units) c u .interlock ≡ cond (eqb f 0o07 && isThat c u d (siteOf w)) false now
   submitted-lock j p f d w k =
       let a = siteOf w in
-      let held : isUnit a ≡ true → isFree (unitAt (s .units) d a .holder) ≡ false = λ e. held-taken (unitAt (s .units) d a .holder) j (owns-unit s j p f d w k e) in
+      let held : isUnit a ≡ true → isFree (unitAt (s .units) d a .holder) ≡ false =
+      λ e. held-taken (unitAt (s .units) d a .holder) j (owns-unit s j p f d w k e) in
       by-bool (eqb f 0o07)
       (λ e. by-bool (locked s d a)
       (λ t. rw (e, t, lock-read (s .units) d a false held c u))
@@ -110,4 +112,5 @@ module _ (s : State) (I : Inv s) (c u : ℕ) where
   lock-after (Do (Act′.End j e)) r = returned-lock (closed s j e) j c u
   lock-after (Do (Act′.Return j d v)) r = hold-interlock (s .units) (d .0) (v .0) (next s I j (d .0) (v .0) (returns-of s j (d .0) (v .0) r)) c u
   lock-after (Do (Act′.Mark d v m on)) r =
-      unit-keep (λ (x : UnitState). x .interlock) (s .units) (d .0) (v .0) (markedUnit m on (unitIn (s .units) (d .0) (v .0))) c u (mark-lock m on (unitIn (s .units) (d .0) (v .0)))
+      unit-keep (λ (x : UnitState). x .interlock) (s .units) (d .0) (v .0) (markedUnit m on (unitIn (s .units) (d .0) (v .0))) c u
+      (mark-lock m on (unitIn (s .units) (d .0) (v .0)))

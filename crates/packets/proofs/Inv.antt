@@ -12,7 +12,8 @@ use Rattle.units.specs.State.{isReturning, unitIn}
 use Rattle.numbers.specs.Elements.{All, Nodup, keep}
 use Rattle.packets.proofs.Laws.{all-imp, all-keep}
 use Rattle.packets.proofs.Once.{nodup-keep}
-use Rattle.packets.specs.State.{State, drumOn, heldBy, isBusy, isEmpty, isKept, isListed, isRunning, isStill, motionOn, packetIn, packetOf, packetsIn, placeOf, relist, stateIn, inMotion, isUnit, unitAt}
+use Rattle.packets.specs.State.{State, drumOn, heldBy, isBusy, isEmpty, isKept, isListed, isRunning, isStill, motionOn}
+use Rattle.packets.specs.State.{packetIn, packetOf, packetsIn, placeOf, relist, stateIn, inMotion, isUnit, unitAt}
 use Rattle.packets.proofs.Store.{sizeIn}
 use Rattle.packets.specs.declared.Job.{Job}
 use Rattle.packets.specs.declared.JobState.{JobState}
@@ -88,7 +89,8 @@ abbrev pub Elsewhere : ℕ → List Job → List Job → Type 0
 Elsewhere j old jobs = (i n : ℕ) → eqb i j ≡ false → packetIn jobs i n ≡ packetIn old i n
 
 -- then an entry that was listed is kept if it still is
-pub kept-still : (j : ℕ) (old jobs : List Job) → Elsewhere j old jobs → (e : ℕ) → isStill old e ≡ true → isKept j (packetsIn jobs j) e ≡ isStill jobs e
+pub kept-still : (j : ℕ) (old jobs : List Job) → Elsewhere j old jobs → (e : ℕ) → isStill old e ≡ true
+    → isKept j (packetsIn jobs j) e ≡ isStill jobs e
 unfolding packetIn
 kept-still j old jobs same e l =
     by-bool (eqb (placeOf e) j)

@@ -14,8 +14,10 @@ use Rattle.packets.proofs.Inv.{EntryOk, Inv, Owned, OwnedAt, running-al
 use Rattle.numbers.specs.Elements.{All}
 use Rattle.packets.proofs.Laws.{all-both, all-imp}
 use Rattle.packets.specs.Rules.{assigned, freshJob, returned}
-use Rattle.packets.specs.State.{State, close, heldBy, isEmpty, motionOn, packetIn, packetOf, placeOf, release, releaseAll, setState, stateIn, takeAll, takeUnit, unitAt, wanted}
-use Rattle.packets.proofs.Store.{length-state, packet-fresh, packet-state, size-fresh, size-state, sizeIn, state-fresh, state-state, unit-release, unit-take}
+use Rattle.packets.specs.State.{State, close, heldBy, isEmpty, motionOn, packetIn, packetOf, placeOf, release}
+use Rattle.packets.specs.State.{releaseAll, setState, stateIn, takeAll, takeUnit, unitAt, wanted}
+use Rattle.packets.proofs.Store.{length-state, packet-fresh, packet-state, size-fresh, size-state, sizeIn}
+use Rattle.packets.proofs.Store.{state-fresh, state-state, unit-release, unit-take}
 use Rattle.packets.specs.declared.Assignment.{Assignment}
 use Rattle.packets.specs.declared.JobState.{JobState}
 use Rattle.packets.specs.declared.JobState.the-variants.{Empty, Running}
@@ -125,7 +127,8 @@ module _ (s : State) (I : Inv s) (j : ℕ) (inside : j < length (s .jobs)) (none
       keeps : (i : ℕ) (q : Packet) → eqb i j ≡ false → Owned s i q → Owned (returned s j) i q
       keeps i q = keeps-at i (q .channel .0) (q .at)
 
-      stays : (c : ℕ) (a : Site) → isReturning (unitAt (s .units) c a .holder) ≡ false → isReturning (unitAt (releaseAll (s .units) j) c a .holder) ≡ false
+      stays : (c : ℕ) (a : Site) → isReturning (unitAt (s .units) c a .holder) ≡ false
+          → isReturning (unitAt (releaseAll (s .units) j) c a .holder) ≡ false
       stays c (AtUnit u) e = rw (unit-release (s .units) j c (u .0)) (release-stays (unitIn (s .units) c (u .0)) j e)
       stays c (AtAddress x) e = e
 
@@ -134,16 +137,21 @@ module _ (s : State) (I : Inv s) (j : ℕ) (inside : j < length (s .jobs)) (none
           record {
             listed = rw (packet-state (s .jobs) j Empty (placeOf e) (packetOf e)) (k .0 .listed);
             running = rw (state-state (s .jobs) j Empty (placeOf e) inside, k .1) (k .0 .running);
-            owned = rw (packet-state (s .jobs) j Empty (placeOf e) (packetOf e)) (keeps (placeOf e) (packetIn (s .jobs) (placeOf e) (packetOf e)) (k .1) (k .0 .owned));
-            staying = rw (packet-state (s .jobs) j Empty (placeOf e) (packetOf e)) (stays (packetIn (s .jobs) (placeOf e) (packetOf e) .channel .0) (packetIn (s .jobs) (placeOf e) (packetOf e) .at) (k .0 .staying));
+            owned = rw (packet-state (s .jobs) j Empty (placeOf e) (packetOf e))
+                (keeps (placeOf e) (packetIn (s .jobs) (placeOf e) (packetOf e)) (k .1) (k .0 .owned));
+            staying = rw (packet-state (s .jobs) j Empty (placeOf e) (packetOf e))
+                (stays (packetIn (s .jobs) (placeOf e) (packetOf e) .channel .0) (packetIn (s .jobs) (placeOf e) (packetOf e) .at)
+                (k .0 .staying));
           }
 
       holds : (c u i : ℕ) → heldBy (unitIn (releaseAll (s .units) j) c u .holder) i ≡ true → isEmpty (stateIn (setState (s .jobs) j Empty) i) ≡ false
       holds c u i e =
-          let b : heldBy (cond (heldBy (unitIn (s .units) c u .holder) j) Free (unitIn (s .units) c u .holder)) i ≡ true = rw (unit-release (s .units) j c u) at e in
+          let b : heldBy (cond (heldBy (unitIn (s .units) c u .holder) j) Free (unitIn (s .units) c u .holder)) i ≡ true =
+          rw (unit-release (s .units) j c u) at e in
           by-bool (heldBy (unitIn (s .units) c u .holder) j)
           (λ t. never {b = false} (rw t at b) refl)
-          (λ t. let k : heldBy (unitIn (s .units) c u .holder) i ≡ true = rw t at b in
+          (λ t.
+          let k : heldBy (unitIn (s .units) c u .holder) i ≡ true = rw t at b in
           after i
           (by-bool (eqb i j) (λ d. never {b = heldBy (unitIn (s .units) c u .holder) j} (rw (eqb-true i j d) at k) t) (λ d. d))
           (I .holders c u i k))
@@ -164,19 +172,26 @@ module _ (s : State) (I : Inv s) (j : ℕ) (inside : j < 16) (empty : isEmpty (s
   another i a = by-bool (eqb i j) (λ e. never {b = isEmpty (stateIn (s .jobs) j)} empty (rw (eqb-true i j e) at a)) (λ e. e)
 
   -- a unit that is held stays as it is
-  pub take-held : (c u i : ℕ) → heldBy (unitIn (s .units) c u .holder) i ≡ true → unitIn (takeAll (s .units) j (wanted asg)) c u ≡ unitIn (s .units) c u
+  pub take-held : (c u i : ℕ) → heldBy (unitIn (s .units) c u .holder) i ≡ true
+      → unitIn (takeAll (s .units) j (wanted asg)) c u ≡ unitIn (s .units) c u
   take-held c u i e =
       let k = unit-take (s .units) j (wanted asg) c u in
       rw (k .1, not-assignable (unitIn (s .units) c u) (held-taken (unitIn (s .units) c u .holder) i e)) (by-bool (k .0) (λ t. rw t) (λ t. rw t))
 
-  taken-by : (c u i : ℕ) → heldBy (unitIn (takeAll (s .units) j (wanted asg)) c u .holder) i ≡ true → (b : Bool) → eqb i j ≡ b → isEmpty (cond b Running (stateIn (s .jobs) i)) ≡ false
+  taken-by : (c u i : ℕ) → heldBy (unitIn (takeAll (s .units) j (wanted asg)) c u .holder) i ≡ true → (b : Bool) → eqb i j ≡ b
+      → isEmpty (cond b Running (stateIn (s .jobs) i)) ≡ false
   taken-by c u i e true d = refl
   taken-by c u i e false d =
       let m = unit-take (s .units) j (wanted asg) c u in
       let b : heldBy (takeUnit j (m .0) (unitIn (s .units) c u) .holder) i ≡ true = rw (m .1) at e in
       go (m .0 && assignable (unitIn (s .units) c u)) b
     where
-      go : (w : Bool) → heldBy ((cond w (record { holder = Held j; down = unitIn (s .units) c u .down; reserved = unitIn (s .units) c u .reserved; interlock = false }) (unitIn (s .units) c u)) .holder) i ≡ true → isEmpty (stateIn (s .jobs) i) ≡ false
+      go : (w : Bool) → heldBy ((cond w
+          (record { holder = Held j; down = unitIn (s .units) c u .down; reserved = unitIn (s .units) c u .reserved; interlock = false })
+          (unitIn (s .units) c u)) .holder)
+          i
+          ≡ true
+          → isEmpty (stateIn (s .jobs) i) ≡ false
       go true k = absurd (eqb-false i j d (sym (eqb-true j i k)))
       go false k = I .holders c u i k
 
@@ -192,7 +207,8 @@ module _ (s : State) (I : Inv s) (j : ℕ) (inside : j < 16) (empty : isEmpty (s
           going = rw (packet-fresh (s .jobs) j asg i there-is n, another i (I .motion c i n e .alive)) (I .motion c i n e .going);
           channel = rw (packet-fresh (s .jobs) j asg i there-is n, another i (I .motion c i n e .alive)) (I .motion c i n e .channel);
           alive = rw (state-fresh (s .jobs) j asg i there-is, another i (I .motion c i n e .alive)) (I .motion c i n e .alive);
-          owned = rw (packet-fresh (s .jobs) j asg i there-is n, another i (I .motion c i n e .alive)) (keeps i (packetIn (s .jobs) i n) (I .motion c i n e .owned));
+          owned = rw (packet-fresh (s .jobs) j asg i there-is n, another i (I .motion c i n e .alive))
+              (keeps i (packetIn (s .jobs) i n) (I .motion c i n e .owned));
         };
         holders = λ c u i e. rw (state-fresh (s .jobs) j asg i there-is) (taken-by c u i e (eqb i j) refl);
       }
@@ -209,7 +225,8 @@ module _ (s : State) (I : Inv s) (j : ℕ) (inside : j < 16) (empty : isEmpty (s
       keeps : (i : ℕ) (q : Packet) → Owned s i q → Owned (assigned s j asg) i q
       keeps i q = keeps-at i (q .channel .0) (q .at)
 
-      stays : (c : ℕ) (a : Site) → isReturning (unitAt (s .units) c a .holder) ≡ false → isReturning (unitAt (takeAll (s .units) j (wanted asg)) c a .holder) ≡ false
+      stays : (c : ℕ) (a : Site) → isReturning (unitAt (s .units) c a .holder) ≡ false
+          → isReturning (unitAt (takeAll (s .units) j (wanted asg)) c a .holder) ≡ false
       stays c (AtUnit u) e = let k = unit-take (s .units) j (wanted asg) c (u .0) in rw (k .1) (take-stays j (k .0) (unitIn (s .units) c (u .0)) e)
       stays c (AtAddress x) e = e
 
@@ -219,6 +236,8 @@ module _ (s : State) (I : Inv s) (j : ℕ) (inside : j < 16) (empty : isEmpty (s
           record {
             listed = rw (packet-fresh (s .jobs) j asg (placeOf e) there-is (packetOf e), d) (k .listed);
             running = rw (state-fresh (s .jobs) j asg (placeOf e) there-is, d) (k .running);
-            owned = rw (packet-fresh (s .jobs) j asg (placeOf e) there-is (packetOf e), d) (keeps (placeOf e) (packetIn (s .jobs) (placeOf e) (packetOf e)) (k .owned));
-            staying = rw (packet-fresh (s .jobs) j asg (placeOf e) there-is (packetOf e), d) (stays (packetIn (s .jobs) (placeOf e) (packetOf e) .channel .0) (packetIn (s .jobs) (placeOf e) (packetOf e) .at) (k .staying));
+            owned = rw (packet-fresh (s .jobs) j asg (placeOf e) there-is (packetOf e), d)
+                (keeps (placeOf e) (packetIn (s .jobs) (placeOf e) (packetOf e)) (k .owned));
+            staying = rw (packet-fresh (s .jobs) j asg (placeOf e) there-is (packetOf e), d)
+                (stays (packetIn (s .jobs) (placeOf e) (packetOf e) .channel .0) (packetIn (s .jobs) (placeOf e) (packetOf e) .at) (k .staying));
           }

@@ -13,14 +13,17 @@ use Rattle.units.specs.declared.Mark.{Mark as UnitMark}
 use Rattle.units.specs.declared.Mark.the-variants.{Down, Reserved}
 use Rattle.numbers.proofs.Tests.{by-bool, never}
 use Rattle.units.specs.State.{unitIn, unitSet, markedUnit}
-use Rattle.packets.proofs.Inv.{Elsewhere, EntryOk, Inv, OkEntry, OkMotion, Owned, Spots, Staying, listed-busy, motion-busy, requeued, running-alive, single-relist}
-use Rattle.packets.specs.State.{inMotion, State, enlisted, enqueue, entryOf, isBusy, isIdle, isListed, lock, motionOn, move, packetIn, packetOf, packetsIn, placeOf, put, restatusAll, setLock, stateIn, store, sweep}
+use Rattle.packets.proofs.Inv.{Elsewhere, EntryOk, Inv, OkEntry, OkMotion, Owned, Spots, Staying}
+use Rattle.packets.proofs.Inv.{listed-busy, motion-busy, requeued, running-alive, single-relist}
+use Rattle.packets.specs.State.{inMotion, State, enlisted, enqueue, entryOf, isBusy, isIdle, isListed, lock, motionOn, move}
+use Rattle.packets.specs.State.{packetIn, packetOf, packetsIn, placeOf, put, restatusAll, setLock, stateIn, store, sweep}
 use Rattle.numbers.specs.Elements.{All}
 use Rattle.packets.proofs.Laws.{all-append, all-imp, and-left, and-right}
 use Rattle.packets.proofs.Once.{few, nodup-snoc}
 use Rattle.packets.specs.Rules.{marked}
 use Rattle.packets.proofs.Sites.{holder-at, lock-holder}
-use Rattle.packets.proofs.Store.{alive-in, busy-in, length-put, length-restatus, packet-put, packet-restatus, size-put, size-restatus, sizeIn, state-put, state-restatus, unit-keep}
+use Rattle.packets.proofs.Store.{alive-in, busy-in, length-put, length-restatus, packet-put, packet-restatus}
+use Rattle.packets.proofs.Store.{size-put, size-restatus, sizeIn, state-put, state-restatus, unit-keep}
 use Rattle.packets.specs.declared.Carrier.{Carrier}
 use Rattle.packets.specs.declared.Job.{Job}
 use Rattle.packets.specs.declared.Motion.{Motion}
@@ -36,7 +39,8 @@ use Rattle.packets.specs.declared.Status.the-variants.{Blank}
 pub put-elsewhere : (jobs : List Job) (j p : ℕ) (q : Packet) → p < sizeIn jobs j → Elsewhere j jobs (put jobs j p q)
 put-elsewhere jobs j p q fits i n d = packet-put jobs j p q i n fits ∙ rw d
 
-pub restatus-elsewhere : (jobs : List Job) (j : ℕ) (t : Packet → Bool) (f : Status → Status) → j < length jobs → f Blank ≡ Blank → Elsewhere j jobs (restatusAll jobs j t f)
+pub restatus-elsewhere : (jobs : List Job) (j : ℕ) (t : Packet → Bool) (f : Status → Status) → j < length jobs → f Blank ≡ Blank
+    → Elsewhere j jobs (restatusAll jobs j t f)
 restatus-elsewhere jobs j t f inside fb i n d = packet-restatus jobs j t f i n inside fb ∙ rw d
 
 module _ (s : State) (I : Inv s) (j p : ℕ) (q : Packet) (fits : p < sizeIn (s .jobs) j)
@@ -50,7 +54,8 @@ module _ (s : State) (I : Inv s) (j p : ℕ) (q : Packet) (fits : p < sizeIn (s 
       let y : n ≡ p = eqb-true n p (and-right (eqb i j) (eqb n p) e) in rw (x, y) (spot (rw (x, y) at b))))
       (λ e. rw e (refl, refl)))
 
-  store-owned : (i n : ℕ) → isBusy (packetIn (s .jobs) i n .status) ≡ true → Owned s i (packetIn (s .jobs) i n) → Owned s i (packetIn (put (s .jobs) j p q) i n)
+  store-owned : (i n : ℕ) → isBusy (packetIn (s .jobs) i n .status) ≡ true → Owned s i (packetIn (s .jobs) i n)
+      → Owned s i (packetIn (put (s .jobs) j p q) i n)
   store-owned i n b o = rw (store-spots i n b .0, store-spots i n b .1) o
 
   store-going : (c i n : ℕ) → motionOn s c ≡ Busy i n → inMotion (packetIn (put (s .jobs) j p q) i n .status) ≡ true
@@ -117,7 +122,8 @@ module _ (s : State) (I : Inv s) (j : ℕ) (t : Packet → Bool) (f : Status →
         places = length-restatus (s .jobs) j t f ∙ I .places;
         channels = I .channels;
         single = single-relist j (packetsIn (restatusAll (s .jobs) j t f) j) (s .queue) (I .single);
-        queued = requeued s (sweep s j t f) j (restatusAll (s .jobs) j t f) (restatus-elsewhere (s .jobs) j t f inside fb) entry (s .queue) (I .queued);
+        queued = requeued s (sweep s j t f) j (restatusAll (s .jobs) j t f) (restatus-elsewhere (s .jobs) j t f inside fb) entry
+            (s .queue) (I .queued);
         motion = λ c i n e. record {
           going = sweep-going i n (I .motion c i n e .going);
           channel = sweep-channel i n ∙ I .motion c i n e .channel;
@@ -151,7 +157,13 @@ module _ (s : State) (I : Inv s) (units : List (List UnitState))
         channels = I .channels;
         single = I .single;
         queued = all-imp (EntryOk s) (EntryOk reunit)
-            (λ e k. record { listed = k .listed; running = k .running; owned = owned (placeOf e) (packetIn (s .jobs) (placeOf e) (packetOf e)) (k .owned); staying = staying (packetIn (s .jobs) (placeOf e) (packetOf e)) (k .staying) }) (s .queue) (I .queued);
+            (λ e k. record {
+              listed = k .listed;
+              running = k .running;
+              owned = owned (placeOf e) (packetIn (s .jobs) (placeOf e) (packetOf e)) (k .owned);
+              staying = staying (packetIn (s .jobs) (placeOf e) (packetOf e)) (k .staying);
+            })
+            (s .queue) (I .queued);
         motion = λ c i n e. record {
           going = I .motion c i n e .going;
           channel = I .motion c i n e .channel;
@@ -177,7 +189,8 @@ mark-holder Reserved on v = refl
 pub marked-inv : (s : State) → Inv s → (c u : ℕ) (m : UnitMark) (on : Bool) → Inv (marked s c u m on)
 marked-inv s I c u m on =
     reunit-inv s I (unitSet (s .units) c u (markedUnit m on (unitIn (s .units) c u)))
-    (λ e w. unit-keep (λ (v : UnitState). v .holder) (s .units) c u (markedUnit m on (unitIn (s .units) c u)) e w (mark-holder m on (unitIn (s .units) c u)))
+    (λ e w. unit-keep (λ (v : UnitState). v .holder) (s .units) c u (markedUnit m on (unitIn (s .units) c u)) e w
+    (mark-holder m on (unitIn (s .units) c u)))
 
 -- ---- the queue and the channels
 
@@ -197,7 +210,8 @@ entry-small e h = omega arith
 
 pub entry-fits : (s : State) → Inv s → (e : ℕ) → EntryOk s e → e < 256
 entry-fits s I e k =
-    entry-small e (subst (λ (n : ℕ). placeOf e < n) (I .places) (alive-in (s .jobs) (placeOf e) (running-alive (stateIn (s .jobs) (placeOf e)) (k .running))))
+    entry-small e
+    (subst (λ (n : ℕ). placeOf e < n) (I .places) (alive-in (s .jobs) (placeOf e) (running-alive (stateIn (s .jobs) (placeOf e)) (k .running))))
 
 -- no more than 256 packets are listed
 pub room : (s : State) → Inv s → length (s .queue) ≤ 256
@@ -212,10 +226,14 @@ pub record New (s : State) (j p : ℕ) : Type 0 where
 -- there is room for it
 pub enlisted-is : (s : State) → Inv s → (j p : ℕ) → New s j p → enlisted (s .queue) (entryOf j p) ≡ s .queue ++ (entryOf j p ∷ [])
 unfolding enlisted
-enlisted-is s I j p n = rw (lt-ltb (length (s .queue)) 256 (less (few 256 (s .queue ++ (entryOf j p ∷ [])) below (nodup-snoc eqb (s .queue) (entryOf j p) (I .single) (n .once)))))
+enlisted-is s I j p n =
+    rw (lt-ltb (length (s .queue)) 256
+    (less (few 256 (s .queue ++ (entryOf j p ∷ [])) below (nodup-snoc eqb (s .queue) (entryOf j p) (I .single) (n .once)))))
   where
     bound : entryOf j p < 256
-    bound = entry-small (entryOf j p) (rw (entry-place j p (n .small)) (subst (λ (k : ℕ). j < k) (I .places) (alive-in (s .jobs) j (running-alive (stateIn (s .jobs) j) (n .ok .running)))))
+    bound =
+        entry-small (entryOf j p) (rw (entry-place j p (n .small))
+        (subst (λ (k : ℕ). j < k) (I .places) (alive-in (s .jobs) j (running-alive (stateIn (s .jobs) j) (n .ok .running)))))
 
     below : All (λ (e : ℕ). e < 256) (s .queue ++ (entryOf j p ∷ []))
     below =
@@ -234,10 +252,17 @@ enqueue-inv s I j p n =
       holders = I .holders;
       single = rw (enlisted-is s I j p n) (nodup-snoc eqb (s .queue) (entryOf j p) (I .single) (n .once));
       queued = subst (λ (q : List ℕ). All (EntryOk (enqueue s j p)) q) (sym (enlisted-is s I j p n))
-          (all-imp (EntryOk s) (EntryOk (enqueue s j p)) (λ e x. record { listed = x .listed; running = x .running; owned = x .owned; staying = x .staying })
+          (all-imp (EntryOk s) (EntryOk (enqueue s j p))
+          (λ e x. record { listed = x .listed; running = x .running; owned = x .owned; staying = x .staying })
           (s .queue ++ (entryOf j p ∷ []))
-          (all-append (EntryOk s) (s .queue) (entryOf j p ∷ []) (I .queued) (rw (entry-place j p (n .small), entry-packet j p (n .small)) (n .ok), tt)));
-      motion = λ c i n e. record { going = I .motion c i n e .going; channel = I .motion c i n e .channel; alive = I .motion c i n e .alive; owned = I .motion c i n e .owned };
+          (all-append (EntryOk s) (s .queue) (entryOf j p ∷ []) (I .queued)
+          (rw (entry-place j p (n .small), entry-packet j p (n .small)) (n .ok), tt)));
+      motion = λ c i n e. record {
+        going = I .motion c i n e .going;
+        channel = I .motion c i n e .channel;
+        alive = I .motion c i n e .alive;
+        owned = I .motion c i n e .owned;
+      };
     }
 
 -- what a channel moves after a move
@@ -256,7 +281,8 @@ remove s I moving len f =
       channels = len;
       holders = I .holders;
       single = I .single;
-      queued = all-imp (EntryOk s) (EntryOk (record { channels = s .channels; codes = s .codes; units = s .units; moving = moving; jobs = s .jobs; queue = s .queue }))
+      queued = all-imp (EntryOk s)
+          (EntryOk (record { channels = s .channels; codes = s .codes; units = s .units; moving = moving; jobs = s .jobs; queue = s .queue }))
           (λ e x. record { listed = x .listed; running = x .running; owned = x .owned; staying = x .staying }) (s .queue) (I .queued);
       motion = λ c i n e. record { going = f c i n e .going; channel = f c i n e .channel; alive = f c i n e .alive; owned = f c i n e .owned };
     }

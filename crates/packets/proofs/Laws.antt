@@ -53,14 +53,16 @@ bool-iff false false f g = refl
 
 module _ {A : Type 0} where
   -- what a store leaves alone is seen as before
-  pub getD-set-keep : {B : Type 0} (f : A → B) (l : List A) (i : ℕ) (v : A) (k : ℕ) (d : A) → f v ≡ f (getD l i d) → f (getD (set l i v) k d) ≡ f (getD l k d)
+  pub getD-set-keep : {B : Type 0} (f : A → B) (l : List A) (i : ℕ) (v : A) (k : ℕ) (d : A) → f v ≡ f (getD l i d)
+      → f (getD (set l i v) k d) ≡ f (getD l k d)
   getD-set-keep f [] i v k d e = refl
   getD-set-keep f (x ∷ l) zero v zero d e = e
   getD-set-keep f (x ∷ l) zero v (suc k) d e = refl
   getD-set-keep f (x ∷ l) (suc i) v zero d e = refl
   getD-set-keep f (x ∷ l) (suc i) v (suc k) d e = getD-set-keep f l i v k d e
 
-  pub getD-mapFrom : (f : ℕ → A → A) (d : A) → ((k : ℕ) → f k d ≡ d) → (m : ℕ) (l : List A) (k : ℕ) → getD (mapFrom m f l) k d ≡ f (m + k) (getD l k d)
+  pub getD-mapFrom : (f : ℕ → A → A) (d : A) → ((k : ℕ) → f k d ≡ d) → (m : ℕ) (l : List A) (k : ℕ)
+      → getD (mapFrom m f l) k d ≡ f (m + k) (getD l k d)
   getD-mapFrom f d e m [] k = sym (e (m + k))
   getD-mapFrom f d e m (x ∷ l) zero = rw add-zero
   getD-mapFrom f d e m (x ∷ l) (suc k) = getD-mapFrom f d e (suc m) l k ∙ ap (λ (i : ℕ). f i (getD l k d)) (suc-add m k ∙ sym (add-suc m k))
@@ -69,7 +71,8 @@ module _ {A : Type 0} where
   pub getD-mapFrom-in : (f : ℕ → A → A) (d : A) (m : ℕ) (l : List A) (k : ℕ) → k < length l → getD (mapFrom m f l) k d ≡ f (m + k) (getD l k d)
   getD-mapFrom-in f d m [] k h = absurd (omega arith)
   getD-mapFrom-in f d m (x ∷ l) zero h = rw add-zero
-  getD-mapFrom-in f d m (x ∷ l) (suc k) h = getD-mapFrom-in f d (suc m) l k (omega arith) ∙ ap (λ (i : ℕ). f i (getD l k d)) (suc-add m k ∙ sym (add-suc m k))
+  getD-mapFrom-in f d m (x ∷ l) (suc k) h =
+      getD-mapFrom-in f d (suc m) l k (omega arith) ∙ ap (λ (i : ℕ). f i (getD l k d)) (suc-add m k ∙ sym (add-suc m k))
 
   pub length-mapFrom : (f : ℕ → A → A) (m : ℕ) (l : List A) → length (mapFrom m f l) ≡ length l
   length-mapFrom f m [] = refl

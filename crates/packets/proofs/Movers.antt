@@ -108,14 +108,16 @@ motion-kept s I (Do (Act′.Start d)) r c n o =
     let m = starts-on s (d .0) r in
     let y = find-some (find (startable s (d .0)) (s .queue)) (m .2) in
     let apart : eqb c (d .0) ≡ false = ne-eqb c (d .0) (λ q. n (ap Start (sym q))) in
-    let k : motionOn (begun s (d .0) (y .0)) c ≡ motionOn s c = motion-move s (d .0) (Busy (placeOf (y .0)) (packetOf (y .0))) c (rw (I .channels) (m .0)) ∙ rw apart in
+    let k : motionOn (begun s (d .0) (y .0)) c ≡ motionOn s c =
+    motion-move s (d .0) (Busy (placeOf (y .0)) (packetOf (y .0))) c (rw (I .channels) (m .0)) ∙ rw apart in
     rw (y .1) k
 motion-kept s I (Do (Act′.Complete d how)) r c n o =
     let m = completes-on s (d .0) how r in
     let y = busy-of (motionOn s (d .0)) (m .1) in
     let apart : eqb c (d .0) ≡ false = ne-eqb c (d .0) (λ q. o how (ap (λ (e : ℕ). Complete e how) (sym q))) in
     let k : motionOn (returnIfDone (y .0) (finished s (d .0) how (y .0) (y .1))) c ≡ motionOn s c =
-    return-motion (finished s (d .0) how (y .0) (y .1)) (y .0) c ∙ finished-motion s (d .0) how (y .0) (y .1) c ∙ motion-move s (d .0) Idle c (rw (I .channels) (m .0)) ∙ rw apart in
+    return-motion (finished s (d .0) how (y .0) (y .1)) (y .0) c ∙ finished-motion s (d .0) how (y .0) (y .1) c
+    ∙ motion-move s (d .0) Idle c (rw (I .channels) (m .0)) ∙ rw apart in
     rw (y .2) k
 motion-kept s I (Do (Act′.End j b)) r c n o = return-motion (closed s j b) j c
 motion-kept s I (Do (Act′.Return j d v)) r c n o = refl
@@ -141,7 +143,8 @@ pub at-kept : (s : State) → Inv s → (x : Call) → refusal s x ≡ Granted �
 unfolding accept
 at-kept s I (Take j asg) r c i n is =
     let k = assigns-to s j asg r in
-    let e : eqb i j ≡ false = by-bool (eqb i j) (λ t. never {b = isEmpty (stateIn (s .jobs) j)} (k .1) (rw (eqb-true i j t) at (I .motion c i n is .alive))) (λ t. t) in
+    let e : eqb i j ≡ false =
+    by-bool (eqb i j) (λ t. never {b = isEmpty (stateIn (s .jobs) j)} (k .1) (rw (eqb-true i j t) at (I .motion c i n is .alive))) (λ t. t) in
     let z : packetIn (assigned s j asg .jobs) i n ≡ packetIn (s .jobs) i n = packet-fresh (s .jobs) j asg i (rw (I .places) (k .0)) n ∙ rw e in
     ap (λ (q : Packet). q .at) z
 at-kept s I (Do (Act′.Submit j p f d w)) r c i n is =
@@ -154,12 +157,14 @@ at-kept s I (Do (Act′.Start d)) r c i n is =
     let q = find-holds (EntryOk s) (startable s (d .0)) (s .queue) e (I .queued) (y .1) in
     let fits = start-fits s I (d .0) (m .0) e (q .0) (startable-on s (d .0) e (q .1)) in
     let k : packetIn (begun s (d .0) e .jobs) i n .at ≡ packetIn (s .jobs) i n .at =
-    calm-status (its i) s (placeOf e) (packetOf e) InProgress fits (listed-busy (packetIn (s .jobs) (placeOf e) (packetOf e) .status) (q .0 .listed)) n .2 in
+    calm-status (its i) s (placeOf e) (packetOf e) InProgress fits
+    (listed-busy (packetIn (s .jobs) (placeOf e) (packetOf e) .status) (q .0 .listed)) n .2 in
     rw (y .1) k
 at-kept s I (Do (Act′.Complete d how)) r c i n is =
     let m = completes-on s (d .0) how r in
     let y = busy-of (motionOn s (d .0)) (m .1) in
-    let k : packetIn (completed s (d .0) how (Busy (y .0) (y .1)) .jobs) i n .at ≡ packetIn (s .jobs) i n .at = calm-finished (its i) s I (d .0) (m .0) how (y .0) (y .1) (y .2) n .2 in
+    let k : packetIn (completed s (d .0) how (Busy (y .0) (y .1)) .jobs) i n .at ≡ packetIn (s .jobs) i n .at =
+    calm-finished (its i) s I (d .0) (m .0) how (y .0) (y .1) (y .2) n .2 in
     rw (y .2) k
 at-kept s I (Do (Act′.End j b)) r c i n is =
     let inside = alive-in (s .jobs) j (running-alive (stateIn (s .jobs) j) (ends-of s j b r)) in
@@ -167,8 +172,11 @@ at-kept s I (Do (Act′.End j b)) r c i n is =
     let s₁ = sweep s j always cut in
     let s₂ = closed s j b in
     calm-trans h s s₁ (ended s j b) n (calm-sweep h s j always cut inside refl cut-idle n)
-    (calm-trans h s₁ s₂ (ended s j b) n (calm-same h s₁ s₂ n (packet-state (restatusAll (s .jobs) j always cut) j (closing b) i n)) (calm-return h s₂ j n)) .2
-at-kept s I (Do (Act′.Return j d v)) r c i n is = calm-sweep (its i) s j (isAt (d .0) (unitSite (v .0))) cut (returns-inside s I j (d .0) (v .0) (returns-of s j (d .0) (v .0) r)) refl cut-idle n .2
+    (calm-trans h s₁ s₂ (ended s j b) n (calm-same h s₁ s₂ n (packet-state (restatusAll (s .jobs) j always cut) j (closing b) i n))
+    (calm-return h s₂ j n)) .2
+at-kept s I (Do (Act′.Return j d v)) r c i n is =
+    calm-sweep (its i) s j (isAt (d .0) (unitSite (v .0))) cut (returns-inside s I j (d .0) (v .0) (returns-of s j (d .0) (v .0) r)) refl
+    cut-idle n .2
 at-kept s I (Do (Act′.Mark d v m on)) r c i n is = refl
 
 -- ---- a unit on which something moves has no interlock
@@ -186,16 +194,19 @@ module _ (s : State) (I : Inv s) (x : Call) (r : refusal s x ≡ Granted) where
       by-motion d how Idle c u n = by-bool (isTrouble (s .codes) how) (λ t. rw t) (λ t. rw t)
       by-motion d how (Busy j p) c u n = rw n (by-bool (isTrouble (s .codes) how) (λ t. rw t) (λ t. rw t))
 
-      by-call : (x : Call) (c u : ℕ) → unitIn (s .units) c u .interlock ≡ false → ((how : How) → x ≡ Complete c how → ⊥) → interlockAfter s x c u ≡ false
+      by-call : (x : Call) (c u : ℕ) → unitIn (s .units) c u .interlock ≡ false → ((how : How) → x ≡ Complete c how → ⊥)
+          → interlockAfter s x c u ≡ false
       by-call (Take j asg) c u e o = by-bool (heldBy (unitIn (accept s (Take j asg) .units) c u .holder) j) (λ t. rw t) (λ t. rw (t, e))
       by-call (Do (Act′.Submit j p f d w)) c u e o = by-bool (eqb f 0o07 && isThat c u (d .0) (siteOf w)) (λ t. rw t) (λ t. rw (t, e))
       by-call (Do (Act′.Start d)) c u e o = e
-      by-call (Do (Act′.Complete d how)) c u e o = rw (by-motion (d .0) how (motionOn s (d .0)) c u (ne-eqb c (d .0) (λ q. o how (ap (λ (n : ℕ). Complete n how) (sym q)))), e)
+      by-call (Do (Act′.Complete d how)) c u e o =
+          rw (by-motion (d .0) how (motionOn s (d .0)) c u (ne-eqb c (d .0) (λ q. o how (ap (λ (n : ℕ). Complete n how) (sym q)))), e)
       by-call (Do (Act′.End j b)) c u e o = e
       by-call (Do (Act′.Return j d v)) c u e o = e
       by-call (Do (Act′.Mark d v m on)) c u e o = e
 
-  stays-open : (c : ℕ) (a : Site) → unitAt (s .units) c a .interlock ≡ false → ((how : How) → x ≡ Complete c how → ⊥) → unitAt (accept s x .units) c a .interlock ≡ false
+  stays-open : (c : ℕ) (a : Site) → unitAt (s .units) c a .interlock ≡ false → ((how : How) → x ≡ Complete c how → ⊥)
+      → unitAt (accept s x .units) c a .interlock ≡ false
   stays-open c (AtUnit u) e o = lock-after s I c (u .0) x r ∙ unlocked c (u .0) e o
   stays-open c (AtAddress y) e o = refl
 
@@ -207,12 +218,17 @@ module _ (s : State) (I : Inv s) (x : Call) (r : refusal s x ≡ Granted) where
       rw (at-kept s I x r c j p is) (stays-open c (packetIn (s .jobs) j p .at) (O c j p is) o)
 
 accept-open : (s : State) → Inv s → Opened s → (x : Call) → refusal s x ≡ Granted → Opened (accept s x)
-accept-open s I O (Take i asg) r c j p e = moved-open s I (Take i asg) r O c j p e (λ q. let y : _≡_ {A = ℕ} 0 1 = cc in omega arith) (λ how q. let y : _≡_ {A = ℕ} 0 1 = cc in omega arith)
-accept-open s I O (Do (Act′.Submit i n f d w)) r c j p e = moved-open s I (Submit i n f (d .0) w) r O c j p e (λ q. let y : _≡_ {A = ℕ} 0 1 = cc in omega arith) (λ how q. let y : _≡_ {A = ℕ} 0 1 = cc in omega arith)
+accept-open s I O (Take i asg) r c j p e =
+    moved-open s I (Take i asg) r O c j p e (λ q. let y : _≡_ {A = ℕ} 0 1 = cc in omega arith)
+    (λ how q. let y : _≡_ {A = ℕ} 0 1 = cc in omega arith)
+accept-open s I O (Do (Act′.Submit i n f d w)) r c j p e =
+    moved-open s I (Submit i n f (d .0) w) r O c j p e (λ q. let y : _≡_ {A = ℕ} 0 1 = cc in omega arith)
+    (λ how q. let y : _≡_ {A = ℕ} 0 1 = cc in omega arith)
 accept-open s I O (Do (Act′.Start d)) r c j p e =
     by-bool (eqb c (d .0))
     (λ t. now (eqb-true c (d .0) t))
-    (λ t. moved-open s I (Start (d .0)) r O c j p e (λ q. let y : c ≡ (d .0) = cc in eqb-false c (d .0) t y) (λ how q. let y : _≡_ {A = ℕ} 0 1 = cc in omega arith))
+    (λ t. moved-open s I (Start (d .0)) r O c j p e (λ q. let y : c ≡ (d .0) = cc in eqb-false c (d .0) t y)
+    (λ how q. let y : _≡_ {A = ℕ} 0 1 = cc in omega arith))
   where
     now : c ≡ (d .0) → unitAt (accept s (Start (d .0)) .units) c (packetIn (accept s (Start (d .0)) .jobs) j p .at) .interlock ≡ false
     now same = unfold accept in
@@ -222,17 +238,22 @@ accept-open s I O (Do (Act′.Start d)) r c j p e =
         let b = packetIn (s .jobs) (placeOf (y .0)) (packetOf (y .0)) in
         let e₁ : motionOn (started s (d .0) (find (startable s (d .0)) (s .queue))) c ≡ Busy j p = e in
         let e₂ : motionOn (begun s (d .0) (y .0)) (d .0) ≡ Busy j p = rw (y .1, same) at e₁ in
-        let z : Busy (placeOf (y .0)) (packetOf (y .0)) ≡ Busy j p = sym (motion-move s (d .0) (Busy (placeOf (y .0)) (packetOf (y .0))) (d .0) (rw (I .channels) (m .0)) ∙ rw (eqb-self (d .0))) ∙ e₂ in
+        let z : Busy (placeOf (y .0)) (packetOf (y .0)) ≡ Busy j p =
+        sym (motion-move s (d .0) (Busy (placeOf (y .0)) (packetOf (y .0))) (d .0) (rw (I .channels) (m .0)) ∙ rw (eqb-self (d .0))) ∙ e₂ in
         let x₁ : j ≡ placeOf (y .0) = cc in
         let x₂ : p ≡ packetOf (y .0) = cc in
-        let w : packetIn (begun s (d .0) (y .0) .jobs) (placeOf (y .0)) (packetOf (y .0)) .at ≡ b .at = ap (λ (o : Packet). o .at) (start-at s I (d .0) (m .0) (y .0) (q .0) (startable-on s (d .0) (y .0) (q .1))) in
-        let k : unitAt (begun s (d .0) (y .0) .units) (d .0) (packetIn (begun s (d .0) (y .0) .jobs) (placeOf (y .0)) (packetOf (y .0)) .at) .interlock ≡ false =
+        let w : packetIn (begun s (d .0) (y .0) .jobs) (placeOf (y .0)) (packetOf (y .0)) .at ≡ b .at =
+        ap (λ (o : Packet). o .at) (start-at s I (d .0) (m .0) (y .0) (q .0) (startable-on s (d .0) (y .0) (q .1))) in
+        let k : unitAt (begun s (d .0) (y .0) .units) (d .0)
+        (packetIn (begun s (d .0) (y .0) .jobs) (placeOf (y .0)) (packetOf (y .0)) .at) .interlock
+        ≡ false =
         ap (λ (a : Site). unitAt (s .units) (d .0) a .interlock) w ∙ not-true _ (and-right (eqb (b .channel .0) (d .0)) _ (q .1)) in
         rw (y .1, same, x₁, x₂) k
 accept-open s I O (Do (Act′.Complete d how)) r c j p e =
     by-bool (eqb c (d .0))
     (λ t. absurd (idle (eqb-true c (d .0) t)))
-    (λ t. moved-open s I (Complete (d .0) how) r O c j p e (λ q. let y : _≡_ {A = ℕ} 0 1 = cc in omega arith) (λ how′ q. let y : c ≡ (d .0) = cc in eqb-false c (d .0) t y))
+    (λ t. moved-open s I (Complete (d .0) how) r O c j p e (λ q. let y : _≡_ {A = ℕ} 0 1 = cc in omega arith)
+    (λ how′ q. let y : c ≡ (d .0) = cc in eqb-false c (d .0) t y))
   where
     idle : c ≡ (d .0) → ⊥
     idle same = unfold accept in
@@ -242,14 +263,20 @@ accept-open s I O (Do (Act′.Complete d how)) r c j p e =
         let e₂ : motionOn (returnIfDone (y .0) (finished s (d .0) how (y .0) (y .1))) (d .0) ≡ Busy j p = rw (y .2, same) at e₁ in
         let z : Idle ≡ Busy j p = sym (completed-idle s I (d .0) (m .0) how (y .0) (y .1)) ∙ e₂ in
         absurd (let y : _≡_ {A = ℕ} 0 1 = cc in omega arith)
-accept-open s I O (Do (Act′.End i b)) r c j p e = moved-open s I (End i b) r O c j p e (λ q. let y : _≡_ {A = ℕ} 0 1 = cc in omega arith) (λ how q. let y : _≡_ {A = ℕ} 0 1 = cc in omega arith)
-accept-open s I O (Do (Act′.Return i d v)) r c j p e = moved-open s I (Return i (d .0) (v .0)) r O c j p e (λ q. let y : _≡_ {A = ℕ} 0 1 = cc in omega arith) (λ how q. let y : _≡_ {A = ℕ} 0 1 = cc in omega arith)
-accept-open s I O (Do (Act′.Mark d v m on)) r c j p e = moved-open s I (Mark (d .0) (v .0) m on) r O c j p e (λ q. let y : _≡_ {A = ℕ} 0 1 = cc in omega arith) (λ how q. let y : _≡_ {A = ℕ} 0 1 = cc in omega arith)
+accept-open s I O (Do (Act′.End i b)) r c j p e =
+    moved-open s I (End i b) r O c j p e (λ q. let y : _≡_ {A = ℕ} 0 1 = cc in omega arith) (λ how q. let y : _≡_ {A = ℕ} 0 1 = cc in omega arith)
+accept-open s I O (Do (Act′.Return i d v)) r c j p e =
+    moved-open s I (Return i (d .0) (v .0)) r O c j p e (λ q. let y : _≡_ {A = ℕ} 0 1 = cc in omega arith)
+    (λ how q. let y : _≡_ {A = ℕ} 0 1 = cc in omega arith)
+accept-open s I O (Do (Act′.Mark d v m on)) r c j p e =
+    moved-open s I (Mark (d .0) (v .0) m on) r O c j p e (λ q. let y : _≡_ {A = ℕ} 0 1 = cc in omega arith)
+    (λ how q. let y : _≡_ {A = ℕ} 0 1 = cc in omega arith)
 
 fresh-open : (channels : List Channel) (codes : ℕ) (units : List (List UnitState)) → NoneHeld units → Opened (fresh channels codes units)
 unfolding fresh
 fresh-open channels codes units free c j p e =
-    never {b = isEmpty (stateIn (fresh channels codes units .jobs) j)} (ap isEmpty (fresh-state 16 emptyPlace refl j)) (fresh-inv channels codes units free .motion c j p e .alive)
+    never {b = isEmpty (stateIn (fresh channels codes units .jobs) j)} (ap isEmpty (fresh-state 16 emptyPlace refl j))
+    (fresh-inv channels codes units free .motion c j p e .alive)
 
 pub reached-open : (l : List Event) (s : State) → Reached l s → Opened s
 reached-open = by-history Opened (of-fresh Opened fresh-open) (λ l s r O x e. accept-open s (reached-inv l s r) O x e)

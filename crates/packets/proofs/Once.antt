@@ -16,7 +16,11 @@ module _ {A : Type 0} (same : A → A → Bool) where
   nodup-keep f [] h = tt
   nodup-keep f (x ∷ l) h =
       by-bool (f x)
-      (λ e. rw e (all-imp (λ (y : A). (same y x ≡ false) × (f y ≡ true)) (λ (y : A). same y x ≡ false) (λ y k. k .0) (keep f l) (all-keep (λ (y : A). same y x ≡ false) f l (h .0)), nodup-keep f l (h .1)))
+      (λ e. rw e (
+        all-imp (λ (y : A). (same y x ≡ false) × (f y ≡ true)) (λ (y : A). same y x ≡ false) (λ y k. k .0) (keep f l)
+            (all-keep (λ (y : A). same y x ≡ false) f l (h .0)),
+        nodup-keep f l (h .1),
+      ))
       (λ e. rw e (nodup-keep f l (h .1)))
 
   pub nodup-snoc : (l : List A) (z : A) → Nodup same l → All (λ (y : A). same z y ≡ false) l → Nodup same (l ++ (z ∷ []))

@@ -96,7 +96,8 @@ by-history P first more l s r =
     (λ m t d p x. by-verdict P t p x (more m t (record { from = r .from; begins = r .begins; leads = d }) p x)) l s (r .leads)
 
 -- it is so where a history begins if it is so of a fresh cell
-pub of-fresh : (P : State → Type 0) → ((channels : List Channel) (codes : ℕ) (units : List (List UnitState)) → NoneHeld units → P (fresh channels codes units))
+pub of-fresh : (P : State → Type 0)
+    → ((channels : List Channel) (codes : ℕ) (units : List (List UnitState)) → NoneHeld units → P (fresh channels codes units))
     → (s : State) → Begins s → P s
 of-fresh P f s b = subst P (sym (b .is)) (f (b .channels) (b .codes) (b .units) (b .none))
 

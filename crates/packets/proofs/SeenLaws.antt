@@ -59,7 +59,8 @@ pub calm-same : (h : Holding) (s s′ : State) (n : ℕ) → packetIn (s′ .job
 calm-same h s s′ n e = (rw e, λ b. rw e at b, ap (λ (q : Packet). q .at) e)
 
 -- a packet other than the one that is stored
-pub calm-other : (h : Holding) (s : State) (j p : ℕ) (q : Packet) → p < sizeIn (s .jobs) j → (n : ℕ) → eqb (h .place) j && eqb n p ≡ false → Calm h s (store s j p q) n
+pub calm-other : (h : Holding) (s : State) (j p : ℕ) (q : Packet) → p < sizeIn (s .jobs) j → (n : ℕ) → eqb (h .place) j && eqb n p ≡ false
+    → Calm h s (store s j p q) n
 calm-other h s j p q fits n e = calm-same h s (store s j p q) n (packet-put (s .jobs) j p q (h .place) n fits ∙ rw e)
 
 -- a busy packet that gets another status
@@ -67,9 +68,11 @@ pub calm-status : (h : Holding) (s : State) (j p : ℕ) (t : Status) → p < siz
     → (n : ℕ) → Calm h s (store s j p (withStatus (packetIn (s .jobs) j p) t)) n
 calm-status h s j p t fits b n =
     by-bool (eqb (h .place) j && eqb n p)
-    (λ e. let x : h .place ≡ j = eqb-true (h .place) j (and-left (eqb (h .place) j) (eqb n p) e) in
+    (λ e.
+    let x : h .place ≡ j = eqb-true (h .place) j (and-left (eqb (h .place) j) (eqb n p) e) in
     let y : n ≡ p = eqb-true n p (and-right (eqb (h .place) j) (eqb n p) e) in
-    let z : packetIn (put (s .jobs) j p (withStatus (packetIn (s .jobs) j p) t)) (h .place) n ≡ withStatus (packetIn (s .jobs) j p) t = packet-put (s .jobs) j p _ (h .place) n fits ∙ rw e in
+    let z : packetIn (put (s .jobs) j p (withStatus (packetIn (s .jobs) j p) t)) (h .place) n ≡ withStatus (packetIn (s .jobs) j p) t =
+    packet-put (s .jobs) j p _ (h .place) n fits ∙ rw e in
     (rw (z, x, y), λ w. rw (x, y) b, rw (z, x, y)))
     (λ e. calm-other h s j p (withStatus (packetIn (s .jobs) j p) t) fits n e)
 
@@ -92,7 +95,8 @@ calm-return h s j n =
     (λ e. rw e (calm-refl h s n))
 
 -- a submission, of another packet
-pub calm-submit : (h : Holding) (s : State) → Inv s → (j p f c : ℕ) (w : Spot) → Submits s j p f c w → (n : ℕ) → eqb (h .place) j && eqb n p ≡ false → Calm h s (submitted s j p f c w) n
+pub calm-submit : (h : Holding) (s : State) → Inv s → (j p f c : ℕ) (w : Spot) → Submits s j p f c w → (n : ℕ)
+    → eqb (h .place) j && eqb n p ≡ false → Calm h s (submitted s j p f c w) n
 calm-submit h s I j p f c w k n o =
     let a = siteOf w in
     let r : Ready s j p = record { small = k .small; running = k .running; idle = k .idle } in
@@ -127,8 +131,11 @@ submitted-read g v s I j p f c w k is =
     (λ e. rw e (by-bool (locked s c a)
     (λ d. rw (
       d,
-      stored-at (lock (sweep s j (isAt c a) failed) c a false) (lock-inv (sweep s j (isAt c a) failed) (sweep-inv s I j (isAt c a) failed inside refl failed-going) c a false) j p (packet (Ended 0o00) f c a)
-          (let r₁ = ready-sweep s j p (isAt c a) failed refl failed-idle r in record { small = r₁ .small; running = r₁ .running; idle = r₁ .idle }),
+      stored-at (lock (sweep s j (isAt c a) failed) c a false)
+          (lock-inv (sweep s j (isAt c a) failed) (sweep-inv s I j (isAt c a) failed inside refl failed-going) c a false) j p
+          (packet (Ended 0o00) f c a)
+          (let r₁ = ready-sweep s j p (isAt c a) failed refl failed-idle r in
+          record { small = r₁ .small; running = r₁ .running; idle = r₁ .idle }),
     ) (is (Ended 0o00)))
     (λ d. rw (d, stored-at s I j p (packet (Ended 0o00) f c a) r) (is (Ended 0o00)))))
     (λ e. rw e (by-bool (eqb f 0o23)
@@ -151,7 +158,8 @@ SeenOk h s t = (n : ℕ) → SeenAt h s (t n) n
 pub seen-calm : (h : Holding) (s s′ : State) (b : Bool) (n : ℕ) → Calm h s s′ n → SeenAt h s b n → SeenAt h s′ b n
 seen-calm h s s′ b n c k = (λ e. c .0 ∙ k .0 e, λ e. k .1 (c .1 e) ∙ sym (c .0))
 
-pub calm-finished : (h : Holding) (s : State) → Inv s → (c : ℕ) → c < 16 → (how : How) (j p : ℕ) → motionOn s c ≡ Busy j p → (n : ℕ) → Calm h s (returnIfDone j (finished s c how j p)) n
+pub calm-finished : (h : Holding) (s : State) → Inv s → (c : ℕ) → c < 16 → (how : How) (j p : ℕ) → motionOn s c ≡ Busy j p → (n : ℕ)
+    → Calm h s (returnIfDone j (finished s c how j p)) n
 calm-finished h s I c small how j p is n =
     let b = motion-busy (packetIn (s .jobs) j p .status) (I .motion c j p is .going) in
     let s₁ = over s c j p (codeFor how) in
@@ -163,7 +171,8 @@ calm-finished h s I c small how j p is n =
     (λ e. rw e k))
     (calm-return h (finished s c how j p) j n)
 
-pub accept-seen : (h : Holding) (s : State) → Inv s → Holds s h → (t : Seen) → SeenOk h s t → (x : Call) → refusal s x ≡ Granted → SeenOk h (accept s x) (noted h t x (answer s x))
+pub accept-seen : (h : Holding) (s : State) → Inv s → Holds s h → (t : Seen) → SeenOk h s t → (x : Call) → refusal s x ≡ Granted
+    → SeenOk h (accept s x) (noted h t x (answer s x))
 unfolding accept noted answer
 accept-seen h s I H t k (Take j asg) r =
     λ n. seen-calm h s (assigned s j asg) (t n) n
@@ -171,34 +180,48 @@ accept-seen h s I H t k (Take j asg) r =
     (packet-fresh (s .jobs) j asg (h .place) (rw (I .places) (assigns-to s j asg r .0)) n ∙ rw other)) (k n)
   where
     other : eqb (h .place) j ≡ false
-    other = by-bool (eqb (h .place) j) (λ e. never {b = isEmpty (stateIn (s .jobs) j)} (assigns-to s j asg r .1) (rw (eqb-true (h .place) j e) at (holder-alive h s I H))) (λ e. e)
+    other =
+        by-bool (eqb (h .place) j)
+        (λ e. never {b = isEmpty (stateIn (s .jobs) j)} (assigns-to s j asg r .1) (rw (eqb-true (h .place) j e) at (holder-alive h s I H)))
+        (λ e. e)
 accept-seen h s I H t k (Do (Act′.Submit j p f c w)) r =
     λ n. by-bool (eqb j (h .place) && eqb n p)
-    (λ e. let x : j ≡ h .place = eqb-true j (h .place) (and-left (eqb j (h .place)) (eqb n p) e) in
+    (λ e.
+    let x : j ≡ h .place = eqb-true j (h .place) (and-left (eqb j (h .place)) (eqb n p) e) in
     let y : n ≡ p = eqb-true n p (and-right (eqb j (h .place)) (eqb n p) e) in
-    let z : there h (packetIn (submitted s j p f (c .0) w .jobs) (h .place) n) ≡ isThere h (c .0) (siteOf w) = rw (← x, y) (submitted-read (there h) (isThere h (c .0) (siteOf w)) s I j p f (c .0) w (submits s j p f (c .0) w r) (λ t. refl)) in
+    let z : there h (packetIn (submitted s j p f (c .0) w .jobs) (h .place) n) ≡ isThere h (c .0) (siteOf w) =
+    rw (← x, y) (submitted-read (there h) (isThere h (c .0) (siteOf w)) s I j p f (c .0) w (submits s j p f (c .0) w r) (λ t. refl)) in
     rw e (λ d. z ∙ d, λ d. sym z))
-    (λ e. rw e (seen-calm h s (submitted s j p f (c .0) w) (t n) n (calm-submit h s I j p f (c .0) w (submits s j p f (c .0) w r) n (rw (eqb-flip (h .place) j) e)) (k n)))
+    (λ e. rw e (seen-calm h s (submitted s j p f (c .0) w) (t n) n
+    (calm-submit h s I j p f (c .0) w (submits s j p f (c .0) w r) n (rw (eqb-flip (h .place) j) e)) (k n)))
 accept-seen h s I H t k (Do (Act′.Start c)) r =
     let m = starts-on s (c .0) r in
     let o = find-some (find (startable s (c .0)) (s .queue)) (m .2) in
     let e = o .0 in
     let q = find-holds (EntryOk s) (startable s (c .0)) (s .queue) e (I .queued) (o .1) .0 in
     rw (o .1) (λ n. seen-calm h s (begun s (c .0) e) (t n) n
-    (calm-status h s (placeOf e) (packetOf e) InProgress (start-fits s I (c .0) (m .0) e q (startable-on s (c .0) e (find-holds (EntryOk s) (startable s (c .0)) (s .queue) e (I .queued) (o .1) .1))) (listed-busy (packetIn (s .jobs) (placeOf e) (packetOf e) .status) (q .listed)) n) (k n))
+    (calm-status h s (placeOf e) (packetOf e) InProgress
+    (start-fits s I (c .0) (m .0) e q (startable-on s (c .0) e (find-holds (EntryOk s) (startable s (c .0)) (s .queue) e (I .queued) (o .1) .1)))
+    (listed-busy (packetIn (s .jobs) (placeOf e) (packetOf e) .status) (q .listed)) n)
+    (k n))
 accept-seen h s I H t k (Do (Act′.Complete c how)) r =
     let m = completes-on s (c .0) how r in
     let o = busy-of (motionOn s (c .0)) (m .1) in
-    rw (o .2) (λ n. seen-calm h s (returnIfDone (o .0) (finished s (c .0) how (o .0) (o .1))) (t n) n (calm-finished h s I (c .0) (m .0) how (o .0) (o .1) (o .2) n) (k n))
+    rw (o .2) (λ n. seen-calm h s (returnIfDone (o .0) (finished s (c .0) how (o .0) (o .1))) (t n) n
+    (calm-finished h s I (c .0) (m .0) how (o .0) (o .1) (o .2) n) (k n))
 accept-seen h s I H t k (Do (Act′.End j e)) r =
     let inside = alive-in (s .jobs) j (running-alive (stateIn (s .jobs) j) (ends-of s j e r)) in
     let s₁ = sweep s j always cut in
     let s₂ = close s₁ j (closing e) in
     λ n. seen-calm h s (ended s j e) (t n) n
     (calm-trans h s s₁ (ended s j e) n (calm-sweep h s j always cut inside refl cut-idle n)
-    (calm-trans h s₁ s₂ (ended s j e) n (calm-same h s₁ s₂ n (packet-state (restatusAll (s .jobs) j always cut) j (closing e) (h .place) n)) (calm-return h s₂ j n))) (k n)
+    (calm-trans h s₁ s₂ (ended s j e) n (calm-same h s₁ s₂ n (packet-state (restatusAll (s .jobs) j always cut) j (closing e) (h .place) n))
+    (calm-return h s₂ j n)))
+    (k n)
 accept-seen h s I H t k (Do (Act′.Return j c u)) r =
-    λ n. seen-calm h s (handedBack s j (c .0) (unitSite (u .0))) (t n) n (calm-sweep h s j (isAt (c .0) (unitSite (u .0))) cut (returns-inside s I j (c .0) (u .0) (returns-of s j (c .0) (u .0) r)) refl cut-idle n) (k n)
+    λ n. seen-calm h s (handedBack s j (c .0) (unitSite (u .0))) (t n) n
+    (calm-sweep h s j (isAt (c .0) (unitSite (u .0))) cut (returns-inside s I j (c .0) (u .0) (returns-of s j (c .0) (u .0) r)) refl cut-idle n)
+    (k n)
 accept-seen h s I H t k (Do (Act′.Mark c u m on)) r = k
 
 -- a refused call is nothing to the lone unit, and says nothing of where a packet is

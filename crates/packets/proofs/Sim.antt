@@ -121,10 +121,18 @@ module _ (h : Holding) (s : State) (I : Inv s) (l : Lone) (S : Sim h s l) where
           ∙ sym (waits-listed (packetIn (s .jobs) (h .place) (packetOf e) .status)) ∙ rw p at (k .0 .listed)
 
   module _ (j : ℕ) (jobs : List Job) (elsewhere : Elsewhere j (s .jobs) jobs)
-      (kept : (n : ℕ) → isBusy (packetIn (s .jobs) (h .place) n .status) ≡ true → there h (packetIn jobs (h .place) n) ≡ there h (packetIn (s .jobs) (h .place) n))
+      (kept : (n : ℕ) → isBusy (packetIn (s .jobs) (h .place) n .status) ≡ true
+      → there h (packetIn jobs (h .place) n) ≡ there h (packetIn (s .jobs) (h .place) n))
       (states : stateIn jobs (h .place) ≡ stateIn (s .jobs) (h .place)) where
     abbrev rejob : State
-    rejob = record { channels = s .channels; codes = s .codes; units = s .units; moving = s .moving; jobs = jobs; queue = relist j (packetsIn jobs j) (s .queue) }
+    rejob = record {
+      channels = s .channels;
+      codes = s .codes;
+      units = s .units;
+      moving = s .moving;
+      jobs = jobs;
+      queue = relist j (packetsIn jobs j) (s .queue);
+    }
 
     same-moving : (m : Motion) → motionOn s (h .channel) ≡ m → movingThere h (s .jobs) m ≡ movingThere h jobs m
     same-moving Idle e = refl
@@ -143,7 +151,9 @@ module _ (h : Holding) (s : State) (I : Inv s) (l : Lone) (S : Sim h s l) where
         record {
           order = still-keep t (l .order) ∙ rw (S .order)
               (settle-eq (on h (s .jobs)) (on h jobs) (isKept j (packetsIn jobs j)) num (λ (n : ℕ). waits (t n .status)) (s .queue)
-              (all-imp (EntryOk s) (λ (e : ℕ). (on h jobs e ≡ on h (s .jobs) e) × (on h (s .jobs) e ≡ true → isKept j (packetsIn jobs j) e ≡ waits (t (num e) .status)))
+              (all-imp (EntryOk s)
+              (λ (e : ℕ). (on h jobs e ≡ on h (s .jobs) e)
+              × (on h (s .jobs) e ≡ true → isKept j (packetsIn jobs j) e ≡ waits (t (num e) .status)))
               (λ e k. (same e k, λ o. kept-still j (s .jobs) jobs elsewhere e (k .listed) ∙ listens e k o)) (s .queue) (I .queued)));
           table = table;
           moving = S .moving ∙ same-moving (motionOn s (h .channel)) refl;
@@ -160,7 +170,8 @@ module _ (h : Holding) (s : State) (I : Inv s) (l : Lone) (S : Sim h s l) where
             rw (d, kept (packetOf e) (listed-busy (packetIn (s .jobs) (h .place) (packetOf e) .status) (rw q at (k .listed)))))
             (λ d. rw d)
 
-        listens : (e : ℕ) → EntryOk s e → on h (s .jobs) e ≡ true → isListed (packetIn jobs (placeOf e) (packetOf e) .status) ≡ waits (t (num e) .status)
+        listens : (e : ℕ) → EntryOk s e → on h (s .jobs) e ≡ true
+            → isListed (packetIn jobs (placeOf e) (packetOf e) .status) ≡ waits (t (num e) .status)
         listens e k o =
             let p : placeOf e ≡ h .place = eqb-true (placeOf e) (h .place) (and-left (eqb (placeOf e) (h .place)) _ o) in
             let o′ : on h jobs e ≡ true = same e k ∙ o in
@@ -187,7 +198,8 @@ module _ (h : Holding) (s : State) (I : Inv s) (l : Lone) (S : Sim h s l) where
 
   module _ (j p : ℕ) (q : Packet) (fits : p < sizeIn (s .jobs) j)
       (same : isBusy (packetIn (s .jobs) j p .status) ≡ true → there h q ≡ there h (packetIn (s .jobs) j p)) where
-    store-kept : (n : ℕ) → isBusy (packetIn (s .jobs) (h .place) n .status) ≡ true → there h (packetIn (put (s .jobs) j p q) (h .place) n) ≡ there h (packetIn (s .jobs) (h .place) n)
+    store-kept : (n : ℕ) → isBusy (packetIn (s .jobs) (h .place) n .status) ≡ true
+        → there h (packetIn (put (s .jobs) j p q) (h .place) n) ≡ there h (packetIn (s .jobs) (h .place) n)
     store-kept n b =
         rw (packet-put (s .jobs) j p q (h .place) n fits)
         (by-bool (eqb (h .place) j && eqb n p)
@@ -198,7 +210,8 @@ module _ (h : Holding) (s : State) (I : Inv s) (l : Lone) (S : Sim h s l) where
 
     pub sim-store : h .place ≡ j → there h q ≡ true → (r : Request) → Like r q → Sim h (store s j p q) (stores l p r)
     sim-store at-j is-here r is =
-        sim-jobs j (put (s .jobs) j p q) (put-elsewhere (s .jobs) j p q fits) store-kept (state-put (s .jobs) j p q (h .place)) (write (l .packets) p r) table here
+        sim-jobs j (put (s .jobs) j p q) (put-elsewhere (s .jobs) j p q fits) store-kept (state-put (s .jobs) j p q (h .place))
+        (write (l .packets) p r) table here
       where
         here : (n : ℕ) → inUse (write (l .packets) p r n .status) ≡ true → there h (packetIn (put (s .jobs) j p q) (h .place) n) ≡ true
         here n u =
@@ -209,7 +222,8 @@ module _ (h : Holding) (s : State) (I : Inv s) (l : Lone) (S : Sim h s l) where
         table : (n : ℕ) → there h (packetIn (put (s .jobs) j p q) (h .place) n) ≡ true
             → Like (write (l .packets) p r n) (packetIn (put (s .jobs) j p q) (h .place) n)
         table n t =
-            let t′ : there h (cond (eqb (h .place) j && eqb n p) q (packetIn (s .jobs) (h .place) n)) ≡ true = rw (packet-put (s .jobs) j p q (h .place) n fits) at t in
+            let t′ : there h (cond (eqb (h .place) j && eqb n p) q (packetIn (s .jobs) (h .place) n)) ≡ true =
+            rw (packet-put (s .jobs) j p q (h .place) n fits) at t in
             let m : eqb (h .place) j ≡ true = rw at-j (eqb-self j) in
             rw (packet-put (s .jobs) j p q (h .place) n fits, m)
             (by-bool (eqb n p) (λ e. rw e is) (λ e. rw e (S .table n (rw (m, e) at t′))))
@@ -221,7 +235,8 @@ module _ (h : Holding) (s : State) (I : Inv s) (l : Lone) (S : Sim h s l) where
         table : (n : ℕ) → there h (packetIn (put (s .jobs) j p q) (h .place) n) ≡ true
             → Like (l .packets n) (packetIn (put (s .jobs) j p q) (h .place) n)
         table n t =
-            let t′ : there h (cond (eqb (h .place) j && eqb n p) q (packetIn (s .jobs) (h .place) n)) ≡ true = rw (packet-put (s .jobs) j p q (h .place) n fits) at t in
+            let t′ : there h (cond (eqb (h .place) j && eqb n p) q (packetIn (s .jobs) (h .place) n)) ≡ true =
+            rw (packet-put (s .jobs) j p q (h .place) n fits) at t in
             rw (packet-put (s .jobs) j p q (h .place) n fits)
             (by-bool (eqb (h .place) j && eqb n p)
             (λ e. never {b = eqb (h .place) j && there h q} (and-both _ _ (and-left (eqb (h .place) j) (eqb n p) e) (rw e at t′)) away)
@@ -230,7 +245,8 @@ module _ (h : Holding) (s : State) (I : Inv s) (l : Lone) (S : Sim h s l) where
   -- ---- the packets of a job
 
   module _ (j : ℕ) (test : Packet → Bool) (f : Status → Status) (inside : j < length (s .jobs)) (fb : f Blank ≡ Blank) where
-    sweep-kept : (n : ℕ) → isBusy (packetIn (s .jobs) (h .place) n .status) ≡ true → there h (packetIn (restatusAll (s .jobs) j test f) (h .place) n) ≡ there h (packetIn (s .jobs) (h .place) n)
+    sweep-kept : (n : ℕ) → isBusy (packetIn (s .jobs) (h .place) n .status) ≡ true
+        → there h (packetIn (restatusAll (s .jobs) j test f) (h .place) n) ≡ there h (packetIn (s .jobs) (h .place) n)
     sweep-kept n b = rw (packet-restatus (s .jobs) j test f (h .place) n inside fb) (by-bool (eqb (h .place) j) (λ e. rw e) (λ e. rw e))
 
     pub sim-sweep : h .place ≡ j → (t : ℕ → Request)
@@ -238,26 +254,35 @@ module _ (h : Holding) (s : State) (I : Inv s) (l : Lone) (S : Sim h s l) where
         → ((n : ℕ) → inUse (t n .status) ≡ true → inUse (l .packets n .status) ≡ true)
         → Sim h (sweep s j test f) (settle l t)
     sim-sweep at-j t is uses =
-        sim-jobs j (restatusAll (s .jobs) j test f) (restatus-elsewhere (s .jobs) j test f inside fb) sweep-kept (state-restatus (s .jobs) j test f (h .place)) t table
+        sim-jobs j (restatusAll (s .jobs) j test f) (restatus-elsewhere (s .jobs) j test f inside fb) sweep-kept
+        (state-restatus (s .jobs) j test f (h .place)) t table
         (λ n u. sweep-kept n (here-busy h s l S n (uses n u)) ∙ S .here n (uses n u))
       where
         table : (n : ℕ) → there h (packetIn (restatusAll (s .jobs) j test f) (h .place) n) ≡ true
             → Like (t n) (packetIn (restatusAll (s .jobs) j test f) (h .place) n)
         table n e =
             let m : eqb (h .place) j ≡ true = rw at-j (eqb-self j) in
-            let e′ : there h (cond (eqb (h .place) j) (restatus test f (packetIn (s .jobs) (h .place) n)) (packetIn (s .jobs) (h .place) n)) ≡ true = rw (packet-restatus (s .jobs) j test f (h .place) n inside fb) at e in
+            let e′ : there h (cond (eqb (h .place) j) (restatus test f (packetIn (s .jobs) (h .place) n)) (packetIn (s .jobs) (h .place) n))
+            ≡ true =
+            rw (packet-restatus (s .jobs) j test f (h .place) n inside fb) at e in
             rw (packet-restatus (s .jobs) j test f (h .place) n inside fb, m) (is n (rw m at e′))
 
-    pub sim-sweep-away : ((n : ℕ) → h .place ≡ j → there h (packetIn (s .jobs) (h .place) n) ≡ true → test (packetIn (s .jobs) (h .place) n) ≡ false) → Sim h (sweep s j test f) l
+    pub sim-sweep-away : ((n : ℕ) → h .place ≡ j → there h (packetIn (s .jobs) (h .place) n) ≡ true
+        → test (packetIn (s .jobs) (h .place) n) ≡ false)
+        → Sim h (sweep s j test f) l
     sim-sweep-away away =
-        sim-jobs-away j (restatusAll (s .jobs) j test f) (restatus-elsewhere (s .jobs) j test f inside fb) sweep-kept (state-restatus (s .jobs) j test f (h .place)) table
+        sim-jobs-away j (restatusAll (s .jobs) j test f) (restatus-elsewhere (s .jobs) j test f inside fb) sweep-kept
+        (state-restatus (s .jobs) j test f (h .place)) table
       where
         table : (n : ℕ) → there h (packetIn (restatusAll (s .jobs) j test f) (h .place) n) ≡ true
             → Like (l .packets n) (packetIn (restatusAll (s .jobs) j test f) (h .place) n)
         table n e =
-            let e′ : there h (cond (eqb (h .place) j) (restatus test f (packetIn (s .jobs) (h .place) n)) (packetIn (s .jobs) (h .place) n)) ≡ true = rw (packet-restatus (s .jobs) j test f (h .place) n inside fb) at e in
+            let e′ : there h (cond (eqb (h .place) j) (restatus test f (packetIn (s .jobs) (h .place) n)) (packetIn (s .jobs) (h .place) n))
+            ≡ true =
+            rw (packet-restatus (s .jobs) j test f (h .place) n inside fb) at e in
             rw (packet-restatus (s .jobs) j test f (h .place) n inside fb)
             (by-bool (eqb (h .place) j)
-            (λ d. let g : there h (packetIn (s .jobs) (h .place) n) ≡ true = rw d at e′ in
+            (λ d.
+            let g : there h (packetIn (s .jobs) (h .place) n) ≡ true = rw d at e′ in
             rw (d, away n (eqb-true (h .place) j d) g) (S .table n g))
             (λ d. rw d (S .table n (rw d at e′))))

@@ -156,24 +156,32 @@ module _ (h : Holding) (s : State) (I : Inv s) (H : Holds s h) (l : Lone) (S : S
         let inside = over-inside s I c small j p is k in
         sim-units-away h (sweep s₁ j (isAt c a) failed) (sweep-inv s₁ I₁ j (isAt c a) failed inside refl failed-going) l
         (sim-sweep-away h s₁ I₁ l (sim-over-away k) j (isAt c a) failed inside refl miss)
-        (setLock (s .units) c a true) (stays-locked h (s .units) c a true) (lock-away h (s .units) c a true (held-taken (unitAt (s .units) c a .holder) j theirs) other)
+        (setLock (s .units) c a true) (stays-locked h (s .units) c a true)
+        (lock-away h (s .units) c a true (held-taken (unitAt (s .units) c a .holder) j theirs) other)
       where
         theirs : heldBy (unitAt (s .units) c (packetIn (s .jobs) j p .at) .holder) j ≡ true
         theirs = let o : OwnedAt s j c (packetIn (s .jobs) j p .at) = rw its-channel at (I .motion c j p is .owned) in o .1 nd
 
         other : h .drum ≡ false → h .channel ≡ c → packetIn (s .jobs) j p .at ≡ itsUnit h → ⊥
         other o x y =
-            let z : heldBy (unitIn (s .units) c (h .unit) .holder) j ≡ true = subst (λ (v : Site). heldBy (unitAt (s .units) c v .holder) j ≡ true) y theirs in
+            let z : heldBy (unitIn (s .units) c (h .unit) .holder) j ≡ true =
+            subst (λ (v : Site). heldBy (unitAt (s .units) c v .holder) j ≡ true) y theirs in
             never {b = there h (packetIn (s .jobs) j p)}
             (is-there h (packetIn (s .jobs) j p .channel .0) (packetIn (s .jobs) j p .at) o (its-channel ∙ sym x) y)
             (none-here (held-once (unitIn (s .units) c (h .unit) .holder) (h .place) j (rw x at (unit-held h s H o)) z))
 
-        miss : (n : ℕ) → h .place ≡ j → there h (packetIn (over s c j p k .jobs) (h .place) n) ≡ true → isAt c (packetIn (s .jobs) j p .at) (packetIn (over s c j p k .jobs) (h .place) n) ≡ false
+        miss : (n : ℕ) → h .place ≡ j → there h (packetIn (over s c j p k .jobs) (h .place) n) ≡ true
+            → isAt c (packetIn (s .jobs) j p .at) (packetIn (over s c j p k .jobs) (h .place) n) ≡ false
         miss n e y =
             let q = packetIn (over s c j p k .jobs) (h .place) n in
             let a = packetIn (s .jobs) j p .at in
             by-bool (isAt c a q)
-            (λ z. let y′ : isThere h c a ≡ true = rw (eqb-true (q .channel .0) c (and-left (eqb (q .channel .0) c) (same (q .at) a) z), same-is (q .at) a (and-right (eqb (q .channel .0) c) (same (q .at) a) z)) at y in
+            (λ z.
+            let y′ : isThere h c a ≡ true =
+            rw (
+              eqb-true (q .channel .0) c (and-left (eqb (q .channel .0) c) (same (q .at) a) z),
+              same-is (q .at) a (and-right (eqb (q .channel .0) c) (same (q .at) a) z),
+            ) at y in
             never {b = there h (packetIn (s .jobs) j p)} (rw its-channel y′) (none-here e))
             (λ z. z)
 
@@ -240,22 +248,31 @@ module _ (h : Holding) (s : State) (I : Inv s) (l : Lone) (S : Sim h s l) (j : �
 
 -- ---- a new job, a mark
 
-pub sim-assign-away : (h : Holding) (s : State) (I : Inv s) → Holds s h → (l : Lone) → Sim h s l → (j : ℕ) → j < 16 → isEmpty (stateIn (s .jobs) j) ≡ true
+pub sim-assign-away : (h : Holding) (s : State) (I : Inv s) → Holds s h → (l : Lone) → Sim h s l → (j : ℕ) → j < 16
+    → isEmpty (stateIn (s .jobs) j) ≡ true
     → (asg : Assignment) → Sim h (assigned s j asg) l
 sim-assign-away h s I H l S j small empty asg =
     sim-same h s I l S (takeAll (s .units) j (wanted asg)) (assigned s j asg .jobs)
-    (stays-held h (takeAll (s .units) j (wanted asg)) (s .units) (λ d. rw (take-held s I j small empty asg (h .channel) (h .unit) (h .place) (unit-held h s H d))))
+    (stays-held h (takeAll (s .units) j (wanted asg)) (s .units)
+    (λ d. rw (take-held s I j small empty asg (h .channel) (h .unit) (h .place) (unit-held h s H d))))
     (by-bool (h .drum) (λ d. rw d) (λ d. rw (d, take-held s I j small empty asg (h .channel) (h .unit) (h .place) (unit-held h s H d))))
     (λ n. rw (packet-fresh (s .jobs) j asg (h .place) (rw (I .places) small) n, other))
     (rw (state-fresh (s .jobs) j asg (h .place) (rw (I .places) small), other))
   where
     other : eqb (h .place) j ≡ false
-    other = by-bool (eqb (h .place) j) (λ e. never {b = isEmpty (stateIn (s .jobs) j)} empty (rw (eqb-true (h .place) j e) at (holder-alive h s I H))) (λ e. e)
+    other =
+        by-bool (eqb (h .place) j)
+        (λ e. never {b = isEmpty (stateIn (s .jobs) j)} empty (rw (eqb-true (h .place) j e) at (holder-alive h s I H))) (λ e. e)
 
 pub sim-mark : (h : Holding) (s : State) → Inv s → (l : Lone) → Sim h s l → (c u : ℕ) (m : UnitMark) (on : Bool) → Sim h (marked s c u m on) l
 sim-mark h s I l S c u m on =
     sim-units-away h s I l S (unitSet (s .units) c u (markedUnit m on (unitIn (s .units) c u)))
     (stays-held h (unitSet (s .units) c u (markedUnit m on (unitIn (s .units) c u))) (s .units)
-    (λ d. unit-keep (λ (v : UnitState). v .holder) (s .units) c u (markedUnit m on (unitIn (s .units) c u)) (h .channel) (h .unit) (mark-holder m on (unitIn (s .units) c u))))
+    (λ d. unit-keep (λ (v : UnitState). v .holder) (s .units) c u (markedUnit m on (unitIn (s .units) c u)) (h .channel) (h .unit)
+    (mark-holder m on (unitIn (s .units) c u))))
     (by-bool (h .drum) (λ e. rw e)
-    (λ e. rw (e, unit-keep (λ (v : UnitState). v .interlock) (s .units) c u (markedUnit m on (unitIn (s .units) c u)) (h .channel) (h .unit) (mark-lock m on (unitIn (s .units) c u)))))
+    (λ e. rw (
+      e,
+      unit-keep (λ (v : UnitState). v .interlock) (s .units) c u (markedUnit m on (unitIn (s .units) c u)) (h .channel) (h .unit)
+          (mark-lock m on (unitIn (s .units) c u)),
+    )))

@@ -34,7 +34,8 @@ abbrev pub Stays : Holding → List (List UnitState) → List (List UnitState) �
 Stays h new old = isIts h new ≡ true → (isIts h old ≡ true) × (returnThere h new ≡ returnThere h old)
 
 -- its holder is as it was
-pub stays-held : (h : Holding) (new old : List (List UnitState)) → (h .drum ≡ false → unitIn new (h .channel) (h .unit) .holder ≡ unitIn old (h .channel) (h .unit) .holder) → Stays h new old
+pub stays-held : (h : Holding) (new old : List (List UnitState))
+    → (h .drum ≡ false → unitIn new (h .channel) (h .unit) .holder ≡ unitIn old (h .channel) (h .unit) .holder) → Stays h new old
 stays-held h new old e t =
     by-bool (h .drum) (λ d. rw d (refl, refl))
     (λ d. let k = e d in let t′ : heldBy (unitIn new (h .channel) (h .unit) .holder) (h .place) ≡ true = rw d at t in rw (d, ← k) (t′, refl))
@@ -43,7 +44,8 @@ pub stays-locked : (h : Holding) (units : List (List UnitState)) (c : ℕ) (a : 
 stays-locked h units c a b = stays-held h (setLock units c a b) units (λ d. lock-holder units c a b (h .channel) (h .unit))
 
 -- or it is free
-pub stays-free : (h : Holding) (new old : List (List UnitState)) → h .drum ≡ false → unitIn new (h .channel) (h .unit) .holder ≡ Free → Stays h new old
+pub stays-free : (h : Holding) (new old : List (List UnitState)) → h .drum ≡ false → unitIn new (h .channel) (h .unit) .holder ≡ Free
+    → Stays h new old
 stays-free h new old d e t = never {b = false} (rw (d, e) at t) refl
 
 module _ (h : Holding) (s : State) (I : Inv s) (l : Lone) (S : Sim h s l) where
@@ -52,11 +54,27 @@ module _ (h : Holding) (s : State) (I : Inv s) (l : Lone) (S : Sim h s l) where
 
   pub sim-units : (units : List (List UnitState)) (b : Bool) → Stays h units (s .units) → lockThere h units ≡ b
       → Sim h (record { channels = s .channels; codes = s .codes; units = units; moving = s .moving; jobs = s .jobs; queue = s .queue }) (locks l b)
-  sim-units units b k e = record { order = S .order; table = S .table; moving = S .moving; lock = sym e; here = S .here; over = S .over; asked = kept units k }
+  sim-units units b k e = record {
+    order = S .order;
+    table = S .table;
+    moving = S .moving;
+    lock = sym e;
+    here = S .here;
+    over = S .over;
+    asked = kept units k;
+  }
 
   pub sim-units-away : (units : List (List UnitState)) → Stays h units (s .units) → lockThere h units ≡ lockThere h (s .units)
       → Sim h (record { channels = s .channels; codes = s .codes; units = units; moving = s .moving; jobs = s .jobs; queue = s .queue }) l
-  sim-units-away units k e = record { order = S .order; table = S .table; moving = S .moving; lock = S .lock ∙ sym e; here = S .here; over = S .over; asked = kept units k }
+  sim-units-away units k e = record {
+    order = S .order;
+    table = S .table;
+    moving = S .moving;
+    lock = S .lock ∙ sym e;
+    here = S .here;
+    over = S .over;
+    asked = kept units k;
+  }
 
   pub sim-same-but : (units : List (List UnitState)) (jobs : List Job) → Stays h units (s .units) → lockThere h units ≡ lockThere h (s .units)
       → ((n : ℕ) → packetIn jobs (h .place) n ≡ packetIn (s .jobs) (h .place) n)
@@ -66,7 +84,8 @@ module _ (h : Holding) (s : State) (I : Inv s) (l : Lone) (S : Sim h s l) where
   sim-same-but units jobs k e same b over =
       record {
         order = S .order ∙ ap (λ (x : List ℕ). map num x)
-            (keep-same (on h (s .jobs)) (on h jobs) (s .queue) (all-imp (EntryOk s) (λ (e : ℕ). on h (s .jobs) e ≡ on h jobs e) (λ e k. rw same) (s .queue) (I .queued)));
+            (keep-same (on h (s .jobs)) (on h jobs) (s .queue)
+            (all-imp (EntryOk s) (λ (e : ℕ). on h (s .jobs) e ≡ on h jobs e) (λ e k. rw same) (s .queue) (I .queued)));
         table = λ n t. rw same (S .table n (rw same at t));
         moving = S .moving ∙ again (motionOn s (h .channel));
         lock = S .lock ∙ sym e;
@@ -138,7 +157,8 @@ module _ (h : Holding) (s : State) (I : Inv s) (l : Lone) (S : Sim h s l) where
       now : motionOn (move s c m) (h .channel) ≡ m
       now = motion-move s c m (h .channel) (rw (I .channels) small) ∙ rw (at-c, eqb-self c)
 
-  pub sim-move-away : (c : ℕ) (m : Motion) → c < 16 → (h .channel ≡ c → movingThere h (s .jobs) m ≡ movingThere h (s .jobs) (motionOn s c)) → Sim h (move s c m) l
+  pub sim-move-away : (c : ℕ) (m : Motion) → c < 16 → (h .channel ≡ c → movingThere h (s .jobs) m ≡ movingThere h (s .jobs) (motionOn s c))
+      → Sim h (move s c m) l
   sim-move-away c m small e =
       record {
         order = S .order;

@@ -58,7 +58,8 @@ module _ (h : Holding) (s : State) (I : Inv s) (H : Holds s h) (l : Lone) (S : S
   abbrev then : Holder
   then = next s I j c u k
 
-  unit-then : (d w : ℕ) → unitIn (setHolder (s .units) c (unitSite u) then) d w ≡ cond (eqb d c && eqb w u) (withHolder (unitIn (s .units) c u) then) (unitIn (s .units) d w)
+  unit-then : (d w : ℕ) → unitIn (setHolder (s .units) c (unitSite u) then) d w
+      ≡ cond (eqb d c && eqb w u) (withHolder (unitIn (s .units) c u) then) (unitIn (s .units) d w)
   unit-then d w = held-unit (s .units) c u then (held-taken (unitIn (s .units) c u .holder) j (k .held)) d w
 
   module _ (at-j : h .place ≡ j) (t : isThere h c a ≡ true) where
@@ -84,7 +85,8 @@ module _ (h : Holding) (s : State) (I : Inv s) (H : Holds s h) (l : Lone) (S : S
     now-returning : isIts h (setHolder (s .units) c a then) ≡ true → true ≡ returnThere h (setHolder (s .units) c a then)
     now-returning e =
         let x : eqb (h .channel) c ≡ true = eq-eqb (h .channel) c (sym (there-channel h c a t)) in
-        let y : eqb (h .unit) u ≡ true = eq-eqb (h .unit) u (sym (eqb-true u (h .unit) (and-right (not (h .drum)) _ (and-right (eqb c (h .channel)) _ t)))) in
+        let y : eqb (h .unit) u ≡ true =
+        eq-eqb (h .unit) u (sym (eqb-true u (h .unit) (and-right (not (h .drum)) _ (and-right (eqb c (h .channel)) _ t)))) in
         let v : unitIn (setHolder (s .units) c a then) (h .channel) (h .unit) .holder ≡ then = rw (unit-then (h .channel) (h .unit), x, y) in
         let e′ : heldBy then (h .place) ≡ true = rw (no-drum, v) at e in
         rw (no-drum, v) (by-bool (movesAt s j c a (motionOn s c)) (λ m. rw m) (λ m. never {b = false} (rw m at e′) refl))
@@ -120,7 +122,10 @@ module _ (h : Holding) (s : State) (I : Inv s) (H : Holds s h) (l : Lone) (S : S
     miss n e y =
         let q = packetIn (s .jobs) (h .place) n in
         by-bool (isAt c a q)
-        (λ z. absurd (not-there e (rw (eqb-true (q .channel .0) c (and-left (eqb (q .channel .0) c) _ z), same-is (q .at) a (and-right (eqb (q .channel .0) c) _ z)) at y)))
+        (λ z. absurd (not-there e (rw (
+          eqb-true (q .channel .0) c (and-left (eqb (q .channel .0) c) _ z),
+          same-is (q .at) a (and-right (eqb (q .channel .0) c) _ z),
+        ) at y)))
         (λ z. z)
 
     pub sim-returns-away : Sim h (handedBack s j c a) l

@@ -40,14 +40,16 @@ sim-return h s I l S j =
   where
     released : Stays h (releaseAll (s .units) j) (s .units)
     released =
-        let e : unitIn (releaseAll (s .units) j) (h .channel) (h .unit) ≡ release j (unitIn (s .units) (h .channel) (h .unit)) = unit-release (s .units) j (h .channel) (h .unit) in
+        let e : unitIn (releaseAll (s .units) j) (h .channel) (h .unit) ≡ release j (unitIn (s .units) (h .channel) (h .unit)) =
+        unit-release (s .units) j (h .channel) (h .unit) in
         by-bool (h .drum) (λ d. stays-held h (releaseAll (s .units) j) (s .units) (λ n. never {b = h .drum} d n))
         (λ d. by-bool (heldBy (unitIn (s .units) (h .channel) (h .unit) .holder) j)
         (λ t. stays-free h (releaseAll (s .units) j) (s .units) d (rw (e, t)))
         (λ t. stays-held h (releaseAll (s .units) j) (s .units) (λ n. rw (e, t))))
 
     -- a closing job does not run, nor does an empty place
-    still-over : isClosing (stateIn (s .jobs) j) ≡ true → isRunning (stateIn (setState (s .jobs) j Empty) (h .place)) ≡ isRunning (stateIn (s .jobs) (h .place))
+    still-over : isClosing (stateIn (s .jobs) j) ≡ true
+        → isRunning (stateIn (setState (s .jobs) j Empty) (h .place)) ≡ isRunning (stateIn (s .jobs) (h .place))
     still-over c =
         let k = closing-not-running (stateIn (s .jobs) j) c in
         rw (state-state (s .jobs) j Empty (h .place) (alive-in (s .jobs) j (k .1)))
@@ -127,7 +129,10 @@ module _ (h : Holding) (s : State) (I : Inv s) (H : Holds s h) (l : Lone) (S : S
         (sim-move h s₁ (start-store s I c small e entry-ok on-channel) l₁ S₁ c (Busy (placeOf e) (packetOf e)) (some (packetOf e))
         small channel-is now-moving)
       where
-        now-moving : movingThere h (put (s .jobs) (placeOf e) (packetOf e) (withStatus (packetIn (s .jobs) (placeOf e) (packetOf e)) InProgress)) (Busy (placeOf e) (packetOf e)) ≡ some (packetOf e)
+        now-moving : movingThere h
+            (put (s .jobs) (placeOf e) (packetOf e) (withStatus (packetIn (s .jobs) (placeOf e) (packetOf e)) InProgress))
+            (Busy (placeOf e) (packetOf e))
+            ≡ some (packetOf e)
         now-moving =
             let t′ : there h (packetIn (s .jobs) (placeOf e) (packetOf e)) ≡ true = rw at-e t in
             rw (← at-e, eqb-self (placeOf e), start-at s I c small e entry-ok on-channel, t′)
@@ -137,8 +142,10 @@ module _ (h : Holding) (s : State) (I : Inv s) (H : Holds s h) (l : Lone) (S : S
     sim-start-away =
         let q = withStatus (packetIn (s .jobs) (placeOf e) (packetOf e)) InProgress in
         let s₁ = store s (placeOf e) (packetOf e) q in
-        let S₁ : Sim h s₁ l = sim-store-away h s I l S (placeOf e) (packetOf e) q (start-fits s I c small e entry-ok on-channel) (λ b. refl) away in
-        sim-move-away h s₁ (start-store s I c small e entry-ok on-channel) l S₁ c (Busy (placeOf e) (packetOf e)) small (λ x. not-moving ∙ sym (ap (movingThere h after) (idle-is s I c idle)))
+        let S₁ : Sim h s₁ l =
+        sim-store-away h s I l S (placeOf e) (packetOf e) q (start-fits s I c small e entry-ok on-channel) (λ b. refl) away in
+        sim-move-away h s₁ (start-store s I c small e entry-ok on-channel) l S₁ c (Busy (placeOf e) (packetOf e)) small
+        (λ x. not-moving ∙ sym (ap (movingThere h after) (idle-is s I c idle)))
       where
         after : List Job
         after = put (s .jobs) (placeOf e) (packetOf e) (withStatus (packetIn (s .jobs) (placeOf e) (packetOf e)) InProgress)

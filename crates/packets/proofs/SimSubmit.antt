@@ -37,7 +37,9 @@ eqb-flip a b =
 pub holder-alive : (h : Holding) (s : State) → Inv s → Holds s h → isEmpty (stateIn (s .jobs) (h .place)) ≡ false
 holder-alive h s I H = go (h .drum) (H .held)
   where
-    go : (d : Bool) → cond d (not (isEmpty (stateIn (s .jobs) (h .place))) && ltb 0 (jobIn (s .jobs) (h .place) .words)) (heldBy (unitIn (s .units) (h .channel) (h .unit) .holder) (h .place)) ≡ true
+    go : (d : Bool) → cond d (not (isEmpty (stateIn (s .jobs) (h .place))) && ltb 0 (jobIn (s .jobs) (h .place) .words))
+        (heldBy (unitIn (s .units) (h .channel) (h .unit) .holder) (h .place))
+        ≡ true
         → isEmpty (stateIn (s .jobs) (h .place)) ≡ false
     go true e = not-true _ (and-left (not (isEmpty (stateIn (s .jobs) (h .place)))) _ e)
     go false e = I .holders (h .channel) (h .unit) (h .place) e
@@ -59,9 +61,11 @@ module _ (h : Holding) (s : State) (I : Inv s) (H : Holds s h) (l : Lone) (S : S
       (λ b. never {b = isBusy (packetIn (s′ .jobs) j p .status)} b (r .idle)) at-j y (request t f (wordAt a))
       (record { status = refl; function = refl; word = λ b. refl })
 
-  store-gone : (s′ : State) → Inv s′ → Sim h s′ l → Ready s′ j p → eqb (h .place) j && isThere h c a ≡ false → (t : Status) → Sim h (store s′ j p (packet t f c a)) l
+  store-gone : (s′ : State) → Inv s′ → Sim h s′ l → Ready s′ j p → eqb (h .place) j && isThere h c a ≡ false → (t : Status)
+      → Sim h (store s′ j p (packet t f c a)) l
   store-gone s′ I′ S′ r away t =
-      sim-store-away h s′ I′ l S′ j p (packet t f c a) (ready-fits s′ I′ j p r) (λ y. never {b = isBusy (packetIn (s′ .jobs) j p .status)} y (r .idle)) away
+      sim-store-away h s′ I′ l S′ j p (packet t f c a) (ready-fits s′ I′ j p r)
+      (λ y. never {b = isBusy (packetIn (s′ .jobs) j p .status)} y (r .idle)) away
 
   module _ (at-j : h .place ≡ j) (t : isThere h c a ≡ true) where
     locked-is : locked s c a ≡ l .interlock
@@ -116,7 +120,8 @@ module _ (h : Holding) (s : State) (I : Inv s) (H : Holds s h) (l : Lone) (S : S
         let x : isRunning (stateIn (s .jobs) (h .place)) ≡ true = rw at-j (k .running) in
         let y : l .jobOver ≡ false = S .over ∙ rw x in
         let z : inUse (l .packets p .status) ≡ false =
-        by-bool (inUse (l .packets p .status)) (λ u. never {b = (isBusy (packetIn (s .jobs) j p .status))} (rw at-j at (here-busy h s l S p u)) (k .idle)) (λ u. u) in
+        by-bool (inUse (l .packets p .status))
+        (λ u. never {b = (isBusy (packetIn (s .jobs) j p .status))} (rw at-j at (here-busy h s l S p u)) (k .idle)) (λ u. u) in
         let v : l .returning ≡ false = S .asked (its-own h s H) ∙ sym (return-is h (s .units) c a t) ∙ k .staying in
         and-both _ _ (ap not y) (and-both _ _ (ap not v) (ap not z))
 
@@ -140,7 +145,8 @@ module _ (h : Holding) (s : State) (I : Inv s) (H : Holds s h) (l : Lone) (S : S
         let r₁ : Ready s₁ j p = ready-sweep s j p (isAt c a) failed refl failed-idle ready in
         let S₁ : Sim h s₁ l = sim-sweep-away h s I l S j (isAt c a) failed inside refl miss in
         store-gone (lock s₁ c a false) (lock-inv s₁ I₁ c a false)
-        (sim-units-away h s₁ I₁ l S₁ (setLock (s .units) c a false) (stays-locked h (s .units) c a false) (lock-away h (s .units) c a false (held-taken (unitAt (s .units) c a .holder) j theirs) other))
+        (sim-units-away h s₁ I₁ l S₁ (setLock (s .units) c a false) (stays-locked h (s .units) c a false)
+        (lock-away h (s .units) c a false (held-taken (unitAt (s .units) c a .holder) j theirs) other))
         (record { small = r₁ .small; running = r₁ .running; idle = r₁ .idle }) away (Ended 0o00)
       where
         theirs : heldBy (unitAt (s .units) c a .holder) j ≡ true
@@ -148,7 +154,8 @@ module _ (h : Holding) (s : State) (I : Inv s) (H : Holds s h) (l : Lone) (S : S
 
         other : h .drum ≡ false → h .channel ≡ c → a ≡ itsUnit h → ⊥
         other o x y =
-            let z : heldBy (unitIn (s .units) c (h .unit) .holder) j ≡ true = subst (λ (v : Site). heldBy (unitAt (s .units) c v .holder) j ≡ true) y theirs in
+            let z : heldBy (unitIn (s .units) c (h .unit) .holder) j ≡ true =
+            subst (λ (v : Site). heldBy (unitAt (s .units) c v .holder) j ≡ true) y theirs in
             not-there
             (held-once (unitIn (s .units) c (h .unit) .holder) (h .place) j (rw x at (unit-held h s H o)) z)
             (is-there h c a o (sym x) y)
@@ -157,7 +164,10 @@ module _ (h : Holding) (s : State) (I : Inv s) (H : Holds s h) (l : Lone) (S : S
         miss n e y =
             let q = packetIn (s .jobs) (h .place) n in
             by-bool (isAt c a q)
-            (λ z. absurd (not-there e (rw (eqb-true (q .channel .0) c (and-left (eqb (q .channel .0) c) (same (q .at) a) z), same-is (q .at) a (and-right (eqb (q .channel .0) c) (same (q .at) a) z)) at y)))
+            (λ z. absurd (not-there e (rw (
+              eqb-true (q .channel .0) c (and-left (eqb (q .channel .0) c) (same (q .at) a) z),
+              same-is (q .at) a (and-right (eqb (q .channel .0) c) (same (q .at) a) z),
+            ) at y)))
             (λ z. z)
 
     sim-terminate-away : Sim h (terminate s j p f c w) l

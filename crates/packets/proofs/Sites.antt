@@ -40,7 +40,8 @@ holder-at units old e c (AtUnit u) = e c (u .0)
 holder-at units old e c (AtAddress x) = refl
 
 -- an interlock that is set or cleared leaves every holder
-pub lock-holder : (units : List (List UnitState)) (c : ℕ) (a : Site) (b : Bool) (d u : ℕ) → unitIn (setLock units c a b) d u .holder ≡ unitIn units d u .holder
+pub lock-holder : (units : List (List UnitState)) (c : ℕ) (a : Site) (b : Bool) (d u : ℕ)
+    → unitIn (setLock units c a b) d u .holder ≡ unitIn units d u .holder
 lock-holder units c (AtUnit w) b d u = unit-keep (λ (v : UnitState). v .holder) units c (w .0) (withLock (unitIn units c (w .0)) b) d u refl
 lock-holder units c (AtAddress x) b d u = refl
 

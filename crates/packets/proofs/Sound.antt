@@ -11,13 +11,15 @@ use borrow.Author.Tests.{eqb-true}
 use Rattle.units.specs.declared.Unit.{Unit as UnitState}
 use Rattle.numbers.proofs.Tests.{by-bool, never}
 use Rattle.packets.proofs.Inv.{Inv, listed-busy}
-use Rattle.packets.specs.State.{inMotion, State, blank, enqueue, entryOf, isKept, isListed, motionOn, move, moves, packetIn, packetsIn, put, relist, restatus, restatusAll, setState, store, sweep, isPacket}
+use Rattle.packets.specs.State.{inMotion, State, blank, enqueue, entryOf, isKept, isListed, motionOn, move, moves, packetIn}
+use Rattle.packets.specs.State.{packetsIn, put, relist, restatus, restatusAll, setState, store, sweep, isPacket}
 use Rattle.packets.proofs.InvStores.{New, enlisted-is, entry-packet, entry-place, motion-move}
 use Rattle.packets.proofs.Laws.{and-left, and-right}
 use Rattle.packets.specs.Lone.{lists}
 use Rattle.numbers.specs.Elements.{any, keep}
 use Rattle.packets.specs.Rules.{assigned}
-use Rattle.packets.proofs.Store.{busy-in, packet-fresh, packet-put, packet-restatus, packet-state, size-fresh, size-put, size-restatus, size-state, sizeIn}
+use Rattle.packets.proofs.Store.{busy-in, packet-fresh, packet-put, packet-restatus, packet-state}
+use Rattle.packets.proofs.Store.{size-fresh, size-put, size-restatus, size-state, sizeIn}
 use Rattle.packets.specs.declared.Assignment.{Assignment}
 use Rattle.packets.specs.declared.Job.{Job}
 use Rattle.packets.specs.declared.JobState.{JobState}
@@ -75,16 +77,19 @@ module _ (s : State) (j p : ℕ) (S : Sound s (isPacket j p)) where
 
       small : (i n : ℕ) → isListed (packetIn (put (s .jobs) j p q) i n .status) ≡ true → n < 16
       small i n h =
-          let k : n < sizeIn (put (s .jobs) j p q) i = busy-in (put (s .jobs) j p q) i n (listed-busy (packetIn (put (s .jobs) j p q) i n .status) h) in
+          let k : n < sizeIn (put (s .jobs) j p q) i =
+          busy-in (put (s .jobs) j p q) i n (listed-busy (packetIn (put (s .jobs) j p q) i n .status) h) in
           omega (arith, size-put (s .jobs) j p q i, S .sixteen i)
 
   -- what moves on a channel
-  pub move-sound : (c : ℕ) (m : Motion) → c < length (s .moving) → ((i n : ℕ) → isPacket j p i n ≡ false → motionOn s c ≡ Busy i n → ⊥) → Sound (move s c m) (isPacket j p)
+  pub move-sound : (c : ℕ) (m : Motion) → c < length (s .moving) → ((i n : ℕ) → isPacket j p i n ≡ false → motionOn s c ≡ Busy i n → ⊥)
+      → Sound (move s c m) (isPacket j p)
   move-sound c m h old =
       record {
         mover = λ i n b g. motion-move s c m (packetIn (s .jobs) i n .channel .0) h
             ∙ by-bool (eqb (packetIn (s .jobs) i n .channel .0) c)
-            (λ t. absurd (old i n b (subst (λ (d : ℕ). motionOn s d ≡ Busy i n) (eqb-true (packetIn (s .jobs) i n .channel .0) c t) (S .mover i n b g))))
+            (λ t. absurd (old i n b
+            (subst (λ (d : ℕ). motionOn s d ≡ Busy i n) (eqb-true (packetIn (s .jobs) i n .channel .0) c t) (S .mover i n b g))))
             (λ t. rw t (S .mover i n b g));
         member = S .member;
         sixteen = S .sixteen;
@@ -146,12 +151,15 @@ module _ (s : State) (S : Sound s noPacket) (j : ℕ) (t : Packet → Bool) (f :
     where
       small : (i n : ℕ) → isListed (packetIn (restatusAll (s .jobs) j t f) i n .status) ≡ true → n < 16
       small i n h =
-          let k : n < sizeIn (restatusAll (s .jobs) j t f) i = busy-in (restatusAll (s .jobs) j t f) i n (listed-busy (packetIn (restatusAll (s .jobs) j t f) i n .status) h) in
+          let k : n < sizeIn (restatusAll (s .jobs) j t f) i =
+          busy-in (restatusAll (s .jobs) j t f) i n (listed-busy (packetIn (restatusAll (s .jobs) j t f) i n .status) h) in
           omega (arith, size-restatus (s .jobs) j t f i, S .sixteen i)
 
 -- a job's state, and the units, say nothing of packets
 pub state-sound : (s : State) → Sound s noPacket → (j : ℕ) (t : JobState) (units : List (List UnitState))
-    → Sound (record { channels = s .channels; codes = s .codes; units = units; moving = s .moving; jobs = setState (s .jobs) j t; queue = s .queue }) noPacket
+    → Sound
+    (record { channels = s .channels; codes = s .codes; units = units; moving = s .moving; jobs = setState (s .jobs) j t; queue = s .queue })
+    noPacket
 state-sound s S j t units =
     record {
       mover = λ i n b h. rw (packet-state (s .jobs) j t i n) (S .mover i n b (rw (packet-state (s .jobs) j t i n) at h));

@@ -14,7 +14,9 @@ use Rattle.channels.specs.declared.Channel.{Channel}
 use Rattle.packets.proofs.Reaching.{by-history, of-fresh}
 use Rattle.packets.specs.History.{Event, Reached, emptyPlace, fresh}
 use Rattle.packets.proofs.Inv.{EntryOk, Inv, running-alive}
-use Rattle.packets.specs.State.{freedAt, inMotion, isPacket, State, blank, enqueue, entryOf, isIdle, isListed, isUnit, lock, motionOn, move, noJob, packetIn, packetOf, placeOf, releaseAll, setLock, stateIn, store, sweep, withStatus}
+use Rattle.packets.specs.State.{freedAt, inMotion, isPacket, State, blank, enqueue, entryOf, isIdle, isListed}
+use Rattle.packets.specs.State.{isUnit, lock, motionOn, move, noJob, packetIn, packetOf, placeOf, releaseAll}
+use Rattle.packets.specs.State.{setLock, stateIn, store, sweep, withStatus}
 use Rattle.packets.proofs.InvStores.{New, enlisted-is, idle-is, lock-inv, motion-move, sweep-inv}
 use Rattle.packets.proofs.Laws.{eqb-self, find-holds, getD-replicate-const}
 use Rattle.numbers.specs.Elements.{any, find}
@@ -48,7 +50,8 @@ use Rattle.packets.specs.Rules.{
   submitted,
 }
 use Rattle.packets.specs.declared.Act.the-variants as Act′
-use Rattle.packets.proofs.Sound.{Sound, assigned-sound, enqueue-sound, move-sound, noPacket, sound-but, sound-whole, state-sound, store-sound, sweep-sound, units-sound}
+use Rattle.packets.proofs.Sound.{Sound, assigned-sound, enqueue-sound, move-sound, noPacket, sound-but}
+use Rattle.packets.proofs.Sound.{sound-whole, state-sound, store-sound, sweep-sound, units-sound}
 use Rattle.packets.proofs.Steps.{
   Ready,
   busy-of,
@@ -67,7 +70,8 @@ use Rattle.packets.proofs.Steps.{
   stored-at,
 }
 use Rattle.packets.proofs.Store.{alive-in, packet-put, sizeIn}
-use Rattle.packets.proofs.Told.{Submits, assigns-to, completes-on, cut-going, cut-idle, cut-unlisted, ends-of, failed-going, failed-idle, returns-of, starts-on, submits}
+use Rattle.packets.proofs.Told.{Submits, assigns-to, completes-on, cut-going, cut-idle, cut-unlisted, ends-of}
+use Rattle.packets.proofs.Told.{failed-going, failed-idle, returns-of, starts-on, submits}
 use Rattle.packets.proofs.Handing.{returns-inside, unitSite}
 use Rattle.packets.specs.declared.How.{How}
 use Rattle.packets.specs.declared.Job.{Job}
@@ -117,7 +121,8 @@ module _ (s : State) (I : Inv s) (S : Sound s noPacket) (j p f c : ℕ) (w : Spo
   pass-sound : (s′ : State) → Inv s′ → Sound s′ noPacket → Ready s′ j p → Sound (store s′ j p (packet (Ended 0o00) f c a)) noPacket
   pass-sound s′ I′ S′ r =
       let e = stored-at s′ I′ j p (packet (Ended 0o00) f c a) r in
-      sound-whole (store s′ j p (packet (Ended 0o00) f c a)) j p (store-sound s′ j p (sound-but (isPacket j p) S′) (packet (Ended 0o00) f c a) (ready-fits s′ I′ j p r))
+      sound-whole (store s′ j p (packet (Ended 0o00) f c a)) j p
+      (store-sound s′ j p (sound-but (isPacket j p) S′) (packet (Ended 0o00) f c a) (ready-fits s′ I′ j p r))
       (λ m. never {b = false} (rw e at m) refl) (λ m. never {b = false} (rw e at m) refl)
 
   pub submit-sound : Sound (submitted s j p f c w) noPacket
@@ -146,7 +151,8 @@ module _ (s : State) (I : Inv s) (S : Sound s noPacket) (j p f c : ℕ) (w : Spo
           let I₁ : Inv s₁ = ready-store s I j p q ready-now in
           let n : New s₁ j p = listed-new s I j p f c w k in
           let e : packetIn (s₁ .jobs) j p ≡ q = stored-at s I j p q ready-now in
-          sound-whole (enqueue s₁ j p) j p (enqueue-sound s₁ j p (store-sound s j p (sound-but (isPacket j p) S) q (ready-fits s I j p ready-now)) I₁ n)
+          sound-whole (enqueue s₁ j p) j p
+          (enqueue-sound s₁ j p (store-sound s j p (sound-but (isPacket j p) S) q (ready-fits s I j p ready-now)) I₁ n)
           (λ m. never {b = false} (rw e at m) refl)
           (λ m. rw (enlisted-is s₁ I₁ j p n) (last (s₁ .queue)))
         where
@@ -178,7 +184,8 @@ module _ (s : State) (I : Inv s) (S : Sound s noPacket) (c : ℕ) (small : c < 1
   over-sound k =
       let q = withStatus (packetIn (s .jobs) j p) (Ended k) in
       let s₁ = move s c Idle in
-      let at : packetIn (over s c j p k .jobs) j p ≡ q = packet-put (s .jobs) j p q j p (over-fits s I c small j p is) ∙ rw (eqb-self j, eqb-self p) in
+      let at : packetIn (over s c j p k .jobs) j p ≡ q =
+      packet-put (s .jobs) j p q j p (over-fits s I c small j p is) ∙ rw (eqb-self j, eqb-self p) in
       sound-whole (store s₁ j p q) j p
       (store-sound s₁ j p (move-sound s j p (sound-but (isPacket j p) S) c Idle (rw (I .channels) small) other) q (over-fits s I c small j p is))
       (λ m. never {b = false} (rw at at m) refl) (λ m. never {b = false} (rw at at m) refl)
@@ -218,13 +225,18 @@ accept-sound s I S (Do (Act′.Complete c how)) r =
     let k = completes-on s (c .0) how r in
     let o = busy-of (motionOn s (c .0)) (k .1) in
     let s₁ = returnIfDone (o .0) (finished s (c .0) how (o .0) (o .1)) in
-    rw (o .2) (units-sound s₁ noPacket (return-sound (finished s (c .0) how (o .0) (o .1)) (finished-sound s I S (c .0) (k .0) (o .0) (o .1) (o .2) how) (o .0)) (freedAt (s₁ .units) (c .0) (packetIn (s .jobs) (o .0) (o .1) .at)))
+    rw (o .2) (units-sound s₁ noPacket
+    (return-sound (finished s (c .0) how (o .0) (o .1)) (finished-sound s I S (c .0) (k .0) (o .0) (o .1) (o .2) how) (o .0))
+    (freedAt (s₁ .units) (c .0) (packetIn (s .jobs) (o .0) (o .1) .at)))
 accept-sound s I S (Do (Act′.End j e)) r =
     let h = alive-in (s .jobs) j (running-alive (stateIn (s .jobs) j) (ends-of s j e r)) in
-    return-sound (closed s j e) (state-sound (sweep s j always cut) (sweep-sound s S j always cut h refl cut-moved cut-listed) j (closing e) (s .units)) j
+    return-sound (closed s j e)
+    (state-sound (sweep s j always cut) (sweep-sound s S j always cut h refl cut-moved cut-listed) j (closing e) (s .units)) j
 accept-sound s I S (Do (Act′.Return j c u)) r =
     units-sound (sweep s j (isAt (c .0) (unitSite (u .0))) cut) noPacket
-    (sweep-sound s S j (isAt (c .0) (unitSite (u .0))) cut (returns-inside s I j (c .0) (u .0) (returns-of s j (c .0) (u .0) r)) refl cut-moved cut-listed) (handedBack s j (c .0) (unitSite (u .0)) .units)
+    (sweep-sound s S j (isAt (c .0) (unitSite (u .0))) cut (returns-inside s I j (c .0) (u .0) (returns-of s j (c .0) (u .0) r)) refl
+    cut-moved cut-listed)
+    (handedBack s j (c .0) (unitSite (u .0)) .units)
 accept-sound s I S (Do (Act′.Mark c u m on)) r = units-sound s noPacket S (marked s (c .0) (u .0) m on .units)
 
 -- ---- the fresh cell
@@ -233,13 +245,16 @@ fresh-sound : (channels : List Channel) (codes : ℕ) (units : List (List UnitSt
 unfolding fresh
 fresh-sound channels codes units =
     record {
-      mover = λ i n b h. never {b = inMotion (packetIn (replicate 16 emptyPlace) i n .status)} h (ap (λ (q : Packet). inMotion (q .status)) (all-blank i n));
-      member = λ i n b h. never {b = isListed (packetIn (replicate 16 emptyPlace) i n .status)} h (ap (λ (q : Packet). isListed (q .status)) (all-blank i n));
+      mover = λ i n b h. never {b = inMotion (packetIn (replicate 16 emptyPlace) i n .status)} h
+          (ap (λ (q : Packet). inMotion (q .status)) (all-blank i n));
+      member = λ i n b h. never {b = isListed (packetIn (replicate 16 emptyPlace) i n .status)} h
+          (ap (λ (q : Packet). isListed (q .status)) (all-blank i n));
       sixteen = sizes 16;
     }
   where
     all-blank : (i n : ℕ) → packetIn (replicate 16 emptyPlace) i n ≡ blank
-    all-blank i n = unfold packetIn in getD-replicate-const (λ (k : Job). getD (k .packets) n blank) emptyPlace noJob (getD-replicate-same 16 n blank) 16 i
+    all-blank i n = unfold packetIn in
+        getD-replicate-const (λ (k : Job). getD (k .packets) n blank) emptyPlace noJob (getD-replicate-same 16 n blank) 16 i
 
     sizes : (m i : ℕ) → sizeIn (replicate m emptyPlace) i ≤ 16
     sizes m i = unfold sizeIn in few m i

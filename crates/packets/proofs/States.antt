@@ -8,7 +8,8 @@ use lib.ListN.{length}
 use Rattle.numbers.proofs.Tests.{by-bool}
 use Rattle.packets.proofs.Inv.{running-alive}
 use Rattle.packets.proofs.Laws.{and-left}
-use Rattle.packets.specs.Rules.{aimed, always, isAt, begun, closed, closing, codeFor, cut, failed, finished, handedBack, isDone, isTrouble, locked, over, packet, returned, siteOf, submitted}
+use Rattle.packets.specs.Rules.{aimed, always, isAt, begun, closed, closing, codeFor, cut, failed, finished, handedBack}
+use Rattle.packets.specs.Rules.{isDone, isTrouble, locked, over, packet, returned, siteOf, submitted}
 use Rattle.packets.specs.State.{State, isClosing, isRunning, isUnit, packetIn, packetOf, placeOf, put, restatusAll, stateIn, withStatus}
 use Rattle.packets.proofs.Steps.{closing-not-running}
 use Rattle.packets.proofs.Store.{alive-in, length-restatus, state-put, state-restatus, state-state}
@@ -23,7 +24,8 @@ use Rattle.packets.specs.declared.Status.the-variants.{Ended, InProgress
 -- ---- calls that leave the state of every place
 
 -- the packets of one job swept, then one of them stored
-states-swept : (s : State) (j p : ℕ) (t : Packet → Bool) (q : Packet) (i : ℕ) → stateIn (put (restatusAll (s .jobs) j t failed) j p q) i ≡ stateIn (s .jobs) i
+states-swept : (s : State) (j p : ℕ) (t : Packet → Bool) (q : Packet) (i : ℕ)
+    → stateIn (put (restatusAll (s .jobs) j t failed) j p q) i ≡ stateIn (s .jobs) i
 states-swept s j p t q i = state-put (restatusAll (s .jobs) j t failed) j p q i ∙ state-restatus (s .jobs) j t failed i
 
 pub states-submit : (s : State) (j p f c : ℕ) (w : Spot) (i : ℕ) → stateIn (submitted s j p f c w .jobs) i ≡ stateIn (s .jobs) i
@@ -45,7 +47,8 @@ states-begun s c e i = state-put (s .jobs) (placeOf e) (packetOf e) (withStatus 
 pub states-finished : (s : State) (c : ℕ) (how : How) (j p i : ℕ) → stateIn (finished s c how j p .jobs) i ≡ stateIn (s .jobs) i
 states-finished s c how j p i =
     let a = packetIn (s .jobs) j p .at in
-    let o : stateIn (over s c j p (codeFor how) .jobs) i ≡ stateIn (s .jobs) i = state-put (s .jobs) j p (withStatus (packetIn (s .jobs) j p) (Ended (codeFor how))) i in
+    let o : stateIn (over s c j p (codeFor how) .jobs) i ≡ stateIn (s .jobs) i =
+    state-put (s .jobs) j p (withStatus (packetIn (s .jobs) j p) (Ended (codeFor how))) i in
     by-bool (isTrouble (s .codes) how && isUnit (packetIn (s .jobs) j p .at))
     (λ e. rw e (state-restatus (over s c j p (codeFor how) .jobs) j (isAt c a) failed i ∙ o))
     (λ e. rw e o)
@@ -59,7 +62,8 @@ states-handed s j c a i = state-restatus (s .jobs) j (isAt c a) cut i
 pub states-closed : (s : State) (j : ℕ) (e : Bool) → isRunning (stateIn (s .jobs) j) ≡ true
     → (i : ℕ) → stateIn (closed s j e .jobs) i ≡ cond (eqb i j) (closing e) (stateIn (s .jobs) i)
 states-closed s j e r i =
-    let h : j < length (restatusAll (s .jobs) j always cut) = rw (length-restatus (s .jobs) j always cut) (alive-in (s .jobs) j (running-alive (stateIn (s .jobs) j) r)) in
+    let h : j < length (restatusAll (s .jobs) j always cut) =
+    rw (length-restatus (s .jobs) j always cut) (alive-in (s .jobs) j (running-alive (stateIn (s .jobs) j) r)) in
     state-state (restatusAll (s .jobs) j always cut) j (closing e) i h
     ∙ ap (λ (t : JobState). cond (eqb i j) (closing e) t) (state-restatus (s .jobs) j always cut i)
 

@@ -16,9 +16,12 @@ use Rattle.units.specs.declared.Holder.{Holder}
 use Rattle.packets.specs.History.{Event, Leads, NoneHeld, Reached, emptyPlace, fresh}
 use Rattle.packets.proofs.Reaching.{by-calls, by-history, of-fresh}
 use Rattle.packets.proofs.Inv.{EntryOk, Inv, listed-busy, motion-busy, running-alive}
-use Rattle.packets.specs.State.{inMotion, State, anyMoves, close, entryOf, heldBy, isBusy, isClosing, isEmpty, isIdle, isListed, isKept, isRunning, isUnit, lock, motionOn, move, moves, noJob, packetIn, packetOf, packetsIn, placeOf, put, relist, restatusAll, stateIn, store, sweep, withStatus}
+use Rattle.packets.specs.State.{inMotion, State, anyMoves, close, entryOf, heldBy, isBusy, isClosing, isEmpty, isIdle, isListed}
+use Rattle.packets.specs.State.{isKept, isRunning, isUnit, lock, motionOn, move, moves, noJob, packetIn, packetOf, packetsIn}
+use Rattle.packets.specs.State.{placeOf, put, relist, restatusAll, stateIn, store, sweep, withStatus}
 use Rattle.packets.proofs.InvJobs.{NotOf, assigned-inv, close-inv, returned-inv}
-use Rattle.packets.proofs.InvStores.{New, busy-inv, enqueue-inv, entry-packet, entry-place, idle-inv, lock-inv, marked-inv, motion-move, store-inv, sweep-inv}
+use Rattle.packets.proofs.InvStores.{New, busy-inv, enqueue-inv, entry-packet, entry-place, idle-inv}
+use Rattle.packets.proofs.InvStores.{lock-inv, marked-inv, motion-move, store-inv, sweep-inv}
 use Rattle.numbers.specs.Elements.{All, find, keep}
 use Rattle.packets.proofs.Laws.{all-imp, all-keep, and-left, and-right, any-none, eqb-self, find-holds, getD-replicate-const}
 use Rattle.packets.specs.Rules.{
@@ -50,7 +53,8 @@ use Rattle.packets.specs.Rules.{
 }
 use Rattle.packets.specs.declared.Act.the-variants as Act′
 use Rattle.packets.proofs.Store.{alive-in, busy-in, packet-put, packet-restatus, sizeIn, state-put, state-restatus}
-use Rattle.packets.proofs.Told.{Submits, assigns-to, completes-on, cut-going, cut-idle, cut-unlisted, ends-of, failed-going, failed-idle, owns-unit, returns-of, starts-on, submits}
+use Rattle.packets.proofs.Told.{Submits, assigns-to, completes-on, cut-going, cut-idle, cut-unlisted, ends-of}
+use Rattle.packets.proofs.Told.{failed-going, failed-idle, owns-unit, returns-of, starts-on, submits}
 use Rattle.packets.proofs.Handing.{back-inv, completed-idle, handed-inv}
 use Rattle.packets.specs.declared.Carrier.{Carrier}
 use Rattle.channels.specs.declared.Channel.{Channel}
@@ -82,7 +86,8 @@ pub ready-inside : (s : State) (j p : ℕ) → Ready s j p → j < length (s .jo
 ready-inside s j p r = alive-in (s .jobs) j (running-alive (stateIn (s .jobs) j) (r .running))
 
 pub ready-still : (s : State) → Inv s → (j p c : ℕ) → Ready s j p → motionOn s c ≡ Busy j p → ⊥
-ready-still s I j p c r e = never {b = isBusy (packetIn (s .jobs) j p .status)} (motion-busy (packetIn (s .jobs) j p .status) (I .motion c j p e .going)) (r .idle)
+ready-still s I j p c r e =
+    never {b = isBusy (packetIn (s .jobs) j p .status)} (motion-busy (packetIn (s .jobs) j p .status) (I .motion c j p e .going)) (r .idle)
 
 pub ready-store : (s : State) → Inv s → (j p : ℕ) (q : Packet) → Ready s j p → Inv (store s j p q)
 ready-store s I j p q r =
@@ -107,7 +112,8 @@ pub stored-at : (s : State) → Inv s → (j p : ℕ) (q : Packet) → Ready s j
 stored-at s I j p q r = rw (packet-put (s .jobs) j p q j p (ready-fits s I j p r), eqb-self j, eqb-self p)
 
 -- a packet that is free to be submitted is not in the list
-pub not-listed : (s : State) (j p : ℕ) → p < 16 → isBusy (packetIn (s .jobs) j p .status) ≡ false → (e : ℕ) → EntryOk s e → eqb (entryOf j p) e ≡ false
+pub not-listed : (s : State) (j p : ℕ) → p < 16 → isBusy (packetIn (s .jobs) j p .status) ≡ false → (e : ℕ) → EntryOk s e
+    → eqb (entryOf j p) e ≡ false
 not-listed s j p small idle e k =
     by-bool (eqb (entryOf j p) e)
     (λ t. let x : entryOf j p ≡ e = eqb-true (entryOf j p) e t in
@@ -176,7 +182,8 @@ closing-not-running ClosingError e = (refl, refl)
 
 pub none-moving : (s : State) (j : ℕ) → anyMoves j (s .moving) ≡ false → (c p : ℕ) → motionOn s c ≡ Busy j p → ⊥
 none-moving s j n c p e =
-    never {b = moves j (motionOn s c)} (rw e (eqb-self j)) (any-none (λ (m : Carrier). moves j (m .motion)) (s .moving) (record { motion = Idle }) n refl c)
+    never {b = moves j (motionOn s c)} (rw e (eqb-self j))
+    (any-none (λ (m : Carrier). moves j (m .motion)) (s .moving) (record { motion = Idle }) n refl c)
 
 pub return-inv : (s : State) → Inv s → (j : ℕ) → Inv (returnIfDone j s)
 return-inv s I j =
@@ -193,18 +200,29 @@ pub find-some : (o : Option ℕ) → isNone o ≡ false → (a : ℕ) × (o ≡ 
 find-some none e = never {b = true} refl e
 find-some (some a) e = (a, refl)
 
-module _ (s : State) (I : Inv s) (c : ℕ) (small : c < 16) (e : ℕ) (k : EntryOk s e) (on : packetIn (s .jobs) (placeOf e) (packetOf e) .channel .0 ≡ c) where
+module _ (s : State) (I : Inv s) (c : ℕ) (small : c < 16) (e : ℕ) (k : EntryOk s e)
+    (on : packetIn (s .jobs) (placeOf e) (packetOf e) .channel .0 ≡ c) where
   pub start-fits : packetOf e < sizeIn (s .jobs) (placeOf e)
   start-fits = busy-in (s .jobs) (placeOf e) (packetOf e) (listed-busy (packetIn (s .jobs) (placeOf e) (packetOf e) .status) (k .listed))
 
-  pub start-at : packetIn (put (s .jobs) (placeOf e) (packetOf e) (withStatus (packetIn (s .jobs) (placeOf e) (packetOf e)) InProgress)) (placeOf e) (packetOf e) ≡ withStatus (packetIn (s .jobs) (placeOf e) (packetOf e)) InProgress
-  start-at = rw (packet-put (s .jobs) (placeOf e) (packetOf e) (withStatus (packetIn (s .jobs) (placeOf e) (packetOf e)) InProgress) (placeOf e) (packetOf e) start-fits, eqb-self (placeOf e), eqb-self (packetOf e))
+  pub start-at : packetIn (put (s .jobs) (placeOf e) (packetOf e) (withStatus (packetIn (s .jobs) (placeOf e) (packetOf e)) InProgress))
+      (placeOf e) (packetOf e)
+      ≡ withStatus (packetIn (s .jobs) (placeOf e) (packetOf e)) InProgress
+  start-at =
+      rw (
+        packet-put (s .jobs) (placeOf e) (packetOf e) (withStatus (packetIn (s .jobs) (placeOf e) (packetOf e)) InProgress) (placeOf e)
+            (packetOf e) start-fits,
+        eqb-self (placeOf e),
+        eqb-self (packetOf e),
+      )
 
   abbrev pub startedState : State
   startedState = store s (placeOf e) (packetOf e) (withStatus (packetIn (s .jobs) (placeOf e) (packetOf e)) InProgress)
 
   pub start-store : Inv startedState
-  start-store = store-inv s I (placeOf e) (packetOf e) (withStatus (packetIn (s .jobs) (placeOf e) (packetOf e)) InProgress) start-fits (λ b. (refl, refl)) (λ d m. refl)
+  start-store =
+      store-inv s I (placeOf e) (packetOf e) (withStatus (packetIn (s .jobs) (placeOf e) (packetOf e)) InProgress) start-fits
+      (λ b. (refl, refl)) (λ d m. refl)
 
   pub begun-inv : Inv (begun s c e)
   begun-inv =
@@ -212,7 +230,9 @@ module _ (s : State) (I : Inv s) (c : ℕ) (small : c < 16) (e : ℕ) (k : Entry
       (record {
         going = rw start-at;
         channel = rw start-at on;
-        alive = rw (state-put (s .jobs) (placeOf e) (packetOf e) (withStatus (packetIn (s .jobs) (placeOf e) (packetOf e)) InProgress) (placeOf e)) (running-alive (stateIn (s .jobs) (placeOf e)) (k .running));
+        alive = rw
+            (state-put (s .jobs) (placeOf e) (packetOf e) (withStatus (packetIn (s .jobs) (placeOf e) (packetOf e)) InProgress) (placeOf e))
+            (running-alive (stateIn (s .jobs) (placeOf e)) (k .running));
         owned = rw start-at (k .owned);
       })
 
@@ -248,7 +268,8 @@ module _ (s : State) (I : Inv s) (c : ℕ) (small : c < 16) (j p : ℕ) (is : mo
       by-bool (isTrouble (s .codes) how && isUnit (packetIn (s .jobs) j p .at))
       (λ e. rw e
       (lock-inv (sweep (over s c j p (codeFor how)) j (isAt c (packetIn (s .jobs) j p .at)) failed)
-      (sweep-inv (over s c j p (codeFor how)) (over-inv (codeFor how)) j (isAt c (packetIn (s .jobs) j p .at)) failed (over-inside (codeFor how)) refl failed-going)
+      (sweep-inv (over s c j p (codeFor how)) (over-inv (codeFor how)) j (isAt c (packetIn (s .jobs) j p .at)) failed
+      (over-inside (codeFor how)) refl failed-going)
       c (packetIn (s .jobs) j p .at) true))
       (λ e. rw e (over-inv (codeFor how)))
 
@@ -263,7 +284,8 @@ none-listed s I j h =
     all-imp (EntryOk (sweep s j always cut)) (NotOf j)
     (λ e k. by-bool (eqb (placeOf e) j)
     (λ t. never {b = isListed (packetIn (restatusAll (s .jobs) j always cut) (placeOf e) (packetOf e) .status)} (k .listed)
-    (rw (packet-restatus (s .jobs) j always cut (placeOf e) (packetOf e) h refl, t) (cut-unlisted (packetIn (s .jobs) (placeOf e) (packetOf e) .status))))
+    (rw (packet-restatus (s .jobs) j always cut (placeOf e) (packetOf e) h refl, t)
+    (cut-unlisted (packetIn (s .jobs) (placeOf e) (packetOf e) .status))))
     (λ t. t))
     (sweep s j always cut .queue) (sweep-inv s I j always cut h refl cut-going .queued)
 
@@ -327,7 +349,9 @@ fresh-inv channels codes units free =
       channels = refl;
       queued = tt;
       single = tt;
-      motion = λ c j p e. absurd (let z : Idle ≡ Busy j p = sym (ap (λ (m : Carrier). m .motion) (getD-replicate-same 16 c (record { motion = Idle }))) ∙ e in let y : _≡_ {A = ℕ} 0 1 = cc in omega arith);
+      motion = λ c j p e. absurd (let z : Idle ≡ Busy j p =
+          sym (ap (λ (m : Carrier). m .motion) (getD-replicate-same 16 c (record { motion = Idle }))) ∙ e in
+          let y : _≡_ {A = ℕ} 0 1 = cc in omega arith);
       holders = λ c u j e. never {b = heldBy (unitIn units c u .holder) j} e (ap (λ (h : Holder). heldBy h j) (free c u));
     }
 

@@ -16,7 +16,8 @@ use Rattle.units.specs.State.{freshUnit, isFree, unitIn, unitSet}
 use Rattle.packets.proofs.Laws.{getD-mapFrom, getD-set-keep}
 use Rattle.numbers.specs.Elements.{mapFrom}
 use Rattle.packets.specs.Rules.{freshJob}
-use Rattle.packets.specs.State.{blank, isBusy, isEmpty, jobIn, noJob, packetIn, put, release, releaseAll, restatus, restatusAll, setState, stateIn, takeAll, takeUnit, withPackets, withState}
+use Rattle.packets.specs.State.{blank, isBusy, isEmpty, jobIn, noJob, packetIn, put, release, releaseAll, restatus}
+use Rattle.packets.specs.State.{restatusAll, setState, stateIn, takeAll, takeUnit, withPackets, withState}
 use Rattle.packets.specs.declared.Assignment.{Assignment}
 use Rattle.packets.specs.declared.Job.{Job}
 use Rattle.packets.specs.declared.JobState.{JobState}
@@ -86,7 +87,8 @@ pub state-restatus : (jobs : List Job) (j : ℕ) (t : Packet → Bool) (f : Stat
 unfolding stateIn restatusAll
 state-restatus jobs j t f i = getD-set-keep (λ (k : Job). k .state) jobs j _ i noJob refl
 
-pub state-state : (jobs : List Job) (j : ℕ) (t : JobState) (i : ℕ) → j < length jobs → stateIn (setState jobs j t) i ≡ cond (eqb i j) t (stateIn jobs i)
+pub state-state : (jobs : List Job) (j : ℕ) (t : JobState) (i : ℕ) → j < length jobs
+    → stateIn (setState jobs j t) i ≡ cond (eqb i j) t (stateIn jobs i)
 unfolding stateIn setState
 state-state jobs j t i h =
     ap (λ (k : Job). k .state) (getD-set jobs j (withState (jobIn jobs j) t) i noJob h)
@@ -176,12 +178,15 @@ pub unit-take : (units : List (List UnitState)) (j : ℕ) (wants : ℕ → ℕ �
     → (w : Bool) × (unitIn (takeAll units j wants) c u ≡ takeUnit j w (unitIn units c u))
 unfolding unitIn takeAll
 unit-take units j wants c u =
-    let r : getD (mapFrom 0 (λ c row. mapFrom 0 (λ u v. takeUnit j (wants c u) v) row) units) c [] ≡ mapFrom 0 (λ u v. takeUnit j (wants (0 + c) u) v) (getD units c []) =
+    let r : getD (mapFrom 0 (λ c row. mapFrom 0 (λ u v. takeUnit j (wants c u) v) row) units) c []
+    ≡ mapFrom 0 (λ u v. takeUnit j (wants (0 + c) u) v) (getD units c []) =
     getD-mapFrom (λ c row. mapFrom 0 (λ u v. takeUnit j (wants c u) v) row) [] (λ k. refl) 0 units c in
     let s = one 0 (getD units c []) u in
     (s .0, ap (λ (row : List UnitState). getD row u (freshUnit false)) r ∙ s .1)
   where
-    one : (m : ℕ) (row : List UnitState) (k : ℕ) → (w : Bool) × (getD (mapFrom m (λ u v. takeUnit j (wants (0 + c) u) v) row) k (freshUnit false) ≡ takeUnit j w (getD row k (freshUnit false)))
+    one : (m : ℕ) (row : List UnitState) (k : ℕ)
+        → (w : Bool) × (getD (mapFrom m (λ u v. takeUnit j (wants (0 + c) u) v) row) k (freshUnit false)
+        ≡ takeUnit j w (getD row k (freshUnit false)))
     one m [] k = (false, refl)
     one m (v ∷ row) zero = (wants (0 + c) m, refl)
     one m (v ∷ row) (suc k) = one (suc m) row k

@@ -56,7 +56,8 @@ lock-away h units c (AtUnit u) b f away =
     (λ t. rw t)))
 lock-away h units c (AtAddress x) b f away = refl
 
-pub lock-here : (h : Holding) (s : State) → Holds s h → (c : ℕ) (b : Bool) → h .drum ≡ false → h .channel ≡ c → lockThere h (setLock (s .units) c (itsUnit h) b) ≡ b
+pub lock-here : (h : Holding) (s : State) → Holds s h → (c : ℕ) (b : Bool) → h .drum ≡ false → h .channel ≡ c
+    → lockThere h (setLock (s .units) c (itsUnit h) b) ≡ b
 lock-here h s H c b d p =
     rw (
       d,
@@ -68,7 +69,8 @@ lock-here h s H c b d p =
     )
 
 -- the interlock of what is there
-pub lock-is : (h : Holding) (units : List (List UnitState)) (c : ℕ) (a : Site) → isThere h c a ≡ true → unitAt units c a .interlock ≡ lockThere h units
+pub lock-is : (h : Holding) (units : List (List UnitState)) (c : ℕ) (a : Site) → isThere h c a ≡ true
+    → unitAt units c a .interlock ≡ lockThere h units
 lock-is h units c a t =
     by-bool (h .drum)
     (λ d. rw d (on-drum a (there-kind h c a t ∙ ap not d)))
@@ -79,7 +81,8 @@ lock-is h units c a t =
     on-drum (AtAddress x) e = refl
 
 -- whether what is there is being returned
-pub return-is : (h : Holding) (units : List (List UnitState)) (c : ℕ) (a : Site) → isThere h c a ≡ true → isReturning (unitAt units c a .holder) ≡ returnThere h units
+pub return-is : (h : Holding) (units : List (List UnitState)) (c : ℕ) (a : Site) → isThere h c a ≡ true
+    → isReturning (unitAt units c a .holder) ≡ returnThere h units
 return-is h units c a t =
     by-bool (h .drum)
     (λ d. rw d (on-drum a (there-kind h c a t ∙ ap not d)))

@@ -7,9 +7,11 @@ use lib.Dec.{ltb}
 use borrow.Author.Tests.{ltb-true, not-false, not-true}
 use Rattle.numbers.proofs.Tests.{never}
 use Rattle.numbers.specs.Kinds.{isDrum}
-use Rattle.numbers.specs.declared.Refusal.the-variants.{BeingReturned, ChannelBusy, NoJob, NotLegal, NotTheJobs, NothingInProgress, NoPlaceFree, NothingStartable, OutOfRange, PacketInUse, WrongCompletion}
+use Rattle.numbers.specs.declared.Refusal.the-variants.{BeingReturned, ChannelBusy, NoJob, NotLegal, NotTheJobs, NothingInProgress}
+use Rattle.numbers.specs.declared.Refusal.the-variants.{NoPlaceFree, NothingStartable, OutOfRange, PacketInUse, WrongCompletion}
 use Rattle.units.specs.State.{isReturning, unitIn}
-use Rattle.packets.specs.State.{inMotion, State, configured, drumOn, fittedOn, heldBy, isBusy, isDrumOf, isEmpty, isIdle, isListed, isRunning, jobIn, legalFor, motionOn, movingStatus, packetIn, stateIn, isUnit, unitAt}
+use Rattle.packets.specs.State.{inMotion, State, configured, drumOn, fittedOn, heldBy, isBusy, isDrumOf, isEmpty, isIdle, isListed}
+use Rattle.packets.specs.State.{isRunning, jobIn, legalFor, motionOn, movingStatus, packetIn, stateIn, isUnit, unitAt}
 use Rattle.packets.proofs.Laws.{and-left, and-right, passes}
 use Rattle.numbers.specs.Elements.{find}
 use Rattle.packets.specs.Rules.{Take, cut, failed, inRange, isNone, isOwn, isWrong, reaches, refusal, siteOf, startable}
@@ -69,11 +71,13 @@ submits s j p f c w e =
     }
 
 -- the unit that is named is the job's
-pub owns-unit : (s : State) (j p f c : ℕ) (w : Spot) → Submits s j p f c w → isUnit (siteOf w) ≡ true → heldBy (unitAt (s .units) c (siteOf w) .holder) j ≡ true
+pub owns-unit : (s : State) (j p f c : ℕ) (w : Spot) → Submits s j p f c w → isUnit (siteOf w) ≡ true
+    → heldBy (unitAt (s .units) c (siteOf w) .holder) j ≡ true
 owns-unit s j p f c (OnUnit u) k e = k .owned
 owns-unit s j p f c (OnDrum x h) k e = never {b = false} e refl
 
-pub starts-on : (s : State) (c : ℕ) → refusal s (Start c) ≡ Granted → (c < 16) × (isIdle (motionOn s c) ≡ true) × (isNone (find (startable s c) (s .queue)) ≡ false)
+pub starts-on : (s : State) (c : ℕ) → refusal s (Start c) ≡ Granted
+    → (c < 16) × (isIdle (motionOn s c) ≡ true) × (isNone (find (startable s c) (s .queue)) ≡ false)
 unfolding refusal
 starts-on s c e =
     let r₁ = passes (not (configured (s .channels) c)) OutOfRange _ e in

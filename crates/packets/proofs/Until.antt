@@ -53,7 +53,8 @@ use Rattle.packets.specs.declared.Verdict.the-variants.{Denied, Granted}
 -- ---- the completion there
 
 -- a unit that is free or being returned is free when it is given back
-back-free : (units : List (List UnitState)) (c u : ℕ) → (isReturning (unitIn units c u .holder) ≡ false → unitIn units c u .holder ≡ Free) → unitIn (freedAt units c (unitSite u)) c u .holder ≡ Free
+back-free : (units : List (List UnitState)) (c u : ℕ) → (isReturning (unitIn units c u .holder) ≡ false → unitIn units c u .holder ≡ Free)
+    → unitIn (freedAt units c (unitSite u)) c u .holder ≡ Free
 back-free units c u f =
     by-bool (isReturning (unitIn units c u .holder))
     (λ t. rw (t, held-unit units c u Free (returning-taken (unitIn units c u .holder) t) c u, eqb-self c, eqb-self u))
@@ -65,10 +66,12 @@ return-free : (s : State) (j c u : ℕ) → isReturning (unitIn (s .units) c u .
 return-free s j c u e =
     by-bool (isDone s j)
     (λ d. rw (d, unit-release (s .units) j c u)
-    (by-bool (heldBy (unitIn (s .units) c u .holder) j) (λ h. rw h (λ n. refl)) (λ h. rw h (λ n. never {b = isReturning (unitIn (s .units) c u .holder)} e n))))
+    (by-bool (heldBy (unitIn (s .units) c u .holder) j) (λ h. rw h (λ n. refl))
+    (λ h. rw h (λ n. never {b = isReturning (unitIn (s .units) c u .holder)} e n))))
     (λ d. rw d (λ n. never {b = isReturning (unitIn (s .units) c u .holder)} e n))
 
-pub completion-frees : (s : State) → Waits s → (c u : ℕ) (how : How) → refusal s (Complete c how) ≡ Granted → isReturning (unitIn (s .units) c u .holder) ≡ true
+pub completion-frees : (s : State) → Waits s → (c u : ℕ) (how : How) → refusal s (Complete c how) ≡ Granted
+    → isReturning (unitIn (s .units) c u .holder) ≡ true
     → unitIn (accept s (Complete c how) .units) c u .holder ≡ Free
 unfolding accept
 completion-frees s W c u how r e =
@@ -94,7 +97,8 @@ module _ (s : State) (I : Inv s) (W : Waits s) (c u : ℕ) (e : isReturning (uni
       (λ d. absurd (none-moving s′ (wait .place) (not-true _ (and-right (isClosing (stateIn (s′ .jobs) (wait .place))) _ d)) c (wait .packet) m))
       (λ d. d)
 
-  return-keeps : (s′ : State) (j : ℕ) → motionOn s′ c ≡ Busy (wait .place) (wait .packet) → unitIn (s′ .units) c u .holder ≡ unitIn (s .units) c u .holder
+  return-keeps : (s′ : State) (j : ℕ) → motionOn s′ c ≡ Busy (wait .place) (wait .packet)
+      → unitIn (s′ .units) c u .holder ≡ unitIn (s .units) c u .holder
       → unitIn (returnIfDone j s′ .units) c u .holder ≡ unitIn (s .units) c u .holder
   return-keeps s′ j m same =
       by-bool (isDone s′ j)
@@ -113,7 +117,8 @@ module _ (s : State) (I : Inv s) (W : Waits s) (c u : ℕ) (e : isReturning (uni
       (λ t. rw (t, held-unit units d (v .0) Free (returning-taken (unitIn units d (v .0) .holder) t) c u, n))
       (λ t. rw t)
 
-  accept-until : (x : Call) → refusal s x ≡ Granted → ((how : How) → x ≡ Complete c how → ⊥) → unitIn (accept s x .units) c u .holder ≡ unitIn (s .units) c u .holder
+  accept-until : (x : Call) → refusal s x ≡ Granted → ((how : How) → x ≡ Complete c how → ⊥)
+      → unitIn (accept s x .units) c u .holder ≡ unitIn (s .units) c u .holder
   unfolding accept
   accept-until (Take j asg) r o =
       let k = assigns-to s j asg r in
@@ -131,20 +136,25 @@ module _ (s : State) (I : Inv s) (W : Waits s) (c u : ℕ) (e : isReturning (uni
       let p = y .1 in
       let s₁ = finished s (d .0) how j p in
       let apart : eqb c (d .0) ≡ false = ne-eqb c (d .0) (λ q. o how (ap (λ (n : ℕ). Complete n how) (sym q))) in
-      let moves : motionOn s₁ c ≡ Busy (wait .place) (wait .packet) = finished-motion s (d .0) how j p c ∙ motion-move s (d .0) _ c (rw (I .channels) (m .0)) ∙ rw apart (wait .moves) in
+      let moves : motionOn s₁ c ≡ Busy (wait .place) (wait .packet) =
+      finished-motion s (d .0) how j p c ∙ motion-move s (d .0) _ c (rw (I .channels) (m .0)) ∙ rw apart (wait .moves) in
       rw (y .2)
       (ap (λ (v : UnitState). v .holder) (back-keeps (returnIfDone j s₁ .units) (d .0) (packetIn (s .jobs) j p .at) apart)
       ∙ return-keeps s₁ j moves (finish-keeps s (d .0) how j p c u))
   accept-until (Do (Act′.End j b)) r o = return-keeps (closed s j b) j (wait .moves) refl
   accept-until (Do (Act′.Return j d v)) r o =
       let k = returns-of s j (d .0) (v .0) r in
-      let h = held-unit (s .units) (d .0) (v .0) (next s I j (d .0) (v .0) k) (held-taken (unitIn (s .units) (d .0) (v .0) .holder) j (k .held)) c u in
+      let h = held-unit (s .units) (d .0) (v .0) (next s I j (d .0) (v .0) k) (held-taken (unitIn (s .units) (d .0) (v .0) .holder) j (k .held))
+      c u in
       by-bool (eqb c (d .0) && eqb u (v .0))
-      (λ t. let x : c ≡ (d .0) = eqb-true c (d .0) (and-left (eqb c (d .0)) _ t) in
+      (λ t.
+      let x : c ≡ (d .0) = eqb-true c (d .0) (and-left (eqb c (d .0)) _ t) in
       let y : u ≡ (v .0) = eqb-true u (v .0) (and-right (eqb c (d .0)) _ t) in
       never {b = isReturning (unitIn (s .units) c u .holder)} e (rw (x, y) (k .staying)))
       (λ t. rw (h, t))
-  accept-until (Do (Act′.Mark d v m on)) r o = unit-keep (λ (w : UnitState). w .holder) (s .units) (d .0) (v .0) (markedUnit m on (unitIn (s .units) (d .0) (v .0))) c u (mark-holder m on (unitIn (s .units) (d .0) (v .0)))
+  accept-until (Do (Act′.Mark d v m on)) r o =
+      unit-keep (λ (w : UnitState). w .holder) (s .units) (d .0) (v .0) (markedUnit m on (unitIn (s .units) (d .0) (v .0))) c u
+      (mark-holder m on (unitIn (s .units) (d .0) (v .0)))
 
   pub step-until : (x : Call) → ((how : How) → x ≡ Complete c how → ⊥) → unitIn (step s x .state .units) c u .holder ≡ unitIn (s .units) c u .holder
   unfolding step

@@ -114,7 +114,9 @@ module _ (s : State) (I : Inv s) (c i n : ℕ) (is : motionOn s c ≡ Busy i n) 
   stays-stopping : (x : Call) → refusal s x ≡ Granted → ((how : How) → x ≡ Complete c how → ⊥) → statusAfter s x i n ≡ Stopping
   unfolding statusAfter
   stays-stopping (Take j asg) r o =
-      by-bool (eqb i j) (λ t. never {b = isEmpty (stateIn (s .jobs) j)} (assigns-to s j asg r .1) (rw (eqb-true i j t) at (I .motion c i n is .alive))) (λ t. rw (t, st))
+      by-bool (eqb i j)
+      (λ t. never {b = isEmpty (stateIn (s .jobs) j)} (assigns-to s j asg r .1) (rw (eqb-true i j t) at (I .motion c i n is .alive)))
+      (λ t. rw (t, st))
   stays-stopping (Do (Act′.Submit j p f d w)) r o =
       let k = submits s j p f (d .0) w r in
       rw (another s I c i n is j p (record { small = k .small; running = k .running; idle = k .idle }), st)
@@ -134,16 +136,21 @@ module _ (s : State) (I : Inv s) (c i n : ℕ) (is : motionOn s c ≡ Busy i n) 
       let y = busy-of (motionOn s (d .0)) (completes-on s (d .0) how r .1) in
       let j = y .0 in
       let p = y .1 in
-      let other : isPacket j p i n ≡ false = by-bool (isPacket j p i n)
-      (λ t. let a : i ≡ j = eqb-true i j (and-left (eqb i j) _ t) in
+      let other : isPacket j p i n ≡ false =
+      by-bool (isPacket j p i n)
+      (λ t.
+      let a : i ≡ j = eqb-true i j (and-left (eqb i j) _ t) in
       let b : n ≡ p = eqb-true n p (and-right (eqb i j) _ t) in
       let is′ : motionOn s c ≡ Busy j p = rw (a, b) at is in
       absurd (o how (ap (λ (e : ℕ). Complete e how) (sym (I .motion (d .0) j p (y .2) .channel) ∙ I .motion c j p is′ .channel))))
       (λ t. t) in
       rw (y .2, other, st)
-      (by-bool (eqb i j && ((isTrouble (s .codes) how && isUnit (packetIn (s .jobs) j p .at)) && isAt (d .0) (packetIn (s .jobs) j p .at) (packetIn (s .jobs) i n))) (λ t. rw t) (λ t. rw t))
+      (by-bool (eqb i j && ((isTrouble (s .codes) how && isUnit (packetIn (s .jobs) j p .at))
+      && isAt (d .0) (packetIn (s .jobs) j p .at) (packetIn (s .jobs) i n)))
+      (λ t. rw t) (λ t. rw t))
   stays-stopping (Do (Act′.End j b)) r o = rw st (by-bool (eqb i j) (λ t. rw t) (λ t. rw t))
-  stays-stopping (Do (Act′.Return j d v)) r o = rw st (by-bool (eqb i j && isAt (d .0) (unitSite (v .0)) (packetIn (s .jobs) i n)) (λ t. rw t) (λ t. rw t))
+  stays-stopping (Do (Act′.Return j d v)) r o =
+      rw st (by-bool (eqb i j && isAt (d .0) (unitSite (v .0)) (packetIn (s .jobs) i n)) (λ t. rw t) (λ t. rw t))
   stays-stopping (Do (Act′.Mark d v m on)) r o = st
 
   goes : (x : Call) → refusal s x ≡ Granted → ((how : How) → x ≡ Complete c how → ⊥) → Goes s (accept s x) c i n
@@ -160,7 +167,8 @@ module _ (s : State) (I : Inv s) (c i n : ℕ) (is : motionOn s c ≡ Busy i n) 
 release-returning : (v : UnitState) (j : ℕ) → isReturning (release j v .holder) ≡ true → v .holder ≡ release j v .holder
 release-returning v j e = by-bool (heldBy (v .holder) j) (λ t. never {b = false} (rw t at e) refl) (λ t. rw t)
 
-return-returning : (s : State) (j c u : ℕ) → isReturning (unitIn (returnIfDone j s .units) c u .holder) ≡ true → unitIn (s .units) c u .holder ≡ unitIn (returnIfDone j s .units) c u .holder
+return-returning : (s : State) (j c u : ℕ) → isReturning (unitIn (returnIfDone j s .units) c u .holder) ≡ true
+    → unitIn (s .units) c u .holder ≡ unitIn (returnIfDone j s .units) c u .holder
 return-returning s j c u e =
     by-bool (isDone s j)
     (λ t. let e′ : isReturning (release j (unitIn (s .units) c u) .holder) ≡ true = rw (t, unit-release (s .units) j c u) at e in
@@ -177,14 +185,17 @@ back-returning : (units : List (List UnitState)) (d : ℕ) (a : Site) (c u : ℕ
 back-returning units d (AtAddress x) c u e = (refl, λ p q. let y : _≡_ {A = ℕ} 0 1 = cc in omega arith)
 back-returning units d (AtUnit v) c u e =
     by-bool (isReturning (unitIn units d (v .0) .holder))
-    (λ t. let w = held-unit units d (v .0) Free (returning-taken (unitIn units d (v .0) .holder) t) c u in
-    let e′ : isReturning (cond (eqb c d && eqb u (v .0)) (withHolder (unitIn units d (v .0)) Free) (unitIn units c u) .holder) ≡ true = rw (t, w) at e in
+    (λ t.
+    let w = held-unit units d (v .0) Free (returning-taken (unitIn units d (v .0) .holder) t) c u in
+    let e′ : isReturning (cond (eqb c d && eqb u (v .0)) (withHolder (unitIn units d (v .0)) Free) (unitIn units c u) .holder) ≡ true =
+    rw (t, w) at e in
     by-bool (eqb c d && eqb u (v .0))
     (λ x. never {b = false} (rw x at e′) refl)
     (λ x. (rw (t, w, x), λ p q. never {b = eqb c d && eqb u (v .0)} (rw (p, eqb-self d) (eq-eqb u (v .0) (sym (number q)))) x)))
     (λ t. (
       rw t,
-      λ p q. let y : v .0 ≡ u = number q in
+      λ p q.
+          let y : v .0 ≡ u = number q in
           let z : isReturning (unitIn units c u .holder) ≡ true = rw t at e in
           never {b = isReturning (unitIn units c u .holder)} z (rw (p, ← y) t),
     ))
@@ -199,7 +210,8 @@ back-returning units d (AtUnit v) c u e =
 -- ---- every call
 
 -- a unit whose holder is as it was, and whose packet goes on
-keeps-waiting : (s s′ : State) (c u : ℕ) (w : Waiting s c u) → unitIn (s .units) c u .holder ≡ unitIn (s′ .units) c u .holder → Goes s s′ c (w .place) (w .packet) → Waiting s′ c u
+keeps-waiting : (s s′ : State) (c u : ℕ) (w : Waiting s c u) → unitIn (s .units) c u .holder ≡ unitIn (s′ .units) c u .holder
+    → Goes s s′ c (w .place) (w .packet) → Waiting s′ c u
 keeps-waiting s s′ c u w e g =
     record {
       place = w .place;
@@ -220,7 +232,8 @@ module _ (s : State) (I : Inv s) (W : Waits s) where
       keeps-waiting s (accept s x) c u w same (goes s I c (w .place) (w .packet) (w .moves) (w .stopping) x r (o w))
 
   -- a unit whose return has just been asked for
-  now-waits : (j d v : ℕ) → Returns s j d v → isReturning (unitIn (handedBack s j d (unitSite v) .units) d v .holder) ≡ true → Waiting (handedBack s j d (unitSite v)) d v
+  now-waits : (j d v : ℕ) → Returns s j d v → isReturning (unitIn (handedBack s j d (unitSite v) .units) d v .holder) ≡ true
+      → Waiting (handedBack s j d (unitSite v)) d v
   now-waits j d v k e =
       let h = handed-to s I j d v k in
       by-motion (motionOn s d) refl h (by-bool (movesAt s j d (unitSite v) (motionOn s d)) (λ t. t) (λ t. never {b = false} (rw (h, t) at e) refl))
@@ -234,7 +247,8 @@ module _ (s : State) (I : Inv s) (W : Waits s) where
           let y : isAt d (unitSite v) (packetIn (s .jobs) j p) ≡ true = and-right (eqb i j) _ t′ in
           let is′ : motionOn s d ≡ Busy j p = rw x at is in
           let q = packetIn (s .jobs) j p in
-          let z : packetIn (restatusAll (s .jobs) j (isAt d (unitSite v)) cut) j p ≡ record { status = cut (q .status); function = q .function; channel = q .channel; at = q .at } =
+          let z : packetIn (restatusAll (s .jobs) j (isAt d (unitSite v)) cut) j p
+          ≡ record { status = cut (q .status); function = q .function; channel = q .channel; at = q .at } =
           packet-restatus (s .jobs) j (isAt d (unitSite v)) cut j p (returns-inside s I j d v k) refl ∙ rw (eqb-self j, y) in
           record {
             place = j;
@@ -250,12 +264,16 @@ module _ (s : State) (I : Inv s) (W : Waits s) where
   accept-waits (Take j asg) r c u e =
       let k = unit-take (s .units) j (wanted asg) c u in
       let e′ : isReturning (takeUnit j (k .0) (unitIn (s .units) c u) .holder) ≡ true = rw (k .1) at e in
-      still-waits (Take j asg) r c u e (take-returning j (k .0) (unitIn (s .units) c u) e′ ∙ sym (ap (λ (v : UnitState). v .holder) (k .1))) (λ w how q. different q)
+      still-waits (Take j asg) r c u e (take-returning j (k .0) (unitIn (s .units) c u) e′ ∙ sym (ap (λ (v : UnitState). v .holder) (k .1)))
+      (λ w how q. different q)
     where
       different : {how : How} → Take j asg ≡ Complete c how → ⊥
       different q = let y : _≡_ {A = ℕ} 0 1 = cc in omega arith
-  accept-waits (Do (Act′.Submit j p f d w)) r c u e = still-waits (Submit j p f (d .0) w) r c u e (sym (submit-keeps s j p f (d .0) w c u)) (λ v how q. let y : _≡_ {A = ℕ} 0 1 = cc in omega arith)
-  accept-waits (Do (Act′.Start d)) r c u e = still-waits (Start (d .0)) r c u e (same (find (startable s (d .0)) (s .queue))) (λ v how q. let y : _≡_ {A = ℕ} 0 1 = cc in omega arith)
+  accept-waits (Do (Act′.Submit j p f d w)) r c u e =
+      still-waits (Submit j p f (d .0) w) r c u e (sym (submit-keeps s j p f (d .0) w c u))
+      (λ v how q. let y : _≡_ {A = ℕ} 0 1 = cc in omega arith)
+  accept-waits (Do (Act′.Start d)) r c u e =
+      still-waits (Start (d .0)) r c u e (same (find (startable s (d .0)) (s .queue))) (λ v how q. let y : _≡_ {A = ℕ} 0 1 = cc in omega arith)
     where
       same : (o : Option ℕ) → unitIn (s .units) c u .holder ≡ unitIn (started s (d .0) o .units) c u .holder
       same none = refl
@@ -269,26 +287,33 @@ module _ (s : State) (I : Inv s) (W : Waits s) where
       let s₂ = returnIfDone j s₁ in
       let e′ : isReturning (unitIn (freedAt (s₂ .units) (d .0) a) c u .holder) ≡ true = rw (y .2) at e in
       let k = back-returning (s₂ .units) (d .0) a c u e′ in
-      let same : unitIn (s .units) c u .holder ≡ unitIn (freedAt (s₂ .units) (d .0) a) c u .holder = sym (finish-keeps s (d .0) how j p c u) ∙ return-returning s₁ j c u (ap isReturning (k .0) ∙ e′) ∙ k .0 in
+      let same : unitIn (s .units) c u .holder ≡ unitIn (freedAt (s₂ .units) (d .0) a) c u .holder =
+      sym (finish-keeps s (d .0) how j p c u) ∙ return-returning s₁ j c u (ap isReturning (k .0) ∙ e′) ∙ k .0 in
       still-waits (Complete (d .0) how) r c u e (rw (y .2) same)
-      (λ w how′ q. let f : (d .0) ≡ c = cc in
+      (λ w how′ q.
+      let f : (d .0) ≡ c = cc in
       let m : Busy (w .place) (w .packet) ≡ Busy j p = sym (w .moves) ∙ ap (motionOn s) (sym f) ∙ y .2 in
       let i : w .place ≡ j = cc in
       let n : w .packet ≡ p = cc in
       k .1 (sym f) (rw (i, n) at (w .at)))
-  accept-waits (Do (Act′.End j b)) r c u e = still-waits (End j b) r c u e (return-returning (closed s j b) j c u e) (λ v how q. let y : _≡_ {A = ℕ} 0 1 = cc in omega arith)
+  accept-waits (Do (Act′.End j b)) r c u e =
+      still-waits (End j b) r c u e (return-returning (closed s j b) j c u e) (λ v how q. let y : _≡_ {A = ℕ} 0 1 = cc in omega arith)
   accept-waits (Do (Act′.Return j d v)) r c u e =
       let k = returns-of s j (d .0) (v .0) r in
-      let h = held-unit (s .units) (d .0) (v .0) (next s I j (d .0) (v .0) k) (held-taken (unitIn (s .units) (d .0) (v .0) .holder) j (k .held)) c u in
+      let h = held-unit (s .units) (d .0) (v .0) (next s I j (d .0) (v .0) k) (held-taken (unitIn (s .units) (d .0) (v .0) .holder) j (k .held))
+      c u in
       by-bool (eqb c (d .0) && eqb u (v .0))
-      (λ t. let x : c ≡ (d .0) = eqb-true c (d .0) (and-left (eqb c (d .0)) _ t) in
+      (λ t.
+      let x : c ≡ (d .0) = eqb-true c (d .0) (and-left (eqb c (d .0)) _ t) in
       let y : u ≡ (v .0) = eqb-true u (v .0) (and-right (eqb c (d .0)) _ t) in
       rw (x, y) (now-waits j (d .0) (v .0) k (rw (x, y) at e)))
-      (λ t. let same : unitIn (s .units) c u .holder ≡ unitIn (handedBack s j (d .0) (unitSite (v .0)) .units) c u .holder = rw (h, t) in
+      (λ t.
+      let same : unitIn (s .units) c u .holder ≡ unitIn (handedBack s j (d .0) (unitSite (v .0)) .units) c u .holder = rw (h, t) in
       still-waits (Return j (d .0) (v .0)) r c u e same (λ w how q. let y : _≡_ {A = ℕ} 0 1 = cc in omega arith))
   accept-waits (Do (Act′.Mark d v m on)) r c u e =
       still-waits (Mark (d .0) (v .0) m on) r c u e
-      (sym (unit-keep (λ (o : UnitState). o .holder) (s .units) (d .0) (v .0) (markedUnit m on (unitIn (s .units) (d .0) (v .0))) c u (mark-holder m on (unitIn (s .units) (d .0) (v .0)))))
+      (sym (unit-keep (λ (o : UnitState). o .holder) (s .units) (d .0) (v .0) (markedUnit m on (unitIn (s .units) (d .0) (v .0))) c u
+      (mark-holder m on (unitIn (s .units) (d .0) (v .0)))))
       (λ w how q. let y : _≡_ {A = ℕ} 0 1 = cc in omega arith)
 
 fresh-waits : (channels : List Channel) (codes : ℕ) (units : List (List UnitState)) → NoneHeld units → Waits (fresh channels codes units)

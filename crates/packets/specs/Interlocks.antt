@@ -31,7 +31,8 @@ interlockAfter s (Take j asg) c u =
 interlockAfter s (Do (Submit j p f d w)) c u = cond (eqb f 0o07 && isThat c u (d .0) (siteOf w)) false (unitIn (s .units) c u .interlock)
 interlockAfter s (Do (Start d)) c u = unitIn (s .units) c u .interlock
 -- "Any other failure code sets none", nor does any on the drum
-interlockAfter s (Do (Complete d how)) c u = (isTrouble (s .codes) how && carriedAt s (d .0) (motionOn s (d .0)) c u) || unitIn (s .units) c u .interlock
+interlockAfter s (Do (Complete d how)) c u =
+    (isTrouble (s .codes) how && carriedAt s (d .0) (motionOn s (d .0)) c u) || unitIn (s .units) c u .interlock
 interlockAfter s (Do (End j e)) c u = unitIn (s .units) c u .interlock
 interlockAfter s (Do (Return j d v)) c u = unitIn (s .units) c u .interlock
 interlockAfter s (Do (Mark d v m on)) c u = unitIn (s .units) c u .interlock

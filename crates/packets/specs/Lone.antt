@@ -98,7 +98,14 @@ still t (n ∷ l) = cond (waits (t n .status)) (n ∷ still t l) (still t l)
 
 -- the packets are now these; whoever is still listed keeps its turn
 abbrev pub settle : Lone → (ℕ → Request) → Lone
-settle l t = record { packets = t; order = still t (l .order); moving = l .moving; interlock = l .interlock; jobOver = l .jobOver; returning = l .returning }
+settle l t = record {
+  packets = t;
+  order = still t (l .order);
+  moving = l .moving;
+  interlock = l .interlock;
+  jobOver = l .jobOver;
+  returning = l .returning;
+}
 
 abbrev pub locks : Lone → Bool → Lone
 locks l b = record { packets = l .packets; order = l .order; moving = l .moving; interlock = b; jobOver = l .jobOver; returning = l .returning }
@@ -117,7 +124,14 @@ asksBack l =
 
 abbrev pub joins : Lone → ℕ → Lone
 joins l n =
-    record { packets = l .packets; order = l .order ++ (n ∷ []); moving = l .moving; interlock = l .interlock; jobOver = l .jobOver; returning = l .returning }
+    record {
+      packets = l .packets;
+      order = l .order ++ (n ∷ []);
+      moving = l .moving;
+      interlock = l .interlock;
+      jobOver = l .jobOver;
+      returning = l .returning;
+    }
 
 -- packet n is now this
 abbrev pub stores : Lone → ℕ → Request → Lone

@@ -398,7 +398,8 @@ returnRefusal has state head j c u =
 unfoldable pub refusal : State → Call → Verdict
 -- a job is taken into a place that is free; 18 is for any other, which no selection names (it is shown of each)
 refusal s (Take j asg) = first (not (ltb j 16 && isEmpty (stateIn (s .jobs) j))) NoPlaceFree Granted
-refusal s (Do (Submit j p f c w)) = submitRefusal (fittedOn (s .channels) (c .0)) (jobIn (s .jobs) j) (unitAt (s .units) (c .0) (siteOf w)) j p f (c .0) w
+refusal s (Do (Submit j p f c w)) =
+    submitRefusal (fittedOn (s .channels) (c .0)) (jobIn (s .jobs) j) (unitAt (s .units) (c .0) (siteOf w)) j p f (c .0) w
 refusal s (Do (Start c)) =
     first (not (configured (s .channels) (c .0))) OutOfRange
     (first (not (isIdle (motionOn s (c .0)))) ChannelBusy

@@ -286,26 +286,49 @@ anyMoves j moving = any (λ (m : Carrier). moves j (m .motion)) moving
 abbrev pub store : State → ℕ → ℕ → Packet → State
 store s j p q =
     let after = put (s .jobs) j p q in
-    record { channels = s .channels; codes = s .codes; units = s .units; moving = s .moving; jobs = after; queue = relist j (packetsIn after j) (s .queue) }
+    record {
+      channels = s .channels;
+      codes = s .codes;
+      units = s .units;
+      moving = s .moving;
+      jobs = after;
+      queue = relist j (packetsIn after j) (s .queue);
+    }
 
 -- the packets of place j that pass the test change their status; what is no longer listed leaves the list
 abbrev pub sweep : State → ℕ → (Packet → Bool) → (Status → Status) → State
 sweep s j t f =
     let after = restatusAll (s .jobs) j t f in
-    record { channels = s .channels; codes = s .codes; units = s .units; moving = s .moving; jobs = after; queue = relist j (packetsIn after j) (s .queue) }
+    record {
+      channels = s .channels;
+      codes = s .codes;
+      units = s .units;
+      moving = s .moving;
+      jobs = after;
+      queue = relist j (packetsIn after j) (s .queue);
+    }
 
 -- packet p of place j is the youngest of the list
 abbrev pub enqueue : State → ℕ → ℕ → State
 enqueue s j p =
-    record { channels = s .channels; codes = s .codes; units = s .units; moving = s .moving; jobs = s .jobs; queue = enlisted (s .queue) (entryOf j p) }
+    record {
+      channels = s .channels;
+      codes = s .codes;
+      units = s .units;
+      moving = s .moving;
+      jobs = s .jobs;
+      queue = enlisted (s .queue) (entryOf j p);
+    }
 
 -- the interlock at a on channel c is set or cleared
 abbrev pub lock : State → ℕ → Site → Bool → State
-lock s c a b = record { channels = s .channels; codes = s .codes; units = setLock (s .units) c a b; moving = s .moving; jobs = s .jobs; queue = s .queue }
+lock s c a b =
+    record { channels = s .channels; codes = s .codes; units = setLock (s .units) c a b; moving = s .moving; jobs = s .jobs; queue = s .queue }
 
 -- who holds the unit at a on channel c
 abbrev pub hold : State → ℕ → Site → Holder → State
-hold s c a h = record { channels = s .channels; codes = s .codes; units = setHolder (s .units) c a h; moving = s .moving; jobs = s .jobs; queue = s .queue }
+hold s c a h =
+    record { channels = s .channels; codes = s .codes; units = setHolder (s .units) c a h; moving = s .moving; jobs = s .jobs; queue = s .queue }
 
 -- what moves on channel c
 abbrev pub move : State → ℕ → Motion → State
@@ -321,7 +344,8 @@ move s c m =
 
 -- the state of the job in place j
 abbrev pub close : State → ℕ → JobState → State
-close s j t = record { channels = s .channels; codes = s .codes; units = s .units; moving = s .moving; jobs = setState (s .jobs) j t; queue = s .queue }
+close s j t =
+    record { channels = s .channels; codes = s .codes; units = s .units; moving = s .moving; jobs = setState (s .jobs) j t; queue = s .queue }
 
 abbrev pub inMotion : Status → Bool
 inMotion Blank = false

@@ -51,7 +51,8 @@ use Rattle.packets.specs.Rules.{
 use Rattle.packets.proofs.ByNumber.{Submit}
 use Rattle.packets.specs.declared.Act.the-variants as Act′
 use Rattle.packets.proofs.SeenLaws.{Calm, calm-finished, calm-return, calm-same, calm-status, calm-submit, calm-sweep, calm-trans, submitted-read}
-use Rattle.packets.specs.State.{State, isBusy, isEmpty, jobIn, motionOn, noJob, packetIn, packetOf, placeOf, restatusAll, setState, stateIn, sweep, unitAt, withState}
+use Rattle.packets.specs.State.{State, isBusy, isEmpty, jobIn, motionOn, noJob, packetIn, packetOf, placeOf}
+use Rattle.packets.specs.State.{restatusAll, setState, stateIn, sweep, unitAt, withState}
 use Rattle.packets.proofs.Steps.{busy-of, find-some, fresh-state, reached-inv, start-fits, startable-on}
 use Rattle.packets.proofs.Store.{alive-in, packet-fresh, packet-state}
 use Rattle.packets.proofs.Told.{assigns-to, completes-on, cut-idle, ends-of, returns-of, starts-on, submits}
@@ -104,7 +105,8 @@ listed-only false true e = never {b = false} e refl
 listed-only false false e = refl
 
 -- an address that is the job's is of its area, but for 23
-own-words : (job : Job) (holder : Holder) (j f : ℕ) (w : Spot) → isOwn job holder j f w ≡ true → eqb f 0o23 ≡ false → (x : ℕ) → siteOf w ≡ AtAddress x → inArea job x ≡ true
+own-words : (job : Job) (holder : Holder) (j f : ℕ) (w : Spot) → isOwn job holder j f w ≡ true → eqb f 0o23 ≡ false → (x : ℕ)
+    → siteOf w ≡ AtAddress x → inArea job x ≡ true
 own-words job holder j f (OnUnit u) o n x e = absurd (let z : _≡_ {A = ℕ} 0 1 = cc in omega arith)
 own-words job holder j f (OnDrum y h) o n x e = let z : y ≡ x = cc in rw (← z) (rw n at o)
 
@@ -118,7 +120,8 @@ module _ (s : State) (I : Inv s) (j p f c : ℕ) (w : Spot) (r : refusal s (Subm
       let k = submits s j p f c w r in
       let q = packetIn (after .jobs) j p in
       let z : q .at ≡ siteOf w = submitted-read (λ (q : Packet). q .at) (siteOf w) s I j p f c w k (λ t. refl) in
-      let t : q .status ≡ cond (eqb f 0o07 || eqb f 0o23) (Ended 0o00) Listed = unfold accept statusAfter in status-after s I (Submit j p f c w) r j p ∙ rw (eqb-self j, eqb-self p) in
+      let t : q .status ≡ cond (eqb f 0o07 || eqb f 0o23) (Ended 0o00) Listed =
+      unfold accept statusAfter in status-after s I (Submit j p f c w) r j p ∙ rw (eqb-self j, eqb-self p) in
       let o : eqb f 0o23 ≡ false = listed-only (eqb f 0o07) (eqb f 0o23) (sym (ap isBusy t) ∙ b) in
       area-same (jobIn (after .jobs) j) (jobIn (s .jobs) j) x (same-submit s j p f c w .shares j)
       ∙ own-words (jobIn (s .jobs) j) (unitAt (s .units) c (siteOf w) .holder) j f w (k .owned) o x (sym z ∙ d)
@@ -149,7 +152,8 @@ accept-good s I K (Do (Act′.Start c)) r i n b x d =
     let fits = start-fits s I (c .0) (m .0) e (z .0) (startable-on s (c .0) e (z .1)) in
     let g : Good s₁ i n =
     good-calm s s₁ i n
-    (calm-status (its i) s (placeOf e) (packetOf e) InProgress fits (listed-busy (packetIn (s .jobs) (placeOf e) (packetOf e) .status) (z .0 .listed)) n)
+    (calm-status (its i) s (placeOf e) (packetOf e) InProgress fits
+    (listed-busy (packetIn (s .jobs) (placeOf e) (packetOf e) .status) (z .0 .listed)) n)
     (same-begun s (c .0) e .shares i) (K i n) in
     let h : Good (started s (c .0) (find (startable s (c .0)) (s .queue))) i n = rw (o .1) g in
     h b x d

@@ -45,7 +45,8 @@ use Rattle.packets.specs.Rules.{
   submitted,
 }
 use Rattle.packets.specs.declared.Act.the-variants as Act′
-use Rattle.packets.specs.State.{State, heldBy, isClosing, isEmpty, jobIn, motionOn, noJob, packetIn, release, setState, stateIn, takeUnit, wanted, withState}
+use Rattle.packets.specs.State.{State, heldBy, isClosing, isEmpty, jobIn, motionOn, noJob, packetIn}
+use Rattle.packets.specs.State.{release, setState, stateIn, takeUnit, wanted, withState}
 use Rattle.packets.proofs.Steps.{busy-of, closing-not-running, fresh-state, reached-inv}
 use Rattle.packets.proofs.Store.{alive-in, state-fresh, state-state, unit-release}
 use Rattle.packets.proofs.Told.{assigns-to, completes-on, ends-of, returns-of}
@@ -76,8 +77,13 @@ kept-same : (given : ℕ → Option Assignment) (asked : ℕ → Heads) (s s′ 
 kept-same given asked s s′ S K =
     record {
       square = S .square (K .square);
-      live = λ i a. let k = K .live i (sym (S .empty i) ∙ a) in
-          (k .0, k .1, has-on s s′ i (k .0) (asked i) (S .shares i) (λ c u h l. (ap (λ (x : Holder). heldBy x i) (S .holders c u), λ x. ap isReturning (S .holders c u))) (k .2));
+      live = λ i a.
+          let k = K .live i (sym (S .empty i) ∙ a) in (
+            k .0,
+            k .1,
+            has-on s s′ i (k .0) (asked i) (S .shares i)
+                (λ c u h l. (ap (λ (x : Holder). heldBy x i) (S .holders c u), λ x. ap isReturning (S .holders c u))) (k .2),
+          );
     }
 
 -- ---- a return of all facilities
@@ -86,10 +92,12 @@ kept-same given asked s s′ S K =
 released-other : (v : UnitState) (i j : ℕ) → eqb i j ≡ false → Alike (release j v .holder) (v .holder) i
 released-other v i j d =
     by-bool (heldBy (v .holder) j)
-    (λ t. rw t (by-bool (heldBy (v .holder) i) (λ b. absurd (eqb-false i j d (held-once (v .holder) i j b t))) (λ b. (sym b, λ x. never {b = false} x refl))))
+    (λ t. rw t (by-bool (heldBy (v .holder) i) (λ b. absurd (eqb-false i j d (held-once (v .holder) i j b t)))
+    (λ b. (sym b, λ x. never {b = false} x refl))))
     (λ t. rw t (refl, λ x. refl))
 
-kept-returned : (given : ℕ → Option Assignment) (asked : ℕ → Heads) (s : State) (j : ℕ) → j < length (s .jobs) → Kept given asked s → Kept given asked (returned s j)
+kept-returned : (given : ℕ → Option Assignment) (asked : ℕ → Heads) (s : State) (j : ℕ) → j < length (s .jobs) → Kept given asked s
+    → Kept given asked (returned s j)
 unfolding setState
 kept-returned given asked s j inside K =
     record {
@@ -119,7 +127,8 @@ kept-return given asked s j K =
 
 -- an empty place holds no unit
 none-held : (s : State) → Inv s → (j : ℕ) → isEmpty (stateIn (s .jobs) j) ≡ true → (c u : ℕ) → heldBy (unitIn (s .units) c u .holder) j ≡ false
-none-held s I j a c u = by-bool (heldBy (unitIn (s .units) c u .holder) j) (λ e. never {b = isEmpty (stateIn (s .jobs) j)} a (I .holders c u j e)) (λ e. e)
+none-held s I j a c u =
+    by-bool (heldBy (unitIn (s .units) c u .holder) j) (λ e. never {b = isEmpty (stateIn (s .jobs) j)} a (I .holders c u j e)) (λ e. e)
 
 assignable-free : (v : UnitState) → assignable v ≡ true → isFree (v .holder) ≡ true
 unfolding assignable
@@ -150,7 +159,8 @@ taken-elsewhere : (i j : ℕ) (last : Option Assignment) (asg : Assignment) → 
 unfolding takenBy
 taken-elsewhere i j last asg d = ap (λ (b : Bool). cond b (some asg) last) d
 
-module _ (given : ℕ → Option Assignment) (asked : ℕ → Heads) (s : State) (I : Inv s) (j : ℕ) (asg : Assignment) (small : j < 16) (none-there : isEmpty (stateIn (s .jobs) j) ≡ true)
+module _ (given : ℕ → Option Assignment) (asked : ℕ → Heads) (s : State) (I : Inv s) (j : ℕ) (asg : Assignment) (small : j < 16)
+    (none-there : isEmpty (stateIn (s .jobs) j) ≡ true)
     (wants : (c u : ℕ) → c < 16 → u < 16 → wanted asg c u ≡ true → assignable (unitIn (s .units) c u) ≡ true) (K : Kept given asked s) where
   job-after : (i : ℕ) → jobIn (assigned s j asg .jobs) i ≡ cond (eqb i j) (freshJob asg) (jobIn (s .jobs) i)
   job-after i = getD-set (s .jobs) j (freshJob asg) i noJob (rw (I .places) small)
@@ -170,22 +180,31 @@ module _ (given : ℕ → Option Assignment) (asked : ℕ → Heads) (s : State)
       record {
         square = take-square (s .units) j (wanted asg) (K .square);
         live = λ i a.
-            let b : isEmpty (cond (eqb i j) Running (stateIn (s .jobs) i)) ≡ false = rw (state-fresh (s .jobs) j asg i (rw (I .places) small)) at a in
+            let b : isEmpty (cond (eqb i j) Running (stateIn (s .jobs) i)) ≡ false =
+            rw (state-fresh (s .jobs) j asg i (rw (I .places) small)) at a in
             by-bool (eqb i j)
-            (λ d. (asg, rw d, subst (λ (n : ℕ). Has (assigned s j asg) n asg (λ c u. cond (eqb i j) false (asked i c u))) (sym (eqb-true i j d)) (own (λ c u. cond (eqb i j) false (asked i c u)) (λ c u. rw d))))
-            (λ d. let k = K .live i (rw d at b) in (
+            (λ d. (
+              asg,
+              rw d,
+              subst (λ (n : ℕ). Has (assigned s j asg) n asg (λ c u. cond (eqb i j) false (asked i c u))) (sym (eqb-true i j d))
+                  (own (λ c u. cond (eqb i j) false (asked i c u)) (λ c u. rw d)),
+            ))
+            (λ d.
+            let k = K .live i (rw d at b) in (
               k .0,
               taken-elsewhere i j (given i) asg d ∙ k .1,
               has-asked (assigned s j asg) i (k .0) (asked i) (λ c u. cond (eqb i j) false (asked i c u)) (λ c u. rw d)
                   (has-on s (assigned s j asg) i (k .0) (asked i) (rw (job-after i, d))
-                  (λ c u h l. rw (take-read (s .units) j (wanted asg) (K .square) c u h l) (taken-other i j d (wanted asg c u) (unitIn (s .units) c u)))
+                  (λ c u h l. rw (take-read (s .units) j (wanted asg) (K .square) c u h l)
+                  (taken-other i j d (wanted asg c u) (unitIn (s .units) c u)))
                   (k .2)),
             ));
       }
 
 -- ---- every call
 
-accept-kept : (given : ℕ → Option Assignment) (asked : ℕ → Heads) (s : State) → Inv s → (x : Call) → refusal s x ≡ Granted → Wants s x → Kept given asked s
+accept-kept : (given : ℕ → Option Assignment) (asked : ℕ → Heads) (s : State) → Inv s → (x : Call) → refusal s x ≡ Granted → Wants s x
+    → Kept given asked s
     → Kept (λ (i : ℕ). takenBy i (given i) x (answer s x)) (λ (i : ℕ). askedBy i (asked i) x (answer s x)) (accept s x)
 unfolding accept answer takenBy askedBy
 accept-kept given asked s I (Take j asg) r f K =

@@ -45,7 +45,8 @@ shareOf asg = record { from = asg .from; words = asg .words; core = asg .core }
 pub record Has (s : State) (i : ℕ) (asg : Assignment) (asked : Heads) : Type 0 where
   pub shared : share (jobIn (s .jobs) i) ≡ shareOf asg
   pub unasked : (c u : ℕ) → c < 16 → u < 16 → asked c u ≡ false
-      → (heldBy (unitIn (s .units) c u .holder) i ≡ wanted asg c u) × (heldBy (unitIn (s .units) c u .holder) i ≡ true → isReturning (unitIn (s .units) c u .holder) ≡ false)
+      → (heldBy (unitIn (s .units) c u .holder) i ≡ wanted asg c u)
+      × (heldBy (unitIn (s .units) c u .holder) i ≡ true → isReturning (unitIn (s .units) c u .holder) ≡ false)
   pub known : (c u : ℕ) → c < 16 → u < 16 → asked c u ≡ true
       → (wanted asg c u ≡ true) × (heldBy (unitIn (s .units) c u .holder) i ≡ true → isReturning (unitIn (s .units) c u .holder) ≡ true)
 
@@ -70,7 +71,8 @@ has-on s s′ i asg asked v e K =
     }
 
 -- the same units asked for
-pub has-asked : (s : State) (i : ℕ) (asg : Assignment) (asked asked′ : Heads) → ((c u : ℕ) → asked′ c u ≡ asked c u) → Has s i asg asked → Has s i asg asked′
+pub has-asked : (s : State) (i : ℕ) (asg : Assignment) (asked asked′ : Heads) → ((c u : ℕ) → asked′ c u ≡ asked c u) → Has s i asg asked
+    → Has s i asg asked′
 has-asked s i asg asked asked′ e K =
     record {
       shared = K .shared;
@@ -82,7 +84,8 @@ has-asked s i asg asked asked′ e K =
 
 -- each unit is as it was, or was being returned and is free
 back-cases : (units : List (List UnitState)) (c : ℕ) (a : Site) (d w : ℕ)
-    → (unitIn (freedAt units c a) d w .holder ≡ unitIn units d w .holder) ⊎ ((isReturning (unitIn units d w .holder) ≡ true) × (unitIn (freedAt units c a) d w .holder ≡ Free))
+    → (unitIn (freedAt units c a) d w .holder ≡ unitIn units d w .holder)
+    ⊎ ((isReturning (unitIn units d w .holder) ≡ true) × (unitIn (freedAt units c a) d w .holder ≡ Free))
 back-cases units c (AtAddress x) d w = inl refl
 back-cases units c (AtUnit u) d w =
     by-bool (isReturning (unitIn units c (u .0) .holder))
@@ -98,24 +101,33 @@ back-cases units c (AtUnit u) d w =
 back-square : (units : List (List UnitState)) (c : ℕ) (a : Site) → Square units → Square (freedAt units c a)
 back-square units c (AtAddress x) q = q
 back-square units c (AtUnit u) q =
-    by-bool (isReturning (unitIn units c (u .0) .holder)) (λ t. rw t (squared units c (u .0) (withHolder (unitIn units c (u .0)) Free) q)) (λ t. rw t q)
+    by-bool (isReturning (unitIn units c (u .0) .holder))
+    (λ t. rw t (squared units c (u .0) (withHolder (unitIn units c (u .0)) Free) q)) (λ t. rw t q)
 
 has-back : (s : State) (c : ℕ) (a : Site) (i : ℕ) (asg : Assignment) (asked : Heads) → Has s i asg asked → Has (freeIfReturning s c a) i asg asked
 has-back s c a i asg asked K =
     record {
       shared = K .shared;
-      unasked = λ d w h l e. let k = K .unasked d w h l e in
+      unasked = λ d w h l e.
+          let k = K .unasked d w h l e in
           ⊎-elim
           (λ same. rw same k)
-          (λ gone. let f : heldBy (unitIn (s .units) d w .holder) i ≡ false =
-          by-bool (heldBy (unitIn (s .units) d w .holder) i) (λ t. never {b = isReturning (unitIn (s .units) d w .holder)} (gone .0) (k .1 t)) (λ t. t) in
+          (λ gone.
+          let f : heldBy (unitIn (s .units) d w .holder) i ≡ false =
+          by-bool (heldBy (unitIn (s .units) d w .holder) i)
+          (λ t. never {b = isReturning (unitIn (s .units) d w .holder)} (gone .0) (k .1 t)) (λ t. t) in
           rw (gone .1) (sym f ∙ k .0, λ x. never {b = false} x refl))
           (back-cases (s .units) c a d w);
-      known = λ d w h l e. let k = K .known d w h l e in
-          (k .0, λ x. ⊎-elim (λ same. rw same (k .1 (rw same at x))) (λ gone. never {b = false} (rw (gone .1) at x) refl) (back-cases (s .units) c a d w));
+      known = λ d w h l e.
+          let k = K .known d w h l e in (
+            k .0,
+            λ x. ⊎-elim (λ same. rw same (k .1 (rw same at x))) (λ gone. never {b = false} (rw (gone .1) at x) refl)
+                (back-cases (s .units) c a d w),
+          );
     }
 
-pub kept-back : (given : ℕ → Option Assignment) (asked : ℕ → Heads) (s : State) (c : ℕ) (a : Site) → Kept given asked s → Kept given asked (freeIfReturning s c a)
+pub kept-back : (given : ℕ → Option Assignment) (asked : ℕ → Heads) (s : State) (c : ℕ) (a : Site) → Kept given asked s
+    → Kept given asked (freeIfReturning s c a)
 kept-back given asked s c a K =
     record {
       square = back-square (s .units) c a (K .square);
@@ -128,25 +140,32 @@ module _ (given : ℕ → Option Assignment) (asked : ℕ → Heads) (s : State)
   abbrev after : State
   after = handedBack s j d (unitSite v)
 
-  unit-after : (c u : ℕ) → unitIn (handedBack s j d (unitSite v) .units) c u ≡ cond (eqb c d && eqb u v) (withHolder (unitIn (s .units) d v) (next s I j d v k)) (unitIn (s .units) c u)
+  unit-after : (c u : ℕ) → unitIn (handedBack s j d (unitSite v) .units) c u
+      ≡ cond (eqb c d && eqb u v) (withHolder (unitIn (s .units) d v) (next s I j d v k)) (unitIn (s .units) c u)
   unit-after c u = held-unit (s .units) d v (next s I j d v k) (held-taken (unitIn (s .units) d v .holder) j (k .held)) c u
 
   -- another place sees nothing of it, and no place of any other unit
-  alike : (i c u : ℕ) → eqb i j && (eqb c d && eqb u v) ≡ false → Alike (unitIn (handedBack s j d (unitSite v) .units) c u .holder) (unitIn (s .units) c u .holder) i
+  alike : (i c u : ℕ) → eqb i j && (eqb c d && eqb u v) ≡ false
+      → Alike (unitIn (handedBack s j d (unitSite v) .units) c u .holder) (unitIn (s .units) c u .holder) i
   alike i c u n =
       by-bool (eqb c d && eqb u v)
-      (λ t. let p : c ≡ d = eqb-true c d (and-left (eqb c d) _ t) in
+      (λ t.
+      let p : c ≡ d = eqb-true c d (and-left (eqb c d) _ t) in
       let q : u ≡ v = eqb-true u v (and-right (eqb c d) _ t) in
       let f : heldBy (unitIn (s .units) d v .holder) i ≡ false =
       by-bool (heldBy (unitIn (s .units) d v .holder) i)
-      (λ x. never {b = eqb i j && (eqb c d && eqb u v)} (and-both _ _ (eq-eqb i j (held-once (unitIn (s .units) d v .holder) i j x (k .held))) t) n) (λ x. x) in
-      let g : heldBy (next s I j d v k) i ≡ false = by-bool (heldBy (next s I j d v k) i) (λ x. never {b = heldBy (unitIn (s .units) d v .holder) i} (next-held s I j d v k i x) f) (λ x. x) in
+      (λ x. never {b = eqb i j && (eqb c d && eqb u v)}
+      (and-both _ _ (eq-eqb i j (held-once (unitIn (s .units) d v .holder) i j x (k .held))) t) n)
+      (λ x. x) in
+      let g : heldBy (next s I j d v k) i ≡ false =
+      by-bool (heldBy (next s I j d v k) i) (λ x. never {b = heldBy (unitIn (s .units) d v .holder) i} (next-held s I j d v k i x) f) (λ x. x) in
       rw (unit-after c u, t, p, q) (g ∙ sym f, λ x. never {b = heldBy (next s I j d v k) i} x g))
       (λ t. rw (unit-after c u, t) (refl, λ x. refl))
 
   -- the job itself: it was given the unit, and has it as long as it is being returned
   asked-now : (asg : Assignment) → Has s j asg (asked j) → d < 16 → v < 16
-      → (wanted asg d v ≡ true) × (heldBy (unitIn (handedBack s j d (unitSite v) .units) d v .holder) j ≡ true → isReturning (unitIn (handedBack s j d (unitSite v) .units) d v .holder) ≡ true)
+      → (wanted asg d v ≡ true) × (heldBy (unitIn (handedBack s j d (unitSite v) .units) d v .holder) j ≡ true
+      → isReturning (unitIn (handedBack s j d (unitSite v) .units) d v .holder) ≡ true)
   asked-now asg H h l =
       let e : unitIn (handedBack s j d (unitSite v) .units) d v .holder ≡ next s I j d v k = rw (unit-after d v, eqb-self d, eqb-self v) in (
         by-bool (asked j d v)
@@ -187,7 +206,8 @@ module _ (given : ℕ → Option Assignment) (asked : ℕ → Heads) (s : State)
 
 -- as long as a unit that is being returned waits for a packet, it is the job's exactly while one of the job moves there
 module _ (s : State) (I : Inv s) (W : Waits s) (i c u : ℕ) where
-  held-moves : heldBy (unitIn (s .units) c u .holder) i ≡ true → isReturning (unitIn (s .units) c u .holder) ≡ true → movesAt s i c (unitSite u) (motionOn s c) ≡ true
+  held-moves : heldBy (unitIn (s .units) c u .holder) i ≡ true → isReturning (unitIn (s .units) c u .holder) ≡ true
+      → movesAt s i c (unitSite u) (motionOn s c) ≡ true
   held-moves t r =
       let w = W c u r in
       let x : w .place ≡ i = held-once (unitIn (s .units) c u .holder) (w .place) i (w .held) t in
@@ -205,7 +225,11 @@ module _ (s : State) (I : Inv s) (W : Waits s) (i c u : ℕ) where
           let e′ : motionOn s c ≡ Busy i p = rw x at e in
           let y = and-right (eqb j i) (isAt c (unitSite u) (packetIn (s .jobs) i p)) t in
           let q = packetIn (s .jobs) i p in
-          let o : OwnedAt s i c (unitSite u) = rw (eqb-true (q .channel .0) c (and-left (eqb (q .channel .0) c) _ y), same-is (q .at) (unitSite u) (and-right (eqb (q .channel .0) c) _ y)) at (I .motion c i p e′ .owned) in
+          let o : OwnedAt s i c (unitSite u) =
+          rw (
+            eqb-true (q .channel .0) c (and-left (eqb (q .channel .0) c) _ y),
+            same-is (q .at) (unitSite u) (and-right (eqb (q .channel .0) c) _ y),
+          ) at (I .motion c i p e′ .owned) in
           o .1 refl
 
 pub exactly : (l : List Event) (s : State) → Reached l s → (i : ℕ) (asg : Assignment) → Has s i asg (asking l i)

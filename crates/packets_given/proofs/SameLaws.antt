@@ -15,8 +15,10 @@ use Rattle.units.specs.declared.Mark.{Mark as UnitMark}
 use Rattle.units.specs.declared.Unit.{Unit as UnitState}
 use Rattle.packets.proofs.InvStores.{mark-holder}
 use Rattle.packets.proofs.Laws.{getD-set-keep}
-use Rattle.packets.specs.Rules.{aimed, always, begun, closed, closing, codeFor, cut, enlist, failed, finished, isAt, isTrouble, locked, marked, over, packet, siteOf, submitted}
-use Rattle.packets.specs.State.{State, close, isEmpty, isUnit, jobIn, lock, move, noJob, packetIn, packetOf, placeOf, put, restatus, restatusAll, setState, stateIn, store, sweep, withLock, withPackets, withState, withStatus}
+use Rattle.packets.specs.Rules.{aimed, always, begun, closed, closing, codeFor, cut, enlist, failed, finished}
+use Rattle.packets.specs.Rules.{isAt, isTrouble, locked, marked, over, packet, siteOf, submitted}
+use Rattle.packets.specs.State.{State, close, isEmpty, isUnit, jobIn, lock, move, noJob, packetIn, packetOf, placeOf, put, restatus}
+use Rattle.packets.specs.State.{restatusAll, setState, stateIn, store, sweep, withLock, withPackets, withState, withStatus}
 use Rattle.packets.proofs.Steps.{closing-alive}
 use Rattle.packets.proofs.Store.{state-restatus, unit-keep}
 use Rattle.packets.specs.declared.Core.{Core}
@@ -78,7 +80,8 @@ same-job s s′ j k e d t v =
 pub squared : (units : List (List UnitState)) (c u : ℕ) (v : UnitState) → Square units → Square (unitSet units c u v)
 squared units c u v q = elim (decLt c 16) [ yes k ↦ set-square units q c u v k | no k ↦ subst Square (sym (set-past units q c u v (omega arith))) q ]
 
-same-unit : (s s′ : State) (c u : ℕ) (v : UnitState) → s′ .jobs ≡ s .jobs → s′ .units ≡ unitSet (s .units) c u v → v .holder ≡ unitIn (s .units) c u .holder → Same s s′
+same-unit : (s s′ : State) (c u : ℕ) (v : UnitState) → s′ .jobs ≡ s .jobs → s′ .units ≡ unitSet (s .units) c u v
+    → v .holder ≡ unitIn (s .units) c u .holder → Same s s′
 same-unit s s′ c u v e d h =
     record {
       empty = λ i. rw e;
@@ -93,7 +96,8 @@ same-store s j p q = same-job s (store s j p q) j (withPackets (jobIn (s .jobs) 
 
 pub same-swept : (s : State) (j : ℕ) (t : Packet → Bool) (f : Status → Status) → Same s (sweep s j t f)
 unfolding restatusAll stateIn
-same-swept s j t f = same-job s (sweep s j t f) j (withPackets (jobIn (s .jobs) j) (map (restatus t f) (jobIn (s .jobs) j .packets))) refl refl refl refl
+same-swept s j t f =
+    same-job s (sweep s j t f) j (withPackets (jobIn (s .jobs) j) (map (restatus t f) (jobIn (s .jobs) j .packets))) refl refl refl refl
 
 -- a live job closes
 same-close : (s : State) (j : ℕ) (t : JobState) → isEmpty (stateIn (s .jobs) j) ≡ false → isEmpty t ≡ false → Same s (close s j t)

@@ -100,7 +100,9 @@ module _ (list : RequestList) (tidy : Tidy list) (e : ℕ) where
   unfolding enlisted
   entry-joins h =
       rw (lt-ltb (length (listOf list)) 256 (omega (arith, count-is)))
-      (two (pad-step e (listOf list) (list .entries) (list .count) count-is (omega arith) whole ∙ ap (λ (k : ℕ). (listOf list ++ (e ∷ [])) ++ replicate (256 - k) 0) more) more)
+      (two (pad-step e (listOf list) (list .entries) (list .count) count-is (omega arith) whole
+      ∙ ap (λ (k : ℕ). (listOf list ++ (e ∷ [])) ++ replicate (256 - k) 0) more)
+      more)
     where
       whole : list .entries ≡ listOf list ++ replicate (256 - list .count) 0
       whole = ap (λ (r : RequestList). r .entries) (tidy .is) ∙ ap (λ (k : ℕ). listOf list ++ replicate (256 - k) 0) (sym count-is)

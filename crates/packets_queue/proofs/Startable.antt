@@ -34,7 +34,8 @@ find-same : (f g : ℕ → Bool) → ((e : ℕ) → f e ≡ g e) → (l : List �
 find-same f g k [] = refl
 find-same f g k (x ∷ l) = rw (k x, find-same f g k l)
 
-locks-at : (units : List (List UnitState)) (c : ℕ) (row : List UnitState) → RowOf units c row → (a : Site) → lockAt row a ≡ unitAt units c a .interlock
+locks-at : (units : List (List UnitState)) (c : ℕ) (row : List UnitState) → RowOf units c row → (a : Site)
+    → lockAt row a ≡ unitAt units c a .interlock
 locks-at units c row R (AtUnit u) = R .locks (u .0)
 locks-at units c row R (AtAddress x) = refl
 
@@ -43,10 +44,13 @@ pub found-is : (units : List (List UnitState)) (jobs : List Job) (c : ℕ) (row 
     → find (canStartAt row jobs c) l ≡ find (startableOn units jobs c) l
 found-is units jobs c row R l =
     find-same (canStartAt row jobs c) (startableOn units jobs c)
-    (λ e. ap (λ (b : Bool). eqb (packetIn jobs (placeOf e) (packetOf e) .channel .0) c && not b) (locks-at units c row R (packetIn jobs (placeOf e) (packetOf e) .at))) l
+    (λ e. ap (λ (b : Bool). eqb (packetIn jobs (placeOf e) (packetOf e) .channel .0) c && not b)
+    (locks-at units c row R (packetIn jobs (placeOf e) (packetOf e) .at)))
+    l
 
 -- where the cell has no such channel, no unit has an interlock
-pub row-out : (units : List (List UnitState)) → Square units → (c : ℕ) → 15 < c → (row : List UnitState) → row ≡ replicate 16 (freshUnit false) → RowOf units c row
+pub row-out : (units : List (List UnitState)) → Square units → (c : ℕ) → 15 < c → (row : List UnitState) → row ≡ replicate 16 (freshUnit false)
+    → RowOf units c row
 unfolding rowIn
 row-out units s c h row e =
     record {

@@ -98,8 +98,15 @@ module _ (s : Schedule) (k : ℕ) {n : ℕ} (size : n ≡ length (inSchedule s))
 
     pub return-suspends : (x : Bool) → x ≡ true → 1 ≤ e .request .sequence → changedAt k Suspended s ≡ returnedAt k s x
     unfolding returnedAt
-    return-suspends x p q = rw (changed-is Suspended, here (inSchedule s) k size h, p, le-leb 1 (getD (inSchedule s) k blank .request .sequence) (omega (arith, sequence-is)))
+    return-suspends x p q =
+        rw (
+          changed-is Suspended,
+          here (inSchedule s) k size h,
+          p,
+          le-leb 1 (getD (inSchedule s) k blank .request .sequence) (omega (arith, sequence-is)),
+        )
 
     pub return-removes : (x : Bool) → x ≡ true → e .request .sequence < 1 → scheduleOf (without k (inSchedule s)) ≡ returnedAt k s x
     unfolding returnedAt
-    return-removes x p q = rw (here (inSchedule s) k size h, p, lt-leb 1 (getD (inSchedule s) k blank .request .sequence) (omega (arith, sequence-is)))
+    return-removes x p q =
+        rw (here (inSchedule s) k size h, p, lt-leb 1 (getD (inSchedule s) k blank .request .sequence) (omega (arith, sequence-is)))

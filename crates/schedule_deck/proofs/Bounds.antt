@@ -30,7 +30,9 @@ use Rattle.schedule_list.specs.InSchedule.{inSchedule, scheduleOf}
 use Rattle.schedule_list.specs.declared.Schedule.{Schedule}
 use Rattle.schedule_orderly.specs.Orderly.{Each, requests}
 use Rattle.schedule_orderly.proofs.Reachable.{sound-empty}
-use Rattle.schedule_deck.specs.Report.{requestLine, scheduleText, lastLine, begin, lineBy, lastBy, shownAt, triedAt, groupText, after, errorsFrom, endFrom, closingText, reportText, textBy, deckText, notesText, notesBy, deckNotes}
+use Rattle.schedule_deck.specs.Report.{requestLine, scheduleText, lastLine, begin, lineBy, lastBy, shownAt}
+use Rattle.schedule_deck.specs.Report.{triedAt, groupText, after, errorsFrom, endFrom, closingText, reportText}
+use Rattle.schedule_deck.specs.Report.{textBy, deckText, notesText, notesBy, deckNotes}
 use Rattle.schedule_deck.specs.Reading.{Reported}
 use Rattle.schedule_deck.proofs.DeckLaws.{sound-groups, each-groups}
 use Rattle.schedule_deck.specs.declared.Progress.{Progress}
@@ -50,11 +52,18 @@ Short r = length (r .id) ≤ 6
 
 request-short : (r : Request) → Short r → length (requestLine r) ≤ 13
 request-short r h =
-    omega (arith, length-append (spaceless (r .id)) (bytes " " ++ (priorityText r ++ bytes "\n")), length-append (priorityText r) (bytes "\n"), spaceless-short (r .id), priority-short r)
+    omega (
+      arith,
+      length-append (spaceless (r .id)) (bytes " " ++ (priorityText r ++ bytes "\n")),
+      length-append (priorityText r) (bytes "\n"),
+      spaceless-short (r .id),
+      priority-short r,
+    )
 
 lines-short : (es : List Entry) → Each Short (requests es) → length (scheduleText es) ≤ 13 * length es
 lines-short [] h = omega arith
-lines-short (e ∷ es) h = omega (arith, length-append (requestLine (e .request)) (scheduleText es), request-short (e .request) (h .0), lines-short es (h .1))
+lines-short (e ∷ es) h =
+    omega (arith, length-append (requestLine (e .request)) (scheduleText es), request-short (e .request) (h .0), lines-short es (h .1))
 
 last-short : (id : List ℕ) → length id ≤ 6 → length (lastLine id) ≤ 15
 last-short id h = omega (arith, length-append (spaceless id) (bytes " SCH ACK\n"), spaceless-short id)
@@ -97,13 +106,19 @@ group-short p g i = by (triedAt p g .verdict)
 
 errors-short : (p : Progress) (gs : List (List (List ℕ))) → Ids p → length (errorsFrom p gs) ≤ 16 * length gs
 errors-short p [] i = omega arith
-errors-short p (g ∷ gs) i = omega (arith, length-append (groupText p g) (errorsFrom (after p g) gs), group-short p g i, errors-short (after p g) gs (ids-after p g i))
+errors-short p (g ∷ gs) i =
+    omega (arith, length-append (groupText p g) (errorsFrom (after p g) gs), group-short p g i, errors-short (after p g) gs (ids-after p g i))
 
 -- the texts
 notes-short : (s : Schedule) (gs : List (List (List ℕ))) → length gs ≤ 3261 → length (notesText s gs) < deckRoom
 unfolding notesText
 notes-short s gs h =
-    omega (arith, length-append (errorsFrom (begin s) gs) (lastLine (endFrom (begin s) gs .last)), errors-short (begin s) gs (ids-begin s), last-short (endFrom (begin s) gs .last) (ids-end (begin s) gs (ids-begin s) .last))
+    omega (
+      arith,
+      length-append (errorsFrom (begin s) gs) (lastLine (endFrom (begin s) gs .last)),
+      errors-short (begin s) gs (ids-begin s),
+      last-short (endFrom (begin s) gs .last) (ids-end (begin s) gs (ids-begin s) .last),
+    )
 
 none-held : Each Short (requests (inSchedule (scheduleOf [])))
 unfolding scheduleOf
@@ -116,7 +131,15 @@ report-short gs h =
     let q = endFrom (begin (scheduleOf [])) gs in
     let few = sound-groups p gs sound-empty .orderly .few in
     let short = each-groups Short (λ g e. read-short g) p gs sound-empty none-held in
-    omega (arith, length-append (errorsFrom p gs) (closingText q), length-append (scheduleText (inSchedule (q .schedule))) (lastLine (q .last)), errors-short p gs (ids-begin (scheduleOf [])), lines-short (inSchedule (q .schedule)) short, few, last-short (q .last) (ids-end p gs (ids-begin (scheduleOf [])) .last))
+    omega (
+      arith,
+      length-append (errorsFrom p gs) (closingText q),
+      length-append (scheduleText (inSchedule (q .schedule))) (lastLine (q .last)),
+      errors-short p gs (ids-begin (scheduleOf [])),
+      lines-short (inSchedule (q .schedule)) short,
+      few,
+      last-short (q .last) (ids-end p gs (ids-begin (scheduleOf [])) .last),
+    )
 
 refused-short : (s : List ℕ) (refusal : Refusal) → deckEnd s ≡ Refused refusal → length (refusedText refusal) ≤ deckRoom
 refused-short s refusal e =
@@ -145,11 +168,13 @@ module _ {room after· : List ℕ} {r : ℕ} (l : length room ≡ deckRoom) wher
   noted-whole schedule s w = entire w (omega (arith, deck-notes-short schedule s))
 
 -- what entering a deck put, from what stands in the room whole: another piece can be put behind it
-pub noted-put : (schedule : Schedule) (s : List ℕ) {room after· : List ℕ} {r : ℕ} → length after· ≡ deckRoom → Whole (deckNotes schedule s) room after· r
+pub noted-put : (schedule : Schedule) (s : List ℕ) {room after· : List ℕ} {r : ℕ} → length after· ≡ deckRoom
+    → Whole (deckNotes schedule s) room after· r
     → Written room 0 (deckNotes schedule s) after· r
 noted-put schedule s {room} {after·} {r} l w =
     let p : List ℕ = deckNotes schedule s in
-    let long : length room ≡ deckRoom = omega (arith, l, w .ends, deck-notes-short schedule s, ap length (w .bytes), length-append p (drop r room), length-drop r room) in
+    let long : length room ≡ deckRoom =
+    omega (arith, l, w .ends, deck-notes-short schedule s, ap length (w .bytes), length-append p (drop r room), length-drop r room) in
     let h : 0 + length p ≤ length room = omega (arith, deck-notes-short schedule s) in
     let k : r ≡ 0 + length p = omega (arith, w .ends) in
     record {

@@ -33,16 +33,19 @@ sound-groups p (g ∷ gs) d = sound-groups (after p g) gs (sound-group p g d)
 
 -- what holds of each request
 module _ (P : Request → Type 0) where
-  each-tried : (v : CardVerdict) (s : Schedule) (r : Request) → Sound s → (v ≡ Good → P r) → Each P (requests (inSchedule s)) → Each P (requests (inSchedule (triedBy v s r .schedule)))
+  each-tried : (v : CardVerdict) (s : Schedule) (r : Request) → Sound s → (v ≡ Good → P r) → Each P (requests (inSchedule s))
+      → Each P (requests (inSchedule (triedBy v s r .schedule)))
   each-tried Good s r d p h = each-enter s d P r (p refl) h
   each-tried (Wrong e) s r d p h = h
 
   module _ (read : (g : List (List ℕ)) → readGroup g .verdict ≡ Good → P (readGroup g .request)) where
-    each-group : (p : Progress) (g : List (List ℕ)) → Sound (p .schedule) → Each P (requests (inSchedule (p .schedule))) → Each P (requests (inSchedule (after p g .schedule)))
+    each-group : (p : Progress) (g : List (List ℕ)) → Sound (p .schedule) → Each P (requests (inSchedule (p .schedule)))
+        → Each P (requests (inSchedule (after p g .schedule)))
     unfolding after
     each-group p g d h = each-tried (readGroup g .verdict) (p .schedule) (readGroup g .request) d (read g) h
 
-    pub each-groups : (p : Progress) (gs : List (List (List ℕ))) → Sound (p .schedule) → Each P (requests (inSchedule (p .schedule))) → Each P (requests (inSchedule (endFrom p gs .schedule)))
+    pub each-groups : (p : Progress) (gs : List (List (List ℕ))) → Sound (p .schedule) → Each P (requests (inSchedule (p .schedule)))
+        → Each P (requests (inSchedule (endFrom p gs .schedule)))
     each-groups p [] d h = h
     each-groups p (g ∷ gs) d h = each-groups (after p g) gs (sound-group p g d) (each-group p g d h)
 

@@ -30,7 +30,8 @@ second-field : (t : List ℕ) → length (getD (split t) 1 []) ≤ length t - 1
 second-field [] = omega arith
 second-field (b ∷ t) = by (eqb b 44) (split t) (first-field t) (second-field t)
   where
-    by : (x : Bool) (fs : List (List ℕ)) → length (getD fs 0 []) ≤ length t → length (getD fs 1 []) ≤ length t - 1 → length (getD (cond x ([] ∷ fs) (onto b fs)) 1 []) ≤ suc (length t) - 1
+    by : (x : Bool) (fs : List (List ℕ)) → length (getD fs 0 []) ≤ length t → length (getD fs 1 []) ≤ length t - 1
+        → length (getD (cond x ([] ∷ fs) (onto b fs)) 1 []) ≤ suc (length t) - 1
     by true fs g h = omega arith
     by false [] g h = omega arith
     by false (f ∷ fs) g h = omega arith
@@ -57,7 +58,8 @@ few : (c : List ℕ) (cs : List (List ℕ)) → 5 * length (groupsOf (c ∷ cs))
 few c [] = omega (arith, alone c)
 few c (e ∷ cs) = by (isPty e) (groupsOf (e ∷ cs)) (few e cs)
   where
-    by : (b : Bool) (gs : List (List (List ℕ))) → 5 * length gs ≤ size (e ∷ cs) + cond b 0 5 → 5 * length (ontoGroup c b gs) ≤ length c + 1 + size (e ∷ cs) + cond (isPty c) 0 5
+    by : (b : Bool) (gs : List (List (List ℕ))) → 5 * length gs ≤ size (e ∷ cs) + cond b 0 5
+        → 5 * length (ontoGroup c b gs) ≤ length c + 1 + size (e ∷ cs) + cond (isPty c) 0 5
     by true gs h = omega (arith, alone c)
     by false [] h = omega (arith, alone c)
     by false (g ∷ gs) h = omega (arith, alone c)

@@ -20,7 +20,8 @@ use Rattle.schedule_entering.specs.declared.Outline.{Outline}
 use Rattle.numbers.specs.declared.Refusal.{Refusal}
 use Rattle.numbers.specs.declared.Outcome.the-variants as Outcomes
 use Rattle.cards_lines.specs.Shown.{refusedText}
-use Rattle.schedule_deck.specs.Report.{scheduleText, begin, errorsFrom, endFrom, lastLine, closingText, reportText, deckText, textBy, notesText, notesBy, scheduleBy, outcomeBy}
+use Rattle.schedule_deck.specs.Report.{scheduleText, begin, errorsFrom, endFrom, lastLine, closingText, reportText}
+use Rattle.schedule_deck.specs.Report.{deckText, textBy, notesText, notesBy, scheduleBy, outcomeBy}
 use Rattle.schedule_deck.proofs.Pieces.{Read}
 use Rattle.schedule_deck.proofs.Bounds.{deckRoom, noted-whole}
 use Rattle.schedule_deck.specs.Reading.{ReadAll, Noted, DeckEntered}
@@ -43,7 +44,8 @@ groups-start part room p = record { within = omega arith; going = start room 0 _
 
 -- the group that the code has found
 module _ {part room out : List ℕ} {first p : Progress} {at from : ℕ} (w : AtGroups part room first out p at from) where
-  all-read : groupsOf (cardsOf (drop from part)) ≡ [] → {r : Step} → r ≡ record { at = at; progress = p } → ReadAll room first (groupsOf (cardsOf part)) out r
+  all-read : groupsOf (cardsOf (drop from part)) ≡ [] → {r : Step} → r ≡ record { at = at; progress = p }
+      → ReadAll room first (groupsOf (cardsOf part)) out r
   all-read e is = subst (λ (x : Step). ReadAll room first (groupsOf (cardsOf part)) out x) (sym is) (record {
     text = end (rw e at (w .going));
     then = rw e at (w .then);
@@ -62,7 +64,8 @@ module _ {part room out : List ℕ} {first p : Progress} {at from : ℕ} (w : At
     pub group-within : from < length part → from + length g ≤ length part
     group-within h = omega (arith, ap length group-is, length-take (groupSize (drop from part)) (drop from part), length-drop from part)
 
-    pub groups-turn : from < length part → (length g ≡ 0 → ⊥) → {out′ : List ℕ} {r : Step} → Read out at p (cardsOf g) out′ r → AtGroups part room first out′ (r .progress) (r .at) (from + length g)
+    pub groups-turn : from < length part → (length g ≡ 0 → ⊥) → {out′ : List ℕ} {r : Step} → Read out at p (cardsOf g) out′ r
+        → AtGroups part room first out′ (r .progress) (r .at) (from + length g)
     groups-turn h n {out′} {r} d =
         let e : groupsOf (cardsOf (drop from part)) ≡ cardsOf g ∷ groupsOf (cardsOf (drop (from + length g) part)) =
         rw (← drop-drop (length g) from part, group-is) (next-group (drop from part) (λ z. n (ap length group-is ∙ z))) in
@@ -73,8 +76,10 @@ module _ {part room out : List ℕ} {first p : Progress} {at from : ℕ} (w : At
         }
 
 -- where the code's two ways meet, what each local then holds
-pub groups-meet : {part room out out₁ shown last last₁ : List ℕ} {first : Progress} {s s₁ : Schedule} {at at₁ from : ℕ} → out ≡ out₁ → s ≡ s₁ → last ≡ last₁ → at ≡ at₁
-    → AtGroups part room first out₁ (record { schedule = s₁; shown = shown; last = last₁ }) at₁ from → AtGroups part room first out (record { schedule = s; shown = shown; last = last }) at from
+pub groups-meet : {part room out out₁ shown last last₁ : List ℕ} {first : Progress} {s s₁ : Schedule} {at at₁ from : ℕ} → out ≡ out₁ → s ≡ s₁
+    → last ≡ last₁ → at ≡ at₁
+    → AtGroups part room first out₁ (record { schedule = s₁; shown = shown; last = last₁ }) at₁ from
+    → AtGroups part room first out (record { schedule = s; shown = shown; last = last }) at from
 groups-meet {part} {room} {out} {out₁} {shown} {last} {last₁} {first} {s} {s₁} {at} {at₁} {from} o k l a w =
     subst (λ (x : List ℕ). AtGroups part room first x (record { schedule = s; shown = shown; last = last }) at from) (sym o)
     (subst (λ (x : Schedule). AtGroups part room first out₁ (record { schedule = x; shown = shown; last = last }) at from) (sym k)
@@ -82,11 +87,14 @@ groups-meet {part} {room} {out} {out₁} {shown} {last} {last₁} {first} {s} {s
     (subst (λ (x : ℕ). AtGroups part room first out₁ (record { schedule = s₁; shown = shown; last = last₁ }) x from) (sym a) w)))
 
 pub outline-meet : {s s₁ : Schedule} {o o₁ : Outline} → s ≡ s₁ → o ≡ o₁ → Outlines (inSchedule s₁) o₁ → Outlines (inSchedule s) o
-outline-meet {s} {s₁} {o} {o₁} k l w = subst (λ (x : Schedule). Outlines (inSchedule x) o) (sym k) (subst (λ (x : Outline). Outlines (inSchedule s₁) x) (sym l) w)
+outline-meet {s} {s₁} {o} {o₁} k l w =
+    subst (λ (x : Schedule). Outlines (inSchedule x) o) (sym k) (subst (λ (x : Outline). Outlines (inSchedule s₁) x) (sym l) w)
 
 -- the errors, then the schedule, then the last line, from an empty schedule on
-pub report-put : {room out then after· : List ℕ} {schedule : Schedule} {first : Progress} {step : Step} {next r : ℕ} (gs : List (List (List ℕ))) → schedule ≡ scheduleOf [] → first ≡ begin schedule → ReadAll room first gs out step
-    → Written out (step .at) (scheduleText (inSchedule (step .progress .schedule))) then next → Written then next (lastLine (step .progress .last)) after· r
+pub report-put : {room out then after· : List ℕ} {schedule : Schedule} {first : Progress} {step : Step} {next r : ℕ} (gs : List (List (List ℕ)))
+    → schedule ≡ scheduleOf [] → first ≡ begin schedule → ReadAll room first gs out step
+    → Written out (step .at) (scheduleText (inSchedule (step .progress .schedule))) then next
+    → Written then next (lastLine (step .progress .last)) after· r
     → Written room 0 (reportText gs) after· r
 unfolding reportText
 report-put {room} {out} {after· = after·} {first = first} {step = step} {r = r} gs e f d b c =
@@ -95,8 +103,10 @@ report-put {room} {out} {after· = after·} {first = first} {step = step} {r = r
     subst (λ (p : Progress). Written room 0 (errorsFrom p gs ++ closingText (endFrom p gs)) after· r) (f ∙ ap begin e) w
 
 -- the errors, then the last line, and the schedule that follows
-pub noted : {room out after· : List ℕ} {schedule : Schedule} {first : Progress} {step : Step} {at : ℕ} (gs : List (List (List ℕ))) → first ≡ begin schedule → ReadAll room first gs out step
-    → Written out (step .at) (lastLine (step .progress .last)) after· at → Noted room schedule gs after· (record { outcome = Outcomes.Done; schedule = step .progress .schedule; at = at })
+pub noted : {room out after· : List ℕ} {schedule : Schedule} {first : Progress} {step : Step} {at : ℕ} (gs : List (List (List ℕ)))
+    → first ≡ begin schedule → ReadAll room first gs out step
+    → Written out (step .at) (lastLine (step .progress .last)) after· at
+    → Noted room schedule gs after· (record { outcome = Outcomes.Done; schedule = step .progress .schedule; at = at })
 unfolding notesText
 noted {room} {out} {after·} {first = first} {step = step} {at = at} gs f d c = record {
   done = refl;
@@ -125,12 +135,15 @@ module _ (s : List ℕ) {end : DeckEnd} (is : end ≡ deckEnd s) where
       let q : deckEnd s ≡ At n = sym is ∙ e in
       record {
         outcome = d .done ∙ ap outcomeBy (sym q);
-        then = d .then ∙ ap (λ (gs : List (List (List ℕ))). endFrom (begin schedule) gs .schedule) (groups-are n e) ∙ ap (λ (x : DeckEnd). scheduleBy x schedule s) (sym q);
+        then = d .then ∙ ap (λ (gs : List (List (List ℕ))). endFrom (begin schedule) gs .schedule) (groups-are n e)
+            ∙ ap (λ (x : DeckEnd). scheduleBy x schedule s) (sym q);
         text = noted-whole l schedule s
-            (subst (λ (p : List ℕ). Written room 0 p after· (r .at)) (ap (notesText schedule) (groups-are n e) ∙ ap (λ (x : DeckEnd). notesBy x schedule s) (sym q)) (d .text));
+            (subst (λ (p : List ℕ). Written room 0 p after· (r .at))
+            (ap (notesText schedule) (groups-are n e) ∙ ap (λ (x : DeckEnd). notesBy x schedule s) (sym q)) (d .text));
       }
 
-  pub refused-entered : (refusal : Refusal) → end ≡ Refused refusal → (schedule : Schedule) (room : List ℕ) → DeckEntered schedule s room room (record { outcome = Outcomes.Refused refusal; schedule = schedule; at = 0 })
+  pub refused-entered : (refusal : Refusal) → end ≡ Refused refusal → (schedule : Schedule) (room : List ℕ)
+      → DeckEntered schedule s room room (record { outcome = Outcomes.Refused refusal; schedule = schedule; at = 0 })
   refused-entered refusal e schedule room =
       let q : deckEnd s ≡ Refused refusal = sym is ∙ e in
       record {

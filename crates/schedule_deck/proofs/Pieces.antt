@@ -26,11 +26,13 @@ use Rattle.schedule_deck.specs.declared.Step.{Step}
 use Rattle.schedule_deck.specs.declared.Progress.{Progress}
 
 -- one request of the schedule further
-lines-turn : (es : List Entry) (i : ℕ) {e : Entry} → i < length es → e ≡ getD es i blank → scheduleText (drop i es) ≡ requestLine (e .request) ++ scheduleText (drop (i + 1) es)
+lines-turn : (es : List Entry) (i : ℕ) {e : Entry} → i < length es → e ≡ getD es i blank
+    → scheduleText (drop i es) ≡ requestLine (e .request) ++ scheduleText (drop (i + 1) es)
 lines-turn es i h a = rw (a, add-one i, drop-cons es i blank h)
 
 pub lines-on : {room₀ whole room out : List ℕ} {at₀ at next : ℕ} (es : List Entry) (i : ℕ) {e : Entry} → i < length es → e ≡ getD es i blank
-    → Going room₀ at₀ whole room at (scheduleText (drop i es)) → Written room at (requestLine (e .request)) out next → Going room₀ at₀ whole out next (scheduleText (drop (i + 1) es))
+    → Going room₀ at₀ whole room at (scheduleText (drop i es)) → Written room at (requestLine (e .request)) out next
+    → Going room₀ at₀ whole out next (scheduleText (drop (i + 1) es))
 lines-on es i h a g w = turn (rw (lines-turn es i h a) at g) w
 
 pub lines-end : (es : List Entry) (i : ℕ) → length es ≤ i → scheduleText (drop i es) ≡ []
@@ -48,7 +50,8 @@ pub last-kept : (v : CardVerdict) (last id : List ℕ) {b : Bool} → b ≡ good
 last-kept Good last id e t = never refl (sym e ∙ t)
 last-kept (Wrong x) last id e t = refl
 
-pub tried-bad : (s : Schedule) (r : Reading) {b : Bool} → b ≡ good (r .verdict) → b ≡ false → record { verdict = r .verdict; schedule = s } ≡ tried s r
+pub tried-bad : (s : Schedule) (r : Reading) {b : Bool} → b ≡ good (r .verdict) → b ≡ false
+    → record { verdict = r .verdict; schedule = s } ≡ tried s r
 tried-bad s r e t = tried-by s (r .request) (r .verdict) (sym e ∙ t)
 
 -- one group: its text, and what has been read then
@@ -56,7 +59,8 @@ pub record Read (room : List ℕ) (at : ℕ) (p : Progress) (cards : List (List 
   pub text : Written room at (groupText p cards) after· (r .at)
   pub then : r .progress ≡ after p cards
 
-pub group-read : {room out : List ℕ} {at next : ℕ} (p : Progress) (cards : List (List ℕ)) {card shown last : List ℕ} {reading : Reading} {a : Entering}
+pub group-read : {room out : List ℕ} {at next : ℕ} (p : Progress) (cards : List (List ℕ)) {card shown last : List ℕ}
+    {reading : Reading} {a : Entering}
     → card ≡ getD cards 0 [] → shown ≡ shownBy card (p .shown) → reading ≡ readGroup cards → a ≡ tried (p .schedule) reading
     → last ≡ lastBy (a .verdict) (p .last) (reading .request .id) → Written room at (lineBy (a .verdict) shown) out next
     → Read room at p cards out (record { at = next; progress = record { schedule = a .schedule; shown = shown; last = last } })
@@ -67,8 +71,11 @@ group-read {room} {out} {at} {next} p cards {card} {shown} {last} {reading} {a} 
     let v : a .verdict ≡ triedAt p cards .verdict = ap (λ (x : Entering). x .verdict) t′ in
     let k : a .schedule ≡ triedAt p cards .schedule = ap (λ (x : Entering). x .schedule) t′ in
     let i : reading .request .id ≡ readGroup cards .request .id = ap (λ (x : Reading). x .request .id) r in
-    let m : last ≡ lastBy (triedAt p cards .verdict) (p .last) (readGroup cards .request .id) = l ∙ ap (λ (x : CardVerdict). lastBy x (p .last) (reading .request .id)) v ∙ ap (λ (x : List ℕ). lastBy (triedAt p cards .verdict) (p .last) x) i in
+    let m : last ≡ lastBy (triedAt p cards .verdict) (p .last) (readGroup cards .request .id) =
+    l ∙ ap (λ (x : CardVerdict). lastBy x (p .last) (reading .request .id)) v
+    ∙ ap (λ (x : List ℕ). lastBy (triedAt p cards .verdict) (p .last) x) i in
     record {
-      text = subst (λ (x : List ℕ). Written room at x out next) (ap (λ (x : CardVerdict). lineBy x shown) v ∙ ap (λ (x : List ℕ). lineBy (triedAt p cards .verdict) x) s′) w;
+      text = subst (λ (x : List ℕ). Written room at x out next)
+          (ap (λ (x : CardVerdict). lineBy x shown) v ∙ ap (λ (x : List ℕ). lineBy (triedAt p cards .verdict) x) s′) w;
       then = cc;
     }

@@ -58,15 +58,18 @@ module _ (es : List Entry) (r : Request) {n : ℕ} (long : n ≡ length es) wher
   unfolding clashBy clashError sameThere
   met = refl
 
-  pub clash-found : {x y : ℕ} → x ≡ first (answers Ranked (ofKey Ranked r)) es → y ≡ first (answers Keyed (ofKey Keyed r)) es → {v : CardVerdict} → v ≡ clashBy (ltb x n) (ltb y n) (r .sequence) n → v ≡ clashError es r
+  pub clash-found : {x y : ℕ} → x ≡ first (answers Ranked (ofKey Ranked r)) es → y ≡ first (answers Keyed (ofKey Keyed r)) es
+      → {v : CardVerdict} → v ≡ clashBy (ltb x n) (ltb y n) (r .sequence) n → v ≡ clashError es r
   clash-found e f g = g ∙ rw (asked (ofKey Ranked r) e, asked (ofKey Keyed r) f, long) met
 
 -- where no error answers, each of the others has another key, and they leave room
-pub clash-clear : (es : List Entry) (r : Request) → clashError es r ≡ Good → (any (λ e. sameKey (keyOf (e .request)) (keyOf r)) es ≡ false) × (leb mostRequests (length es) ≡ false)
+pub clash-clear : (es : List Entry) (r : Request) → clashError es r ≡ Good
+    → (any (λ e. sameKey (keyOf (e .request)) (keyOf r)) es ≡ false) × (leb mostRequests (length es) ≡ false)
 unfolding clashError
 clash-clear es r e = by (sameThere es r) (any (λ e. sameKey (keyOf (e .request)) (keyOf r)) es) (leb mostRequests (length es)) e
   where
-    by : (a b c : Bool) → orElse (errorIf a SamePriority) (orElse (errorIf b SameSequence) (orElse (errorIf c ScheduleFull) Good)) ≡ Good → (b ≡ false) × (c ≡ false)
+    by : (a b c : Bool) → orElse (errorIf a SamePriority) (orElse (errorIf b SameSequence) (orElse (errorIf c ScheduleFull) Good)) ≡ Good
+        → (b ≡ false) × (c ≡ false)
     by true b c e = not-good e
     by false true c e = not-good e
     by false false true e = not-good e

@@ -109,7 +109,8 @@ few-inserted x (e ∷ es) = by (precedes (keyOf (e .request)) (keyOf (x .request
     by true ih = ap suc ih
     by false ih = refl
 
-names-inserted : (x : Entry) (es : List Entry) → Each (Unlike (x .request)) (requests es) → Pairs Unlike (requests es) → Pairs Unlike (requests (inserted x es))
+names-inserted : (x : Entry) (es : List Entry) → Each (Unlike (x .request)) (requests es) → Pairs Unlike (requests es)
+    → Pairs Unlike (requests (inserted x es))
 unfolding inserted
 names-inserted x [] n h = (tt, tt)
 names-inserted x (e ∷ es) n h = by (precedes (keyOf (e .request)) (keyOf (x .request))) (names-inserted x es (n .1) (h .1))
@@ -118,18 +119,27 @@ names-inserted x (e ∷ es) n h = by (precedes (keyOf (e .request)) (keyOf (x .r
     by true ih = (each-inserted (Unlike (e .request)) x es (λ i. n .0 (sym i)) (h .0), ih)
     by false ih = (n, h)
 
-keys-inserted : (x : Entry) (es : List Entry) → Each (λ r. sameKey (keyOf r) (keyOf (x .request)) ≡ false) (requests es) → Pairs Ahead (requests es) → Pairs Ahead (requests (inserted x es))
+keys-inserted : (x : Entry) (es : List Entry) → Each (λ r. sameKey (keyOf r) (keyOf (x .request)) ≡ false) (requests es)
+    → Pairs Ahead (requests es) → Pairs Ahead (requests (inserted x es))
 unfolding inserted
 keys-inserted x [] n h = (tt, tt)
 keys-inserted x (e ∷ es) n h = by (precedes (keyOf (e .request)) (keyOf (x .request))) refl (keys-inserted x es (n .1) (h .1))
   where
-    by : (b : Bool) → precedes (keyOf (e .request)) (keyOf (x .request)) ≡ b → Pairs Ahead (requests (inserted x es)) → Pairs Ahead (requests (cond b (e ∷ inserted x es) (x ∷ e ∷ es)))
+    by : (b : Bool) → precedes (keyOf (e .request)) (keyOf (x .request)) ≡ b → Pairs Ahead (requests (inserted x es))
+        → Pairs Ahead (requests (cond b (e ∷ inserted x es) (x ∷ e ∷ es)))
     by true p ih = (each-inserted (Ahead (e .request)) x es p (h .0), ih)
     by false p ih =
-        let q : Ahead (x .request) (e .request) = precedes-other (keyOf (e .request)) (keyOf (x .request)) p (n .0) in
-        ((q, each-on (Ahead (e .request)) (Ahead (x .request)) (λ r i. precedes-on (keyOf (x .request)) (keyOf (e .request)) (keyOf r) q i) (requests es) (h .0)), h)
+        let q : Ahead (x .request) (e .request) = precedes-other (keyOf (e .request)) (keyOf (x .request)) p (n .0) in (
+          (
+            q,
+            each-on (Ahead (e .request)) (Ahead (x .request)) (λ r i. precedes-on (keyOf (x .request)) (keyOf (e .request)) (keyOf r) q i)
+                (requests es) (h .0),
+          ),
+          h,
+        )
 
-pub orderly-inserted : (x : Entry) (es : List Entry) → Each (Unlike (x .request)) (requests es) → Each (λ r. sameKey (keyOf r) (keyOf (x .request)) ≡ false) (requests es) → length es < mostRequests
+pub orderly-inserted : (x : Entry) (es : List Entry) → Each (Unlike (x .request)) (requests es)
+    → Each (λ r. sameKey (keyOf r) (keyOf (x .request)) ≡ false) (requests es) → length es < mostRequests
     → Orderly es → Orderly (inserted x es)
 orderly-inserted x es n k m o = record {
   names = names-inserted x es n (o .names);
@@ -138,12 +148,14 @@ orderly-inserted x es n k m o = record {
 }
 
 -- where no entry has the key, each has another
-pub none-same : (r : Request) (es : List Entry) → any (λ e. sameKey (keyOf (e .request)) (keyOf r)) es ≡ false → Each (λ q. sameKey (keyOf q) (keyOf r) ≡ false) (requests es)
+pub none-same : (r : Request) (es : List Entry) → any (λ e. sameKey (keyOf (e .request)) (keyOf r)) es ≡ false
+    → Each (λ q. sameKey (keyOf q) (keyOf r) ≡ false) (requests es)
 none-same r [] h = tt
 none-same r (e ∷ es) h = by (sameKey (keyOf (e .request)) (keyOf r)) refl h (none-same r es)
   where
     by : (b : Bool) → sameKey (keyOf (e .request)) (keyOf r) ≡ b → b || any (λ e. sameKey (keyOf (e .request)) (keyOf r)) es ≡ false
-        → (any (λ e. sameKey (keyOf (e .request)) (keyOf r)) es ≡ false → Each (λ q. sameKey (keyOf q) (keyOf r) ≡ false) (requests es)) → Each (λ q. sameKey (keyOf q) (keyOf r) ≡ false) (requests (e ∷ es))
+        → (any (λ e. sameKey (keyOf (e .request)) (keyOf r)) es ≡ false → Each (λ q. sameKey (keyOf q) (keyOf r) ≡ false) (requests es))
+        → Each (λ q. sameKey (keyOf q) (keyOf r) ≡ false) (requests (e ∷ es))
     by true i h ih = never refl h
     by false i h ih = (i, ih h)
 

@@ -30,7 +30,8 @@ use Rattle.schedule.specs.Calls.{releasedBy, deletedBy, taken, isIn, closing, r
 use Rattle.schedule_entering.specs.Entering.{barred, clashError, enterError, entered, enteringBy, entering}
 use Rattle.schedule_entering.proofs.Clashes.{clash-clear}
 use Rattle.schedule_orderly.specs.Orderly.{Call, after, afterAll, Each, requests, Orderly, Sound}
-use Rattle.schedule_orderly.proofs.ListLaws.{each-removed, orderly-removed, orderly-state, orderly-set, each-inserted, orderly-inserted, none-same, none-named}
+use Rattle.schedule_orderly.proofs.ListLaws.{each-removed, orderly-removed, orderly-state, orderly-set}
+use Rattle.schedule_orderly.proofs.ListLaws.{each-inserted, orderly-inserted, none-same, none-named}
 
 -- the one value that holds orderly entries
 sound-of : (es : List Entry) → Orderly es → Sound (scheduleOf es)
@@ -77,8 +78,10 @@ module _ (s : Schedule) (d : Sound s) where
   unfolding enterError
   orderly-entered r e =
       let others = removed (isNamed (r .id)) (inSchedule s) in
-      let c = clash-clear others r (or-else-none (errorIf (barred (find (isNamed (r .id)) (inSchedule s))) InSchedule) (clashError others r) e .1) in
-      orderly-inserted (record { request = r; state = firstState r }) others (none-named r (inSchedule s) (d .orderly .names)) (none-same r others (c .0))
+      let c = clash-clear others r
+      (or-else-none (errorIf (barred (find (isNamed (r .id)) (inSchedule s))) InSchedule) (clashError others r) e .1) in
+      orderly-inserted (record { request = r; state = firstState r }) others (none-named r (inSchedule s) (d .orderly .names))
+      (none-same r others (c .0))
       (leb-false mostRequests (length others) (c .1)) (orderly-removed (isNamed (r .id)) (inSchedule s) (d .orderly))
 
   sound-entering : (r : Request) (v : CardVerdict) → enterError (inSchedule s) r ≡ v → Sound (enteringBy v s r .schedule)
@@ -89,13 +92,15 @@ module _ (s : Schedule) (d : Sound s) where
   sound-enter r = sound-entering r (enterError (inSchedule s) r) refl
 
   -- what holds of each request, and of the one that is to enter, holds of each then
-  pub each-enter : (P : Request → Type 0) (r : Request) → P r → Each P (requests (inSchedule s)) → Each P (requests (inSchedule (entering s r .schedule)))
+  pub each-enter : (P : Request → Type 0) (r : Request) → P r → Each P (requests (inSchedule s))
+      → Each P (requests (inSchedule (entering s r .schedule)))
   each-enter P r p h = by (enterError (inSchedule s) r)
     where
       by : (v : CardVerdict) → Each P (requests (inSchedule (enteringBy v s r .schedule)))
       by Good =
           subst (λ (l : List Entry). Each P (requests l)) (sym (in-of (entered (inSchedule s) r)))
-          (each-inserted P (record { request = r; state = firstState r }) (removed (isNamed (r .id)) (inSchedule s)) p (each-removed P (isNamed (r .id)) (inSchedule s) h))
+          (each-inserted P (record { request = r; state = firstState r }) (removed (isNamed (r .id)) (inSchedule s)) p
+          (each-removed P (isNamed (r .id)) (inSchedule s) h))
       by (Wrong x) = h
 
   -- after each call

@@ -30,8 +30,10 @@ two-clean n t p = ((λ e. omega arith), ((λ e. omega arith), p))
 
 code-clean : (kind : Kind) (t : List ℕ) → NoLf t → NoLf (codeOf kind ++ t)
 code-clean kind t p =
-    let q = both (not (eqb (getD (codeOf kind) 0 0) 10)) (not (eqb (getD (codeOf kind) 1 0) 10)) (all-kinds (λ k. not (eqb (getD (codeOf k) 0 0) 10) && not (eqb (getD (codeOf k) 1 0) 10)) refl kind) in
-    subst (λ (code : List ℕ). NoLf (code ++ t)) (code-two kind) (apart (getD (codeOf kind) 0 0) (q .0), (apart (getD (codeOf kind) 1 0) (q .1), p))
+    let q = both (not (eqb (getD (codeOf kind) 0 0) 10)) (not (eqb (getD (codeOf kind) 1 0) 10))
+    (all-kinds (λ k. not (eqb (getD (codeOf k) 0 0) 10) && not (eqb (getD (codeOf k) 1 0) 10)) refl kind) in
+    subst (λ (code : List ℕ). NoLf (code ++ t)) (code-two kind)
+    (apart (getD (codeOf kind) 0 0) (q .0), (apart (getD (codeOf kind) 1 0) (q .1), p))
   where
     apart : (b : ℕ) → not (eqb b 10) ≡ true → b ≡ 10 → ⊥
     apart b t e = never t (rw (eq-eqb b 10 e))
@@ -99,7 +101,8 @@ sizes (item ∷ items) rest =
     let l : length (line item) ≡ length (body item) + 1 = ap length (line-is item) ∙ length-append (body item) (10 ∷ []) in
     omega (arith, ap size e, sizes items rest, length-append (line item) (written items))
 
-pub nothing-left : (items : List Item) (rest : List ℕ) → length (linesOf rest) ≡ 0 → size (linesOf (written items ++ rest)) ≡ length (written items ++ rest) → rest ≡ []
+pub nothing-left : (items : List Item) (rest : List ℕ) → length (linesOf rest) ≡ 0
+    → size (linesOf (written items ++ rest)) ≡ length (written items ++ rest) → rest ≡ []
 nothing-left items rest none whole =
     none-left rest (omega (arith, sizes items rest, length-append (written items) rest, no-size (linesOf rest) none))
   where

@@ -74,7 +74,8 @@ bad-not-good e = verdicts (ap (λ (a : Answer). a .verdict) e)
     verdicts e = let z : _≡_ {A = ℕ} 0 1 = cc in omega arith
 
 -- what follows a whole configuration is its first bad line
-after : (s more : List ℕ) (of : List Channel) (marks : List Bool) (word : ℕ) (w : InForm s of marks word) → (more ≡ [] → ⊥) → FirstBad (s ++ more) (w .lines + 1)
+after : (s more : List ℕ) (of : List Channel) (marks : List Bool) (word : ℕ) (w : InForm s of marks word) → (more ≡ [] → ⊥)
+    → FirstBad (s ++ more) (w .lines + 1)
 after s more of marks word w n =
     let r = w .reads in
     record {
@@ -108,7 +109,8 @@ good-form s of marks word e = by (answered s)
 stays : (s more : List ℕ) (number : ℕ) → number ≤ length (linesOf s) → FirstBad s number → FirstBad (s ++ more) number
 stays s more number h f =
     let r = f .reads in
-    let c : length (linesOf s) ≡ length (r .items) + length (linesOf (f .rest)) = ap (λ (l : List ℕ). length (linesOf l)) (r .text) ∙ counted (r .items) (f .rest) in
+    let c : length (linesOf s) ≡ length (r .items) + length (linesOf (f .rest)) =
+    ap (λ (l : List ℕ). length (linesOf l)) (r .text) ∙ counted (r .items) (f .rest) in
     let some : 1 ≤ length (linesOf (f .rest)) = omega (arith, f .next, r .many) in
     record {
       before = f .before;
@@ -130,7 +132,8 @@ stays s more number h f =
     }
 
 -- bad is answered for the first bad line, and whatever follows does not change it
-pub bad-stays : (s more : List ℕ) (number : ℕ) → openingOf true s .begun ≡ Begun′.Bad number → FirstBad (s ++ more) number × (configurationOf (s ++ more) ≡ refused number)
+pub bad-stays : (s more : List ℕ) (number : ℕ) → openingOf true s .begun ≡ Begun′.Bad number
+    → FirstBad (s ++ more) number × (configurationOf (s ++ more) ≡ refused number)
 bad-stays s more number e = by (answered s)
   where
     by : Answered s → FirstBad (s ++ more) number × (configurationOf (s ++ more) ≡ refused number)
@@ -143,23 +146,32 @@ bad-stays s more number e = by (answered s)
 
 -- where more is due, whole lines are all right ones, and the configuration is not complete
 pub more-due : (s : List ℕ) → size (linesOf s) ≡ length s → openingOf true s .begun ≡ Begun′.More
-    → (due : Due) × Reads Due.first s (length (linesOf s)) due [] × ((of : List Channel) (marks : List Bool) (word : ℕ) → Complete due of marks word → ⊥)
+    → (due : Due) × Reads Due.first s (length (linesOf s)) due []
+    × ((of : List Channel) (marks : List Bool) (word : ℕ) → Complete due of marks word → ⊥)
 more-due s whole e = by (answered s)
   where
-    by : Answered s → (due : Due) × Reads Due.first s (length (linesOf s)) due [] × ((of : List Channel) (marks : List Bool) (word : ℕ) → Complete due of marks word → ⊥)
+    by : Answered s → (due : Due) × Reads Due.first s (length (linesOf s)) due []
+        × ((of : List Channel) (marks : List Bool) (word : ℕ) → Complete due of marks word → ⊥)
     by (Answered.goods o m x w f) = absurd (good-not-more (sym (ap (λ (b : Beginning). b .begun) f) ∙ e))
     by (Answered.bads n f l g) = absurd (more-not-bad (sym e ∙ g))
     by (Answered.dues n f l g) =
         let r = f .reads in
-        let c : length (linesOf s) ≡ length (r .items) + length (linesOf (f .rest)) = ap (λ (l : List ℕ). length (linesOf l)) (r .text) ∙ counted (r .items) (f .rest) in
+        let c : length (linesOf s) ≡ length (r .items) + length (linesOf (f .rest)) =
+        ap (λ (l : List ℕ). length (linesOf l)) (r .text) ∙ counted (r .items) (f .rest) in
         let z : f .rest ≡ [] = nothing-left (r .items) (f .rest) (omega (arith, f .next, r .many)) (rw (r .text) at whole) in (
           f .due,
-          record { items = r .items; many = omega (arith, ap (λ (l : List ℕ). length (linesOf l)) z); right = r .right; text = rw z at (r .text) },
+          record {
+            items = r .items;
+            many = omega (arith, ap (λ (l : List ℕ). length (linesOf l)) z);
+            right = r .right;
+            text = rw z at (r .text);
+          },
           λ of marks word k. f .bad .more of marks word k z,
         )
 
 -- so every question before the end of a configuration is answered with more
-pub before-good : (s more : List ℕ) (of : List Channel) (marks : List Bool) (word : ℕ) → InForm (s ++ more) of marks word → (more ≡ [] → ⊥) → openingOf true s .begun ≡ Begun′.More
+pub before-good : (s more : List ℕ) (of : List Channel) (marks : List Bool) (word : ℕ) → InForm (s ++ more) of marks word → (more ≡ [] → ⊥)
+    → openingOf true s .begun ≡ Begun′.More
 before-good s more of marks word w n = by (answered s)
   where
     never-bad : {number : ℕ} → configurationOf (s ++ more) ≡ refused number → ⊥
@@ -177,7 +189,8 @@ ended s number e = rw e
 
 -- 2,048 bytes decide: of a text of as many no more need be kept, and the line that they blame is the first bad line
 -- whatever follows
-pub kept : (s more : List ℕ) → 2048 ≤ length s → (number : ℕ) × (openingOf false (take 2048 s) .begun ≡ Begun′.Bad number) × (configurationOf (s ++ more) ≡ refused number)
+pub kept : (s more : List ℕ) → 2048 ≤ length s
+    → (number : ℕ) × (openingOf false (take 2048 s) .begun ≡ Begun′.Bad number) × (configurationOf (s ++ more) ≡ refused number)
 kept s more h = by (meaning (take 2048 s) .said)
   where
     same : configurationOf (s ++ more) ≡ configurationOf (take 2048 s)
@@ -186,7 +199,8 @@ kept s more h = by (meaning (take 2048 s) .said)
         ∙ ap configurationOf (append-assoc (take 2048 s) (drop 2048 s) more)
         ∙ enough (take 2048 s) (drop 2048 s ++ more) (omega (arith, length-take-le 2048 s h))
 
-    by : Said (configurationOf (take 2048 s)) → (number : ℕ) × (openingOf false (take 2048 s) .begun ≡ Begun′.Bad number) × (configurationOf (s ++ more) ≡ refused number)
+    by : Said (configurationOf (take 2048 s))
+        → (number : ℕ) × (openingOf false (take 2048 s) .begun ≡ Begun′.Bad number) × (configurationOf (s ++ more) ≡ refused number)
     by (Said.goods o m x e) =
         let w = meaning (take 2048 s) .written o m x e in
         let f = first-named ((take 2048 s) ++ (0 ∷ [])) (w .lines + 1) (after (take 2048 s) (0 ∷ []) o m x w some) in

@@ -47,12 +47,14 @@ sizes [] = refl
 sizes (c ∷ cs) = omega (arith, sizes cs, length-append (lineText c) (textOf cs), length-append c (10 ∷ []))
 
 -- where its termination card starts, or that it is too long
-pub deck-given : (cs : List (List ℕ)) → Cards cs → length (textOf cs ++ lineText termination) ≤ deckBytes → deckEnd (textOf cs ++ lineText termination) ≡ At (length (textOf cs))
+pub deck-given : (cs : List (List ℕ)) → Cards cs → length (textOf cs ++ lineText termination) ≤ deckBytes
+    → deckEnd (textOf cs ++ lineText termination) ≡ At (length (textOf cs))
 unfolding deckEnd
 deck-given cs h l =
     let e = ends cs h in
     rw (le-leb (length (textOf cs ++ lineText termination)) deckBytes l, cards-are cs h, e .0, e .1, sizes cs)
 
-pub deck-too-long : (cs : List (List ℕ)) → deckBytes < length (textOf cs ++ lineText termination) → deckEnd (textOf cs ++ lineText termination) ≡ Refused BadDeck
+pub deck-too-long : (cs : List (List ℕ)) → deckBytes < length (textOf cs ++ lineText termination)
+    → deckEnd (textOf cs ++ lineText termination) ≡ Refused BadDeck
 unfolding deckEnd
 deck-too-long cs l = rw (lt-leb (length (textOf cs ++ lineText termination)) deckBytes l)

@@ -19,7 +19,8 @@ module _ (room : List ℕ) (kept : ℕ) (line : List ℕ) where
   pub too-long : deckBytes < kept + (length line + 1) → Adds room kept line room TooLong
   too-long h = let e = lt-leb (kept + (length line + 1)) deckBytes h in record { is = rw e; bytes = rw e }
 
-  pub added : (after : List ℕ) (next : ℕ) → length room ≡ deckBytes → kept + (length line + 1) ≤ deckBytes → Written room kept (lineText line) after next → Adds room kept line after (Kept next)
+  pub added : (after : List ℕ) (next : ℕ) → length room ≡ deckBytes → kept + (length line + 1) ≤ deckBytes
+      → Written room kept (lineText line) after next → Adds room kept line after (Kept next)
   added after next l h w =
       let e = le-leb (kept + (length line + 1)) deckBytes h in
       let n : next ≡ kept + (length line + 1) = omega (arith, w .reached, length-append line (10 ∷ [])) in
@@ -35,7 +36,8 @@ pub holds-none : (room : List ℕ) → Holds [] room (Kept 0)
 holds-none room = (refl, omega arith, refl)
 
 -- a card more
-pub holds-more : (s room line after : List ℕ) (kept : ℕ) (r : Gathered) → length room ≡ deckBytes → Holds s room (Kept kept) → Adds room kept line after r → Holds (s ++ lineText line) after r
+pub holds-more : (s room line after : List ℕ) (kept : ℕ) (r : Gathered) → length room ≡ deckBytes → Holds s room (Kept kept)
+    → Adds room kept line after r → Holds (s ++ lineText line) after r
 holds-more s room line after kept r l h a =
     by-bool (hasRoom kept line)
     (λ t. let m = leb-true (kept + (length line + 1)) deckBytes t in
@@ -49,7 +51,8 @@ holds-more s room line after kept r l h a =
     n : length (s ++ lineText line) ≡ length s + (length line + 1)
     n = omega (arith, length-append s (lineText line), length-append line (10 ∷ []))
 
-    within : kept + (length line + 1) ≤ deckBytes → after ≡ sets room kept (lineText line) → take (kept + (length line + 1)) after ≡ s ++ lineText line
+    within : kept + (length line + 1) ≤ deckBytes → after ≡ sets room kept (lineText line)
+        → take (kept + (length line + 1)) after ≡ s ++ lineText line
     within m b =
         let c : length (lineText line) ≡ length line + 1 = length-append line (10 ∷ []) in
         let f = sets-eq (lineText line) room kept (omega arith) in

@@ -33,8 +33,14 @@ InTwo s a b text t = (m : Standing) × (x : List ℕ) × (y : List ℕ) × Hears
 pub parted : (s t : Standing) (a b text : List ℕ) → Hears s (a ++ b) text t → InTwo s a b text t
 parted s t [] b text h = (s, [], text, (refl, refl), h, refl)
 parted s t (c ∷ a) b text h =
-    let r = parted (h .0) t a b (h .2) (h .4) in
-    (r .0, h .1 ++ r .1, r .2, (h .0, h .1, r .1, h .3, r .3, refl), r .4, h .5 ∙ ap (λ (u : List ℕ). h .1 ++ u) (r .5) ∙ sym (append-assoc (h .1) (r .1) (r .2)))
+    let r = parted (h .0) t a b (h .2) (h .4) in (
+      r .0,
+      h .1 ++ r .1,
+      r .2,
+      (h .0, h .1, r .1, h .3, r .3, refl),
+      r .4,
+      h .5 ∙ ap (λ (u : List ℕ). h .1 ++ u) (r .5) ∙ sym (append-assoc (h .1) (r .1) (r .2)),
+    )
 
 -- HOWEVER THE INPUT IS CUT: the same text, the same shift, and the same bytes kept
 pub in-pieces : (s t : Standing) (a b text : List ℕ) → (Hears s (a ++ b) text t → InTwo s a b text t) × (InTwo s a b text t → Hears s (a ++ b) text t)
@@ -51,7 +57,8 @@ same e f g h i = rw (e, f, g, h, i)
 answers-one : {s t u : Standing} {x y : List ℕ} → Answers s x t → Answers s y u → (x ≡ y) × (t ≡ u)
 answers-one {s} {t} {u} a b =
     let e =
-    turns-one (s .shift .phase) (s .shift .cell) (take (s .len) (s .line)) (s .room) (t .room) (u .room) (s .answer) (t .answer) (u .answer) (a .turn) (b .turn) (a .turns) (b .turns) in (
+    turns-one (s .shift .phase) (s .shift .cell) (take (s .len) (s .line)) (s .room) (t .room) (u .room) (s .answer) (t .answer) (u .answer)
+    (a .turn) (b .turn) (a .turns) (b .turns) in (
       a .says ∙ ap₂ take (ap (λ (r : Turn). r .at) (e .2)) (e .1) ∙ sym (b .says),
       same (a .shift ∙ ap (λ (r : Turn). r .shift) (e .2) ∙ sym (b .shift)) (a .len ∙ sym (b .len)) (a .line ∙ sym (b .line)) (e .0) (e .1),
     )

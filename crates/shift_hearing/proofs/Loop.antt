@@ -76,7 +76,8 @@ hears-kept shift len line room answer p after end w n =
 -- ---- one line
 
 -- an answer put behind those before it
-pub put-behind : {answer said out after : List ℕ} {n at end : ℕ} → said ≡ take n answer → length answer ≡ 53248 → length out ≡ 65536 → Written out at said after end → Behind answer out n at after end
+pub put-behind : {answer said out after : List ℕ} {n at end : ℕ} → said ≡ take n answer → length answer ≡ 53248 → length out ≡ 65536
+    → Written out at said after end → Behind answer out n at after end
 put-behind {answer} {said} {out} {after} {n} {at} {end} e b c v =
     let w : Written out at (take n answer) after end = subst (λ (p : List ℕ). Written out at p after end) e v in
     record { put = w; uncut = λ s. omega (arith, w .reached, length-take n answer) }
@@ -95,7 +96,8 @@ talks-on (Line′.Status p k) e = refl
 talks-on Line′.Key e = refl
 
 -- a call on the request lists is answered only while calls are, and the phase stays
-call-turns : (phase : Phase) (schedule : Schedule) (lists : Lists) (line room answer answer′ : List ℕ) (h : Handled) → isForLists (askedIn phase line) ≡ true → Handles lists (askedIn phase line) answer answer′ h
+call-turns : (phase : Phase) (schedule : Schedule) (lists : Lists) (line room answer answer′ : List ℕ) (h : Handled)
+    → isForLists (askedIn phase line) ≡ true → Handles lists (askedIn phase line) answer answer′ h
     → Turns phase (cellOf schedule lists) line room room answer answer′ (turnOf phase (followedBy schedule h) (h .at))
 call-turns (Phase′.Begins kept) schedule lists line room answer answer′ h e g = absurd (false≢true e)
 call-turns Phase′.Talks schedule lists line room answer answer′ h e g = (
@@ -111,13 +113,17 @@ call-turns Phase′.Passes schedule lists line room answer answer′ h e g = abs
 call-turns Phase′.Over schedule lists line room answer answer′ h e g = absurd (false≢true e)
 
 -- a call on the request lists, answered from them, is a line's turn
-pub call-behind : (phase : Phase) (schedule s : Schedule) (lists : Lists) (call : Line) (said room answer answer′ out after : List ℕ) (at : ℕ) (r : Handled)
-    → call ≡ askedIn phase said → isForLists call ≡ true → HandlesBehind lists call answer answer′ out at after r → s ≡ followed schedule (r .answer)
-    → AnswersBehind (shiftOf phase (cellOf schedule lists)) said room room answer answer′ out at after (turnOf phase (cellOf s (r .lists)) (r .at))
+pub call-behind : (phase : Phase) (schedule s : Schedule) (lists : Lists) (call : Line) (said room answer answer′ out after : List ℕ)
+    (at : ℕ) (r : Handled)
+    → call ≡ askedIn phase said → isForLists call ≡ true → HandlesBehind lists call answer answer′ out at after r
+    → s ≡ followed schedule (r .answer)
+    → AnswersBehind (shiftOf phase (cellOf schedule lists)) said room room answer answer′ out at after
+    (turnOf phase (cellOf s (r .lists)) (r .at))
 call-behind phase schedule s lists call said room answer answer′ out after at r c f g e =
     record {
       turn = turnOf phase (followedBy schedule (g .handled)) (g .handled .at);
-      turns = call-turns phase schedule lists said room answer answer′ (g .handled) (subst (λ (x : Line). isForLists x ≡ true) c f) (subst (λ (x : Line). Handles lists x answer answer′ (g .handled)) c (g .handles));
+      turns = call-turns phase schedule lists said room answer answer′ (g .handled) (subst (λ (x : Line). isForLists x ≡ true) c f)
+          (subst (λ (x : Line). Handles lists x answer answer′ (g .handled)) c (g .handles));
       shift = ap₂ (λ (t : Schedule) (l : Lists). shiftOf phase (cellOf t l)) (e ∙ ap (followed schedule) (g .says)) (g .leaves);
       behind = g .behind;
     }
@@ -140,12 +146,14 @@ module _ {s₀ : Standing} {piece out₀ out : List ℕ} {shift : Shift} {len ta
   later n x t f m g =
       let k : n - taken ≤ length (lineOf (rest piece taken)) = omega (arith, u .taken, at-most-one (isWhole (rest piece taken))) in
       let i : n ≡ taken + (n - taken) = omega arith in
-      let e : take n piece ≡ take taken piece ++ take (n - taken) (rest piece taken) = ap (λ (j : ℕ). take j piece) i ∙ taken-on piece taken (n - taken) in
+      let e : take n piece ≡ take taken piece ++ take (n - taken) (rest piece taken) =
+      ap (λ (j : ℕ). take j piece) i ∙ taken-on piece taken (n - taken) in
       let p = parted s₀ t (take taken piece) (take (n - taken) (rest piece taken)) x (subst (λ (q : List ℕ). Hears s₀ q x t) e g) in
       let now = standing shift len line room answer in
       let a = hears-one s₀ (p .0) now (take taken piece) (p .1) (h .text) (p .3) (h .hears) in
       let c =
-      hears-one (p .0) t (kept (p .0) (take (n - taken) (rest piece taken))) (take (n - taken) (rest piece taken)) (p .2) [] (p .4) (hears-clean (p .0) (take (n - taken) (rest piece taken)) (line-front (n - taken) (rest piece taken) k)) in
+      hears-one (p .0) t (kept (p .0) (take (n - taken) (rest piece taken))) (take (n - taken) (rest piece taken)) (p .2) [] (p .4)
+      (hears-clean (p .0) (take (n - taken) (rest piece taken)) (line-front (n - taken) (rest piece taken) k)) in
       omega (arith, ap length (p .5), length-append (p .1) (p .2), ap length (a .0), ap length (c .0), h .uncut)
 
   fewer-on : (n : ℕ) (x : List ℕ) (t : Standing) → n < taken + cut .taken → Hears s₀ (take n piece) x t → length x ≤ 12288
@@ -158,12 +166,14 @@ module _ {s₀ : Standing} {piece out₀ out : List ℕ} {shift : Shift} {len ta
       let n₀ : cut .taken ≡ length (lineOf (rest piece taken)) + 0 = u .taken ∙ rw v in
       let n : cut .taken ≡ length (lineOf (rest piece taken)) = omega arith in
       let e : take (taken + cut .taken) piece ≡ take taken piece ++ lineOf (rest piece taken) =
-      taken-on piece taken (cut .taken) ∙ ap (λ (k : ℕ). take taken piece ++ take k (rest piece taken)) n ∙ ap (λ (p : List ℕ). take taken piece ++ p) (leading-front (isnt 10) (rest piece taken)) in
+      taken-on piece taken (cut .taken) ∙ ap (λ (k : ℕ). take taken piece ++ take k (rest piece taken)) n
+      ∙ ap (λ (p : List ℕ). take taken piece ++ p) (leading-front (isnt 10) (rest piece taken)) in
       let now = standing shift len line room answer in
       let next = standing shift (cut .kept) after room answer in
       let k₀ = hears-kept shift len line room answer (lineOf (rest piece taken)) after (cut .kept) (u .put) (line-clean (rest piece taken)) in
       let g = joined s₀ now next (take taken piece) (lineOf (rest piece taken)) (h .text) [] (h .hears) k₀ in
-      let k : Hears s₀ (take taken piece ++ lineOf (rest piece taken)) (h .text) (standing shift (cut .kept) after room answer) = rw append-nil at g in
+      let k : Hears s₀ (take taken piece ++ lineOf (rest piece taken)) (h .text) (standing shift (cut .kept) after room answer) =
+      rw append-nil at g in
       record {
         text = h .text;
         hears = subst (λ (q : List ℕ). Hears s₀ q (h .text) (standing shift (cut .kept) after room answer)) (sym e) k;
@@ -174,14 +184,18 @@ module _ {s₀ : Standing} {piece out₀ out : List ℕ} {shift : Shift} {len ta
       }
 
   -- a line that is whole, and answered
-  pub whole : {r : Turn} {said room′ answer′ out′ : List ℕ} → cut .whole ≡ true → said ≡ take (cut .kept) after → AnswersBehind shift said room room′ answer answer′ out at out′ r → HearsSome s₀ piece out₀ (standing (r .shift) 0 after room′ answer′) (taken + cut .taken) (r .at) out′
+  pub whole : {r : Turn} {said room′ answer′ out′ : List ℕ} → cut .whole ≡ true → said ≡ take (cut .kept) after
+      → AnswersBehind shift said room room′ answer answer′ out at out′ r
+      → HearsSome s₀ piece out₀ (standing (r .shift) 0 after room′ answer′) (taken + cut .taken) (r .at) out′
   whole {r} {said} {room′} {answer′} {out′} f d a₀ =
-      let a : AnswersBehind shift (take (cut .kept) after) room room′ answer answer′ out at out′ r = subst (λ (q : List ℕ). AnswersBehind shift q room room′ answer answer′ out at out′ r) d a₀ in
+      let a : AnswersBehind shift (take (cut .kept) after) room room′ answer answer′ out at out′ r =
+      subst (λ (q : List ℕ). AnswersBehind shift q room room′ answer answer′ out at out′ r) d a₀ in
       let v : isWhole (rest piece taken) ≡ true = sym (u .whole) ∙ f in
       let n : cut .taken ≡ length (lineOf (rest piece taken)) + 1 = u .taken ∙ rw v in
       let e : take (taken + cut .taken) piece ≡ take taken piece ++ (lineOf (rest piece taken) ++ (lf ∷ [])) =
       taken-on piece taken (cut .taken) ∙ ap (λ (k : ℕ). take taken piece ++ take k (rest piece taken)) n
-      ∙ ap (λ (p : List ℕ). take taken piece ++ p) (line-ended (rest piece taken) (ltb-true (length (lineOf (rest piece taken))) (length (rest piece taken)) v)) in
+      ∙ ap (λ (p : List ℕ). take taken piece ++ p)
+      (line-ended (rest piece taken) (ltb-true (length (lineOf (rest piece taken))) (length (rest piece taken)) v)) in
       let w : Answers (standing shift (cut .kept) after room answer) (take (a .turn .at) answer′) (standing (r .shift) 0 after room′ answer′) =
       record { turn = a .turn; turns = a .turns; says = refl; shift = a .shift; len = refl; line = refl } in
       let now = standing shift len line room answer in
@@ -189,7 +203,8 @@ module _ {s₀ : Standing} {piece out₀ out : List ℕ} {shift : Shift} {len ta
       let next = standing (r .shift) 0 after room′ answer′ in
       let k₀ = hears-kept shift len line room answer (lineOf (rest piece taken)) after (cut .kept) (u .put) (line-clean (rest piece taken)) in
       let k = joined now ended next (lineOf (rest piece taken)) (lf ∷ []) [] (take (a .turn .at) answer′) k₀ (hears-lf w) in
-      let g = joined s₀ now next (take taken piece) (lineOf (rest piece taken) ++ (lf ∷ [])) (h .text) (take (a .turn .at) answer′) (h .hears) k in
+      let g = joined s₀ now next (take taken piece) (lineOf (rest piece taken) ++ (lf ∷ [])) (h .text) (take (a .turn .at) answer′)
+      (h .hears) k in
       let q = andThen (h .put) (a .behind .put) in
       record {
         text = h .text ++ take (a .turn .at) answer′;
@@ -201,14 +216,19 @@ module _ {s₀ : Standing} {piece out₀ out : List ℕ} {shift : Shift} {len ta
       }
 
 -- a shift under another name
-pub named : {a b : Shift} {line room room′ answer answer′ out after : List ℕ} {at : ℕ} {r : Turn} → a ≡ b → AnswersBehind a line room room′ answer answer′ out at after r → AnswersBehind b line room room′ answer answer′ out at after r
+pub named : {a b : Shift} {line room room′ answer answer′ out after : List ℕ} {at : ℕ} {r : Turn} → a ≡ b
+    → AnswersBehind a line room room′ answer answer′ out at after r → AnswersBehind b line room room′ answer answer′ out at after r
 named {line = line} {room = room} {room′ = room′} {answer = answer} {answer′ = answer′} {out = out} {after = after} {at = at} {r = r} e b =
     subst (λ (s : Shift). AnswersBehind s line room room′ answer answer′ out at after r) e b
 
 -- the end of the loop
-pub ended : {s₀ : Standing} {piece out₀ out : List ℕ} {shift s : Shift} {len taken at : ℕ} {line room answer : List ℕ} {r : Heard} → HearsSome s₀ piece out₀ (standing shift len line room answer) taken at out
+pub ended : {s₀ : Standing} {piece out₀ out : List ℕ} {shift s : Shift} {len taken at : ℕ} {line room answer : List ℕ} {r : Heard}
+    → HearsSome s₀ piece out₀ (standing shift len line room answer) taken at out
     → s ≡ shift → r ≡ record { shift = s; len = len; taken = taken; at = at } → (taken < length piece → 12288 < at)
     → HearsPiece s₀ piece out₀ (standing (r .shift) (r .len) line room answer) (r .taken) (r .at) out
-ended {s₀ = s₀} {piece = piece} {out₀ = out₀} {out = out} {s = s} {len = len} {taken = taken} {at = at} {line = line} {room = room} {answer = answer} h e f g =
-    let k : HearsSome s₀ piece out₀ (standing s len line room answer) taken at out = subst (λ (t : Shift). HearsSome s₀ piece out₀ (standing t len line room answer) taken at out) (sym e) h in
-    subst (λ (q : Heard). HearsPiece s₀ piece out₀ (standing (q .shift) (q .len) line room answer) (q .taken) (q .at) out) (sym f) (record { some = k; all = g })
+ended {s₀ = s₀} {piece = piece} {out₀ = out₀} {out = out} {s = s} {len = len} {taken = taken} {at = at} {line = line} {room = room}
+    {answer = answer} h e f g =
+    let k : HearsSome s₀ piece out₀ (standing s len line room answer) taken at out =
+    subst (λ (t : Shift). HearsSome s₀ piece out₀ (standing t len line room answer) taken at out) (sym e) h in
+    subst (λ (q : Heard). HearsPiece s₀ piece out₀ (standing (q .shift) (q .len) line room answer) (q .taken) (q .at) out) (sym f)
+    (record { some = k; all = g })

@@ -25,7 +25,8 @@ module _ {s t : Standing} {piece out after : List ℕ} {taken at : ℕ} (h : Hea
   -- THE REST OF THE PIECE, AND WHAT COMES AFTER IT, go on from there
   pub goes-on : (u : Standing) (more y : List ℕ) → Hears t (drop taken piece ++ more) y u → Hears s (piece ++ more) (h .some .text ++ y) u
   goes-on u more y g =
-      subst (λ (p : List ℕ). Hears s p (h .some .text ++ y) u) (sym (append-assoc (take taken piece) (drop taken piece) more) ∙ ap (λ (p : List ℕ). p ++ more) (take-append-drop taken piece))
+      subst (λ (p : List ℕ). Hears s p (h .some .text ++ y) u)
+      (sym (append-assoc (take taken piece) (drop taken piece) more) ∙ ap (λ (p : List ℕ). p ++ more) (take-append-drop taken piece))
       (joined s t u (take taken piece) (drop taken piece ++ more) (h .some .text) y (h .some .hears) g)
 
 -- the same of what a piece has from a position on
@@ -41,14 +42,16 @@ no-fewer : {s t u : Standing} {piece out a b : List ℕ} {n m i j : ℕ} → Hea
 no-fewer {t = t} {n = n} h g l =
     omega (arith, h .all (omega (arith, g .some .most)), h .some .uncut, g .some .fewer n (h .some .text) t l (h .some .hears))
 
-at-once : {s t u : Standing} {piece out a b : List ℕ} {n i j : ℕ} → HearsSome s piece out t n i a → HearsSome s piece out u n j b → (t ≡ u) × (i ≡ j) × (a ≡ b)
+at-once : {s t u : Standing} {piece out a b : List ℕ} {n i j : ℕ} → HearsSome s piece out t n i a → HearsSome s piece out u n j b
+    → (t ≡ u) × (i ≡ j) × (a ≡ b)
 at-once {s} {t} {u} {piece} {out} {a} {b} {n} {i} {j} h g =
     let e = hears-one s t u (take n piece) (h .text) (g .text) (h .hears) (g .hears) in
     let w : Written out 0 (g .text) a i = subst (λ (x : List ℕ). Written out 0 x a i) (e .0) (h .put) in
     let q = written-one w (g .put) in
     (e .1, q .1, q .0)
 
-pub piece-one : {s t u : Standing} {piece out a b : List ℕ} {n m i j : ℕ} → HearsPiece s piece out t n i a → HearsPiece s piece out u m j b → (t ≡ u) × (n ≡ m) × (i ≡ j) × (a ≡ b)
+pub piece-one : {s t u : Standing} {piece out a b : List ℕ} {n m i j : ℕ} → HearsPiece s piece out t n i a → HearsPiece s piece out u m j b
+    → (t ≡ u) × (n ≡ m) × (i ≡ j) × (a ≡ b)
 piece-one {s} {t} {u} {piece} {out} {a} {b} {n} {m} {i} {j} h g =
     let e : n ≡ m = same-number n m (no-fewer h g) (no-fewer g h) in
     let k : HearsSome s piece out t m i a = subst (λ (x : ℕ). HearsSome s piece out t x i a) e (h .some) in

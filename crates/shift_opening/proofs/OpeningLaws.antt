@@ -16,12 +16,14 @@ use Rattle.shift_opening.specs.Openings.{Keeps, begunText, AnswersOpenin
 use Rattle.shift_opening.specs.declared.Opening.{Opening}
 
 -- a text kept in the room stays within it
-pub kept-within : (room : List ℕ) (kept from : ℕ) (text after : List ℕ) (n : ℕ) → length room ≡ deckBytes → from ≡ min kept deckBytes → Written room from text after n → Keeps room kept text after n
+pub kept-within : (room : List ℕ) (kept from : ℕ) (text after : List ℕ) (n : ℕ) → length room ≡ deckBytes → from ≡ min kept deckBytes
+    → Written room from text after n → Keeps room kept text after n
 kept-within room kept from text after n l e w =
     record { put = subst (λ (m : ℕ). Written room m text after n) e w; within = omega (arith, w .reached) }
 
 -- what was asked is what the text begins
-pub answers-as : {b c : Beginning} {n : ℕ} {out after : List ℕ} {r : Opening} → b ≡ c → AnswersOpening b n out after r → AnswersOpening c n out after r
+pub answers-as : {b c : Beginning} {n : ℕ} {out after : List ℕ} {r : Opening} → b ≡ c → AnswersOpening b n out after r
+    → AnswersOpening c n out after r
 answers-as {n = n} {out = out} {after = after} {r = r} e a = subst (λ (b : Beginning). AnswersOpening b n out after r) e a
 
 -- one opening
@@ -40,7 +42,8 @@ answers-one {r = r} {q = q} a c =
 abbrev AnswersBegun : List ℕ → List ℕ → Opening → ℕ → List ℕ → Type 0
 AnswersBegun out x r n room = AnswersOpening (openingOf (ltb n 2048) (take n room)) n out x r
 
-pub opens-one : (kept : ℕ) (line room room₁ room₂ out x y : List ℕ) (r q : Opening) → Opens kept line room room₁ out x r → Opens kept line room room₂ out y q
+pub opens-one : (kept : ℕ) (line room room₁ room₂ out x y : List ℕ) (r q : Opening) → Opens kept line room room₁ out x r
+    → Opens kept line room room₂ out y q
     → (room₁ ≡ room₂) × (x ≡ y) × (r ≡ q)
 opens-one kept line room room₁ room₂ out x y r q a c =
     let k = written-one (a .keeps .put) (c .keeps .put) in
@@ -53,7 +56,8 @@ opens-one kept line room room₁ room₂ out x y r q a c =
 abbrev EndsBegun : List ℕ → List ℕ → ℕ → ℕ → List ℕ → Type 0
 EndsBegun out x r n room = Written out 0 (begunText (openingOf false (take n room) .begun)) x r
 
-pub unfinished-one : (kept : ℕ) (rest room room₁ room₂ out x y : List ℕ) (r q : ℕ) → Unfinished kept rest room room₁ out x r → Unfinished kept rest room room₂ out y q
+pub unfinished-one : (kept : ℕ) (rest room room₁ room₂ out x y : List ℕ) (r q : ℕ) → Unfinished kept rest room room₁ out x r
+    → Unfinished kept rest room room₂ out y q
     → (room₁ ≡ room₂) × (x ≡ y) × (r ≡ q)
 unfinished-one kept rest room room₁ room₂ out x y r q a c =
     let k = written-one (a .keeps .put) (c .keeps .put) in

@@ -35,7 +35,8 @@ pub drum-of : (channels : List Channel) (c : ℕ) {has : Fitted} {b : Bool} → 
 drum-of channels c e f = unfold drumOn in f ∙ ap isDrumOf e
 
 -- a line that changes nothing
-pub told : {text room after : List ℕ} {lists : Lists} {n : ℕ} {r : Handled} → r ≡ record { lists = lists; answer = Done; at = n } → Written room 0 text after n → Tells text (nothingDone lists) room after r
+pub told : {text room after : List ℕ} {lists : Lists} {n : ℕ} {r : Handled} → r ≡ record { lists = lists; answer = Done; at = n }
+    → Written room 0 text after n → Tells text (nothingDone lists) room after r
 told e w = rw e (record { lists = refl; answer = refl; put = w })
 
 -- the outcome of a call is the outcome that its contract gives
@@ -48,11 +49,13 @@ handled lists answer at = record { lists = lists; answer = answer; at = at }
 tells-one : {text room a b : List ℕ} {next : Acted} {r q : Handled} → Tells text next room a r → Tells text next room b q → (a ≡ b) × (r ≡ q)
 tells-one {r = r} {q = q} x y =
     let w = written-one (x .put) (y .put) in
-    let e : handled (r .lists) (r .answer) (r .at) ≡ handled (q .lists) (q .answer) (q .at) = rw (x .lists ∙ sym (y .lists), x .answer ∙ sym (y .answer), w .1) in
+    let e : handled (r .lists) (r .answer) (r .at) ≡ handled (q .lists) (q .answer) (q .at) =
+    rw (x .lists ∙ sym (y .lists), x .answer ∙ sym (y .answer), w .1) in
     (w .0, e)
 
 -- one answer to every line
-pub handles-one : (lists : Lists) (call : Line) (room a b : List ℕ) (r q : Handled) → Handles lists call room a r → Handles lists call room b q → (a ≡ b) × (r ≡ q)
+pub handles-one : (lists : Lists) (call : Line) (room a b : List ℕ) (r q : Handled) → Handles lists call room a r → Handles lists call room b q
+    → (a ≡ b) × (r ≡ q)
 handles-one lists Line′.NoCall room a b r q x y = tells-one x y
 handles-one lists Line′.Echo room a b r q x y = tells-one x y
 handles-one lists Line′.Deck room a b r q x y = tells-one x y

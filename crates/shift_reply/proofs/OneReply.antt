@@ -35,16 +35,19 @@ answer-is cell a s = rw (← s .outcome)
 
 selects-once : (cell : Cell) (a b : SelectAnswer) → SelectsIn cell a → SelectsIn cell b → a ≡ b
 selects-once cell a b s t =
-    answer-is cell a s ∙ ap answerBy (takes-one (cell .schedule) (cell .lists) (takenBy a) (takenBy b) (s .takes) (t .takes)) ∙ sym (answer-is cell b t)
+    answer-is cell a s ∙ ap answerBy (takes-one (cell .schedule) (cell .lists) (takenBy a) (takenBy b) (s .takes) (t .takes))
+    ∙ sym (answer-is cell b t)
 
 pub selects-one : {cell : Cell} {room a b : List ℕ} {r q : Replied} → Selects cell room a r → Selects cell room b q → (a ≡ b) × (r ≡ q)
 selects-one {cell} {room} {a} {b} {r} {q} x y =
     let e = selects-once cell (x .answer) (y .answer) (x .selects) (y .selects) in
-    let z : Shows (shownBy cell (y .answer)) (y .answer .cell) room a r = subst (λ (s : SelectAnswer). Shows (shownBy cell s) (s .cell) room a r) e (x .shows) in
+    let z : Shows (shownBy cell (y .answer)) (y .answer .cell) room a r =
+    subst (λ (s : SelectAnswer). Shows (shownBy cell s) (s .cell) room a r) e (x .shows) in
     shows-one z (y .shows)
 
 -- and one answer to every line
-pub replies-one : (cell : Cell) (said : Line) (id line room a b : List ℕ) (r q : Replied) → Replies cell said id line room a r → Replies cell said id line room b q → (a ≡ b) × (r ≡ q)
+pub replies-one : (cell : Cell) (said : Line) (id line room a b : List ℕ) (r q : Replied) → Replies cell said id line room a r
+    → Replies cell said id line room b q → (a ≡ b) × (r ≡ q)
 replies-one cell Line′.NoCall id line room a b r q x y = shows-one x y
 replies-one cell Line′.Echo id line room a b r q x y = shows-one x y
 replies-one cell Line′.Deck id line room a b r q x y = shows-one x y

@@ -30,7 +30,8 @@ entered cell deck room mid after a n l e w =
     }
 
 -- a line that changes nothing
-pub shown : {text room after : List ℕ} {cell : Cell} {n : ℕ} {r : Replied} → r ≡ record { cell = cell; at = n } → Written room 0 text after n → Shows text cell room after r
+pub shown : {text room after : List ℕ} {cell : Cell} {n : ℕ} {r : Replied} → r ≡ record { cell = cell; at = n } → Written room 0 text after n
+    → Shows text cell room after r
 shown e w = rw e (record { cell = refl; put = w })
 
 -- the answer of a call is the answer that its contract gives
@@ -38,12 +39,17 @@ pub gives-as : {a b : Answered} {room after : List ℕ} {r : Replied} → a ≡ 
 gives-as {room = room} {after = after} {r = r} e g = subst (λ (x : Answered). Gives x room after r) e g
 
 -- a keyboard message: its answer, which stands whole in the room lent for it, put from the start on, and an LF
-pub keys : {cell : Cell} {message lent left room mid after : List ℕ} {a : KeyAnswer} {m n : ℕ} → Keys cell message lent left a → Written room 0 (take (a .at) left) mid m → Written mid m (bytes "\n") after n
+pub keys : {cell : Cell} {message lent left room mid after : List ℕ} {a : KeyAnswer} {m n : ℕ} → Keys cell message lent left a
+    → Written room 0 (take (a .at) left) mid m → Written mid m (bytes "\n") after n
     → KeysMessage cell message room after (record { cell = a .cell; at = n })
 keys {cell} {message} {lent} {left} {room} {mid} {after} {a} {m} {n} k v w =
     let asks = readMessage message .asks in
-    let t : take (a .at) left ≡ keyText asks (keyed cell message .told) = whole-front (k .text) ∙ ap (λ (h : Heeded). keyText asks (h .told)) (k .does) in
-    record { cell = ap (λ (h : Heeded). h .cell) (k .does); put = subst (λ (s : List ℕ). Written room 0 (s ++ bytes "\n") after n) t (andThen v w) }
+    let t : take (a .at) left ≡ keyText asks (keyed cell message .told) =
+    whole-front (k .text) ∙ ap (λ (h : Heeded). keyText asks (h .told)) (k .does) in
+    record {
+      cell = ap (λ (h : Heeded). h .cell) (k .does);
+      put = subst (λ (s : List ℕ). Written room 0 (s ++ bytes "\n") after n) t (andThen v w);
+    }
 
 pub keys-as : (cell : Cell) {s t room after : List ℕ} {r : Replied} → s ≡ t → KeysMessage cell s room after r → KeysMessage cell t room after r
 keys-as cell {room = room} {after = after} {r = r} e k = subst (λ (m : List ℕ). KeysMessage cell m room after r) e k

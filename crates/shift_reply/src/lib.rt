@@ -12,7 +12,8 @@ ghost use mathlib.Core.Path.{_≡_};
 ghost use Rattle.text.specs.Room.{Written};
 ghost use Rattle.board.specs.Board.{boardText};
 ghost use Rattle.shift_reply.specs.Followed.{Followed};
-ghost use Rattle.shift_reply.specs.Replies.{lackText, selectText, refusalText, echoText, Shows, Gives, Selects, EntersDeck, KeysMessage, Replies};
+ghost use Rattle.shift_reply.specs.Replies.{lackText, selectText, refusalText, echoText, Shows, Gives};
+ghost use Rattle.shift_reply.specs.Replies.{Selects, EntersDeck, KeysMessage, Replies};
 
 // The cell after a line, and where the answer ends in the lent room.
 pub struct Replied {

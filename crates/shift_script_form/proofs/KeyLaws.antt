@@ -29,7 +29,9 @@ no-key c s n = rw n
 -- every message that a line can hold is read back from its line, and the empty one from `KEY` alone
 pub key-back : (m : List ℕ) → length m ≤ 251 → (lineSays (keyLine m) ≡ said Line′.Key) × (messageIn (keyLine m) ≡ m)
 unfolding lineSays isEcho isKey
-key-back m h = let l : length (keyLine m) ≤ 255 = omega arith in (rw (le-ltb 255 (length (keyLine m)) l, ne-eqb (length (keyLine m)) 0 (λ z. omega arith)) refl, refl)
+key-back m h =
+    let l : length (keyLine m) ≤ 255 = omega arith in
+    (rw (le-ltb 255 (length (keyLine m)) l, ne-eqb (length (keyLine m)) 0 (λ z. omega arith)) refl, refl)
 
 pub key-alone : (lineSays (bytes "KEY") ≡ said Line′.Key) × (messageIn (bytes "KEY") ≡ [])
 unfolding lineSays isEcho isKey

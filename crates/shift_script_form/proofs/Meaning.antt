@@ -52,12 +52,20 @@ use Rattle.shift_script_form.proofs.RowLaws.{
 }
 
 -- a line of at most 255 bytes that starts neither with `#` nor with `K` says what its words say
-said-by : (c : ℕ) (w : List ℕ) (ws : List (List ℕ)) (r : Said) → eqb c 35 ≡ false → eqb c 75 ≡ false → Plain (c ∷ w) → AllPlain ws → total ((c ∷ w) ∷ ws) ≤ 256 → sayBy table ((c ∷ w) ∷ ws) ≡ r
+said-by : (c : ℕ) (w : List ℕ) (ws : List (List ℕ)) (r : Said) → eqb c 35 ≡ false → eqb c 75 ≡ false → Plain (c ∷ w) → AllPlain ws
+    → total ((c ∷ w) ∷ ws) ≤ 256 → sayBy table ((c ∷ w) ∷ ws) ≡ r
     → lineSays (spaced ((c ∷ w) ∷ ws)) ≡ r
 unfolding lineSays isEcho
 said-by c w ws r n k p a few e =
     let l : length (spaced ((c ∷ w) ∷ ws)) ≤ 255 = omega (arith, spaced-long (c ∷ w) ws) in
-    rw (le-ltb 255 (length (spaced ((c ∷ w) ∷ ws))) l, words-spaced (c ∷ w) ws p a, spaced-first c w ws, ne-eqb (suc (length (spaced (w ∷ ws)))) 0 (λ z. omega arith), n, no-key c (spaced (w ∷ ws)) k) e
+    rw (
+      le-ltb 255 (length (spaced ((c ∷ w) ∷ ws))) l,
+      words-spaced (c ∷ w) ws p a,
+      spaced-first c w ws,
+      ne-eqb (suc (length (spaced (w ∷ ws)))) 0 (λ z. omega arith),
+      n,
+      no-key c (spaced (w ∷ ws)) k,
+    ) e
 
 -- the words of numbers
 ten : {n : ℕ} → n < 10 ^ 9 → Writes Decimal n (decimal n)
@@ -93,50 +101,68 @@ read-back (Do (Submit place packet function channel (OnDrum x y))) id h =
     (submit-row (h .1) (h .2) (h .3) (h .4) a b d e g w))
 read-back (Do (Start channel)) id h =
     let a = byte (h .1) in
-    rw (h .0) (said-by 83 (bytes "TART") (decimal (channel .0) ∷ []) (said (Do (Start channel))) refl refl refl (a .plain, tt) (omega (arith, a .short)) (start-row a (h .1)))
+    rw (h .0) (said-by 83 (bytes "TART") (decimal (channel .0) ∷ []) (said (Do (Start channel))) refl refl refl (a .plain, tt)
+    (omega (arith, a .short)) (start-row a (h .1)))
 read-back (Do (Complete channel Full)) id h =
     let a = byte (h .1) in
-    rw (h .0) (said-by 68 (bytes "ONE") (decimal (channel .0) ∷ []) (said (Do (Complete channel Full))) refl refl refl (a .plain, tt) (omega (arith, a .short)) (done-row a (h .1)))
+    rw (h .0) (said-by 68 (bytes "ONE") (decimal (channel .0) ∷ []) (said (Do (Complete channel Full))) refl refl refl (a .plain, tt)
+    (omega (arith, a .short)) (done-row a (h .1)))
 read-back (Do (Complete channel Cut)) id h =
     let a = byte (h .1) in
-    rw (h .0) (said-by 67 (bytes "UT") (decimal (channel .0) ∷ []) (said (Do (Complete channel Cut))) refl refl refl (a .plain, tt) (omega (arith, a .short)) (cut-row a (h .1)))
+    rw (h .0) (said-by 67 (bytes "UT") (decimal (channel .0) ∷ []) (said (Do (Complete channel Cut))) refl refl refl (a .plain, tt)
+    (omega (arith, a .short)) (cut-row a (h .1)))
 read-back (Do (Complete channel (Failed n))) id h =
     let a = byte (h .1) in
     let b = code (h .2) in
-    rw (h .0) (said-by 70 (bytes "AIL") (decimal (channel .0) ∷ octal n ∷ []) (said (Do (Complete channel (Failed n)))) refl refl refl (a .plain, (b .plain, tt)) (omega (arith, a .short, b .short)) (fail-row a (h .1) b (h .2)))
+    rw (h .0) (said-by 70 (bytes "AIL") (decimal (channel .0) ∷ octal n ∷ []) (said (Do (Complete channel (Failed n)))) refl refl refl
+    (a .plain, (b .plain, tt)) (omega (arith, a .short, b .short)) (fail-row a (h .1) b (h .2)))
 read-back (Do (End place false)) id h =
     let a = byte (h .1) in
-    rw (h .0) (said-by 69 (bytes "ND") (decimal place ∷ []) (said (Do (End place false))) refl refl refl (a .plain, tt) (omega (arith, a .short)) (end-row a (h .1)))
+    rw (h .0) (said-by 69 (bytes "ND") (decimal place ∷ []) (said (Do (End place false))) refl refl refl (a .plain, tt)
+    (omega (arith, a .short)) (end-row a (h .1)))
 read-back (Do (End place true)) id h =
     let a = byte (h .1) in
-    rw (h .0) (said-by 65 (bytes "BORT") (decimal place ∷ []) (said (Do (End place true))) refl refl refl (a .plain, tt) (omega (arith, a .short)) (abort-row a (h .1)))
+    rw (h .0) (said-by 65 (bytes "BORT") (decimal place ∷ []) (said (Do (End place true))) refl refl refl (a .plain, tt)
+    (omega (arith, a .short)) (abort-row a (h .1)))
 read-back (Do (Return place channel unit)) id h =
     let a = byte (h .1) in
     let b = byte (h .2) in
     let d = byte (h .3) in
-    rw (h .0) (said-by 82 (bytes "ETURN") (decimal place ∷ decimal (channel .0) ∷ decimal (unit .0) ∷ []) (said (Do (Return place channel unit))) refl refl refl (a .plain, (b .plain, (d .plain, tt))) (omega (arith, a .short, b .short, d .short)) (return-row a (h .1) b (h .2) d (h .3)))
+    rw (h .0) (said-by 82 (bytes "ETURN") (decimal place ∷ decimal (channel .0) ∷ decimal (unit .0) ∷ [])
+    (said (Do (Return place channel unit))) refl refl refl (a .plain, (b .plain, (d .plain, tt))) (omega (arith, a .short, b .short, d .short))
+    (return-row a (h .1) b (h .2) d (h .3)))
 read-back (Do (Mark channel unit Mark′.Down true)) id h =
     let a = byte (h .1) in
     let b = byte (h .2) in
-    rw (h .0) (said-by 68 (bytes "OWN") (decimal (channel .0) ∷ decimal (unit .0) ∷ []) (said (Do (Mark channel unit Mark′.Down true))) refl refl refl (a .plain, (b .plain, tt)) (omega (arith, a .short, b .short)) (down-row a (h .1) b (h .2)))
+    rw (h .0) (said-by 68 (bytes "OWN") (decimal (channel .0) ∷ decimal (unit .0) ∷ []) (said (Do (Mark channel unit Mark′.Down true))) refl
+    refl refl (a .plain, (b .plain, tt)) (omega (arith, a .short, b .short)) (down-row a (h .1) b (h .2)))
 read-back (Do (Mark channel unit Mark′.Down false)) id h =
     let a = byte (h .1) in
     let b = byte (h .2) in
-    rw (h .0) (said-by 85 (bytes "P") (decimal (channel .0) ∷ decimal (unit .0) ∷ []) (said (Do (Mark channel unit Mark′.Down false))) refl refl refl (a .plain, (b .plain, tt)) (omega (arith, a .short, b .short)) (up-row a (h .1) b (h .2)))
+    rw (h .0) (said-by 85 (bytes "P") (decimal (channel .0) ∷ decimal (unit .0) ∷ []) (said (Do (Mark channel unit Mark′.Down false))) refl refl
+    refl (a .plain, (b .plain, tt)) (omega (arith, a .short, b .short)) (up-row a (h .1) b (h .2)))
 read-back (Do (Mark channel unit Mark′.Reserved true)) id h =
     let a = byte (h .1) in
     let b = byte (h .2) in
-    rw (h .0) (said-by 82 (bytes "ESERVE") (decimal (channel .0) ∷ decimal (unit .0) ∷ []) (said (Do (Mark channel unit Mark′.Reserved true))) refl refl refl (a .plain, (b .plain, tt)) (omega (arith, a .short, b .short)) (reserve-row a (h .1) b (h .2)))
+    rw (h .0) (said-by 82 (bytes "ESERVE") (decimal (channel .0) ∷ decimal (unit .0) ∷ []) (said (Do (Mark channel unit Mark′.Reserved true)))
+    refl refl refl (a .plain, (b .plain, tt)) (omega (arith, a .short, b .short)) (reserve-row a (h .1) b (h .2)))
 read-back (Do (Mark channel unit Mark′.Reserved false)) id h =
     let a = byte (h .1) in
     let b = byte (h .2) in
-    rw (h .0) (said-by 85 (bytes "NRESERVE") (decimal (channel .0) ∷ decimal (unit .0) ∷ []) (said (Do (Mark channel unit Mark′.Reserved false))) refl refl refl (a .plain, (b .plain, tt)) (omega (arith, a .short, b .short)) (unreserve-row a (h .1) b (h .2)))
-read-back Release id h = said-by 82 (bytes "ELEASE") (id ∷ []) (record { line = Release; id = idOf id }) refl refl refl (h .0 .plain, tt) (omega (arith, h .1)) (release-row id (h .0 .some))
-read-back Delete id h = said-by 68 (bytes "ELETE") (id ∷ []) (record { line = Delete; id = idOf id }) refl refl refl (h .0 .plain, tt) (omega (arith, h .1)) (delete-row id (h .0 .some))
+    rw (h .0) (said-by 85 (bytes "NRESERVE") (decimal (channel .0) ∷ decimal (unit .0) ∷ [])
+    (said (Do (Mark channel unit Mark′.Reserved false))) refl refl refl (a .plain, (b .plain, tt)) (omega (arith, a .short, b .short))
+    (unreserve-row a (h .1) b (h .2)))
+read-back Release id h =
+    said-by 82 (bytes "ELEASE") (id ∷ []) (record { line = Release; id = idOf id }) refl refl refl (h .0 .plain, tt) (omega (arith, h .1))
+    (release-row id (h .0 .some))
+read-back Delete id h =
+    said-by 68 (bytes "ELETE") (id ∷ []) (record { line = Delete; id = idOf id }) refl refl refl (h .0 .plain, tt) (omega (arith, h .1))
+    (delete-row id (h .0 .some))
 read-back (Status place packet) id h =
     let a = byte (h .1) in
     let b = byte (h .2) in
-    rw (h .0) (said-by 83 (bytes "TATUS") (decimal place ∷ decimal packet ∷ []) (said (Status place packet)) refl refl refl (a .plain, (b .plain, tt)) (omega (arith, a .short, b .short)) (status-row a (h .1) b (h .2)))
+    rw (h .0) (said-by 83 (bytes "TATUS") (decimal place ∷ decimal packet ∷ []) (said (Status place packet)) refl refl refl
+    (a .plain, (b .plain, tt)) (omega (arith, a .short, b .short)) (status-row a (h .1) b (h .2)))
 read-back Key id h = absurd h
 
 -- a line that is read as a call of the table: at most 255 bytes, no echo, no keyboard message, the words of one row
@@ -180,7 +206,9 @@ padded-one zero (x ∷ s) t h k p q e = absurd (omega arith)
 padded-one (suc w) (x ∷ s) [] h k p q e = absurd (no-blank x s p (sym (heads e)))
 padded-one (suc w) (x ∷ s) (y ∷ t) h k p q e =
     let a : x ≡ y = heads e in
-    let b : s ≡ t = padded-one w s t (omega arith) (omega arith) (both (isnt 32 x) (every (isnt 32) s) p .1) (both (isnt 32 y) (every (isnt 32) t) q .1) (tails e) in
+    let b : s ≡ t =
+    padded-one w s t (omega arith) (omega arith) (both (isnt 32 x) (every (isnt 32) s) p .1)
+    (both (isnt 32 y) (every (isnt 32) t) q .1) (tails e) in
     cc
 
 pub same-id : (s t : List ℕ) → IsWord s → IsWord t → length s ≤ 6 → length t ≤ 6 → idOf s ≡ idOf t → s ≡ t

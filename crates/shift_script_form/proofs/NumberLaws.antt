@@ -30,8 +30,20 @@ record Divides (b : ℕ) : Type 0 where
   less : (n p : ℕ) → n < p * b → n / b < p
 
 divides : (base : Base) → Divides (baseOf base)
-divides Decimal = record { some = omega arith; falls = λ n h. omega arith; back = λ n. omega arith; rest = λ n. omega arith; less = λ n p h. omega arith }
-divides Octal = record { some = omega arith; falls = λ n h. omega arith; back = λ n. omega arith; rest = λ n. omega arith; less = λ n p h. omega arith }
+divides Decimal = record {
+  some = omega arith;
+  falls = λ n h. omega arith;
+  back = λ n. omega arith;
+  rest = λ n. omega arith;
+  less = λ n p h. omega arith;
+}
+divides Octal = record {
+  some = omega arith;
+  falls = λ n h. omega arith;
+  back = λ n. omega arith;
+  rest = λ n. omega arith;
+  less = λ n p h. omega arith;
+}
 
 -- the digits of a base stand in a row
 abbrev run : ℕ → ℕ → List ℕ
@@ -112,7 +124,8 @@ pub record Writes (base : Base) (n : ℕ) (word : List ℕ) : Type 0 where
   pub short : length word ≤ 9
 
 number-plain : (base : Base) (word : List ℕ) → isNumber base word ≡ true → Plain word
-number-plain base word e = every-weaker isDigit (isnt 32) (λ c d. let p = digit-bounds c d in rw (ne-eqb c 32 (λ z. omega arith))) word (number-is base word e .all)
+number-plain base word e =
+    every-weaker isDigit (isnt 32) (λ c d. let p = digit-bounds c d in rw (ne-eqb c 32 (λ z. omega arith))) word (number-is base word e .all)
 
 pub writes : (base : Base) (n : ℕ) → n < limit (baseOf base) 8 → Writes base n (numberText base n)
 unfolding b isNumber

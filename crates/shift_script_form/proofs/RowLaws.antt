@@ -77,11 +77,13 @@ module _ {a : List ℕ} {m : ℕ} (v : Writes Decimal m a) (h : m ≤ 255) where
     unfolding sayBy table fitting wordFits wordsOf isLetter
     status-row = rw (v .number, v .value, w .number, w .value, small m h, small n k)
 
-    pub return-row : {d : List ℕ} {i : ℕ} → Writes Decimal i d → i ≤ 255 → sayBy table (bytes "RETURN" ∷ a ∷ c ∷ d ∷ []) ≡ said (Do (Return m (record { 0 = n }) (record { 0 = i })))
+    pub return-row : {d : List ℕ} {i : ℕ} → Writes Decimal i d → i ≤ 255
+        → sayBy table (bytes "RETURN" ∷ a ∷ c ∷ d ∷ []) ≡ said (Do (Return m (record { 0 = n }) (record { 0 = i })))
     unfolding sayBy table fitting wordFits wordsOf isLetter
     return-row {i = i} x l = rw (v .number, v .value, w .number, w .value, x .number, x .value, small m h, small n k, small i l)
 
-  pub fail-row : {c : List ℕ} {n : ℕ} → Writes Octal n c → n ≤ 255 → sayBy table (bytes "FAIL" ∷ a ∷ c ∷ []) ≡ said (Do (Complete (record { 0 = m }) (Failed n)))
+  pub fail-row : {c : List ℕ} {n : ℕ} → Writes Octal n c → n ≤ 255
+      → sayBy table (bytes "FAIL" ∷ a ∷ c ∷ []) ≡ said (Do (Complete (record { 0 = m }) (Failed n)))
   unfolding sayBy table fitting wordFits wordsOf isLetter
   fail-row {n = n} w k = rw (v .number, v .value, w .number, w .value, small m h, small n k)
 

@@ -72,7 +72,8 @@ both-fit r q ws lr lq fr fq =
 
 letters : (r : Row) (rows : List Row) → apart rows ≡ true → In r rows → isLetter (getD (firstIn r) 0 0) ≡ true
 letters r (q ∷ rows) a In.here = both (isLetter (getD (firstIn q) 0 0)) (unlike q rows && apart rows) a .0
-letters r (q ∷ rows) a (In.later i) = letters r rows (both (unlike q rows) (apart rows) (both (isLetter (getD (firstIn q) 0 0)) (unlike q rows && apart rows) a .1) .1) i
+letters r (q ∷ rows) a (In.later i) =
+    letters r rows (both (unlike q rows) (apart rows) (both (isLetter (getD (firstIn q) 0 0)) (unlike q rows && apart rows) a .1) .1) i
 
 unlike-in : (q r : Row) (rows : List Row) → unlike q rows ≡ true → In r rows → alike q r ≡ false
 unlike-in q r (x ∷ rows) u In.here = not-true-false (both (not (alike q x)) (unlike q rows) u .0)
@@ -107,7 +108,8 @@ unfolding sayBy
 fitted [] ws = inl refl
 fitted (q ∷ rows) ws = by (fitted rows ws)
   where
-    by : (sayBy rows ws ≡ said NoCall) ⊎ Fitted rows ws (sayBy rows ws) → (sayBy (q ∷ rows) ws ≡ said NoCall) ⊎ Fitted (q ∷ rows) ws (sayBy (q ∷ rows) ws)
+    by : (sayBy rows ws ≡ said NoCall) ⊎ Fitted rows ws (sayBy rows ws)
+        → (sayBy (q ∷ rows) ws ≡ said NoCall) ⊎ Fitted (q ∷ rows) ws (sayBy (q ∷ rows) ws)
     by (inl e) =
         by-bool (fitting (wordsOf (q .form)) ws)
         (λ t. inr (record { row = q; among = In.here; fits = t; is = rw t }))

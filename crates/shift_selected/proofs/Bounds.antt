@@ -75,13 +75,20 @@ apart kind n k channel G.Nothing i =
     by-bool (isOfKind kind channel) (λ t. rw t (omega arith)) (λ f. rw f (omega arith))
 apart kind n k channel (G.To l) i =
     by-bool (eqb (l .0) k)
-    (λ t. let e = eqb-true (l .0) k t in
+    (λ t.
+    let e = eqb-true (l .0) k t in
     rw (lt-leb (k + 1) (l .0) (omega arith), le-leb k (l .0) (omega arith), lt-ltb (l .0) (k + suc n) (omega arith))
     (omega (arith, given-most kind k channel (G.To l) i)))
-    (λ f. let nothing : length (givenText kind (logical k) channel (G.To l) i) ≡ 0 = none-named f in
+    (λ f.
+    let nothing : length (givenText kind (logical k) channel (G.To l) i) ≡ 0 = none-named f in
     by-bool (leb (k + 1) (l .0) && ltb (l .0) (k + 1 + n))
-    (λ t. let b = both (leb (k + 1) (l .0)) (ltb (l .0) (k + 1 + n)) t in
-    rw (t, le-leb k (l .0) (omega (arith, leb-true (k + 1) (l .0) (b .0))), lt-ltb (l .0) (k + suc n) (omega (arith, ltb-true (l .0) (k + 1 + n) (b .1))))
+    (λ t.
+    let b = both (leb (k + 1) (l .0)) (ltb (l .0) (k + 1 + n)) t in
+    rw (
+      t,
+      le-leb k (l .0) (omega (arith, leb-true (k + 1) (l .0) (b .0))),
+      lt-ltb (l .0) (k + suc n) (omega (arith, ltb-true (l .0) (k + 1 + n) (b .1))),
+    )
     (omega arith))
     (λ g. rw g (omega arith)))
   where
@@ -121,10 +128,12 @@ module _ (units : List ℕ) (channels : List Channel) (heads : List Head) (kind 
       omega (
         arith,
         suc-mul n 5,
-        length-append (askedText units channels heads kind (logical k)) (eachFrom (λ l. askedText units channels heads kind (logical l)) n (k + 1)),
+        length-append (askedText units channels heads kind (logical k))
+            (eachFrom (λ l. askedText units channels heads kind (logical l)) n (k + 1)),
         entry-most k (omega arith),
         entries-most n (k + 1) (omega arith),
-        together (named k) (shareOf n (k + 1)) (shareOf (suc n) k) 256 0 (λ i. apart kind n k (getD channels (i / 16) noChannel) (getD heads i blank .to) i),
+        together (named k) (shareOf n (k + 1)) (shareOf (suc n) k) 256 0
+            (λ i. apart kind n k (getD channels (i / 16) noChannel) (getD heads i blank .to) i),
       )
 
   kind-most : length (kindText units channels heads kind) ≤ 1616

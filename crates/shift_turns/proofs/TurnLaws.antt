@@ -25,15 +25,18 @@ use Rattle.shift_turns.specs.declared.Phase.the-variants as Phase′
 use Rattle.shift_turns.specs.declared.Turn.{Turn}
 
 -- a text is put, or nothing
-pub says : {phase : Phase} {cell : Cell} {n : ℕ} {text out after : List ℕ} {t : Turn} → t ≡ turnOf phase cell n → Written out 0 text after n → Says text (shiftOf phase cell) out after t
+pub says : {phase : Phase} {cell : Cell} {n : ℕ} {text out after : List ℕ} {t : Turn} → t ≡ turnOf phase cell n → Written out 0 text after n
+    → Says text (shiftOf phase cell) out after t
 says e w = rw e (record { shift = refl; put = w })
 
 pub silent : {phase : Phase} {cell : Cell} {out : List ℕ} {t : Turn} → t ≡ turnOf phase cell 0 → Says [] (shiftOf phase cell) out out t
 silent {out = out} e = says e (none out 0)
 
 -- a line that is answered
-pub talked : {cell : Cell} {said : Said} (line : List ℕ) {out after : List ℕ} {replied : Replied} {phase : Phase} {t : Turn} → said ≡ lineSays line
-    → Replies cell (said .line) (said .id) line out after replied → phase ≡ afterLine (said .line) → t ≡ turnOf phase (replied .cell) (replied .at) → Talks cell line out after t
+pub talked : {cell : Cell} {said : Said} (line : List ℕ) {out after : List ℕ} {replied : Replied} {phase : Phase} {t : Turn}
+    → said ≡ lineSays line
+    → Replies cell (said .line) (said .id) line out after replied → phase ≡ afterLine (said .line)
+    → t ≡ turnOf phase (replied .cell) (replied .at) → Talks cell line out after t
 talked {cell} {said} line {out} {after} {replied} {phase} {t} e r p q =
     record {
       replied = replied;
@@ -42,7 +45,8 @@ talked {cell} {said} line {out} {after} {replied} {phase} {t} e r p q =
     }
 
 -- a deck that is entered
-pub entered : {text out after : List ℕ} {next : Cell} {replied : Replied} {t : Turn} → Shows text next out after replied → t ≡ turnOf Phase′.Talks (replied .cell) (replied .at)
+pub entered : {text out after : List ℕ} {next : Cell} {replied : Replied} {t : Turn} → Shows text next out after replied
+    → t ≡ turnOf Phase′.Talks (replied .cell) (replied .at)
     → Says text (shiftOf Phase′.Talks next) out after t
 entered {text} {out} {after} {next} {replied} {t} s e = rw (← s .cell) (says e (s .put))
 
@@ -61,7 +65,8 @@ deck-within {line = line} {kept = kept} {n = n} a e =
     other : {m : ℕ} → Gathered′.Kept m ≡ Gathered′.TooLong → ⊥
     other e = let z : _≡_ {A = ℕ} 0 1 = cc in omega arith
 
-pub gathered : {cell : Cell} {kept : ℕ} {line room room′ out after : List ℕ} {t : Turn} {g h : Gathered} {last : Bool} → Adds room kept line room′ g → g ≡ h → last ≡ isTermination line
+pub gathered : {cell : Cell} {kept : ℕ} {line room room′ out after : List ℕ} {t : Turn} {g h : Gathered} {last : Bool}
+    → Adds room kept line room′ g → g ≡ h → last ≡ isTermination line
     → CardSays h last cell room′ out after t → Gathers cell kept line room room′ out after t
 gathered {cell} {kept} {line} {room} {room′} {out} {after} {t} {g} {h} {last} a e l s =
     record {
@@ -71,11 +76,13 @@ gathered {cell} {kept} {line} {room} {room′} {out} {after} {t} {g} {h} {last} 
     }
 
 -- the end of the input
-pub closes-none : (phase : Phase) (cell : Cell) (rest room out after : List ℕ) (r : ℕ) → length rest ≡ 0 → Written out 0 (endText phase) after r → Closes phase cell rest room room out after r
+pub closes-none : (phase : Phase) (cell : Cell) (rest room out after : List ℕ) (r : ℕ) → length rest ≡ 0 → Written out 0 (endText phase) after r
+    → Closes phase cell rest room room out after r
 closes-none phase cell [] room out after r l w = record { turn = turnOf phase cell 0; between = out; turns = (refl, refl, refl); put = w }
 closes-none phase cell (b ∷ s) room out after r l w = absurd (omega arith)
 
-pub closes-some : (phase : Phase) (cell : Cell) (rest room room′ out between after : List ℕ) (t : Turn) (r : ℕ) → (length rest ≡ 0 → ⊥) → Turns phase cell rest room room′ out between t
+pub closes-some : (phase : Phase) (cell : Cell) (rest room room′ out between after : List ℕ) (t : Turn) (r : ℕ) → (length rest ≡ 0 → ⊥)
+    → Turns phase cell rest room room′ out between t
     → Written between (t .at) (endText (t .shift .phase)) after r → Closes phase cell rest room room′ out after r
 closes-some phase cell [] room room′ out between after t r n u w = absurd (n refl)
 closes-some phase cell (b ∷ s) room room′ out between after t r n u w = record { turn = t; between = between; turns = u; put = w }

@@ -74,7 +74,8 @@ digits-on more value count [] n k h e = ended more value count [] n k e
 digits-on more value count (b ∷ s) n k h e =
     by-bool (isDigit b)
     (λ t. by-bool (ltb 0 more)
-    (λ u. further (digit-bounds b t) (ltb-true 0 more u) (digits-on (more - 1) (value * 10 + (b - 48)) (count + 1) s n k (omega arith) (rw (t, u) at e)))
+    (λ u. further (digit-bounds b t) (ltb-true 0 more u)
+    (digits-on (more - 1) (value * 10 + (b - 48)) (count + 1) s n k (omega arith) (rw (t, u) at e)))
     (λ u. not-wrong (rw (t, u) at e)))
     (λ f. ended more value count (b ∷ s) n k (rw f at e))
   where

@@ -66,7 +66,8 @@ pub same-room : {s t p : List ℕ} {a b : ℕ} → Written s a p t b → length 
 same-room {s} {t} {p} {a} w = ap length (w .bytes) ∙ length-sets s a p
 
 -- where it fits: what stood before, the piece, and what stood after
-pub fitted : {s t p : List ℕ} {a b : ℕ} → Written s a p t b → a + length p ≤ length s → (b ≡ a + length p) × (t ≡ take a s ++ p ++ drop (a + length p) s)
+pub fitted : {s t p : List ℕ} {a b : ℕ} → Written s a p t b → a + length p ≤ length s
+    → (b ≡ a + length p) × (t ≡ take a s ++ p ++ drop (a + length p) s)
 fitted {s} {t} {p} {a} {b} w h = (omega (arith, w .reached), w .bytes ∙ sets-eq p s a h)
 
 -- a text put from the room's start on is the room's first bytes: those up to the next index, all of them within the

@@ -25,7 +25,8 @@ pub record Passed (s : List ℕ) (value i : ℕ) : Type 0 where
 -- the rest's first byte is looked at
 step : (s : List ℕ) (more value count i : ℕ) → i < length s
     → digitsFrom more value count (drop i s)
-    ≡ cond (isDigit (getD s i 0)) (cond (ltb 0 more) (digitsFrom (more - 1) (value * 10 + (getD s i 0 - 48)) (count + 1) (drop (i + 1) s)) Wrong) (Is value count)
+    ≡ cond (isDigit (getD s i 0))
+    (cond (ltb 0 more) (digitsFrom (more - 1) (value * 10 + (getD s i 0 - 48)) (count + 1) (drop (i + 1) s)) Wrong) (Is value count)
 unfolding digitsFrom
 step s more value count i h = rw (add-one i, drop-cons s i 0 h)
 

@@ -24,7 +24,8 @@ two-undone n rest h =
     rw (is-digit (n / 10) (omega arith), is-digit (n % 10) (omega arith), e)
 
 -- one digit is read on
-on : (d more value count : ℕ) (rest : List ℕ) → d < 10 → digitsFrom (more + 1) value count ((48 + d) ∷ rest) ≡ digitsFrom more (value * 10 + d) (count + 1) rest
+on : (d more value count : ℕ) (rest : List ℕ) → d < 10
+    → digitsFrom (more + 1) value count ((48 + d) ∷ rest) ≡ digitsFrom more (value * 10 + d) (count + 1) rest
 unfolding digitsFrom
 on d more value count rest h =
     let a : more + 1 - 1 ≡ more = omega arith in
@@ -49,7 +50,8 @@ reads-more n more rest h r =
     (r ∙ on (n % 10) more (n / 10) (length front) rest (omega arith) ∙ ap (λ (k : ℕ). digitsFrom more k (length front + 1) rest) b)
 
 -- by cases on whether n has one digit, or more and one digit fewer is dealt with
-by-digits : (P : ℕ → List ℕ → Type 0) → ((n : ℕ) (rest : List ℕ) → n < 10 → P n rest) → ((n : ℕ) (rest : List ℕ) → 10 ≤ n → P (n / 10) ((48 + n % 10) ∷ rest) → P n rest)
+by-digits : (P : ℕ → List ℕ → Type 0) → ((n : ℕ) (rest : List ℕ) → n < 10 → P n rest)
+    → ((n : ℕ) (rest : List ℕ) → 10 ≤ n → P (n / 10) ((48 + n % 10) ∷ rest) → P n rest)
     → (most n : ℕ) (rest : List ℕ) → n ≤ most → P n rest
 by-digits P one more zero n rest h = one n rest (omega arith)
 by-digits P one more (suc most) n rest h =
@@ -87,7 +89,8 @@ stopped more value count [] h = refl
 stopped more value count (b ∷ bs) h = rw h
 
 -- a number of at most seven digits
-pub decimal-undone : (n : ℕ) (rest : List ℕ) → n < 10 ^ 7 → isDigit (getD rest 0 0) ≡ false → decimalOf (decimalText n ++ rest) ≡ Is n (length (decimalText n))
+pub decimal-undone : (n : ℕ) (rest : List ℕ) → n < 10 ^ 7 → isDigit (getD rest 0 0) ≡ false
+    → decimalOf (decimalText n ++ rest) ≡ Is n (length (decimalText n))
 unfolding decimalOf isDigit
 decimal-undone zero rest h e = rw (one-digit zero (omega arith)) (rw e)
 decimal-undone (suc m) rest h e =
@@ -96,6 +99,7 @@ decimal-undone (suc m) rest h e =
     let f = first n rest (omega arith) in
     let k = few-digits 6 n h in
     let l : 7 ≡ 7 - length (decimalText n) + length (decimalText n) = omega arith in
-    let r = by-digits (λ n rest. (more : ℕ) → Reads n more rest) (λ n rest h more. reads-one n more rest h) (λ n rest h r more. reads-more n more rest h (r (more + 1))) n n rest (omega arith) (7 - length (decimalText n)) in
+    let r = by-digits (λ n rest. (more : ℕ) → Reads n more rest) (λ n rest h more. reads-one n more rest h)
+    (λ n rest h r more. reads-more n more rest h (r (more + 1))) n n rest (omega arith) (7 - length (decimalText n)) in
     rw (le-leb 48 (getD s 0 0) (omega arith), le-leb (getD s 0 0) 57 (omega arith), ne-eqb (getD s 0 0) 48 (λ q. omega arith))
     (ap (λ (k : ℕ). digitsFrom k 0 0 s) l ∙ r ∙ stopped (7 - length (decimalText n)) n (length (decimalText n)) rest e)

@@ -76,8 +76,10 @@ module _ (grid : List (List Unit)) (square : Square grid) (c u : ℕ) (unit : Un
     unfolding unitIn
     set-read l d v =
         by-bool (eqb d c)
-        (λ t. let e : d ≡ c = eqb-true d c t in
-        rw (row d, t) (getD-set (getD grid c []) u unit v (freshUnit false) (omega (arith, square .units c k)) ∙ ap (λ (n : ℕ). cond (eqb v u) unit (getD (getD grid n []) v (freshUnit false))) (sym e)))
+        (λ t.
+        let e : d ≡ c = eqb-true d c t in
+        rw (row d, t) (getD-set (getD grid c []) u unit v (freshUnit false) (omega (arith, square .units c k))
+        ∙ ap (λ (n : ℕ). cond (eqb v u) unit (getD (getD grid n []) v (freshUnit false))) (sym e)))
         (λ f. rw (row d, f) refl)
 
 -- two states whose units are the same are the same

@@ -25,22 +25,26 @@ use Rattle.units.proofs.Units.Laws as T′
 
 -- two types whose relations agree through g: so do those of their arrays
 module _ (P Q : RattleType) (g : Q .Denot → P .Denot) where
-  each-of-field : ((x : Q .Denot) (vs : List Val) → Is P (g x) vs → Is Q x vs) → (xs : List (Q .Denot)) (us : List Val) → shadow (each (P .Denot) (P .own) (map g xs) us) → shadow (each (Q .Denot) (Q .own) xs us)
+  each-of-field : ((x : Q .Denot) (vs : List Val) → Is P (g x) vs → Is Q x vs) → (xs : List (Q .Denot)) (us : List Val)
+      → shadow (each (P .Denot) (P .own) (map g xs) us) → shadow (each (Q .Denot) (Q .own) xs us)
   each-of-field h [] [] s = s
   each-of-field h [] (u ∷ us) s = absurd s
   each-of-field h (x ∷ xs) [] s = absurd s
   each-of-field h (x ∷ xs) (u ∷ us) s = (h x (u ∷ []) (s .0), each-of-field h xs us (s .1))
 
-  each-in-field : ((x : Q .Denot) (vs : List Val) → Is Q x vs → Is P (g x) vs) → (xs : List (Q .Denot)) (us : List Val) → shadow (each (Q .Denot) (Q .own) xs us) → shadow (each (P .Denot) (P .own) (map g xs) us)
+  each-in-field : ((x : Q .Denot) (vs : List Val) → Is Q x vs → Is P (g x) vs) → (xs : List (Q .Denot)) (us : List Val)
+      → shadow (each (Q .Denot) (Q .own) xs us) → shadow (each (P .Denot) (P .own) (map g xs) us)
   each-in-field h [] [] s = s
   each-in-field h [] (u ∷ us) s = absurd s
   each-in-field h (x ∷ xs) [] s = absurd s
   each-in-field h (x ∷ xs) (u ∷ us) s = (h x (u ∷ []) (s .0), each-in-field h xs us (s .1))
 
-  pub array-of-field : ((x : Q .Denot) (vs : List Val) → Is P (g x) vs → Is Q x vs) → (n : ℕ) (xs : List (Q .Denot)) (vs : List Val) → Is (Array P n) (map g xs) vs → Is (Array Q n) xs vs
+  pub array-of-field : ((x : Q .Denot) (vs : List Val) → Is P (g x) vs → Is Q x vs) → (n : ℕ) (xs : List (Q .Denot)) (vs : List Val)
+      → Is (Array P n) (map g xs) vs → Is (Array Q n) xs vs
   array-of-field h n xs vs p = (p .0, ((p .1 .0 .0, sym (length-map xs g) ∙ p .1 .0 .1), each-of-field h xs (p .0) (p .1 .1)))
 
-  pub array-in-field : ((x : Q .Denot) (vs : List Val) → Is Q x vs → Is P (g x) vs) → (n : ℕ) (xs : List (Q .Denot)) (vs : List Val) → Is (Array Q n) xs vs → Is (Array P n) (map g xs) vs
+  pub array-in-field : ((x : Q .Denot) (vs : List Val) → Is Q x vs → Is P (g x) vs) → (n : ℕ) (xs : List (Q .Denot)) (vs : List Val)
+      → Is (Array Q n) xs vs → Is (Array P n) (map g xs) vs
   array-in-field h n xs vs p = (p .0, ((p .1 .0 .0, length-map xs g ∙ p .1 .0 .1), each-in-field h xs (p .0) (p .1 .1)))
 
 abbrev pub Row : RattleType
@@ -59,10 +63,12 @@ abbrev pub into : List (List U.Unit) → FGrid .Denot
 into us = map (map (UT.the-type .to)) us
 
 pub of-field : (us : List (List U.Unit)) (vs : List Val) → Is FGrid (into us) vs → Is Grid us vs
-of-field us vs p = array-of-field FRow Row (map (UT.the-type .to)) (array-of-field (UT.the-field .row) UT.the-row (UT.the-type .to) (λ x ws q. q) 16) 16 us vs p
+of-field us vs p =
+    array-of-field FRow Row (map (UT.the-type .to)) (array-of-field (UT.the-field .row) UT.the-row (UT.the-type .to) (λ x ws q. q) 16) 16 us vs p
 
 pub in-field : (us : List (List U.Unit)) (vs : List Val) → Is Grid us vs → Is FGrid (into us) vs
-in-field us vs p = array-in-field FRow Row (map (UT.the-type .to)) (array-in-field (UT.the-field .row) UT.the-row (UT.the-type .to) (λ x ws q. q) 16) 16 us vs p
+in-field us vs p =
+    array-in-field FRow Row (map (UT.the-type .to)) (array-in-field (UT.the-field .row) UT.the-row (UT.the-type .to) (λ x ws q. q) 16) 16 us vs p
 
 -- every row of a grid has 16 units, and there are 16
 rows : (us : List (List U.Unit)) (vs : List Val) → shadow (each (Row .Denot) (Row .own) us vs) → (c : ℕ) → c < length us → length (getD us c []) ≡ 16

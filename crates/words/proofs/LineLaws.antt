@@ -36,7 +36,8 @@ pub no-line : (s : List ℕ) → length s ≤ length (lineOf s) → linesOf s �
 no-line [] h = refl
 no-line (b ∷ s) h = test (eqb b 10) (no-line s) h
   where
-    test : (x : Bool) → (length s ≤ length (lineOf s) → linesOf s ≡ []) → suc (length s) ≤ length (cond (not x) (b ∷ lineOf s) []) → cond x ([] ∷ linesOf s) (ontoLine b (linesOf s)) ≡ []
+    test : (x : Bool) → (length s ≤ length (lineOf s) → linesOf s ≡ []) → suc (length s) ≤ length (cond (not x) (b ∷ lineOf s) [])
+        → cond x ([] ∷ linesOf s) (ontoLine b (linesOf s)) ≡ []
     test true ih h = absurd (omega arith)
     test false ih h = rw (ih (le-of-suc-le-suc h))
 
@@ -45,8 +46,10 @@ pub first-line : (s : List ℕ) → length (lineOf s) < length s → linesOf s �
 first-line [] h = absurd (omega arith)
 first-line (b ∷ s) h = test (eqb b 10) (first-line s) h
   where
-    test : (x : Bool) → (length (lineOf s) < length s → linesOf s ≡ lineOf s ∷ linesOf (drop (suc (length (lineOf s))) s)) → length (cond (not x) (b ∷ lineOf s) []) < suc (length s)
-        → cond x ([] ∷ linesOf s) (ontoLine b (linesOf s)) ≡ cond (not x) (b ∷ lineOf s) [] ∷ linesOf (drop (suc (length (cond (not x) (b ∷ lineOf s) []))) (b ∷ s))
+    test : (x : Bool) → (length (lineOf s) < length s → linesOf s ≡ lineOf s ∷ linesOf (drop (suc (length (lineOf s))) s))
+        → length (cond (not x) (b ∷ lineOf s) []) < suc (length s)
+        → cond x ([] ∷ linesOf s) (ontoLine b (linesOf s))
+        ≡ cond (not x) (b ∷ lineOf s) [] ∷ linesOf (drop (suc (length (cond (not x) (b ∷ lineOf s) []))) (b ∷ s))
     test true ih h = refl
     test false ih h = rw (ih (le-of-suc-le-suc h))
 
@@ -82,7 +85,8 @@ pub lines-text : (s : List ℕ) → linesText (linesOf s) ≡ take (size (linesO
 lines-text [] = refl
 lines-text (b ∷ s) = by-bool (eqb b 10) (λ e. ended e (eqb-true b 10 e) (lines-text s)) (λ e. rw e (onto (linesOf s) (lines-text s)))
   where
-    ended : eqb b 10 ≡ true → b ≡ 10 → linesText (linesOf s) ≡ take (size (linesOf s)) s → linesText (linesOf (b ∷ s)) ≡ take (size (linesOf (b ∷ s))) (b ∷ s)
+    ended : eqb b 10 ≡ true → b ≡ 10 → linesText (linesOf s) ≡ take (size (linesOf s)) s
+        → linesText (linesOf (b ∷ s)) ≡ take (size (linesOf (b ∷ s))) (b ∷ s)
     ended e i h =
         let k : 0 + 1 + size (linesOf s) ≡ suc (size (linesOf s)) = omega arith in
         rw (e, k, i) (ap (λ (t : List ℕ). 10 ∷ t) h)
@@ -108,4 +112,5 @@ lines-clean (b ∷ s) = test (eqb b 10) refl (linesOf s) (lines-clean s)
 pub lines-again : (ls : List (List ℕ)) → Clean ls → linesOf (linesText ls) ≡ ls
 lines-again [] c = refl
 lines-again (l ∷ ls) c =
-    ap linesOf (append-assoc l (lf ∷ []) (linesText ls)) ∙ first-ended l (linesText ls) (c .0) ∙ ap (λ (t : List (List ℕ)). l ∷ t) (lines-again ls (c .1))
+    ap linesOf (append-assoc l (lf ∷ []) (linesText ls)) ∙ first-ended l (linesText ls) (c .0)
+    ∙ ap (λ (t : List (List ℕ)). l ∷ t) (lines-again ls (c .1))

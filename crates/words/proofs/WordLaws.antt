@@ -49,7 +49,8 @@ module _ (l : List ℕ) (b i : ℕ) (h : i < length l) where
 pub has-end : (l : List ℕ) (b i : ℕ) → length l ≤ i → has (drop i l) b ≡ false
 has-end l b i h = rw (drop-of-length-le l h)
 
-pub same-pass : (s t : List ℕ) (i : ℕ) → i < length s → i < length t → getD s i 0 ≡ getD t i 0 → same (drop i s) (drop i t) ≡ same (drop (i + 1) s) (drop (i + 1) t)
+pub same-pass : (s t : List ℕ) (i : ℕ) → i < length s → i < length t → getD s i 0 ≡ getD t i 0
+    → same (drop i s) (drop i t) ≡ same (drop (i + 1) s) (drop (i + 1) t)
 same-pass s t i h g e = rw (drop-step s i h, drop-step t i g, eq-eqb (getD s i 0) (getD t i 0) e)
 
 pub same-fail : (s t : List ℕ) (i : ℕ) → i < length s → i < length t → (getD s i 0 ≡ getD t i 0 → ⊥) → same (drop i s) (drop i t) ≡ false
@@ -117,7 +118,8 @@ pub leading-front : (p : ℕ → Bool) (t : List ℕ) → take (length (leading 
 leading-front p [] = refl
 leading-front p (b ∷ t) = test (leading-front p t) (p b)
   where
-    test : take (length (leading p t)) t ≡ leading p t → (x : Bool) → take (length (cond x (b ∷ leading p t) [])) (b ∷ t) ≡ cond x (b ∷ leading p t) []
+    test : take (length (leading p t)) t ≡ leading p t → (x : Bool)
+        → take (length (cond x (b ∷ leading p t) [])) (b ∷ t) ≡ cond x (b ∷ leading p t) []
     test ih true = ap (λ (l : List ℕ). b ∷ l) ih
     test ih false = refl
 
@@ -143,7 +145,8 @@ pub every-leads : (p : ℕ → Bool) (s : List ℕ) → length (leading p s) ≡
 every-leads p [] h = refl
 every-leads p (b ∷ s) h = test (p b) (every-leads p s) h
   where
-    test : (x : Bool) → (length (leading p s) ≡ length s → every p s ≡ true) → length (cond x (b ∷ leading p s) []) ≡ suc (length s) → x && every p s ≡ true
+    test : (x : Bool) → (length (leading p s) ≡ length s → every p s ≡ true) → length (cond x (b ∷ leading p s) []) ≡ suc (length s)
+        → x && every p s ≡ true
     test true ih h = ih (omega arith)
     test false ih h = absurd (omega arith)
 
@@ -151,7 +154,8 @@ pub every-leads-not : (p : ℕ → Bool) (s : List ℕ) → (length (leading p s
 every-leads-not p [] h = absurd (h refl)
 every-leads-not p (b ∷ s) h = test (p b) (every-leads-not p s) h
   where
-    test : (x : Bool) → ((length (leading p s) ≡ length s → ⊥) → every p s ≡ false) → (length (cond x (b ∷ leading p s) []) ≡ suc (length s) → ⊥) → x && every p s ≡ false
+    test : (x : Bool) → ((length (leading p s) ≡ length s → ⊥) → every p s ≡ false)
+        → (length (cond x (b ∷ leading p s) []) ≡ suc (length s) → ⊥) → x && every p s ≡ false
     test true ih h = ih (λ e. h (ap suc e))
     test false ih h = refl
 

@@ -23,7 +23,10 @@ same-length : tie.Need-same-length
 same-length c = search needs
 
 returns : tie.Need-returns
-returns c = andThen (c .before .before .before .before .before .before .before .put-bytes .ensures) (rw (c .before .before .before .number-of .ensures) at (c .before .before .put-decimal .ensures))
+returns c =
+    let then = c .before .before .before in let number-of = then .number-of in
+    let put-bytes = then .before .before .before .before .put-bytes in
+    andThen (put-bytes .ensures) (rw (number-of .ensures) at (c .before .before .put-decimal .ensures))
 
 pub put-no-spec : {M : Type 1} → statement M
 put-no-spec =

@@ -17,7 +17,10 @@ same-length : tie.Need-same-length
 same-length c = search needs
 
 returns : tie.Need-returns
-returns c = andThen (c .before .before .before .before .before .before .before .before .before .before .put-decimal .ensures) (andThen (c .before .before .before .before .before .before .put-byte .ensures) (c .before .before .put-decimal2 .ensures))
+returns c =
+    let then = c .before .before .before .before .before .before in let put-byte = then .put-byte in
+    let put-decimal = then .before .before .before .before .put-decimal in
+    andThen (put-decimal .ensures) (andThen (put-byte .ensures) (c .before .before .put-decimal2 .ensures))
 
 pub put-packet-spec : {M : Type 1} → statement M
 put-packet-spec =

@@ -20,7 +20,11 @@ same-length : tie.Need-same-length
 same-length c = search needs
 
 returns : tie.Need-returns
-returns c = andThen (c .before .before .before .before .before .before .before .before .before .before .before .put-decimal .ensures) (andThen (c .before .before .before .before .before .before .before .put-byte .ensures) (rw (c .before .before .before .last-of .ensures) at (c .before .before .put-decimal2 .ensures)))
+returns c =
+    let then = c .before .before .before in let last-of = then .last-of in
+    let then = then .before .before .before .before in let put-byte = then .put-byte in
+    let put-decimal = then .before .before .before .before .put-decimal in
+    andThen (put-decimal .ensures) (andThen (put-byte .ensures) (rw (last-of .ensures) at (c .before .before .put-decimal2 .ensures)))
 
 pub put-span-spec : {M : Type 1} → statement M
 put-span-spec =

@@ -17,7 +17,10 @@ same-length : tie.Need-same-length
 same-length c = search needs
 
 returns : tie.Need-returns
-returns c = andThen (c .before .before .before .before .before .before .before .before .before .before .put-two .ensures) (andThen (c .before .before .before .before .before .before .put-byte .ensures) (c .before .before .put-two2 .ensures))
+returns c =
+    let then = c .before .before .before .before .before .before in let put-byte = then .put-byte in
+    let put-two = then .before .before .before .before .put-two in
+    andThen (put-two .ensures) (andThen (put-byte .ensures) (c .before .before .put-two2 .ensures))
 
 pub put-unit-spec : {M : Type 1} → statement M
 put-unit-spec =

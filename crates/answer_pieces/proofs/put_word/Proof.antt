@@ -14,7 +14,9 @@ returns : tie.Need-returns
 returns c = rw (c .before .before .before .before .if1 .taken) (c .before .before .put-bytes .ensures)
 
 returns-2 : tie.Need-returns-2
-returns-2 c = rw (c .if1 .left) (none (c .before .before .before .args .room .now) (c .before .before .before .args .at))
+returns-2 c =
+    let args = c .before .before .before .args in
+    rw (c .if1 .left) (none (args .room .now) (args .at))
 
 pub put-word-spec : {M : Type 1} → statement M
 put-word-spec = tie.close (tie.spec put-bytes-requires same-length returns returns-2)

@@ -32,7 +32,11 @@ is-drum-requires : tie.Need-is-drum-requires Inv-loop μ-loop
 is-drum-requires c κs = search needs
 
 returns : tie.Need-returns Inv-loop μ-loop
-returns c = sym (sym (c .before .before .before .before .before .before .before .loop .inv .1) ∙ drum-here (c .before .before .before .before .before .before .before .before .args .t1) (c .before .before .before .before .before .before .before .loop .c) (omega arith) (c .before .before .before .has .given .1) (sym (c .before .is-drum .ensures) ∙ c .if1 .taken))
+returns c =
+    let then = c .before .before .before in let has = then .has in
+    let then = then .before .before .before .before in let loop = then .loop in
+    let args = then .before .args in
+    sym (sym (loop .inv .1) ∙ drum-here (args .t1) (loop .c) (omega arith) (has .given .1) (sym (c .before .is-drum .ensures) ∙ c .if1 .taken))
 
 enum-told : tie.Need-enum-told Inv-loop μ-loop
 enum-told c = search needs
@@ -44,7 +48,14 @@ loop-less : tie.Need-loop-less Inv-loop μ-loop
 loop-less c = omega arith
 
 loop-again : tie.Need-loop-again Inv-loop μ-loop
-loop-again c = (omega arith, ⊎-elim (λ w. drum-other (c .before .before .before .before .args .t1) (c .before .before .before .loop .c) (omega arith) (w .1 .given .1) (sym (w .3 .ensures) ∙ w .4 .left)) (λ w. drum-none (c .before .before .before .before .args .t1) (c .before .before .before .loop .c) (omega arith) (w .1 .given .1)) (c .match .came) ∙ c .before .before .before .loop .inv .1)
+loop-again c =
+    let then = c .before .before .before in let loop = then .loop in
+    let args = then .before .args in (
+      omega arith,
+      ⊎-elim (λ w. drum-other (args .t1) (loop .c) (omega arith) (w .1 .given .1) (sym (w .3 .ensures) ∙ w .4 .left))
+          (λ w. drum-none (args .t1) (loop .c) (omega arith) (w .1 .given .1)) (c .match .came)
+          ∙ loop .inv .1,
+    )
 
 returns-2 : tie.Need-returns-2 Inv-loop μ-loop
 returns-2 c = sym (sym (c .before .loop .inv .1) ∙ drum-end (c .before .before .args .t1) (c .before .loop .c) (omega arith))

@@ -30,7 +30,12 @@ without-requires : tie.Need-without-requires
 without-requires c κs = search needs
 
 returns : tie.Need-returns
-returns c = no-core (supplyOf (c .before .before .before .before .before .before .args .units .of) (c .before .before .before .before .before .before .args .occupancy) (c .before .before .before .before .before .before .args .areas) (c .before .before .before .before .before .before .args .channels)) (c .before .before .before .before .before .before .args .wanted) (subst (Core.LeastPair (c .before .before .before .before .before .before .args .occupancy) (c .before .before .before .before .before .before .args .wanted .ib) (c .before .before .before .before .before .before .args .wanted .db)) (c .before .enum-told .given .1) (c .before .before .before .search .ensures)) (c .without .ensures)
+returns c =
+    let then = c .before .before .before in let search′ = then .search in
+    let args = then .before .before .before .args in
+    no-core (supplyOf (args .units .of) (args .occupancy) (args .areas) (args .channels)) (args .wanted)
+    (subst (Core.LeastPair (args .occupancy) (args .wanted .ib) (args .wanted .db)) (c .before .enum-told .given .1) (search′ .ensures))
+    (c .without .ensures)
 
 drum-length-requires : tie.Need-drum-length-requires
 drum-length-requires c κs = search needs
@@ -48,7 +53,16 @@ without-requires-2 : tie.Need-without-requires-2
 without-requires-2 c κs = search needs
 
 returns-2 : tie.Need-returns-2
-returns-2 c = no-drum (supplyOf (c .before .before .before .before .before .before .before .before .before .before .before .args .units .of) (c .before .before .before .before .before .before .before .before .before .before .before .args .occupancy) (c .before .before .before .before .before .before .before .before .before .before .before .args .areas) (c .before .before .before .before .before .before .before .before .before .before .before .args .channels)) (c .before .before .before .before .before .before .before .before .before .before .before .args .wanted) (subst (Core.LeastPair (c .before .before .before .before .before .before .before .before .before .before .before .args .occupancy) (c .before .before .before .before .before .before .before .before .before .before .before .args .wanted .ib) (c .before .before .before .before .before .before .before .before .before .before .before .args .wanted .db)) (c .before .before .before .before .before .before .pair .given .1) (c .before .before .before .before .before .before .before .before .search .ensures)) (for-length (c .before .before .before .before .before .before .before .before .before .before .before .args .areas) (c .before .before .before .before .before .before .before .before .before .before .before .args .wanted .md) (c .before .before .before .before .drum-length .ensures) (c .before .enum-told2 .given .1) (c .before .before .before .lowest-start .ensures)) (c .without2 .ensures)
+returns-2 c =
+    let then = c .before .before .before in let lowest-start = then .lowest-start in
+    let then = then .before in let drum-length = then .drum-length in
+    let then = then .before .before in let pair = then .pair in
+    let then = then .before .before in let search′ = then .search in
+    let args = then .before .before .before .args in
+    no-drum (supplyOf (args .units .of) (args .occupancy) (args .areas) (args .channels)) (args .wanted)
+    (subst (Core.LeastPair (args .occupancy) (args .wanted .ib) (args .wanted .db)) (pair .given .1) (search′ .ensures))
+    (for-length (args .areas) (args .wanted .md) (drum-length .ensures) (c .before .enum-told2 .given .1) (lowest-start .ensures))
+    (c .without2 .ensures)
 
 serve-kinds-requires : tie.Need-serve-kinds-requires
 serve-kinds-requires c κs = search needs
@@ -69,9 +83,11 @@ returns-3 c =
     let a = search .before .before .before .args in
     let supply = supplyOf (a .units .of) (a .occupancy) (a .areas) (a .channels) in
     let core = subst (Core.LeastPair (a .occupancy) (a .wanted .ib) (a .wanted .db)) (pair .pair .given .1) (search .search .ensures) in
-    let area = for-length (a .areas) (a .wanted .md) (drum .drum-length .ensures) (start .start .given .1) (start .before .before .lowest-start .ensures) in
+    let area = for-length (a .areas) (a .wanted .md) (drum .drum-length .ensures) (start .start .given .1)
+    (start .before .before .lowest-start .ensures) in
     let served = kinds .serve-kinds in
-    no-kind supply (a .wanted) core area (kinds-lacking (served .result) (not-true (served .result .ok) (c .before .before .if1 .taken)) (served .ensures))
+    no-kind supply (a .wanted) core area
+    (kinds-lacking (served .result) (not-true (served .result .ok) (c .before .before .if1 .taken)) (served .ensures))
     (c .without3 .ensures ∙ ap (λ (k : Kind). without (Units k)) (c .before .kind-at .ensures))
 
 returns-4 : tie.Need-returns-4
@@ -84,9 +100,11 @@ returns-4 c =
     let a = search .before .before .before .args in
     let supply = supplyOf (a .units .of) (a .occupancy) (a .areas) (a .channels) in
     let core = subst (Core.LeastPair (a .occupancy) (a .wanted .ib) (a .wanted .db)) (pair .pair .given .1) (search .search .ensures) in
-    let area = for-length (a .areas) (a .wanted .md) (drum .drum-length .ensures) (start .start .given .1) (start .before .before .lowest-start .ensures) in
+    let area = for-length (a .areas) (a .wanted .md) (drum .drum-length .ensures) (start .start .given .1)
+    (start .before .before .lowest-start .ensures) in
     let served = kinds .serve-kinds in
-    assigned supply (a .wanted) (pair .pair .given .0 .0) (start .start .given .0 .0) (served .result .channels) (served .result .heads) core area
+    assigned supply (a .wanted) (pair .pair .given .0 .0) (start .start .given .0 .0) (served .result .channels) (served .result .heads) core
+    area
     (kinds-served (served .result) (not-false (served .result .ok) (c .before .before .if1 .left)) (served .ensures))
 
 pub find-spec : {M : Type 1} → statement M

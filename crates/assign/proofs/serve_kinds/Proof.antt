@@ -36,15 +36,17 @@ serve-requires c κs = search needs
 
 returns : tie.Need-returns Inv-loop μ-loop
 returns c =
+    let then = c .before .before .before in let free = then .free-units in
+    let then = then .before .before .before .before in let wants = then .wants-of in
+    let loop-test = then .before .loop-test in
     let turn = c .before .before .before .before .before .before .before .before .before in
     let entry = turn .before in
     let a = entry .args in
-    let wants = c .before .before .before .before .before .before .before .wants-of in
-    let free = c .before .before .before .free-units in
     let service = c .before .before .serve in
     let no = not-true (service .result .ok) (c .if2 .taken) in
-    lacking (a .units .of) (a .channels) (a .wanted) (omega (arith, entry .good)) (turn .loop .order) (c .before .before .before .before .before .before .before .before .loop-test .taken)
-    (free .ensures) (wants .ensures) (lacking-so (free .result) (wants .result) (turn .loop .heads) (service .result) no (service .ensures)) (turn .loop .inv)
+    lacking (a .units .of) (a .channels) (a .wanted) (omega (arith, entry .good)) (turn .loop .order) (loop-test .taken)
+    (free .ensures) (wants .ensures) (lacking-so (free .result) (wants .result) (turn .loop .heads) (service .result) no (service .ensures))
+    (turn .loop .inv)
 
 mul-chosen : tie.Need-mul-chosen Inv-loop μ-loop
 mul-chosen c = search needs

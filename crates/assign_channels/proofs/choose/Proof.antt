@@ -69,10 +69,11 @@ cast-c c = search needs
 
 element-write-left : tie.Need-element-write-left Inv-loop μ-loop
 element-write-left c =
-    let a = c .before .before .before .before .before .before .before .before .before .before .before .before .args in
+    let then = c .before .before .before in let loop-test = then .loop-test in
+    let then = then .before in let turn = then .loop in
+    let a = then .before .before .before .before .before .before .before .before .args in
     let size : length (a .wants .0) ≡ 16 = search needs in
-    let turn = c .before .before .before .before .loop in
-    let below = pick-below size (c .before .before .before .loop-test .taken) (turn .inv) (c .before .before .if3 .taken) (c .before .lowest .ensures) in
+    let below = pick-below size (loop-test .taken) (turn .inv) (c .before .before .if3 .taken) (c .before .lowest .ensures) in
     omega (arith, turn .inv .wide, below)
 
 array-set-from-on : tie.Need-array-set-from-on Inv-loop μ-loop

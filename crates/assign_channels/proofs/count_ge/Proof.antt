@@ -33,7 +33,11 @@ loop-less : tie.Need-loop-less Inv-loop μ-loop
 loop-less c = search needs
 
 loop-again : tie.Need-loop-again Inv-loop μ-loop
-loop-again c = let d = cnt-drop (c .before .before .before .before .args .t) (c .before .before .before .before .args .xs .now) (c .before .before .before .loop .i) (c .before .before .loop-test .taken) in ⊎-elim (λ w. omega (arith, ge-yes (w .0 .taken))) (λ w. omega (arith, ge-no (w .0 .left))) (c .if1 .came)
+loop-again c =
+    let then = c .before .before .before in let loop = then .loop in
+    let args = then .before .args in
+    let d = cnt-drop (args .t) (args .xs .now) (loop .i) (c .before .before .loop-test .taken) in
+    ⊎-elim (λ w. omega (arith, ge-yes (w .0 .taken))) (λ w. omega (arith, ge-no (w .0 .left))) (c .if1 .came)
 
 returns : tie.Need-returns Inv-loop μ-loop
 returns c = omega (arith, cnt-end (c .before .before .args .t) (c .before .before .args .xs .now) (c .before .loop .i) (c .loop-test .left))

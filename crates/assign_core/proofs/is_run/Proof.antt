@@ -11,7 +11,8 @@ use Rattle.assign_core.proofs.is_run.Statement.{statement}
 use Rattle.assign_core.proofs.is_run.Tie as tie
 
 abbrev Inv-loop : tie.InvT-loop
-Inv-loop word n from end b₀ b = (((firstBlock ≤ from) × (from + n ≤ lastBlock + 1)) × ((from ≤ b) × (b ≤ from + n))) × ((k : ℕ) → k < b → from ≤ k → bit word k ≡ 0)
+Inv-loop word n from end b₀ b =
+    (((firstBlock ≤ from) × (from + n ≤ lastBlock + 1)) × ((from ≤ b) × (b ≤ from + n))) × ((k : ℕ) → k < b → from ≤ k → bit word k ≡ 0)
 
 abbrev μ-loop : tie.MeasureT-loop
 μ-loop word n from end b₀ b = from + n - b

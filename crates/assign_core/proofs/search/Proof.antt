@@ -50,7 +50,9 @@ loop-less : tie.Need-loop-less Inv-loop μ-loop Inv-search μ-search
 loop-less c = omega arith
 
 loop-again : tie.Need-loop-again Inv-loop μ-loop Inv-search μ-search
-loop-again c = (omega arith, below-more _ _ (c .before .before .before .before .loop .inv .1) (λ f. c .before .is-beside .ensures .1 (c .if4 .left) (f .data-run (omega arith))))
+loop-again c =
+    let loop = c .before .before .before .before .loop in
+    (omega arith, below-more _ _ (loop .inv .1) (λ f. c .before .is-beside .ensures .1 (c .if4 .left) (f .data-run (omega arith))))
 
 add-i : tie.Need-add-i Inv-loop μ-loop Inv-search μ-search
 add-i c = search needs
@@ -59,23 +61,30 @@ search-less : tie.Need-search-less Inv-loop μ-loop Inv-search μ-search
 search-less c = omega arith
 
 search-again : tie.Need-search-again Inv-loop μ-loop Inv-search μ-search
-search-again c = (
-  omega arith,
-  below-more _ _ (c .before .before .before .search .inv .1) (λ b f.
-      ⊎-elim (λ w. none-left (w .1 .j) (omega (arith, w)) (w .1 .inv .1) b f) (λ w. c .before .is-run .ensures .1 (w .left) (f .instructions)) (c .if2 .came)),
-)
+search-again c =
+    let search′ = c .before .before .before .search in (
+      omega arith,
+      below-more _ _ (search′ .inv .1) (λ b f.
+          ⊎-elim (λ w. none-left (w .1 .j) (omega (arith, w)) (w .1 .inv .1) b f)
+          (λ w. c .before .is-run .ensures .1 (w .left) (f .instructions)) (c .if2 .came)),
+    )
 
 returns : tie.Need-returns Inv-loop μ-loop Inv-search μ-search
 returns c = λ a b f. c .before .search .inv .1 a (omega (arith, f .instructions)) b f
 
 returns-2 : tie.Need-returns-2 Inv-loop μ-loop Inv-search μ-search
-returns-2 c = (
-  record {
-    instructions = c .before .before .before .before .is-run .ensures .0 (c .before .before .before .if2 .taken);
-    data-run = λ p. ⊎-elim (λ w. absurd (omega (arith, w))) (λ w. w .1 .ensures .0 (w .2 .taken)) (c .if3 .came);
-  },
-  λ a b f. ⊎-elim (λ h. c .before .before .before .before .before .before .search .inv .1 a h b f) (λ e. c .before .before .loop .inv .1 b (e .1) (subst (λ (x : ℕ). Fits (c .before .before .before .before .before .before .before .args .word) (c .before .before .before .before .before .before .before .args .ib) (c .before .before .before .before .before .before .before .args .db) x b) (e .0) f)),
-)
+returns-2 c =
+    let then = c .before .before .before in let if2 = then .if2 in
+    let then = then .before in let is-run = then .is-run in
+    let then = then .before .before in let search′ = then .search in
+    let args = then .before .args in (
+      record {
+        instructions = is-run .ensures .0 (if2 .taken);
+        data-run = λ p. ⊎-elim (λ w. absurd (omega (arith, w))) (λ w. w .1 .ensures .0 (w .2 .taken)) (c .if3 .came);
+      },
+      λ a b f. ⊎-elim (λ h. search′ .inv .1 a h b f)
+          (λ e. c .before .before .loop .inv .1 b (e .1) (subst (λ (x : ℕ). Fits (args .word) (args .ib) (args .db) x b) (e .0) f)),
+    )
 
 pub search-spec : {M : Type 1} → statement M
 search-spec =

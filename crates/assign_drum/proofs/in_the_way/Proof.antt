@@ -35,7 +35,14 @@ end-of-requires : tie.Need-end-of-requires Inv-loop μ-loop
 end-of-requires c κs = search needs
 
 returns : tie.Need-returns Inv-loop μ-loop
-returns c = record { at = c .before .before .before .before .before .loop .k; meets = c .before .before .meets .ensures .0 (c .before .if1 .taken); is = c .end-of .ensures .is; small = c .end-of .ensures .small }
+returns c =
+    let loop = c .before .before .before .before .before .loop in
+    record {
+      at = loop .k;
+      meets = c .before .before .meets .ensures .0 (c .before .if1 .taken);
+      is = c .end-of .ensures .is;
+      small = c .end-of .ensures .small;
+    }
 
 add-k : tie.Need-add-k Inv-loop μ-loop
 add-k c = search needs

@@ -35,14 +35,27 @@ enum-known-end : tie.Need-enum-known-end Inv-loop μ-loop
 enum-known-end c = search needs
 
 loop-less : tie.Need-loop-less Inv-loop μ-loop
-loop-less c = let w : InTheWay (c .before .before .before .before .before .before .before .args .held) (c .before .before .before .before .before .loop .s) (c .before .before .before .before .before .before .before .args .n) (c .before .end .given .0 .0) = subst (Seen (c .before .before .before .before .before .before .before .args .held) (c .before .before .before .before .before .loop .s) (c .before .before .before .before .before .before .before .args .n)) (c .before .end .given .1) (c .before .before .before .in-the-way .ensures) in omega (arith, w .meets, w .is, w .small)
+loop-less c =
+    let then = c .before in let end = then .end in
+    let then = then .before .before in let in-the-way = then .in-the-way in
+    let then = then .before .before in let loop = then .loop in
+    let args = then .before .before .args in
+    let w : InTheWay (args .held) (loop .s) (args .n) (end .given .0 .0) =
+    subst (Seen (args .held) (loop .s) (args .n)) (end .given .1) (in-the-way .ensures) in
+    omega (arith, w .meets, w .is, w .small)
 
 loop-again : tie.Need-loop-again Inv-loop μ-loop
 loop-again c =
-    let w : InTheWay (c .before .before .before .before .before .before .before .args .held) (c .before .before .before .before .before .loop .s) (c .before .before .before .before .before .before .before .args .n) (c .before .end .given .0 .0) = subst (Seen (c .before .before .before .before .before .before .before .args .held) (c .before .before .before .before .before .loop .s) (c .before .before .before .before .before .before .before .args .n)) (c .before .end .given .1) (c .before .before .before .in-the-way .ensures) in (
+    let then = c .before in let end = then .end in
+    let then = then .before .before in let in-the-way = then .in-the-way in
+    let then = then .before .before in let loop = then .loop in
+    let args = then .before .before .args in
+    let w : InTheWay (args .held) (loop .s) (args .n) (end .given .0 .0) =
+    subst (Seen (args .held) (loop .s) (args .n)) (end .given .1) (in-the-way .ensures) in (
       omega (arith, w .meets, w .is, w .small),
       λ b h a.
-          ⊎-elim (λ l. none-before (c .before .before .before .before .before .before .before .args .held) (c .before .before .before .before .before .before .before .args .n) (c .before .before .before .before .before .loop .s) (omega arith) w b l h (a .free)) (λ l. c .before .before .before .before .before .loop .inv .1 b l a) (le-or-lt (c .before .before .before .before .before .loop .s) b),
+          ⊎-elim (λ l. none-before (args .held) (args .n) (loop .s) (omega arith) w b l h (a .free)) (λ l. loop .inv .1 b l a)
+          (le-or-lt (loop .s) b),
     )
 
 enum-told : tie.Need-enum-told Inv-loop μ-loop
@@ -53,9 +66,11 @@ cast-t12 c = search needs
 
 returns-2 : tie.Need-returns-2 Inv-loop μ-loop
 returns-2 c =
-    let clear = subst (Seen (c .before .before .before .before .before .before .args .held) (c .before .before .before .before .loop .s) (c .before .before .before .before .before .before .args .n)) (c .enum-told .given .1) (c .before .before .in-the-way .ensures) in (
-      (λ p. record { low = omega arith; high = omega arith; free = clear-free (c .before .before .before .before .before .before .args .held) (c .before .before .before .before .before .before .args .n) (c .before .before .before .before .loop .s) clear }),
-      λ b h f. c .before .before .before .before .loop .inv .1 b h (f (omega arith)),
+    let then = c .before .before .before .before in let loop = then .loop in
+    let args = then .before .before .args in
+    let clear = subst (Seen (args .held) (loop .s) (args .n)) (c .enum-told .given .1) (c .before .before .in-the-way .ensures) in (
+      (λ p. record { low = omega arith; high = omega arith; free = clear-free (args .held) (args .n) (loop .s) clear }),
+      λ b h f. loop .inv .1 b h (f (omega arith)),
     )
 
 returns-3 : tie.Need-returns-3 Inv-loop μ-loop

@@ -12,7 +12,8 @@ use Rattle.assign_free.proofs.counts_of.Statement.{statement}
 use Rattle.assign_free.proofs.counts_of.Tie as tie
 
 abbrev Inv-loop : tie.InvT-loop
-Inv-loop order channels counts₀ c₀ counts c = ((c ≤ 16) × (length counts ≡ 16)) × ((d : ℕ) → d < c → getD counts d 0 ≡ unitsOfKind order (getD channels d noChannel))
+Inv-loop order channels counts₀ c₀ counts c =
+    ((c ≤ 16) × (length counts ≡ 16)) × ((d : ℕ) → d < c → getD counts d 0 ≡ unitsOfKind order (getD channels d noChannel))
 
 abbrev μ-loop : tie.MeasureT-loop
 μ-loop order channels counts₀ c₀ counts c = 16 - c
@@ -42,7 +43,13 @@ loop-less : tie.Need-loop-less Inv-loop μ-loop
 loop-less c = omega arith
 
 loop-again : tie.Need-loop-again Inv-loop μ-loop
-loop-again c = ((omega arith, length-set (c .before .before .before .loop .counts) (c .before .before .before .loop .c) (c .units-of-kind .result) ∙ c .before .before .before .loop .inv .0 .1), stored (λ (d : ℕ) (n : ℕ). n ≡ unitsOfKind (c .before .before .before .before .args .order) (getD (c .before .before .before .before .args .t1) d noChannel)) (c .before .before .before .loop .counts) (c .before .before .before .loop .c) 16 (c .units-of-kind .result) 0 (c .before .before .before .loop .inv .0 .1) (c .before .before .loop-test .taken) (c .before .before .before .loop .inv .1) (c .units-of-kind .ensures))
+loop-again c =
+    let then = c .before .before .before in let loop = then .loop in
+    let args = then .before .args in (
+      (omega arith, length-set (loop .counts) (loop .c) (c .units-of-kind .result) ∙ loop .inv .0 .1),
+      stored (λ (d : ℕ) (n : ℕ). n ≡ unitsOfKind (args .order) (getD (args .t1) d noChannel)) (loop .counts) (loop .c) 16
+          (c .units-of-kind .result) 0 (loop .inv .0 .1) (c .before .before .loop-test .taken) (loop .inv .1) (c .units-of-kind .ensures),
+    )
 
 returns : tie.Need-returns Inv-loop μ-loop
 returns c = record { long = c .before .loop .inv .0 .1; each = λ d h. c .before .loop .inv .1 d (omega arith) }

@@ -58,7 +58,11 @@ loop-less c = omega arith
 
 loop-again : tie.Need-loop-again Inv-loop μ-loop
 unfolding unitIn
-loop-again c = ⊎-elim (λ w. marked (c .before .loop-test .taken) (c .before .before .loop .inv) (w .0 .taken) (w .2 .ensures) (w .3)) (λ w. past (c .before .loop-test .taken) (c .before .before .loop .inv) (w .0 .left) (w .1)) (c .if1 .came)
+loop-again c =
+    let then = c .before in let loop-test = then .loop-test in
+    let loop = then .before .loop in
+    ⊎-elim (λ w. marked (loop-test .taken) (loop .inv) (w .0 .taken) (w .2 .ensures) (w .3))
+    (λ w. past (loop-test .taken) (loop .inv) (w .0 .left) (w .1)) (c .if1 .came)
 
 returns : tie.Need-returns Inv-loop μ-loop
 returns c =

@@ -15,7 +15,10 @@ order-of-requires : tie.Need-order-of-requires
 order-of-requires c κs = search needs
 
 returns : tie.Need-returns
-returns c = sym (other-kind (c .before .before .before .before .before .args .order) (c .before .before .before .has .given .1) (λ e. c .if1 .taken (c .before .order-of .ensures ∙ e)))
+returns c =
+    let then = c .before .before .before in let has = then .has in
+    let args = then .before .before .args in
+    sym (other-kind (args .order) (has .given .1) (λ e. c .if1 .taken (c .before .order-of .ensures ∙ e)))
 
 units-of-requires : tie.Need-units-of-requires
 units-of-requires c κs = search needs
@@ -24,7 +27,10 @@ returns-2 : tie.Need-returns-2
 returns-2 c = sym (nothing-there (c .before .before .args .order) (c .enum-told .given .1))
 
 returns-3 : tie.Need-returns-3
-returns-3 c = c .units-of .ensures ∙ sym (same-kind (c .before .before .before .before .before .before .args .order) (c .before .before .before .before .has .given .1) (sym (c .before .before .order-of .ensures) ∙ c .before .if1 .left))
+returns-3 c =
+    let then = c .before .before .before .before in let has = then .has in
+    let args = then .before .before .args in
+    c .units-of .ensures ∙ sym (same-kind (args .order) (has .given .1) (sym (c .before .before .order-of .ensures) ∙ c .before .if1 .left))
 
 pub units-of-kind-spec : {M : Type 1} → statement M
 units-of-kind-spec =

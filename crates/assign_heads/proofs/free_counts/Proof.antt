@@ -12,7 +12,8 @@ use Rattle.assign_heads.proofs.free_counts.Statement.{statement}
 use Rattle.assign_heads.proofs.free_counts.Tie as tie
 
 abbrev Inv-loop : tie.InvT-loop
-Inv-loop free counts₀ c₀ counts c = ((c ≤ 16) × (length counts ≡ 16)) × ((d : ℕ) → d < c → getD counts d 0 ≡ howMany 16 (λ u. freeAt free (d * 16 + u)))
+Inv-loop free counts₀ c₀ counts c =
+    ((c ≤ 16) × (length counts ≡ 16)) × ((d : ℕ) → d < c → getD counts d 0 ≡ howMany 16 (λ u. freeAt free (d * 16 + u)))
 
 abbrev μ-loop : tie.MeasureT-loop
 μ-loop free counts₀ c₀ counts c = 16 - c
@@ -36,7 +37,13 @@ loop-less : tie.Need-loop-less Inv-loop μ-loop
 loop-less c = omega arith
 
 loop-again : tie.Need-loop-again Inv-loop μ-loop
-loop-again c = ((omega arith, length-set (c .before .before .loop .counts) (c .before .before .loop .c) (c .free-on .result) ∙ c .before .before .loop .inv .0 .1), stored (λ (d : ℕ) (n : ℕ). n ≡ howMany 16 (λ u. freeAt (c .before .before .before .args .free .now) (d * 16 + u))) (c .before .before .loop .counts) (c .before .before .loop .c) 16 (c .free-on .result) 0 (c .before .before .loop .inv .0 .1) (c .before .loop-test .taken) (c .before .before .loop .inv .1) (c .free-on .ensures))
+loop-again c =
+    let then = c .before .before in let loop = then .loop in
+    let args = then .before .args in (
+      (omega arith, length-set (loop .counts) (loop .c) (c .free-on .result) ∙ loop .inv .0 .1),
+      stored (λ (d : ℕ) (n : ℕ). n ≡ howMany 16 (λ u. freeAt (args .free .now) (d * 16 + u))) (loop .counts) (loop .c) 16 (c .free-on .result) 0
+          (loop .inv .0 .1) (c .before .loop-test .taken) (loop .inv .1) (c .free-on .ensures),
+    )
 
 returns : tie.Need-returns Inv-loop μ-loop
 returns c = record { long = c .before .loop .inv .0 .1; each = λ d h. c .before .loop .inv .1 d (omega arith) }

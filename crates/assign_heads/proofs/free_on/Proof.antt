@@ -40,10 +40,22 @@ loop-less : tie.Need-loop-less Inv-loop μ-loop
 loop-less c = omega arith
 
 loop-again : tie.Need-loop-again Inv-loop μ-loop
-loop-again c = (⊎-elim (λ w. omega (arith, w)) (λ w. omega (arith, w)) (c .if1 .came), ⊎-elim (λ w. count-more (λ v. freeAt (c .before .before .before .before .before .args .free .now) (c .before .before .before .before .before .args .channel .0 * 16 + v)) (c .before .before .before .before .loop .u) (c .before .before .before .before .loop .n) (c .if1 .n) true (ap (freeAt (c .before .before .before .before .before .args .free .now)) (sym (c .before .before .index-of .ensures)) ∙ w .0 .taken) (c .before .before .before .before .loop .inv .1) (omega (arith, w))) (λ w. count-more (λ v. freeAt (c .before .before .before .before .before .args .free .now) (c .before .before .before .before .before .args .channel .0 * 16 + v)) (c .before .before .before .before .loop .u) (c .before .before .before .before .loop .n) (c .if1 .n) false (ap (freeAt (c .before .before .before .before .before .args .free .now)) (sym (c .before .before .index-of .ensures)) ∙ w .0 .left) (c .before .before .before .before .loop .inv .1) (omega (arith, w))) (c .if1 .came))
+loop-again c =
+    let then = c .before .before in let index-of = then .index-of in
+    let then = then .before .before in let loop = then .loop in
+    let args = then .before .args in (
+      ⊎-elim (λ w. omega (arith, w)) (λ w. omega (arith, w)) (c .if1 .came),
+      ⊎-elim (λ w. count-more (λ v. freeAt (args .free .now) (args .channel .0 * 16 + v)) (loop .u) (loop .n) (c .if1 .n) true
+          (ap (freeAt (args .free .now)) (sym (index-of .ensures)) ∙ w .0 .taken) (loop .inv .1) (omega (arith, w)))
+          (λ w. count-more (λ v. freeAt (args .free .now) (args .channel .0 * 16 + v)) (loop .u) (loop .n) (c .if1 .n) false
+          (ap (freeAt (args .free .now)) (sym (index-of .ensures)) ∙ w .0 .left) (loop .inv .1) (omega (arith, w)))
+          (c .if1 .came),
+    )
 
 returns : tie.Need-returns Inv-loop μ-loop
-returns c = c .before .loop .inv .1 ∙ ap (λ (x : ℕ). howMany x (λ v. freeAt (c .before .before .args .free .now) (c .before .before .args .channel .0 * 16 + v))) (omega arith)
+returns c =
+    let args = c .before .before .args in
+    c .before .loop .inv .1 ∙ ap (λ (x : ℕ). howMany x (λ v. freeAt (args .free .now) (args .channel .0 * 16 + v))) (omega arith)
 
 pub free-on-spec : {M : Type 1} → statement M
 free-on-spec =

@@ -25,7 +25,10 @@ array-copy-out-taker : tie.Need-array-copy-out-taker Inv-loop μ-loop
 array-copy-out-taker c = search needs
 
 taker-requires : tie.Need-taker-requires Inv-loop μ-loop
-taker-requires c κs = own-small (c .before .before .loop-test .taken) (c .before .before .before .loop .inv) (c .before .if1 .taken) (c .before .before .before .before .pre)
+taker-requires c κs =
+    let then = c .before .before .before in let loop = then .loop in
+    let pre = then .before .pre in
+    own-small (c .before .before .loop-test .taken) (loop .inv) (c .before .if1 .taken) pre
 
 less-requires : tie.Need-less-requires Inv-loop μ-loop
 less-requires c κs = search needs
@@ -43,7 +46,12 @@ loop-less : tie.Need-loop-less Inv-loop μ-loop
 loop-less c = omega arith
 
 loop-again : tie.Need-loop-again Inv-loop μ-loop
-loop-again c = ⊎-elim (λ w. gave-turn (c .before .loop-test .taken) (c .before .before .loop .inv) (w .0 .taken) (c .before .before .before .pre) (w .2 .ensures) (w .5 ∙ w .3 .ensures) (w .4)) (λ w. gave-past (c .before .loop-test .taken) (c .before .before .loop .inv) (w .0 .left) (w .2) (w .1)) (c .if1 .came)
+loop-again c =
+    let then = c .before in let loop-test = then .loop-test in
+    let then = then .before in let loop = then .loop in
+    let pre = then .before .pre in
+    ⊎-elim (λ w. gave-turn (loop-test .taken) (loop .inv) (w .0 .taken) pre (w .2 .ensures) (w .5 ∙ w .3 .ensures) (w .4))
+    (λ w. gave-past (loop-test .taken) (loop .inv) (w .0 .left) (w .2) (w .1)) (c .if1 .came)
 
 returns : tie.Need-returns Inv-loop μ-loop
 returns c = gave-all (c .loop-test .left) (c .before .loop .inv)

@@ -14,7 +14,9 @@ returns c = rw (lt-leb (c .before .before .args .channel .0) 15 (c .if1 .taken))
 
 returns-2 : tie.Need-returns-2
 unfolding givenAt
-returns-2 c = rw (le-leb (c .before .before .before .before .args .channel .0) 15 (c .before .before .if1 .left), lt-leb (c .before .before .before .before .args .unit .0) 15 (c .if2 .taken)) refl
+returns-2 c =
+    let args = c .before .before .before .before .args in
+    rw (le-leb (args .channel .0) 15 (c .before .before .if1 .left), lt-leb (args .unit .0) 15 (c .if2 .taken)) refl
 
 index-of-requires : tie.Need-index-of-requires
 index-of-requires c κs = search needs
@@ -27,7 +29,11 @@ array-copy-out-head c = search needs
 
 returns-3 : tie.Need-returns-3
 unfolding givenAt
-returns-3 c = rw (le-leb (c .before .before .before .before .before .before .args .channel .0) 15 (c .before .before .before .before .if1 .left), le-leb (c .before .before .before .before .before .before .args .unit .0) 15 (c .before .before .if2 .left)) (ap (λ (n : ℕ). getD (c .before .before .before .before .before .before .args .t1) n blank .to) (c .before .index-of .ensures))
+returns-3 c =
+    let then = c .before .before .before .before in let if1 = then .if1 in
+    let args = then .before .before .args in
+    rw (le-leb (args .channel .0) 15 (if1 .left), le-leb (args .unit .0) 15 (c .before .before .if2 .left))
+    (ap (λ (n : ℕ). getD (args .t1) n blank .to) (c .before .index-of .ensures))
 
 pub given-at-spec : {M : Type 1} → statement M
 given-at-spec =

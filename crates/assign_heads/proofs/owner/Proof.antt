@@ -11,7 +11,8 @@ use Rattle.assign_heads.proofs.owner.Statement.{statement}
 use Rattle.assign_heads.proofs.owner.Tie as tie
 
 abbrev Inv-loop : tie.InvT-loop
-Inv-loop channel on asked l₀ l = ((1 ≤ l) × (l ≤ 16)) × ((m : ℕ) → m < l → 1 ≤ m → 1 ≤ getD asked m 0 → Rattle.assign_channels.specs.Choice.on on m ≡ channel .0 → ⊥)
+Inv-loop channel on asked l₀ l =
+    ((1 ≤ l) × (l ≤ 16)) × ((m : ℕ) → m < l → 1 ≤ m → 1 ≤ getD asked m 0 → Rattle.assign_channels.specs.Choice.on on m ≡ channel .0 → ⊥)
 
 abbrev μ-loop : tie.MeasureT-loop
 μ-loop channel on asked l₀ l = 16 - l
@@ -38,10 +39,17 @@ loop-less : tie.Need-loop-less Inv-loop μ-loop
 loop-less c = omega arith
 
 loop-again : tie.Need-loop-again Inv-loop μ-loop
-loop-again c = (omega arith, below-more _ _ (c .before .before .before .loop .inv .1) (λ h q e. ⊎-elim (λ w. w .3 .left e) (λ w. omega (arith, w)) (c .if1 .came)))
+loop-again c =
+    let loop = c .before .before .before .loop in
+    (omega arith, below-more _ _ (loop .inv .1) (λ h q e. ⊎-elim (λ w. w .3 .left e) (λ w. omega (arith, w)) (c .if1 .came)))
 
 returns-2 : tie.Need-returns-2 Inv-loop μ-loop
-returns-2 c = record { below = omega arith; asks = λ h. absurd (omega arith); there = λ h. absurd (omega arith); none = λ z l h k. c .before .loop .inv .1 l (omega arith) h }
+returns-2 c = record {
+  below = omega arith;
+  asks = λ h. absurd (omega arith);
+  there = λ h. absurd (omega arith);
+  none = λ z l h k. c .before .loop .inv .1 l (omega arith) h;
+}
 
 pub owner-spec : {M : Type 1} → statement M
 owner-spec =

@@ -37,7 +37,13 @@ loop-less : tie.Need-loop-less Inv-loop μ-loop
 loop-less c = omega arith
 
 loop-again : tie.Need-loop-again Inv-loop μ-loop
-loop-again c = ((omega arith, length-set (c .before .before .loop .own) (c .before .before .loop .c) (c .owner .result) ∙ c .before .before .loop .inv .0 .1), stored (λ (d : ℕ) (o : LogicalChannel). OwnerIs (c .before .before .before .args .wants) (c .before .before .before .args .on) d (o .0)) (c .before .before .loop .own) (c .before .before .loop .c) 16 (c .owner .result) (logical 0) (c .before .before .loop .inv .0 .1) (c .before .loop-test .taken) (c .before .before .loop .inv .1) (c .owner .ensures))
+loop-again c =
+    let then = c .before .before in let loop = then .loop in
+    let args = then .before .args in (
+      (omega arith, length-set (loop .own) (loop .c) (c .owner .result) ∙ loop .inv .0 .1),
+      stored (λ (d : ℕ) (o : LogicalChannel). OwnerIs (args .wants) (args .on) d (o .0)) (loop .own) (loop .c) 16 (c .owner .result) (logical 0)
+          (loop .inv .0 .1) (c .before .loop-test .taken) (loop .inv .1) (c .owner .ensures),
+    )
 
 returns : tie.Need-returns Inv-loop μ-loop
 returns c = record { each = λ d h. c .before .loop .inv .1 d (omega arith) }

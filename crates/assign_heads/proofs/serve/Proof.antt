@@ -14,7 +14,12 @@ choose-requires : tie.Need-choose-requires
 choose-requires c κs = search needs
 
 returns : tie.Need-returns
-returns c = lacking (omega arith) (search needs) (c .before .before .before .before .free-counts .ensures) (found-none (c .before .before .before .before .free-counts .result) (c .before .before .before .before .before .before .args .wants) (c .before .before .before .choose .result) (not-true (c .before .before .before .choose .result .ok) (c .if1 .taken)) (c .before .before .before .choose .ensures))
+returns c =
+    let then = c .before .before .before in let choose = then .choose in
+    let then = then .before in let free-counts = then .free-counts in
+    let args = then .before .before .args in
+    lacking (omega arith) (search needs) (free-counts .ensures)
+    (found-none (free-counts .result) (args .wants) (choose .result) (not-true (choose .result .ok) (c .if1 .taken)) (choose .ensures))
 
 owners-requires : tie.Need-owners-requires
 owners-requires c κs = search needs
@@ -23,7 +28,14 @@ give-requires : tie.Need-give-requires
 give-requires c κs = owners-logical (c .owners .ensures)
 
 returns-2 : tie.Need-returns-2
-returns-2 c = chosen (omega arith) (search needs) (c .before .before .before .before .before .before .free-counts .ensures) (found-least (c .before .before .before .before .before .before .free-counts .result) (c .before .before .before .before .before .before .before .before .args .wants) (c .before .before .before .before .before .choose .result) (not-false (c .before .before .before .before .before .choose .result .ok) (c .before .before .if1 .left)) (c .before .before .before .before .before .choose .ensures)) (c .before .owners .ensures) (c .give .ensures)
+returns-2 c =
+    let then = c .before .before .before .before .before in let choose = then .choose in
+    let then = then .before in let free-counts = then .free-counts in
+    let args = then .before .before .args in
+    chosen (omega arith) (search needs) (free-counts .ensures)
+    (found-least (free-counts .result) (args .wants) (choose .result) (not-false (choose .result .ok) (c .before .before .if1 .left))
+    (choose .ensures))
+    (c .before .owners .ensures) (c .give .ensures)
 
 pub serve-spec : {M : Type 1} → statement M
 serve-spec =

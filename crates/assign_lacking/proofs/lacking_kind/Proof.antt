@@ -48,14 +48,16 @@ kind-at-requires c κs = search needs
 
 returns : tie.Need-returns Inv-loop μ-loop
 returns c =
-    let a = c .before .before .before .before .before .before .before .before .args in
-    let turn = c .before .before .before .before .before .before .loop in
+    let then = c .before .before .before in let wants-of = then .wants-of in
+    let then = then .before .before in let loop-test = then .loop-test in
+    let then = then .before in let turn = then .loop in
+    let a = then .before .before .args in
     let has = c .before .before .has-units in
     let there : ℕ → Type 0 = λ j. Servable (countsOf (a .counts) j) (wantsOf (a .wanted) j) in
-    let never = subst (λ (w : ByLogical). Servable (countsOf (a .counts) (turn .order)) w → ⊥) (c .before .before .before .wants-of .ensures)
+    let never = subst (λ (w : ByLogical). Servable (countsOf (a .counts) (turn .order)) w → ⊥) (wants-of .ensures)
     (has .ensures .1 (not-true (has .result) (c .before .if1 .taken))) in
     subst (λ (k : Kind). FirstOf (HasUnits (a .counts) (a .wanted)) kinds (First (Units k))) (sym (c .kind-at .ensures))
-    (first-kind (HasUnits (a .counts) (a .wanted)) there (λ k x. x) (λ k x. x) (turn .order) (c .before .before .before .before .before .loop-test .taken) (turn .inv .1) never)
+    (first-kind (HasUnits (a .counts) (a .wanted)) there (λ k x. x) (λ k x. x) (turn .order) (loop-test .taken) (turn .inv .1) never)
 
 add-order : tie.Need-add-order Inv-loop μ-loop
 add-order c = search needs

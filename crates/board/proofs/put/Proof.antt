@@ -33,10 +33,32 @@ put-bytes-requires : tie.Need-put-bytes-requires
 put-bytes-requires c κs = search needs
 
 same-length : tie.Need-same-length
-same-length c = same-room (andThen (c .before .before .before .before .before .before .before .before .before .before .before .before .before .before .before .before .before .before .before .before .before .before .before .before .before .before .before .before .before .before .before .before .before .before .before .before .put-places .ensures) (andThen (c .before .before .before .before .before .before .before .before .before .before .before .before .before .before .before .before .before .before .before .before .before .before .before .before .before .before .before .before .before .before .put-units .ensures) (andThen (c .before .before .before .before .before .before .before .before .before .before .before .before .before .before .before .before .before .before .before .before .before .before .before .before .before .before .put-core .ensures) (andThen (c .before .before .before .before .before .before .before .before .before .before .before .before .before .before .before .before .before .before .before .before .before .before .put-drum .ensures) (andThen (c .before .before .before .before .before .before .before .before .before .before .before .before .before .before .before .before .before .put-moves .ensures) (andThen (c .before .before .before .before .before .before .before .before .before .before .before .put-listed .ensures) (andThen (c .before .before .before .before .before .before .before .put-requests .ensures) (c .before .before .put-bytes .ensures))))))))
+same-length c =
+    let then = c .before .before .before .before .before .before .before in let put-requests = then .put-requests in
+    let then = then .before .before .before .before in let put-listed = then .put-listed in
+    let then = then .before .before .before .before .before .before in let put-moves = then .put-moves in
+    let then = then .before .before .before .before .before in let put-drum = then .put-drum in
+    let then = then .before .before .before .before in let put-core = then .put-core in
+    let then = then .before .before .before .before in let put-units = then .put-units in
+    let put-places = then .before .before .before .before .before .before .put-places in
+    same-room (andThen (put-places .ensures) (andThen (put-units .ensures)
+    (andThen (put-core .ensures) (andThen (put-drum .ensures)
+    (andThen (put-moves .ensures) (andThen (put-listed .ensures) (andThen (put-requests .ensures) (c .before .before .put-bytes .ensures))))))))
 
 returns : tie.Need-returns
-returns c = boarded (typed (c .before .before .before .before .before .before .before .before .before .before .before .before .before .before .before .before .before .before .before .before .before .before .before .before .before .before .before .before .before .before .before .before .before .before .before .before .before .before .before .before .before .args .lists) (c .before .before .before .before .before .before .before .before .before .before .before .before .before .before .before .before .before .before .before .before .before .before .before .before .before .before .before .before .before .before .before .before .before .before .before .before .before .before .before .before .before .args .schedule) _ _ (c .before .before .before .before .before .before .before .before .before .before .before .before .before .before .before .before .before .before .before .before .before .before .before .before .before .before .before .before .before .before .before .before .before .before .before .before .before .before .before .before .before .good .1 .1 .0) (c .before .before .before .before .before .before .before .before .before .before .before .before .before .before .before .before .before .before .before .before .before .before .before .before .before .before .before .before .before .before .before .before .before .before .before .before .before .before .before .before .before .good .1 .1 .1 .0)) (andThen (c .before .before .before .before .before .before .before .before .before .before .before .before .before .before .before .before .before .before .before .before .before .before .before .before .before .before .before .before .before .before .before .before .before .before .before .before .put-places .ensures) (andThen (c .before .before .before .before .before .before .before .before .before .before .before .before .before .before .before .before .before .before .before .before .before .before .before .before .before .before .before .before .before .before .put-units .ensures) (andThen (c .before .before .before .before .before .before .before .before .before .before .before .before .before .before .before .before .before .before .before .before .before .before .before .before .before .before .put-core .ensures) (andThen (c .before .before .before .before .before .before .before .before .before .before .before .before .before .before .before .before .before .before .before .before .before .before .put-drum .ensures) (andThen (c .before .before .before .before .before .before .before .before .before .before .before .before .before .before .before .before .before .put-moves .ensures) (andThen (c .before .before .before .before .before .before .before .before .before .before .before .put-listed .ensures) (andThen (c .before .before .before .before .before .before .before .put-requests .ensures) (c .before .before .put-bytes .ensures))))))))
+returns c =
+    let then = c .before .before .before .before .before .before .before in let put-requests = then .put-requests in
+    let then = then .before .before .before .before in let put-listed = then .put-listed in
+    let then = then .before .before .before .before .before .before in let put-moves = then .put-moves in
+    let then = then .before .before .before .before .before in let put-drum = then .put-drum in
+    let then = then .before .before .before .before in let put-core = then .put-core in
+    let then = then .before .before .before .before in let put-units = then .put-units in
+    let then = then .before .before .before .before .before .before in let put-places = then .put-places in
+    let then = then .before .before .before .before .before in let args = then .args in let good = then .good in
+    boarded (typed (args .lists) (args .schedule) _ _ (good .1 .1 .0) (good .1 .1 .1 .0))
+    (andThen (put-places .ensures) (andThen (put-units .ensures)
+    (andThen (put-core .ensures) (andThen (put-drum .ensures)
+    (andThen (put-moves .ensures) (andThen (put-listed .ensures) (andThen (put-requests .ensures) (c .before .before .put-bytes .ensures))))))))
 
 pub put-spec : {M : Type 1} → statement M
 put-spec =

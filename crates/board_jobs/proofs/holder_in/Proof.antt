@@ -31,7 +31,10 @@ digit-requires : tie.Need-digit-requires Inv-loop μ-loop
 digit-requires c κs = search needs
 
 returns : tie.Need-returns Inv-loop μ-loop
-returns c = places-found (search needs) (c .before .before .before .before .before .before .loop .inv) (c .before .before .before .before .before .loop-test .taken) (c .before .before .holds .ensures) (c .before .if1 .taken) (c .digit .ensures)
+returns c =
+    let then = c .before .before .before .before .before in let loop-test = then .loop-test in
+    let loop = then .before .loop in
+    places-found (search needs) (loop .inv) (loop-test .taken) (c .before .before .holds .ensures) (c .before .if1 .taken) (c .digit .ensures)
 
 add-p : tie.Need-add-p Inv-loop μ-loop
 add-p c = search needs
@@ -40,7 +43,10 @@ loop-less : tie.Need-loop-less Inv-loop μ-loop
 loop-less c = omega arith
 
 loop-again : tie.Need-loop-again Inv-loop μ-loop
-loop-again c = places-turn (search needs) (c .before .before .before .before .before .loop .inv) (c .before .before .before .before .loop-test .taken) (c .before .holds .ensures) (c .if1 .left)
+loop-again c =
+    let then = c .before .before .before .before in let loop-test = then .loop-test in
+    let loop = then .before .loop in
+    places-turn (search needs) (loop .inv) (loop-test .taken) (c .before .holds .ensures) (c .if1 .left)
 
 returns-2 : tie.Need-returns-2 Inv-loop μ-loop
 returns-2 c = places-end (search needs) (c .before .loop .inv) (c .loop-test .left)

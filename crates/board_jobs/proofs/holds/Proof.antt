@@ -20,11 +20,17 @@ is-in-requires-2 c κs = search needs
 
 returns-2 : tie.Need-returns-2
 unfolding holdsBlock
-returns-2 c = rw (sym (c .before .before .before .before .before .is-empty .ensures) ∙ c .before .before .before .before .if1 .left, ← c .before .is-in .ensures, c .if2 .taken)
+returns-2 c =
+    let then = c .before .before .before .before in let if1 = then .if1 in
+    let is-empty = then .before .is-empty in
+    rw (sym (is-empty .ensures) ∙ if1 .left, ← c .before .is-in .ensures, c .if2 .taken)
 
 returns-3 : tie.Need-returns-3
 unfolding holdsBlock
-returns-3 c = rw (sym (c .before .before .before .before .before .before .is-empty .ensures) ∙ c .before .before .before .before .before .if1 .left, ← c .before .before .is-in .ensures, c .before .if2 .left) (c .is-in2 .ensures)
+returns-3 c =
+    let then = c .before .before .before .before .before in let if1 = then .if1 in
+    let is-empty = then .before .is-empty in
+    rw (sym (is-empty .ensures) ∙ if1 .left, ← c .before .before .is-in .ensures, c .before .if2 .left) (c .is-in2 .ensures)
 
 pub holds-spec : {M : Type 1} → statement M
 holds-spec =

@@ -29,7 +29,12 @@ is-in-place-requires : tie.Need-is-in-place-requires Inv-loop μ-loop
 is-in-place-requires c κs = search needs
 
 returns-2 : tie.Need-returns-2 Inv-loop μ-loop
-returns-2 c = entries-found (search needs) (c .before .before .before .before .before .before .before .loop .inv) (c .before .before .before .before .before .if1 .left) (c .before .before .before .before .before .before .loop-test .taken) _ (c .before .before .before .is-in-place .ensures) (c .before .before .if2 .taken)
+returns-2 c =
+    let then = c .before .before .before in let is-in-place = then .is-in-place in
+    let then = then .before .before in let if1 = then .if1 in
+    let then = then .before in let loop-test = then .loop-test in
+    let loop = then .before .loop in
+    entries-found (search needs) (loop .inv) (if1 .left) (loop-test .taken) _ (is-in-place .ensures) (c .before .before .if2 .taken)
 
 add-i : tie.Need-add-i Inv-loop μ-loop
 add-i c = search needs
@@ -38,7 +43,11 @@ loop-less : tie.Need-loop-less Inv-loop μ-loop
 loop-less c = omega arith
 
 loop-again : tie.Need-loop-again Inv-loop μ-loop
-loop-again c = entries-turn (search needs) (c .before .before .before .before .before .loop .inv) (c .before .before .before .if1 .left) (c .before .before .before .before .loop-test .taken) _ (c .before .is-in-place .ensures) (c .if2 .left)
+loop-again c =
+    let then = c .before .before .before in let if1 = then .if1 in
+    let then = then .before in let loop-test = then .loop-test in
+    let loop = then .before .loop in
+    entries-turn (search needs) (loop .inv) (if1 .left) (loop-test .taken) _ (c .before .is-in-place .ensures) (c .if2 .left)
 
 returns-3 : tie.Need-returns-3 Inv-loop μ-loop
 returns-3 c = entries-end (search needs) (c .before .loop .inv) (c .loop-test .left)

@@ -12,7 +12,8 @@ use Rattle.board_jobs.proofs.put_blocks.Statement.{statement}
 use Rattle.board_jobs.proofs.put_blocks.Tie as tie
 
 abbrev Inv-loop : tie.InvT-loop
-Inv-loop out₀ at jobs next₀ b₀ out next b = (b ≤ 32) × Going out₀ at (blocksText jobs) out next (eachFrom (λ block. blockByte jobs block ∷ []) (32 - b) b)
+Inv-loop out₀ at jobs next₀ b₀ out next b =
+    (b ≤ 32) × Going out₀ at (blocksText jobs) out next (eachFrom (λ block. blockByte jobs block ∷ []) (32 - b) b)
 
 abbrev μ-loop : tie.MeasureT-loop
 μ-loop out₀ at jobs next₀ b₀ out next b = 32 - b
@@ -33,10 +34,20 @@ loop-less : tie.Need-loop-less Inv-loop μ-loop
 loop-less c = omega arith
 
 loop-again : tie.Need-loop-again Inv-loop μ-loop
-loop-again c = (omega arith, on (λ block. blockByte (c .before .before .before .before .before .before .before .before .args .jobs) block ∷ []) 32 (c .before .before .before .before .before .loop-test .taken) (c .before .before .before .before .before .before .loop .inv .1) (rw (c .before .before .before .block-byte .ensures) at (c .before .before .put-byte .ensures)))
+loop-again c =
+    let then = c .before .before .before in let block-byte = then .block-byte in
+    let then = then .before .before in let loop-test = then .loop-test in
+    let then = then .before in let loop = then .loop in
+    let args = then .before .before .args in (
+      omega arith,
+      on (λ block. blockByte (args .jobs) block ∷ []) 32 (loop-test .taken) (loop .inv .1)
+          (rw (block-byte .ensures) at (c .before .before .put-byte .ensures)),
+    )
 
 same-length : tie.Need-same-length Inv-loop μ-loop
-same-length c = same-room (over (λ block. blockByte (c .before .before .before .args .jobs) block ∷ []) 32 (c .loop-test .left) (c .before .loop .inv .1))
+same-length c =
+    let args = c .before .before .before .args in
+    same-room (over (λ block. blockByte (args .jobs) block ∷ []) 32 (c .loop-test .left) (c .before .loop .inv .1))
 
 returns : tie.Need-returns Inv-loop μ-loop
 returns c = over (λ block. blockByte (c .before .before .before .args .jobs) block ∷ []) 32 (c .loop-test .left) (c .before .loop .inv .1)

@@ -13,7 +13,9 @@ use Rattle.board_jobs.proofs.put_places.Statement.{statement}
 use Rattle.board_jobs.proofs.put_places.Tie as tie
 
 abbrev Inv-loop : tie.InvT-loop
-Inv-loop out₀ at entries count jobs next₀ p₀ out next p = (p ≤ 16) × Going out₀ at (placesText jobs (take count entries)) out next (eachFrom (λ q. placeText q (idIn (take count entries) q) (jobIn jobs q .state)) (16 - p) p)
+Inv-loop out₀ at entries count jobs next₀ p₀ out next p =
+    (p ≤ 16) × Going out₀ at (placesText jobs (take count entries)) out next
+    (eachFrom (λ q. placeText q (idIn (take count entries) q) (jobIn jobs q .state)) (16 - p) p)
 
 abbrev μ-loop : tie.MeasureT-loop
 μ-loop out₀ at entries count jobs next₀ p₀ out next p = 16 - p
@@ -46,13 +48,27 @@ loop-less : tie.Need-loop-less Inv-loop μ-loop
 loop-less c = omega arith
 
 loop-again : tie.Need-loop-again Inv-loop μ-loop
-loop-again c = (omega arith, on (λ q. placeText q (idIn (take (c .before .before .before .before .before .before .before .before .before .args .count) (c .before .before .before .before .before .before .before .before .before .args .entries)) q) (jobIn (c .before .before .before .before .before .before .before .before .before .args .t3) q .state)) 16 (c .before .before .before .before .before .before .loop-test .taken) (c .before .before .before .before .before .before .before .loop .inv .1) (rw (c .before .before .before .before .id-in .ensures) at (c .before .before .put-place .ensures)))
+loop-again c =
+    let then = c .before .before .before .before in let id-in = then .id-in in
+    let then = then .before .before in let loop-test = then .loop-test in
+    let then = then .before in let loop = then .loop in
+    let args = then .before .before .args in (
+      omega arith,
+      on (λ q. placeText q (idIn (take (args .count) (args .entries)) q) (jobIn (args .t3) q .state)) 16 (loop-test .taken) (loop .inv .1)
+          (rw (id-in .ensures) at (c .before .before .put-place .ensures)),
+    )
 
 same-length : tie.Need-same-length Inv-loop μ-loop
-same-length c = same-room (over (λ q. placeText q (idIn (take (c .before .before .before .args .count) (c .before .before .before .args .entries)) q) (jobIn (c .before .before .before .args .t3) q .state)) 16 (c .loop-test .left) (c .before .loop .inv .1))
+same-length c =
+    let args = c .before .before .before .args in
+    same-room (over (λ q. placeText q (idIn (take (args .count) (args .entries)) q) (jobIn (args .t3) q .state)) 16 (c .loop-test .left)
+    (c .before .loop .inv .1))
 
 returns : tie.Need-returns Inv-loop μ-loop
-returns c = over (λ q. placeText q (idIn (take (c .before .before .before .args .count) (c .before .before .before .args .entries)) q) (jobIn (c .before .before .before .args .t3) q .state)) 16 (c .loop-test .left) (c .before .loop .inv .1)
+returns c =
+    let args = c .before .before .before .args in
+    over (λ q. placeText q (idIn (take (args .count) (args .entries)) q) (jobIn (args .t3) q .state)) 16 (c .loop-test .left)
+    (c .before .loop .inv .1)
 
 pub put-places-spec : {M : Type 1} → statement M
 put-places-spec =

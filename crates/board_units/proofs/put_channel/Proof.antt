@@ -13,7 +13,9 @@ use Rattle.board_units.proofs.put_channel.Statement.{statement}
 use Rattle.board_units.proofs.put_channel.Tie as tie
 
 abbrev Inv-loop : tie.InvT-loop
-Inv-loop out₀ at units number n next₀ u₀ out next u = (u ≤ n) × Going out₀ at (each (λ v. unitLine (number .0) v (unitIn (units .of) (number .0) v)) n) out next (eachFrom (λ v. unitLine (number .0) v (unitIn (units .of) (number .0) v)) (n - u) u)
+Inv-loop out₀ at units number n next₀ u₀ out next u =
+    (u ≤ n) × Going out₀ at (each (λ v. unitLine (number .0) v (unitIn (units .of) (number .0) v)) n) out next
+    (eachFrom (λ v. unitLine (number .0) v (unitIn (units .of) (number .0) v)) (n - u) u)
 
 abbrev μ-loop : tie.MeasureT-loop
 μ-loop out₀ at units number n next₀ u₀ out next u = n - u
@@ -37,14 +39,30 @@ loop-less : tie.Need-loop-less Inv-loop μ-loop
 loop-less c = omega arith
 
 loop-again : tie.Need-loop-again Inv-loop μ-loop
-loop-again c = (omega arith, on (λ v. unitLine (c .before .before .before .before .before .before .before .before .before .args .number .0) v (unitIn (c .before .before .before .before .before .before .before .before .before .args .units .of) (c .before .before .before .before .before .before .before .before .before .args .number .0) v)) (c .before .before .before .before .before .before .before .count-of .result) (c .before .before .before .before .before .loop-test .taken) (c .before .before .before .before .before .before .loop .inv .1) (rw (c .before .before .before .before .unit-at .ensures) at (c .before .before .put-line .ensures)))
+loop-again c =
+    let then = c .before .before .before .before in let unit-at = then .unit-at in
+    let then = then .before in let loop-test = then .loop-test in
+    let then = then .before in let loop = then .loop in
+    let then = then .before in let count-of = then .count-of in
+    let args = then .before .before .args in (
+      omega arith,
+      on (λ v. unitLine (args .number .0) v (unitIn (args .units .of) (args .number .0) v)) (count-of .result) (loop-test .taken) (loop .inv .1)
+          (rw (unit-at .ensures) at (c .before .before .put-line .ensures)),
+    )
 
 same-length : tie.Need-same-length Inv-loop μ-loop
-same-length c = same-room (over (λ v. unitLine (c .before .before .before .before .args .number .0) v (unitIn (c .before .before .before .before .args .units .of) (c .before .before .before .before .args .number .0) v)) (c .before .before .count-of .result) (c .loop-test .left) (c .before .loop .inv .1))
+same-length c =
+    let args = c .before .before .before .before .args in
+    same-room (over (λ v. unitLine (args .number .0) v (unitIn (args .units .of) (args .number .0) v)) (c .before .before .count-of .result)
+    (c .loop-test .left) (c .before .loop .inv .1))
 
 returns : tie.Need-returns Inv-loop μ-loop
 unfolding channelText
-returns c = rw (← c .before .before .count-of .ensures) (over (λ v. unitLine (c .before .before .before .before .args .number .0) v (unitIn (c .before .before .before .before .args .units .of) (c .before .before .before .before .args .number .0) v)) (c .before .before .count-of .result) (c .loop-test .left) (c .before .loop .inv .1))
+returns c =
+    let then = c .before .before in let count-of = then .count-of in
+    let args = then .before .before .args in
+    rw (← count-of .ensures) (over (λ v. unitLine (args .number .0) v (unitIn (args .units .of) (args .number .0) v)) (count-of .result)
+    (c .loop-test .left) (c .before .loop .inv .1))
 
 pub put-channel-spec : {M : Type 1} → statement M
 put-channel-spec =

@@ -11,7 +11,9 @@ is-assignable-requires c κs = search needs
 
 returns : tie.Need-returns
 unfolding unitLine
-returns c = rw (sym (c .before .is-assignable .ensures) ∙ c .if1 .taken) (none (c .before .before .before .args .out .now) (c .before .before .before .args .at))
+returns c =
+    let args = c .before .before .before .args in
+    rw (sym (c .before .is-assignable .ensures) ∙ c .if1 .taken) (none (args .out .now) (args .at))
 
 put-state-requires : tie.Need-put-state-requires
 put-state-requires c κs = search needs
@@ -21,7 +23,10 @@ same-length c = search needs
 
 returns-2 : tie.Need-returns-2
 unfolding unitLine
-returns-2 c = rw (sym (c .before .before .before .before .before .is-assignable .ensures) ∙ c .before .before .before .before .if1 .left) (c .before .before .put-state .ensures)
+returns-2 c =
+    let then = c .before .before .before .before in let if1 = then .if1 in
+    let is-assignable = then .before .is-assignable in
+    rw (sym (is-assignable .ensures) ∙ if1 .left) (c .before .before .put-state .ensures)
 
 pub put-line-spec : {M : Type 1} → statement M
 put-line-spec =

@@ -13,7 +13,8 @@ use Rattle.board_units.proofs.put_state.Statement.{statement}
 use Rattle.board_units.proofs.put_state.Tie as tie
 
 -- a word that is put by what a function answered, by what it promises
-worded : {b d : Bool} {room after : List ℕ} {at n : ℕ} (word : List ℕ) → b ≡ d → Written room at (wordText b word) after n → Written room at (wordText d word) after n
+worded : {b d : Bool} {room after : List ℕ} {at n : ℕ} (word : List ℕ) → b ≡ d → Written room at (wordText b word) after n
+    → Written room at (wordText d word) after n
 worded {room = room} {after = after} {at = at} {n = n} word e h = subst (λ (x : Bool). Written room at (wordText x word) after n) e h
 
 slice-aggregate-put-bytes : tie.Need-slice-aggregate-put-bytes
@@ -62,11 +63,34 @@ put-byte-requires : tie.Need-put-byte-requires
 put-byte-requires c κs = search needs
 
 same-length : tie.Need-same-length
-same-length c = same-room (andThen (c .before .before .before .before .before .before .before .before .before .before .before .before .before .before .before .before .before .before .before .before .before .before .before .before .before .before .before .before .before .before .before .before .before .before .before .before .put-bytes .ensures) (andThen (c .before .before .before .before .before .before .before .before .before .before .before .before .before .before .before .before .before .before .before .before .before .before .before .before .before .before .before .before .before .before .before .before .put-unit .ensures) (andThen (c .before .before .before .before .before .before .before .before .before .before .before .before .before .before .before .before .before .before .before .before .before .before .before .before .before .before .before .before .put-holder .ensures) (andThen (c .before .before .before .before .before .before .before .before .before .before .before .before .before .before .before .before .before .before .before .before .before .before .put-word .ensures) (andThen (c .before .before .before .before .before .before .before .before .before .before .before .before .before .before .before .before .before .put-word2 .ensures) (andThen (c .before .before .before .before .before .before .before .before .before .before .before .before .put-word3 .ensures) (andThen (c .before .before .before .before .before .before .put-word4 .ensures) (c .before .before .put-byte .ensures))))))))
+same-length c =
+    let then = c .before .before .before .before .before .before in let put-word4 = then .put-word4 in
+    let then = then .before .before .before .before .before .before in let put-word3 = then .put-word3 in
+    let then = then .before .before .before .before .before in let put-word2 = then .put-word2 in
+    let then = then .before .before .before .before .before in let put-word = then .put-word in
+    let then = then .before .before .before .before .before .before in let put-holder = then .put-holder in
+    let then = then .before .before .before .before in let put-unit = then .put-unit in
+    let put-bytes = then .before .before .before .before .put-bytes in
+    same-room (andThen (put-bytes .ensures) (andThen (put-unit .ensures)
+    (andThen (put-holder .ensures) (andThen (put-word .ensures)
+    (andThen (put-word2 .ensures) (andThen (put-word3 .ensures) (andThen (put-word4 .ensures) (c .before .before .put-byte .ensures))))))))
 
 returns : tie.Need-returns
 unfolding stateText
-returns c = andThen (c .before .before .before .before .before .before .before .before .before .before .before .before .before .before .before .before .before .before .before .before .before .before .before .before .before .before .before .before .before .before .before .before .before .before .before .before .put-bytes .ensures) (andThen (c .before .before .before .before .before .before .before .before .before .before .before .before .before .before .before .before .before .before .before .before .before .before .before .before .before .before .before .before .before .before .before .before .put-unit .ensures) (andThen (c .before .before .before .before .before .before .before .before .before .before .before .before .before .before .before .before .before .before .before .before .before .before .before .before .before .before .before .before .put-holder .ensures) (andThen (worded (bytes " RETURNING") (c .before .before .before .before .before .before .before .before .before .before .before .before .before .before .before .before .before .before .before .before .before .before .before .before .before .is-returning .ensures) (c .before .before .before .before .before .before .before .before .before .before .before .before .before .before .before .before .before .before .before .before .before .before .put-word .ensures)) (andThen (c .before .before .before .before .before .before .before .before .before .before .before .before .before .before .before .before .before .put-word2 .ensures) (andThen (c .before .before .before .before .before .before .before .before .before .before .before .before .put-word3 .ensures) (andThen (worded (bytes " LOCKED") (c .before .before .before .before .before .before .before .before .is-locked .ensures) (c .before .before .before .before .before .before .put-word4 .ensures)) (c .before .before .put-byte .ensures)))))))
+returns c =
+    let then = c .before .before .before .before .before .before in let put-word4 = then .put-word4 in
+    let then = then .before .before in let is-locked = then .is-locked in
+    let then = then .before .before .before .before in let put-word3 = then .put-word3 in
+    let then = then .before .before .before .before .before in let put-word2 = then .put-word2 in
+    let then = then .before .before .before .before .before in let put-word = then .put-word in
+    let then = then .before .before .before in let is-returning = then .is-returning in
+    let then = then .before .before .before in let put-holder = then .put-holder in
+    let then = then .before .before .before .before in let put-unit = then .put-unit in
+    let put-bytes = then .before .before .before .before .put-bytes in
+    andThen (put-bytes .ensures) (andThen (put-unit .ensures)
+    (andThen (put-holder .ensures) (andThen (worded (bytes " RETURNING") (is-returning .ensures) (put-word .ensures))
+    (andThen (put-word2 .ensures) (andThen (put-word3 .ensures)
+    (andThen (worded (bytes " LOCKED") (is-locked .ensures) (put-word4 .ensures)) (c .before .before .put-byte .ensures)))))))
 
 pub put-state-spec : {M : Type 1} → statement M
 put-state-spec =

@@ -13,7 +13,9 @@ use Rattle.board_units.proofs.put_units.Statement.{statement}
 use Rattle.board_units.proofs.put_units.Tie as tie
 
 abbrev Inv-loop : tie.InvT-loop
-Inv-loop out₀ at units channels next₀ c₀ out next c = (c ≤ 16) × Going out₀ at (unitsText channels (units .of)) out next (eachFrom (λ d. channelText (units .of) d (getD channels d noChannel)) (16 - c) c)
+Inv-loop out₀ at units channels next₀ c₀ out next c =
+    (c ≤ 16) × Going out₀ at (unitsText channels (units .of)) out next
+    (eachFrom (λ d. channelText (units .of) d (getD channels d noChannel)) (16 - c) c)
 
 abbrev μ-loop : tie.MeasureT-loop
 μ-loop out₀ at units channels next₀ c₀ out next c = 16 - c
@@ -40,13 +42,24 @@ loop-less : tie.Need-loop-less Inv-loop μ-loop
 loop-less c = omega arith
 
 loop-again : tie.Need-loop-again Inv-loop μ-loop
-loop-again c = (omega arith, on (λ d. channelText (c .before .before .before .before .before .before .before .before .args .units .of) d (getD (c .before .before .before .before .before .before .before .before .args .t3) d noChannel)) 16 (c .before .before .before .before .before .loop-test .taken) (c .before .before .before .before .before .before .loop .inv .1) (c .before .before .put-channel .ensures))
+loop-again c =
+    let then = c .before .before .before .before .before in let loop-test = then .loop-test in
+    let then = then .before in let loop = then .loop in
+    let args = then .before .before .args in (
+      omega arith,
+      on (λ d. channelText (args .units .of) d (getD (args .t3) d noChannel)) 16 (loop-test .taken) (loop .inv .1)
+          (c .before .before .put-channel .ensures),
+    )
 
 same-length : tie.Need-same-length Inv-loop μ-loop
-same-length c = same-room (over (λ d. channelText (c .before .before .before .args .units .of) d (getD (c .before .before .before .args .t3) d noChannel)) 16 (c .loop-test .left) (c .before .loop .inv .1))
+same-length c =
+    let args = c .before .before .before .args in
+    same-room (over (λ d. channelText (args .units .of) d (getD (args .t3) d noChannel)) 16 (c .loop-test .left) (c .before .loop .inv .1))
 
 returns : tie.Need-returns Inv-loop μ-loop
-returns c = over (λ d. channelText (c .before .before .before .args .units .of) d (getD (c .before .before .before .args .t3) d noChannel)) 16 (c .loop-test .left) (c .before .loop .inv .1)
+returns c =
+    let args = c .before .before .before .args in
+    over (λ d. channelText (args .units .of) d (getD (args .t3) d noChannel)) 16 (c .loop-test .left) (c .before .loop .inv .1)
 
 pub put-units-spec : {M : Type 1} → statement M
 put-units-spec =

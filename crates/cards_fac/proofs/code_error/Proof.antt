@@ -17,16 +17,30 @@ returns : tie.Need-returns
 returns c = sym (code-long (c .before .before .before .args .t .now) (omega arith))
 
 slice-aggregate-code-index : tie.Need-slice-aggregate-code-index
-slice-aggregate-code-index c = sym (length-take-le (c .before .before .leading-of .result) (c .before .before .before .before .args .t .now) (omega (arith, leading-most isLetter (c .before .before .before .before .args .t .now))))
+slice-aggregate-code-index c =
+    let args = c .before .before .before .before .args in
+    sym (length-take-le (c .before .before .leading-of .result) (args .t .now) (omega (arith, leading-most isLetter (args .t .now))))
 
 code-index-requires : tie.Need-code-index-requires
 code-index-requires c κs = search needs
 
 returns-2 : tie.Need-returns-2
-returns-2 c = let e : c .before .code-index .result ≡ codeOf (c .before .before .before .before .before .before .args .t .now) = (c .before .code-index .ensures ∙ ap (indexIn codes) (rw (c .before .before .before .before .leading-of .ensures) (leading-front isLetter (c .before .before .before .before .before .before .args .t .now)))) in sym (code-unknown (c .before .before .before .before .before .before .args .t .now) (omega arith) (omega arith))
+returns-2 c =
+    let then = c .before in let code-index = then .code-index in
+    let then = then .before .before .before in let leading-of = then .leading-of in
+    let args = then .before .before .args in
+    let e : code-index .result ≡ codeOf (args .t .now) =
+    (code-index .ensures ∙ ap (indexIn codes) (rw (leading-of .ensures) (leading-front isLetter (args .t .now)))) in
+    sym (code-unknown (args .t .now) (omega arith) (omega arith))
 
 returns-3 : tie.Need-returns-3
-returns-3 c = let e : c .before .code-index .result ≡ codeOf (c .before .before .before .before .before .before .args .t .now) = (c .before .code-index .ensures ∙ ap (indexIn codes) (rw (c .before .before .before .before .leading-of .ensures) (leading-front isLetter (c .before .before .before .before .before .before .args .t .now)))) in sym (code-known (c .before .before .before .before .before .before .args .t .now) (omega arith) (omega arith))
+returns-3 c =
+    let then = c .before in let code-index = then .code-index in
+    let then = then .before .before .before in let leading-of = then .leading-of in
+    let args = then .before .before .args in
+    let e : code-index .result ≡ codeOf (args .t .now) =
+    (code-index .ensures ∙ ap (indexIn codes) (rw (leading-of .ensures) (leading-front isLetter (args .t .now)))) in
+    sym (code-known (args .t .now) (omega arith) (omega arith))
 
 pub code-error-spec : {M : Type 1} → statement M
 code-error-spec =

@@ -34,7 +34,11 @@ is-same-requires c κs = search needs
 
 returns : tie.Need-returns Inv-loop μ-loop
 unfolding codes
-returns c = code-found (c .before .before .before .before .before .before .before .args .t .now) (c .before .before .before .before .before .loop .k) (omega (arith, c .before .before .before .before .loop-test .taken)) (c .before .before .before .before .before .loop .inv .1) (c .before .is-same .ensures) (c .if1 .taken)
+returns c =
+    let then = c .before .before .before .before in let loop-test = then .loop-test in
+    let then = then .before in let loop = then .loop in
+    let args = then .before .before .args in
+    code-found (args .t .now) (loop .k) (omega (arith, loop-test .taken)) (loop .inv .1) (c .before .is-same .ensures) (c .if1 .taken)
 
 add-k : tie.Need-add-k Inv-loop μ-loop
 add-k c = search needs
@@ -44,7 +48,13 @@ loop-less c = search needs
 
 loop-again : tie.Need-loop-again Inv-loop μ-loop
 unfolding codes
-loop-again c = (omega (arith, c .before .before .before .before .loop-test .taken), code-passed (c .before .before .before .before .before .before .before .args .t .now) (c .before .before .before .before .before .loop .k) (omega (arith, c .before .before .before .before .loop-test .taken)) (c .before .before .before .before .before .loop .inv .1) (c .before .is-same .ensures) (c .if1 .left))
+loop-again c =
+    let then = c .before .before .before .before in let loop-test = then .loop-test in
+    let then = then .before in let loop = then .loop in
+    let args = then .before .before .args in (
+      omega (arith, loop-test .taken),
+      code-passed (args .t .now) (loop .k) (omega (arith, loop-test .taken)) (loop .inv .1) (c .before .is-same .ensures) (c .if1 .left),
+    )
 
 returns-2 : tie.Need-returns-2 Inv-loop μ-loop
 returns-2 c = codes-over (c .before .before .before .args .t .now) (c .before .loop .k) (c .loop-test .left) (c .before .loop .inv .1)

@@ -14,7 +14,8 @@ use Rattle.cards_fac.proofs.facilities.Statement.{statement}
 use Rattle.cards_fac.proofs.facilities.Tie as tie
 
 abbrev Inv-loop : tie.InvT-loop
-Inv-loop card last asks₀ k₀ asks k = ((1 ≤ k) × (last + 1 ≡ length (fields card))) × (askedOf (asksOf asks) (drop (k + 1) (fields card)) ≡ askedOf nothing (drop 2 (fields card)))
+Inv-loop card last asks₀ k₀ asks k =
+    ((1 ≤ k) × (last + 1 ≡ length (fields card))) × (askedOf (asksOf asks) (drop (k + 1) (fields card)) ≡ askedOf nothing (drop 2 (fields card)))
 
 abbrev μ-loop : tie.MeasureT-loop
 μ-loop card last asks₀ k₀ asks k = last - k
@@ -26,7 +27,11 @@ no-facilities-requires : tie.Need-no-facilities-requires Inv-loop μ-loop
 no-facilities-requires c κs = search needs
 
 loop-holds : tie.Need-loop-holds Inv-loop μ-loop
-loop-holds c = ((omega arith, c .before .last-field .ensures), ap (λ (f : Facilities). askedOf (asksOf f) (drop 2 (fields (c .before .before .before .args .card .now)))) (c .no-facilities .ensures))
+loop-holds c =
+    let args = c .before .before .before .args in (
+      (omega arith, c .before .last-field .ensures),
+      ap (λ (f : Facilities). askedOf (asksOf f) (drop 2 (fields (args .card .now)))) (c .no-facilities .ensures),
+    )
 
 add-k : tie.Need-add-k Inv-loop μ-loop
 add-k c = search needs
@@ -41,7 +46,13 @@ none-asked-requires : tie.Need-none-asked-requires Inv-loop μ-loop
 none-asked-requires c κs = sym (c .before .is-good .ensures) ∙ not-true _ (c .if1 .taken)
 
 returns : tie.Need-returns Inv-loop μ-loop
-returns c = c .none-asked .ensures ∙ sym (entry-wrong (asksOf (c .before .before .before .before .before .loop .asks)) (fields (c .before .before .before .before .before .before .before .before .before .args .card .now)) (c .before .before .before .before .before .loop .k + 1) (omega arith) (c .before .before .before .entry-at .result) (c .before .before .before .entry-at .ensures .is) (sym (c .before .before .is-good .ensures) ∙ not-true _ (c .before .if1 .taken))) ∙ c .before .before .before .before .before .loop .inv .1
+returns c =
+    let then = c .before .before .before in let entry-at = then .entry-at in
+    let then = then .before .before in let loop = then .loop in
+    let args = then .before .before .before .before .args in
+    c .none-asked .ensures ∙ sym (entry-wrong (asksOf (loop .asks)) (fields (args .card .now)) (loop .k + 1) (omega arith) (entry-at .result)
+    (entry-at .ensures .is) (sym (c .before .before .is-good .ensures) ∙ not-true _ (c .before .if1 .taken)))
+    ∙ loop .inv .1
 
 number-at-requires : tie.Need-number-at-requires Inv-loop μ-loop
 number-at-requires c κs = search needs
@@ -50,19 +61,44 @@ none-asked-requires-2 : tie.Need-none-asked-requires-2 Inv-loop μ-loop
 none-asked-requires-2 c κs = search needs
 
 returns-2 : tie.Need-returns-2 Inv-loop μ-loop
-returns-2 c = c .none-asked2 .ensures ∙ sym (entry-twice (asksOf (c .before .before .before .before .before .before .before .loop .asks)) (fields (c .before .before .before .before .before .before .before .before .before .before .before .args .card .now)) (c .before .before .before .before .before .before .before .loop .k + 1) (omega arith) (c .before .before .before .before .before .entry-at .result) (c .before .before .before .before .before .entry-at .ensures .is) (sym (c .before .before .before .before .is-good .ensures) ∙ not-false _ (c .before .before .before .if1 .left)) (rw (c .before .before .number-at .ensures) at (c .before .if2 .taken))) ∙ c .before .before .before .before .before .before .before .loop .inv .1
+returns-2 c =
+    let then = c .before .before .before in let if1 = then .if1 in
+    let then = then .before in let is-good = then .is-good in
+    let then = then .before in let entry-at = then .entry-at in
+    let then = then .before .before in let loop = then .loop in
+    let args = then .before .before .before .before .args in
+    c .none-asked2 .ensures ∙ sym (entry-twice (asksOf (loop .asks)) (fields (args .card .now)) (loop .k + 1) (omega arith) (entry-at .result)
+    (entry-at .ensures .is) (sym (is-good .ensures) ∙ not-false _ (if1 .left))
+    (rw (c .before .before .number-at .ensures) at (c .before .if2 .taken)))
+    ∙ loop .inv .1
 
 with-number-requires : tie.Need-with-number-requires Inv-loop μ-loop
-with-number-requires c κs = (c .before .before .before .before .entry-at .ensures .low, c .before .before .before .before .entry-at .ensures .small)
+with-number-requires c κs =
+    let entry-at = c .before .before .before .before .entry-at in
+    (entry-at .ensures .low, entry-at .ensures .small)
 
 loop-less : tie.Need-loop-less Inv-loop μ-loop
 loop-less c = search needs
 
 loop-again : tie.Need-loop-again Inv-loop μ-loop
-loop-again c = ((omega arith, c .before .before .before .before .before .before .before .loop .inv .0 .1), rw (c .with-number .ensures) (sym (entry-next (asksOf (c .before .before .before .before .before .before .before .loop .asks)) (fields (c .before .before .before .before .before .before .before .before .before .before .before .args .card .now)) (c .before .before .before .before .before .before .before .loop .k + 1) (omega arith) (c .before .before .before .before .before .entry-at .result) (c .before .before .before .before .before .entry-at .ensures .is) (sym (c .before .before .before .before .is-good .ensures) ∙ not-false _ (c .before .before .before .if1 .left)) (rw (c .before .before .number-at .ensures) at (c .before .if2 .left))) ∙ c .before .before .before .before .before .before .before .loop .inv .1))
+loop-again c =
+    let then = c .before .before .before in let if1 = then .if1 in
+    let then = then .before in let is-good = then .is-good in
+    let then = then .before in let entry-at = then .entry-at in
+    let then = then .before .before in let loop = then .loop in
+    let args = then .before .before .before .before .args in (
+      (omega arith, loop .inv .0 .1),
+      rw (c .with-number .ensures) (sym (entry-next (asksOf (loop .asks)) (fields (args .card .now)) (loop .k + 1) (omega arith)
+          (entry-at .result) (entry-at .ensures .is) (sym (is-good .ensures) ∙ not-false _ (if1 .left))
+          (rw (c .before .before .number-at .ensures) at (c .before .if2 .left)))
+          ∙ loop .inv .1),
+    )
 
 returns-3 : tie.Need-returns-3 Inv-loop μ-loop
-returns-3 c = sym (entries-done (asksOf (c .before .loop .asks)) (fields (c .before .before .before .before .before .args .card .now)) (c .before .loop .k + 1) (omega arith)) ∙ c .before .loop .inv .1
+returns-3 c =
+    let then = c .before in let loop = then .loop in
+    let args = then .before .before .before .before .args in
+    sym (entries-done (asksOf (loop .asks)) (fields (args .card .now)) (loop .k + 1) (omega arith)) ∙ loop .inv .1
 
 pub facilities-spec : {M : Type 1} → statement M
 facilities-spec =

@@ -20,10 +20,22 @@ number-requires : tie.Need-number-requires
 number-requires c κs = search needs
 
 returns-3 : tie.Need-returns-3
-returns-3 c = rw (le-ltb (c .before .before .before .before .before .before .args .code) 3 (c .before .before .before .before .if1 .left), le-leb _ 2 (c .before .before .before .if2 .left), sym (c .before .before .all-of .ensures) ∙ c .before .if3 .taken, (c .number .ensures ∙ number-short (c .before .before .before .before .before .before .args .t .now) (omega arith)))
+returns-3 c =
+    let then = c .before .before .before in let if2 = then .if2 in
+    let then = then .before in let if1 = then .if1 in
+    let args = then .before .before .args in
+    rw (
+      le-ltb (args .code) 3 (if1 .left),
+      le-leb _ 2 (if2 .left),
+      sym (c .before .before .all-of .ensures) ∙ c .before .if3 .taken,
+      (c .number .ensures ∙ number-short (args .t .now) (omega arith)),
+    )
 
 returns-4 : tie.Need-returns-4
-returns-4 c = rw (le-ltb (c .before .before .before .before .before .args .code) 3 (c .before .before .before .if1 .left), le-leb _ 2 (c .before .before .if2 .left), sym (c .before .all-of .ensures) ∙ c .if3 .left)
+returns-4 c =
+    let then = c .before .before .before in let if1 = then .if1 in
+    let args = then .before .before .args in
+    rw (le-ltb (args .code) 3 (if1 .left), le-leb _ 2 (c .before .before .if2 .left), sym (c .before .all-of .ensures) ∙ c .if3 .left)
 
 pub is-channel-spec : {M : Type 1} → statement M
 is-channel-spec =

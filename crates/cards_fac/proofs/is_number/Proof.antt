@@ -20,10 +20,21 @@ number-requires : tie.Need-number-requires
 number-requires c κs = search needs
 
 returns-2 : tie.Need-returns-2
-returns-2 c = rw (← c .before .before .before .before .most-digits .ensures .0, le-leb _ _ (c .before .before .before .if1 .left), sym (c .before .before .all-of .ensures) ∙ c .before .if2 .taken, (c .number .ensures ∙ number-short (c .before .before .before .before .before .before .args .t .now) (omega arith)))
+returns-2 c =
+    let then = c .before .before .before in let if1 = then .if1 in
+    let then = then .before in let most-digits = then .most-digits in
+    let args = then .before .before .args in
+    rw (
+      ← most-digits .ensures .0,
+      le-leb _ _ (if1 .left),
+      sym (c .before .before .all-of .ensures) ∙ c .before .if2 .taken,
+      (c .number .ensures ∙ number-short (args .t .now) (omega arith)),
+    )
 
 returns-3 : tie.Need-returns-3
-returns-3 c = rw (← c .before .before .before .most-digits .ensures .0, le-leb _ _ (c .before .before .if1 .left), sym (c .before .all-of .ensures) ∙ c .if2 .left)
+returns-3 c =
+    let most-digits = c .before .before .before .most-digits in
+    rw (← most-digits .ensures .0, le-leb _ _ (c .before .before .if1 .left), sym (c .before .all-of .ensures) ∙ c .if2 .left)
 
 pub is-number-spec : {M : Type 1} → statement M
 is-number-spec =

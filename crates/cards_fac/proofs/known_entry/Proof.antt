@@ -10,7 +10,8 @@ use Rattle.text.specs.Class.{isLetter}
 use Rattle.words.specs.Words.{isnt}
 use Rattle.words.proofs.WordLaws.{leading-most, number-short}
 use Rattle.cards_fac.specs.Fac.{slot}
-use Rattle.cards_fac.proofs.EntryLaws.{channel-short, channel-low, number-few, code-low, code-is, no-slash, bad-channel, bad-number, good-entry}
+use Rattle.cards_fac.proofs.EntryLaws.{channel-short, channel-low, number-few, code-low, code-is}
+use Rattle.cards_fac.proofs.EntryLaws.{no-slash, bad-channel, bad-number, good-entry}
 use Rattle.cards_fac.proofs.AskLaws.{small-entry}
 use Rattle.cards_request.specs.declared.CardVerdict.the-variants.{Good}
 use borrow.Author.Needs.{needs}
@@ -21,7 +22,9 @@ leading-of-requires : tie.Need-leading-of-requires
 leading-of-requires c κs = search needs
 
 slice-aggregate-code-index : tie.Need-slice-aggregate-code-index
-slice-aggregate-code-index c = sym (length-take-le (c .before .leading-of .result) (c .before .before .before .args .t .now) (omega (arith, leading-most isLetter (c .before .before .before .args .t .now))))
+slice-aggregate-code-index c =
+    let args = c .before .before .before .args in
+    sym (length-take-le (c .before .leading-of .result) (args .t .now) (omega (arith, leading-most isLetter (args .t .now))))
 
 code-index-requires : tie.Need-code-index-requires
 code-index-requires c κs = search needs
@@ -39,13 +42,33 @@ until-requires : tie.Need-until-requires
 until-requires c κs = search needs
 
 add-at : tie.Need-add-at
-add-at c = omega (arith, leading-most isLetter (c .before .before .before .before .before .before .args .t .now), leading-most (isnt 47) (take (length (c .before .before .before .before .before .before .args .t .now) - c .before .before .before .before .leading-of .result) (drop (c .before .before .before .before .leading-of .result) (c .before .before .before .before .before .before .args .t .now))), length-take (length (c .before .before .before .before .before .before .args .t .now) - c .before .before .before .before .leading-of .result) (drop (c .before .before .before .before .leading-of .result) (c .before .before .before .before .before .before .args .t .now)), length-drop (c .before .before .before .before .leading-of .result) (c .before .before .before .before .before .before .args .t .now))
+add-at c =
+    let then = c .before .before .before .before in let leading-of = then .leading-of in
+    let args = then .before .before .args in
+    omega (
+      arith,
+      leading-most isLetter (args .t .now),
+      leading-most (isnt 47) (take (length (args .t .now) - leading-of .result) (drop (leading-of .result) (args .t .now))),
+      length-take (length (args .t .now) - leading-of .result) (drop (leading-of .result) (args .t .now)),
+      length-drop (leading-of .result) (args .t .now),
+    )
 
 no-entry-requires : tie.Need-no-entry-requires
 no-entry-requires c κs = search needs
 
 returns : tie.Need-returns
-returns c = record { is = c .no-entry .ensures .0 ∙ sym (no-slash (c .before .before .before .before .before .before .before .before .args .t .now) (c .before .before .before .before .before .before .before .before .pre) (c .before .before .before .before .before .before .leading-of .result) (c .before .before .before .before .code-index .result) (c .before .before .before .before .before .before .leading-of .result + c .before .before .until .result) (c .before .before .before .before .before .before .leading-of .ensures) (c .before .before .before .before .code-index .ensures) (ap (λ (x : ℕ). c .before .before .before .before .before .before .leading-of .result + x) (c .before .before .until .ensures)) (c .before .if1 .taken)); low = omega (arith, c .no-entry .ensures .1 .0); small = λ h. omega (arith, c .no-entry .ensures .1 .1) }
+returns c =
+    let then = c .before .before in let until = then .until in
+    let then = then .before .before in let code-index = then .code-index in
+    let then = then .before .before in let leading-of = then .leading-of in
+    let then = then .before .before in let args = then .args in let pre = then .pre in
+    record {
+      is = c .no-entry .ensures .0 ∙ sym (no-slash (args .t .now) pre (leading-of .result) (code-index .result)
+          (leading-of .result + until .result) (leading-of .ensures) (code-index .ensures)
+          (ap (λ (x : ℕ). leading-of .result + x) (until .ensures)) (c .before .if1 .taken));
+      low = omega (arith, c .no-entry .ensures .1 .0);
+      small = λ h. omega (arith, c .no-entry .ensures .1 .1);
+    }
 
 sub-is-channel : tie.Need-sub-is-channel
 sub-is-channel c = search needs
@@ -63,7 +86,21 @@ no-entry-requires-2 : tie.Need-no-entry-requires-2
 no-entry-requires-2 c κs = search needs
 
 returns-2 : tie.Need-returns-2
-returns-2 c = record { is = c .no-entry2 .ensures .0 ∙ sym (bad-channel (c .before .before .before .before .before .before .before .before .before .before .before .args .t .now) (c .before .before .before .before .before .before .before .before .before .before .before .pre) (c .before .before .before .before .before .before .before .before .before .leading-of .result) (c .before .before .before .before .before .before .before .code-index .result) (c .before .before .before .before .before .before .before .before .before .leading-of .result + c .before .before .before .before .before .until .result) (c .before .before .before .before .before .before .before .before .before .leading-of .ensures) (c .before .before .before .before .before .before .before .code-index .ensures) (ap (λ (x : ℕ). c .before .before .before .before .before .before .before .before .before .leading-of .result + x) (c .before .before .before .before .before .until .ensures)) (c .before .before .before .before .if1 .left) (c .before .before .is-channel .result) (c .before .before .is-channel .ensures) (not-true _ (c .before .if2 .taken))); low = omega (arith, c .no-entry2 .ensures .1 .0); small = λ h. omega (arith, c .no-entry2 .ensures .1 .1) }
+returns-2 c =
+    let then = c .before .before in let is-channel = then .is-channel in
+    let then = then .before .before in let if1 = then .if1 in
+    let then = then .before in let until = then .until in
+    let then = then .before .before in let code-index = then .code-index in
+    let then = then .before .before in let leading-of = then .leading-of in
+    let then = then .before .before in let args = then .args in let pre = then .pre in
+    record {
+      is = c .no-entry2 .ensures .0 ∙ sym (bad-channel (args .t .now) pre (leading-of .result) (code-index .result)
+          (leading-of .result + until .result) (leading-of .ensures) (code-index .ensures)
+          (ap (λ (x : ℕ). leading-of .result + x) (until .ensures)) (if1 .left) (is-channel .result) (is-channel .ensures)
+          (not-true _ (c .before .if2 .taken)));
+      low = omega (arith, c .no-entry2 .ensures .1 .0);
+      small = λ h. omega (arith, c .no-entry2 .ensures .1 .1);
+    }
 
 add-is-number : tie.Need-add-is-number
 add-is-number c = search needs
@@ -84,7 +121,23 @@ no-entry-requires-3 : tie.Need-no-entry-requires-3
 no-entry-requires-3 c κs = search needs
 
 returns-3 : tie.Need-returns-3
-returns-3 c = record { is = c .no-entry3 .ensures .0 ∙ sym (bad-number (c .before .before .before .before .before .before .before .before .before .before .before .before .before .before .args .t .now) (c .before .before .before .before .before .before .before .before .before .before .before .before .before .before .pre) (c .before .before .before .before .before .before .before .before .before .before .before .before .leading-of .result) (c .before .before .before .before .before .before .before .before .before .before .code-index .result) (c .before .before .before .before .before .before .before .before .before .before .before .before .leading-of .result + c .before .before .before .before .before .before .before .before .until .result) (c .before .before .before .before .before .before .before .before .before .before .before .before .leading-of .ensures) (c .before .before .before .before .before .before .before .before .before .before .code-index .ensures) (ap (λ (x : ℕ). c .before .before .before .before .before .before .before .before .before .before .before .before .leading-of .result + x) (c .before .before .before .before .before .before .before .before .until .ensures)) (c .before .before .before .before .before .before .before .if1 .left) (c .before .before .before .before .before .is-channel .result) (c .before .before .before .before .before .is-channel .ensures) (not-false _ (c .before .before .before .before .if2 .left)) (c .before .before .is-number .result) (c .before .before .is-number .ensures) (not-true _ (c .before .if3 .taken))); low = omega (arith, c .no-entry3 .ensures .1 .0); small = λ h. omega (arith, c .no-entry3 .ensures .1 .1) }
+returns-3 c =
+    let then = c .before .before in let is-number = then .is-number in
+    let then = then .before .before in let if2 = then .if2 in
+    let then = then .before in let is-channel = then .is-channel in
+    let then = then .before .before in let if1 = then .if1 in
+    let then = then .before in let until = then .until in
+    let then = then .before .before in let code-index = then .code-index in
+    let then = then .before .before in let leading-of = then .leading-of in
+    let then = then .before .before in let args = then .args in let pre = then .pre in
+    record {
+      is = c .no-entry3 .ensures .0 ∙ sym (bad-number (args .t .now) pre (leading-of .result) (code-index .result)
+          (leading-of .result + until .result) (leading-of .ensures) (code-index .ensures)
+          (ap (λ (x : ℕ). leading-of .result + x) (until .ensures)) (if1 .left) (is-channel .result) (is-channel .ensures)
+          (not-false _ (if2 .left)) (is-number .result) (is-number .ensures) (not-true _ (c .before .if3 .taken)));
+      low = omega (arith, c .no-entry3 .ensures .1 .0);
+      small = λ h. omega (arith, c .no-entry3 .ensures .1 .1);
+    }
 
 sub-number : tie.Need-sub-number
 sub-number c = search needs
@@ -99,7 +152,31 @@ number-requires : tie.Need-number-requires
 number-requires c κs = search needs
 
 slot-of-requires : tie.Need-slot-of-requires
-slot-of-requires c κs = (omega (arith, code-is (c .before .before .before .before .before .before .before .before .before .before .before .before .before .before .before .args .t .now) (c .before .before .before .before .before .before .before .before .before .before .before .before .before .before .before .pre) (c .before .before .before .before .before .before .before .before .before .before .before .before .before .leading-of .result) (c .before .before .before .before .before .before .before .before .before .before .before .code-index .result) (c .before .before .before .before .before .before .before .before .before .before .before .before .before .leading-of .result + c .before .before .before .before .before .before .before .before .before .until .result) (c .before .before .before .before .before .before .before .before .before .before .before .before .before .leading-of .ensures) (c .before .before .before .before .before .before .before .before .before .before .before .code-index .ensures) (ap (λ (x : ℕ). c .before .before .before .before .before .before .before .before .before .before .before .before .before .leading-of .result + x) (c .before .before .before .before .before .before .before .before .before .until .ensures)), code-low (c .before .before .before .before .before .before .before .before .before .before .before .before .before .before .before .args .t .now) (c .before .before .before .before .before .before .before .before .before .before .before .before .before .before .before .pre)), rw (c .number .ensures ∙ number-short (take (c .before .before .before .before .before .before .before .before .before .before .before .before .before .leading-of .result + c .before .before .before .before .before .before .before .before .before .until .result - c .before .before .before .before .before .before .before .before .before .before .before .before .before .leading-of .result) (drop (c .before .before .before .before .before .before .before .before .before .before .before .before .before .leading-of .result) (c .before .before .before .before .before .before .before .before .before .before .before .before .before .before .before .args .t .now))) (omega (arith, channel-short (c .before .before .before .before .before .before .before .before .before .before .before .code-index .result) (take (c .before .before .before .before .before .before .before .before .before .before .before .before .before .leading-of .result + c .before .before .before .before .before .before .before .before .before .until .result - c .before .before .before .before .before .before .before .before .before .before .before .before .before .leading-of .result) (drop (c .before .before .before .before .before .before .before .before .before .before .before .before .before .leading-of .result) (c .before .before .before .before .before .before .before .before .before .before .before .before .before .before .before .args .t .now))) (sym (c .before .before .before .before .before .before .is-channel .ensures) ∙ not-false _ (c .before .before .before .before .before .if2 .left))))) (channel-low (c .before .before .before .before .before .before .before .before .before .before .before .code-index .result) (take (c .before .before .before .before .before .before .before .before .before .before .before .before .before .leading-of .result + c .before .before .before .before .before .before .before .before .before .until .result - c .before .before .before .before .before .before .before .before .before .before .before .before .before .leading-of .result) (drop (c .before .before .before .before .before .before .before .before .before .before .before .before .before .leading-of .result) (c .before .before .before .before .before .before .before .before .before .before .before .before .before .before .before .args .t .now))) (sym (c .before .before .before .before .before .before .is-channel .ensures) ∙ not-false _ (c .before .before .before .before .before .if2 .left))))
+slot-of-requires c κs =
+    let then = c .before .before .before .before .before in let if2 = then .if2 in
+    let then = then .before in let is-channel = then .is-channel in
+    let then = then .before .before .before in let until = then .until in
+    let then = then .before .before in let code-index = then .code-index in
+    let then = then .before .before in let leading-of = then .leading-of in
+    let then = then .before .before in let args = then .args in let pre = then .pre in (
+      omega (
+        arith,
+        code-is (args .t .now) pre (leading-of .result) (code-index .result) (leading-of .result + until .result) (leading-of .ensures)
+            (code-index .ensures) (ap (λ (x : ℕ). leading-of .result + x) (until .ensures)),
+        code-low (args .t .now) pre,
+      ),
+      rw (c .number .ensures ∙ number-short
+          (take (leading-of .result + until .result - leading-of .result) (drop (leading-of .result) (args .t .now)))
+          (omega (
+            arith,
+            channel-short (code-index .result)
+                (take (leading-of .result + until .result - leading-of .result) (drop (leading-of .result) (args .t .now)))
+                (sym (is-channel .ensures) ∙ not-false _ (if2 .left)),
+          )))
+          (channel-low (code-index .result)
+          (take (leading-of .result + until .result - leading-of .result) (drop (leading-of .result) (args .t .now)))
+          (sym (is-channel .ensures) ∙ not-false _ (if2 .left))),
+    )
 
 add-number : tie.Need-add-number
 add-number c = search needs
@@ -117,12 +194,41 @@ number-requires-2 : tie.Need-number-requires-2
 number-requires-2 c κs = search needs
 
 returns-4 : tie.Need-returns-4
-returns-4 c = let i =
-    good-entry (c .before .before .before .before .before .before .before .before .before .before .before .before .before .before .before .before .before .before .args .t .now) (c .before .before .before .before .before .before .before .before .before .before .before .before .before .before .before .before .before .before .pre) (c .before .before .before .before .before .before .before .before .before .before .before .before .before .before .before .before .leading-of .result) (c .before .before .before .before .before .before .before .before .before .before .before .before .before .before .code-index .result) (c .before .before .before .before .before .before .before .before .before .before .before .before .before .before .before .before .leading-of .result + c .before .before .before .before .before .before .before .before .before .before .before .before .until .result) (c .before .before .before .before .before .before .before .before .before .before .before .before .before .before .before .before .leading-of .ensures) (c .before .before .before .before .before .before .before .before .before .before .before .before .before .before .code-index .ensures) (ap (λ (x : ℕ). c .before .before .before .before .before .before .before .before .before .before .before .before .before .before .before .before .leading-of .result + x) (c .before .before .before .before .before .before .before .before .before .before .before .before .until .ensures)) (c .before .before .before .before .before .before .before .before .before .before .before .if1 .left) (c .before .before .before .before .before .before .before .before .before .is-channel .result) (c .before .before .before .before .before .before .before .before .before .is-channel .ensures) (not-false _ (c .before .before .before .before .before .before .before .before .if2 .left)) (c .before .before .before .before .before .before .is-number .result) (c .before .before .before .before .before .before .is-number .ensures) (not-false _ (c .before .before .before .before .before .if3 .left))
-    (c .before .before .slot-of .result) (c .number2 .result)
-    (c .before .before .slot-of .ensures .0 ∙ ap (slot (c .before .before .before .before .before .before .before .before .before .before .before .before .before .before .code-index .result)) (c .before .before .before .number .ensures ∙ number-short (take (c .before .before .before .before .before .before .before .before .before .before .before .before .before .before .before .before .leading-of .result + c .before .before .before .before .before .before .before .before .before .before .before .before .until .result - c .before .before .before .before .before .before .before .before .before .before .before .before .before .before .before .before .leading-of .result) (drop (c .before .before .before .before .before .before .before .before .before .before .before .before .before .before .before .before .leading-of .result) (c .before .before .before .before .before .before .before .before .before .before .before .before .before .before .before .before .before .before .args .t .now))) (omega (arith, channel-short (c .before .before .before .before .before .before .before .before .before .before .before .before .before .before .code-index .result) (take (c .before .before .before .before .before .before .before .before .before .before .before .before .before .before .before .before .leading-of .result + c .before .before .before .before .before .before .before .before .before .before .before .before .until .result - c .before .before .before .before .before .before .before .before .before .before .before .before .before .before .before .before .leading-of .result) (drop (c .before .before .before .before .before .before .before .before .before .before .before .before .before .before .before .before .leading-of .result) (c .before .before .before .before .before .before .before .before .before .before .before .before .before .before .before .before .before .before .args .t .now))) (sym (c .before .before .before .before .before .before .before .before .before .is-channel .ensures) ∙ not-false _ (c .before .before .before .before .before .before .before .before .if2 .left))))))
-    (c .number2 .ensures ∙ number-short (take (length (c .before .before .before .before .before .before .before .before .before .before .before .before .before .before .before .before .before .before .args .t .now) - (c .before .before .before .before .before .before .before .before .before .before .before .before .before .before .before .before .leading-of .result + c .before .before .before .before .before .before .before .before .before .before .before .before .until .result + 1)) (drop (c .before .before .before .before .before .before .before .before .before .before .before .before .before .before .before .before .leading-of .result + c .before .before .before .before .before .before .before .before .before .before .before .before .until .result + 1) (c .before .before .before .before .before .before .before .before .before .before .before .before .before .before .before .before .before .before .args .t .now))) (number-few (c .before .before .before .before .before .before .before .before .before .before .before .before .before .before .code-index .result) (take (length (c .before .before .before .before .before .before .before .before .before .before .before .before .before .before .before .before .before .before .args .t .now) - (c .before .before .before .before .before .before .before .before .before .before .before .before .before .before .before .before .leading-of .result + c .before .before .before .before .before .before .before .before .before .before .before .before .until .result + 1)) (drop (c .before .before .before .before .before .before .before .before .before .before .before .before .before .before .before .before .leading-of .result + c .before .before .before .before .before .before .before .before .before .before .before .before .until .result + 1) (c .before .before .before .before .before .before .before .before .before .before .before .before .before .before .before .before .before .before .args .t .now))) (sym (c .before .before .before .before .before .before .is-number .ensures) ∙ not-false _ (c .before .before .before .before .before .if3 .left)))) in
-    record { is = i; low = c .before .before .slot-of .ensures .1; small = small-entry (c .before .before .before .before .before .before .before .before .before .before .before .before .before .before .before .before .before .before .args .t .now) (record { verdict = Good; slot = c .before .before .slot-of .result; number = c .number2 .result }) i refl }
+returns-4 c =
+    let then = c .before .before in let slot-of = then .slot-of in
+    let then = then .before in let number′ = then .number in
+    let then = then .before .before in let if3 = then .if3 in
+    let then = then .before in let is-number = then .is-number in
+    let then = then .before .before in let if2 = then .if2 in
+    let then = then .before in let is-channel = then .is-channel in
+    let then = then .before .before in let if1 = then .if1 in
+    let then = then .before in let until = then .until in
+    let then = then .before .before in let code-index = then .code-index in
+    let then = then .before .before in let leading-of = then .leading-of in
+    let then = then .before .before in let args = then .args in let pre = then .pre in
+    let i =
+    good-entry (args .t .now) pre (leading-of .result) (code-index .result) (leading-of .result + until .result) (leading-of .ensures)
+    (code-index .ensures) (ap (λ (x : ℕ). leading-of .result + x) (until .ensures)) (if1 .left) (is-channel .result) (is-channel .ensures)
+    (not-false _ (if2 .left)) (is-number .result) (is-number .ensures) (not-false _ (if3 .left))
+    (slot-of .result) (c .number2 .result)
+    (slot-of .ensures .0 ∙ ap (slot (code-index .result))
+    (number′ .ensures ∙ number-short (take (leading-of .result + until .result - leading-of .result) (drop (leading-of .result) (args .t .now)))
+    (omega (
+      arith,
+      channel-short (code-index .result)
+          (take (leading-of .result + until .result - leading-of .result) (drop (leading-of .result) (args .t .now)))
+          (sym (is-channel .ensures) ∙ not-false _ (if2 .left)),
+    ))))
+    (c .number2 .ensures ∙ number-short
+    (take (length (args .t .now) - (leading-of .result + until .result + 1)) (drop (leading-of .result + until .result + 1) (args .t .now)))
+    (number-few (code-index .result)
+    (take (length (args .t .now) - (leading-of .result + until .result + 1)) (drop (leading-of .result + until .result + 1) (args .t .now)))
+    (sym (is-number .ensures) ∙ not-false _ (if3 .left)))) in
+    record {
+      is = i;
+      low = slot-of .ensures .1;
+      small = small-entry (args .t .now) (record { verdict = Good; slot = slot-of .result; number = c .number2 .result }) i refl;
+    }
 
 pub known-entry-spec : {M : Type 1} → statement M
 known-entry-spec =

@@ -33,7 +33,12 @@ cast-result-3 : tie.Need-cast-result-3
 cast-result-3 c = search needs
 
 returns-4 : tie.Need-returns-4
-returns-4 c = c .byte-at .ensures ∙ sym (past-md (c .before .before .before .before .before .before .args .f) (c .before .before .before .before .before .before .args .slot) (c .before .before .before .before .before .if1 .left) (c .before .before .before .before .if2 .left) (c .before .before .before .if3 .left))
+returns-4 c =
+    let then = c .before .before .before in let if3 = then .if3 in
+    let then = then .before in let if2 = then .if2 in
+    let then = then .before in let if1 = then .if1 in
+    let args = then .before .args in
+    c .byte-at .ensures ∙ sym (past-md (args .f) (args .slot) (if1 .left) (if2 .left) (if3 .left))
 
 pub number-at-spec : {M : Type 1} → statement M
 number-at-spec =

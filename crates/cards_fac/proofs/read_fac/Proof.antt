@@ -13,7 +13,9 @@ none-asked-requires : tie.Need-none-asked-requires
 none-asked-requires c κs = search needs
 
 returns : tie.Need-returns
-returns c = c .none-asked .ensures ∙ sym (fac-malformed (c .before .before .before .before .args .card .now) (sym (c .before .before .is-malformed .ensures) ∙ c .before .if1 .taken))
+returns c =
+    let args = c .before .before .before .before .args in
+    c .none-asked .ensures ∙ sym (fac-malformed (args .card .now) (sym (c .before .before .is-malformed .ensures) ∙ c .before .if1 .taken))
 
 facilities-requires : tie.Need-facilities-requires
 facilities-requires c κs = search needs
@@ -22,7 +24,13 @@ is-good-requires : tie.Need-is-good-requires
 is-good-requires c κs = search needs
 
 returns-2 : tie.Need-returns-2
-returns-2 c = fac-entries (c .before .before .before .before .before .before .args .card .now) (sym (c .before .before .before .before .is-malformed .ensures) ∙ c .before .before .before .if1 .left) (c .before .before .facilities .result) (c .before .before .facilities .ensures) (sym (c .before .is-good .ensures) ∙ not-true _ (c .if2 .taken))
+returns-2 c =
+    let then = c .before .before in let facilities = then .facilities in
+    let then = then .before in let if1 = then .if1 in
+    let then = then .before in let is-malformed = then .is-malformed in
+    let args = then .before .before .args in
+    fac-entries (args .card .now) (sym (is-malformed .ensures) ∙ if1 .left) (facilities .result) (facilities .ensures)
+    (sym (c .before .is-good .ensures) ∙ not-true _ (c .if2 .taken))
 
 core-error-requires : tie.Need-core-error-requires
 core-error-requires c κs = search needs
@@ -34,10 +42,30 @@ none-asked-requires-2 : tie.Need-none-asked-requires-2
 none-asked-requires-2 c κs = sym (c .before .is-good2 .ensures) ∙ not-true _ (c .if3 .taken)
 
 returns-3 : tie.Need-returns-3
-returns-3 c = c .none-asked2 .ensures ∙ sym (fac-core (c .before .before .before .before .before .before .before .before .before .before .before .args .card .now) (sym (c .before .before .before .before .before .before .before .before .before .is-malformed .ensures) ∙ c .before .before .before .before .before .before .before .before .if1 .left) (c .before .before .before .before .before .before .before .facilities .result) (c .before .before .before .before .before .before .before .facilities .ensures) (sym (c .before .before .before .before .before .before .is-good .ensures) ∙ not-false _ (c .before .before .before .before .before .if2 .left)) (c .before .before .before .core-error .result) (c .before .before .before .core-error .ensures) (sym (c .before .before .is-good2 .ensures) ∙ not-true _ (c .before .if3 .taken)))
+returns-3 c =
+    let then = c .before .before .before in let core-error = then .core-error in
+    let then = then .before .before in let if2 = then .if2 in
+    let then = then .before in let is-good = then .is-good in
+    let then = then .before in let facilities = then .facilities in
+    let then = then .before in let if1 = then .if1 in
+    let then = then .before in let is-malformed = then .is-malformed in
+    let args = then .before .before .args in
+    c .none-asked2 .ensures ∙ sym (fac-core (args .card .now) (sym (is-malformed .ensures) ∙ if1 .left) (facilities .result)
+    (facilities .ensures) (sym (is-good .ensures) ∙ not-false _ (if2 .left)) (core-error .result) (core-error .ensures)
+    (sym (c .before .before .is-good2 .ensures) ∙ not-true _ (c .before .if3 .taken)))
 
 returns-4 : tie.Need-returns-4
-returns-4 c = fac-good (c .before .before .before .before .before .before .before .before .before .before .args .card .now) (sym (c .before .before .before .before .before .before .before .before .is-malformed .ensures) ∙ c .before .before .before .before .before .before .before .if1 .left) (c .before .before .before .before .before .before .facilities .result) (c .before .before .before .before .before .before .facilities .ensures) (sym (c .before .before .before .before .before .is-good .ensures) ∙ not-false _ (c .before .before .before .before .if2 .left)) (c .before .before .core-error .result) (c .before .before .core-error .ensures) (sym (c .before .is-good2 .ensures) ∙ not-false _ (c .if3 .left))
+returns-4 c =
+    let then = c .before .before in let core-error = then .core-error in
+    let then = then .before .before in let if2 = then .if2 in
+    let then = then .before in let is-good = then .is-good in
+    let then = then .before in let facilities = then .facilities in
+    let then = then .before in let if1 = then .if1 in
+    let then = then .before in let is-malformed = then .is-malformed in
+    let args = then .before .before .args in
+    fac-good (args .card .now) (sym (is-malformed .ensures) ∙ if1 .left) (facilities .result) (facilities .ensures)
+    (sym (is-good .ensures) ∙ not-false _ (if2 .left)) (core-error .result) (core-error .ensures)
+    (sym (c .before .is-good2 .ensures) ∙ not-false _ (c .if3 .left))
 
 pub read-fac-spec : {M : Type 1} → statement M
 read-fac-spec =

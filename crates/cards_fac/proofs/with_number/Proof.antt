@@ -30,7 +30,9 @@ element-write-g : tie.Need-element-write-g
 element-write-g c = search needs
 
 returns-4 : tie.Need-returns-4
-returns-4 c = set-past-md (c .before .before .before .args .f) (c .before .before .before .args .slot) (c .before .before .before .args .n) (c .before .if2 .left) (c .if3 .left) (c .before .before .if1 .left)
+returns-4 c =
+    let args = c .before .before .before .args in
+    set-past-md (args .f) (args .slot) (args .n) (c .before .if2 .left) (c .if3 .left) (c .before .before .if1 .left)
 
 pub with-number-spec : {M : Type 1} → statement M
 with-number-spec =

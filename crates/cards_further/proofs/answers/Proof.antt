@@ -72,13 +72,17 @@ returns-3 : tie.Need-returns-3
 returns-3 c = rw (c .before .enum-told3 .given .1) (ap not (c .field-is2 .ensures))
 
 returns-4 : tie.Need-returns-4
-returns-4 c = rw (c .before .before .before .enum-told4 .given .1, sym (c .before .before .is-pm .ensures) ∙ c .before .if1 .taken, ← c .is-numbered .ensures)
+returns-4 c =
+    let enum-told4 = c .before .before .before .enum-told4 in
+    rw (enum-told4 .given .1, sym (c .before .before .is-pm .ensures) ∙ c .before .if1 .taken, ← c .is-numbered .ensures)
 
 returns-5 : tie.Need-returns-5
 returns-5 c = rw (c .before .before .enum-told4 .given .1, sym (c .before .is-pm .ensures) ∙ c .if1 .left) (c .if1 .left)
 
 returns-6 : tie.Need-returns-6
-returns-6 c = rw (c .before .before .before .enum-told5 .given .1, sym (c .before .before .is-pm2 .ensures) ∙ c .before .if2 .taken) (c .is-fault .ensures)
+returns-6 c =
+    let enum-told5 = c .before .before .before .enum-told5 in
+    rw (enum-told5 .given .1, sym (c .before .before .is-pm2 .ensures) ∙ c .before .if2 .taken) (c .is-fault .ensures)
 
 returns-7 : tie.Need-returns-7
 returns-7 c = rw (c .before .before .enum-told5 .given .1, sym (c .before .is-pm2 .ensures) ∙ c .if2 .left) (c .if2 .left)

@@ -20,7 +20,10 @@ trn-error-requires : tie.Need-trn-error-requires
 trn-error-requires c κs = search needs
 
 returns-2 : tie.Need-returns-2
-returns-2 c = c .trn-error .ensures ∙ rw (sym (c .before .before .before .before .is-tal .ensures) ∙ c .before .before .before .if1 .left, sym (c .before .before .is-trn .ensures) ∙ c .before .if2 .taken)
+returns-2 c =
+    let then = c .before .before .before in let if1 = then .if1 in
+    let is-tal = then .before .is-tal in
+    c .trn-error .ensures ∙ rw (sym (is-tal .ensures) ∙ if1 .left, sym (c .before .before .is-trn .ensures) ∙ c .before .if2 .taken)
 
 returns-3 : tie.Need-returns-3
 returns-3 c = rw (sym (c .before .before .before .is-tal .ensures) ∙ c .before .before .if1 .left, sym (c .before .is-trn .ensures) ∙ c .if2 .left)

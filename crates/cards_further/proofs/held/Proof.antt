@@ -18,7 +18,8 @@ use Rattle.cards_further.proofs.held.Statement.{statement}
 use Rattle.cards_further.proofs.held.Tie as tie
 
 abbrev Inv-loop : tie.InvT-loop
-Inv-loop rest cards₀ count₀ at₀ cards count at = ((at ≤ length rest) × (count ≤ mostFurther)) × Holding cards count (canonicals (cardsOf (drop at rest))) (canonicals (cardsOf rest))
+Inv-loop rest cards₀ count₀ at₀ cards count at =
+    ((at ≤ length rest) × (count ≤ mostFurther)) × Holding cards count (canonicals (cardsOf (drop at rest))) (canonicals (cardsOf rest))
 
 abbrev μ-loop : tie.MeasureT-loop
 μ-loop rest cards₀ count₀ at₀ cards count at = length rest - at
@@ -27,7 +28,12 @@ no-further-requires : tie.Need-no-further-requires Inv-loop μ-loop
 no-further-requires c κs = search needs
 
 loop-holds : tie.Need-loop-holds Inv-loop μ-loop
-loop-holds c = ((omega arith, omega arith), subst (λ (f : Further). Holding (f .cards) 0 (canonicals (cardsOf (c .before .before .before .args .rest .now))) (canonicals (cardsOf (c .before .before .before .args .rest .now)))) (sym (c .before .no-further .ensures)) (hold-start (canonicals (cardsOf (c .before .before .before .args .rest .now)))))
+loop-holds c =
+    let args = c .before .before .before .args in (
+      (omega arith, omega arith),
+      subst (λ (f : Further). Holding (f .cards) 0 (canonicals (cardsOf (args .rest .now))) (canonicals (cardsOf (args .rest .now))))
+          (sym (c .before .no-further .ensures)) (hold-start (canonicals (cardsOf (args .rest .now)))),
+    )
 
 sub-card-len : tie.Need-sub-card-len Inv-loop μ-loop
 sub-card-len c = search needs
@@ -42,10 +48,22 @@ card-len-requires : tie.Need-card-len-requires Inv-loop μ-loop
 card-len-requires c κs = search needs
 
 add-end : tie.Need-add-end Inv-loop μ-loop
-add-end c = let f = found (c .before .before .before .before .before .before .before .args .rest .now) (c .before .before .before .loop .at) (c .before .before .loop-test .taken) (c .card-len .result) (c .card-len .ensures) in omega arith
+add-end c =
+    let then = c .before .before .before in let loop = then .loop in
+    let args = then .before .before .before .before .args in
+    let f = found (args .rest .now) (loop .at) (c .before .before .loop-test .taken) (c .card-len .result) (c .card-len .ensures) in
+    omega arith
 
 returns : tie.Need-returns Inv-loop μ-loop
-returns c = let f = found (c .before .before .before .before .before .before .before .before .args .rest .now) (c .before .before .before .before .loop .at) (c .before .before .before .loop-test .taken) (c .before .card-len .result) (c .before .card-len .ensures) in hold-end (c .before .before .before .before .loop .inv .0 .1) (subst (λ (l : List (List ℕ)). Holding (c .before .before .before .before .loop .cards) (c .before .before .before .before .loop .count) (canonicals l) (canonicals (cardsOf (c .before .before .before .before .before .before .before .before .args .rest .now)))) (f .ends (omega arith)) (c .before .before .before .before .loop .inv .1))
+returns c =
+    let then = c .before in let card-len = then .card-len in
+    let then = then .before .before in let loop-test = then .loop-test in
+    let then = then .before in let loop = then .loop in
+    let args = then .before .before .before .before .args in
+    let f = found (args .rest .now) (loop .at) (loop-test .taken) (card-len .result) (card-len .ensures) in
+    hold-end (loop .inv .0 .1) (subst
+    (λ (l : List (List ℕ)). Holding (loop .cards) (loop .count) (canonicals l) (canonicals (cardsOf (args .rest .now))))
+    (f .ends (omega arith)) (loop .inv .1))
 
 returns-2 : tie.Need-returns-2 Inv-loop μ-loop
 returns-2 c = hold-full (c .if2 .taken) (c .before .before .before .before .before .loop .inv .1)
@@ -57,7 +75,13 @@ part-held-card-start : tie.Need-part-held-card-start Inv-loop μ-loop
 part-held-card-start c = search needs
 
 part-held-card-end : tie.Need-part-held-card-end Inv-loop μ-loop
-part-held-card-end c = let f = found (c .before .before .before .before .before .before .before .before .before .args .rest .now) (c .before .before .before .before .before .loop .at) (c .before .before .before .before .loop-test .taken) (c .before .before .card-len .result) (c .before .before .card-len .ensures) in omega arith
+part-held-card-end c =
+    let then = c .before .before in let card-len = then .card-len in
+    let then = then .before .before in let loop-test = then .loop-test in
+    let then = then .before in let loop = then .loop in
+    let args = then .before .before .before .before .args in
+    let f = found (args .rest .now) (loop .at) (loop-test .taken) (card-len .result) (card-len .ensures) in
+    omega arith
 
 held-card-requires : tie.Need-held-card-requires Inv-loop μ-loop
 held-card-requires c κs = search needs
@@ -72,16 +96,45 @@ add-count : tie.Need-add-count Inv-loop μ-loop
 add-count c = omega (arith, c .before .before .before .before .before .before .before .loop .inv .0 .1)
 
 add-at : tie.Need-add-at Inv-loop μ-loop
-add-at c = let f = found (c .before .before .before .before .before .before .before .before .before .before .before .args .rest .now) (c .before .before .before .before .before .before .before .loop .at) (c .before .before .before .before .before .before .loop-test .taken) (c .before .before .before .before .card-len .result) (c .before .before .before .before .card-len .ensures) in omega arith
+add-at c =
+    let then = c .before .before .before .before in let card-len = then .card-len in
+    let then = then .before .before in let loop-test = then .loop-test in
+    let then = then .before in let loop = then .loop in
+    let args = then .before .before .before .before .args in
+    let f = found (args .rest .now) (loop .at) (loop-test .taken) (card-len .result) (card-len .ensures) in
+    omega arith
 
 loop-less : tie.Need-loop-less Inv-loop μ-loop
-loop-less c = let f = found (c .before .before .before .before .before .before .before .before .before .before .before .args .rest .now) (c .before .before .before .before .before .before .before .loop .at) (c .before .before .before .before .before .before .loop-test .taken) (c .before .before .before .before .card-len .result) (c .before .before .before .before .card-len .ensures) in omega arith
+loop-less c =
+    let then = c .before .before .before .before in let card-len = then .card-len in
+    let then = then .before .before in let loop-test = then .loop-test in
+    let then = then .before in let loop = then .loop in
+    let args = then .before .before .before .before .args in
+    let f = found (args .rest .now) (loop .at) (loop-test .taken) (card-len .result) (card-len .ensures) in
+    omega arith
 
 loop-again : tie.Need-loop-again Inv-loop μ-loop
-loop-again c = let f = found (c .before .before .before .before .before .before .before .before .before .before .before .args .rest .now) (c .before .before .before .before .before .before .before .loop .at) (c .before .before .before .before .before .before .loop-test .taken) (c .before .before .before .before .card-len .result) (c .before .before .before .before .card-len .ensures) in ((omega arith, omega (arith, c .before .before .before .before .before .before .before .loop .inv .0 .1, c .before .before .if2 .left)), subst (λ (x : FurtherCard). Holding (set (c .before .before .before .before .before .before .before .loop .cards) (c .before .before .before .before .before .before .before .loop .count) x) (c .before .before .before .before .before .before .before .loop .count + 1) (canonicals (cardsOf (drop (c .before .before .before .before .before .before .before .loop .at + c .before .before .before .before .card-len .result + 1) (c .before .before .before .before .before .before .before .before .before .before .before .args .rest .now)))) (canonicals (cardsOf (c .before .before .before .before .before .before .before .before .before .before .before .args .rest .now)))) (sym (c .held-card .ensures ∙ ap (λ (x : List ℕ). heldCard (canonical x)) (part-is (c .before .before .before .before .before .before .before .before .before .before .before .args .rest .now) (c .before .before .before .before .before .before .before .loop .at) (c .before .before .before .before .card-len .result)))) (hold-turn (subst (λ (l : List (List ℕ)). Holding (c .before .before .before .before .before .before .before .loop .cards) (c .before .before .before .before .before .before .before .loop .count) (canonicals l) (canonicals (cardsOf (c .before .before .before .before .before .before .before .before .before .before .before .args .rest .now)))) (f .goes (omega arith)) (c .before .before .before .before .before .before .before .loop .inv .1))))
+loop-again c =
+    let then = c .before .before .before .before in let card-len = then .card-len in
+    let then = then .before .before in let loop-test = then .loop-test in
+    let then = then .before in let loop = then .loop in
+    let args = then .before .before .before .before .args in
+    let f = found (args .rest .now) (loop .at) (loop-test .taken) (card-len .result) (card-len .ensures) in (
+      (omega arith, omega (arith, loop .inv .0 .1, c .before .before .if2 .left)),
+      subst (λ (x : FurtherCard). Holding (set (loop .cards) (loop .count) x) (loop .count + 1)
+          (canonicals (cardsOf (drop (loop .at + card-len .result + 1) (args .rest .now)))) (canonicals (cardsOf (args .rest .now))))
+          (sym (c .held-card .ensures ∙ ap (λ (x : List ℕ). heldCard (canonical x)) (part-is (args .rest .now) (loop .at) (card-len .result))))
+          (hold-turn (subst (λ (l : List (List ℕ)). Holding (loop .cards) (loop .count) (canonicals l) (canonicals (cardsOf (args .rest .now))))
+          (f .goes (omega arith)) (loop .inv .1))),
+    )
 
 returns-3 : tie.Need-returns-3 Inv-loop μ-loop
-returns-3 c = hold-end (c .before .loop .inv .0 .1) (subst (λ (l : List (List ℕ)). Holding (c .before .loop .cards) (c .before .loop .count) (canonicals l) (canonicals (cardsOf (c .before .before .before .before .before .args .rest .now)))) (lines-done (c .before .before .before .before .before .args .rest .now) (c .before .loop .at) (c .loop-test .left)) (c .before .loop .inv .1))
+returns-3 c =
+    let then = c .before in let loop = then .loop in
+    let args = then .before .before .before .before .args in
+    hold-end (loop .inv .0 .1) (subst
+    (λ (l : List (List ℕ)). Holding (loop .cards) (loop .count) (canonicals l) (canonicals (cardsOf (args .rest .now))))
+    (lines-done (args .rest .now) (loop .at) (c .loop-test .left)) (loop .inv .1))
 
 pub held-spec : {M : Type 1} → statement M
 held-spec =

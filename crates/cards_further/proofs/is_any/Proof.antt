@@ -28,7 +28,11 @@ sub-result : tie.Need-sub-result
 sub-result c = search needs
 
 returns : tie.Need-returns
-returns c = any-left (answer (c .before .before .before .before .before .args .question) (c .before .before .before .before .before .args .id .now)) (c .before .before .before .before .before .args .rest .now) (c .before .before .skip .result) (c .card-len .result) (c .before .before .skip .ensures .0) (c .before .before .skip .ensures .1) (c .card-len .ensures)
+returns c =
+    let then = c .before .before in let skip = then .skip in
+    let args = then .before .before .before .args in
+    any-left (answer (args .question) (args .id .now)) (args .rest .now) (skip .result) (c .card-len .result) (skip .ensures .0)
+    (skip .ensures .1) (c .card-len .ensures)
 
 pub is-any-spec : {M : Type 1} → statement M
 is-any-spec =

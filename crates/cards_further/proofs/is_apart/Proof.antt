@@ -47,7 +47,12 @@ is-any-requires c κs = search needs
 
 returns : tie.Need-returns
 unfolding apart
-returns c = c .is-any .ensures ∙ apart-left (answer (c .before .before .before .before .before .before .before .before .before .args .kind) []) (c .before .before .before .before .before .before .before .before .before .args .rest .now) (c .before .before .before .before .before .before .skip .result) (c .before .before .before .skip2 .result) (c .before .before .before .before .before .before .skip .ensures .1) (c .before .before .before .skip2 .ensures .1)
+returns c =
+    let then = c .before .before .before in let skip2 = then .skip2 in
+    let then = then .before .before .before in let skip = then .skip in
+    let args = then .before .before .before .args in
+    c .is-any .ensures ∙ apart-left (answer (args .kind) []) (args .rest .now) (skip .result) (skip2 .result) (skip .ensures .1)
+    (skip2 .ensures .1)
 
 pub is-apart-spec : {M : Type 1} → statement M
 is-apart-spec =

@@ -20,14 +20,20 @@ is-any-requires c κs = search needs
 
 returns-2 : tie.Need-returns-2
 unfolding pmWrong
-returns-2 c = rw (sym (c .before .before .before .before .is-apart .ensures) ∙ c .before .before .before .if1 .left, sym (c .before .is-any .ensures) ∙ c .if2 .taken)
+returns-2 c =
+    let then = c .before .before .before in let if1 = then .if1 in
+    let is-apart = then .before .is-apart in
+    rw (sym (is-apart .ensures) ∙ if1 .left, sym (c .before .is-any .ensures) ∙ c .if2 .taken)
 
 is-rising-requires : tie.Need-is-rising-requires
 is-rising-requires c κs = search needs
 
 returns-3 : tie.Need-returns-3
 unfolding pmWrong
-returns-3 c = rw (sym (c .before .before .before .before .before .is-apart .ensures) ∙ c .before .before .before .before .if1 .left, sym (c .before .before .is-any .ensures) ∙ c .before .if2 .left, ← c .is-rising .ensures)
+returns-3 c =
+    let then = c .before .before .before .before in let if1 = then .if1 in
+    let is-apart = then .before .is-apart in
+    rw (sym (is-apart .ensures) ∙ if1 .left, sym (c .before .before .is-any .ensures) ∙ c .before .if2 .left, ← c .is-rising .ensures)
 
 pub is-pm-wrong-spec : {M : Type 1} → statement M
 is-pm-wrong-spec =

@@ -37,10 +37,20 @@ card-len-requires : tie.Need-card-len-requires Inv-loop μ-loop
 card-len-requires c κs = search needs
 
 add-end : tie.Need-add-end Inv-loop μ-loop
-add-end c = let f = found (c .before .before .before .before .before .args .rest .now) (c .before .before .before .loop .at) (c .before .before .loop-test .taken) (c .card-len .result) (c .card-len .ensures) in omega arith
+add-end c =
+    let then = c .before .before .before in let loop = then .loop in
+    let args = then .before .before .args in
+    let f = found (args .rest .now) (loop .at) (c .before .before .loop-test .taken) (c .card-len .result) (c .card-len .ensures) in
+    omega arith
 
 returns : tie.Need-returns Inv-loop μ-loop
-returns c = let f = found (c .before .before .before .before .before .before .args .rest .now) (c .before .before .before .before .loop .at) (c .before .before .before .loop-test .taken) (c .before .card-len .result) (c .before .card-len .ensures) in sym (ap (rising (c .before .before .before .before .loop .least)) (f .ends (omega arith))) ∙ c .before .before .before .before .loop .inv .1
+returns c =
+    let then = c .before in let card-len = then .card-len in
+    let then = then .before .before in let loop-test = then .loop-test in
+    let then = then .before in let loop = then .loop in
+    let args = then .before .before .args in
+    let f = found (args .rest .now) (loop .at) (loop-test .taken) (card-len .result) (card-len .ensures) in
+    sym (ap (rising (loop .least)) (f .ends (omega arith))) ∙ loop .inv .1
 
 sub-card : tie.Need-sub-card Inv-loop μ-loop
 sub-card c = search needs
@@ -49,28 +59,76 @@ part-card-start : tie.Need-part-card-start Inv-loop μ-loop
 part-card-start c = search needs
 
 part-card-end : tie.Need-part-card-end Inv-loop μ-loop
-part-card-end c = let f = found (c .before .before .before .before .before .before .args .rest .now) (c .before .before .before .before .loop .at) (c .before .before .before .loop-test .taken) (c .before .card-len .result) (c .before .card-len .ensures) in omega arith
+part-card-end c =
+    let then = c .before in let card-len = then .card-len in
+    let then = then .before .before in let loop-test = then .loop-test in
+    let then = then .before in let loop = then .loop in
+    let args = then .before .before .args in
+    let f = found (args .rest .now) (loop .at) (loop-test .taken) (card-len .result) (card-len .ensures) in
+    omega arith
 
 is-low-requires : tie.Need-is-low-requires Inv-loop μ-loop
 is-low-requires c κs = search needs
 
 returns-2 : tie.Need-returns-2 Inv-loop μ-loop
-returns-2 c = let f = found (c .before .before .before .before .before .before .before .before .before .args .rest .now) (c .before .before .before .before .before .before .before .loop .at) (c .before .before .before .before .before .before .loop-test .taken) (c .before .before .before .before .card-len .result) (c .before .before .before .before .card-len .ensures) in sym (ap (rising (c .before .before .before .before .before .before .before .loop .least)) (f .goes (omega arith)) ∙ rising-low (c .before .before .before .before .before .before .before .loop .least) (take (c .before .before .before .before .card-len .result) (drop (c .before .before .before .before .before .before .before .loop .at) (c .before .before .before .before .before .before .before .before .before .args .rest .now))) (cardsOf (drop (c .before .before .before .before .before .before .before .loop .at + c .before .before .before .before .card-len .result + 1) (c .before .before .before .before .before .before .before .before .before .args .rest .now))) (sym (ap (λ (x : List ℕ). isPm x && ltb (digitOf x) (c .before .before .before .before .before .before .before .loop .least)) (part-is (c .before .before .before .before .before .before .before .before .before .args .rest .now) (c .before .before .before .before .before .before .before .loop .at) (c .before .before .before .before .card-len .result))) ∙ sym (c .before .is-low .ensures) ∙ c .if2 .taken)) ∙ c .before .before .before .before .before .before .before .loop .inv .1
+returns-2 c =
+    let then = c .before .before .before .before in let card-len = then .card-len in
+    let then = then .before .before in let loop-test = then .loop-test in
+    let then = then .before in let loop = then .loop in
+    let args = then .before .before .args in
+    let f = found (args .rest .now) (loop .at) (loop-test .taken) (card-len .result) (card-len .ensures) in
+    sym (ap (rising (loop .least)) (f .goes (omega arith))
+    ∙ rising-low (loop .least) (take (card-len .result) (drop (loop .at) (args .rest .now)))
+    (cardsOf (drop (loop .at + card-len .result + 1) (args .rest .now)))
+    (sym (ap (λ (x : List ℕ). isPm x && ltb (digitOf x) (loop .least)) (part-is (args .rest .now) (loop .at) (card-len .result)))
+    ∙ sym (c .before .is-low .ensures) ∙ c .if2 .taken))
+    ∙ loop .inv .1
 
 least-behind-requires : tie.Need-least-behind-requires Inv-loop μ-loop
 least-behind-requires c κs = search needs
 
 add-at : tie.Need-add-at Inv-loop μ-loop
-add-at c = let f = found (c .before .before .before .before .before .before .before .before .before .before .args .rest .now) (c .before .before .before .before .before .before .before .before .loop .at) (c .before .before .before .before .before .before .before .loop-test .taken) (c .before .before .before .before .before .card-len .result) (c .before .before .before .before .before .card-len .ensures) in omega arith
+add-at c =
+    let then = c .before .before .before .before .before in let card-len = then .card-len in
+    let then = then .before .before in let loop-test = then .loop-test in
+    let then = then .before in let loop = then .loop in
+    let args = then .before .before .args in
+    let f = found (args .rest .now) (loop .at) (loop-test .taken) (card-len .result) (card-len .ensures) in
+    omega arith
 
 loop-less : tie.Need-loop-less Inv-loop μ-loop
-loop-less c = let f = found (c .before .before .before .before .before .before .before .before .before .before .args .rest .now) (c .before .before .before .before .before .before .before .before .loop .at) (c .before .before .before .before .before .before .before .loop-test .taken) (c .before .before .before .before .before .card-len .result) (c .before .before .before .before .before .card-len .ensures) in omega arith
+loop-less c =
+    let then = c .before .before .before .before .before in let card-len = then .card-len in
+    let then = then .before .before in let loop-test = then .loop-test in
+    let then = then .before in let loop = then .loop in
+    let args = then .before .before .args in
+    let f = found (args .rest .now) (loop .at) (loop-test .taken) (card-len .result) (card-len .ensures) in
+    omega arith
 
 loop-again : tie.Need-loop-again Inv-loop μ-loop
-loop-again c = let f = found (c .before .before .before .before .before .before .before .before .before .before .args .rest .now) (c .before .before .before .before .before .before .before .before .loop .at) (c .before .before .before .before .before .before .before .loop-test .taken) (c .before .before .before .before .before .card-len .result) (c .before .before .before .before .before .card-len .ensures) in (omega arith, ap (λ (l : ℕ). rising l (cardsOf (drop (c .before .before .before .before .before .before .before .before .loop .at + c .before .before .before .before .before .card-len .result + 1) (c .before .before .before .before .before .before .before .before .before .before .args .rest .now)))) (c .least-behind .ensures ∙ ap (λ (x : List ℕ). cond (isPm x) (digitOf x + 1) (c .before .before .before .before .before .before .before .before .loop .least)) (part-is (c .before .before .before .before .before .before .before .before .before .before .args .rest .now) (c .before .before .before .before .before .before .before .before .loop .at) (c .before .before .before .before .before .card-len .result))) ∙ sym (ap (rising (c .before .before .before .before .before .before .before .before .loop .least)) (f .goes (omega arith)) ∙ rising-on (c .before .before .before .before .before .before .before .before .loop .least) (take (c .before .before .before .before .before .card-len .result) (drop (c .before .before .before .before .before .before .before .before .loop .at) (c .before .before .before .before .before .before .before .before .before .before .args .rest .now))) (cardsOf (drop (c .before .before .before .before .before .before .before .before .loop .at + c .before .before .before .before .before .card-len .result + 1) (c .before .before .before .before .before .before .before .before .before .before .args .rest .now))) (sym (ap (λ (x : List ℕ). isPm x && ltb (digitOf x) (c .before .before .before .before .before .before .before .before .loop .least)) (part-is (c .before .before .before .before .before .before .before .before .before .before .args .rest .now) (c .before .before .before .before .before .before .before .before .loop .at) (c .before .before .before .before .before .card-len .result))) ∙ sym (c .before .before .is-low .ensures) ∙ c .before .if2 .left)) ∙ c .before .before .before .before .before .before .before .before .loop .inv .1)
+loop-again c =
+    let then = c .before .before .before .before .before in let card-len = then .card-len in
+    let then = then .before .before in let loop-test = then .loop-test in
+    let then = then .before in let loop = then .loop in
+    let args = then .before .before .args in
+    let f = found (args .rest .now) (loop .at) (loop-test .taken) (card-len .result) (card-len .ensures) in (
+      omega arith,
+      ap (λ (l : ℕ). rising l (cardsOf (drop (loop .at + card-len .result + 1) (args .rest .now))))
+          (c .least-behind .ensures ∙ ap (λ (x : List ℕ). cond (isPm x) (digitOf x + 1) (loop .least))
+          (part-is (args .rest .now) (loop .at) (card-len .result)))
+          ∙ sym (ap (rising (loop .least)) (f .goes (omega arith))
+          ∙ rising-on (loop .least) (take (card-len .result) (drop (loop .at) (args .rest .now)))
+          (cardsOf (drop (loop .at + card-len .result + 1) (args .rest .now)))
+          (sym (ap (λ (x : List ℕ). isPm x && ltb (digitOf x) (loop .least)) (part-is (args .rest .now) (loop .at) (card-len .result)))
+          ∙ sym (c .before .before .is-low .ensures) ∙ c .before .if2 .left))
+          ∙ loop .inv .1,
+    )
 
 returns-3 : tie.Need-returns-3 Inv-loop μ-loop
-returns-3 c = sym (ap (rising (c .before .loop .least)) (lines-done (c .before .before .before .args .rest .now) (c .before .loop .at) (c .loop-test .left))) ∙ c .before .loop .inv .1
+returns-3 c =
+    let then = c .before in let loop = then .loop in
+    let args = then .before .before .args in
+    sym (ap (rising (loop .least)) (lines-done (args .rest .now) (loop .at) (c .loop-test .left))) ∙ loop .inv .1
 
 pub is-rising-spec : {M : Type 1} → statement M
 is-rising-spec =

@@ -23,13 +23,31 @@ is-trn-requires : tie.Need-is-trn-requires
 is-trn-requires c κs = search needs
 
 returns-3 : tie.Need-returns-3
-returns-3 c = rw (sym (c .before .before .before .before .before .field-is .ensures) ∙ c .before .before .before .before .if1 .left, sym (c .before .before .before .is-tal .ensures) ∙ c .before .before .if2 .left, sym (c .before .is-trn .ensures) ∙ c .if3 .taken)
+returns-3 c =
+    let then = c .before .before .before in let is-tal = then .is-tal in
+    let then = then .before in let if1 = then .if1 in
+    let field-is = then .before .field-is in
+    rw (
+      sym (field-is .ensures) ∙ if1 .left,
+      sym (is-tal .ensures) ∙ c .before .before .if2 .left,
+      sym (c .before .is-trn .ensures) ∙ c .if3 .taken,
+    )
 
 is-pm-requires : tie.Need-is-pm-requires
 is-pm-requires c κs = search needs
 
 returns-4 : tie.Need-returns-4
-returns-4 c = rw (sym (c .before .before .before .before .before .before .field-is .ensures) ∙ c .before .before .before .before .before .if1 .left, sym (c .before .before .before .before .is-tal .ensures) ∙ c .before .before .before .if2 .left, sym (c .before .before .is-trn .ensures) ∙ c .before .if3 .left, ← c .is-pm .ensures)
+returns-4 c =
+    let then = c .before .before .before in let if2 = then .if2 in
+    let then = then .before in let is-tal = then .is-tal in
+    let then = then .before in let if1 = then .if1 in
+    let field-is = then .before .field-is in
+    rw (
+      sym (field-is .ensures) ∙ if1 .left,
+      sym (is-tal .ensures) ∙ if2 .left,
+      sym (c .before .before .is-trn .ensures) ∙ c .before .if3 .left,
+      ← c .is-pm .ensures,
+    )
 
 pub is-unknown-spec : {M : Type 1} → statement M
 is-unknown-spec =

@@ -9,10 +9,16 @@ use Rattle.cards_further.proofs.len_of.Statement.{statement}
 use Rattle.cards_further.proofs.len_of.Tie as tie
 
 returns : tie.Need-returns
-returns c = let l : length (c .before .args .card .text) ≡ textLength = search needs in count-more (c .before .args .card .len) (c .before .args .card .text) textLength l (c .if1 .taken)
+returns c =
+    let args = c .before .args in
+    let l : length (args .card .text) ≡ textLength = search needs in
+    count-more (args .card .len) (args .card .text) textLength l (c .if1 .taken)
 
 returns-2 : tie.Need-returns-2
-returns-2 c = let l : length (c .before .args .card .text) ≡ textLength = search needs in count-less (c .before .args .card .len) (c .before .args .card .text) (omega (arith, l, c .if1 .left))
+returns-2 c =
+    let args = c .before .args in
+    let l : length (args .card .text) ≡ textLength = search needs in
+    count-less (args .card .len) (args .card .text) (omega (arith, l, c .if1 .left))
 
 pub len-of-spec : {M : Type 1} → statement M
 len-of-spec = tie.close (tie.spec returns returns-2)

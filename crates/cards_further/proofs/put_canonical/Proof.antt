@@ -14,7 +14,10 @@ same-length : tie.Need-same-length
 same-length c = search needs
 
 returns : tie.Need-returns
-returns c = rw (sym (c .before .before .before .before .before .is-tal .ensures) ∙ c .before .before .before .before .if1 .taken) (c .before .before .put-tal .ensures)
+returns c =
+    let then = c .before .before .before .before in let if1 = then .if1 in
+    let is-tal = then .before .is-tal in
+    rw (sym (is-tal .ensures) ∙ if1 .taken) (c .before .before .put-tal .ensures)
 
 is-trn-requires : tie.Need-is-trn-requires
 is-trn-requires c κs = search needs
@@ -26,7 +29,12 @@ same-length-2 : tie.Need-same-length-2
 same-length-2 c = search needs
 
 returns-2 : tie.Need-returns-2
-returns-2 c = rw (sym (c .before .before .before .before .before .before .before .is-tal .ensures) ∙ c .before .before .before .before .before .before .if1 .left, sym (c .before .before .before .before .before .is-trn .ensures) ∙ c .before .before .before .before .if2 .taken) (c .before .before .put-trn .ensures)
+returns-2 c =
+    let then = c .before .before .before .before in let if2 = then .if2 in
+    let then = then .before in let is-trn = then .is-trn in
+    let then = then .before in let if1 = then .if1 in
+    let is-tal = then .before .is-tal in
+    rw (sym (is-tal .ensures) ∙ if1 .left, sym (is-trn .ensures) ∙ if2 .taken) (c .before .before .put-trn .ensures)
 
 put-pm-requires : tie.Need-put-pm-requires
 put-pm-requires c κs = search needs
@@ -35,7 +43,12 @@ same-length-3 : tie.Need-same-length-3
 same-length-3 c = search needs
 
 returns-3 : tie.Need-returns-3
-returns-3 c = rw (sym (c .before .before .before .before .before .before .before .is-tal .ensures) ∙ c .before .before .before .before .before .before .if1 .left, sym (c .before .before .before .before .before .is-trn .ensures) ∙ c .before .before .before .before .if2 .left) (c .before .before .put-pm .ensures)
+returns-3 c =
+    let then = c .before .before .before .before in let if2 = then .if2 in
+    let then = then .before in let is-trn = then .is-trn in
+    let then = then .before in let if1 = then .if1 in
+    let is-tal = then .before .is-tal in
+    rw (sym (is-tal .ensures) ∙ if1 .left, sym (is-trn .ensures) ∙ if2 .left) (c .before .before .put-pm .ensures)
 
 pub put-canonical-spec : {M : Type 1} → statement M
 put-canonical-spec =

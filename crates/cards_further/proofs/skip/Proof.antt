@@ -17,7 +17,8 @@ use Rattle.cards_further.proofs.skip.Statement.{statement}
 use Rattle.cards_further.proofs.skip.Tie as tie
 
 abbrev Inv-loop : tie.InvT-loop
-Inv-loop rest id question want at₀ at = (at ≤ length rest) × (past want (answer question id) (cardsOf (drop at rest)) ≡ past want (answer question id) (cardsOf rest))
+Inv-loop rest id question want at₀ at =
+    (at ≤ length rest) × (past want (answer question id) (cardsOf (drop at rest)) ≡ past want (answer question id) (cardsOf rest))
 
 abbrev μ-loop : tie.MeasureT-loop
 μ-loop rest id question want at₀ at = length rest - at
@@ -38,10 +39,22 @@ card-len-requires : tie.Need-card-len-requires Inv-loop μ-loop
 card-len-requires c κs = search needs
 
 add-end : tie.Need-add-end Inv-loop μ-loop
-add-end c = let f = found (c .before .before .before .before .before .before .args .rest .now) (c .before .before .before .loop .at) (c .before .before .loop-test .taken) (c .card-len .result) (c .card-len .ensures) in omega arith
+add-end c =
+    let then = c .before .before .before in let loop = then .loop in
+    let args = then .before .before .before .args in
+    let f = found (args .rest .now) (loop .at) (c .before .before .loop-test .taken) (c .card-len .result) (c .card-len .ensures) in
+    omega arith
 
 returns : tie.Need-returns Inv-loop μ-loop
-returns c = let f = found (c .before .before .before .before .before .before .before .args .rest .now) (c .before .before .before .before .loop .at) (c .before .before .before .loop-test .taken) (c .before .card-len .result) (c .before .card-len .ensures) in (c .before .before .before .before .loop .inv .0, past-none (answer (c .before .before .before .before .before .before .before .args .question) (c .before .before .before .before .before .before .before .args .id .now)) (c .before .before .before .before .before .before .before .args .want) (c .before .before .before .before .before .before .before .args .rest .now) (c .before .before .before .before .loop .at) (f .ends (omega arith)) ∙ c .before .before .before .before .loop .inv .1)
+returns c =
+    let then = c .before in let card-len = then .card-len in
+    let then = then .before .before in let loop-test = then .loop-test in
+    let then = then .before in let loop = then .loop in
+    let args = then .before .before .before .args in
+    let f = found (args .rest .now) (loop .at) (loop-test .taken) (card-len .result) (card-len .ensures) in (
+      loop .inv .0,
+      past-none (answer (args .question) (args .id .now)) (args .want) (args .rest .now) (loop .at) (f .ends (omega arith)) ∙ loop .inv .1,
+    )
 
 sub-answers : tie.Need-sub-answers Inv-loop μ-loop
 sub-answers c = search needs
@@ -50,25 +63,76 @@ part-answers-start : tie.Need-part-answers-start Inv-loop μ-loop
 part-answers-start c = search needs
 
 part-answers-end : tie.Need-part-answers-end Inv-loop μ-loop
-part-answers-end c = let f = found (c .before .before .before .before .before .before .before .args .rest .now) (c .before .before .before .before .loop .at) (c .before .before .before .loop-test .taken) (c .before .card-len .result) (c .before .card-len .ensures) in omega arith
+part-answers-end c =
+    let then = c .before in let card-len = then .card-len in
+    let then = then .before .before in let loop-test = then .loop-test in
+    let then = then .before in let loop = then .loop in
+    let args = then .before .before .before .args in
+    let f = found (args .rest .now) (loop .at) (loop-test .taken) (card-len .result) (card-len .ensures) in
+    omega arith
 
 answers-requires : tie.Need-answers-requires Inv-loop μ-loop
 answers-requires c κs = search needs
 
 returns-2 : tie.Need-returns-2 Inv-loop μ-loop
-returns-2 c = let f = found (c .before .before .before .before .before .before .before .before .before .before .args .rest .now) (c .before .before .before .before .before .before .before .loop .at) (c .before .before .before .before .before .before .loop-test .taken) (c .before .before .before .before .card-len .result) (c .before .before .before .before .card-len .ensures) in (c .before .before .before .before .before .before .before .loop .inv .0, past-here (answer (c .before .before .before .before .before .before .before .before .before .before .args .question) (c .before .before .before .before .before .before .before .before .before .before .args .id .now)) (c .before .before .before .before .before .before .before .before .before .before .args .want) (c .before .before .before .before .before .before .before .before .before .before .args .rest .now) (c .before .before .before .before .before .before .before .loop .at) (take (c .before .before .before .before .card-len .result) (drop (c .before .before .before .before .before .before .before .loop .at) (c .before .before .before .before .before .before .before .before .before .before .args .rest .now))) (c .before .before .before .before .before .before .before .loop .at + c .before .before .before .before .card-len .result + 1) (f .goes (omega arith)) (λ e. differ (c .before .answers .result) (c .before .before .before .before .before .before .before .before .before .before .args .want) (c .if2 .taken) (c .before .answers .ensures ∙ ap (answer (c .before .before .before .before .before .before .before .before .before .before .args .question) (c .before .before .before .before .before .before .before .before .before .before .args .id .now)) (part-is (c .before .before .before .before .before .before .before .before .before .before .args .rest .now) (c .before .before .before .before .before .before .before .loop .at) (c .before .before .before .before .card-len .result)) ∙ e)) ∙ c .before .before .before .before .before .before .before .loop .inv .1)
+returns-2 c =
+    let then = c .before in let answers = then .answers in
+    let then = then .before .before .before in let card-len = then .card-len in
+    let then = then .before .before in let loop-test = then .loop-test in
+    let then = then .before in let loop = then .loop in
+    let args = then .before .before .before .args in
+    let f = found (args .rest .now) (loop .at) (loop-test .taken) (card-len .result) (card-len .ensures) in (
+      loop .inv .0,
+      past-here (answer (args .question) (args .id .now)) (args .want) (args .rest .now) (loop .at)
+          (take (card-len .result) (drop (loop .at) (args .rest .now))) (loop .at + card-len .result + 1) (f .goes (omega arith))
+          (λ e. differ (answers .result) (args .want) (c .if2 .taken)
+          (answers .ensures ∙ ap (answer (args .question) (args .id .now)) (part-is (args .rest .now) (loop .at) (card-len .result)) ∙ e))
+          ∙ loop .inv .1,
+    )
 
 add-at : tie.Need-add-at Inv-loop μ-loop
-add-at c = let f = found (c .before .before .before .before .before .before .before .before .before .before .args .rest .now) (c .before .before .before .before .before .before .before .loop .at) (c .before .before .before .before .before .before .loop-test .taken) (c .before .before .before .before .card-len .result) (c .before .before .before .before .card-len .ensures) in omega arith
+add-at c =
+    let then = c .before .before .before .before in let card-len = then .card-len in
+    let then = then .before .before in let loop-test = then .loop-test in
+    let then = then .before in let loop = then .loop in
+    let args = then .before .before .before .args in
+    let f = found (args .rest .now) (loop .at) (loop-test .taken) (card-len .result) (card-len .ensures) in
+    omega arith
 
 loop-less : tie.Need-loop-less Inv-loop μ-loop
-loop-less c = let f = found (c .before .before .before .before .before .before .before .before .before .before .args .rest .now) (c .before .before .before .before .before .before .before .loop .at) (c .before .before .before .before .before .before .loop-test .taken) (c .before .before .before .before .card-len .result) (c .before .before .before .before .card-len .ensures) in omega arith
+loop-less c =
+    let then = c .before .before .before .before in let card-len = then .card-len in
+    let then = then .before .before in let loop-test = then .loop-test in
+    let then = then .before in let loop = then .loop in
+    let args = then .before .before .before .args in
+    let f = found (args .rest .now) (loop .at) (loop-test .taken) (card-len .result) (card-len .ensures) in
+    omega arith
 
 loop-again : tie.Need-loop-again Inv-loop μ-loop
-loop-again c = let f = found (c .before .before .before .before .before .before .before .before .before .before .args .rest .now) (c .before .before .before .before .before .before .before .loop .at) (c .before .before .before .before .before .before .loop-test .taken) (c .before .before .before .before .card-len .result) (c .before .before .before .before .card-len .ensures) in (omega arith, past-on (answer (c .before .before .before .before .before .before .before .before .before .before .args .question) (c .before .before .before .before .before .before .before .before .before .before .args .id .now)) (c .before .before .before .before .before .before .before .before .before .before .args .want) (c .before .before .before .before .before .before .before .before .before .before .args .rest .now) (c .before .before .before .before .before .before .before .loop .at) (take (c .before .before .before .before .card-len .result) (drop (c .before .before .before .before .before .before .before .loop .at) (c .before .before .before .before .before .before .before .before .before .before .args .rest .now))) (c .before .before .before .before .before .before .before .loop .at + c .before .before .before .before .card-len .result + 1) (f .goes (omega arith)) (sym (ap (answer (c .before .before .before .before .before .before .before .before .before .before .args .question) (c .before .before .before .before .before .before .before .before .before .before .args .id .now)) (part-is (c .before .before .before .before .before .before .before .before .before .before .args .rest .now) (c .before .before .before .before .before .before .before .loop .at) (c .before .before .before .before .card-len .result))) ∙ sym (c .before .answers .ensures) ∙ agree (c .before .answers .result) (c .before .before .before .before .before .before .before .before .before .before .args .want) (c .if2 .left)) ∙ c .before .before .before .before .before .before .before .loop .inv .1)
+loop-again c =
+    let then = c .before in let answers = then .answers in
+    let then = then .before .before .before in let card-len = then .card-len in
+    let then = then .before .before in let loop-test = then .loop-test in
+    let then = then .before in let loop = then .loop in
+    let args = then .before .before .before .args in
+    let f = found (args .rest .now) (loop .at) (loop-test .taken) (card-len .result) (card-len .ensures) in (
+      omega arith,
+      past-on (answer (args .question) (args .id .now)) (args .want) (args .rest .now) (loop .at)
+          (take (card-len .result) (drop (loop .at) (args .rest .now))) (loop .at + card-len .result + 1) (f .goes (omega arith))
+          (sym (ap (answer (args .question) (args .id .now)) (part-is (args .rest .now) (loop .at) (card-len .result))) ∙ sym (answers .ensures)
+          ∙ agree (answers .result) (args .want) (c .if2 .left))
+          ∙ loop .inv .1,
+    )
 
 returns-3 : tie.Need-returns-3 Inv-loop μ-loop
-returns-3 c = (c .before .loop .inv .0, past-none (answer (c .before .before .before .before .args .question) (c .before .before .before .before .args .id .now)) (c .before .before .before .before .args .want) (c .before .before .before .before .args .rest .now) (c .before .loop .at) (lines-done (c .before .before .before .before .args .rest .now) (c .before .loop .at) (c .loop-test .left)) ∙ c .before .loop .inv .1)
+returns-3 c =
+    let then = c .before in let loop = then .loop in
+    let args = then .before .before .before .args in (
+      loop .inv .0,
+      past-none (answer (args .question) (args .id .now)) (args .want) (args .rest .now) (loop .at)
+          (lines-done (args .rest .now) (loop .at) (c .loop-test .left))
+          ∙ loop .inv .1,
+    )
 
 pub skip-spec : {M : Type 1} → statement M
 skip-spec =

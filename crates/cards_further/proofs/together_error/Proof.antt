@@ -20,25 +20,57 @@ is-pm-wrong-requires c κs = search needs
 
 returns-2 : tie.Need-returns-2
 unfolding togetherError
-returns-2 c = rw (sym (c .before .before .before .is-any .ensures) ∙ c .before .before .if1 .left, sym (c .before .is-pm-wrong .ensures) ∙ c .if2 .taken)
+returns-2 c =
+    let is-any = c .before .before .before .is-any in
+    rw (sym (is-any .ensures) ∙ c .before .before .if1 .left, sym (c .before .is-pm-wrong .ensures) ∙ c .if2 .taken)
 
 is-apart-requires : tie.Need-is-apart-requires
 is-apart-requires c κs = search needs
 
 returns-3 : tie.Need-returns-3
 unfolding togetherError
-returns-3 c = rw (sym (c .before .before .before .before .before .is-any .ensures) ∙ c .before .before .before .before .if1 .left, sym (c .before .before .before .is-pm-wrong .ensures) ∙ c .before .before .if2 .left, sym (c .before .is-apart .ensures) ∙ c .if3 .taken)
+returns-3 c =
+    let then = c .before .before .before in let is-pm-wrong = then .is-pm-wrong in
+    let then = then .before in let if1 = then .if1 in
+    let is-any = then .before .is-any in
+    rw (
+      sym (is-any .ensures) ∙ if1 .left,
+      sym (is-pm-wrong .ensures) ∙ c .before .before .if2 .left,
+      sym (c .before .is-apart .ensures) ∙ c .if3 .taken,
+    )
 
 is-apart-requires-2 : tie.Need-is-apart-requires-2
 is-apart-requires-2 c κs = search needs
 
 returns-4 : tie.Need-returns-4
 unfolding togetherError
-returns-4 c = rw (sym (c .before .before .before .before .before .before .before .is-any .ensures) ∙ c .before .before .before .before .before .before .if1 .left, sym (c .before .before .before .before .before .is-pm-wrong .ensures) ∙ c .before .before .before .before .if2 .left, sym (c .before .before .before .is-apart .ensures) ∙ c .before .before .if3 .left, sym (c .before .is-apart2 .ensures) ∙ c .if4 .taken)
+returns-4 c =
+    let then = c .before .before .before in let is-apart = then .is-apart in
+    let then = then .before in let if2 = then .if2 in
+    let then = then .before in let is-pm-wrong = then .is-pm-wrong in
+    let then = then .before in let if1 = then .if1 in
+    let is-any = then .before .is-any in
+    rw (
+      sym (is-any .ensures) ∙ if1 .left,
+      sym (is-pm-wrong .ensures) ∙ if2 .left,
+      sym (is-apart .ensures) ∙ c .before .before .if3 .left,
+      sym (c .before .is-apart2 .ensures) ∙ c .if4 .taken,
+    )
 
 returns-5 : tie.Need-returns-5
 unfolding togetherError
-returns-5 c = rw (sym (c .before .before .before .before .before .before .before .is-any .ensures) ∙ c .before .before .before .before .before .before .if1 .left, sym (c .before .before .before .before .before .is-pm-wrong .ensures) ∙ c .before .before .before .before .if2 .left, sym (c .before .before .before .is-apart .ensures) ∙ c .before .before .if3 .left, sym (c .before .is-apart2 .ensures) ∙ c .if4 .left)
+returns-5 c =
+    let then = c .before .before .before in let is-apart = then .is-apart in
+    let then = then .before in let if2 = then .if2 in
+    let then = then .before in let is-pm-wrong = then .is-pm-wrong in
+    let then = then .before in let if1 = then .if1 in
+    let is-any = then .before .is-any in
+    rw (
+      sym (is-any .ensures) ∙ if1 .left,
+      sym (is-pm-wrong .ensures) ∙ if2 .left,
+      sym (is-apart .ensures) ∙ c .before .before .if3 .left,
+      sym (c .before .is-apart2 .ensures) ∙ c .if4 .left,
+    )
 
 pub together-error-spec : {M : Type 1} → statement M
 together-error-spec =

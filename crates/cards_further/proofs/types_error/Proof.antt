@@ -23,11 +23,17 @@ is-any-requires-2 c κs = search needs
 
 returns-2 : tie.Need-returns-2
 unfolding typesError
-returns-2 c = rw (sym (c .before .before .before .before .is-any .ensures) ∙ c .before .before .before .if1 .left, sym (c .before .is-any2 .ensures) ∙ c .if2 .taken)
+returns-2 c =
+    let then = c .before .before .before in let if1 = then .if1 in
+    let is-any = then .before .is-any in
+    rw (sym (is-any .ensures) ∙ if1 .left, sym (c .before .is-any2 .ensures) ∙ c .if2 .taken)
 
 returns-3 : tie.Need-returns-3
 unfolding typesError
-returns-3 c = rw (sym (c .before .before .before .before .is-any .ensures) ∙ c .before .before .before .if1 .left, sym (c .before .is-any2 .ensures) ∙ c .if2 .left)
+returns-3 c =
+    let then = c .before .before .before in let if1 = then .if1 in
+    let is-any = then .before .is-any in
+    rw (sym (is-any .ensures) ∙ if1 .left, sym (c .before .is-any2 .ensures) ∙ c .if2 .left)
 
 pub types-error-spec : {M : Type 1} → statement M
 types-error-spec =

@@ -20,20 +20,44 @@ is-good-requires : tie.Need-is-good-requires
 is-good-requires c κs = search needs
 
 returns : tie.Need-returns
-returns c = front-pty (c .before .before .before .before .before .args .n) (c .before .before .before .before .before .args .pty .now) (c .before .before .before .before .before .args .fac .now) (c .before .before .pty-error .result) (c .before .before .pty-error .ensures) (sym (c .before .is-good .ensures) ∙ not-true _ (c .if1 .taken))
+returns c =
+    let then = c .before .before in let pty-error = then .pty-error in
+    let args = then .before .before .before .args in
+    front-pty (args .n) (args .pty .now) (args .fac .now) (pty-error .result) (pty-error .ensures)
+    (sym (c .before .is-good .ensures) ∙ not-true _ (c .if1 .taken))
 
 returns-2 : tie.Need-returns-2
-returns-2 c = sym (front-many (c .before .before .before .before .before .before .args .n) (c .before .before .before .before .before .before .args .pty .now) (c .before .before .before .before .before .before .args .fac .now) (sym (c .before .before .before .pty-error .ensures) ∙ good-is (c .before .before .before .pty-error .result) (sym (c .before .before .is-good .ensures) ∙ not-false _ (c .before .if1 .left))) (c .if2 .taken))
+returns-2 c =
+    let then = c .before .before .before in let pty-error = then .pty-error in
+    let args = then .before .before .before .args in
+    sym (front-many (args .n) (args .pty .now) (args .fac .now)
+    (sym (pty-error .ensures) ∙ good-is (pty-error .result) (sym (c .before .before .is-good .ensures) ∙ not-false _ (c .before .if1 .left)))
+    (c .if2 .taken))
 
 number-at-requires : tie.Need-number-at-requires
 unfolding rules
-number-at-requires c κs = let h : length (field (c .before .before .before .before .before .before .args .pty .now) 2) ≤ 2 = not-longer (fields (c .before .before .before .before .before .before .args .pty .now)) (fields-good (c .before .before .before .before .before .before .args .pty .now) (sym (c .before .before .before .pty-error .ensures) ∙ good-is (c .before .before .before .pty-error .result) (sym (c .before .before .is-good .ensures) ∙ not-false _ (c .before .if1 .left)))) 2 (omega arith) in omega arith
+number-at-requires c κs =
+    let then = c .before .before .before in let pty-error = then .pty-error in
+    let args = then .before .before .before .args in
+    let h : length (field (args .pty .now) 2) ≤ 2 =
+    not-longer (fields (args .pty .now))
+    (fields-good (args .pty .now)
+    (sym (pty-error .ensures) ∙ good-is (pty-error .result) (sym (c .before .before .is-good .ensures) ∙ not-false _ (c .before .if1 .left))))
+    2 (omega arith) in
+    omega arith
 
 cast-if3 : tie.Need-cast-if3
 cast-if3 c = search needs
 
 returns-3 : tie.Need-returns-3
-returns-3 c = sym (front-count (c .before .before .before .before .before .before .before .before .args .n) (c .before .before .before .before .before .before .before .before .args .pty .now) (c .before .before .before .before .before .before .before .before .args .fac .now) (sym (c .before .before .before .before .before .pty-error .ensures) ∙ good-is (c .before .before .before .before .before .pty-error .result) (sym (c .before .before .before .before .is-good .ensures) ∙ not-false _ (c .before .before .before .if1 .left))) (c .before .before .if2 .left) (λ e. c .if3 .taken (c .before .number-at .ensures ∙ e)))
+returns-3 c =
+    let then = c .before .before .before in let if1 = then .if1 in
+    let then = then .before in let is-good = then .is-good in
+    let then = then .before in let pty-error = then .pty-error in
+    let args = then .before .before .before .args in
+    sym (front-count (args .n) (args .pty .now) (args .fac .now)
+    (sym (pty-error .ensures) ∙ good-is (pty-error .result) (sym (is-good .ensures) ∙ not-false _ (if1 .left))) (c .before .before .if2 .left)
+    (λ e. c .if3 .taken (c .before .number-at .ensures ∙ e)))
 
 slice-aggregate-field-is : tie.Need-slice-aggregate-field-is
 slice-aggregate-field-is c = search needs
@@ -42,10 +66,30 @@ field-is-requires : tie.Need-field-is-requires
 field-is-requires c κs = search needs
 
 returns-4 : tie.Need-returns-4
-returns-4 c = sym (front-good (c .before .before .before .before .before .before .before .before .before .before .before .args .n) (c .before .before .before .before .before .before .before .before .before .before .before .args .pty .now) (c .before .before .before .before .before .before .before .before .before .before .before .args .fac .now) (sym (c .before .before .before .before .before .before .before .before .pty-error .ensures) ∙ good-is (c .before .before .before .before .before .before .before .before .pty-error .result) (sym (c .before .before .before .before .before .before .before .is-good .ensures) ∙ not-false _ (c .before .before .before .before .before .before .if1 .left))) (c .before .before .before .before .before .if2 .left) (sym (c .before .before .before .before .number-at .ensures) ∙ c .before .before .before .if3 .left) (sym (c .before .field-is .ensures) ∙ c .if4 .taken))
+returns-4 c =
+    let then = c .before .before .before in let if3 = then .if3 in
+    let then = then .before in let number-at = then .number-at in
+    let then = then .before in let if2 = then .if2 in
+    let then = then .before in let if1 = then .if1 in
+    let then = then .before in let is-good = then .is-good in
+    let then = then .before in let pty-error = then .pty-error in
+    let args = then .before .before .before .args in
+    sym (front-good (args .n) (args .pty .now) (args .fac .now)
+    (sym (pty-error .ensures) ∙ good-is (pty-error .result) (sym (is-good .ensures) ∙ not-false _ (if1 .left))) (if2 .left)
+    (sym (number-at .ensures) ∙ if3 .left) (sym (c .before .field-is .ensures) ∙ c .if4 .taken))
 
 returns-5 : tie.Need-returns-5
-returns-5 c = sym (front-other (c .before .before .before .before .before .before .before .before .before .before .before .args .n) (c .before .before .before .before .before .before .before .before .before .before .before .args .pty .now) (c .before .before .before .before .before .before .before .before .before .before .before .args .fac .now) (sym (c .before .before .before .before .before .before .before .before .pty-error .ensures) ∙ good-is (c .before .before .before .before .before .before .before .before .pty-error .result) (sym (c .before .before .before .before .before .before .before .is-good .ensures) ∙ not-false _ (c .before .before .before .before .before .before .if1 .left))) (c .before .before .before .before .before .if2 .left) (sym (c .before .before .before .before .number-at .ensures) ∙ c .before .before .before .if3 .left) (sym (c .before .field-is .ensures) ∙ c .if4 .left))
+returns-5 c =
+    let then = c .before .before .before in let if3 = then .if3 in
+    let then = then .before in let number-at = then .number-at in
+    let then = then .before in let if2 = then .if2 in
+    let then = then .before in let if1 = then .if1 in
+    let then = then .before in let is-good = then .is-good in
+    let then = then .before in let pty-error = then .pty-error in
+    let args = then .before .before .before .args in
+    sym (front-other (args .n) (args .pty .now) (args .fac .now)
+    (sym (pty-error .ensures) ∙ good-is (pty-error .result) (sym (is-good .ensures) ∙ not-false _ (if1 .left))) (if2 .left)
+    (sym (number-at .ensures) ∙ if3 .left) (sym (c .before .field-is .ensures) ∙ c .if4 .left))
 
 pub front-error-spec : {M : Type 1} → statement M
 front-error-spec =

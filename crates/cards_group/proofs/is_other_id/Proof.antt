@@ -17,28 +17,70 @@ field-at-requires : tie.Need-field-at-requires
 field-at-requires c κs = search needs
 
 array-share-prefix-bytes : tie.Need-array-share-prefix-bytes
-array-share-prefix-bytes c = omega (arith, within (c .before .field-at .result) (field (c .before .before .before .before .before .args .pty .now) 0) (c .before .field-at .ensures), ap (λ (f : Field). f .len) (c .before .field-at .ensures), c .before .before .before .before .before .pre)
+array-share-prefix-bytes c =
+    let then = c .before in let field-at = then .field-at in
+    let then = then .before .before .before .before in let args = then .args in let pre = then .pre in
+    omega (arith, within (field-at .result) (field (args .pty .now) 0) (field-at .ensures), ap (λ (f : Field). f .len) (field-at .ensures), pre)
 
 slice-aggregate-field-is : tie.Need-slice-aggregate-field-is
-slice-aggregate-field-is c = sym (length-take-le (c .before .before .field-at .result .len) (c .before .before .field-at .result .bytes) (omega (arith, within (c .before .before .field-at .result) (field (c .before .before .before .before .before .before .args .pty .now) 0) (c .before .before .field-at .ensures), ap (λ (f : Field). f .len) (c .before .before .field-at .ensures), c .before .before .before .before .before .before .pre)))
+slice-aggregate-field-is c =
+    let then = c .before .before in let field-at = then .field-at in
+    let then = then .before .before .before .before in let args = then .args in let pre = then .pre in
+    sym (length-take-le (field-at .result .len) (field-at .result .bytes)
+    (omega (
+      arith,
+      within (field-at .result) (field (args .pty .now) 0) (field-at .ensures),
+      ap (λ (f : Field). f .len) (field-at .ensures),
+      pre,
+    )))
 
 field-is-requires : tie.Need-field-is-requires
 field-is-requires c κs = search needs
 
 array-share-prefix-bytes-2 : tie.Need-array-share-prefix-bytes-2
-array-share-prefix-bytes-2 c = omega (arith, within (c .before .before .before .before .field-at .result) (field (c .before .before .before .before .before .before .before .before .args .pty .now) 0) (c .before .before .before .before .field-at .ensures), ap (λ (f : Field). f .len) (c .before .before .before .before .field-at .ensures), c .before .before .before .before .before .before .before .before .pre)
+array-share-prefix-bytes-2 c =
+    let then = c .before .before .before .before in let field-at = then .field-at in
+    let then = then .before .before .before .before in let args = then .args in let pre = then .pre in
+    omega (arith, within (field-at .result) (field (args .pty .now) 0) (field-at .ensures), ap (λ (f : Field). f .len) (field-at .ensures), pre)
 
 slice-aggregate-is-other-id : tie.Need-slice-aggregate-is-other-id
-slice-aggregate-is-other-id c = sym (length-take-le (c .before .before .before .before .before .field-at .result .len) (c .before .before .before .before .before .field-at .result .bytes) (omega (arith, within (c .before .before .before .before .before .field-at .result) (field (c .before .before .before .before .before .before .before .before .before .args .pty .now) 0) (c .before .before .before .before .before .field-at .ensures), ap (λ (f : Field). f .len) (c .before .before .before .before .before .field-at .ensures), c .before .before .before .before .before .before .before .before .before .pre)))
+slice-aggregate-is-other-id c =
+    let then = c .before .before .before .before .before in let field-at = then .field-at in
+    let then = then .before .before .before .before in let args = then .args in let pre = then .pre in
+    sym (length-take-le (field-at .result .len) (field-at .result .bytes)
+    (omega (
+      arith,
+      within (field-at .result) (field (args .pty .now) 0) (field-at .ensures),
+      ap (λ (f : Field). f .len) (field-at .ensures),
+      pre,
+    )))
 
 is-other-id-requires : tie.Need-is-other-id-requires
 is-other-id-requires c κs = search needs
 
 returns : tie.Need-returns
-returns c = c .is-other-id .ensures ∙ any-other (c .before .before .before .before .before .before .before .before .before .before .args .pty .now) _ (cardsOf (c .before .before .before .before .before .before .before .before .before .before .args .rest .now)) (whole (c .before .before .before .before .before .before .field-at .result) (field (c .before .before .before .before .before .before .before .before .before .before .args .pty .now) 0) (c .before .before .before .before .before .before .field-at .ensures) (omega (arith, ap (λ (f : Field). f .len) (c .before .before .before .before .before .before .field-at .ensures), c .before .before .before .before .before .before .before .before .before .before .pre))) (c .before .before .before .before .before .before .before .before .before .before .pre) ∙ rw (sym (ap not (c .before .before .before .field-is .ensures) ∙ other-id (c .before .before .before .before .before .before .before .before .before .before .args .pty .now) (c .before .before .before .before .before .before .before .before .before .before .args .fac .now) _ (whole (c .before .before .before .before .before .before .field-at .result) (field (c .before .before .before .before .before .before .before .before .before .before .args .pty .now) 0) (c .before .before .before .before .before .before .field-at .ensures) (omega (arith, ap (λ (f : Field). f .len) (c .before .before .before .before .before .before .field-at .ensures), c .before .before .before .before .before .before .before .before .before .before .pre))) (c .before .before .before .before .before .before .before .before .before .before .pre)) ∙ ap not (c .before .before .if1 .taken))
+returns c =
+    let then = c .before .before .before in let field-is = then .field-is in
+    let then = then .before .before .before in let field-at = then .field-at in
+    let then = then .before .before .before .before in let args = then .args in let pre = then .pre in
+    c .is-other-id .ensures ∙ any-other (args .pty .now) _ (cardsOf (args .rest .now))
+    (whole (field-at .result) (field (args .pty .now) 0) (field-at .ensures) (omega (arith, ap (λ (f : Field). f .len) (field-at .ensures), pre)))
+    pre
+    ∙ rw (sym (ap not (field-is .ensures)
+    ∙ other-id (args .pty .now) (args .fac .now) _
+    (whole (field-at .result) (field (args .pty .now) 0) (field-at .ensures) (omega (arith, ap (λ (f : Field). f .len) (field-at .ensures), pre)))
+    pre)
+    ∙ ap not (c .before .before .if1 .taken))
 
 returns-2 : tie.Need-returns-2
-returns-2 c = rw (sym (ap not (c .before .field-is .ensures) ∙ other-id (c .before .before .before .before .before .before .before .before .args .pty .now) (c .before .before .before .before .before .before .before .before .args .fac .now) _ (whole (c .before .before .before .before .field-at .result) (field (c .before .before .before .before .before .before .before .before .args .pty .now) 0) (c .before .before .before .before .field-at .ensures) (omega (arith, ap (λ (f : Field). f .len) (c .before .before .before .before .field-at .ensures), c .before .before .before .before .before .before .before .before .pre))) (c .before .before .before .before .before .before .before .before .pre)) ∙ ap not (c .if1 .left))
+returns-2 c =
+    let then = c .before .before .before .before in let field-at = then .field-at in
+    let then = then .before .before .before .before in let args = then .args in let pre = then .pre in
+    rw (sym (ap not (c .before .field-is .ensures)
+    ∙ other-id (args .pty .now) (args .fac .now) _
+    (whole (field-at .result) (field (args .pty .now) 0) (field-at .ensures) (omega (arith, ap (λ (f : Field). f .len) (field-at .ensures), pre)))
+    pre)
+    ∙ ap not (c .if1 .left))
 
 pub is-other-id-spec : {M : Type 1} → statement M
 is-other-id-spec =

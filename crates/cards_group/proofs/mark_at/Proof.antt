@@ -12,7 +12,9 @@ array-read-result : tie.Need-array-read-result
 array-read-result c = search needs
 
 returns : tie.Need-returns
-returns c = rw (c .before .field-at .ensures) (mark-padded (field (c .before .before .before .args .card .now) (c .before .before .before .args .k)))
+returns c =
+    let args = c .before .before .before .args in
+    rw (c .before .field-at .ensures) (mark-padded (field (args .card .now) (args .k)))
 
 pub mark-at-spec : {M : Type 1} → statement M
 mark-at-spec = tie.close (tie.spec field-at-requires array-read-result returns)

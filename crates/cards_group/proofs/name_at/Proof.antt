@@ -29,7 +29,9 @@ array-read-t22 : tie.Need-array-read-t22
 array-read-t22 c = search needs
 
 returns : tie.Need-returns
-returns c = ap (λ (f : Field). firstSix (f .bytes)) (c .before .field-at .ensures) ∙ six-padded (field (c .before .before .before .args .card .now) (c .before .before .before .args .k))
+returns c =
+    let args = c .before .before .before .args in
+    ap (λ (f : Field). firstSix (f .bytes)) (c .before .field-at .ensures) ∙ six-padded (field (args .card .now) (args .k))
 
 pub name-at-spec : {M : Type 1} → statement M
 name-at-spec =

@@ -16,16 +16,38 @@ field-at-requires : tie.Need-field-at-requires
 field-at-requires c κs = search needs
 
 array-share-prefix-bytes : tie.Need-array-share-prefix-bytes
-array-share-prefix-bytes c = omega (arith, within (c .before .field-at .result) (field (c .before .before .before .args .card .now) (c .before .before .before .args .k)) (c .before .field-at .ensures), ap (λ (f : Field). f .len) (c .before .field-at .ensures), c .before .before .before .pre)
+array-share-prefix-bytes c =
+    let then = c .before in let field-at = then .field-at in
+    let then = then .before .before in let args = then .args in let pre = then .pre in
+    omega (
+      arith,
+      within (field-at .result) (field (args .card .now) (args .k)) (field-at .ensures),
+      ap (λ (f : Field). f .len) (field-at .ensures),
+      pre,
+    )
 
 slice-aggregate-number : tie.Need-slice-aggregate-number
-slice-aggregate-number c = sym (length-take-le (c .before .before .field-at .result .len) (c .before .before .field-at .result .bytes) (omega (arith, within (c .before .before .field-at .result) (field (c .before .before .before .before .args .card .now) (c .before .before .before .before .args .k)) (c .before .before .field-at .ensures), ap (λ (f : Field). f .len) (c .before .before .field-at .ensures), c .before .before .before .before .pre)))
+slice-aggregate-number c =
+    let then = c .before .before in let field-at = then .field-at in
+    let then = then .before .before in let args = then .args in let pre = then .pre in
+    sym (length-take-le (field-at .result .len) (field-at .result .bytes)
+    (omega (
+      arith,
+      within (field-at .result) (field (args .card .now) (args .k)) (field-at .ensures),
+      ap (λ (f : Field). f .len) (field-at .ensures),
+      pre,
+    )))
 
 number-requires : tie.Need-number-requires
 number-requires c κs = search needs
 
 returns : tie.Need-returns
-returns c = c .number .ensures ∙ ap numberIn (whole (c .before .before .before .field-at .result) (field (c .before .before .before .before .before .args .card .now) (c .before .before .before .before .before .args .k)) (c .before .before .before .field-at .ensures) (omega (arith, ap (λ (f : Field). f .len) (c .before .before .before .field-at .ensures), c .before .before .before .before .before .pre))) ∙ number-short (field (c .before .before .before .before .before .args .card .now) (c .before .before .before .before .before .args .k)) (c .before .before .before .before .before .pre)
+returns c =
+    let then = c .before .before .before in let field-at = then .field-at in
+    let then = then .before .before in let args = then .args in let pre = then .pre in
+    c .number .ensures ∙ ap numberIn (whole (field-at .result) (field (args .card .now) (args .k)) (field-at .ensures)
+    (omega (arith, ap (λ (f : Field). f .len) (field-at .ensures), pre)))
+    ∙ number-short (field (args .card .now) (args .k)) pre
 
 pub number-at-spec : {M : Type 1} → statement M
 number-at-spec =

@@ -14,19 +14,35 @@ is-good-requires : tie.Need-is-good-requires
 is-good-requires c κs = search needs
 
 returns : tie.Need-returns
-returns c = order-types (c .before .before .before .before .before .before .args .pty .now) (c .before .before .before .before .before .before .args .fac .now) (cardsOf (c .before .before .before .before .before .before .args .rest .now)) (c .before .before .types-error .result) (c .before .before .types-error .ensures) (sym (c .before .is-good .ensures) ∙ not-true _ (c .if1 .taken))
+returns c =
+    let then = c .before .before in let types-error = then .types-error in
+    let args = then .before .before .before .before .args in
+    order-types (args .pty .now) (args .fac .now) (cardsOf (args .rest .now)) (types-error .result) (types-error .ensures)
+    (sym (c .before .is-good .ensures) ∙ not-true _ (c .if1 .taken))
 
 is-other-id-requires : tie.Need-is-other-id-requires
 is-other-id-requires c κs = c .before .before .before .before .before .before .pre
 
 returns-2 : tie.Need-returns-2
-returns-2 c = sym (order-ids (c .before .before .before .before .before .before .before .before .args .pty .now) (c .before .before .before .before .before .before .before .before .args .fac .now) (cardsOf (c .before .before .before .before .before .before .before .before .args .rest .now)) (c .before .before .before .before .types-error .result) (c .before .before .before .before .types-error .ensures) (sym (c .before .before .before .is-good .ensures) ∙ not-false _ (c .before .before .if1 .left)) (sym (c .before .is-other-id .ensures) ∙ c .if2 .taken))
+returns-2 c =
+    let then = c .before .before .before in let is-good = then .is-good in
+    let then = then .before in let types-error = then .types-error in
+    let args = then .before .before .before .before .args in
+    sym (order-ids (args .pty .now) (args .fac .now) (cardsOf (args .rest .now)) (types-error .result) (types-error .ensures)
+    (sym (is-good .ensures) ∙ not-false _ (c .before .before .if1 .left)) (sym (c .before .is-other-id .ensures) ∙ c .if2 .taken))
 
 together-error-requires : tie.Need-together-error-requires
 together-error-requires c κs = search needs
 
 returns-3 : tie.Need-returns-3
-returns-3 c = c .together-error .ensures ∙ sym (order-together (c .before .before .before .before .before .before .before .before .before .args .pty .now) (c .before .before .before .before .before .before .before .before .before .args .fac .now) (cardsOf (c .before .before .before .before .before .before .before .before .before .args .rest .now)) (c .before .before .before .before .before .types-error .result) (c .before .before .before .before .before .types-error .ensures) (sym (c .before .before .before .before .is-good .ensures) ∙ not-false _ (c .before .before .before .if1 .left)) (sym (c .before .before .is-other-id .ensures) ∙ c .before .if2 .left))
+returns-3 c =
+    let then = c .before .before .before in let if1 = then .if1 in
+    let then = then .before in let is-good = then .is-good in
+    let then = then .before in let types-error = then .types-error in
+    let args = then .before .before .before .before .args in
+    c .together-error .ensures ∙ sym (order-together (args .pty .now) (args .fac .now) (cardsOf (args .rest .now)) (types-error .result)
+    (types-error .ensures) (sym (is-good .ensures) ∙ not-false _ (if1 .left))
+    (sym (c .before .before .is-other-id .ensures) ∙ c .before .if2 .left))
 
 pub order-error-spec : {M : Type 1} → statement M
 order-error-spec =

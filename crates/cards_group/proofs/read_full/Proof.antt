@@ -23,13 +23,23 @@ held-requires : tie.Need-held-requires
 held-requires c κs = search needs
 
 returns : tie.Need-returns
-returns c = full-read (cardsOf (c .before .before .before .before .before .before .before .args .group .now)) (c .before .before .before .before .before .read-group .result) (c .before .before .before .before .before .read-group .ensures) (sym (c .before .before .before .is-good .ensures) ∙ c .before .before .if1 .taken) (c .held .result) (c .held .ensures ∙ ap (λ (cs : List (List ℕ)). held (canonicals cs)) (ap cardsOf (c .before .behind .ensures) ∙ behind-cards (c .before .before .before .before .before .before .before .args .group .now) 2))
+returns c =
+    let then = c .before .before .before in let is-good = then .is-good in
+    let then = then .before .before in let read-group = then .read-group in
+    let args = then .before .before .args in
+    full-read (cardsOf (args .group .now)) (read-group .result) (read-group .ensures) (sym (is-good .ensures) ∙ c .before .before .if1 .taken)
+    (c .held .result) (c .held .ensures
+    ∙ ap (λ (cs : List (List ℕ)). held (canonicals cs)) (ap cardsOf (c .before .behind .ensures) ∙ behind-cards (args .group .now) 2))
 
 no-further-requires : tie.Need-no-further-requires
 no-further-requires c κs = search needs
 
 returns-2 : tie.Need-returns-2
-returns-2 c = full-wrong (cardsOf (c .before .before .before .before .before .before .args .group .now)) (c .before .before .before .before .read-group .result) (c .before .before .before .before .read-group .ensures) (sym (c .before .before .is-good .ensures) ∙ c .before .if1 .left) (c .no-further .result) (c .no-further .ensures)
+returns-2 c =
+    let then = c .before .before .before .before in let read-group = then .read-group in
+    let args = then .before .before .args in
+    full-wrong (cardsOf (args .group .now)) (read-group .result) (read-group .ensures)
+    (sym (c .before .before .is-good .ensures) ∙ c .before .if1 .left) (c .no-further .result) (c .no-further .ensures)
 
 pub read-full-spec : {M : Type 1} → statement M
 read-full-spec =

@@ -11,11 +11,17 @@ use Rattle.cards_group.proofs.request.Tie as tie
 
 priority-at-requires : tie.Need-priority-at-requires
 unfolding rules
-priority-at-requires c κs = let h : length (field (c .before .args .card .now) 9) ≤ 5 = not-longer (fields (c .before .args .card .now)) (c .before .pre) 9 (omega arith) in omega arith
+priority-at-requires c κs =
+    let args = c .before .args in
+    let h : length (field (args .card .now) 9) ≤ 5 = not-longer (fields (args .card .now)) (c .before .pre) 9 (omega arith) in
+    omega arith
 
 number-at-requires : tie.Need-number-at-requires
 unfolding rules
-number-at-requires c κs = let h : length (field (c .before .before .args .card .now) 11) ≤ 4 = not-longer (fields (c .before .before .args .card .now)) (c .before .before .pre) 11 (omega arith) in omega arith
+number-at-requires c κs =
+    let args = c .before .before .args in
+    let h : length (field (args .card .now) 11) ≤ 4 = not-longer (fields (args .card .now)) (c .before .before .pre) 11 (omega arith) in
+    omega arith
 
 name-at-requires : tie.Need-name-at-requires
 name-at-requires c κs = search needs

@@ -38,7 +38,14 @@ same-length : tie.Need-same-length
 same-length c = search needs
 
 returns : tie.Need-returns
-returns c = andThen (c .before .before .before .before .before .before .before .before .before .before .before .before .before .before .before .before .before .before .before .before .before .put-bytes .ensures) (andThen (c .before .before .before .before .before .before .before .before .before .before .before .before .before .before .before .before .put-name .ensures) (andThen (c .before .before .before .before .before .before .before .before .before .before .before .put-bytes2 .ensures) (andThen (rw (c .before .before .before .before .before .before .before .number-of .ensures) at (c .before .before .before .before .before .before .put-decimal .ensures)) (c .before .before .put-byte .ensures))))
+returns c =
+    let then = c .before .before .before .before .before .before in let put-decimal = then .put-decimal in
+    let then = then .before in let number-of = then .number-of in
+    let then = then .before .before .before .before in let put-bytes2 = then .put-bytes2 in
+    let then = then .before .before .before .before .before in let put-name = then .put-name in
+    let put-bytes = then .before .before .before .before .before .put-bytes in
+    andThen (put-bytes .ensures) (andThen (put-name .ensures)
+    (andThen (put-bytes2 .ensures) (andThen (rw (number-of .ensures) at (put-decimal .ensures)) (c .before .before .put-byte .ensures))))
 
 pub put-error-spec : {M : Type 1} → statement M
 put-error-spec =

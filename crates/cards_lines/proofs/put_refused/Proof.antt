@@ -26,7 +26,11 @@ same-length : tie.Need-same-length
 same-length c = search needs
 
 returns : tie.Need-returns
-returns c = andThen (c .before .before .before .before .before .before .before .before .before .before .before .put-bytes .ensures) (andThen (rw (c .before .before .before .before .before .before .before .number-of .ensures) at (c .before .before .before .before .before .before .put-decimal .ensures)) (c .before .before .put-byte .ensures))
+returns c =
+    let then = c .before .before .before .before .before .before in let put-decimal = then .put-decimal in
+    let then = then .before in let number-of = then .number-of in
+    let put-bytes = then .before .before .before .before .put-bytes in
+    andThen (put-bytes .ensures) (andThen (rw (number-of .ensures) at (put-decimal .ensures)) (c .before .before .put-byte .ensures))
 
 pub put-refused-spec : {M : Type 1} → statement M
 put-refused-spec =

@@ -19,22 +19,43 @@ field-is-requires : tie.Need-field-is-requires
 field-is-requires c κs = search needs
 
 returns : tie.Need-returns
-returns c = shown-none (c .before .before .before .before .args .card .now) (c .before .before .before .before .args .shown) (c .before .field-is .ensures) (not-true (c .before .field-is .result) (c .if1 .taken))
+returns c =
+    let then = c .before in let field-is = then .field-is in
+    let args = then .before .before .before .args in
+    shown-none (args .card .now) (args .shown) (field-is .ensures) (not-true (field-is .result) (c .if1 .taken))
 
 field-at-requires : tie.Need-field-at-requires
 field-at-requires c κs = search needs
 
 returns-2 : tie.Need-returns-2
-returns-2 c = shown-short (c .before .before .before .before .before .before .before .args .card .now) (c .before .before .before .before .before .before .before .args .shown) (c .before .before .before .before .field-is .ensures) (not-false (c .before .before .before .before .field-is .result) (c .before .before .before .if1 .left)) (c .before .before .field-at .ensures) (c .if2 .taken)
+returns-2 c =
+    let then = c .before .before .before in let if1 = then .if1 in
+    let then = then .before in let field-is = then .field-is in
+    let args = then .before .before .before .args in
+    shown-short (args .card .now) (args .shown) (field-is .ensures) (not-false (field-is .result) (if1 .left))
+    (c .before .before .field-at .ensures) (c .if2 .taken)
 
 returns-3 : tie.Need-returns-3
-returns-3 c = shown-long (c .before .before .before .before .before .before .before .before .args .card .now) (c .before .before .before .before .before .before .before .before .args .shown) (c .before .before .before .before .before .field-is .ensures) (not-false (c .before .before .before .before .before .field-is .result) (c .before .before .before .before .if1 .left)) (c .before .before .before .field-at .ensures) (c .before .if2 .left) (c .if3 .taken)
+returns-3 c =
+    let then = c .before .before .before in let field-at = then .field-at in
+    let then = then .before in let if1 = then .if1 in
+    let then = then .before in let field-is = then .field-is in
+    let args = then .before .before .before .args in
+    shown-long (args .card .now) (args .shown) (field-is .ensures) (not-false (field-is .result) (if1 .left)) (field-at .ensures)
+    (c .before .if2 .left) (c .if3 .taken)
 
 array-share-prefix-b : tie.Need-array-share-prefix-b
-array-share-prefix-b c = omega (arith, c .if3 .left, within (c .before .before .before .field-at .result) (field (c .before .before .before .before .before .before .before .before .args .card .now) 0) (c .before .before .before .field-at .ensures))
+array-share-prefix-b c =
+    let then = c .before .before .before in let field-at = then .field-at in
+    let args = then .before .before .before .before .before .args in
+    omega (arith, c .if3 .left, within (field-at .result) (field (args .card .now) 0) (field-at .ensures))
 
 slice-aggregate-all-of : tie.Need-slice-aggregate-all-of
-slice-aggregate-all-of c = sym (length-take-le (c .before .before .before .before .field-at .result .len) (c .before .before .before .before .field-at .result .bytes) (omega (arith, c .before .if3 .left, within (c .before .before .before .before .field-at .result) (field (c .before .before .before .before .before .before .before .before .before .args .card .now) 0) (c .before .before .before .before .field-at .ensures))))
+slice-aggregate-all-of c =
+    let then = c .before .before .before .before in let field-at = then .field-at in
+    let args = then .before .before .before .before .before .args in
+    sym (length-take-le (field-at .result .len) (field-at .result .bytes)
+    (omega (arith, c .before .if3 .left, within (field-at .result) (field (args .card .now) 0) (field-at .ensures))))
 
 all-of-requires : tie.Need-all-of-requires
 all-of-requires c κs = search needs
@@ -58,10 +79,27 @@ array-read-t32 : tie.Need-array-read-t32
 array-read-t32 c = search needs
 
 returns-4 : tie.Need-returns-4
-returns-4 c = shown-formed (c .before .before .before .before .before .before .before .before .before .before .before .args .card .now) (c .before .before .before .before .before .before .before .before .before .before .before .args .shown) (c .before .before .before .before .before .before .before .before .field-is .ensures) (not-false (c .before .before .before .before .before .before .before .before .field-is .result) (c .before .before .before .before .before .before .before .if1 .left)) (c .before .before .before .before .before .before .field-at .ensures) (c .before .before .before .before .if2 .left) (c .before .before .before .if3 .left) (c .before .all-of .ensures) (c .if4 .taken) (ap (λ (f : Field). firstSix (f .bytes)) (c .before .before .before .before .before .before .field-at .ensures) ∙ six-padded (field (c .before .before .before .before .before .before .before .before .before .before .before .args .card .now) 0))
+returns-4 c =
+    let then = c .before .before .before in let if3 = then .if3 in
+    let then = then .before in let if2 = then .if2 in
+    let then = then .before .before in let field-at = then .field-at in
+    let then = then .before in let if1 = then .if1 in
+    let then = then .before in let field-is = then .field-is in
+    let args = then .before .before .before .args in
+    shown-formed (args .card .now) (args .shown) (field-is .ensures) (not-false (field-is .result) (if1 .left)) (field-at .ensures) (if2 .left)
+    (if3 .left) (c .before .all-of .ensures) (c .if4 .taken)
+    (ap (λ (f : Field). firstSix (f .bytes)) (field-at .ensures) ∙ six-padded (field (args .card .now) 0))
 
 returns-5 : tie.Need-returns-5
-returns-5 c = shown-other (c .before .before .before .before .before .before .before .before .before .before .before .args .card .now) (c .before .before .before .before .before .before .before .before .before .before .before .args .shown) (c .before .before .before .before .before .before .before .before .field-is .ensures) (not-false (c .before .before .before .before .before .before .before .before .field-is .result) (c .before .before .before .before .before .before .before .if1 .left)) (c .before .before .before .before .before .before .field-at .ensures) (c .before .before .before .before .if2 .left) (c .before .before .before .if3 .left) (c .before .all-of .ensures) (c .if4 .left)
+returns-5 c =
+    let then = c .before .before .before in let if3 = then .if3 in
+    let then = then .before in let if2 = then .if2 in
+    let then = then .before .before in let field-at = then .field-at in
+    let then = then .before in let if1 = then .if1 in
+    let then = then .before in let field-is = then .field-is in
+    let args = then .before .before .before .args in
+    shown-other (args .card .now) (args .shown) (field-is .ensures) (not-false (field-is .result) (if1 .left)) (field-at .ensures) (if2 .left)
+    (if3 .left) (c .before .all-of .ensures) (c .if4 .left)
 
 pub shown-by-spec : {M : Type 1} → statement M
 shown-by-spec =

@@ -18,10 +18,16 @@ part-result-end : tie.Need-part-result-end
 part-result-end c = search needs
 
 returns : tie.Need-returns
-returns c = comma-none (c .before .before .before .before .args .s .now) (c .before .before .until .result) (c .before .before .until .ensures) (c .before .if1 .taken)
+returns c =
+    let then = c .before .before in let until = then .until in
+    let args = then .before .before .args in
+    comma-none (args .s .now) (until .result) (until .ensures) (c .before .if1 .taken)
 
 add-result : tie.Need-add-result
-add-result c = omega (arith, comma-within (c .before .before .before .args .s .now) (c .before .until .result) (c .before .until .ensures) (c .if1 .left))
+add-result c =
+    let then = c .before in let until = then .until in
+    let args = then .before .before .args in
+    omega (arith, comma-within (args .s .now) (until .result) (until .ensures) (c .if1 .left))
 
 sub-result-2 : tie.Need-sub-result-2
 sub-result-2 c = comma-within (c .before .before .before .args .s .now) (c .before .until .result) (c .before .until .ensures) (c .if1 .left)

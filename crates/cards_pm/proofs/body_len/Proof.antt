@@ -27,16 +27,25 @@ shared-slice-read-if1 : tie.Need-shared-slice-read-if1 Inv-loop μ-loop
 shared-slice-read-if1 c = search needs
 
 returns : tie.Need-returns Inv-loop μ-loop
-returns c = body-length (c .before .before .before .before .args .card .now) (c .before .before .before .loop .n) (c .before .before .loop-test .taken) (c .before .before .before .loop .inv .0) (c .if1 .taken) (c .before .before .before .loop .inv .1)
+returns c =
+    let then = c .before .before .before in let loop = then .loop in
+    let args = then .before .args in
+    body-length (args .card .now) (loop .n) (c .before .before .loop-test .taken) (loop .inv .0) (c .if1 .taken) (loop .inv .1)
 
 loop-less : tie.Need-loop-less Inv-loop μ-loop
 loop-less c = search needs
 
 loop-again : tie.Need-loop-again Inv-loop μ-loop
-loop-again c = (omega arith, period-later (c .before .before .before .before .args .card .now) (c .before .before .before .loop .n) (c .before .before .loop-test .taken) (c .before .before .before .loop .inv .0) (c .if1 .left) (c .before .before .before .loop .inv .1))
+loop-again c =
+    let then = c .before .before .before in let loop = then .loop in
+    let args = then .before .args in
+    (omega arith, period-later (args .card .now) (loop .n) (c .before .before .loop-test .taken) (loop .inv .0) (c .if1 .left) (loop .inv .1))
 
 returns-2 : tie.Need-returns-2 Inv-loop μ-loop
-returns-2 c = let z : c .before .loop .n ≡ 0 = omega arith in sym (ap length (body-none (c .before .before .args .card .now) (rw z at (c .before .loop .inv .1))))
+returns-2 c =
+    let loop = c .before .loop in
+    let z : loop .n ≡ 0 = omega arith in
+    sym (ap length (body-none (c .before .before .args .card .now) (rw z at (loop .inv .1))))
 
 pub body-len-spec : {M : Type 1} → statement M
 body-len-spec =

@@ -20,7 +20,10 @@ letters-requires : tie.Need-letters-requires
 letters-requires c κs = search needs
 
 returns-2 : tie.Need-returns-2
-returns-2 c = ap (λ (l : List ℕ). ltb pmLength (length l)) (c .letters .ensures) ∙ fault-letters (c .before .before .before .before .args .card .now) (sym (c .before .before .is-malformed .ensures) ∙ c .before .if1 .left)
+returns-2 c =
+    let args = c .before .before .before .before .args in
+    ap (λ (l : List ℕ). ltb pmLength (length l)) (c .letters .ensures)
+    ∙ fault-letters (args .card .now) (sym (c .before .before .is-malformed .ensures) ∙ c .before .if1 .left)
 
 pub is-fault-spec : {M : Type 1} → statement M
 is-fault-spec = tie.close (tie.spec is-malformed-requires returns letters-requires returns-2)

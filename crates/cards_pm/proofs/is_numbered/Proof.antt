@@ -9,7 +9,10 @@ field-at-requires : tie.Need-field-at-requires
 field-at-requires c κs = search needs
 
 returns : tie.Need-returns
-returns c = sym (not-numbered (c .before .before .before .before .args .card .now) (c .before .before .field-at .result) (c .before .before .field-at .ensures) (c .if1 .taken))
+returns c =
+    let then = c .before .before in let field-at = then .field-at in
+    let args = then .before .before .args in
+    sym (not-numbered (args .card .now) (field-at .result) (field-at .ensures) (c .if1 .taken))
 
 array-read-is-digit : tie.Need-array-read-is-digit
 array-read-is-digit c = search needs
@@ -18,7 +21,10 @@ is-digit-requires : tie.Need-is-digit-requires
 is-digit-requires c κs = search needs
 
 returns-2 : tie.Need-returns-2
-returns-2 c = c .is-digit .ensures ∙ numbered-by (c .before .before .before .before .before .before .args .card .now) (c .before .before .before .before .field-at .result) (c .before .before .before .before .field-at .ensures) (c .before .before .if1 .left)
+returns-2 c =
+    let then = c .before .before .before .before in let field-at = then .field-at in
+    let args = then .before .before .args in
+    c .is-digit .ensures ∙ numbered-by (args .card .now) (field-at .result) (field-at .ensures) (c .before .before .if1 .left)
 
 pub is-numbered-spec : {M : Type 1} → statement M
 is-numbered-spec =

@@ -14,10 +14,16 @@ array-read-result : tie.Need-array-read-result
 array-read-result c = search needs
 
 returns : tie.Need-returns
-returns c = pm-by-second (c .before .before .before .before .args .card .now) (c .before .before .field-at .result) (c .before .before .field-at .ensures) (c .if1 .taken)
+returns c =
+    let then = c .before .before in let field-at = then .field-at in
+    let args = then .before .before .args in
+    pm-by-second (args .card .now) (field-at .result) (field-at .ensures) (c .if1 .taken)
 
 returns-2 : tie.Need-returns-2
-returns-2 c = pm-by-first (c .before .before .before .before .args .card .now) (c .before .before .field-at .result) (c .before .before .field-at .ensures) (c .if1 .left)
+returns-2 c =
+    let then = c .before .before in let field-at = then .field-at in
+    let args = then .before .before .args in
+    pm-by-first (args .card .now) (field-at .result) (field-at .ensures) (c .if1 .left)
 
 pub is-pm-spec : {M : Type 1} → statement M
 is-pm-spec =

@@ -12,7 +12,10 @@ body-len-requires : tie.Need-body-len-requires
 body-len-requires c κs = search needs
 
 slice-aggregate-behind-comma : tie.Need-slice-aggregate-behind-comma
-slice-aggregate-behind-comma c = sym (length-take-le (c .before .body-len .result) (c .before .before .before .args .card .now) (omega (arith, c .before .body-len .ensures, body-most (c .before .before .before .args .card .now))))
+slice-aggregate-behind-comma c =
+    let then = c .before in let body-len = then .body-len in
+    let args = then .before .before .args in
+    sym (length-take-le (body-len .result) (args .card .now) (omega (arith, body-len .ensures, body-most (args .card .now))))
 
 behind-comma-requires : tie.Need-behind-comma-requires
 behind-comma-requires c κs = search needs
@@ -21,7 +24,11 @@ behind-comma-requires-2 : tie.Need-behind-comma-requires-2
 behind-comma-requires-2 c κs = search needs
 
 returns : tie.Need-returns
-returns c = c .behind-comma2 .ensures ∙ ap behindComma (c .before .behind-comma .ensures) ∙ letters-by (c .before .before .before .before .before .args .card .now) (c .before .before .before .body-len .result) (c .before .before .before .body-len .ensures)
+returns c =
+    let then = c .before .before .before in let body-len = then .body-len in
+    let args = then .before .before .args in
+    c .behind-comma2 .ensures ∙ ap behindComma (c .before .behind-comma .ensures)
+    ∙ letters-by (args .card .now) (body-len .result) (body-len .ensures)
 
 pub letters-spec : {M : Type 1} → statement M
 letters-spec =

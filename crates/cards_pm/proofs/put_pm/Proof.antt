@@ -32,7 +32,16 @@ same-length : tie.Need-same-length
 same-length c = search needs
 
 returns : tie.Need-returns
-returns c = pm-put (c .before .before .before .before .before .before .before .before .before .before .before .before .before .before .before .before .before .before .before .before .before .before .before .before .before .args .card .now) (c .before .before .before .before .before .before .before .before .before .before .before .before .before .before .before .before .digit-of .ensures) (c .before .before .before .before .before .before .before .letters .ensures) (c .before .before .before .before .before .before .before .before .before .before .before .before .before .before .before .before .before .before .before .before .put-bytes .ensures) (c .before .before .before .before .before .before .before .before .before .before .before .before .before .before .before .put-byte .ensures) (c .before .before .before .before .before .before .before .before .before .before .before .put-byte2 .ensures) (c .before .before .before .before .before .before .put-bytes2 .ensures) (c .before .before .put-byte3 .ensures)
+returns c =
+    let then = c .before .before .before .before .before .before in let put-bytes2 = then .put-bytes2 in
+    let then = then .before in let letters = then .letters in
+    let then = then .before .before .before .before in let put-byte2 = then .put-byte2 in
+    let then = then .before .before .before .before in let put-byte = then .put-byte in
+    let then = then .before in let digit-of = then .digit-of in
+    let then = then .before .before .before .before in let put-bytes = then .put-bytes in
+    let args = then .before .before .before .before .before .args in
+    pm-put (args .card .now) (digit-of .ensures) (letters .ensures) (put-bytes .ensures) (put-byte .ensures) (put-byte2 .ensures)
+    (put-bytes2 .ensures) (c .before .before .put-byte3 .ensures)
 
 pub put-pm-spec : {M : Type 1} → statement M
 put-pm-spec =

@@ -21,19 +21,35 @@ length-error-requires : tie.Need-length-error-requires
 length-error-requires c κs = search needs
 
 returns : tie.Need-returns
-returns c = ap (λ (e : CardError). Wrong e) (c .length-error .ensures) ∙ sym (much-too-long (c .before .before .before .before .args .k) (ruleAt (c .before .before .before .before .args .k)) (field (c .before .before .before .before .args .card .now) (c .before .before .before .before .args .k)) (most-small (c .before .before .before .before .args .k)) (omega (arith, ap (λ (f : Field). f .len) (c .before .before .field-at .ensures))))
+returns c =
+    let args = c .before .before .before .before .args in
+    ap (λ (e : CardError). Wrong e) (c .length-error .ensures)
+    ∙ sym (much-too-long (args .k) (ruleAt (args .k)) (field (args .card .now) (args .k)) (most-small (args .k))
+    (omega (arith, ap (λ (f : Field). f .len) (c .before .before .field-at .ensures))))
 
 array-share-prefix-bytes : tie.Need-array-share-prefix-bytes
-array-share-prefix-bytes c = omega (arith, within (c .before .before .field-at .result) (field (c .before .before .before .before .args .card .now) (c .before .before .before .before .args .k)) (c .before .before .field-at .ensures))
+array-share-prefix-bytes c =
+    let then = c .before .before in let field-at = then .field-at in
+    let args = then .before .before .args in
+    omega (arith, within (field-at .result) (field (args .card .now) (args .k)) (field-at .ensures))
 
 slice-aggregate-field-error : tie.Need-slice-aggregate-field-error
-slice-aggregate-field-error c = sym (length-take-le (c .before .before .before .field-at .result .len) (c .before .before .before .field-at .result .bytes) (omega (arith, within (c .before .before .before .field-at .result) (field (c .before .before .before .before .before .args .card .now) (c .before .before .before .before .before .args .k)) (c .before .before .before .field-at .ensures))))
+slice-aggregate-field-error c =
+    let then = c .before .before .before in let field-at = then .field-at in
+    let args = then .before .before .args in
+    sym (length-take-le (field-at .result .len) (field-at .result .bytes)
+    (omega (arith, within (field-at .result) (field (args .card .now) (args .k)) (field-at .ensures))))
 
 field-error-requires : tie.Need-field-error-requires
 field-error-requires c κs = search needs
 
 returns-2 : tie.Need-returns-2
-returns-2 c = c .field-error .ensures ∙ ap (fieldError (c .before .before .before .before .before .before .args .k) (ruleAt (c .before .before .before .before .before .before .args .k))) (whole (c .before .before .before .before .field-at .result) (field (c .before .before .before .before .before .before .args .card .now) (c .before .before .before .before .before .before .args .k)) (c .before .before .before .before .field-at .ensures) (c .before .before .before .if1 .left))
+returns-2 c =
+    let then = c .before .before .before in let if1 = then .if1 in
+    let then = then .before in let field-at = then .field-at in
+    let args = then .before .before .args in
+    c .field-error .ensures ∙ ap (fieldError (args .k) (ruleAt (args .k)))
+    (whole (field-at .result) (field (args .card .now) (args .k)) (field-at .ensures) (if1 .left))
 
 pub error-at-spec : {M : Type 1} → statement M
 error-at-spec =

@@ -11,13 +11,18 @@ use Rattle.cards_pty.proofs.field_error.Statement.{statement}
 use Rattle.cards_pty.proofs.field_error.Tie as tie
 
 returns : tie.Need-returns
-returns c = sym (none-empty (c .before .before .before .args .k) (c .before .before .before .args .t .now) (c .before .if1 .taken) (c .if2 .taken))
+returns c =
+    let args = c .before .before .before .args in
+    sym (none-empty (args .k) (args .t .now) (c .before .if1 .taken) (c .if2 .taken))
 
 length-error-requires : tie.Need-length-error-requires
 length-error-requires c κs = search needs
 
 returns-2 : tie.Need-returns-2
-returns-2 c = ap (λ (e : CardError). Wrong e) (c .length-error .ensures) ∙ sym (none-long (c .before .before .before .before .args .k) (c .before .before .before .before .args .t .now) (c .before .before .if1 .taken) (c .before .if2 .left))
+returns-2 c =
+    let args = c .before .before .before .before .args in
+    ap (λ (e : CardError). Wrong e) (c .length-error .ensures)
+    ∙ sym (none-long (args .k) (args .t .now) (c .before .before .if1 .taken) (c .before .if2 .left))
 
 mul-if3 : tie.Need-mul-if3
 mul-if3 c = search needs
@@ -30,7 +35,10 @@ length-error-requires-2 c κs = search needs
 
 returns-3 : tie.Need-returns-3
 unfolding rules
-returns-3 c = ap (λ (e : CardError). Wrong e) (c .length-error2 .ensures) ∙ sym (too-short (c .before .before .before .before .args .k) (ruleAt (c .before .before .before .before .args .k)) (c .before .before .before .before .args .t .now) (omega (arith, least-at (c .before .before .before .before .args .k))))
+returns-3 c =
+    let args = c .before .before .before .before .args in
+    ap (λ (e : CardError). Wrong e) (c .length-error2 .ensures)
+    ∙ sym (too-short (args .k) (ruleAt (args .k)) (args .t .now) (omega (arith, least-at (args .k))))
 
 mul-if4 : tie.Need-mul-if4
 mul-if4 c = search needs
@@ -43,21 +51,31 @@ length-error-requires-3 c κs = search needs
 
 returns-4 : tie.Need-returns-4
 unfolding rules
-returns-4 c = ap (λ (e : CardError). Wrong e) (c .length-error3 .ensures) ∙ sym (too-long (c .before .before .before .before .before .args .k) (ruleAt (c .before .before .before .before .before .args .k)) (c .before .before .before .before .before .args .t .now) (omega (arith, least-at (c .before .before .before .before .before .args .k))) (omega (arith, most-at (c .before .before .before .before .before .args .k))))
+returns-4 c =
+    let args = c .before .before .before .before .before .args in
+    ap (λ (e : CardError). Wrong e) (c .length-error3 .ensures)
+    ∙ sym (too-long (args .k) (ruleAt (args .k)) (args .t .now) (omega (arith, least-at (args .k))) (omega (arith, most-at (args .k))))
 
 is-right-requires : tie.Need-is-right-requires
 is-right-requires c κs = search needs
 
 returns-5 : tie.Need-returns-5
 unfolding rules
-returns-5 c = sym (right (c .before .before .before .before .before .before .args .k) (ruleAt (c .before .before .before .before .before .before .args .k)) (c .before .before .before .before .before .before .args .t .now) (omega (arith, least-at (c .before .before .before .before .before .before .args .k))) (omega (arith, most-at (c .before .before .before .before .before .before .args .k))) (sym (c .before .is-right .ensures) ∙ c .if5 .taken))
+returns-5 c =
+    let args = c .before .before .before .before .before .before .args in
+    sym (right (args .k) (ruleAt (args .k)) (args .t .now) (omega (arith, least-at (args .k))) (omega (arith, most-at (args .k)))
+    (sym (c .before .is-right .ensures) ∙ c .if5 .taken))
 
 content-error-requires : tie.Need-content-error-requires
 content-error-requires c κs = search needs
 
 returns-6 : tie.Need-returns-6
 unfolding rules
-returns-6 c = ap (λ (e : CardError). Wrong e) (c .content-error .ensures) ∙ sym (wrong (c .before .before .before .before .before .before .before .args .k) (ruleAt (c .before .before .before .before .before .before .before .args .k)) (c .before .before .before .before .before .before .before .args .t .now) (omega (arith, least-at (c .before .before .before .before .before .before .before .args .k))) (omega (arith, most-at (c .before .before .before .before .before .before .before .args .k))) (sym (c .before .before .is-right .ensures) ∙ c .before .if5 .left))
+returns-6 c =
+    let args = c .before .before .before .before .before .before .before .args in
+    ap (λ (e : CardError). Wrong e) (c .content-error .ensures)
+    ∙ sym (wrong (args .k) (ruleAt (args .k)) (args .t .now) (omega (arith, least-at (args .k))) (omega (arith, most-at (args .k)))
+    (sym (c .before .before .is-right .ensures) ∙ c .before .if5 .left))
 
 pub field-error-spec : {M : Type 1} → statement M
 field-error-spec =

@@ -27,7 +27,14 @@ is-good-requires : tie.Need-is-good-requires Inv-loop μ-loop
 is-good-requires c κs = search needs
 
 returns : tie.Need-returns Inv-loop μ-loop
-returns c = sym (field-wrong (fields (c .before .before .before .before .before .before .args .card .now)) (c .before .before .before .before .loop .k) (c .before .before .before .loop-test .taken) (c .before .before .error-at .result) (c .before .before .error-at .ensures) (sym (c .before .is-good .ensures) ∙ not-true _ (c .if1 .taken))) ∙ c .before .before .before .before .loop .inv .1
+returns c =
+    let then = c .before .before in let error-at = then .error-at in
+    let then = then .before in let loop-test = then .loop-test in
+    let then = then .before in let loop = then .loop in
+    let args = then .before .before .args in
+    sym (field-wrong (fields (args .card .now)) (loop .k) (loop-test .taken) (error-at .result) (error-at .ensures)
+    (sym (c .before .is-good .ensures) ∙ not-true _ (c .if1 .taken)))
+    ∙ loop .inv .1
 
 add-k : tie.Need-add-k Inv-loop μ-loop
 add-k c = search needs
@@ -36,10 +43,22 @@ loop-less : tie.Need-loop-less Inv-loop μ-loop
 loop-less c = search needs
 
 loop-again : tie.Need-loop-again Inv-loop μ-loop
-loop-again c = (omega arith, sym (field-right (fields (c .before .before .before .before .before .before .args .card .now)) (c .before .before .before .before .loop .k) (c .before .before .before .loop-test .taken) (c .before .before .error-at .result) (c .before .before .error-at .ensures) (sym (c .before .is-good .ensures) ∙ not-false _ (c .if1 .left))) ∙ c .before .before .before .before .loop .inv .1)
+loop-again c =
+    let then = c .before .before in let error-at = then .error-at in
+    let then = then .before in let loop-test = then .loop-test in
+    let then = then .before in let loop = then .loop in
+    let args = then .before .before .args in (
+      omega arith,
+      sym (field-right (fields (args .card .now)) (loop .k) (loop-test .taken) (error-at .result) (error-at .ensures)
+          (sym (c .before .is-good .ensures) ∙ not-false _ (c .if1 .left)))
+          ∙ loop .inv .1,
+    )
 
 returns-2 : tie.Need-returns-2 Inv-loop μ-loop
-returns-2 c = sym (fields-done (fields (c .before .before .before .args .card .now)) (c .before .loop .k) (c .loop-test .left)) ∙ c .before .loop .inv .1
+returns-2 c =
+    let then = c .before in let loop = then .loop in
+    let args = then .before .before .args in
+    sym (fields-done (fields (args .card .now)) (loop .k) (c .loop-test .left)) ∙ loop .inv .1
 
 pub fields-error-spec : {M : Type 1} → statement M
 fields-error-spec =

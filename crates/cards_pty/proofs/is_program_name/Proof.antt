@@ -15,7 +15,9 @@ all-of-requires : tie.Need-all-of-requires
 all-of-requires c κs = search needs
 
 returns-2 : tie.Need-returns-2
-returns-2 c = c .all-of .ensures ∙ sym (no-hyphen (c .before .before .before .before .args .t .now) (λ e. c .before .if1 .left (c .before .before .byte-at .ensures ∙ e)))
+returns-2 c =
+    let args = c .before .before .before .before .args in
+    c .all-of .ensures ∙ sym (no-hyphen (args .t .now) (λ e. c .before .if1 .left (c .before .before .byte-at .ensures ∙ e)))
 
 pub is-program-name-spec : {M : Type 1} → statement M
 is-program-name-spec = tie.close (tie.spec byte-at-requires returns all-of-requires returns-2)

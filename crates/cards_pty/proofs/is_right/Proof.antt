@@ -124,7 +124,11 @@ returns-13 c = rw (c .before .before .match .keys13) (c .all-in6 .ensures)
 
 returns-14 : tie.Need-returns-14
 unfolding rules
-returns-14 c = let h = missed 13 (c .before .before .before .args .k) (c .before .match .rest) in let e : c .before .before .before .args .k ≡ 13 = omega (arith, h, c .before .before .before .pre) in rw e (c .all-of5 .ensures)
+returns-14 c =
+    let then = c .before .before .before in let args = then .args in let pre = then .pre in
+    let h = missed 13 (args .k) (c .before .match .rest) in
+    let e : args .k ≡ 13 = omega (arith, h, pre) in
+    rw e (c .all-of5 .ensures)
 
 pub is-right-spec : {M : Type 1} → statement M
 is-right-spec =

@@ -14,10 +14,18 @@ enum-known-end-2 : tie.Need-enum-known-end-2
 enum-known-end-2 c = search needs
 
 returns : tie.Need-returns
-returns c = begins (c .before .before .before .before .before .before .before .args .deck .now) (c .before .before .before .before .before .deck-end .ensures) (c .before .before .before .end .given .1)
+returns c =
+    let then = c .before .before .before in let end = then .end in
+    let then = then .before .before in let deck-end = then .deck-end in
+    let args = then .before .before .args in
+    begins (args .deck .now) (deck-end .ensures) (end .given .1)
 
 returns-2 : tie.Need-returns-2
-returns-2 c = begins (c .before .before .before .before .before .before .before .args .deck .now) (c .before .before .before .before .before .deck-end .ensures) (c .before .before .before .end2 .given .1)
+returns-2 c =
+    let then = c .before .before .before in let end2 = then .end2 in
+    let then = then .before .before in let deck-end = then .deck-end in
+    let args = then .before .before .args in
+    begins (args .deck .now) (deck-end .ensures) (end2 .given .1)
 
 pub begin-spec : {M : Type 1} → statement M
 begin-spec =

@@ -29,10 +29,16 @@ returns : tie.Need-returns
 returns c = search needs
 
 returns-2 : tie.Need-returns-2
-returns-2 c = refused-prints (c .before .before .before .before .before .before .before .args .deck .now) (c .before .before .before .before .before .before .before .args .printing) (search needs) (c .before .before .before .before .coming .given .0 .0) (c .before .before .before .before .coming .given .1) (c .before .put-refused .ensures) (c .over .ensures)
+returns-2 c =
+    let then = c .before .before .before .before in let coming = then .coming in
+    let args = then .before .before .before .args in
+    refused-prints (args .deck .now) (args .printing) (search needs) (coming .given .0 .0) (coming .given .1) (c .before .put-refused .ensures)
+    (c .over .ensures)
 
 returns-3 : tie.Need-returns-3
-returns-3 c = over-prints (c .before .before .before .before .args .deck .now) (c .before .before .before .before .args .printing) (c .before .before .before .before .args .out .now) (c .before .enum-told2 .given .1) (c .over2 .ensures)
+returns-3 c =
+    let args = c .before .before .before .before .args in
+    over-prints (args .deck .now) (args .printing) (args .out .now) (c .before .enum-told2 .given .1) (c .over2 .ensures)
 
 pub next-spec : {M : Type 1} → statement M
 next-spec =

@@ -18,10 +18,18 @@ enum-known-n : tie.Need-enum-known-n
 enum-known-n c = search needs
 
 array-share-prefix-room : tie.Need-array-share-prefix-room
-array-share-prefix-room c = cards-within (c .before .before .before .before .before .before .before .before .args .full) (replicate cardsRoom 0) (c .before .before .before .before .before .write .ensures .0) (c .before .before .before .before .before .write .ensures .1) refl (c .before .before .n .given .0 .0) (c .before .before .n .given .1)
+array-share-prefix-room c =
+    let then = c .before .before in let n = then .n in
+    let then = then .before .before .before in let write = then .write in
+    let args = then .before .before .before .args in
+    cards-within (args .full) (replicate cardsRoom 0) (write .ensures .0) (write .ensures .1) refl (n .given .0 .0) (n .given .1)
 
 slice-aggregate-put-bytes : tie.Need-slice-aggregate-put-bytes
-slice-aggregate-put-bytes c = cards-long (c .before .before .before .before .before .before .before .before .before .args .full) (replicate cardsRoom 0) (c .before .before .before .before .before .before .write .ensures .0) (c .before .before .before .before .before .before .write .ensures .1) refl (c .before .before .before .n .given .0 .0) (c .before .before .before .n .given .1)
+slice-aggregate-put-bytes c =
+    let then = c .before .before .before in let n = then .n in
+    let then = then .before .before .before in let write = then .write in
+    let args = then .before .before .before .args in
+    cards-long (args .full) (replicate cardsRoom 0) (write .ensures .0) (write .ensures .1) refl (n .given .0 .0) (n .given .1)
 
 put-bytes-requires : tie.Need-put-bytes-requires
 put-bytes-requires c κs = search needs
@@ -39,13 +47,24 @@ same-length : tie.Need-same-length
 same-length c = search needs
 
 returns : tie.Need-returns
-returns c = cards-put (c .before .before .before .before .before .before .before .before .before .before .before .before .before .before .before .before .args .full) (replicate cardsRoom 0) (c .before .before .before .before .before .before .before .before .before .before .before .before .before .write .ensures .0) (c .before .before .before .before .before .before .before .before .before .before .before .before .before .write .ensures .1) refl (c .before .before .before .before .before .before .before .before .before .before .n .given .0 .0) (c .before .before .before .before .before .before .before .before .before .before .n .given .1) (c .before .before .before .before .before .before .before .before .before .before .before .before .before .before .before .before .args .shown) (c .before .before .before .before .before .before .put-bytes .ensures) (c .before .before .put-table .ensures)
+returns c =
+    let then = c .before .before .before .before .before .before in let put-bytes = then .put-bytes in
+    let then = then .before .before .before .before in let n = then .n in
+    let then = then .before .before .before in let write = then .write in
+    let args = then .before .before .before .args in
+    cards-put (args .full) (replicate cardsRoom 0) (write .ensures .0) (write .ensures .1) refl (n .given .0 .0) (n .given .1) (args .shown)
+    (put-bytes .ensures) (c .before .before .put-table .ensures)
 
 same-length-2 : tie.Need-same-length-2
 same-length-2 c = search needs
 
 returns-2 : tie.Need-returns-2
-returns-2 c = not-put (c .before .before .before .before .before .before .before .before .before .before .before .args .full) (replicate cardsRoom 0) (c .before .before .before .before .before .before .before .before .write .ensures .0) (c .before .before .before .before .before .before .before .before .write .ensures .1) refl (c .before .before .before .before .before .refusal .given .0 .0) (c .before .before .before .before .before .refusal .given .1) (c .before .before .before .before .before .before .before .before .before .before .before .args .shown) (c .before .before .put-refusal .ensures)
+returns-2 c =
+    let then = c .before .before .before .before .before in let refusal = then .refusal in
+    let then = then .before .before .before in let write = then .write in
+    let args = then .before .before .before .args in
+    not-put (args .full) (replicate cardsRoom 0) (write .ensures .0) (write .ensures .1) refl (refusal .given .0 .0) (refusal .given .1)
+    (args .shown) (c .before .before .put-refusal .ensures)
 
 pub put-good-spec : {M : Type 1} → statement M
 put-good-spec =

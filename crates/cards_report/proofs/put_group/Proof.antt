@@ -24,13 +24,21 @@ same-length : tie.Need-same-length
 same-length c = search needs
 
 returns : tie.Need-returns
-returns c = group-by (cardsOf (c .before .before .before .before .before .before .before .before .before .args .group .now)) (c .before .before .before .before .before .before .before .before .before .args .shown) (c .before .before .before .before .before .before .read-full .ensures) (c .before .before .before .before .enum-told .given .1) (c .before .before .put-good .ensures)
+returns c =
+    let then = c .before .before .before .before in let enum-told = then .enum-told in
+    let then = then .before .before in let read-full = then .read-full in
+    let args = then .before .before .before .args in
+    group-by (cardsOf (args .group .now)) (args .shown) (read-full .ensures) (enum-told .given .1) (c .before .before .put-good .ensures)
 
 same-length-2 : tie.Need-same-length-2
 same-length-2 c = search needs
 
 returns-2 : tie.Need-returns-2
-returns-2 c = group-by (cardsOf (c .before .before .before .before .before .before .before .before .before .before .args .group .now)) (c .before .before .before .before .before .before .before .before .before .before .args .shown) (c .before .before .before .before .before .before .before .read-full .ensures) (c .before .before .before .before .before .verdict .given .1) (c .before .before .put-error .ensures)
+returns-2 c =
+    let then = c .before .before .before .before .before in let verdict = then .verdict in
+    let then = then .before .before in let read-full = then .read-full in
+    let args = then .before .before .before .args in
+    group-by (cardsOf (args .group .now)) (args .shown) (read-full .ensures) (verdict .given .1) (c .before .before .put-error .ensures)
 
 pub put-group-spec : {M : Type 1} → statement M
 put-group-spec =

@@ -21,7 +21,13 @@ over-requires : tie.Need-over-requires
 over-requires c κs = search needs
 
 returns : tie.Need-returns
-returns c = end-prints (c .before .before .before .before .before .before .before .before .args .deck .now) (c .before .before .before .before .before .before .before .before .args .p) (c .before .before .before .before .before .before .rest .ensures) (c .before .before .before .before .before .first-group .ensures) (c .before .before .before .before .before .before .before .before .pre) (c .before .before .before .before .if1 .taken) (search needs) (c .before .put-bytes .ensures) (c .over .ensures)
+returns c =
+    let then = c .before .before .before .before in let if1 = then .if1 in
+    let then = then .before in let first-group = then .first-group in
+    let then = then .before in let rest = then .rest in
+    let then = then .before .before in let args = then .args in let pre = then .pre in
+    end-prints (args .deck .now) (args .p) (rest .ensures) (first-group .ensures) pre (if1 .taken) (search needs)
+    (c .before .put-bytes .ensures) (c .over .ensures)
 
 card-at-requires : tie.Need-card-at-requires
 card-at-requires c κs = search needs
@@ -33,10 +39,23 @@ put-group-requires : tie.Need-put-group-requires
 put-group-requires c κs = search needs
 
 add-t23 : tie.Need-add-t23
-add-t23 c = omega (arith, group-within (c .before .before .before .before .before .before .before .before .before .before .args .deck .now) (c .before .before .before .before .before .before .before .before .before .before .args .p) (c .before .before .before .before .before .before .before .before .rest .ensures) (c .before .before .before .before .before .before .before .first-group .ensures) (c .before .before .before .before .before .before .if1 .left))
+add-t23 c =
+    let then = c .before .before .before .before .before .before in let if1 = then .if1 in
+    let then = then .before in let first-group = then .first-group in
+    let then = then .before in let rest = then .rest in
+    let args = then .before .before .args in
+    omega (arith, group-within (args .deck .now) (args .p) (rest .ensures) (first-group .ensures) (if1 .left))
 
 returns-2 : tie.Need-returns-2
-returns-2 c = group-prints (c .before .before .before .before .before .before .before .before .before .before .args .deck .now) (c .before .before .before .before .before .before .before .before .before .before .args .p) (c .before .before .before .before .before .before .before .before .rest .ensures) (c .before .before .before .before .before .before .before .first-group .ensures) (c .before .before .before .before .before .before .if1 .left) (c .before .before .before .before .before .before .before .before .before .before .pre) (search needs) (c .before .before .before .before .card-at .ensures) (c .before .before .before .shown-by .ensures) (search needs) (c .before .put-group .ensures)
+returns-2 c =
+    let then = c .before .before .before in let shown-by = then .shown-by in
+    let then = then .before in let card-at = then .card-at in
+    let then = then .before .before in let if1 = then .if1 in
+    let then = then .before in let first-group = then .first-group in
+    let then = then .before in let rest = then .rest in
+    let then = then .before .before in let args = then .args in let pre = then .pre in
+    group-prints (args .deck .now) (args .p) (rest .ensures) (first-group .ensures) (if1 .left) pre (search needs) (card-at .ensures)
+    (shown-by .ensures) (search needs) (c .before .put-group .ensures)
 
 pub put-next-spec : {M : Type 1} → statement M
 put-next-spec =

@@ -15,7 +15,9 @@ part-result-end : tie.Need-part-result-end
 part-result-end c = search needs
 
 returns : tie.Need-returns
-returns c = part-none (c .before .before .args .deck .now) (c .before .before .args .p .from) (c .before .before .args .p .end) (c .before .if1 .taken)
+returns c =
+    let args = c .before .before .args in
+    part-none (args .deck .now) (args .p .from) (args .p .end) (c .before .if1 .taken)
 
 sub-result-2 : tie.Need-sub-result-2
 sub-result-2 c = search needs
@@ -27,7 +29,9 @@ part-result-end-2 : tie.Need-part-result-end-2
 part-result-end-2 c = search needs
 
 returns-2 : tie.Need-returns-2
-returns-2 c = part-past (c .before .before .before .args .deck .now) (c .before .before .before .args .p .from) (c .before .before .before .args .p .end) (c .before .if2 .taken)
+returns-2 c =
+    let args = c .before .before .before .args in
+    part-past (args .deck .now) (args .p .from) (args .p .end) (c .before .if2 .taken)
 
 sub-result-3 : tie.Need-sub-result-3
 sub-result-3 c = search needs
@@ -39,7 +43,9 @@ part-result-end-3 : tie.Need-part-result-end-3
 part-result-end-3 c = search needs
 
 returns-3 : tie.Need-returns-3
-returns-3 c = part-long (c .before .before .before .before .args .deck .now) (c .before .before .before .before .args .p .from) (c .before .before .before .before .args .p .end) (omega (arith, c .before .if3 .taken))
+returns-3 c =
+    let args = c .before .before .before .before .args in
+    part-long (args .deck .now) (args .p .from) (args .p .end) (omega (arith, c .before .if3 .taken))
 
 sub-result-4 : tie.Need-sub-result-4
 sub-result-4 c = search needs

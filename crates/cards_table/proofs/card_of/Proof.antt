@@ -28,10 +28,28 @@ loop-holds : tie.Need-loop-holds Inv-loop μ-loop
 loop-holds c = search needs
 
 mul-card : tie.Need-mul-card Inv-loop μ-loop
-mul-card c = let l = fourteen (c .before .before .before .before .args .further) _ (c .before .before .before .before .good .0) in omega (arith, l, counted-most (c .before .before .before .before .args .further .count) (c .before .before .before .before .args .further .cards) (c .before .before .before .count-of .result) (c .before .before .before .count-of .ensures ∙ texts-length (take (c .before .before .before .before .args .further .count) (c .before .before .before .before .args .further .cards))))
+mul-card c =
+    let then = c .before .before .before in let count-of = then .count-of in
+    let then = then .before in let args = then .args in let good = then .good in
+    let l = fourteen (args .further) _ (good .0) in
+    omega (
+      arith,
+      l,
+      counted-most (args .further .count) (args .further .cards) (count-of .result)
+          (count-of .ensures ∙ texts-length (take (args .further .count) (args .further .cards))),
+    )
 
 array-copy-out-card : tie.Need-array-copy-out-card Inv-loop μ-loop
-array-copy-out-card c = let l = fourteen (c .before .before .before .before .args .further) _ (c .before .before .before .before .good .0) in omega (arith, l, counted-most (c .before .before .before .before .args .further .count) (c .before .before .before .before .args .further .cards) (c .before .before .before .count-of .result) (c .before .before .before .count-of .ensures ∙ texts-length (take (c .before .before .before .before .args .further .count) (c .before .before .before .before .args .further .cards))))
+array-copy-out-card c =
+    let then = c .before .before .before in let count-of = then .count-of in
+    let then = then .before in let args = then .args in let good = then .good in
+    let l = fourteen (args .further) _ (good .0) in
+    omega (
+      arith,
+      l,
+      counted-most (args .further .count) (args .further .cards) (count-of .result)
+          (count-of .ensures ∙ texts-length (take (args .further .count) (args .further .cards))),
+    )
 
 add-i : tie.Need-add-i Inv-loop μ-loop
 add-i c = search needs
@@ -43,19 +61,51 @@ add-if1 : tie.Need-add-if1 Inv-loop μ-loop
 add-if1 c = search needs
 
 returns : tie.Need-returns Inv-loop μ-loop
-returns c = card-here (c .before .before .before .before .before .before .before .args .further .cards) (c .before .before .before .before .before .before .count-of .result) (counted-most (c .before .before .before .before .before .before .before .args .further .count) (c .before .before .before .before .before .before .before .args .further .cards) (c .before .before .before .before .before .before .count-of .result) (c .before .before .before .before .before .before .count-of .ensures ∙ texts-length (take (c .before .before .before .before .before .before .before .args .further .count) (c .before .before .before .before .before .before .before .args .further .cards)))) (c .before .before .before .before .loop .i) past (c .before .before .before .loop-test .taken) (c .before .before .before .before .before .before .before .args .digit) (c .before .row-of .result) (c .before .row-of .ensures) (c .if1 .taken) ∙ c .before .before .before .before .loop .inv .1 ∙ ap (λ (l : List FurtherCard). cardAt (c .before .before .before .before .before .before .before .args .digit) (textsIn l)) (take-counted (c .before .before .before .before .before .before .before .args .further .count) (c .before .before .before .before .before .before .before .args .further .cards) (c .before .before .before .before .before .before .count-of .result) (c .before .before .before .before .before .before .count-of .ensures ∙ texts-length (take (c .before .before .before .before .before .before .before .args .further .count) (c .before .before .before .before .before .before .before .args .further .cards))))
+returns c =
+    let then = c .before in let row-of = then .row-of in
+    let then = then .before .before in let loop-test = then .loop-test in
+    let then = then .before in let loop = then .loop in
+    let then = then .before .before in let count-of = then .count-of in
+    let args = then .before .args in
+    card-here (args .further .cards) (count-of .result)
+    (counted-most (args .further .count) (args .further .cards) (count-of .result)
+    (count-of .ensures ∙ texts-length (take (args .further .count) (args .further .cards))))
+    (loop .i) past (loop-test .taken) (args .digit) (row-of .result) (row-of .ensures) (c .if1 .taken)
+    ∙ loop .inv .1 ∙ ap (λ (l : List FurtherCard). cardAt (args .digit) (textsIn l))
+    (take-counted (args .further .count) (args .further .cards) (count-of .result)
+    (count-of .ensures ∙ texts-length (take (args .further .count) (args .further .cards))))
 
 loop-less : tie.Need-loop-less Inv-loop μ-loop
 loop-less c = search needs
 
 loop-again : tie.Need-loop-again Inv-loop μ-loop
-loop-again c = (omega arith, card-later (c .before .before .before .before .before .before .before .args .further .cards) (c .before .before .before .before .before .before .count-of .result) (counted-most (c .before .before .before .before .before .before .before .args .further .count) (c .before .before .before .before .before .before .before .args .further .cards) (c .before .before .before .before .before .before .count-of .result) (c .before .before .before .before .before .before .count-of .ensures ∙ texts-length (take (c .before .before .before .before .before .before .before .args .further .count) (c .before .before .before .before .before .before .before .args .further .cards)))) (c .before .before .before .before .loop .i) past (c .before .before .before .loop-test .taken) (c .before .before .before .before .before .before .before .args .digit) (c .before .row-of .result) (c .before .row-of .ensures) (c .if1 .left) ∙ c .before .before .before .before .loop .inv .1)
+loop-again c =
+    let then = c .before in let row-of = then .row-of in
+    let then = then .before .before in let loop-test = then .loop-test in
+    let then = then .before in let loop = then .loop in
+    let then = then .before .before in let count-of = then .count-of in
+    let args = then .before .args in (
+      omega arith,
+      card-later (args .further .cards) (count-of .result)
+          (counted-most (args .further .count) (args .further .cards) (count-of .result)
+          (count-of .ensures ∙ texts-length (take (args .further .count) (args .further .cards))))
+          (loop .i) past (loop-test .taken) (args .digit) (row-of .result) (row-of .ensures) (c .if1 .left)
+          ∙ loop .inv .1,
+    )
 
 no-card-requires : tie.Need-no-card-requires Inv-loop μ-loop
 no-card-requires c κs = search needs
 
 returns-2 : tie.Need-returns-2 Inv-loop μ-loop
-returns-2 c = ap (λ (c : FurtherCard). lettersIn (textOf c)) (c .no-card .ensures) ∙ card-none (c .before .before .before .before .before .args .further .cards) (c .before .before .before .before .count-of .result) (c .before .before .loop .i) (c .before .before .before .before .before .args .digit) (c .before .loop-test .left) ∙ c .before .before .loop .inv .1 ∙ ap (λ (l : List FurtherCard). cardAt (c .before .before .before .before .before .args .digit) (textsIn l)) (take-counted (c .before .before .before .before .before .args .further .count) (c .before .before .before .before .before .args .further .cards) (c .before .before .before .before .count-of .result) (c .before .before .before .before .count-of .ensures ∙ texts-length (take (c .before .before .before .before .before .args .further .count) (c .before .before .before .before .before .args .further .cards))))
+returns-2 c =
+    let then = c .before .before in let loop = then .loop in
+    let then = then .before .before in let count-of = then .count-of in
+    let args = then .before .args in
+    ap (λ (c : FurtherCard). lettersIn (textOf c)) (c .no-card .ensures)
+    ∙ card-none (args .further .cards) (count-of .result) (loop .i) (args .digit) (c .before .loop-test .left) ∙ loop .inv .1
+    ∙ ap (λ (l : List FurtherCard). cardAt (args .digit) (textsIn l))
+    (take-counted (args .further .count) (args .further .cards) (count-of .result)
+    (count-of .ensures ∙ texts-length (take (args .further .count) (args .further .cards))))
 
 pub card-of-spec : {M : Type 1} → statement M
 card-of-spec =

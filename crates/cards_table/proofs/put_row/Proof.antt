@@ -16,7 +16,9 @@ use Rattle.cards_table.proofs.put_row.Statement.{statement}
 use Rattle.cards_table.proofs.put_row.Tie as tie
 
 abbrev Inv-loop : tie.InvT-loop
-Inv-loop room₀ at n text next₀ k₀ room next k = (k ≤ pmLength) × Going room₀ at (padded pmLength (lettersIn (take n text))) room next (padded (pmLength - k) (drop k (lettersIn (take n text))))
+Inv-loop room₀ at n text next₀ k₀ room next k =
+    (k ≤ pmLength) × Going room₀ at (padded pmLength (lettersIn (take n text))) room next
+    (padded (pmLength - k) (drop k (lettersIn (take n text))))
 
 abbrev μ-loop : tie.MeasureT-loop
 μ-loop room₀ at n text next₀ k₀ room next k = pmLength - k
@@ -46,13 +48,36 @@ loop-less : tie.Need-loop-less Inv-loop μ-loop
 loop-less c = search needs
 
 loop-again : tie.Need-loop-again Inv-loop μ-loop
-loop-again c = (omega arith, row-turn (lettersIn (take (c .before .before .before .before .before .before .before .before .len-of .result) (c .before .before .before .before .before .before .before .before .before .before .args .card .text))) (c .before .before .before .before .before .before .loop .k) (c .before .before .before .before .before .loop-test .taken) (⊎-elim (λ w. w .1 ∙ sym (letter-here (c .before .before .before .before .before .before .before .before .before .before .args .card .text) (c .before .before .before .before .before .before .before .before .len-of .result) (counted-most (c .before .before .before .before .before .before .before .before .before .before .args .card .len) (c .before .before .before .before .before .before .before .before .before .before .args .card .text) (c .before .before .before .before .before .before .before .before .len-of .result) (c .before .before .before .before .before .before .before .before .len-of .ensures)) (c .before .before .before .before .before .before .loop .k) (w .0 .taken))) (λ w. w .1 ∙ sym (letter-none (c .before .before .before .before .before .before .before .before .before .before .args .card .text) (c .before .before .before .before .before .before .before .before .len-of .result) (counted-most (c .before .before .before .before .before .before .before .before .before .before .args .card .len) (c .before .before .before .before .before .before .before .before .before .before .args .card .text) (c .before .before .before .before .before .before .before .before .len-of .result) (c .before .before .before .before .before .before .before .before .len-of .ensures)) (c .before .before .before .before .before .before .loop .k) (w .0 .left))) (c .before .before .before .before .if1 .came)) (c .before .before .before .before .before .before .loop .inv .1) (c .before .before .put-byte .ensures))
+loop-again c =
+    let then = c .before .before .before .before in let if1 = then .if1 in
+    let then = then .before in let loop-test = then .loop-test in
+    let then = then .before in let loop = then .loop in
+    let then = then .before .before in let len-of = then .len-of in
+    let args = then .before .before .args in (
+      omega arith,
+      row-turn (lettersIn (take (len-of .result) (args .card .text))) (loop .k) (loop-test .taken)
+          (⊎-elim (λ w. w .1 ∙ sym (letter-here (args .card .text) (len-of .result)
+          (counted-most (args .card .len) (args .card .text) (len-of .result) (len-of .ensures)) (loop .k) (w .0 .taken)))
+          (λ w. w .1 ∙ sym (letter-none (args .card .text) (len-of .result)
+          (counted-most (args .card .len) (args .card .text) (len-of .result) (len-of .ensures)) (loop .k) (w .0 .left)))
+          (if1 .came))
+          (loop .inv .1) (c .before .before .put-byte .ensures),
+    )
 
 same-length : tie.Need-same-length Inv-loop μ-loop
-same-length c = same-room (row-end (lettersIn (take (c .before .before .before .len-of .result) (c .before .before .before .before .before .args .card .text))) (c .before .loop .k) (c .loop-test .left) (c .before .loop .inv .1))
+same-length c =
+    let then = c .before in let loop = then .loop in
+    let then = then .before .before in let len-of = then .len-of in
+    let args = then .before .before .args in
+    same-room (row-end (lettersIn (take (len-of .result) (args .card .text))) (loop .k) (c .loop-test .left) (loop .inv .1))
 
 returns : tie.Need-returns Inv-loop μ-loop
-returns c = rw (take-counted (c .before .before .before .before .before .args .card .len) (c .before .before .before .before .before .args .card .text) (c .before .before .before .len-of .result) (c .before .before .before .len-of .ensures)) at (row-end (lettersIn (take (c .before .before .before .len-of .result) (c .before .before .before .before .before .args .card .text))) (c .before .loop .k) (c .loop-test .left) (c .before .loop .inv .1))
+returns c =
+    let then = c .before in let loop = then .loop in
+    let then = then .before .before in let len-of = then .len-of in
+    let args = then .before .before .args in
+    rw (take-counted (args .card .len) (args .card .text) (len-of .result) (len-of .ensures)) at
+    (row-end (lettersIn (take (len-of .result) (args .card .text))) (loop .k) (c .loop-test .left) (loop .inv .1))
 
 pub put-row-spec : {M : Type 1} → statement M
 put-row-spec =

@@ -27,10 +27,28 @@ loop-holds : tie.Need-loop-holds Inv-loop μ-loop
 loop-holds c = search needs
 
 mul-row-of : tie.Need-mul-row-of Inv-loop μ-loop
-mul-row-of c = let l = fourteen (c .before .before .before .before .args .further) _ (c .before .before .before .before .good .0) in omega (arith, l, counted-most (c .before .before .before .before .args .further .count) (c .before .before .before .before .args .further .cards) (c .before .before .before .count-of .result) (c .before .before .before .count-of .ensures ∙ texts-length (take (c .before .before .before .before .args .further .count) (c .before .before .before .before .args .further .cards))))
+mul-row-of c =
+    let then = c .before .before .before in let count-of = then .count-of in
+    let then = then .before in let args = then .args in let good = then .good in
+    let l = fourteen (args .further) _ (good .0) in
+    omega (
+      arith,
+      l,
+      counted-most (args .further .count) (args .further .cards) (count-of .result)
+          (count-of .ensures ∙ texts-length (take (args .further .count) (args .further .cards))),
+    )
 
 array-copy-out-row-of : tie.Need-array-copy-out-row-of Inv-loop μ-loop
-array-copy-out-row-of c = let l = fourteen (c .before .before .before .before .args .further) _ (c .before .before .before .before .good .0) in omega (arith, l, counted-most (c .before .before .before .before .args .further .count) (c .before .before .before .before .args .further .cards) (c .before .before .before .count-of .result) (c .before .before .before .count-of .ensures ∙ texts-length (take (c .before .before .before .before .args .further .count) (c .before .before .before .before .args .further .cards))))
+array-copy-out-row-of c =
+    let then = c .before .before .before in let count-of = then .count-of in
+    let then = then .before in let args = then .args in let good = then .good in
+    let l = fourteen (args .further) _ (good .0) in
+    omega (
+      arith,
+      l,
+      counted-most (args .further .count) (args .further .cards) (count-of .result)
+          (count-of .ensures ∙ texts-length (take (args .further .count) (args .further .cards))),
+    )
 
 row-of-requires : tie.Need-row-of-requires Inv-loop μ-loop
 row-of-requires c κs = search needs
@@ -42,16 +60,48 @@ loop-less : tie.Need-loop-less Inv-loop μ-loop
 loop-less c = search needs
 
 loop-again : tie.Need-loop-again Inv-loop μ-loop
-loop-again c = (omega arith, rows-more (c .before .before .before .before .before .before .before .args .further .cards) (c .before .before .before .before .before .before .count-of .result) (counted-most (c .before .before .before .before .before .before .before .args .further .count) (c .before .before .before .before .before .before .before .args .further .cards) (c .before .before .before .before .before .before .count-of .result) (c .before .before .before .before .before .before .count-of .ensures ∙ texts-length (take (c .before .before .before .before .before .before .before .args .further .count) (c .before .before .before .before .before .before .before .args .further .cards)))) (c .before .before .before .before .loop .i) past (c .before .before .before .loop-test .taken) (c .before .before .before .before .loop .most) (c .before .row-of .result) (rows (textsIn (take (c .before .before .before .before .before .before .count-of .result) (c .before .before .before .before .before .before .before .args .further .cards)))) (c .before .row-of .ensures) (c .before .before .before .before .loop .inv .1) (c .if1 .taken))
+loop-again c =
+    let then = c .before in let row-of = then .row-of in
+    let then = then .before .before in let loop-test = then .loop-test in
+    let then = then .before in let loop = then .loop in
+    let then = then .before .before in let count-of = then .count-of in
+    let args = then .before .args in (
+      omega arith,
+      rows-more (args .further .cards) (count-of .result)
+          (counted-most (args .further .count) (args .further .cards) (count-of .result)
+          (count-of .ensures ∙ texts-length (take (args .further .count) (args .further .cards))))
+          (loop .i) past (loop-test .taken) (loop .most) (row-of .result) (rows (textsIn (take (count-of .result) (args .further .cards))))
+          (row-of .ensures) (loop .inv .1) (c .if1 .taken),
+    )
 
 loop-less-2 : tie.Need-loop-less-2 Inv-loop μ-loop
 loop-less-2 c = search needs
 
 loop-again-2 : tie.Need-loop-again-2 Inv-loop μ-loop
-loop-again-2 c = (omega arith, rows-less (c .before .before .before .before .before .before .before .args .further .cards) (c .before .before .before .before .before .before .count-of .result) (counted-most (c .before .before .before .before .before .before .before .args .further .count) (c .before .before .before .before .before .before .before .args .further .cards) (c .before .before .before .before .before .before .count-of .result) (c .before .before .before .before .before .before .count-of .ensures ∙ texts-length (take (c .before .before .before .before .before .before .before .args .further .count) (c .before .before .before .before .before .before .before .args .further .cards)))) (c .before .before .before .before .loop .i) past (c .before .before .before .loop-test .taken) (c .before .before .before .before .loop .most) (c .before .row-of .result) (rows (textsIn (take (c .before .before .before .before .before .before .count-of .result) (c .before .before .before .before .before .before .before .args .further .cards)))) (c .before .row-of .ensures) (c .before .before .before .before .loop .inv .1) (c .if1 .left))
+loop-again-2 c =
+    let then = c .before in let row-of = then .row-of in
+    let then = then .before .before in let loop-test = then .loop-test in
+    let then = then .before in let loop = then .loop in
+    let then = then .before .before in let count-of = then .count-of in
+    let args = then .before .args in (
+      omega arith,
+      rows-less (args .further .cards) (count-of .result)
+          (counted-most (args .further .count) (args .further .cards) (count-of .result)
+          (count-of .ensures ∙ texts-length (take (args .further .count) (args .further .cards))))
+          (loop .i) past (loop-test .taken) (loop .most) (row-of .result) (rows (textsIn (take (count-of .result) (args .further .cards))))
+          (row-of .ensures) (loop .inv .1) (c .if1 .left),
+    )
 
 returns : tie.Need-returns Inv-loop μ-loop
-returns c = rows-end (c .before .before .before .before .args .further .cards) (c .before .before .before .count-of .result) (c .before .loop .i) (c .before .loop .most) (rows (textsIn (take (c .before .before .before .count-of .result) (c .before .before .before .before .args .further .cards)))) (c .loop-test .left) (c .before .loop .inv .1) ∙ ap (λ (l : List FurtherCard). rows (textsIn l)) (take-counted (c .before .before .before .before .args .further .count) (c .before .before .before .before .args .further .cards) (c .before .before .before .count-of .result) (c .before .before .before .count-of .ensures ∙ texts-length (take (c .before .before .before .before .args .further .count) (c .before .before .before .before .args .further .cards))))
+returns c =
+    let then = c .before in let loop = then .loop in
+    let then = then .before .before in let count-of = then .count-of in
+    let args = then .before .args in
+    rows-end (args .further .cards) (count-of .result) (loop .i) (loop .most) (rows (textsIn (take (count-of .result) (args .further .cards))))
+    (c .loop-test .left) (loop .inv .1)
+    ∙ ap (λ (l : List FurtherCard). rows (textsIn l))
+    (take-counted (args .further .count) (args .further .cards) (count-of .result)
+    (count-of .ensures ∙ texts-length (take (args .further .count) (args .further .cards))))
 
 pub row-count-spec : {M : Type 1} → statement M
 row-count-spec =

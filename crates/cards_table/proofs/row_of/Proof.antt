@@ -15,13 +15,18 @@ array-read-if2 : tie.Need-array-read-if2
 array-read-if2 c = search needs
 
 returns-2 : tie.Need-returns-2
-returns-2 c = row-no-p (c .before .before .before .before .args .card .text) (c .before .before .before .before .args .card .len) (c .before .before .if1 .left) (c .if2 .taken)
+returns-2 c =
+    let args = c .before .before .before .before .args in
+    row-no-p (args .card .text) (args .card .len) (c .before .before .if1 .left) (c .if2 .taken)
 
 array-read-if3 : tie.Need-array-read-if3
 array-read-if3 c = search needs
 
 returns-3 : tie.Need-returns-3
-returns-3 c = row-no-m (c .before .before .before .before .before .args .card .text) (c .before .before .before .before .before .args .card .len) (c .before .before .before .if1 .left) (c .before .if2 .left) (c .if3 .taken)
+returns-3 c =
+    let then = c .before .before .before in let if1 = then .if1 in
+    let args = then .before .before .args in
+    row-no-m (args .card .text) (args .card .len) (if1 .left) (c .before .if2 .left) (c .if3 .taken)
 
 array-read-is-digit : tie.Need-array-read-is-digit
 array-read-is-digit c = search needs
@@ -33,19 +38,37 @@ array-read-result : tie.Need-array-read-result
 array-read-result c = search needs
 
 sub-result : tie.Need-sub-result
-sub-result c = digit-bounds (getD (c .before .before .before .before .before .before .before .args .card .text) 2 0) (sym (c .before .is-digit .ensures) ∙ c .if4 .taken) .0
+sub-result c =
+    let args = c .before .before .before .before .before .before .before .args in
+    digit-bounds (getD (args .card .text) 2 0) (sym (c .before .is-digit .ensures) ∙ c .if4 .taken) .0
 
 cast-result : tie.Need-cast-result
-cast-result c = let b = digit-bounds (getD (c .before .before .before .before .before .before .before .args .card .text) 2 0) (sym (c .before .is-digit .ensures) ∙ c .if4 .taken) in omega arith
+cast-result c =
+    let args = c .before .before .before .before .before .before .before .args in
+    let b = digit-bounds (getD (args .card .text) 2 0) (sym (c .before .is-digit .ensures) ∙ c .if4 .taken) in
+    omega arith
 
 add-result : tie.Need-add-result
-add-result c = let b = digit-bounds (getD (c .before .before .before .before .before .before .before .args .card .text) 2 0) (sym (c .before .is-digit .ensures) ∙ c .if4 .taken) in omega arith
+add-result c =
+    let args = c .before .before .before .before .before .before .before .args in
+    let b = digit-bounds (getD (args .card .text) 2 0) (sym (c .before .is-digit .ensures) ∙ c .if4 .taken) in
+    omega arith
 
 returns-4 : tie.Need-returns-4
-returns-4 c = row-digit (c .before .before .before .before .before .before .before .args .card .text) (c .before .before .before .before .before .before .before .args .card .len) (c .before .before .before .before .before .if1 .left) (c .before .before .before .if2 .left) (c .before .before .if3 .left) (sym (c .before .is-digit .ensures) ∙ c .if4 .taken)
+returns-4 c =
+    let then = c .before .before .before in let if2 = then .if2 in
+    let then = then .before .before in let if1 = then .if1 in
+    let args = then .before .before .args in
+    row-digit (args .card .text) (args .card .len) (if1 .left) (if2 .left) (c .before .before .if3 .left)
+    (sym (c .before .is-digit .ensures) ∙ c .if4 .taken)
 
 returns-5 : tie.Need-returns-5
-returns-5 c = row-no-digit (c .before .before .before .before .before .before .before .args .card .text) (c .before .before .before .before .before .before .before .args .card .len) (c .before .before .before .before .before .if1 .left) (c .before .before .before .if2 .left) (c .before .before .if3 .left) (sym (c .before .is-digit .ensures) ∙ c .if4 .left)
+returns-5 c =
+    let then = c .before .before .before in let if2 = then .if2 in
+    let then = then .before .before in let if1 = then .if1 in
+    let args = then .before .before .args in
+    row-no-digit (args .card .text) (args .card .len) (if1 .left) (if2 .left) (c .before .before .if3 .left)
+    (sym (c .before .is-digit .ensures) ∙ c .if4 .left)
 
 pub row-of-spec : {M : Type 1} → statement M
 row-of-spec =

@@ -15,22 +15,42 @@ returns : tie.Need-returns
 returns c = sym (entry-uncut (c .before .before .before .args .t .now) (c .before .until .result) (c .before .until .ensures) (c .if1 .taken))
 
 slice-aggregate-is-name : tie.Need-slice-aggregate-is-name
-slice-aggregate-is-name c = sym (length-take-le (c .before .before .until .result) (c .before .before .before .before .args .t .now) (at-most (c .before .before .before .before .args .t .now) (c .before .before .until .result) (c .before .before .until .ensures)))
+slice-aggregate-is-name c =
+    let then = c .before .before in let until = then .until in
+    let args = then .before .before .args in
+    sym (length-take-le (until .result) (args .t .now) (at-most (args .t .now) (until .result) (until .ensures)))
 
 is-name-requires : tie.Need-is-name-requires
 is-name-requires c κs = search needs
 
 returns-2 : tie.Need-returns-2
-returns-2 c = sym (entry-nameless (c .before .before .before .before .before .before .args .t .now) (c .before .before .before .before .until .result) (c .before .before .before .before .until .ensures) (c .before .before .before .if1 .left) (sym (c .before .is-name .ensures) ∙ not-true _ (c .if2 .taken)))
+returns-2 c =
+    let then = c .before .before .before in let if1 = then .if1 in
+    let then = then .before in let until = then .until in
+    let args = then .before .before .args in
+    sym (entry-nameless (args .t .now) (until .result) (until .ensures) (if1 .left)
+    (sym (c .before .is-name .ensures) ∙ not-true _ (c .if2 .taken)))
 
 add-number-error : tie.Need-add-number-error
-add-number-error c = omega (arith, at-most (c .before .before .before .before .before .before .args .t .now) (c .before .before .before .before .until .result) (c .before .before .before .before .until .ensures), c .before .before .before .if1 .left)
+add-number-error c =
+    let then = c .before .before .before in let if1 = then .if1 in
+    let then = then .before in let until = then .until in
+    let args = then .before .before .args in
+    omega (arith, at-most (args .t .now) (until .result) (until .ensures), if1 .left)
 
 sub-number-error : tie.Need-sub-number-error
-sub-number-error c = omega (arith, at-most (c .before .before .before .before .before .before .args .t .now) (c .before .before .before .before .until .result) (c .before .before .before .before .until .ensures), c .before .before .before .if1 .left)
+sub-number-error c =
+    let then = c .before .before .before in let if1 = then .if1 in
+    let then = then .before in let until = then .until in
+    let args = then .before .before .args in
+    omega (arith, at-most (args .t .now) (until .result) (until .ensures), if1 .left)
 
 part-number-error-start : tie.Need-part-number-error-start
-part-number-error-start c = omega (arith, at-most (c .before .before .before .before .before .before .args .t .now) (c .before .before .before .before .until .result) (c .before .before .before .before .until .ensures), c .before .before .before .if1 .left)
+part-number-error-start c =
+    let then = c .before .before .before in let if1 = then .if1 in
+    let then = then .before in let until = then .until in
+    let args = then .before .before .args in
+    omega (arith, at-most (args .t .now) (until .result) (until .ensures), if1 .left)
 
 part-number-error-end : tie.Need-part-number-error-end
 part-number-error-end c = search needs
@@ -39,7 +59,13 @@ number-error-requires : tie.Need-number-error-requires
 number-error-requires c κs = search needs
 
 returns-3 : tie.Need-returns-3
-returns-3 c = c .number-error .ensures ∙ entry-named (c .before .before .before .before .before .before .before .before .args .t .now) (c .before .before .before .before .before .before .until .result) (c .before .before .before .before .before .before .until .ensures) (c .before .before .before .before .before .if1 .left) (sym (c .before .before .before .is-name .ensures) ∙ not-false _ (c .before .before .if2 .left))
+returns-3 c =
+    let then = c .before .before .before in let is-name = then .is-name in
+    let then = then .before .before in let if1 = then .if1 in
+    let then = then .before in let until = then .until in
+    let args = then .before .before .args in
+    c .number-error .ensures ∙ entry-named (args .t .now) (until .result) (until .ensures) (if1 .left)
+    (sym (is-name .ensures) ∙ not-false _ (c .before .before .if2 .left))
 
 pub entry-error-spec : {M : Type 1} → statement M
 entry-error-spec =

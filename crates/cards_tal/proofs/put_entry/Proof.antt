@@ -11,7 +11,10 @@ until-requires : tie.Need-until-requires
 until-requires c κs = search needs
 
 slice-aggregate-put-name : tie.Need-slice-aggregate-put-name
-slice-aggregate-put-name c = sym (length-take-le (c .before .before .until .result) (c .before .before .before .before .before .args .t .now) (at-most (c .before .before .before .before .before .args .t .now) (c .before .before .until .result) (c .before .before .until .ensures)))
+slice-aggregate-put-name c =
+    let then = c .before .before in let until = then .until in
+    let args = then .before .before .before .args in
+    sym (length-take-le (until .result) (args .t .now) (at-most (args .t .now) (until .result) (until .ensures)))
 
 put-name-requires : tie.Need-put-name-requires
 put-name-requires c κs = search needs
@@ -26,16 +29,35 @@ same-length : tie.Need-same-length
 same-length c = search needs
 
 returns : tie.Need-returns
-returns c = put-numberless (c .before .before .before .before .before .before .before .before .before .before .before .before .before .before .before .before .before .args .t .now) (c .before .before .before .before .before .before .before .before .before .before .before .before .before .before .until .result) (c .before .before .before .before .before .before .before .before .before .before .before .before .before .before .until .ensures) (c .before .before .before .before .before .before .before .before .before .before .before .put-name .ensures) (c .before .before .before .before .before .before .before .put-byte .ensures) (c .before .before .put-decimal .ensures) (c .before .before .before .before .if1 .taken) refl
+returns c =
+    let then = c .before .before .before .before in let if1 = then .if1 in
+    let then = then .before .before .before in let put-byte = then .put-byte in
+    let then = then .before .before .before .before in let put-name = then .put-name in
+    let then = then .before .before .before in let until = then .until in
+    let args = then .before .before .before .args in
+    put-numberless (args .t .now) (until .result) (until .ensures) (put-name .ensures) (put-byte .ensures)
+    (c .before .before .put-decimal .ensures) (if1 .taken) refl
 
 add-number-of : tie.Need-add-number-of
-add-number-of c = omega (arith, at-most (c .before .before .before .before .before .before .before .before .before .before .before .before .before .before .args .t .now) (c .before .before .before .before .before .before .before .before .before .before .before .until .result) (c .before .before .before .before .before .before .before .before .before .before .before .until .ensures), c .before .if1 .left)
+add-number-of c =
+    let then = c .before .before .before .before .before .before .before .before .before .before .before in
+    let until = then .until in
+    let args = then .before .before .before .args in
+    omega (arith, at-most (args .t .now) (until .result) (until .ensures), c .before .if1 .left)
 
 sub-number-of : tie.Need-sub-number-of
-sub-number-of c = omega (arith, at-most (c .before .before .before .before .before .before .before .before .before .before .before .before .before .before .args .t .now) (c .before .before .before .before .before .before .before .before .before .before .before .until .result) (c .before .before .before .before .before .before .before .before .before .before .before .until .ensures), c .before .if1 .left)
+sub-number-of c =
+    let then = c .before .before .before .before .before .before .before .before .before .before .before in
+    let until = then .until in
+    let args = then .before .before .before .args in
+    omega (arith, at-most (args .t .now) (until .result) (until .ensures), c .before .if1 .left)
 
 part-number-of-start : tie.Need-part-number-of-start
-part-number-of-start c = omega (arith, at-most (c .before .before .before .before .before .before .before .before .before .before .before .before .before .before .args .t .now) (c .before .before .before .before .before .before .before .before .before .before .before .until .result) (c .before .before .before .before .before .before .before .before .before .before .before .until .ensures), c .before .if1 .left)
+part-number-of-start c =
+    let then = c .before .before .before .before .before .before .before .before .before .before .before in
+    let until = then .until in
+    let args = then .before .before .before .args in
+    omega (arith, at-most (args .t .now) (until .result) (until .ensures), c .before .if1 .left)
 
 part-number-of-end : tie.Need-part-number-of-end
 part-number-of-end c = search needs
@@ -53,7 +75,14 @@ same-length-2 : tie.Need-same-length-2
 same-length-2 c = search needs
 
 returns-2 : tie.Need-returns-2
-returns-2 c = put-number (c .before .before .before .before .before .before .before .before .before .before .before .before .before .before .before .before .before .before .before .args .t .now) (c .before .before .before .before .before .before .before .before .before .before .before .before .before .before .before .before .until .result) (c .before .before .before .before .before .before .before .before .before .before .before .before .before .before .before .before .until .ensures) (c .before .before .before .before .before .before .before .before .before .before .before .before .before .put-name .ensures) (c .before .before .before .before .before .before .before .before .before .put-byte .ensures) (c .before .before .put-decimal2 .ensures) (c .before .before .before .number-of .ensures)
+returns-2 c =
+    let then = c .before .before .before in let number-of = then .number-of in
+    let then = then .before .before .before .before .before .before in let put-byte = then .put-byte in
+    let then = then .before .before .before .before in let put-name = then .put-name in
+    let then = then .before .before .before in let until = then .until in
+    let args = then .before .before .before .args in
+    put-number (args .t .now) (until .result) (until .ensures) (put-name .ensures) (put-byte .ensures)
+    (c .before .before .put-decimal2 .ensures) (number-of .ensures)
 
 pub put-entry-spec : {M : Type 1} → statement M
 put-entry-spec =

@@ -16,13 +16,20 @@ last-field-requires : tie.Need-last-field-requires
 last-field-requires c κs = search needs
 
 returns-2 : tie.Need-returns-2
-returns-2 c = sym (tal-none (c .before .before .before .before .before .args .card .now) (sym (c .before .before .before .is-malformed .ensures) ∙ c .before .before .if1 .left) (omega arith))
+returns-2 c =
+    let then = c .before .before .before in let is-malformed = then .is-malformed in
+    let args = then .before .before .args in
+    sym (tal-none (args .card .now) (sym (is-malformed .ensures) ∙ c .before .before .if1 .left) (omega arith))
 
 entries-error-requires : tie.Need-entries-error-requires
 entries-error-requires c κs = search needs
 
 returns-3 : tie.Need-returns-3
-returns-3 c = c .entries-error .ensures ∙ tal-entries (c .before .before .before .before .before .before .args .card .now) (sym (c .before .before .before .before .is-malformed .ensures) ∙ c .before .before .before .if1 .left) (omega arith)
+returns-3 c =
+    let then = c .before .before .before in let if1 = then .if1 in
+    let then = then .before in let is-malformed = then .is-malformed in
+    let args = then .before .before .args in
+    c .entries-error .ensures ∙ tal-entries (args .card .now) (sym (is-malformed .ensures) ∙ if1 .left) (omega arith)
 
 pub tal-error-spec : {M : Type 1} → statement M
 tal-error-spec =

@@ -14,28 +14,61 @@ gathered-requires : tie.Need-gathered-requires
 gathered-requires c κs = search needs
 
 returns : tie.Need-returns
-returns c = sym (count-long (spaceless (c .before .before .before .args .t .now)) (c .before .gathered .result) (c .before .gathered .ensures) (c .before .before .before .args .counted) (c .if1 .taken))
+returns c =
+    let then = c .before in let gathered = then .gathered in
+    let args = then .before .before .args in
+    sym (count-long (spaceless (args .t .now)) (gathered .result) (gathered .ensures) (args .counted) (c .if1 .taken))
 
 returns-2 : tie.Need-returns-2
-returns-2 c = sym (count-second (spaceless (c .before .before .before .before .args .t .now)) (c .before .before .gathered .result) (c .before .before .gathered .ensures) (c .before .before .before .before .args .counted) (c .before .if1 .left) (c .if2 .taken))
+returns-2 c =
+    let then = c .before .before in let gathered = then .gathered in
+    let args = then .before .before .args in
+    sym (count-second (spaceless (args .t .now)) (gathered .result) (gathered .ensures) (args .counted) (c .before .if1 .left) (c .if2 .taken))
 
 returns-3 : tie.Need-returns-3
-returns-3 c = sym (count-none (spaceless (c .before .before .before .before .before .args .t .now)) (c .before .before .before .gathered .result) (c .before .before .before .gathered .ensures) (c .before .before .before .before .before .args .counted) (c .before .before .if1 .left) (c .before .if2 .left) (c .if3 .taken))
+returns-3 c =
+    let then = c .before .before .before in let gathered = then .gathered in
+    let args = then .before .before .args in
+    sym (count-none (spaceless (args .t .now)) (gathered .result) (gathered .ensures) (args .counted) (c .before .before .if1 .left)
+    (c .before .if2 .left) (c .if3 .taken))
 
 array-share-prefix-bytes : tie.Need-array-share-prefix-bytes
-array-share-prefix-bytes c = omega (arith, within (c .before .before .before .before .gathered .result) (spaceless (c .before .before .before .before .before .before .args .t .now)) (c .before .before .before .before .gathered .ensures), c .before .before .before .if1 .left)
+array-share-prefix-bytes c =
+    let then = c .before .before .before in let if1 = then .if1 in
+    let then = then .before in let gathered = then .gathered in
+    let args = then .before .before .args in
+    omega (arith, within (gathered .result) (spaceless (args .t .now)) (gathered .ensures), if1 .left)
 
 slice-aggregate-all-of : tie.Need-slice-aggregate-all-of
-slice-aggregate-all-of c = sym (length-take-le (c .before .before .before .before .before .gathered .result .len) (c .before .before .before .before .before .gathered .result .bytes) (omega (arith, within (c .before .before .before .before .before .gathered .result) (spaceless (c .before .before .before .before .before .before .before .args .t .now)) (c .before .before .before .before .before .gathered .ensures), c .before .before .before .before .if1 .left)))
+slice-aggregate-all-of c =
+    let then = c .before .before .before .before in let if1 = then .if1 in
+    let then = then .before in let gathered = then .gathered in
+    let args = then .before .before .args in
+    sym (length-take-le (gathered .result .len) (gathered .result .bytes)
+    (omega (arith, within (gathered .result) (spaceless (args .t .now)) (gathered .ensures), if1 .left)))
 
 all-of-requires : tie.Need-all-of-requires
 all-of-requires c κs = search needs
 
 returns-4 : tie.Need-returns-4
-returns-4 c = sym (count-digits (spaceless (c .before .before .before .before .before .before .before .before .before .args .t .now)) (c .before .before .before .before .before .before .before .gathered .result) (c .before .before .before .before .before .before .before .gathered .ensures) (c .before .before .before .before .before .before .before .before .before .args .counted) (c .before .before .before .before .before .before .if1 .left) (c .before .before .before .before .before .if2 .left) (c .before .before .before .before .if3 .left) true (sym (c .if4 .taken) ∙ c .before .all-of .ensures))
+returns-4 c =
+    let then = c .before .before .before .before in let if3 = then .if3 in
+    let then = then .before in let if2 = then .if2 in
+    let then = then .before in let if1 = then .if1 in
+    let then = then .before in let gathered = then .gathered in
+    let args = then .before .before .args in
+    sym (count-digits (spaceless (args .t .now)) (gathered .result) (gathered .ensures) (args .counted) (if1 .left) (if2 .left) (if3 .left) true
+    (sym (c .if4 .taken) ∙ c .before .all-of .ensures))
 
 returns-5 : tie.Need-returns-5
-returns-5 c = sym (count-digits (spaceless (c .before .before .before .before .before .before .before .before .before .args .t .now)) (c .before .before .before .before .before .before .before .gathered .result) (c .before .before .before .before .before .before .before .gathered .ensures) (c .before .before .before .before .before .before .before .before .before .args .counted) (c .before .before .before .before .before .before .if1 .left) (c .before .before .before .before .before .if2 .left) (c .before .before .before .before .if3 .left) false (sym (c .if4 .left) ∙ c .before .all-of .ensures))
+returns-5 c =
+    let then = c .before .before .before .before in let if3 = then .if3 in
+    let then = then .before in let if2 = then .if2 in
+    let then = then .before in let if1 = then .if1 in
+    let then = then .before in let gathered = then .gathered in
+    let args = then .before .before .args in
+    sym (count-digits (spaceless (args .t .now)) (gathered .result) (gathered .ensures) (args .counted) (if1 .left) (if2 .left) (if3 .left)
+    false (sym (c .if4 .left) ∙ c .before .all-of .ensures))
 
 pub count-error-spec : {M : Type 1} → statement M
 count-error-spec =

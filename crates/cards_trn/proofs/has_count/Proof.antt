@@ -23,7 +23,10 @@ is-count-requires : tie.Need-is-count-requires
 is-count-requires c κs = search needs
 
 returns-2 : tie.Need-returns-2
-returns-2 c = c .is-count .ensures ∙ ap (λ (s : List ℕ). isCount (spaceless s)) (c .before .raw-field .ensures) ∙ count-there (c .before .before .before .before .before .args .card .now) (omega arith)
+returns-2 c =
+    let args = c .before .before .before .before .before .args in
+    c .is-count .ensures ∙ ap (λ (s : List ℕ). isCount (spaceless s)) (c .before .raw-field .ensures)
+    ∙ count-there (args .card .now) (omega arith)
 
 pub has-count-spec : {M : Type 1} → statement M
 has-count-spec =

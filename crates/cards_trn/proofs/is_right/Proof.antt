@@ -16,13 +16,20 @@ is-name-requires : tie.Need-is-name-requires
 is-name-requires c κs = search needs
 
 returns : tie.Need-returns
-returns c = c .is-type .ensures ∙ right-type (c .before .before .before .args .k) (spaceless (c .before .before .before .args .t .now)) (c .before .match .keys1)
+returns c =
+    let args = c .before .before .before .args in
+    c .is-type .ensures ∙ right-type (args .k) (spaceless (args .t .now)) (c .before .match .keys1)
 
 returns-2 : tie.Need-returns-2
-returns-2 c = c .is-successor .ensures ∙ right-successor (c .before .before .before .args .k) (spaceless (c .before .before .before .args .t .now)) (c .before .match .keys2)
+returns-2 c =
+    let args = c .before .before .before .args in
+    c .is-successor .ensures ∙ right-successor (args .k) (spaceless (args .t .now)) (c .before .match .keys2)
 
 returns-3 : tie.Need-returns-3
-returns-3 c = c .is-name .ensures ∙ right-name (c .before .before .before .args .k) (spaceless (c .before .before .before .args .t .now)) (c .before .before .before .pre) (λ e. c .before .match .rest .0 .1 e) (λ e. c .before .match .rest .1 e)
+returns-3 c =
+    let then = c .before in let match = then .match in
+    let then = then .before .before in let args = then .args in let pre = then .pre in
+    c .is-name .ensures ∙ right-name (args .k) (spaceless (args .t .now)) pre (λ e. match .rest .0 .1 e) (λ e. match .rest .1 e)
 
 pub is-right-spec : {M : Type 1} → statement M
 is-right-spec =

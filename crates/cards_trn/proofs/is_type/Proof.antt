@@ -13,19 +13,33 @@ gathered-requires : tie.Need-gathered-requires
 gathered-requires c κs = search needs
 
 returns : tie.Need-returns
-returns c = sym (type-long (spaceless (c .before .before .before .args .t .now)) (c .before .gathered .result) (c .before .gathered .ensures) (c .if1 .taken))
+returns c =
+    let then = c .before in let gathered = then .gathered in
+    let args = then .before .before .args in
+    sym (type-long (spaceless (args .t .now)) (gathered .result) (gathered .ensures) (c .if1 .taken))
 
 array-share-prefix-bytes : tie.Need-array-share-prefix-bytes
-array-share-prefix-bytes c = omega (arith, within (c .before .before .gathered .result) (spaceless (c .before .before .before .before .args .t .now)) (c .before .before .gathered .ensures), c .before .if1 .left)
+array-share-prefix-bytes c =
+    let then = c .before .before in let gathered = then .gathered in
+    let args = then .before .before .args in
+    omega (arith, within (gathered .result) (spaceless (args .t .now)) (gathered .ensures), c .before .if1 .left)
 
 slice-aggregate-is-type-word : tie.Need-slice-aggregate-is-type-word
-slice-aggregate-is-type-word c = sym (length-take-le (c .before .before .before .gathered .result .len) (c .before .before .before .gathered .result .bytes) (omega (arith, within (c .before .before .before .gathered .result) (spaceless (c .before .before .before .before .before .args .t .now)) (c .before .before .before .gathered .ensures), c .before .before .if1 .left)))
+slice-aggregate-is-type-word c =
+    let then = c .before .before .before in let gathered = then .gathered in
+    let args = then .before .before .args in
+    sym (length-take-le (gathered .result .len) (gathered .result .bytes)
+    (omega (arith, within (gathered .result) (spaceless (args .t .now)) (gathered .ensures), c .before .before .if1 .left)))
 
 is-type-word-requires : tie.Need-is-type-word-requires
 is-type-word-requires c κs = search needs
 
 returns-2 : tie.Need-returns-2
-returns-2 c = c .is-type-word .ensures ∙ type-short (spaceless (c .before .before .before .before .before .before .args .t .now)) (c .before .before .before .before .gathered .result) (c .before .before .before .before .gathered .ensures) (c .before .before .before .if1 .left)
+returns-2 c =
+    let then = c .before .before .before in let if1 = then .if1 in
+    let then = then .before in let gathered = then .gathered in
+    let args = then .before .before .args in
+    c .is-type-word .ensures ∙ type-short (spaceless (args .t .now)) (gathered .result) (gathered .ensures) (if1 .left)
 
 pub is-type-spec : {M : Type 1} → statement M
 is-type-spec =

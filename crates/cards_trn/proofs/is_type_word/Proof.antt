@@ -20,7 +20,10 @@ is-same-requires-2 : tie.Need-is-same-requires-2
 is-same-requires-2 c κs = search needs
 
 returns-2 : tie.Need-returns-2
-returns-2 c = rw (sym (c .before .before .before .before .is-same .ensures) ∙ c .before .before .before .if1 .left, sym (c .before .is-same2 .ensures) ∙ c .if2 .taken)
+returns-2 c =
+    let then = c .before .before .before in let if1 = then .if1 in
+    let is-same = then .before .is-same in
+    rw (sym (is-same .ensures) ∙ if1 .left, sym (c .before .is-same2 .ensures) ∙ c .if2 .taken)
 
 slice-aggregate-is-same-3 : tie.Need-slice-aggregate-is-same-3
 slice-aggregate-is-same-3 c = search needs
@@ -29,7 +32,12 @@ is-same-requires-3 : tie.Need-is-same-requires-3
 is-same-requires-3 c κs = search needs
 
 returns-3 : tie.Need-returns-3
-returns-3 c = rw (sym (c .before .before .before .before .before .before .before .is-same .ensures) ∙ c .before .before .before .before .before .before .if1 .left, sym (c .before .before .before .before .is-same2 .ensures) ∙ c .before .before .before .if2 .left, sym (c .before .is-same3 .ensures) ∙ c .if3 .taken)
+returns-3 c =
+    let then = c .before .before .before in let if2 = then .if2 in
+    let then = then .before in let is-same2 = then .is-same2 in
+    let then = then .before .before in let if1 = then .if1 in
+    let is-same = then .before .is-same in
+    rw (sym (is-same .ensures) ∙ if1 .left, sym (is-same2 .ensures) ∙ if2 .left, sym (c .before .is-same3 .ensures) ∙ c .if3 .taken)
 
 slice-aggregate-is-same-4 : tie.Need-slice-aggregate-is-same-4
 slice-aggregate-is-same-4 c = search needs
@@ -38,7 +46,19 @@ is-same-requires-4 : tie.Need-is-same-requires-4
 is-same-requires-4 c κs = search needs
 
 returns-4 : tie.Need-returns-4
-returns-4 c = rw (sym (c .before .before .before .before .before .before .before .before .before .before .is-same .ensures) ∙ c .before .before .before .before .before .before .before .before .before .if1 .left, sym (c .before .before .before .before .before .before .before .is-same2 .ensures) ∙ c .before .before .before .before .before .before .if2 .left, sym (c .before .before .before .before .is-same3 .ensures) ∙ c .before .before .before .if3 .left, sym (c .before .is-same4 .ensures) ∙ c .if4 .taken)
+returns-4 c =
+    let then = c .before .before .before in let if3 = then .if3 in
+    let then = then .before in let is-same3 = then .is-same3 in
+    let then = then .before .before in let if2 = then .if2 in
+    let then = then .before in let is-same2 = then .is-same2 in
+    let then = then .before .before in let if1 = then .if1 in
+    let is-same = then .before .is-same in
+    rw (
+      sym (is-same .ensures) ∙ if1 .left,
+      sym (is-same2 .ensures) ∙ if2 .left,
+      sym (is-same3 .ensures) ∙ if3 .left,
+      sym (c .before .is-same4 .ensures) ∙ c .if4 .taken,
+    )
 
 slice-aggregate-is-same-5 : tie.Need-slice-aggregate-is-same-5
 slice-aggregate-is-same-5 c = search needs
@@ -47,7 +67,20 @@ is-same-requires-5 : tie.Need-is-same-requires-5
 is-same-requires-5 c κs = search needs
 
 returns-5 : tie.Need-returns-5
-returns-5 c = rw (sym (c .before .before .before .before .before .before .before .before .before .before .before .before .is-same .ensures) ∙ c .before .before .before .before .before .before .before .before .before .before .before .if1 .left, sym (c .before .before .before .before .before .before .before .before .before .is-same2 .ensures) ∙ c .before .before .before .before .before .before .before .before .if2 .left, sym (c .before .before .before .before .before .before .is-same3 .ensures) ∙ c .before .before .before .before .before .if3 .left, sym (c .before .before .before .is-same4 .ensures) ∙ c .before .before .if4 .left) (c .is-same5 .ensures)
+returns-5 c =
+    let then = c .before .before .before in let is-same4 = then .is-same4 in
+    let then = then .before .before in let if3 = then .if3 in
+    let then = then .before in let is-same3 = then .is-same3 in
+    let then = then .before .before in let if2 = then .if2 in
+    let then = then .before in let is-same2 = then .is-same2 in
+    let then = then .before .before in let if1 = then .if1 in
+    let is-same = then .before .is-same in
+    rw (
+      sym (is-same .ensures) ∙ if1 .left,
+      sym (is-same2 .ensures) ∙ if2 .left,
+      sym (is-same3 .ensures) ∙ if3 .left,
+      sym (is-same4 .ensures) ∙ c .before .before .if4 .left,
+    ) (c .is-same5 .ensures)
 
 pub is-type-word-spec : {M : Type 1} → statement M
 is-type-word-spec =

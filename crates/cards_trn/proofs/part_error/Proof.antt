@@ -19,16 +19,30 @@ gathered-requires : tie.Need-gathered-requires
 gathered-requires c κs = search needs
 
 returns : tie.Need-returns
-returns c = sym (part-long (c .before .before .before .before .before .args .t .now) (c .before .before .before .before .before .args .k) (c .before .before .before .piece-at .result .now) (c .before .before .before .piece-at .ensures) (c .before .before .gathered .result) (c .before .before .gathered .ensures) (c .if1 .taken))
+returns c =
+    let then = c .before .before in let gathered = then .gathered in
+    let then = then .before in let piece-at = then .piece-at in
+    let args = then .before .before .args in
+    sym (part-long (args .t .now) (args .k) (piece-at .result .now) (piece-at .ensures) (gathered .result) (gathered .ensures) (c .if1 .taken))
 
 is-right-requires : tie.Need-is-right-requires
 is-right-requires c κs = search needs
 
 returns-2 : tie.Need-returns-2
-returns-2 c = sym (part-right (c .before .before .before .before .before .before .before .args .t .now) (c .before .before .before .before .before .before .before .args .k) (c .before .before .before .before .before .piece-at .result .now) (c .before .before .before .before .before .piece-at .ensures) (c .before .before .before .before .gathered .result) (c .before .before .before .before .gathered .ensures) (c .before .before .if1 .left) true (sym (c .if2 .taken) ∙ c .before .is-right .ensures))
+returns-2 c =
+    let then = c .before .before .before .before in let gathered = then .gathered in
+    let then = then .before in let piece-at = then .piece-at in
+    let args = then .before .before .args in
+    sym (part-right (args .t .now) (args .k) (piece-at .result .now) (piece-at .ensures) (gathered .result) (gathered .ensures)
+    (c .before .before .if1 .left) true (sym (c .if2 .taken) ∙ c .before .is-right .ensures))
 
 returns-3 : tie.Need-returns-3
-returns-3 c = sym (part-right (c .before .before .before .before .before .before .before .args .t .now) (c .before .before .before .before .before .before .before .args .k) (c .before .before .before .before .before .piece-at .result .now) (c .before .before .before .before .before .piece-at .ensures) (c .before .before .before .before .gathered .result) (c .before .before .before .before .gathered .ensures) (c .before .before .if1 .left) false (sym (c .if2 .left) ∙ c .before .is-right .ensures))
+returns-3 c =
+    let then = c .before .before .before .before in let gathered = then .gathered in
+    let then = then .before in let piece-at = then .piece-at in
+    let args = then .before .before .args in
+    sym (part-right (args .t .now) (args .k) (piece-at .result .now) (piece-at .ensures) (gathered .result) (gathered .ensures)
+    (c .before .before .if1 .left) false (sym (c .if2 .left) ∙ c .before .is-right .ensures))
 
 pub part-error-spec : {M : Type 1} → statement M
 part-error-spec =

@@ -29,7 +29,14 @@ is-good-requires : tie.Need-is-good-requires Inv-loop μ-loop
 is-good-requires c κs = search needs
 
 returns : tie.Need-returns Inv-loop μ-loop
-returns c = sym (part-wrong (spaceless (c .before .before .before .before .before .before .args .t .now)) (c .before .before .before .before .loop .k) (c .before .before .before .loop-test .taken) (c .before .before .part-error .result) (c .before .before .part-error .ensures) (sym (c .before .is-good .ensures) ∙ not-true _ (c .if1 .taken))) ∙ c .before .before .before .before .loop .inv .1
+returns c =
+    let then = c .before .before in let part-error = then .part-error in
+    let then = then .before in let loop-test = then .loop-test in
+    let then = then .before in let loop = then .loop in
+    let args = then .before .before .args in
+    sym (part-wrong (spaceless (args .t .now)) (loop .k) (loop-test .taken) (part-error .result) (part-error .ensures)
+    (sym (c .before .is-good .ensures) ∙ not-true _ (c .if1 .taken)))
+    ∙ loop .inv .1
 
 add-k : tie.Need-add-k Inv-loop μ-loop
 add-k c = search needs
@@ -38,10 +45,22 @@ loop-less : tie.Need-loop-less Inv-loop μ-loop
 loop-less c = search needs
 
 loop-again : tie.Need-loop-again Inv-loop μ-loop
-loop-again c = (omega arith, sym (part-next (spaceless (c .before .before .before .before .before .before .args .t .now)) (c .before .before .before .before .loop .k) (c .before .before .before .loop-test .taken) (c .before .before .part-error .result) (c .before .before .part-error .ensures) (sym (c .before .is-good .ensures) ∙ not-false _ (c .if1 .left))) ∙ c .before .before .before .before .loop .inv .1)
+loop-again c =
+    let then = c .before .before in let part-error = then .part-error in
+    let then = then .before in let loop-test = then .loop-test in
+    let then = then .before in let loop = then .loop in
+    let args = then .before .before .args in (
+      omega arith,
+      sym (part-next (spaceless (args .t .now)) (loop .k) (loop-test .taken) (part-error .result) (part-error .ensures)
+          (sym (c .before .is-good .ensures) ∙ not-false _ (c .if1 .left)))
+          ∙ loop .inv .1,
+    )
 
 returns-2 : tie.Need-returns-2 Inv-loop μ-loop
-returns-2 c = sym (parts-done (spaceless (c .before .before .before .args .t .now)) (c .before .loop .k) (c .loop-test .left)) ∙ c .before .loop .inv .1
+returns-2 c =
+    let then = c .before in let loop = then .loop in
+    let args = then .before .before .args in
+    sym (parts-done (spaceless (args .t .now)) (loop .k) (c .loop-test .left)) ∙ loop .inv .1
 
 pub parts-error-spec : {M : Type 1} → statement M
 parts-error-spec =

@@ -22,7 +22,13 @@ same-length : tie.Need-same-length
 same-length c = search needs
 
 returns : tie.Need-returns
-returns c = put-count (spaceless (c .before .before .before .before .before .before .before .before .before .args .t .now)) (sym (c .before .before .before .before .before .before .is-count .ensures) ∙ c .before .before .before .before .before .if1 .taken) (c .before .before .before .number-of .result) (c .before .before .before .number-of .ensures) (c .before .before .put-decimal .ensures)
+returns c =
+    let then = c .before .before .before in let number-of = then .number-of in
+    let then = then .before .before in let if1 = then .if1 in
+    let then = then .before in let is-count = then .is-count in
+    let args = then .before .before .before .args in
+    put-count (spaceless (args .t .now)) (sym (is-count .ensures) ∙ if1 .taken) (number-of .result) (number-of .ensures)
+    (c .before .before .put-decimal .ensures)
 
 put-name-requires : tie.Need-put-name-requires
 put-name-requires c κs = search needs
@@ -31,7 +37,11 @@ same-length-2 : tie.Need-same-length-2
 same-length-2 c = search needs
 
 returns-2 : tie.Need-returns-2
-returns-2 c = put-transfer (spaceless (c .before .before .before .before .before .before .before .before .args .t .now)) (sym (c .before .before .before .before .before .is-count .ensures) ∙ c .before .before .before .before .if1 .left) (c .before .before .put-name .ensures)
+returns-2 c =
+    let then = c .before .before .before .before in let if1 = then .if1 in
+    let then = then .before in let is-count = then .is-count in
+    let args = then .before .before .before .args in
+    put-transfer (spaceless (args .t .now)) (sym (is-count .ensures) ∙ if1 .left) (c .before .before .put-name .ensures)
 
 pub put-third-spec : {M : Type 1} → statement M
 put-third-spec =

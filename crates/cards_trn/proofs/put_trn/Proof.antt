@@ -21,7 +21,10 @@ same-length : tie.Need-same-length
 same-length c = search needs
 
 returns : tie.Need-returns
-returns c = trn-empty (c .before .before .before .before .before .before .before .before .before .before .before .before .before .args .card .now) (c .before .before .before .before .before .before .before .before .put-bytes .ensures) (omega arith) (c .before .before .put-byte .ensures)
+returns c =
+    let then = c .before .before .before .before .before .before .before .before in let put-bytes = then .put-bytes in
+    let args = then .before .before .before .before .before .args in
+    trn-empty (args .card .now) (put-bytes .ensures) (omega arith) (c .before .before .put-byte .ensures)
 
 put-byte-requires-2 : tie.Need-put-byte-requires-2
 put-byte-requires-2 c κs = search needs
@@ -39,7 +42,14 @@ same-length-2 : tie.Need-same-length-2
 same-length-2 c = search needs
 
 returns-2 : tie.Need-returns-2
-returns-2 c = trn-put (c .before .before .before .before .before .before .before .before .before .before .before .before .before .before .before .before .before .before .before .before .before .before .args .card .now) (c .before .before .before .before .before .before .before .before .before .before .before .before .before .before .before .before .before .put-bytes .ensures) (omega arith) (c .before .before .before .before .before .before .before .before .before .before .before .put-byte2 .ensures) (rw (c .before .before .before .before .before .before .before .raw-field .ensures) at (c .before .before .before .before .before .before .put-third .ensures)) (c .before .before .put-transfers .ensures)
+returns-2 c =
+    let then = c .before .before .before .before .before .before in let put-third = then .put-third in
+    let then = then .before in let raw-field = then .raw-field in
+    let then = then .before .before .before .before in let put-byte2 = then .put-byte2 in
+    let then = then .before .before .before .before .before .before in let put-bytes = then .put-bytes in
+    let args = then .before .before .before .before .before .args in
+    trn-put (args .card .now) (put-bytes .ensures) (omega (arith, c)) (put-byte2 .ensures) (rw (raw-field .ensures) at (put-third .ensures))
+    (c .before .before .put-transfers .ensures)
 
 pub put-trn-spec : {M : Type 1} → statement M
 put-trn-spec =

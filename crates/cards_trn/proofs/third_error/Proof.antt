@@ -13,13 +13,19 @@ count-error-requires : tie.Need-count-error-requires
 count-error-requires c κs = search needs
 
 returns : tie.Need-returns
-returns c = c .count-error .ensures ∙ third-count (c .before .before .before .before .args .counted) (spaceless (c .before .before .before .before .args .t .now)) (sym (c .before .before .is-count .ensures) ∙ c .before .if1 .taken)
+returns c =
+    let args = c .before .before .before .before .args in
+    c .count-error .ensures ∙ third-count (args .counted) (spaceless (args .t .now))
+    (sym (c .before .before .is-count .ensures) ∙ c .before .if1 .taken)
 
 transfer-error-requires : tie.Need-transfer-error-requires
 transfer-error-requires c κs = search needs
 
 returns-2 : tie.Need-returns-2
-returns-2 c = c .transfer-error .ensures ∙ third-transfer (c .before .before .before .before .args .counted) (spaceless (c .before .before .before .before .args .t .now)) (sym (c .before .before .is-count .ensures) ∙ c .before .if1 .left)
+returns-2 c =
+    let args = c .before .before .before .before .args in
+    c .transfer-error .ensures ∙ third-transfer (args .counted) (spaceless (args .t .now))
+    (sym (c .before .before .is-count .ensures) ∙ c .before .if1 .left)
 
 pub third-error-spec : {M : Type 1} → statement M
 third-error-spec =

@@ -13,16 +13,32 @@ is-good-requires : tie.Need-is-good-requires
 is-good-requires c κs = search needs
 
 returns : tie.Need-returns
-returns c = sym (transfer-wrong (c .before .before .before .before .args .t .now) (c .before .before .parts-error .result) (c .before .before .parts-error .ensures) (sym (c .before .is-good .ensures) ∙ not-true _ (c .if1 .taken)))
+returns c =
+    let then = c .before .before in let parts-error = then .parts-error in
+    let args = then .before .before .args in
+    sym (transfer-wrong (args .t .now) (parts-error .result) (parts-error .ensures)
+    (sym (c .before .is-good .ensures) ∙ not-true _ (c .if1 .taken)))
 
 cuts-requires : tie.Need-cuts-requires
 cuts-requires c κs = search needs
 
 returns-2 : tie.Need-returns-2
-returns-2 c = sym (transfer-fifth (c .before .before .before .before .before .before .args .t .now) (c .before .before .before .before .parts-error .result) (c .before .before .before .before .parts-error .ensures) (sym (c .before .before .before .is-good .ensures) ∙ not-false _ (c .before .before .if1 .left)) (c .before .cuts .result) (c .before .cuts .ensures) (c .if2 .taken))
+returns-2 c =
+    let then = c .before in let cuts = then .cuts in
+    let then = then .before .before in let is-good = then .is-good in
+    let then = then .before in let parts-error = then .parts-error in
+    let args = then .before .before .args in
+    sym (transfer-fifth (args .t .now) (parts-error .result) (parts-error .ensures)
+    (sym (is-good .ensures) ∙ not-false _ (c .before .before .if1 .left)) (cuts .result) (cuts .ensures) (c .if2 .taken))
 
 returns-3 : tie.Need-returns-3
-returns-3 c = sym (transfer-good (c .before .before .before .before .before .before .args .t .now) (c .before .before .before .before .parts-error .result) (c .before .before .before .before .parts-error .ensures) (sym (c .before .before .before .is-good .ensures) ∙ not-false _ (c .before .before .if1 .left)) (c .before .cuts .result) (c .before .cuts .ensures) (c .if2 .left))
+returns-3 c =
+    let then = c .before in let cuts = then .cuts in
+    let then = then .before .before in let is-good = then .is-good in
+    let then = then .before in let parts-error = then .parts-error in
+    let args = then .before .before .args in
+    sym (transfer-good (args .t .now) (parts-error .result) (parts-error .ensures)
+    (sym (is-good .ensures) ∙ not-false _ (c .before .before .if1 .left)) (cuts .result) (cuts .ensures) (c .if2 .left))
 
 pub transfer-error-spec : {M : Type 1} → statement M
 transfer-error-spec =

@@ -14,7 +14,8 @@ use Rattle.cards_trn.proofs.transfers_error.Statement.{statement}
 use Rattle.cards_trn.proofs.transfers_error.Tie as tie
 
 abbrev Inv-loop : tie.InvT-loop
-Inv-loop card last k₀ k = ((2 ≤ k) × (last + 1 ≡ length (fields card))) × (transfersError (drop (k + 1) (fields card)) ≡ transfersError (drop 3 (fields card)))
+Inv-loop card last k₀ k =
+    ((2 ≤ k) × (last + 1 ≡ length (fields card))) × (transfersError (drop (k + 1) (fields card)) ≡ transfersError (drop 3 (fields card)))
 
 abbrev μ-loop : tie.MeasureT-loop
 μ-loop card last k₀ k = last - k
@@ -38,13 +39,31 @@ is-good-requires : tie.Need-is-good-requires Inv-loop μ-loop
 is-good-requires c κs = search needs
 
 returns : tie.Need-returns Inv-loop μ-loop
-returns c = sym (transfers-wrong (c .before .before .before .before .before .before .before .before .args .card .now) (c .before .before .before .before .before .loop .k) (omega arith) (c .before .before .transfer-error .result) (c .before .before .transfer-error .ensures ∙ ap (λ (s : List ℕ). transferError (spaceless s)) (c .before .before .before .raw-field .ensures)) (sym (c .before .is-good .ensures) ∙ not-true _ (c .if1 .taken))) ∙ c .before .before .before .before .before .loop .inv .1
+returns c =
+    let then = c .before .before in let transfer-error = then .transfer-error in
+    let then = then .before in let raw-field = then .raw-field in
+    let then = then .before .before in let loop = then .loop in
+    let args = then .before .before .before .args in
+    sym (transfers-wrong (args .card .now) (loop .k) (omega arith) (transfer-error .result)
+    (transfer-error .ensures ∙ ap (λ (s : List ℕ). transferError (spaceless s)) (raw-field .ensures))
+    (sym (c .before .is-good .ensures) ∙ not-true _ (c .if1 .taken)))
+    ∙ loop .inv .1
 
 loop-less : tie.Need-loop-less Inv-loop μ-loop
 loop-less c = search needs
 
 loop-again : tie.Need-loop-again Inv-loop μ-loop
-loop-again c = ((omega arith, c .before .before .before .before .before .loop .inv .0 .1), sym (transfers-next (c .before .before .before .before .before .before .before .before .args .card .now) (c .before .before .before .before .before .loop .k) (omega arith) (c .before .before .transfer-error .result) (c .before .before .transfer-error .ensures ∙ ap (λ (s : List ℕ). transferError (spaceless s)) (c .before .before .before .raw-field .ensures)) (sym (c .before .is-good .ensures) ∙ not-false _ (c .if1 .left))) ∙ c .before .before .before .before .before .loop .inv .1)
+loop-again c =
+    let then = c .before .before in let transfer-error = then .transfer-error in
+    let then = then .before in let raw-field = then .raw-field in
+    let then = then .before .before in let loop = then .loop in
+    let args = then .before .before .before .args in (
+      (omega arith, loop .inv .0 .1),
+      sym (transfers-next (args .card .now) (loop .k) (omega arith) (transfer-error .result)
+          (transfer-error .ensures ∙ ap (λ (s : List ℕ). transferError (spaceless s)) (raw-field .ensures))
+          (sym (c .before .is-good .ensures) ∙ not-false _ (c .if1 .left)))
+          ∙ loop .inv .1,
+    )
 
 returns-2 : tie.Need-returns-2 Inv-loop μ-loop
 returns-2 c = sym (transfers-done (c .before .before .before .before .args .card .now) (c .before .loop .k) (omega arith)) ∙ c .before .loop .inv .1

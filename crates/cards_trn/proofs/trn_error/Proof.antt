@@ -15,13 +15,18 @@ is-malformed-requires : tie.Need-is-malformed-requires
 is-malformed-requires c κs = search needs
 
 returns : tie.Need-returns
-returns c = sym (trn-malformed (c .before .before .before .args .card .now) (c .before .before .before .args .counted) (sym (c .before .is-malformed .ensures) ∙ c .if1 .taken))
+returns c =
+    let args = c .before .before .before .args in
+    sym (trn-malformed (args .card .now) (args .counted) (sym (c .before .is-malformed .ensures) ∙ c .if1 .taken))
 
 last-field-requires : tie.Need-last-field-requires
 last-field-requires c κs = search needs
 
 returns-2 : tie.Need-returns-2
-returns-2 c = sym (trn-none (c .before .before .before .before .before .args .card .now) (c .before .before .before .before .before .args .counted) (sym (c .before .before .before .is-malformed .ensures) ∙ c .before .before .if1 .left) (omega arith))
+returns-2 c =
+    let then = c .before .before .before in let is-malformed = then .is-malformed in
+    let args = then .before .before .args in
+    sym (trn-none (args .card .now) (args .counted) (sym (is-malformed .ensures) ∙ c .before .before .if1 .left) (omega arith))
 
 raw-field-requires : tie.Need-raw-field-requires
 raw-field-requires c κs = search needs
@@ -33,13 +38,29 @@ is-good-requires : tie.Need-is-good-requires
 is-good-requires c κs = search needs
 
 returns-3 : tie.Need-returns-3
-returns-3 c = sym (trn-third (c .before .before .before .before .before .before .before .before .before .args .card .now) (c .before .before .before .before .before .before .before .before .before .args .counted) (sym (c .before .before .before .before .before .before .before .is-malformed .ensures) ∙ c .before .before .before .before .before .before .if1 .left) (omega arith) (c .before .before .third-error .result) (c .before .before .third-error .ensures ∙ ap (λ (s : List ℕ). thirdError (c .before .before .before .before .before .before .before .before .before .args .counted) (spaceless s)) (c .before .before .before .raw-field .ensures)) (sym (c .before .is-good .ensures) ∙ not-true _ (c .if3 .taken)))
+returns-3 c =
+    let then = c .before .before in let third-error = then .third-error in
+    let then = then .before in let raw-field = then .raw-field in
+    let then = then .before .before .before in let if1 = then .if1 in
+    let then = then .before in let is-malformed = then .is-malformed in
+    let args = then .before .before .args in
+    sym (trn-third (args .card .now) (args .counted) (sym (is-malformed .ensures) ∙ if1 .left) (omega arith) (third-error .result)
+    (third-error .ensures ∙ ap (λ (s : List ℕ). thirdError (args .counted) (spaceless s)) (raw-field .ensures))
+    (sym (c .before .is-good .ensures) ∙ not-true _ (c .if3 .taken)))
 
 transfers-error-requires : tie.Need-transfers-error-requires
 transfers-error-requires c κs = search needs
 
 returns-4 : tie.Need-returns-4
-returns-4 c = c .transfers-error .ensures ∙ trn-rest (c .before .before .before .before .before .before .before .before .before .before .args .card .now) (c .before .before .before .before .before .before .before .before .before .before .args .counted) (sym (c .before .before .before .before .before .before .before .before .is-malformed .ensures) ∙ c .before .before .before .before .before .before .before .if1 .left) (omega arith) (c .before .before .before .third-error .result) (c .before .before .before .third-error .ensures ∙ ap (λ (s : List ℕ). thirdError (c .before .before .before .before .before .before .before .before .before .before .args .counted) (spaceless s)) (c .before .before .before .before .raw-field .ensures)) (sym (c .before .before .is-good .ensures) ∙ not-false _ (c .before .if3 .left))
+returns-4 c =
+    let then = c .before .before .before in let third-error = then .third-error in
+    let then = then .before in let raw-field = then .raw-field in
+    let then = then .before .before .before in let if1 = then .if1 in
+    let then = then .before in let is-malformed = then .is-malformed in
+    let args = then .before .before .args in
+    c .transfers-error .ensures ∙ trn-rest (args .card .now) (args .counted) (sym (is-malformed .ensures) ∙ if1 .left) (omega arith)
+    (third-error .result) (third-error .ensures ∙ ap (λ (s : List ℕ). thirdError (args .counted) (spaceless s)) (raw-field .ensures))
+    (sym (c .before .before .is-good .ensures) ∙ not-false _ (c .before .if3 .left))
 
 pub trn-error-spec : {M : Type 1} → statement M
 trn-error-spec =

@@ -12,10 +12,14 @@ add-result : tie.Need-add-result
 add-result c = search needs
 
 returns : tie.Need-returns
-returns c = rw (lt-ltb (c .before .before .args .at) (c .before .before .args .count) (c .before .if1 .taken), lt-ltb 2 (c .before .before .args .count - c .before .before .args .at) (c .if2 .taken))
+returns c =
+    let args = c .before .before .args in
+    rw (lt-ltb (args .at) (args .count) (c .before .if1 .taken), lt-ltb 2 (args .count - args .at) (c .if2 .taken))
 
 returns-2 : tie.Need-returns-2
-returns-2 c = rw (lt-ltb (c .before .before .args .at) (c .before .before .args .count) (c .before .if1 .taken), le-ltb 2 (c .before .before .args .count - c .before .before .args .at) (c .if2 .left))
+returns-2 c =
+    let args = c .before .before .args in
+    rw (lt-ltb (args .at) (args .count) (c .before .if1 .taken), le-ltb 2 (args .count - args .at) (c .if2 .left))
 
 returns-3 : tie.Need-returns-3
 returns-3 c = rw (le-ltb (c .before .args .at) (c .before .args .count) (c .if1 .left))

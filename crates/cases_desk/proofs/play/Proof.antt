@@ -45,7 +45,13 @@ hear-requires : tie.Need-hear-requires Inv-loop μ-loop
 hear-requires c κs = search needs
 
 add-at : tie.Need-add-at Inv-loop μ-loop
-add-at c = let t = part-within (c .before .before .before .before .before .before .before .before .before .before .before .before .before .args .input .now) (c .before .before .before .before .before .before .before .before .before .before .loop .at) (c .before .before .before .before .before .before .before .before .end-of .result) (c .before .before .before .before .before .before .before .before .end-of .ensures .0) (c .before .before .before .before .before .before .before .before .end-of .ensures .1) (c .before .before .hear .ensures) in omega (arith, t .0, c .before .before .before .before .before .before .before .before .end-of .ensures .1, c .before .before .before .before .before .before .before .before .before .before .loop .inv .1)
+add-at c =
+    let then = c .before .before .before .before .before .before .before .before in let end-of = then .end-of in
+    let then = then .before .before in let loop = then .loop in
+    let args = then .before .before .before .args in
+    let t = part-within (args .input .now) (loop .at) (end-of .result) (end-of .ensures .0) (end-of .ensures .1)
+    (c .before .before .hear .ensures) in
+    omega (arith, t .0, end-of .ensures .1, loop .inv .1)
 
 front-requires : tie.Need-front-requires Inv-loop μ-loop
 front-requires c κs = search needs
@@ -54,10 +60,22 @@ put-bytes-requires : tie.Need-put-bytes-requires Inv-loop μ-loop
 put-bytes-requires c κs = search needs
 
 loop-less : tie.Need-loop-less Inv-loop μ-loop
-loop-less c = let t = part-within (c .before .before .before .before .before .before .before .before .before .before .before .before .before .before .before .before .before .before .args .input .now) (c .before .before .before .before .before .before .before .before .before .before .before .before .before .before .before .loop .at) (c .before .before .before .before .before .before .before .before .before .before .before .before .before .end-of .result) (c .before .before .before .before .before .before .before .before .before .before .before .before .before .end-of .ensures .0) (c .before .before .before .before .before .before .before .before .before .before .before .before .before .end-of .ensures .1) (c .before .before .before .before .before .before .before .hear .ensures) in omega (arith, t .0, t .1, c .before .before .before .before .before .before .before .before .before .before .before .before .before .end-of .ensures .1)
+loop-less c =
+    let then = c .before .before .before .before .before .before .before in let hear = then .hear in
+    let then = then .before .before .before .before .before .before in let end-of = then .end-of in
+    let then = then .before .before in let loop = then .loop in
+    let args = then .before .before .before .args in
+    let t = part-within (args .input .now) (loop .at) (end-of .result) (end-of .ensures .0) (end-of .ensures .1) (hear .ensures) in
+    omega (arith, t .0, t .1, end-of .ensures .1)
 
 loop-again : tie.Need-loop-again Inv-loop μ-loop
-loop-again c = let t = part-within (c .before .before .before .before .before .before .before .before .before .before .before .before .before .before .before .before .before .before .args .input .now) (c .before .before .before .before .before .before .before .before .before .before .before .before .before .before .before .loop .at) (c .before .before .before .before .before .before .before .before .before .before .before .before .before .end-of .result) (c .before .before .before .before .before .before .before .before .before .before .before .before .before .end-of .ensures .0) (c .before .before .before .before .before .before .before .before .before .before .before .before .before .end-of .ensures .1) (c .before .before .before .before .before .before .before .hear .ensures) in (omega (arith, t .0, c .before .before .before .before .before .before .before .before .before .before .before .before .before .end-of .ensures .1), c .before .before .before .before .before .before .before .before .before .before .before .before .before .before .before .loop .inv .1)
+loop-again c =
+    let then = c .before .before .before .before .before .before .before in let hear = then .hear in
+    let then = then .before .before .before .before .before .before in let end-of = then .end-of in
+    let then = then .before .before in let loop = then .loop in
+    let args = then .before .before .before .args in
+    let t = part-within (args .input .now) (loop .at) (end-of .result) (end-of .ensures .0) (end-of .ensures .1) (hear .ensures) in
+    (omega (arith, t .0, end-of .ensures .1), loop .inv .1)
 
 finish-requires : tie.Need-finish-requires Inv-loop μ-loop
 finish-requires c κs = search needs

@@ -27,7 +27,10 @@ judged-requires : tie.Need-judged-requires Inv-loop μ-loop
 judged-requires c κs = search needs
 
 loop-less : tie.Need-loop-less Inv-loop μ-loop
-loop-less c = fewer (c .before .before .before .before .before .loop .tally) (c .before .agrees .result) (c .judged .ensures) (c .before .before .before .if1 .taken)
+loop-less c =
+    let then = c .before .before .before in let if1 = then .if1 in
+    let loop = then .before .before .loop in
+    fewer (loop .tally) (c .before .agrees .result) (c .judged .ensures) (if1 .taken)
 
 loop-again : tie.Need-loop-again Inv-loop μ-loop
 loop-again c = tt

@@ -33,7 +33,12 @@ hear-requires : tie.Need-hear-requires Inv-loop μ-loop
 hear-requires c κs = search needs
 
 add-at : tie.Need-add-at Inv-loop μ-loop
-add-at c = let t = taken-within (c .before .before .before .before .before .before .before .before .before .before .before .before .args .script .now) (c .before .before .before .before .before .before .before .before .before .loop .at) (c .before .before .before .before .before .before .before .before .loop-test .taken) (c .before .before .hear .ensures) in omega (arith, t .0, c .before .before .before .before .before .before .before .before .before .loop .inv .1)
+add-at c =
+    let then = c .before .before .before .before .before .before .before .before in let loop-test = then .loop-test in
+    let then = then .before in let loop = then .loop in
+    let args = then .before .before .before .args in
+    let t = taken-within (args .script .now) (loop .at) (loop-test .taken) (c .before .before .hear .ensures) in
+    omega (arith, t .0, loop .inv .1)
 
 front-requires : tie.Need-front-requires Inv-loop μ-loop
 front-requires c κs = search needs
@@ -42,10 +47,22 @@ put-bytes-requires : tie.Need-put-bytes-requires Inv-loop μ-loop
 put-bytes-requires c κs = search needs
 
 loop-less : tie.Need-loop-less Inv-loop μ-loop
-loop-less c = let t = taken-within (c .before .before .before .before .before .before .before .before .before .before .before .before .before .before .before .before .before .args .script .now) (c .before .before .before .before .before .before .before .before .before .before .before .before .before .before .loop .at) (c .before .before .before .before .before .before .before .before .before .before .before .before .before .loop-test .taken) (c .before .before .before .before .before .before .before .hear .ensures) in omega (arith, t .0, t .1)
+loop-less c =
+    let then = c .before .before .before .before .before .before .before in let hear = then .hear in
+    let then = then .before .before .before .before .before .before in let loop-test = then .loop-test in
+    let then = then .before in let loop = then .loop in
+    let args = then .before .before .before .args in
+    let t = taken-within (args .script .now) (loop .at) (loop-test .taken) (hear .ensures) in
+    omega (arith, t .0, t .1)
 
 loop-again : tie.Need-loop-again Inv-loop μ-loop
-loop-again c = let t = taken-within (c .before .before .before .before .before .before .before .before .before .before .before .before .before .before .before .before .before .args .script .now) (c .before .before .before .before .before .before .before .before .before .before .before .before .before .before .loop .at) (c .before .before .before .before .before .before .before .before .before .before .before .before .before .loop-test .taken) (c .before .before .before .before .before .before .before .hear .ensures) in (t .0, c .before .before .before .before .before .before .before .before .before .before .before .before .before .before .loop .inv .1)
+loop-again c =
+    let then = c .before .before .before .before .before .before .before in let hear = then .hear in
+    let then = then .before .before .before .before .before .before in let loop-test = then .loop-test in
+    let then = then .before in let loop = then .loop in
+    let args = then .before .before .before .args in
+    let t = taken-within (args .script .now) (loop .at) (loop-test .taken) (hear .ensures) in
+    (t .0, loop .inv .1)
 
 finish-requires : tie.Need-finish-requires Inv-loop μ-loop
 finish-requires c κs = search needs

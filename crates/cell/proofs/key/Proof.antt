@@ -14,7 +14,10 @@ put-requires : tie.Need-put-requires
 put-requires c κs = search needs
 
 returns : tie.Need-returns
-returns c = record { does = c .before .before .before .heed .ensures ∙ rw (c .before .before .before .before .before .read .ensures); text = rw (← c .before .before .before .before .before .read .ensures) (c .put .ensures) }
+returns c =
+    let then = c .before .before .before in let heed = then .heed in
+    let read = then .before .before .read in
+    record { does = heed .ensures ∙ rw (read .ensures); text = rw (← read .ensures) (c .put .ensures) }
 
 pub key-spec : {M : Type 1} → statement M
 key-spec = tie.close (tie.spec read-requires heed-requires put-requires returns)

@@ -20,7 +20,11 @@ unselected-requires : tie.Need-unselected-requires
 unselected-requires c κs = search needs
 
 returns : tie.Need-returns
-returns c = refused-full (inSchedule (c .before .before .before .before .before .args .schedule)) (c .before .before .before .before .before .args .lists) (c .unselected .result) (subst (LowestFree (c .before .before .before .before .before .args .lists .jobs)) (c .before .enum-told .given .1) (c .before .before .before .lowest-free .ensures)) (c .unselected .ensures)
+returns c =
+    let then = c .before .before .before in let lowest-free = then .lowest-free in
+    let args = then .before .before .args in
+    refused-full (inSchedule (args .schedule)) (args .lists) (c .unselected .result)
+    (subst (LowestFree (args .lists .jobs)) (c .before .enum-told .given .1) (lowest-free .ensures)) (c .unselected .ensures)
 
 picked-in-requires : tie.Need-picked-in-requires
 picked-in-requires c κs = search needs
@@ -29,7 +33,14 @@ entry-at-requires : tie.Need-entry-at-requires
 entry-at-requires c κs = search needs
 
 returns-2 : tie.Need-returns-2
-returns-2 c = selected (inSchedule (c .before .before .before .before .before .before .before .before .before .before .args .schedule)) (c .before .before .before .before .before .before .before .before .before .before .args .lists) (c .before .before .before .before .picked-in .result) (c .before .before .before .before .before .before .place .given .0 .0) (c .before .before .before .entry-at .result) (c .before .before .before .before .picked-in .ensures) (subst (LowestFree (c .before .before .before .before .before .before .before .before .before .before .args .lists .jobs)) (c .before .before .before .before .before .before .place .given .1) (c .before .before .before .before .before .before .before .before .lowest-free .ensures)) (c .before .before .before .entry-at .ensures) (c .before .if1 .taken)
+returns-2 c =
+    let then = c .before .before .before in let entry-at = then .entry-at in
+    let then = then .before in let picked-in = then .picked-in in
+    let then = then .before .before in let place = then .place in
+    let then = then .before .before in let lowest-free = then .lowest-free in
+    let args = then .before .before .args in
+    selected (inSchedule (args .schedule)) (args .lists) (picked-in .result) (place .given .0 .0) (entry-at .result) (picked-in .ensures)
+    (subst (LowestFree (args .lists .jobs)) (place .given .1) (lowest-free .ensures)) (entry-at .ensures) (c .before .if1 .taken)
 
 enum-told-2 : tie.Need-enum-told-2
 enum-told-2 c = search needs
@@ -44,10 +55,29 @@ unselected-requires-3 : tie.Need-unselected-requires-3
 unselected-requires-3 c κs = search needs
 
 returns-3 : tie.Need-returns-3
-returns-3 c = refused-none (inSchedule (c .before .before .before .before .before .before .before .before .before .before .before .before .args .schedule)) (c .before .before .before .before .before .before .before .before .before .before .before .before .args .lists) (c .before .before .before .before .before .before .picked-in .result) (c .before .before .before .before .before .before .before .before .place .given .0 .0) (c .before .before .before .before .before .entry-at .result) (c .before .before .before .before .before .before .picked-in .ensures) (subst (LowestFree (c .before .before .before .before .before .before .before .before .before .before .before .before .args .lists .jobs)) (c .before .before .before .before .before .before .before .before .place .given .1) (c .before .before .before .before .before .before .before .before .before .before .lowest-free .ensures)) (c .before .before .before .before .before .entry-at .ensures) (c .before .before .before .if1 .left) (c .before .enum-told2 .given .1) (c .unselected2 .result) (c .unselected2 .ensures)
+returns-3 c =
+    let then = c .before .before .before in let if1 = then .if1 in
+    let then = then .before .before in let entry-at = then .entry-at in
+    let then = then .before in let picked-in = then .picked-in in
+    let then = then .before .before in let place = then .place in
+    let then = then .before .before in let lowest-free = then .lowest-free in
+    let args = then .before .before .args in
+    refused-none (inSchedule (args .schedule)) (args .lists) (picked-in .result) (place .given .0 .0) (entry-at .result) (picked-in .ensures)
+    (subst (LowestFree (args .lists .jobs)) (place .given .1) (lowest-free .ensures)) (entry-at .ensures) (if1 .left)
+    (c .before .enum-told2 .given .1) (c .unselected2 .result) (c .unselected2 .ensures)
 
 returns-4 : tie.Need-returns-4
-returns-4 c = refused-lacks (inSchedule (c .before .before .before .before .before .before .before .before .before .before .before .before .before .before .args .schedule)) (c .before .before .before .before .before .before .before .before .before .before .before .before .before .before .args .lists) (c .before .before .before .before .before .before .before .before .picked-in .result) (c .before .before .before .before .before .before .before .before .before .before .place .given .0 .0) (c .before .before .before .before .before .before .before .entry-at .result) (c .before .before .before .before .before .before .before .before .picked-in .ensures) (subst (LowestFree (c .before .before .before .before .before .before .before .before .before .before .before .before .before .before .args .lists .jobs)) (c .before .before .before .before .before .before .before .before .before .before .place .given .1) (c .before .before .before .before .before .before .before .before .before .before .before .before .lowest-free .ensures)) (c .before .before .before .before .before .before .before .entry-at .ensures) (c .before .before .before .before .before .if1 .left) (c .before .before .before .lacking .given .0 .0) (c .before .before .before .lacking .given .1) (c .unselected3 .result) (c .unselected3 .ensures)
+returns-4 c =
+    let then = c .before .before .before in let lacking = then .lacking in
+    let then = then .before .before in let if1 = then .if1 in
+    let then = then .before .before in let entry-at = then .entry-at in
+    let then = then .before in let picked-in = then .picked-in in
+    let then = then .before .before in let place = then .place in
+    let then = then .before .before in let lowest-free = then .lowest-free in
+    let args = then .before .before .args in
+    refused-lacks (inSchedule (args .schedule)) (args .lists) (picked-in .result) (place .given .0 .0) (entry-at .result) (picked-in .ensures)
+    (subst (LowestFree (args .lists .jobs)) (place .given .1) (lowest-free .ensures)) (entry-at .ensures) (if1 .left) (lacking .given .0 .0)
+    (lacking .given .1) (c .unselected3 .result) (c .unselected3 .ensures)
 
 pub choose-spec : {M : Type 1} → statement M
 choose-spec =

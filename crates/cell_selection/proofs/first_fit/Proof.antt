@@ -14,7 +14,8 @@ use Rattle.cell_selection.proofs.first_fit.Statement.{statement}
 use Rattle.cell_selection.proofs.first_fit.Tie as tie
 
 abbrev Inv-loop : tie.InvT-loop
-Inv-loop units occupancy areas channels n may list counts drum so-far₀ k₀ so-far k = Walked (take n list) (supplyOf (units .of) occupancy areas channels) (so-far .lacking) (so-far .at) k
+Inv-loop units occupancy areas channels n may list counts drum so-far₀ k₀ so-far k =
+    Walked (take n list) (supplyOf (units .of) occupancy areas channels) (so-far .lacking) (so-far .at) k
 
 abbrev μ-loop : tie.MeasureT-loop
 μ-loop units occupancy areas channels n may list counts drum so-far₀ k₀ so-far k = n - k
@@ -35,13 +36,37 @@ loop-holds : tie.Need-loop-holds Inv-loop μ-loop
 loop-holds c = walk-start _ _
 
 array-read-if1 : tie.Need-array-read-if1 Inv-loop μ-loop
-array-read-if1 c = omega (arith, few (c .before .before .before .before .before .before .before .args .schedule) (full (c .before .before .before .before .before .before .before .args .schedule) _ (c .before .before .before .before .before .before .before .good .0)) (c .before .before .before .before .before .before .size .ensures) (c .before .before .before .before .before .all .ensures) (supplyOf (c .before .before .before .before .before .before .before .args .units .of) (c .before .before .before .before .before .before .before .args .occupancy) (c .before .before .before .before .before .before .before .args .areas) (c .before .before .before .before .before .before .before .args .channels)))
+array-read-if1 c =
+    let then = c .before .before .before .before .before in let all = then .all in
+    let then = then .before in let size = then .size in
+    let then = then .before in let args = then .args in let good = then .good in
+    omega (
+      arith,
+      few (args .schedule) (full (args .schedule) _ (good .0)) (size .ensures) (all .ensures)
+          (supplyOf (args .units .of) (args .occupancy) (args .areas) (args .channels)),
+    )
 
 mul-entry : tie.Need-mul-entry Inv-loop μ-loop
-mul-entry c = omega (arith, few (c .before .before .before .before .before .before .before .before .args .schedule) (full (c .before .before .before .before .before .before .before .before .args .schedule) _ (c .before .before .before .before .before .before .before .before .good .0)) (c .before .before .before .before .before .before .before .size .ensures) (c .before .before .before .before .before .before .all .ensures) (supplyOf (c .before .before .before .before .before .before .before .before .args .units .of) (c .before .before .before .before .before .before .before .before .args .occupancy) (c .before .before .before .before .before .before .before .before .args .areas) (c .before .before .before .before .before .before .before .before .args .channels)))
+mul-entry c =
+    let then = c .before .before .before .before .before .before in let all = then .all in
+    let then = then .before in let size = then .size in
+    let then = then .before in let args = then .args in let good = then .good in
+    omega (
+      arith,
+      few (args .schedule) (full (args .schedule) _ (good .0)) (size .ensures) (all .ensures)
+          (supplyOf (args .units .of) (args .occupancy) (args .areas) (args .channels)),
+    )
 
 array-copy-out-entry : tie.Need-array-copy-out-entry Inv-loop μ-loop
-array-copy-out-entry c = omega (arith, few (c .before .before .before .before .before .before .before .before .args .schedule) (full (c .before .before .before .before .before .before .before .before .args .schedule) _ (c .before .before .before .before .before .before .before .before .good .0)) (c .before .before .before .before .before .before .before .size .ensures) (c .before .before .before .before .before .before .all .ensures) (supplyOf (c .before .before .before .before .before .before .before .before .args .units .of) (c .before .before .before .before .before .before .before .before .args .occupancy) (c .before .before .before .before .before .before .before .before .args .areas) (c .before .before .before .before .before .before .before .before .args .channels)))
+array-copy-out-entry c =
+    let then = c .before .before .before .before .before .before in let all = then .all in
+    let then = then .before in let size = then .size in
+    let then = then .before in let args = then .args in let good = then .good in
+    omega (
+      arith,
+      few (args .schedule) (full (args .schedule) _ (good .0)) (size .ensures) (all .ensures)
+          (supplyOf (args .units .of) (args .occupancy) (args .areas) (args .channels)),
+    )
 
 first-lacking-requires : tie.Need-first-lacking-requires Inv-loop μ-loop
 first-lacking-requires c κs = search needs
@@ -59,7 +84,21 @@ picked-requires : tie.Need-picked-requires Inv-loop μ-loop
 picked-requires c κs = search needs
 
 returns : tie.Need-returns Inv-loop μ-loop
-returns c = walk-found (c .before .before .before .before .before .before .before .before .before .before .before .before .before .before .before .before .args .schedule) (full (c .before .before .before .before .before .before .before .before .before .before .before .before .before .before .before .before .args .schedule) _ (c .before .before .before .before .before .before .before .before .before .before .before .before .before .before .before .before .good .0)) (c .before .before .before .before .before .before .before .before .before .before .before .before .before .before .before .size .ensures) (c .before .before .before .before .before .before .before .before .before .before .before .before .before .before .all .ensures) (supplyOf (c .before .before .before .before .before .before .before .before .before .before .before .before .before .before .before .before .args .units .of) (c .before .before .before .before .before .before .before .before .before .before .before .before .before .before .before .before .args .occupancy) (c .before .before .before .before .before .before .before .before .before .before .before .before .before .before .before .before .args .areas) (c .before .before .before .before .before .before .before .before .before .before .before .before .before .before .before .before .args .channels)) (c .before .before .before .before .before .before .before .before .before .before .loop .so-far) (c .before .before .before .before .before .before .before .before .before .before .loop .inv) (omega arith) _ (c .before .before .before .before .before .before .before .before .if1 .taken) (told (c .before .before .before .before .before .before .before .before .before .before .before .before .before .before .before .before .args .units .of) (c .before .before .before .before .before .before .before .before .before .before .before .before .before .before .before .before .args .occupancy) (c .before .before .before .before .before .before .before .before .before .before .before .before .before .before .before .before .args .areas) (c .before .before .before .before .before .before .before .before .before .before .before .before .before .before .before .before .args .channels) _ (c .before .before .before .before .before .before .before .before .before .before .before .before .count .result) (omega (arith, c .before .before .before .before .before .before .before .before .before .before .before .before .before .before .before .before .good)) (c .before .before .before .before .before .before .before .before .before .before .before .before .count .ensures) (c .before .before .before .before .before .before .before .before .before .before .before .drum-length .ensures) (c .before .before .before .before .first-lacking .ensures) (c .before .before .enum-told .given .1)) (c .before .assign .result) (c .before .assign .ensures) (c .picked .result) (c .picked .ensures)
+returns c =
+    let then = c .before in let assign = then .assign in
+    let then = then .before .before .before in let first-lacking = then .first-lacking in
+    let then = then .before .before .before .before in let if1 = then .if1 in
+    let then = then .before .before in let loop = then .loop in
+    let then = then .before in let drum-length = then .drum-length in
+    let then = then .before in let count = then .count in
+    let then = then .before .before in let all = then .all in
+    let then = then .before in let size = then .size in
+    let then = then .before in let args = then .args in let good = then .good in
+    walk-found (args .schedule) (full (args .schedule) _ (good .0)) (size .ensures) (all .ensures)
+    (supplyOf (args .units .of) (args .occupancy) (args .areas) (args .channels)) (loop .so-far) (loop .inv) (omega (arith, c)) _ (if1 .taken)
+    (told (args .units .of) (args .occupancy) (args .areas) (args .channels) _ (count .result) (omega (arith, good)) (count .ensures)
+    (drum-length .ensures) (first-lacking .ensures) (c .before .before .enum-told .given .1))
+    (assign .result) (assign .ensures) (c .picked .result) (c .picked .ensures)
 
 note-requires : tie.Need-note-requires Inv-loop μ-loop
 note-requires c κs = search needs
@@ -71,13 +110,37 @@ loop-less : tie.Need-loop-less Inv-loop μ-loop
 loop-less c = search needs
 
 loop-again : tie.Need-loop-again Inv-loop μ-loop
-loop-again c = ⊎-elim (λ w. walk-next (c .before .before .before .before .before .before .before .before .args .schedule) (full (c .before .before .before .before .before .before .before .before .args .schedule) _ (c .before .before .before .before .before .before .before .before .good .0)) (c .before .before .before .before .before .before .before .size .ensures) (c .before .before .before .before .before .before .all .ensures) (supplyOf (c .before .before .before .before .before .before .before .before .args .units .of) (c .before .before .before .before .before .before .before .before .args .occupancy) (c .before .before .before .before .before .before .before .before .args .areas) (c .before .before .before .before .before .before .before .before .args .channels)) (c .before .before .loop .so-far) (c .before .before .loop .inv) (omega arith) _ (w .0 .taken) (w .6 .given .0 .0) (told (c .before .before .before .before .before .before .before .before .args .units .of) (c .before .before .before .before .before .before .before .before .args .occupancy) (c .before .before .before .before .before .before .before .before .args .areas) (c .before .before .before .before .before .before .before .before .args .channels) _ (c .before .before .before .before .count .result) (omega arith) (c .before .before .before .before .count .ensures) (c .before .before .before .drum-length .ensures) (w .4 .ensures) (w .6 .given .1)) (c .if1 .so-far) (w .9 ∙ w .8 .ensures)) (λ w. subst (λ (x : Noted). Walked (take (c .before .before .before .before .before .before .before .size .result) (c .before .before .before .before .before .before .before .before .args .schedule .entries)) (supplyOf (c .before .before .before .before .before .before .before .before .args .units .of) (c .before .before .before .before .before .before .before .before .args .occupancy) (c .before .before .before .before .before .before .before .before .args .areas) (c .before .before .before .before .before .before .before .before .args .channels)) (x .lacking) (x .at) (c .before .before .loop .k + 1)) (sym (w .1)) (walk-on (c .before .before .before .before .before .before .before .before .args .schedule) (full (c .before .before .before .before .before .before .before .before .args .schedule) _ (c .before .before .before .before .before .before .before .before .good .0)) (c .before .before .before .before .before .before .before .size .ensures) (c .before .before .before .before .before .before .all .ensures) (supplyOf (c .before .before .before .before .before .before .before .before .args .units .of) (c .before .before .before .before .before .before .before .before .args .occupancy) (c .before .before .before .before .before .before .before .before .args .areas) (c .before .before .before .before .before .before .before .before .args .channels)) (c .before .before .loop .so-far) (c .before .before .loop .inv) (omega arith) (w .0 .left))) (c .if1 .came)
+loop-again c =
+    let then = c .before .before in let loop = then .loop in
+    let then = then .before in let drum-length = then .drum-length in
+    let then = then .before in let count = then .count in
+    let then = then .before .before in let all = then .all in
+    let then = then .before in let size = then .size in
+    let then = then .before in let args = then .args in let good = then .good in
+    ⊎-elim (λ w. walk-next (args .schedule) (full (args .schedule) _ (good .0)) (size .ensures) (all .ensures)
+    (supplyOf (args .units .of) (args .occupancy) (args .areas) (args .channels)) (loop .so-far) (loop .inv) (omega arith) _ (w .0 .taken)
+    (w .6 .given .0 .0)
+    (told (args .units .of) (args .occupancy) (args .areas) (args .channels) _ (count .result) (omega arith) (count .ensures)
+    (drum-length .ensures) (w .4 .ensures) (w .6 .given .1))
+    (c .if1 .so-far) (w .9 ∙ w .8 .ensures))
+    (λ w. subst (λ (x : Noted). Walked (take (size .result) (args .schedule .entries))
+    (supplyOf (args .units .of) (args .occupancy) (args .areas) (args .channels)) (x .lacking) (x .at) (loop .k + 1))
+    (sym (w .1)) (walk-on (args .schedule) (full (args .schedule) _ (good .0)) (size .ensures) (all .ensures)
+    (supplyOf (args .units .of) (args .occupancy) (args .areas) (args .channels)) (loop .so-far) (loop .inv) (omega arith) (w .0 .left)))
+    (c .if1 .came)
 
 none-picked-requires : tie.Need-none-picked-requires Inv-loop μ-loop
 none-picked-requires c κs = search needs
 
 returns-2 : tie.Need-returns-2 Inv-loop μ-loop
-returns-2 c = walk-end (c .before .before .before .before .before .before .before .before .args .schedule) (full (c .before .before .before .before .before .before .before .before .args .schedule) _ (c .before .before .before .before .before .before .before .before .good .0)) (c .before .before .before .before .before .before .before .size .ensures) (c .before .before .before .before .before .before .all .ensures) (supplyOf (c .before .before .before .before .before .before .before .before .args .units .of) (c .before .before .before .before .before .before .before .before .args .occupancy) (c .before .before .before .before .before .before .before .before .args .areas) (c .before .before .before .before .before .before .before .before .args .channels)) (c .before .before .loop .so-far) (c .before .before .loop .inv) (omega arith) (c .none-picked .result) (c .none-picked .ensures)
+returns-2 c =
+    let then = c .before .before in let loop = then .loop in
+    let then = then .before .before .before .before in let all = then .all in
+    let then = then .before in let size = then .size in
+    let then = then .before in let args = then .args in let good = then .good in
+    walk-end (args .schedule) (full (args .schedule) _ (good .0)) (size .ensures) (all .ensures)
+    (supplyOf (args .units .of) (args .occupancy) (args .areas) (args .channels)) (loop .so-far) (loop .inv) (omega arith)
+    (c .none-picked .result) (c .none-picked .ensures)
 
 pub first-fit-spec : {M : Type 1} → statement M
 first-fit-spec =

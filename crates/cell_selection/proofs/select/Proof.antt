@@ -14,10 +14,18 @@ is-job-requires : tie.Need-is-job-requires
 is-job-requires c κs = search needs
 
 returns : tie.Need-returns
-returns c = record { selects = c .before .before .choose .ensures; leaves = rw (sym (c .before .is-job .ensures) ∙ not-true (c .before .is-job .result) (c .if1 .taken)) refl }
+returns c =
+    let is-job = c .before .is-job in
+    record { selects = c .before .before .choose .ensures; leaves = rw (sym (is-job .ensures) ∙ not-true (is-job .result) (c .if1 .taken)) refl }
 
 assignment-of-requires : tie.Need-assignment-of-requires
-assignment-of-requires c κs = starts (inSchedule (c .before .before .before .before .before .before .args .schedule)) (c .before .before .before .before .before .before .args .lists) (c .before .before .before .before .before .choose .result) (sym (c .before .before .before .before .is-job .ensures) ∙ not-false (c .before .before .before .before .is-job .result) (c .before .before .before .if1 .left)) (c .before .before .before .before .before .choose .ensures)
+assignment-of-requires c κs =
+    let then = c .before .before .before in let if1 = then .if1 in
+    let then = then .before in let is-job = then .is-job in
+    let then = then .before in let choose = then .choose in
+    let args = then .before .args in
+    starts (inSchedule (args .schedule)) (args .lists) (choose .result) (sym (is-job .ensures) ∙ not-false (is-job .result) (if1 .left))
+    (choose .ensures)
 
 take-requires : tie.Need-take-requires
 take-requires c κs = search needs
@@ -26,7 +34,20 @@ taken-requires : tie.Need-taken-requires
 taken-requires c κs = search needs
 
 returns-2 : tie.Need-returns-2
-returns-2 c = record { selects = c .before .before .before .before .before .before .before .before .before .choose .ensures; leaves = rw (sym (c .before .before .before .before .before .before .before .before .is-job .ensures) ∙ not-false (c .before .before .before .before .before .before .before .before .is-job .result) (c .before .before .before .before .before .before .before .if1 .left), c .taken .ensures, c .before .before .take .ensures, c .before .before .before .assignment-of .ensures) refl }
+returns-2 c =
+    let then = c .before .before .before in let assignment-of = then .assignment-of in
+    let then = then .before .before .before .before in let if1 = then .if1 in
+    let then = then .before in let is-job = then .is-job in
+    let choose = then .before .choose in
+    record {
+      selects = choose .ensures;
+      leaves = rw (
+        sym (is-job .ensures) ∙ not-false (is-job .result) (if1 .left),
+        c .taken .ensures,
+        c .before .before .take .ensures,
+        assignment-of .ensures,
+      ) refl;
+    }
 
 pub select-spec : {M : Type 1} → statement M
 select-spec =

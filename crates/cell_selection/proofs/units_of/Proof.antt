@@ -39,10 +39,15 @@ loop-less : tie.Need-loop-less Inv-loop μ-loop
 loop-less c = omega arith
 
 loop-again : tie.Need-loop-again Inv-loop μ-loop
-loop-again c = fill-turn (λ d. isTaken (getD (c .before .before .before .before .args .t1) d blank)) false 256 _ (c .before .before .before .loop .inv) (omega arith) (c .is-taken .result) (c .is-taken .ensures)
+loop-again c =
+    let then = c .before .before .before in let loop = then .loop in
+    let args = then .before .args in
+    fill-turn (λ d. isTaken (getD (args .t1) d blank)) false 256 _ (loop .inv) (omega arith) (c .is-taken .result) (c .is-taken .ensures)
 
 returns : tie.Need-returns Inv-loop μ-loop
-returns c = fill-map isTaken blank false 256 _ (c .before .loop .next) (c .before .before .args .t1) refl (search needs) (c .before .loop .inv) (omega arith)
+returns c =
+    let loop = c .before .loop in
+    fill-map isTaken blank false 256 _ (loop .next) (c .before .before .args .t1) refl (search needs) (loop .inv) (omega arith)
 
 pub units-of-spec : {M : Type 1} → statement M
 units-of-spec =

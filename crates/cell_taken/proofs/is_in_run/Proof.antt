@@ -13,13 +13,17 @@ cast-count : tie.Need-cast-count
 cast-count c = search needs
 
 returns : tie.Need-returns
-returns c = rw (lt-leb (c .before .before .before .args .run .start) (c .before .before .before .args .b) (c .if1 .taken)) refl
+returns c =
+    let args = c .before .before .before .args in
+    rw (lt-leb (args .run .start) (args .b) (c .if1 .taken)) refl
 
 add-result : tie.Need-add-result
 add-result c = search needs
 
 returns-2 : tie.Need-returns-2
-returns-2 c = rw (le-leb (c .before .before .before .args .run .start) (c .before .before .before .args .b) (omega arith)) refl
+returns-2 c =
+    let args = c .before .before .before .args in
+    rw (le-leb (args .run .start) (args .b) (omega arith)) refl
 
 pub is-in-run-spec : {M : Type 1} → statement M
 is-in-run-spec = tie.close (tie.spec cast-start cast-count returns add-result returns-2)

@@ -32,7 +32,11 @@ is-in-core-requires : tie.Need-is-in-core-requires Inv-loop μ-loop
 is-in-core-requires c κs = search needs
 
 returns : tie.Need-returns Inv-loop μ-loop
-returns c = sym (look-hit (λ (core : Core). inBlocks core (c .before .before .before .before .before .args .b)) noCore (c .before .before .before .before .before .args .t1) (c .before .before .before .before .loop .i) (omega (arith, c .before .before .before .before .loop .inv .1)) (sym (c .before .is-in-core .ensures) ∙ c .if1 .taken) (c .before .before .before .before .loop .inv .2))
+returns c =
+    let then = c .before .before .before .before in let loop = then .loop in
+    let args = then .before .args in
+    sym (look-hit (λ (core : Core). inBlocks core (args .b)) noCore (args .t1) (loop .i) (omega (arith, loop .inv .1))
+    (sym (c .before .is-in-core .ensures) ∙ c .if1 .taken) (loop .inv .2))
 
 add-i : tie.Need-add-i Inv-loop μ-loop
 add-i c = search needs
@@ -41,10 +45,20 @@ loop-less : tie.Need-loop-less Inv-loop μ-loop
 loop-less c = omega arith
 
 loop-again : tie.Need-loop-again Inv-loop μ-loop
-loop-again c = (omega arith, c .before .before .before .before .loop .inv .1, look-turn (λ (core : Core). inBlocks core (c .before .before .before .before .before .args .b)) noCore (c .before .before .before .before .before .args .t1) (c .before .before .before .before .loop .i) (omega (arith, c .before .before .before .before .loop .inv .1)) (sym (c .before .is-in-core .ensures) ∙ c .if1 .left) (c .before .before .before .before .loop .inv .2))
+loop-again c =
+    let then = c .before .before .before .before in let loop = then .loop in
+    let args = then .before .args in (
+      omega arith,
+      loop .inv .1,
+      look-turn (λ (core : Core). inBlocks core (args .b)) noCore (args .t1) (loop .i) (omega (arith, loop .inv .1))
+          (sym (c .before .is-in-core .ensures) ∙ c .if1 .left) (loop .inv .2),
+    )
 
 returns-2 : tie.Need-returns-2 Inv-loop μ-loop
-returns-2 c = sym (look-end (λ (core : Core). inBlocks core (c .before .before .args .b)) noCore (c .before .before .args .t1) (c .before .loop .i) (omega (arith, c .before .loop .inv .1)) (c .before .loop .inv .2))
+returns-2 c =
+    let then = c .before in let loop = then .loop in
+    let args = then .before .args in
+    sym (look-end (λ (core : Core). inBlocks core (args .b)) noCore (args .t1) (loop .i) (omega (arith, loop .inv .1)) (loop .inv .2))
 
 pub is-taken-spec : {M : Type 1} → statement M
 is-taken-spec =

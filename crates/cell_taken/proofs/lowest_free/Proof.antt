@@ -42,7 +42,10 @@ loop-less c = omega arith
 
 loop-again : tie.Need-loop-again Inv-loop μ-loop
 unfolding stateIn
-loop-again c = pass-turn (c .before .before .before .before .before .args .t1) (c .before .before .before .before .loop .inv) (omega arith) (sym (c .before .is-empty .ensures) ∙ c .if1 .left)
+loop-again c =
+    let then = c .before .before .before .before in let loop = then .loop in
+    let args = then .before .args in
+    pass-turn (args .t1) (loop .inv) (omega arith) (sym (c .before .is-empty .ensures) ∙ c .if1 .left)
 
 returns-2 : tie.Need-returns-2 Inv-loop μ-loop
 returns-2 c = λ q h. c .before .loop .inv .none q (omega arith)

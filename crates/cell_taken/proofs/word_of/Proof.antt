@@ -33,13 +33,19 @@ loop-less : tie.Need-loop-less Inv-loop μ-loop
 loop-less c = omega arith
 
 loop-again : tie.Need-loop-again Inv-loop μ-loop
-loop-again c = word-turn (anyHas (c .before .before .before .before .args .held)) (c .before .before .before .loop .inv) _ (omega arith) (rw (sym (c .before .is-taken .ensures) ∙ c .if1 .taken) refl)
+loop-again c =
+    let then = c .before .before .before in let loop = then .loop in
+    let args = then .before .args in
+    word-turn (anyHas (args .held)) (loop .inv) _ (omega arith) (rw (sym (c .before .is-taken .ensures) ∙ c .if1 .taken) refl)
 
 loop-less-2 : tie.Need-loop-less-2 Inv-loop μ-loop
 loop-less-2 c = omega arith
 
 loop-again-2 : tie.Need-loop-again-2 Inv-loop μ-loop
-loop-again-2 c = word-turn (anyHas (c .before .before .before .before .args .held)) (c .before .before .before .loop .inv) _ (omega arith) (rw (sym (c .before .is-taken .ensures) ∙ c .if1 .left) (omega arith))
+loop-again-2 c =
+    let then = c .before .before .before in let loop = then .loop in
+    let args = then .before .args in
+    word-turn (anyHas (args .held)) (loop .inv) _ (omega arith) (rw (sym (c .before .is-taken .ensures) ∙ c .if1 .left) (omega arith))
 
 returns : tie.Need-returns Inv-loop μ-loop
 returns c = c .before .loop .inv .is ∙ word-all (anyHas (c .before .before .args .held)) (c .before .loop .left) (omega arith)

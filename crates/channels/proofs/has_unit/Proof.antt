@@ -22,7 +22,11 @@ cast-result c = search needs
 
 returns-2 : tie.Need-returns-2
 unfolding hasUnit
-returns-2 c = rw (le-leb _ _ (c .before .if1 .left)) (ap (ltb (c .before .before .before .before .before .args .unit .0)) (c .before .before .before .units-of .ensures ∙ ap unitsOf (c .before .before .before .before .channel-at .ensures)))
+returns-2 c =
+    let then = c .before .before .before in let units-of = then .units-of in
+    let then = then .before in let channel-at = then .channel-at in
+    let args = then .before .args in
+    rw (le-leb _ _ (c .before .if1 .left)) (ap (ltb (args .unit .0)) (units-of .ensures ∙ ap unitsOf (channel-at .ensures)))
 
 pub has-unit-spec : {M : Type 1} → statement M
 has-unit-spec =

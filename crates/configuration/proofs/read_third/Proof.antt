@@ -33,28 +33,73 @@ bad-codes-requires : tie.Need-bad-codes-requires
 bad-codes-requires c κs = search needs
 
 returns : tie.Need-returns
-returns c = c .bad-codes .ensures ∙ no-codes (c .before .before .before .before .before .before .args .s .now) (c .before .before .before .before .before .before .args .line) (c .before .before .before .before .before .before .args .at) (told-1 (lastNumber 0 mostCodes) (c .before .before .before .last-number .ensures) (lent (c .before .before .before .before .before .before .args .s .now) (c .before .before .before .before .before .before .args .at)) (c .before .enum-told .given .1))
+returns c =
+    let then = c .before .before .before in let last-number = then .last-number in
+    let args = then .before .before .before .args in
+    c .bad-codes .ensures ∙ no-codes (args .s .now) (args .line) (args .at)
+    (told-1 (lastNumber 0 mostCodes) (last-number .ensures) (lent (args .s .now) (args .at)) (c .before .enum-told .given .1))
 
 add-read-codes : tie.Need-add-read-codes
 add-read-codes c = search needs
 
 add-read-codes-2 : tie.Need-add-read-codes-2
-add-read-codes-2 c = record { fits = omega (arith, last-within 0 mostCodes (drop (c .before .before .before .before .before .before .args .at) (c .before .before .before .before .before .before .args .s .now)) (told-1 (lastNumber 0 mostCodes) (c .before .before .before .last-number .ensures) (lent (c .before .before .before .before .before .before .args .s .now) (c .before .before .before .before .before .before .args .at)) (c .before .n .given .1)), length-drop (c .before .before .before .before .before .before .args .at) (c .before .before .before .before .before .before .args .s .now)) }
+add-read-codes-2 c =
+    let then = c .before .before .before in let last-number = then .last-number in
+    let args = then .before .before .before .args in
+    record {
+      fits = omega (
+        arith,
+        last-within 0 mostCodes (drop (args .at) (args .s .now))
+            (told-1 (lastNumber 0 mostCodes) (last-number .ensures) (lent (args .s .now) (args .at)) (c .before .n .given .1)),
+        length-drop (args .at) (args .s .now),
+      );
+    }
 
 read-codes-requires : tie.Need-read-codes-requires
-read-codes-requires c κs = (omega (arith, last-within 0 mostCodes (drop (c .before .before .before .before .before .before .args .at) (c .before .before .before .before .before .before .args .s .now)) (told-1 (lastNumber 0 mostCodes) (c .before .before .before .last-number .ensures) (lent (c .before .before .before .before .before .before .args .s .now) (c .before .before .before .before .before .before .args .at)) (c .before .n .given .1)), length-drop (c .before .before .before .before .before .before .args .at) (c .before .before .before .before .before .before .args .s .now)), omega arith)
+read-codes-requires c κs =
+    let then = c .before .before .before in let last-number = then .last-number in
+    let args = then .before .before .before .args in (
+      omega (
+        arith,
+        last-within 0 mostCodes (drop (args .at) (args .s .now))
+            (told-1 (lastNumber 0 mostCodes) (last-number .ensures) (lent (args .s .now) (args .at)) (c .before .n .given .1)),
+        length-drop (args .at) (args .s .now),
+      ),
+      omega arith,
+    )
 
 bad-codes-requires-2 : tie.Need-bad-codes-requires-2
 bad-codes-requires-2 c κs = search needs
 
 returns-2 : tie.Need-returns-2
-returns-2 c = c .bad-codes2 .ensures ∙ more-follows (c .before .before .before .before .before .before .before .before .before .before .before .args .s .now) (c .before .before .before .before .before .before .before .before .before .before .before .args .line) (c .before .before .before .before .before .before .before .before .before .before .before .args .at) (told-1 (lastNumber 0 mostCodes) (c .before .before .before .before .before .before .before .before .last-number .ensures) (lent (c .before .before .before .before .before .before .before .before .before .before .before .args .s .now) (c .before .before .before .before .before .before .before .before .before .before .before .args .at)) (c .before .before .before .before .before .before .n .given .1)) (c .before .before .before .before .read-codes .ensures) (c .before .before .before .if1 .taken) (c .before .if2 .taken)
+returns-2 c =
+    let then = c .before .before .before in let if1 = then .if1 in
+    let then = then .before in let read-codes = then .read-codes in
+    let then = then .before .before in let n = then .n in
+    let then = then .before .before in let last-number = then .last-number in
+    let args = then .before .before .before .args in
+    c .bad-codes2 .ensures ∙ more-follows (args .s .now) (args .line) (args .at)
+    (told-1 (lastNumber 0 mostCodes) (last-number .ensures) (lent (args .s .now) (args .at)) (n .given .1)) (read-codes .ensures) (if1 .taken)
+    (c .before .if2 .taken)
 
 returns-3 : tie.Need-returns-3
-returns-3 c = nothing-follows (c .before .before .before .before .before .before .before .before .before .before .args .s .now) (c .before .before .before .before .before .before .before .before .before .before .args .line) (c .before .before .before .before .before .before .before .before .before .before .args .at) (told-1 (lastNumber 0 mostCodes) (c .before .before .before .before .before .before .before .last-number .ensures) (lent (c .before .before .before .before .before .before .before .before .before .before .args .s .now) (c .before .before .before .before .before .before .before .before .before .before .args .at)) (c .before .before .before .before .before .n .given .1)) (c .before .before .before .read-codes .ensures) (c .before .before .if1 .taken) (c .if2 .left)
+returns-3 c =
+    let then = c .before .before .before in let read-codes = then .read-codes in
+    let then = then .before .before in let n = then .n in
+    let then = then .before .before in let last-number = then .last-number in
+    let args = then .before .before .before .args in
+    nothing-follows (args .s .now) (args .line) (args .at)
+    (told-1 (lastNumber 0 mostCodes) (last-number .ensures) (lent (args .s .now) (args .at)) (n .given .1)) (read-codes .ensures)
+    (c .before .before .if1 .taken) (c .if2 .left)
 
 returns-4 : tie.Need-returns-4
-returns-4 c = bad-codes (c .before .before .before .before .before .before .before .before .args .s .now) (c .before .before .before .before .before .before .before .before .args .line) (c .before .before .before .before .before .before .before .before .args .at) (told-1 (lastNumber 0 mostCodes) (c .before .before .before .before .before .last-number .ensures) (lent (c .before .before .before .before .before .before .before .before .args .s .now) (c .before .before .before .before .before .before .before .before .args .at)) (c .before .before .before .n .given .1)) (c .before .read-codes .ensures) (c .if1 .left)
+returns-4 c =
+    let then = c .before .before .before in let n = then .n in
+    let then = then .before .before in let last-number = then .last-number in
+    let args = then .before .before .before .args in
+    bad-codes (args .s .now) (args .line) (args .at)
+    (told-1 (lastNumber 0 mostCodes) (last-number .ensures) (lent (args .s .now) (args .at)) (n .given .1))
+    (c .before .read-codes .ensures) (c .if1 .left)
 
 pub read-third-spec : {M : Type 1} → statement M
 read-third-spec =

@@ -12,7 +12,12 @@ no-channels-requires : tie.Need-no-channels-requires
 no-channels-requires c κs = search needs
 
 returns : tie.Need-returns
-returns c = ap (λ (channels : List Channel). record { verdict = Bad (c .before .args .line); configuration = record { channels = channels; down = noDown; codes = noCodes } }) (c .no-channels .ensures)
+returns c =
+    ap (λ (channels : List Channel). record {
+      verdict = Bad (c .before .args .line);
+      configuration = record { channels = channels; down = noDown; codes = noCodes };
+    })
+    (c .no-channels .ensures)
 
 pub refuse-spec : {M : Type 1} → statement M
 refuse-spec = tie.close (tie.spec no-channels-requires returns)

@@ -50,7 +50,11 @@ loop-again : tie.Need-loop-again Inv-loop μ-loop
 loop-again c = units-turn (c .before .before .before .loop .inv) (c .count-unit .ensures) (c .before .before .loop-test .taken)
 
 returns : tie.Need-returns Inv-loop μ-loop
-returns c = units-end (c .before .loop .inv) (c .loop-test .left) (c .before .before .before .before .args .configuration) (freshUnits (c .before .before .before .before .args .configuration .down)) (c .before .before .before .before .args .channel) (c .before .before .units-of .ensures ∙ ap unitsOf (c .before .before .before .channel-at .ensures)) (c .before .before .before .before .pre)
+returns c =
+    let then = c .before .before .before in let channel-at = then .channel-at in
+    let then = then .before in let args = then .args in let pre = then .pre in
+    units-end (c .before .loop .inv) (c .loop-test .left) (args .configuration) (freshUnits (args .configuration .down)) (args .channel)
+    (c .before .before .units-of .ensures ∙ ap unitsOf (channel-at .ensures)) pre
 
 pub count-channel-spec : {M : Type 1} → statement M
 count-channel-spec =

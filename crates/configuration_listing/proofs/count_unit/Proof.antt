@@ -13,10 +13,14 @@ is-assignable-requires : tie.Need-is-assignable-requires
 is-assignable-requires c κs = search needs
 
 returns : tie.Need-returns
-returns c = rw (lt-ltb (c .before .before .before .before .args .unit .0) (c .before .before .before .before .args .n) (omega (arith, c .before .before .if1 .taken)), sym (c .before .is-assignable .ensures) ∙ c .if2 .taken)
+returns c =
+    let args = c .before .before .before .before .args in
+    rw (lt-ltb (args .unit .0) (args .n) (omega (arith, c .before .before .if1 .taken)), sym (c .before .is-assignable .ensures) ∙ c .if2 .taken)
 
 returns-2 : tie.Need-returns-2
-returns-2 c = rw (lt-ltb (c .before .before .before .before .args .unit .0) (c .before .before .before .before .args .n) (omega (arith, c .before .before .if1 .taken)), sym (c .before .is-assignable .ensures) ∙ c .if2 .left)
+returns-2 c =
+    let args = c .before .before .before .before .args in
+    rw (lt-ltb (args .unit .0) (args .n) (omega (arith, c .before .before .if1 .taken)), sym (c .before .is-assignable .ensures) ∙ c .if2 .left)
 
 returns-3 : tie.Need-returns-3
 returns-3 c = rw (le-ltb (c .before .before .args .unit .0) (c .before .before .args .n) (omega (arith, c .if1 .left)))

@@ -26,13 +26,23 @@ same-length : tie.Need-same-length
 same-length c = search needs
 
 returns : tie.Need-returns
-returns c = listed (c .before .before .before .before .before .before .before .before .before .before .args .config .now) (rw (answered (c .before .before .before .before .before .before .before .before .before .before .args .config .now) Good (c .before .before .before .before .before .before .before .read .ensures) (c .before .before .before .before .enum-told .given .1)) at (c .before .before .put-lines .ensures))
+returns c =
+    let then = c .before .before .before .before in let enum-told = then .enum-told in
+    let then = then .before .before .before in let read = then .read in
+    let args = then .before .before .before .args in
+    listed (args .config .now)
+    (rw (answered (args .config .now) Good (read .ensures) (enum-told .given .1)) at (c .before .before .put-lines .ensures))
 
 same-length-2 : tie.Need-same-length-2
 same-length-2 c = search needs
 
 returns-2 : tie.Need-returns-2
-returns-2 c = listed (c .before .before .before .before .before .before .before .before .before .before .before .args .config .now) (rw (answered (c .before .before .before .before .before .before .before .before .before .before .before .args .config .now) (Bad (c .before .before .before .before .before .verdict .given .0 .0)) (c .before .before .before .before .before .before .before .before .read .ensures) (c .before .before .before .before .before .verdict .given .1)) at (c .before .before .put-error .ensures))
+returns-2 c =
+    let then = c .before .before .before .before .before in let verdict = then .verdict in
+    let then = then .before .before .before in let read = then .read in
+    let args = then .before .before .before .args in
+    listed (args .config .now) (rw (answered (args .config .now) (Bad (verdict .given .0 .0)) (read .ensures) (verdict .given .1)) at
+    (c .before .before .put-error .ensures))
 
 pub listing-spec : {M : Type 1} → statement M
 listing-spec =

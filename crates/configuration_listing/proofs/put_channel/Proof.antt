@@ -31,10 +31,23 @@ same-length : tie.Need-same-length
 same-length c = search needs
 
 returns : tie.Need-returns
-returns c = rw (channel-line (c .before .before .before .before .before .before .before .before .before .before .before .before .before .before .before .before .before .before .before .before .before .args .configuration) (c .before .before .before .before .before .before .before .before .before .before .before .before .before .before .before .before .before .before .before .before .before .args .channel) (c .before .before .before .before .before .before .before .before .before .before .before .before .before .before .before .before .before .before .before .channel-at .ensures) (c .before .before .before .before .before .before .before .before .before .before .before .before .before .before .before .before .before .before .is-listed .ensures) (c .before .before .before .before .before .before .before .before .before .before .before .before .before .before .before .before .before .if1 .taken) (c .before .before .before .before .before .before .before .before .count-channel .ensures)) at (andThen (c .before .before .before .before .before .before .before .before .before .before .before .before .before .before .before .put-two .ensures) (andThen (c .before .before .before .before .before .before .before .before .before .before .before .put-byte .ensures) (andThen (c .before .before .before .before .before .before .put-decimal .ensures) (c .before .before .put-byte2 .ensures))))
+returns c =
+    let then = c .before .before .before .before .before .before in let put-decimal = then .put-decimal in
+    let then = then .before .before in let count-channel = then .count-channel in
+    let then = then .before .before .before in let put-byte = then .put-byte in
+    let then = then .before .before .before .before in let put-two = then .put-two in
+    let then = then .before .before in let if1 = then .if1 in
+    let then = then .before in let is-listed = then .is-listed in
+    let then = then .before in let channel-at = then .channel-at in
+    let args = then .before .before .args in
+    rw (channel-line (args .configuration) (args .channel) (channel-at .ensures) (is-listed .ensures) (if1 .taken) (count-channel .ensures)) at
+    (andThen (put-two .ensures) (andThen (put-byte .ensures) (andThen (put-decimal .ensures) (c .before .before .put-byte2 .ensures))))
 
 returns-2 : tie.Need-returns-2
-returns-2 c = rw (no-line (c .before .before .before .before .args .configuration) (c .before .before .before .before .args .channel) (c .before .before .channel-at .ensures) (c .before .is-listed .ensures) (c .if1 .left)) at (none (c .before .before .before .before .args .out .now) (c .before .before .before .before .args .at))
+returns-2 c =
+    let args = c .before .before .before .before .args in
+    rw (no-line (args .configuration) (args .channel) (c .before .before .channel-at .ensures) (c .before .is-listed .ensures) (c .if1 .left))
+    at (none (args .out .now) (args .at))
 
 pub put-channel-spec : {M : Type 1} → statement M
 put-channel-spec =

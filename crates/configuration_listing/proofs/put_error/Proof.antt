@@ -36,7 +36,14 @@ same-length : tie.Need-same-length
 same-length c = search needs
 
 returns : tie.Need-returns
-returns c = andThen (c .before .before .before .before .before .before .before .before .before .before .before .before .before .before .before .before .before .before .before .put-bytes .ensures) (andThen (rw (c .before .before .before .before .before .before .before .before .before .before .before .before .before .before .before .before .before .before .before .before .before .before .number-of .ensures) at (c .before .before .before .before .before .before .before .before .before .before .before .before .before .before .before .put-decimal .ensures)) (andThen (c .before .before .before .before .before .before .before .before .before .before .put-bytes2 .ensures) (andThen (c .before .before .before .before .before .before .put-decimal2 .ensures) (c .before .before .put-byte .ensures))))
+returns c =
+    let then = c .before .before .before .before .before .before in let put-decimal2 = then .put-decimal2 in
+    let then = then .before .before .before .before in let put-bytes2 = then .put-bytes2 in
+    let then = then .before .before .before .before .before in let put-decimal = then .put-decimal in
+    let then = then .before .before .before .before in let put-bytes = then .put-bytes in
+    let number-of = then .before .before .before .number-of in
+    andThen (put-bytes .ensures) (andThen (rw (number-of .ensures) at (put-decimal .ensures))
+    (andThen (put-bytes2 .ensures) (andThen (put-decimal2 .ensures) (c .before .before .put-byte .ensures))))
 
 pub put-error-spec : {M : Type 1} → statement M
 put-error-spec =

@@ -39,7 +39,11 @@ array-copy-out-row : tie.Need-array-copy-out-row Inv-loop μ-loop
 array-copy-out-row c = search needs
 
 put-channel-requires : tie.Need-put-channel-requires Inv-loop μ-loop
-put-channel-requires c κs = ap (λ (grid : List (List Unit)). getD grid (c .before .before .before .loop .c) []) (c .before .before .before .before .grid-of .ensures .is ∙ ap (λ (units : Units). units .of) (c .before .before .before .before .before .fresh .ensures))
+put-channel-requires c κs =
+    let then = c .before .before .before in let loop = then .loop in
+    let then = then .before in let grid-of = then .grid-of in
+    let fresh = then .before .fresh in
+    ap (λ (grid : List (List Unit)). getD grid (loop .c) []) (grid-of .ensures .is ∙ ap (λ (units : Units). units .of) (fresh .ensures))
 
 add-c : tie.Need-add-c Inv-loop μ-loop
 add-c c = search needs
@@ -48,13 +52,25 @@ loop-less : tie.Need-loop-less Inv-loop μ-loop
 loop-less c = search needs
 
 loop-again : tie.Need-loop-again Inv-loop μ-loop
-loop-again c = (omega arith, turn (rw (lines-turn (c .before .before .before .before .before .before .before .before .before .before .args .configuration) (c .before .before .before .before .before .before .loop .c) (c .before .before .before .before .before .loop-test .taken)) at (c .before .before .before .before .before .before .loop .inv .1)) (c .before .before .put-channel .ensures))
+loop-again c =
+    let then = c .before .before .before .before .before in let loop-test = then .loop-test in
+    let then = then .before in let loop = then .loop in
+    let args = then .before .before .before .before .args in (
+      omega arith,
+      turn (rw (lines-turn (args .configuration) (loop .c) (loop-test .taken)) at (loop .inv .1)) (c .before .before .put-channel .ensures),
+    )
 
 same-length : tie.Need-same-length Inv-loop μ-loop
-same-length c = same-room (end (rw (lines-end (c .before .before .before .before .before .args .configuration) (c .before .loop .c) (c .loop-test .left)) at (c .before .loop .inv .1)))
+same-length c =
+    let then = c .before in let loop = then .loop in
+    let args = then .before .before .before .before .args in
+    same-room (end (rw (lines-end (args .configuration) (loop .c) (c .loop-test .left)) at (loop .inv .1)))
 
 returns : tie.Need-returns Inv-loop μ-loop
-returns c = end (rw (lines-end (c .before .before .before .before .before .args .configuration) (c .before .loop .c) (c .loop-test .left)) at (c .before .loop .inv .1))
+returns c =
+    let then = c .before in let loop = then .loop in
+    let args = then .before .before .before .before .args in
+    end (rw (lines-end (args .configuration) (loop .c) (c .loop-test .left)) at (loop .inv .1))
 
 pub put-lines-spec : {M : Type 1} → statement M
 put-lines-spec =

@@ -45,11 +45,13 @@ loop-less c = search needs
 
 loop-again : tie.Need-loop-again Inv-loop μ-loop
 loop-again c =
-    let down = c .before .before .before .before .args .t1 in
+    let args = c .before .before .before .before .args in
+    let down = args .t1 in
     let turn = c .before .before .loop in
     let less = c .before .loop-test .taken in
     ⊎-elim
-    (λ w. subst (λ (x : Units). Filled down (x .of) (turn .i + 1)) (sym (w .3 ∙ w .2 .ensures)) (fill-down (turn .inv) less (w .0 .taken) (w .1 .ensures)))
+    (λ w. subst (λ (x : Units). Filled down (x .of) (turn .i + 1)) (sym (w .3 ∙ w .2 .ensures))
+    (fill-down (turn .inv) less (w .0 .taken) (w .1 .ensures)))
     (λ w. subst (λ (x : Units). Filled down (x .of) (turn .i + 1)) (sym (w .1)) (fill-up (turn .inv) less (w .0 .left)))
     (c .if1 .came)
 

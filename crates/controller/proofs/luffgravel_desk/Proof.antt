@@ -32,7 +32,10 @@ returns-2 : tie.Need-returns-2
 returns-2 c = located (c .before .before .find .result) (c .before .before .find .ensures) Day (c .enum-told2 .given .1) refl refl refl refl
 
 returns-3 : tie.Need-returns-3
-returns-3 c = located (c .before .before .before .before .find .result) (c .before .before .before .before .find .ensures) (Refused (c .before .before .which .given .0 .0)) (c .before .before .which .given .1) (c .number-of .ensures) refl refl refl
+returns-3 c =
+    let then = c .before .before in let which = then .which in
+    let find = then .before .before .find in
+    located (find .result) (find .ensures) (Refused (which .given .0 .0)) (which .given .1) (c .number-of .ensures) refl refl refl
 
 pub luffgravel-desk-spec : {M : Type 1} → statement M
 luffgravel-desk-spec =

@@ -21,10 +21,14 @@ enum-told c = search needs
 
 returns : tie.Need-returns
 returns c =
-    c .legal .ensures ∙ ap (λ (k : Coded). legalBy k (c .before .before .before .before .before .args .function)) (sym (c .before .before .coded .given .1) ∙ c .before .before .before .before .kind-of .ensures)
+    let then = c .before .before .before .before in let kind-of = then .kind-of in
+    let args = then .before .args in
+    c .legal .ensures ∙ ap (λ (k : Coded). legalBy k (args .function)) (sym (c .before .before .coded .given .1) ∙ kind-of .ensures)
 
 returns-2 : tie.Need-returns-2
-returns-2 c = ap (λ (k : Coded). legalBy k (c .before .before .before .args .function)) (sym (c .enum-told .given .1) ∙ c .before .before .kind-of .ensures)
+returns-2 c =
+    let args = c .before .before .before .args in
+    ap (λ (k : Coded). legalBy k (args .function)) (sym (c .enum-told .given .1) ∙ c .before .before .kind-of .ensures)
 
 pub luffgravel-is-legal-spec : {M : Type 1} → statement M
 luffgravel-is-legal-spec =

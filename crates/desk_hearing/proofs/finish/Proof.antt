@@ -26,7 +26,10 @@ enum-told-3 : tie.Need-enum-told-3
 enum-told-3 c = search needs
 
 returns : tie.Need-returns
-returns c = no-line (standing (c .before .before .before .before .args .desk) (c .before .before .before .before .args .line .now) (c .before .before .before .before .args .repair .now) (c .before .before .before .before .args .day .now)) (c .before .before .enum-told3 .given .1) (c .if1 .taken) (c .before .before .before .before .args .out .now)
+returns c =
+    let args = c .before .before .before .before .args in
+    no-line (standing (args .desk) (args .line .now) (args .repair .now) (args .day .now)) (c .before .before .enum-told3 .given .1)
+    (c .if1 .taken) (args .out .now)
 
 front-requires : tie.Need-front-requires
 front-requires c κs = search needs
@@ -41,13 +44,26 @@ put-answer-requires : tie.Need-put-answer-requires
 put-answer-requires c κs = search needs
 
 returns-2 : tie.Need-returns-2
-returns-2 c = no-repair (standing (c .before .before .before .before .args .desk) (c .before .before .before .before .args .line .now) (c .before .before .before .before .args .repair .now) (c .before .before .before .before .args .day .now)) (search needs) (c .put-refused .ensures) (c .before .before .enum-told .given .1)
+returns-2 c =
+    let args = c .before .before .before .before .args in
+    no-repair (standing (args .desk) (args .line .now) (args .repair .now) (args .day .now)) (search needs) (c .put-refused .ensures)
+    (c .before .before .enum-told .given .1)
 
 returns-3 : tie.Need-returns-3
-returns-3 c = no-day (standing (c .before .before .before .before .args .desk) (c .before .before .before .before .args .line .now) (c .before .before .before .before .args .repair .now) (c .before .before .before .before .args .day .now)) (search needs) (c .put-refused2 .ensures) (c .before .before .enum-told2 .given .1)
+returns-3 c =
+    let args = c .before .before .before .before .args in
+    no-day (standing (args .desk) (args .line .now) (args .repair .now) (args .day .now)) (search needs) (c .put-refused2 .ensures)
+    (c .before .before .enum-told2 .given .1)
 
 returns-4 : tie.Need-returns-4
-returns-4 c = last-line (standing (c .before .before .before .before .before .before .before .before .before .before .before .before .args .desk) (c .before .before .before .before .before .before .before .before .before .before .before .before .args .line .now) (c .before .before .before .before .before .before .before .before .before .before .before .before .args .repair .now) (c .before .before .before .before .before .before .before .before .before .before .before .before .args .day .now)) (c .before .before .before .before .before .before .before .before .before .before .enum-told3 .given .1) (c .before .before .before .before .before .before .before .before .if1 .left) (answered-for (c .before .front3 .ensures) (c .before .before .before .before .before .before .front .ensures) (c .before .before .before .before .front2 .ensures) (c .put-answer .ensures))
+returns-4 c =
+    let then = c .before .before .before .before in let front2 = then .front2 in
+    let then = then .before .before in let front = then .front in
+    let then = then .before .before in let if1 = then .if1 in
+    let then = then .before .before in let enum-told3 = then .enum-told3 in
+    let args = then .before .before .args in
+    last-line (standing (args .desk) (args .line .now) (args .repair .now) (args .day .now)) (enum-told3 .given .1) (if1 .left)
+    (answered-for (c .before .front3 .ensures) (front .ensures) (front2 .ensures) (c .put-answer .ensures))
 
 pub finish-spec : {M : Type 1} → statement M
 finish-spec =

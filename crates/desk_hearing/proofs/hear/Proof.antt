@@ -26,7 +26,11 @@ what-was-heard-requires : tie.Need-what-was-heard-requires
 what-was-heard-requires c κs = search needs
 
 returns : tie.Need-returns
-returns c = as-heard (c .what-was-heard .ensures) (waits (standing (c .before .before .before .before .before .before .before .args .desk) (c .before .before .before .before .before .before .before .args .line .now) (c .before .before .before .before .before .before .before .args .repair .now) (c .before .before .before .before .before .before .before .args .day .now)) (c .before .before .before .before .take-up .ensures) (not-true (c .before .before .before .before .take-up .result .whole) (c .before .before .if1 .taken)) (c .before .desk-of .ensures) (c .before .before .before .before .before .before .before .args .out .now))
+returns c =
+    let then = c .before .before .before .before in let take-up = then .take-up in
+    let args = then .before .before .before .args in
+    as-heard (c .what-was-heard .ensures) (waits (standing (args .desk) (args .line .now) (args .repair .now) (args .day .now))
+    (take-up .ensures) (not-true (take-up .result .whole) (c .before .before .if1 .taken)) (c .before .desk-of .ensures) (args .out .now))
 
 front-requires : tie.Need-front-requires
 front-requires c κs = search needs
@@ -80,13 +84,41 @@ what-was-heard-requires-4 : tie.Need-what-was-heard-requires-4
 what-was-heard-requires-4 c κs = search needs
 
 returns-2 : tie.Need-returns-2
-returns-2 c = as-heard (c .what-was-heard2 .ensures) (of-repair (standing (c .before .before .before .before .before .before .before .before .before .before .before .before .before .before .before .args .desk) (c .before .before .before .before .before .before .before .before .before .before .before .before .before .before .before .args .line .now) (c .before .before .before .before .before .before .before .before .before .before .before .before .before .before .before .args .repair .now) (c .before .before .before .before .before .before .before .before .before .before .before .before .before .before .before .args .day .now)) (c .before .before .before .before .before .before .before .before .before .before .before .before .take-up .ensures) (not-false (c .before .before .before .before .before .before .before .before .before .before .before .before .take-up .result .whole) (c .before .before .before .before .before .before .before .before .before .before .if1 .left)) (c .before .before .before .before .before .before .before .front .ensures) (c .before .before .before .before .before .enum-told .given .1) (c .before .before .before .put-card .ensures) (c .before .before .behind-card .ensures) (c .before .desk-of2 .ensures) (c .before .before .before .before .before .before .before .before .before .before .before .before .before .before .before .args .out .now))
+returns-2 c =
+    let then = c .before .before .before in let put-card = then .put-card in
+    let then = then .before .before in let enum-told = then .enum-told in
+    let then = then .before .before in let front = then .front in
+    let then = then .before .before .before in let if1 = then .if1 in
+    let then = then .before .before in let take-up = then .take-up in
+    let args = then .before .before .before .args in
+    as-heard (c .what-was-heard2 .ensures) (of-repair (standing (args .desk) (args .line .now) (args .repair .now) (args .day .now))
+    (take-up .ensures) (not-false (take-up .result .whole) (if1 .left)) (front .ensures) (enum-told .given .1) (put-card .ensures)
+    (c .before .before .behind-card .ensures) (c .before .desk-of2 .ensures) (args .out .now))
 
 returns-3 : tie.Need-returns-3
-returns-3 c = as-heard (c .what-was-heard3 .ensures) (of-day (standing (c .before .before .before .before .before .before .before .before .before .before .before .before .before .before .before .args .desk) (c .before .before .before .before .before .before .before .before .before .before .before .before .before .before .before .args .line .now) (c .before .before .before .before .before .before .before .before .before .before .before .before .before .before .before .args .repair .now) (c .before .before .before .before .before .before .before .before .before .before .before .before .before .before .before .args .day .now)) (c .before .before .before .before .before .before .before .before .before .before .before .before .take-up .ensures) (not-false (c .before .before .before .before .before .before .before .before .before .before .before .before .take-up .result .whole) (c .before .before .before .before .before .before .before .before .before .before .if1 .left)) (c .before .before .before .before .before .before .before .front .ensures) (c .before .before .before .before .before .enum-told2 .given .1) (c .before .before .before .put-card2 .ensures) (c .before .before .behind-card2 .ensures) (c .before .desk-of3 .ensures) (c .before .before .before .before .before .before .before .before .before .before .before .before .before .before .before .args .out .now))
+returns-3 c =
+    let then = c .before .before .before in let put-card2 = then .put-card2 in
+    let then = then .before .before in let enum-told2 = then .enum-told2 in
+    let then = then .before .before in let front = then .front in
+    let then = then .before .before .before in let if1 = then .if1 in
+    let then = then .before .before in let take-up = then .take-up in
+    let args = then .before .before .before .args in
+    as-heard (c .what-was-heard3 .ensures) (of-day (standing (args .desk) (args .line .now) (args .repair .now) (args .day .now))
+    (take-up .ensures) (not-false (take-up .result .whole) (if1 .left)) (front .ensures) (enum-told2 .given .1) (put-card2 .ensures)
+    (c .before .before .behind-card2 .ensures) (c .before .desk-of3 .ensures) (args .out .now))
 
 returns-4 : tie.Need-returns-4
-returns-4 c = as-heard (c .what-was-heard4 .ensures) (of-asks (standing (c .before .before .before .before .before .before .before .before .before .before .before .before .before .before .before .before .before .before .before .before .args .desk) (c .before .before .before .before .before .before .before .before .before .before .before .before .before .before .before .before .before .before .before .before .args .line .now) (c .before .before .before .before .before .before .before .before .before .before .before .before .before .before .before .before .before .before .before .before .args .repair .now) (c .before .before .before .before .before .before .before .before .before .before .before .before .before .before .before .before .before .before .before .before .args .day .now)) (c .before .before .before .before .before .before .before .before .before .before .before .before .before .before .before .before .before .take-up .ensures) (not-false (c .before .before .before .before .before .before .before .before .before .before .before .before .before .before .before .before .before .take-up .result .whole) (c .before .before .before .before .before .before .before .before .before .before .before .before .before .before .before .if1 .left)) (c .before .before .before .before .before .before .before .before .before .before .before .before .front .ensures) (c .before .before .before .before .before .before .before .before .before .before .enum-told3 .given .1) (answered-for refl (c .before .before .before .before .before .before .before .front2 .ensures) (c .before .before .before .before .front3 .ensures) (c .before .before .put-answer .ensures)) (c .before .desk-of4 .ensures))
+returns-4 c =
+    let then = c .before .before .before .before in let front3 = then .front3 in
+    let then = then .before .before .before in let front2 = then .front2 in
+    let then = then .before .before .before in let enum-told3 = then .enum-told3 in
+    let then = then .before .before in let front = then .front in
+    let then = then .before .before .before in let if1 = then .if1 in
+    let then = then .before .before in let take-up = then .take-up in
+    let args = then .before .before .before .args in
+    as-heard (c .what-was-heard4 .ensures) (of-asks (standing (args .desk) (args .line .now) (args .repair .now) (args .day .now))
+    (take-up .ensures) (not-false (take-up .result .whole) (if1 .left)) (front .ensures) (enum-told3 .given .1)
+    (answered-for refl (front2 .ensures) (front3 .ensures) (c .before .before .put-answer .ensures)) (c .before .desk-of4 .ensures))
 
 pub hear-spec : {M : Type 1} → statement M
 hear-spec =

@@ -27,7 +27,13 @@ put-closing-requires : tie.Need-put-closing-requires
 put-closing-requires c κs = search needs
 
 returns : tie.Need-returns
-returns c = answered (subst (λ (part : List ℕ). Shows (c .before .before .before .before .before .before .before .before .before .args .id .now) (c .before .before .before .before .before .before .before .before .before .args .repair .now) (c .before .before .before .before .before .before .before .before .before .args .day .now) (c .before .before .before .before .before .find .result) part) (sym (c .before .before .before .part-of .ensures)) (c .before .before .before .before .before .find .ensures)) (search needs) (c .before .before .put-bytes .ensures) (c .put-closing .ensures)
+returns c =
+    let then = c .before .before .before in let part-of = then .part-of in
+    let then = then .before .before in let find = then .find in
+    let args = then .before .before .before .before .args in
+    answered (subst (λ (part : List ℕ). Shows (args .id .now) (args .repair .now) (args .day .now) (find .result) part) (sym (part-of .ensures))
+    (find .ensures))
+    (search needs) (c .before .before .put-bytes .ensures) (c .put-closing .ensures)
 
 pub put-answer-spec : {M : Type 1} → statement M
 put-answer-spec =

@@ -10,19 +10,33 @@ use Rattle.desk_show.proofs.clipped.Reads as reads
 use Rattle.desk_show.proofs.clipped.Lts as lts
 
 returns : tie.Need-returns
-returns c = let a : c .before .args .size ≡ min (c .before .args .from) (c .before .args .size) = omega (arith, c .if1 .taken) in let b : c .before .args .size ≡ min (c .before .args .from + c .before .args .len) (c .before .args .size) = omega (arith, c .if1 .taken) in cc
+returns c =
+    let args = c .before .args in
+    let a : args .size ≡ min (args .from) (args .size) = omega (arith, c .if1 .taken) in
+    let b : args .size ≡ min (args .from + args .len) (args .size) = omega (arith, c .if1 .taken) in
+    cc
 
 sub-if2 : tie.Need-sub-if2
 sub-if2 c = search needs
 
 returns-2 : tie.Need-returns-2
-returns-2 c = let a : c .before .before .args .from ≡ min (c .before .before .args .from) (c .before .before .args .size) = omega (arith, c .before .if1 .left) in let b : c .before .before .args .size ≡ min (c .before .before .args .from + c .before .before .args .len) (c .before .before .args .size) = omega (arith, c .before .if1 .left, c .if2 .taken) in cc
+returns-2 c =
+    let then = c .before in let if1 = then .if1 in
+    let args = then .before .args in
+    let a : args .from ≡ min (args .from) (args .size) = omega (arith, if1 .left) in
+    let b : args .size ≡ min (args .from + args .len) (args .size) = omega (arith, if1 .left, c .if2 .taken) in
+    cc
 
 add-t6 : tie.Need-add-t6
 add-t6 c = search needs
 
 returns-3 : tie.Need-returns-3
-returns-3 c = let a : c .before .before .args .from ≡ min (c .before .before .args .from) (c .before .before .args .size) = omega (arith, c .before .if1 .left) in let b : c .before .before .args .from + c .before .before .args .len ≡ min (c .before .before .args .from + c .before .before .args .len) (c .before .before .args .size) = omega (arith, c .before .if1 .left, c .if2 .left) in cc
+returns-3 c =
+    let then = c .before in let if1 = then .if1 in
+    let args = then .before .args in
+    let a : args .from ≡ min (args .from) (args .size) = omega (arith, if1 .left) in
+    let b : args .from + args .len ≡ min (args .from + args .len) (args .size) = omega (arith, if1 .left, c .if2 .left) in
+    cc
 
 pub clipped-spec : {M : Type 1} → statement M
 clipped-spec = tie.close (tie.spec returns sub-if2 returns-2 add-t6 returns-3)

@@ -26,10 +26,18 @@ enum-known-m : tie.Need-enum-known-m
 enum-known-m c = search needs
 
 slice-aggregate-find-in : tie.Need-slice-aggregate-find-in
-slice-aggregate-find-in c = read-long (c .before .before .before .before .before .before .before .before .before .before .before .before .args .repair .now) (c .before .before .before .before .before .before .n .given .0 .0) (sym (c .before .before .before .before .before .before .before .before .deck-end .ensures) ∙ c .before .before .before .before .before .before .n .given .1)
+slice-aggregate-find-in c =
+    let then = c .before .before .before .before .before .before in let n = then .n in
+    let then = then .before .before in let deck-end = then .deck-end in
+    let args = then .before .before .before .before .args in
+    read-long (args .repair .now) (n .given .0 .0) (sym (deck-end .ensures) ∙ n .given .1)
 
 slice-aggregate-find-in-2 : tie.Need-slice-aggregate-find-in-2
-slice-aggregate-find-in-2 c = read-long (c .before .before .before .before .before .before .before .before .before .before .before .before .before .args .day .now) (c .before .before .before .m .given .0 .0) (sym (c .before .before .before .before .before .deck-end2 .ensures) ∙ c .before .before .before .m .given .1)
+slice-aggregate-find-in-2 c =
+    let then = c .before .before .before in let m = then .m in
+    let then = then .before .before in let deck-end2 = then .deck-end2 in
+    let args = then .before .before .before .before .before .before .before .before .args in
+    read-long (args .day .now) (m .given .0 .0) (sym (deck-end2 .ensures) ∙ m .given .1)
 
 find-in-requires : tie.Need-find-in-requires
 find-in-requires c κs = search needs
@@ -47,13 +55,30 @@ refused-requires-2 : tie.Need-refused-requires-2
 refused-requires-2 c κs = search needs
 
 returns : tie.Need-returns
-returns c = found-shows (c .before .before .before .before .before .before .before .before .before .before .before .before .before .before .args .id .now) (c .before .before .before .before .before .before .before .before .before .before .before .before .before .before .args .repair .now) (c .before .before .before .before .before .before .before .before .before .before .before .before .before .before .args .day .now) (sym (c .before .before .before .before .before .before .before .before .before .before .deck-end .ensures) ∙ c .before .before .before .before .before .before .before .before .n .given .1) (sym (c .before .before .before .before .before .before .deck-end2 .ensures) ∙ c .before .before .before .before .m .given .1) (c .find-in .ensures)
+returns c =
+    let then = c .before .before .before .before in let m = then .m in
+    let then = then .before .before in let deck-end2 = then .deck-end2 in
+    let then = then .before .before in let n = then .n in
+    let then = then .before .before in let deck-end = then .deck-end in
+    let args = then .before .before .before .before .args in
+    found-shows (args .id .now) (args .repair .now) (args .day .now) (sym (deck-end .ensures) ∙ n .given .1)
+    (sym (deck-end2 .ensures) ∙ m .given .1) (c .find-in .ensures)
 
 returns-2 : tie.Need-returns-2
-returns-2 c = let b = is-bad (c .before .before .before .before .before .before .before .before .before .before .before .before .args .day .now) (c .before .before .refusal .given .0 .0) (sym (c .before .before .before .before .deck-end2 .ensures) ∙ c .before .before .refusal .given .1) in refused-shows (c .before .before .before .before .before .before .before .before .before .before .before .before .args .id .now) (c .before .before .before .before .before .before .before .before .before .before .before .before .args .repair .now) (c .before .before .before .before .before .before .before .before .before .before .before .before .args .day .now) (c .before .before .refusal .given .0 .0) (b .0, inr (b .1)) (c .refused .ensures)
+returns-2 c =
+    let then = c .before .before in let refusal = then .refusal in
+    let then = then .before .before in let deck-end2 = then .deck-end2 in
+    let args = then .before .before .before .before .before .before .before .before .args in
+    let b = is-bad (args .day .now) (refusal .given .0 .0) (sym (deck-end2 .ensures) ∙ refusal .given .1) in
+    refused-shows (args .id .now) (args .repair .now) (args .day .now) (refusal .given .0 .0) (b .0, inr (b .1)) (c .refused .ensures)
 
 returns-3 : tie.Need-returns-3
-returns-3 c = let b = is-bad (c .before .before .before .before .before .before .before .before .args .repair .now) (c .before .before .refusal2 .given .0 .0) (sym (c .before .before .before .before .deck-end .ensures) ∙ c .before .before .refusal2 .given .1) in refused-shows (c .before .before .before .before .before .before .before .before .args .id .now) (c .before .before .before .before .before .before .before .before .args .repair .now) (c .before .before .before .before .before .before .before .before .args .day .now) (c .before .before .refusal2 .given .0 .0) (b .0, inl (b .1)) (c .refused2 .ensures)
+returns-3 c =
+    let then = c .before .before in let refusal2 = then .refusal2 in
+    let then = then .before .before in let deck-end = then .deck-end in
+    let args = then .before .before .before .before .args in
+    let b = is-bad (args .repair .now) (refusal2 .given .0 .0) (sym (deck-end .ensures) ∙ refusal2 .given .1) in
+    refused-shows (args .id .now) (args .repair .now) (args .day .now) (refusal2 .given .0 .0) (b .0, inl (b .1)) (c .refused2 .ensures)
 
 pub find-spec : {M : Type 1} → statement M
 find-spec =

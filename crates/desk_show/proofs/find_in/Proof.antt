@@ -34,13 +34,37 @@ refused-requires : tie.Need-refused-requires
 refused-requires c κs = search needs
 
 returns : tie.Need-returns
-returns c = subst (λ (x : Sought). Seeks (c .before .before .before .before .before .before .before .args .id .now) (c .before .before .before .before .before .before .before .args .repair .now) x) (c .before .from .given .1) (c .before .before .before .seek .ensures)
+returns c =
+    let then = c .before .before .before in let seek = then .seek in
+    let args = then .before .before .before .before .args in
+    subst (λ (x : Sought). Seeks (args .id .now) (args .repair .now) x) (c .before .from .given .1) (seek .ensures)
 
 returns-2 : tie.Need-returns-2
-returns-2 c = (subst (λ (x : Sought). Seeks (c .before .before .before .before .before .before .before .before .before .before .args .id .now) (c .before .before .before .before .before .before .before .before .before .before .args .repair .now) x) (c .before .before .before .before .enum-told .given .1) (c .before .before .before .before .before .before .seek .ensures), subst (λ (x : Sought). Seeks (c .before .before .before .before .before .before .before .before .before .before .args .id .now) (c .before .before .before .before .before .before .before .before .before .before .args .day .now) x) (c .before .from2 .given .1) (c .before .before .before .seek2 .ensures))
+returns-2 c =
+    let then = c .before .before .before in let seek2 = then .seek2 in
+    let then = then .before in let enum-told = then .enum-told in
+    let then = then .before .before in let seek = then .seek in
+    let args = then .before .before .before .before .args in (
+      subst (λ (x : Sought). Seeks (args .id .now) (args .repair .now) x) (enum-told .given .1) (seek .ensures),
+      subst (λ (x : Sought). Seeks (args .id .now) (args .day .now) x) (c .before .from2 .given .1) (seek2 .ensures),
+    )
 
 returns-3 : tie.Need-returns-3
-returns-3 c = subst (λ (x : Extent). FindsIn (c .before .before .before .before .before .before .before .before .before .before .args .id .now) (c .before .before .before .before .before .before .before .before .before .before .args .repair .now) (c .before .before .before .before .before .before .before .before .before .before .args .day .now) x) (sym (c .refused .ensures)) (refl, ((subst (λ (x : Sought). Seeks (c .before .before .before .before .before .before .before .before .before .before .args .id .now) (c .before .before .before .before .before .before .before .before .before .before .args .repair .now) x) (c .before .before .before .before .enum-told .given .1) (c .before .before .before .before .before .before .seek .ensures), subst (λ (x : Sought). Seeks (c .before .before .before .before .before .before .before .before .before .before .args .id .now) (c .before .before .before .before .before .before .before .before .before .before .args .day .now) x) (c .before .enum-told2 .given .1) (c .before .before .before .seek2 .ensures)), (refl, refl)))
+returns-3 c =
+    let then = c .before .before .before in let seek2 = then .seek2 in
+    let then = then .before in let enum-told = then .enum-told in
+    let then = then .before .before in let seek = then .seek in
+    let args = then .before .before .before .before .args in
+    subst (λ (x : Extent). FindsIn (args .id .now) (args .repair .now) (args .day .now) x) (sym (c .refused .ensures)) (
+      refl,
+      (
+        (
+          subst (λ (x : Sought). Seeks (args .id .now) (args .repair .now) x) (enum-told .given .1) (seek .ensures),
+          subst (λ (x : Sought). Seeks (args .id .now) (args .day .now) x) (c .before .enum-told2 .given .1) (seek2 .ensures),
+        ),
+        (refl, refl),
+      ),
+    )
 
 pub find-in-spec : {M : Type 1} → statement M
 find-in-spec =

@@ -17,19 +17,31 @@ field-is-requires : tie.Need-field-is-requires
 field-is-requires c κs = search needs
 
 returns : tie.Need-returns
-returns c = opens-not (c .before .before .before .before .before .args .id .now) (c .before .before .before .before .before .args .card .now) (sym (c .before .field-is .ensures) ∙ not-true (c .before .field-is .result) (c .if1 .taken))
+returns c =
+    let then = c .before in let field-is = then .field-is in
+    let args = then .before .before .before .before .args in
+    opens-not (args .id .now) (args .card .now) (sym (field-is .ensures) ∙ not-true (field-is .result) (c .if1 .taken))
 
 is-id-requires : tie.Need-is-id-requires
 is-id-requires c κs = search needs
 
 returns-2 : tie.Need-returns-2
-returns-2 c = opens-no-id (c .before .before .before .before .before .before .before .args .id .now) (c .before .before .before .before .before .before .before .args .card .now) (sym (c .before .is-id .ensures) ∙ not-true (c .before .is-id .result) (c .if2 .taken))
+returns-2 c =
+    let then = c .before in let is-id = then .is-id in
+    let args = then .before .before .before .before .before .before .args in
+    opens-no-id (args .id .now) (args .card .now) (sym (is-id .ensures) ∙ not-true (is-id .result) (c .if2 .taken))
 
 field-is-requires-2 : tie.Need-field-is-requires-2
 field-is-requires-2 c κs = search needs
 
 returns-3 : tie.Need-returns-3
-returns-3 c = c .field-is2 .ensures ∙ opens-is (c .before .before .before .before .before .before .before .before .args .id .now) (c .before .before .before .before .before .before .before .before .args .card .now) (sym (c .before .before .before .before .field-is .ensures) ∙ not-false (c .before .before .before .before .field-is .result) (c .before .before .before .if1 .left)) (sym (c .before .before .is-id .ensures) ∙ not-false (c .before .before .is-id .result) (c .before .if2 .left))
+returns-3 c =
+    let then = c .before .before in let is-id = then .is-id in
+    let then = then .before in let if1 = then .if1 in
+    let then = then .before in let field-is = then .field-is in
+    let args = then .before .before .before .before .args in
+    c .field-is2 .ensures ∙ opens-is (args .id .now) (args .card .now) (sym (field-is .ensures) ∙ not-false (field-is .result) (if1 .left))
+    (sym (is-id .ensures) ∙ not-false (is-id .result) (c .before .if2 .left))
 
 pub opens-for-spec : {M : Type 1} → statement M
 opens-for-spec =

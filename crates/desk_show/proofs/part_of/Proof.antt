@@ -12,28 +12,44 @@ span-of-requires : tie.Need-span-of-requires
 span-of-requires c κs = search needs
 
 sub-result : tie.Need-sub-result
-sub-result c = in-repair (c .before .before .before .before .args .repair .now) (c .before .before .before .before .args .day .now) (c .before .before .before .before .args .found) (c .before .span-of .ensures) (c .if1 .taken) .0
+sub-result c =
+    let args = c .before .before .before .before .args in
+    in-repair (args .repair .now) (args .day .now) (args .found) (c .before .span-of .ensures) (c .if1 .taken) .0
 
 part-result-start : tie.Need-part-result-start
-part-result-start c = in-repair (c .before .before .before .before .args .repair .now) (c .before .before .before .before .args .day .now) (c .before .before .before .before .args .found) (c .before .span-of .ensures) (c .if1 .taken) .0
+part-result-start c =
+    let args = c .before .before .before .before .args in
+    in-repair (args .repair .now) (args .day .now) (args .found) (c .before .span-of .ensures) (c .if1 .taken) .0
 
 part-result-end : tie.Need-part-result-end
-part-result-end c = in-repair (c .before .before .before .before .args .repair .now) (c .before .before .before .before .args .day .now) (c .before .before .before .before .args .found) (c .before .span-of .ensures) (c .if1 .taken) .1
+part-result-end c =
+    let args = c .before .before .before .before .args in
+    in-repair (args .repair .now) (args .day .now) (args .found) (c .before .span-of .ensures) (c .if1 .taken) .1
 
 returns : tie.Need-returns
-returns c = in-repair (c .before .before .before .before .before .args .repair .now) (c .before .before .before .before .before .args .day .now) (c .before .before .before .before .before .args .found) (c .before .before .span-of .ensures) (c .before .if1 .taken) .2
+returns c =
+    let args = c .before .before .before .before .before .args in
+    in-repair (args .repair .now) (args .day .now) (args .found) (c .before .before .span-of .ensures) (c .before .if1 .taken) .2
 
 sub-result-2 : tie.Need-sub-result-2
-sub-result-2 c = in-day (c .before .before .before .before .args .repair .now) (c .before .before .before .before .args .day .now) (c .before .before .before .before .args .found) (c .before .span-of .ensures) (c .if1 .left) .0
+sub-result-2 c =
+    let args = c .before .before .before .before .args in
+    in-day (args .repair .now) (args .day .now) (args .found) (c .before .span-of .ensures) (c .if1 .left) .0
 
 part-result-start-2 : tie.Need-part-result-start-2
-part-result-start-2 c = in-day (c .before .before .before .before .args .repair .now) (c .before .before .before .before .args .day .now) (c .before .before .before .before .args .found) (c .before .span-of .ensures) (c .if1 .left) .0
+part-result-start-2 c =
+    let args = c .before .before .before .before .args in
+    in-day (args .repair .now) (args .day .now) (args .found) (c .before .span-of .ensures) (c .if1 .left) .0
 
 part-result-end-2 : tie.Need-part-result-end-2
-part-result-end-2 c = in-day (c .before .before .before .before .args .repair .now) (c .before .before .before .before .args .day .now) (c .before .before .before .before .args .found) (c .before .span-of .ensures) (c .if1 .left) .1
+part-result-end-2 c =
+    let args = c .before .before .before .before .args in
+    in-day (args .repair .now) (args .day .now) (args .found) (c .before .span-of .ensures) (c .if1 .left) .1
 
 returns-2 : tie.Need-returns-2
-returns-2 c = in-day (c .before .before .before .before .before .args .repair .now) (c .before .before .before .before .before .args .day .now) (c .before .before .before .before .before .args .found) (c .before .before .span-of .ensures) (c .before .if1 .left) .2
+returns-2 c =
+    let args = c .before .before .before .before .before .args in
+    in-day (args .repair .now) (args .day .now) (args .found) (c .before .before .span-of .ensures) (c .before .if1 .left) .2
 
 pub part-of-spec : {M : Type 1} → statement M
 part-of-spec =

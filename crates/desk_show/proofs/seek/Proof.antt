@@ -44,16 +44,35 @@ opens-for-requires : tie.Need-opens-for-requires Inv-loop μ-loop
 opens-for-requires c κs = search needs
 
 returns-2 : tie.Need-returns-2 Inv-loop μ-loop
-returns-2 c = seek-found (c .before .before .before .before .before .before .before .loop .inv) (c .before .before .before .before .first-group .ensures) (c .before .before .before .if1 .left) (c .before .before .card-at .ensures) (c .before .opens-for .ensures) (c .if2 .taken)
+returns-2 c =
+    let then = c .before .before .before in let if1 = then .if1 in
+    let then = then .before in let first-group = then .first-group in
+    let loop = then .before .before .before .loop in
+    seek-found (loop .inv) (first-group .ensures) (if1 .left) (c .before .before .card-at .ensures)
+    (c .before .opens-for .ensures) (c .if2 .taken)
 
 add-from : tie.Need-add-from Inv-loop μ-loop
-add-from c = omega (arith, c .before .before .before .before .before .before .before .before .before .before .good .1 .0, seek-within (c .before .before .before .before .before .before .before .loop .inv) (c .before .before .before .before .first-group .ensures) (c .before .before .before .if1 .left))
+add-from c =
+    let then = c .before .before .before in let if1 = then .if1 in
+    let then = then .before in let first-group = then .first-group in
+    let then = then .before .before .before in let loop = then .loop in
+    let good = then .before .before .before .good in
+    omega (arith, good .1 .0, seek-within (loop .inv) (first-group .ensures) (if1 .left))
 
 loop-less : tie.Need-loop-less Inv-loop μ-loop
-loop-less c = omega (arith, c .before .before .before .if1 .left, c .before .before .before .before .before .before .loop-test .taken, seek-within (c .before .before .before .before .before .before .before .loop .inv) (c .before .before .before .before .first-group .ensures) (c .before .before .before .if1 .left))
+loop-less c =
+    let then = c .before .before .before in let if1 = then .if1 in
+    let then = then .before in let first-group = then .first-group in
+    let then = then .before .before in let loop-test = then .loop-test in
+    let loop = then .before .loop in
+    omega (arith, if1 .left, loop-test .taken, seek-within (loop .inv) (first-group .ensures) (if1 .left))
 
 loop-again : tie.Need-loop-again Inv-loop μ-loop
-loop-again c = seek-turn (c .before .before .before .before .before .before .before .loop .inv) (c .before .before .before .before .first-group .ensures) (c .before .before .before .if1 .left) (c .before .before .card-at .ensures) (c .before .opens-for .ensures) (c .if2 .left)
+loop-again c =
+    let then = c .before .before .before in let if1 = then .if1 in
+    let then = then .before in let first-group = then .first-group in
+    let loop = then .before .before .before .loop in
+    seek-turn (loop .inv) (first-group .ensures) (if1 .left) (c .before .before .card-at .ensures) (c .before .opens-for .ensures) (c .if2 .left)
 
 returns-3 : tie.Need-returns-3 Inv-loop μ-loop
 returns-3 c = seek-end (c .before .loop .inv) (c .loop-test .left)

@@ -18,7 +18,14 @@ part-of-requires : tie.Need-part-of-requires
 part-of-requires c κs = search needs
 
 returns : tie.Need-returns
-returns c = record { found = c .before .find .result; shows = subst (λ (part : List ℕ). Shows (c .before .before .before .before .before .args .id .now) (c .before .before .before .before .before .args .repair .now) (c .before .before .before .before .before .args .day .now) (c .before .find .result) part) (sym (c .part-of .ensures)) (c .before .find .ensures) }
+returns c =
+    let then = c .before in let find = then .find in
+    let args = then .before .before .before .before .args in
+    record {
+      found = find .result;
+      shows = subst (λ (part : List ℕ). Shows (args .id .now) (args .repair .now) (args .day .now) (find .result) part)
+          (sym (c .part-of .ensures)) (find .ensures);
+    }
 
 pub show-spec : {M : Type 1} → statement M
 show-spec = tie.close (tie.spec find-requires part-of-requires returns)

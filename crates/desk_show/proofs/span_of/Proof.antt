@@ -28,13 +28,22 @@ clipped-requires-3 : tie.Need-clipped-requires-3
 clipped-requires-3 c κs = search needs
 
 returns : tie.Need-returns
-returns c = c .clipped .ensures ∙ ap (λ (w : Which). spanBy w (c .before .before .before .args .found .from) (c .before .before .before .args .found .len) (c .before .before .before .args .repair) (c .before .before .before .args .day)) (sym (c .before .enum-told .given .1))
+returns c =
+    let args = c .before .before .before .args in
+    c .clipped .ensures ∙ ap (λ (w : Which). spanBy w (args .found .from) (args .found .len) (args .repair) (args .day))
+    (sym (c .before .enum-told .given .1))
 
 returns-2 : tie.Need-returns-2
-returns-2 c = c .clipped2 .ensures ∙ ap (λ (w : Which). spanBy w (c .before .before .before .args .found .from) (c .before .before .before .args .found .len) (c .before .before .before .args .repair) (c .before .before .before .args .day)) (sym (c .before .enum-told2 .given .1))
+returns-2 c =
+    let args = c .before .before .before .args in
+    c .clipped2 .ensures ∙ ap (λ (w : Which). spanBy w (args .found .from) (args .found .len) (args .repair) (args .day))
+    (sym (c .before .enum-told2 .given .1))
 
 returns-3 : tie.Need-returns-3
-returns-3 c = c .clipped3 .ensures ∙ ap (λ (w : Which). spanBy w (c .before .before .before .args .found .from) (c .before .before .before .args .found .len) (c .before .before .before .args .repair) (c .before .before .before .args .day)) (sym (c .before .enum-told3 .given .1))
+returns-3 c =
+    let args = c .before .before .before .args in
+    c .clipped3 .ensures ∙ ap (λ (w : Which). spanBy w (args .found .from) (args .found .len) (args .repair) (args .day))
+    (sym (c .before .enum-told3 .given .1))
 
 pub span-of-spec : {M : Type 1} → statement M
 span-of-spec =

@@ -23,7 +23,10 @@ array-read-result c = search needs
 
 returns : tie.Need-returns
 unfolding legalTable
-returns c = ap (λ (r : ℕ). getD legalTable (r * 64 + c .before .before .args .code) false) (c .before .row-of .ensures .is) ∙ legal-at (c .before .before .args .kind) (c .before .before .args .code) (c .if1 .taken)
+returns c =
+    let args = c .before .before .args in
+    ap (λ (r : ℕ). getD legalTable (r * 64 + args .code) false) (c .before .row-of .ensures .is)
+    ∙ legal-at (args .kind) (args .code) (c .if1 .taken)
 
 returns-2 : tie.Need-returns-2
 returns-2 c = sym (none-above (c .before .before .args .kind) (c .before .before .args .code) (c .if1 .left))

@@ -13,7 +13,10 @@ until-requires : tie.Need-until-requires
 until-requires c κs = search needs
 
 slice-aggregate-put-bytes : tie.Need-slice-aggregate-put-bytes
-slice-aggregate-put-bytes c = sym (length-take-le (c .before .before .until .result) (c .before .before .before .before .before .args .piece .now) (omega (arith, c .before .before .until .ensures, leading-most (isnt 10) (c .before .before .before .before .before .args .piece .now))))
+slice-aggregate-put-bytes c =
+    let then = c .before .before in let until = then .until in
+    let args = then .before .before .before .args in
+    sym (length-take-le (until .result) (args .piece .now) (omega (arith, until .ensures, leading-most (isnt 10) (args .piece .now))))
 
 put-bytes-requires : tie.Need-put-bytes-requires
 put-bytes-requires c κs = search needs
@@ -22,16 +25,27 @@ same-length : tie.Need-same-length
 same-length c = search needs
 
 returns : tie.Need-returns
-returns c = cut-short (c .before .before .before .before .before .before .before .before .before .args .piece .now) (c .before .before .before .before .before .before .until .ensures) (c .before .before .before .put-bytes .ensures) (c .if1 .taken)
+returns c =
+    let then = c .before .before .before in let put-bytes = then .put-bytes in
+    let then = then .before .before .before in let until = then .until in
+    let args = then .before .before .before .args in
+    cut-short (args .piece .now) (until .ensures) (put-bytes .ensures) (c .if1 .taken)
 
 add-t10 : tie.Need-add-t10
-add-t10 c = omega (arith, c .before .before .before .before .before .before .until .ensures, leading-most (isnt 10) (c .before .before .before .before .before .before .before .before .before .args .piece .now))
+add-t10 c =
+    let then = c .before .before .before .before .before .before in let until = then .until in
+    let args = then .before .before .before .args in
+    omega (arith, until .ensures, leading-most (isnt 10) (args .piece .now))
 
 same-length-2 : tie.Need-same-length-2
 same-length-2 c = search needs
 
 returns-2 : tie.Need-returns-2
-returns-2 c = cut-whole (c .before .before .before .before .before .before .before .before .before .args .piece .now) (c .before .before .before .before .before .before .until .ensures) (c .before .before .before .put-bytes .ensures) (c .if1 .left)
+returns-2 c =
+    let then = c .before .before .before in let put-bytes = then .put-bytes in
+    let then = then .before .before .before in let until = then .until in
+    let args = then .before .before .before .args in
+    cut-whole (args .piece .now) (until .ensures) (put-bytes .ensures) (c .if1 .left)
 
 pub take-up-spec : {M : Type 1} → statement M
 take-up-spec =

@@ -13,13 +13,23 @@ is-same-requires : tie.Need-is-same-requires
 is-same-requires c κs = search needs
 
 returns : tie.Need-returns
-returns c = other-word (c .before .before .before .before .before .args .message .now) (c .before .before .before .before .before .args .mc .now) (c .before .before .word-at .result .now) (c .before .before .before .before .before .args .most) (c .before .before .word-at .ensures) (sym (c .before .is-same .ensures) ∙ not-true (c .before .is-same .result) (c .if1 .taken))
+returns c =
+    let then = c .before in let is-same = then .is-same in
+    let then = then .before in let word-at = then .word-at in
+    let args = then .before .before .before .args in
+    other-word (args .message .now) (args .mc .now) (word-at .result .now) (args .most) (word-at .ensures)
+    (sym (is-same .ensures) ∙ not-true (is-same .result) (c .if1 .taken))
 
 word-at-requires-2 : tie.Need-word-at-requires-2
 word-at-requires-2 c κs = search needs
 
 returns-2 : tie.Need-returns-2
-returns-2 c = this-word (c .before .before .before .before .before .before .args .message .now) (c .before .before .before .before .before .before .args .mc .now) (c .before .before .before .word-at .result .now) (c .before .before .before .before .before .before .args .most) (c .before .before .before .word-at .ensures) (sym (c .before .before .is-same .ensures) ∙ not-false (c .before .before .is-same .result) (c .before .if1 .left)) (c .word-at2 .result .now) (c .word-at2 .ensures)
+returns-2 c =
+    let then = c .before .before in let is-same = then .is-same in
+    let then = then .before in let word-at = then .word-at in
+    let args = then .before .before .before .args in
+    this-word (args .message .now) (args .mc .now) (word-at .result .now) (args .most) (word-at .ensures)
+    (sym (is-same .ensures) ∙ not-false (is-same .result) (c .before .if1 .left)) (c .word-at2 .result .now) (c .word-at2 .ensures)
 
 pub is-message-spec : {M : Type 1} → statement M
 is-message-spec =

@@ -13,7 +13,11 @@ byte-at-requires : tie.Need-byte-at-requires
 byte-at-requires c κs = search needs
 
 returns-2 : tie.Need-returns-2
-returns-2 c = field-other (c .before .before .before .before .args .letter) (c .before .before .before .before .args .large) (c .before .before .before .before .args .field .now) (c .before .before .if1 .left) (c .before .byte-at .result) (c .before .byte-at .ensures) (c .if2 .taken)
+returns-2 c =
+    let then = c .before in let byte-at = then .byte-at in
+    let args = then .before .before .before .args in
+    field-other (args .letter) (args .large) (args .field .now) (c .before .before .if1 .left) (byte-at .result)
+    (byte-at .ensures) (c .if2 .taken)
 
 sub-digits : tie.Need-sub-digits
 sub-digits c = search needs
@@ -28,16 +32,41 @@ all-of-requires : tie.Need-all-of-requires
 all-of-requires c κs = search needs
 
 returns-3 : tie.Need-returns-3
-returns-3 c = field-nondigit (c .before .before .before .before .before .before .before .args .letter) (c .before .before .before .before .before .before .before .args .large) (c .before .before .before .before .before .before .before .args .field .now) (c .before .before .before .before .before .if1 .left) (c .before .before .before .before .byte-at .result) (c .before .before .before .before .byte-at .ensures) (c .before .before .before .if2 .left) (sym (c .before .all-of .ensures) ∙ not-true (c .before .all-of .result) (c .if3 .taken))
+returns-3 c =
+    let then = c .before in let all-of = then .all-of in
+    let then = then .before .before in let if2 = then .if2 in
+    let then = then .before in let byte-at = then .byte-at in
+    let then = then .before in let if1 = then .if1 in
+    let args = then .before .before .args in
+    field-nondigit (args .letter) (args .large) (args .field .now) (if1 .left) (byte-at .result) (byte-at .ensures) (if2 .left)
+    (sym (all-of .ensures) ∙ not-true (all-of .result) (c .if3 .taken))
 
 small-value-requires : tie.Need-small-value-requires
 small-value-requires c κs = (sym (c .before .all-of .ensures) ∙ not-false (c .before .all-of .result) (c .if3 .left))
 
 returns-4 : tie.Need-returns-4
-returns-4 c = field-large (c .before .before .before .before .before .before .before .before .before .args .letter) (c .before .before .before .before .before .before .before .before .before .args .large) (c .before .before .before .before .before .before .before .before .before .args .field .now) (c .before .before .before .before .before .before .before .if1 .left) (c .before .before .before .before .before .before .byte-at .result) (c .before .before .before .before .before .before .byte-at .ensures) (c .before .before .before .before .before .if2 .left) (sym (c .before .before .before .all-of .ensures) ∙ not-false (c .before .before .before .all-of .result) (c .before .before .if3 .left)) (c .before .small-value .result) (c .before .small-value .ensures) (c .if4 .taken)
+returns-4 c =
+    let then = c .before in let small-value = then .small-value in
+    let then = then .before .before in let all-of = then .all-of in
+    let then = then .before .before in let if2 = then .if2 in
+    let then = then .before in let byte-at = then .byte-at in
+    let then = then .before in let if1 = then .if1 in
+    let args = then .before .before .args in
+    field-large (args .letter) (args .large) (args .field .now) (if1 .left) (byte-at .result) (byte-at .ensures) (if2 .left)
+    (sym (all-of .ensures) ∙ not-false (all-of .result) (c .before .before .if3 .left)) (small-value .result)
+    (small-value .ensures) (c .if4 .taken)
 
 returns-5 : tie.Need-returns-5
-returns-5 c = field-is (c .before .before .before .before .before .before .before .before .before .args .letter) (c .before .before .before .before .before .before .before .before .before .args .large) (c .before .before .before .before .before .before .before .before .before .args .field .now) (c .before .before .before .before .before .before .before .if1 .left) (c .before .before .before .before .before .before .byte-at .result) (c .before .before .before .before .before .before .byte-at .ensures) (c .before .before .before .before .before .if2 .left) (sym (c .before .before .before .all-of .ensures) ∙ not-false (c .before .before .before .all-of .result) (c .before .before .if3 .left)) (c .before .small-value .result) (c .before .small-value .ensures) (c .if4 .left)
+returns-5 c =
+    let then = c .before in let small-value = then .small-value in
+    let then = then .before .before in let all-of = then .all-of in
+    let then = then .before .before in let if2 = then .if2 in
+    let then = then .before in let byte-at = then .byte-at in
+    let then = then .before in let if1 = then .if1 in
+    let args = then .before .before .args in
+    field-is (args .letter) (args .large) (args .field .now) (if1 .left) (byte-at .result) (byte-at .ensures) (if2 .left)
+    (sym (all-of .ensures) ∙ not-false (all-of .result) (c .before .before .if3 .left)) (small-value .result)
+    (small-value .ensures) (c .if4 .left)
 
 pub number-field-spec : {M : Type 1} → statement M
 number-field-spec =

@@ -25,11 +25,18 @@ enum-known-channel-2 c = search needs
 
 returns : tie.Need-returns
 unfolding onUnit
-returns c = c .after-channel .ensures ∙ rw (c .before .word-at2 .ensures, ← c .before .before .before .before .before .before .word-at .ensures, ← c .before .before .before .before .before .number-field .ensures, c .before .before .before .channel .given .1)
+returns c =
+    let then = c .before .before .before in let channel = then .channel in
+    let then = then .before .before in let number-field = then .number-field in
+    let word-at = then .before .word-at in
+    c .after-channel .ensures ∙ rw (c .before .word-at2 .ensures, ← word-at .ensures, ← number-field .ensures, channel .given .1)
 
 returns-2 : tie.Need-returns-2
 unfolding onUnit
-returns-2 c = rw (← c .before .before .before .before .word-at .ensures, ← c .before .before .before .number-field .ensures, c .before .channel2 .given .1)
+returns-2 c =
+    let then = c .before .before .before in let number-field = then .number-field in
+    let word-at = then .before .word-at in
+    rw (← word-at .ensures, ← number-field .ensures, c .before .channel2 .given .1)
 
 pub on-unit-spec : {M : Type 1} → statement M
 on-unit-spec =

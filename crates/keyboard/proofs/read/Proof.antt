@@ -22,7 +22,10 @@ message-of-requires c κs = search needs
 
 returns : tie.Need-returns
 unfolding messageOf
-returns c = c .message-of .ensures ∙ rw (c .before .before .on-unit .ensures, sym (c .before .before .before .before .is-message .ensures) ∙ c .before .before .before .if1 .taken)
+returns c =
+    let then = c .before .before .before in let if1 = then .if1 in
+    let is-message = then .before .is-message in
+    c .message-of .ensures ∙ rw (c .before .before .on-unit .ensures, sym (is-message .ensures) ∙ if1 .taken)
 
 slice-aggregate-is-message-2 : tie.Need-slice-aggregate-is-message-2
 slice-aggregate-is-message-2 c = search needs
@@ -41,7 +44,16 @@ message-of-requires-2 c κs = search needs
 
 returns-2 : tie.Need-returns-2
 unfolding messageOf
-returns-2 c = c .message-of2 .ensures ∙ rw (c .before .before .on-unit2 .ensures, sym (c .before .before .before .before .before .before .before .is-message .ensures) ∙ c .before .before .before .before .before .before .if1 .left, sym (c .before .before .before .before .is-message2 .ensures) ∙ c .before .before .before .if2 .taken)
+returns-2 c =
+    let then = c .before .before .before in let if2 = then .if2 in
+    let then = then .before in let is-message2 = then .is-message2 in
+    let then = then .before .before in let if1 = then .if1 in
+    let is-message = then .before .is-message in
+    c .message-of2 .ensures ∙ rw (
+      c .before .before .on-unit2 .ensures,
+      sym (is-message .ensures) ∙ if1 .left,
+      sym (is-message2 .ensures) ∙ if2 .taken,
+    )
 
 slice-aggregate-is-message-3 : tie.Need-slice-aggregate-is-message-3
 slice-aggregate-is-message-3 c = search needs
@@ -60,7 +72,20 @@ message-of-requires-3 c κs = search needs
 
 returns-3 : tie.Need-returns-3
 unfolding messageOf
-returns-3 c = c .message-of3 .ensures ∙ rw (c .before .before .on-request .ensures, c .before .word-at .ensures, sym (c .before .before .before .before .before .before .before .before .before .before .is-message .ensures) ∙ c .before .before .before .before .before .before .before .before .before .if1 .left, sym (c .before .before .before .before .before .before .before .is-message2 .ensures) ∙ c .before .before .before .before .before .before .if2 .left, sym (c .before .before .before .before .is-message3 .ensures) ∙ c .before .before .before .if3 .taken)
+returns-3 c =
+    let then = c .before .before .before in let if3 = then .if3 in
+    let then = then .before in let is-message3 = then .is-message3 in
+    let then = then .before .before in let if2 = then .if2 in
+    let then = then .before in let is-message2 = then .is-message2 in
+    let then = then .before .before in let if1 = then .if1 in
+    let is-message = then .before .is-message in
+    c .message-of3 .ensures ∙ rw (
+      c .before .before .on-request .ensures,
+      c .before .word-at .ensures,
+      sym (is-message .ensures) ∙ if1 .left,
+      sym (is-message2 .ensures) ∙ if2 .left,
+      sym (is-message3 .ensures) ∙ if3 .taken,
+    )
 
 slice-aggregate-is-message-4 : tie.Need-slice-aggregate-is-message-4
 slice-aggregate-is-message-4 c = search needs
@@ -79,7 +104,23 @@ message-of-requires-4 c κs = search needs
 
 returns-4 : tie.Need-returns-4
 unfolding messageOf
-returns-4 c = c .message-of4 .ensures ∙ rw (c .before .before .on-request2 .ensures, c .before .word-at2 .ensures, sym (c .before .before .before .before .before .before .before .before .before .before .before .before .before .is-message .ensures) ∙ c .before .before .before .before .before .before .before .before .before .before .before .before .if1 .left, sym (c .before .before .before .before .before .before .before .before .before .before .is-message2 .ensures) ∙ c .before .before .before .before .before .before .before .before .before .if2 .left, sym (c .before .before .before .before .before .before .before .is-message3 .ensures) ∙ c .before .before .before .before .before .before .if3 .left, sym (c .before .before .before .before .is-message4 .ensures) ∙ c .before .before .before .if4 .taken)
+returns-4 c =
+    let then = c .before .before .before in let if4 = then .if4 in
+    let then = then .before in let is-message4 = then .is-message4 in
+    let then = then .before .before in let if3 = then .if3 in
+    let then = then .before in let is-message3 = then .is-message3 in
+    let then = then .before .before in let if2 = then .if2 in
+    let then = then .before in let is-message2 = then .is-message2 in
+    let then = then .before .before in let if1 = then .if1 in
+    let is-message = then .before .is-message in
+    c .message-of4 .ensures ∙ rw (
+      c .before .before .on-request2 .ensures,
+      c .before .word-at2 .ensures,
+      sym (is-message .ensures) ∙ if1 .left,
+      sym (is-message2 .ensures) ∙ if2 .left,
+      sym (is-message3 .ensures) ∙ if3 .left,
+      sym (is-message4 .ensures) ∙ if4 .taken,
+    )
 
 slice-aggregate-message-of-3 : tie.Need-slice-aggregate-message-of-3
 slice-aggregate-message-of-3 c = search needs
@@ -89,7 +130,20 @@ message-of-requires-5 c κs = search needs
 
 returns-5 : tie.Need-returns-5
 unfolding messageOf
-returns-5 c = c .message-of5 .ensures ∙ rw (sym (c .before .before .before .before .before .before .before .before .before .before .before .before .is-message .ensures) ∙ c .before .before .before .before .before .before .before .before .before .before .before .if1 .left, sym (c .before .before .before .before .before .before .before .before .before .is-message2 .ensures) ∙ c .before .before .before .before .before .before .before .before .if2 .left, sym (c .before .before .before .before .before .before .is-message3 .ensures) ∙ c .before .before .before .before .before .if3 .left, sym (c .before .before .before .is-message4 .ensures) ∙ c .before .before .if4 .left)
+returns-5 c =
+    let then = c .before .before .before in let is-message4 = then .is-message4 in
+    let then = then .before .before in let if3 = then .if3 in
+    let then = then .before in let is-message3 = then .is-message3 in
+    let then = then .before .before in let if2 = then .if2 in
+    let then = then .before in let is-message2 = then .is-message2 in
+    let then = then .before .before in let if1 = then .if1 in
+    let is-message = then .before .is-message in
+    c .message-of5 .ensures ∙ rw (
+      sym (is-message .ensures) ∙ if1 .left,
+      sym (is-message2 .ensures) ∙ if2 .left,
+      sym (is-message3 .ensures) ∙ if3 .left,
+      sym (is-message4 .ensures) ∙ c .before .before .if4 .left,
+    )
 
 pub read-spec : {M : Type 1} → statement M
 read-spec =

@@ -28,13 +28,22 @@ shared-slice-read-n : tie.Need-shared-slice-read-n Inv-loop μ-loop
 shared-slice-read-n c = search needs
 
 sub-n : tie.Need-sub-n Inv-loop μ-loop
-sub-n c = let d = (digit-at (c .before .before .before .args .digits .now) (c .before .before .loop .i) (c .before .before .before .pre) (c .before .loop-test .taken)) in omega arith
+sub-n c =
+    let then = c .before .before .before in let args = then .args in let pre = then .pre in
+    let d = (digit-at (args .digits .now) (c .before .before .loop .i) pre (c .before .loop-test .taken)) in
+    omega arith
 
 add-n : tie.Need-add-n Inv-loop μ-loop
-add-n c = let d = (digit-at (c .before .before .before .args .digits .now) (c .before .before .loop .i) (c .before .before .before .pre) (c .before .loop-test .taken)) in omega arith
+add-n c =
+    let then = c .before .before .before in let args = then .args in let pre = then .pre in
+    let d = (digit-at (args .digits .now) (c .before .before .loop .i) pre (c .before .loop-test .taken)) in
+    omega arith
 
 returns : tie.Need-returns Inv-loop μ-loop
-returns c = value-over (c .before .before .before .before .args .digits .now) (c .before .before .before .loop .i) (c .before .before .before .loop .n) (c .before .before .before .loop .inv .1) (c .before .before .loop-test .taken) (c .if1 .taken)
+returns c =
+    let then = c .before .before .before in let loop = then .loop in
+    let args = then .before .args in
+    value-over (args .digits .now) (loop .i) (loop .n) (loop .inv .1) (c .before .before .loop-test .taken) (c .if1 .taken)
 
 add-i : tie.Need-add-i Inv-loop μ-loop
 add-i c = search needs
@@ -43,10 +52,16 @@ loop-less : tie.Need-loop-less Inv-loop μ-loop
 loop-less c = search needs
 
 loop-again : tie.Need-loop-again Inv-loop μ-loop
-loop-again c = ((omega arith, omega arith), value-on (c .before .before .before .before .args .digits .now) (c .before .before .before .loop .i) (c .before .before .before .loop .n) (c .before .before .before .loop .inv .1) (c .before .before .loop-test .taken))
+loop-again c =
+    let then = c .before .before .before in let loop = then .loop in
+    let args = then .before .args in
+    ((omega arith, omega arith), value-on (args .digits .now) (loop .i) (loop .n) (loop .inv .1) (c .before .before .loop-test .taken))
 
 returns-2 : tie.Need-returns-2 Inv-loop μ-loop
-returns-2 c = let e = sym (value-end (c .before .before .args .digits .now) (c .before .loop .i) (c .before .loop .n) (c .loop-test .left)) ∙ c .before .loop .inv .1 in omega arith
+returns-2 c =
+    let loop = c .before .loop in
+    let e = sym (value-end (c .before .before .args .digits .now) (loop .i) (loop .n) (c .loop-test .left)) ∙ loop .inv .1 in
+    omega arith
 
 pub small-value-spec : {M : Type 1} → statement M
 small-value-spec =

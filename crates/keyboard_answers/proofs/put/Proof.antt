@@ -12,7 +12,9 @@ put-told-requires : tie.Need-put-told-requires
 put-told-requires c κs = search needs
 
 returns : tie.Need-returns
-returns c = answer-whole (c .before .before .before .before .args .asks) (c .before .before .before .before .args .told) (search needs) (andThen (c .before .before .put-mc .ensures) (c .put-told .ensures))
+returns c =
+    let args = c .before .before .before .before .args in
+    answer-whole (args .asks) (args .told) (search needs) (andThen (c .before .before .put-mc .ensures) (c .put-told .ensures))
 
 pub put-spec : {M : Type 1} → statement M
 put-spec = tie.close (tie.spec put-mc-requires put-told-requires returns)

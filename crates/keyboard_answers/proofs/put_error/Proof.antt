@@ -20,7 +20,10 @@ same-length : tie.Need-same-length
 same-length c = search needs
 
 returns : tie.Need-returns
-returns c = andThen (c .before .before .before .before .before .before .before .before .before .before .before .put-byte .ensures) (andThen (c .before .before .before .before .before .before .before .put-decimal .ensures) (c .before .before .put-bytes .ensures))
+returns c =
+    let then = c .before .before .before .before .before .before .before in let put-decimal = then .put-decimal in
+    let put-byte = then .before .before .before .before .put-byte in
+    andThen (put-byte .ensures) (andThen (put-decimal .ensures) (c .before .before .put-bytes .ensures))
 
 pub put-error-spec : {M : Type 1} → statement M
 put-error-spec =

@@ -55,7 +55,10 @@ same-length-3 : tie.Need-same-length-3
 same-length-3 c = search needs
 
 returns-3 : tie.Need-returns-3
-returns-3 c = rw (c .before .before .before .before .before .before .asks2 .given .1, ← c .before .before .before .mark-word .ensures) (c .before .before .put-word2 .ensures)
+returns-3 c =
+    let then = c .before .before .before in let mark-word = then .mark-word in
+    let asks2 = then .before .before .before .asks2 in
+    rw (asks2 .given .1, ← mark-word .ensures) (c .before .before .put-word2 .ensures)
 
 same-length-4 : tie.Need-same-length-4
 same-length-4 c = search needs

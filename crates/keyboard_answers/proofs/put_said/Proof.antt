@@ -76,7 +76,10 @@ same-length-5 : tie.Need-same-length-5
 same-length-5 c = search needs
 
 returns-5 : tie.Need-returns-5
-returns-5 c = rw (c .before .before .before .before .before .before .answer .given .1, ← c .before .before .before .shown-number .ensures) (c .before .before .put-error .ensures)
+returns-5 c =
+    let then = c .before .before .before in let shown-number = then .shown-number in
+    let answer = then .before .before .before .answer in
+    rw (answer .given .1, ← shown-number .ensures) (c .before .before .put-error .ensures)
 
 pub put-said-spec : {M : Type 1} → statement M
 put-said-spec =

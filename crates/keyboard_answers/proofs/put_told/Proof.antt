@@ -28,7 +28,10 @@ same-length-2 : tie.Need-same-length-2
 same-length-2 c = search needs
 
 returns-2 : tie.Need-returns-2
-returns-2 c = rw (c .before .before .before .before .before .before .told2 .given .1, ← c .before .before .before .number-of .ensures) (c .before .before .put-error .ensures)
+returns-2 c =
+    let then = c .before .before .before in let number-of = then .number-of in
+    let told2 = then .before .before .before .told2 in
+    rw (told2 .given .1, ← number-of .ensures) (c .before .before .put-error .ensures)
 
 pub put-told-spec : {M : Type 1} → statement M
 put-told-spec =

@@ -12,7 +12,9 @@ use Rattle.line_words.proofs.fits.Statement.{statement}
 use Rattle.line_words.proofs.fits.Tie as tie
 
 abbrev Inv-loop : tie.InvT-loop
-Inv-loop line form at₀ on₀ at on = ((at ≤ length line) × (on ≤ length form)) × (fitting (wordsOf (drop on form)) (wordsOf (drop at line)) ≡ fitting (wordsOf form) (wordsOf line))
+Inv-loop line form at₀ on₀ at on =
+    ((at ≤ length line) × (on ≤ length form))
+    × (fitting (wordsOf (drop on form)) (wordsOf (drop at line)) ≡ fitting (wordsOf form) (wordsOf line))
 
 abbrev μ-loop : tie.MeasureT-loop
 μ-loop line form at₀ on₀ at on = length line - at
@@ -33,7 +35,11 @@ until-requires : tie.Need-until-requires Inv-loop μ-loop
 until-requires c κs = search needs
 
 add-end : tie.Need-add-end Inv-loop μ-loop
-add-end c = let w = (word (c .before .before .before .before .before .args .line .now) (c .before .before .loop .at) (c .before .before .loop .inv .0 .0) (c .until .result) (c .until .ensures)) in omega arith
+add-end c =
+    let then = c .before .before in let loop = then .loop in
+    let args = then .before .before .before .args in
+    let w = (word (args .line .now) (loop .at) (loop .inv .0 .0) (c .until .result) (c .until .ensures)) in
+    omega arith
 
 sub-until-2 : tie.Need-sub-until-2 Inv-loop μ-loop
 sub-until-2 c = search needs
@@ -48,7 +54,11 @@ until-requires-2 : tie.Need-until-requires-2 Inv-loop μ-loop
 until-requires-2 c κs = search needs
 
 add-stop : tie.Need-add-stop Inv-loop μ-loop
-add-stop c = let f = (word (c .before .before .before .before .before .before .before .args .form .now) (c .before .before .before .before .loop .on) (c .before .before .before .before .loop .inv .0 .1) (c .until2 .result) (c .until2 .ensures)) in omega arith
+add-stop c =
+    let then = c .before .before .before .before in let loop = then .loop in
+    let args = then .before .before .before .args in
+    let f = (word (args .form .now) (loop .on) (loop .inv .0 .1) (c .until2 .result) (c .until2 .ensures)) in
+    omega arith
 
 sub-word-fits : tie.Need-sub-word-fits Inv-loop μ-loop
 sub-word-fits c = search needs
@@ -57,7 +67,12 @@ part-word-fits-start : tie.Need-part-word-fits-start Inv-loop μ-loop
 part-word-fits-start c = search needs
 
 part-word-fits-end : tie.Need-part-word-fits-end Inv-loop μ-loop
-part-word-fits-end c = let w = (word (c .before .before .before .before .before .before .before .args .line .now) (c .before .before .before .before .loop .at) (c .before .before .before .before .loop .inv .0 .0) (c .before .before .until .result) (c .before .before .until .ensures)) in omega arith
+part-word-fits-end c =
+    let then = c .before .before in let until = then .until in
+    let then = then .before .before in let loop = then .loop in
+    let args = then .before .before .before .args in
+    let w = (word (args .line .now) (loop .at) (loop .inv .0 .0) (until .result) (until .ensures)) in
+    omega arith
 
 sub-word-fits-2 : tie.Need-sub-word-fits-2 Inv-loop μ-loop
 sub-word-fits-2 c = search needs
@@ -66,31 +81,91 @@ part-word-fits-start-2 : tie.Need-part-word-fits-start-2 Inv-loop μ-loop
 part-word-fits-start-2 c = search needs
 
 part-word-fits-end-2 : tie.Need-part-word-fits-end-2 Inv-loop μ-loop
-part-word-fits-end-2 c = let f = (word (c .before .before .before .before .before .before .before .before .args .form .now) (c .before .before .before .before .before .loop .on) (c .before .before .before .before .before .loop .inv .0 .1) (c .before .until2 .result) (c .before .until2 .ensures)) in omega arith
+part-word-fits-end-2 c =
+    let then = c .before in let until2 = then .until2 in
+    let then = then .before .before .before .before in let loop = then .loop in
+    let args = then .before .before .before .args in
+    let f = (word (args .form .now) (loop .on) (loop .inv .0 .1) (until2 .result) (until2 .ensures)) in
+    omega arith
 
 word-fits-requires : tie.Need-word-fits-requires Inv-loop μ-loop
 word-fits-requires c κs = search needs
 
 returns : tie.Need-returns Inv-loop μ-loop
-returns c = fit-not (c .before .before .before .before .before .before .before .before .before .before .before .args .line .now) (c .before .before .before .before .before .before .before .before .before .before .before .args .form .now) (c .before .before .before .before .before .before .before .before .loop .at) (c .before .before .before .before .before .before .until .result) (c .before .before .before .before .before .before .before .before .loop .on) (c .before .before .before .before .until2 .result) (word (c .before .before .before .before .before .before .before .before .before .before .before .args .line .now) (c .before .before .before .before .before .before .before .before .loop .at) (c .before .before .before .before .before .before .before .before .loop .inv .0 .0) (c .before .before .before .before .before .before .until .result) (c .before .before .before .before .before .before .until .ensures)) (word (c .before .before .before .before .before .before .before .before .before .before .before .args .form .now) (c .before .before .before .before .before .before .before .before .loop .on) (c .before .before .before .before .before .before .before .before .loop .inv .0 .1) (c .before .before .before .before .until2 .result) (c .before .before .before .before .until2 .ensures)) (sym (c .before .word-fits .ensures) ∙ not-true _ (c .if1 .taken)) ∙ c .before .before .before .before .before .before .before .before .loop .inv .1
+returns c =
+    let then = c .before .before .before .before in let until2 = then .until2 in
+    let then = then .before .before in let until = then .until in
+    let then = then .before .before in let loop = then .loop in
+    let args = then .before .before .before .args in
+    fit-not (args .line .now) (args .form .now) (loop .at) (until .result) (loop .on) (until2 .result)
+    (word (args .line .now) (loop .at) (loop .inv .0 .0) (until .result) (until .ensures))
+    (word (args .form .now) (loop .on) (loop .inv .0 .1) (until2 .result) (until2 .ensures))
+    (sym (c .before .word-fits .ensures) ∙ not-true _ (c .if1 .taken))
+    ∙ loop .inv .1
 
 returns-2 : tie.Need-returns-2 Inv-loop μ-loop
-returns-2 c = fit-last (c .before .before .before .before .before .before .before .before .before .before .before .before .args .line .now) (c .before .before .before .before .before .before .before .before .before .before .before .before .args .form .now) (c .before .before .before .before .before .before .before .before .before .loop .at) (c .before .before .before .before .before .before .before .until .result) (c .before .before .before .before .before .before .before .before .before .loop .on) (c .before .before .before .before .before .until2 .result) (word (c .before .before .before .before .before .before .before .before .before .before .before .before .args .line .now) (c .before .before .before .before .before .before .before .before .before .loop .at) (c .before .before .before .before .before .before .before .before .before .loop .inv .0 .0) (c .before .before .before .before .before .before .before .until .result) (c .before .before .before .before .before .before .before .until .ensures)) (word (c .before .before .before .before .before .before .before .before .before .before .before .before .args .form .now) (c .before .before .before .before .before .before .before .before .before .loop .on) (c .before .before .before .before .before .before .before .before .before .loop .inv .0 .1) (c .before .before .before .before .before .until2 .result) (c .before .before .before .before .before .until2 .ensures)) (sym (c .before .before .word-fits .ensures) ∙ not-false _ (c .before .if1 .left)) (c .if2 .taken) ∙ c .before .before .before .before .before .before .before .before .before .loop .inv .1
+returns-2 c =
+    let then = c .before .before .before .before .before in let until2 = then .until2 in
+    let then = then .before .before in let until = then .until in
+    let then = then .before .before in let loop = then .loop in
+    let args = then .before .before .before .args in
+    fit-last (args .line .now) (args .form .now) (loop .at) (until .result) (loop .on) (until2 .result)
+    (word (args .line .now) (loop .at) (loop .inv .0 .0) (until .result) (until .ensures))
+    (word (args .form .now) (loop .on) (loop .inv .0 .1) (until2 .result) (until2 .ensures))
+    (sym (c .before .before .word-fits .ensures) ∙ not-false _ (c .before .if1 .left)) (c .if2 .taken)
+    ∙ loop .inv .1
 
 returns-3 : tie.Need-returns-3 Inv-loop μ-loop
-returns-3 c = fit-short (c .before .before .before .before .before .before .before .before .before .before .before .before .before .args .line .now) (c .before .before .before .before .before .before .before .before .before .before .before .before .before .args .form .now) (c .before .before .before .before .before .before .before .before .before .before .loop .at) (c .before .before .before .before .before .before .before .before .until .result) (c .before .before .before .before .before .before .before .before .before .before .loop .on) (c .before .before .before .before .before .before .until2 .result) (word (c .before .before .before .before .before .before .before .before .before .before .before .before .before .args .line .now) (c .before .before .before .before .before .before .before .before .before .before .loop .at) (c .before .before .before .before .before .before .before .before .before .before .loop .inv .0 .0) (c .before .before .before .before .before .before .before .before .until .result) (c .before .before .before .before .before .before .before .before .until .ensures)) (word (c .before .before .before .before .before .before .before .before .before .before .before .before .before .args .form .now) (c .before .before .before .before .before .before .before .before .before .before .loop .on) (c .before .before .before .before .before .before .before .before .before .before .loop .inv .0 .1) (c .before .before .before .before .before .before .until2 .result) (c .before .before .before .before .before .before .until2 .ensures)) (sym (c .before .before .before .word-fits .ensures) ∙ not-false _ (c .before .before .if1 .left)) (c .before .if2 .left) (c .if3 .taken) ∙ c .before .before .before .before .before .before .before .before .before .before .loop .inv .1
+returns-3 c =
+    let then = c .before .before .before in let word-fits = then .word-fits in
+    let then = then .before .before .before in let until2 = then .until2 in
+    let then = then .before .before in let until = then .until in
+    let then = then .before .before in let loop = then .loop in
+    let args = then .before .before .before .args in
+    fit-short (args .line .now) (args .form .now) (loop .at) (until .result) (loop .on) (until2 .result)
+    (word (args .line .now) (loop .at) (loop .inv .0 .0) (until .result) (until .ensures))
+    (word (args .form .now) (loop .on) (loop .inv .0 .1) (until2 .result) (until2 .ensures))
+    (sym (word-fits .ensures) ∙ not-false _ (c .before .before .if1 .left)) (c .before .if2 .left) (c .if3 .taken)
+    ∙ loop .inv .1
 
 add-at : tie.Need-add-at Inv-loop μ-loop
-add-at c = let w = (word (c .before .before .before .before .before .before .before .before .before .before .before .before .before .args .line .now) (c .before .before .before .before .before .before .before .before .before .before .loop .at) (c .before .before .before .before .before .before .before .before .before .before .loop .inv .0 .0) (c .before .before .before .before .before .before .before .before .until .result) (c .before .before .before .before .before .before .before .before .until .ensures)) in omega arith
+add-at c =
+    let then = c .before .before .before .before .before .before .before .before in let until = then .until in
+    let then = then .before .before in let loop = then .loop in
+    let args = then .before .before .before .args in
+    let w = (word (args .line .now) (loop .at) (loop .inv .0 .0) (until .result) (until .ensures)) in
+    omega arith
 
 add-on : tie.Need-add-on Inv-loop μ-loop
-add-on c = let f = (word (c .before .before .before .before .before .before .before .before .before .before .before .before .before .args .form .now) (c .before .before .before .before .before .before .before .before .before .before .loop .on) (c .before .before .before .before .before .before .before .before .before .before .loop .inv .0 .1) (c .before .before .before .before .before .before .until2 .result) (c .before .before .before .before .before .before .until2 .ensures)) in omega arith
+add-on c =
+    let then = c .before .before .before .before .before .before in let until2 = then .until2 in
+    let then = then .before .before .before .before in let loop = then .loop in
+    let args = then .before .before .before .args in
+    let f = (word (args .form .now) (loop .on) (loop .inv .0 .1) (until2 .result) (until2 .ensures)) in
+    omega arith
 
 loop-less : tie.Need-loop-less Inv-loop μ-loop
-loop-less c = let w = (word (c .before .before .before .before .before .before .before .before .before .before .before .before .before .args .line .now) (c .before .before .before .before .before .before .before .before .before .before .loop .at) (c .before .before .before .before .before .before .before .before .before .before .loop .inv .0 .0) (c .before .before .before .before .before .before .before .before .until .result) (c .before .before .before .before .before .before .before .before .until .ensures)) in omega arith
+loop-less c =
+    let then = c .before .before .before .before .before .before .before .before in let until = then .until in
+    let then = then .before .before in let loop = then .loop in
+    let args = then .before .before .before .args in
+    let w = (word (args .line .now) (loop .at) (loop .inv .0 .0) (until .result) (until .ensures)) in
+    omega arith
 
 loop-again : tie.Need-loop-again Inv-loop μ-loop
-loop-again c = let w = (word (c .before .before .before .before .before .before .before .before .before .before .before .before .before .args .line .now) (c .before .before .before .before .before .before .before .before .before .before .loop .at) (c .before .before .before .before .before .before .before .before .before .before .loop .inv .0 .0) (c .before .before .before .before .before .before .before .before .until .result) (c .before .before .before .before .before .before .before .before .until .ensures)) in let f = (word (c .before .before .before .before .before .before .before .before .before .before .before .before .before .args .form .now) (c .before .before .before .before .before .before .before .before .before .before .loop .on) (c .before .before .before .before .before .before .before .before .before .before .loop .inv .0 .1) (c .before .before .before .before .before .before .until2 .result) (c .before .before .before .before .before .before .until2 .ensures)) in ((omega arith, omega arith), fit-more (c .before .before .before .before .before .before .before .before .before .before .before .before .before .args .line .now) (c .before .before .before .before .before .before .before .before .before .before .before .before .before .args .form .now) (c .before .before .before .before .before .before .before .before .before .before .loop .at) (c .before .before .before .before .before .before .before .before .until .result) (c .before .before .before .before .before .before .before .before .before .before .loop .on) (c .before .before .before .before .before .before .until2 .result) w f (sym (c .before .before .before .word-fits .ensures) ∙ not-false _ (c .before .before .if1 .left)) (c .before .if2 .left) (c .if3 .left) ∙ c .before .before .before .before .before .before .before .before .before .before .loop .inv .1)
+loop-again c =
+    let then = c .before .before .before in let word-fits = then .word-fits in
+    let then = then .before .before .before in let until2 = then .until2 in
+    let then = then .before .before in let until = then .until in
+    let then = then .before .before in let loop = then .loop in
+    let args = then .before .before .before .args in
+    let w = (word (args .line .now) (loop .at) (loop .inv .0 .0) (until .result) (until .ensures)) in
+    let f = (word (args .form .now) (loop .on) (loop .inv .0 .1) (until2 .result) (until2 .ensures)) in (
+      (omega arith, omega arith),
+      fit-more (args .line .now) (args .form .now) (loop .at) (until .result) (loop .on) (until2 .result) w f
+          (sym (word-fits .ensures) ∙ not-false _ (c .before .before .if1 .left)) (c .before .if2 .left) (c .if3 .left)
+          ∙ loop .inv .1,
+    )
 
 pub fits-spec : {M : Type 1} → statement M
 fits-spec =

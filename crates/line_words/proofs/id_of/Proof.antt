@@ -36,10 +36,17 @@ loop-less : tie.Need-loop-less Inv-loop μ-loop
 loop-less c = search needs
 
 loop-again : tie.Need-loop-again Inv-loop μ-loop
-loop-again c = ((omega arith, omega arith), rw (c .before .before .loop .inv .1) (id-step (c .before .before .before .before .args .word .now) (c .before .before .loop .i) (c .before .loop-test .taken)))
+loop-again c =
+    let then = c .before .before in let loop = then .loop in
+    let args = then .before .before .args in
+    ((omega arith, omega arith), rw (loop .inv .1) (id-step (args .word .now) (loop .i) (c .before .loop-test .taken)))
 
 returns-2 : tie.Need-returns-2 Inv-loop μ-loop
-returns-2 c = c .before .loop .inv .1 ∙ ap (padded 6) (take-all (c .before .loop .i) (c .before .before .before .args .word .now) (c .loop-test .left)) ∙ sym (id-short (c .before .before .before .args .word .now) (c .before .before .if1 .left))
+returns-2 c =
+    let then = c .before in let loop = then .loop in
+    let args = then .before .before .args in
+    loop .inv .1 ∙ ap (padded 6) (take-all (loop .i) (args .word .now) (c .loop-test .left))
+    ∙ sym (id-short (args .word .now) (c .before .before .if1 .left))
 
 pub id-of-spec : {M : Type 1} → statement M
 id-of-spec =

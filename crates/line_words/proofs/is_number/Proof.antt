@@ -12,7 +12,9 @@ returns : tie.Need-returns
 returns c = sym (number-short (c .before .before .args .base) (c .before .before .args .word .now) (c .if1 .taken))
 
 returns-2 : tie.Need-returns-2
-returns-2 c = sym (number-long (c .before .before .before .args .base) (c .before .before .before .args .word .now) (c .if2 .taken))
+returns-2 c =
+    let args = c .before .before .before .args in
+    sym (number-long (args .base) (args .word .now) (c .if2 .taken))
 
 enum-told : tie.Need-enum-told
 enum-told c = search needs
@@ -33,10 +35,20 @@ all-in-requires-2 : tie.Need-all-in-requires-2
 all-in-requires-2 c κs = search needs
 
 returns-3 : tie.Need-returns-3
-returns-3 c = c .all-in .ensures ∙ sym (number-digits (c .before .before .before .before .before .before .before .args .base) (c .before .before .before .before .before .before .before .args .word .now) (c .before .before .before .before .before .if1 .left) (c .before .before .before .before .if2 .left) ∙ ap (λ (b : Base). every (has (digits b)) (c .before .before .before .before .before .before .before .args .word .now)) (c .before .before .enum-told .given .1))
+returns-3 c =
+    let then = c .before .before .before .before in let if2 = then .if2 in
+    let then = then .before in let if1 = then .if1 in
+    let args = then .before .before .args in
+    c .all-in .ensures ∙ sym (number-digits (args .base) (args .word .now) (if1 .left) (if2 .left)
+    ∙ ap (λ (b : Base). every (has (digits b)) (args .word .now)) (c .before .before .enum-told .given .1))
 
 returns-4 : tie.Need-returns-4
-returns-4 c = c .all-in2 .ensures ∙ sym (number-digits (c .before .before .before .before .before .before .before .args .base) (c .before .before .before .before .before .before .before .args .word .now) (c .before .before .before .before .before .if1 .left) (c .before .before .before .before .if2 .left) ∙ ap (λ (b : Base). every (has (digits b)) (c .before .before .before .before .before .before .before .args .word .now)) (c .before .before .enum-told2 .given .1))
+returns-4 c =
+    let then = c .before .before .before .before in let if2 = then .if2 in
+    let then = then .before in let if1 = then .if1 in
+    let args = then .before .before .args in
+    c .all-in2 .ensures ∙ sym (number-digits (args .base) (args .word .now) (if1 .left) (if2 .left)
+    ∙ ap (λ (b : Base). every (has (digits b)) (args .word .now)) (c .before .before .enum-told2 .given .1))
 
 pub is-number-spec : {M : Type 1} → statement M
 is-number-spec =

@@ -21,19 +21,31 @@ loop-holds : tie.Need-loop-holds Inv-loop μ-loop
 loop-holds c = search needs
 
 mul-n : tie.Need-mul-n Inv-loop μ-loop
-mul-n c = omega (arith, times (c .before .loop .n) (c .before .before .args .base) (c .before .before .pre .0), tens-nine (c .before .loop .i) 8 (omega arith))
+mul-n c =
+    let loop = c .before .loop in
+    omega (arith, times (loop .n) (c .before .before .args .base) (c .before .before .pre .0), tens-nine (loop .i) 8 (omega arith))
 
 shared-slice-read-n : tie.Need-shared-slice-read-n Inv-loop μ-loop
 shared-slice-read-n c = search needs
 
 sub-n : tie.Need-sub-n Inv-loop μ-loop
-sub-n c = let d = digit-at (c .before .before .before .args .word .now) (c .before .before .loop .i) (c .before .before .before .pre .1 .1) (c .before .loop-test .taken) in omega arith
+sub-n c =
+    let then = c .before .before .before in let args = then .args in let pre = then .pre in
+    let d = digit-at (args .word .now) (c .before .before .loop .i) (pre .1 .1) (c .before .loop-test .taken) in
+    omega arith
 
 cast-n : tie.Need-cast-n Inv-loop μ-loop
-cast-n c = let d = digit-at (c .before .before .before .args .word .now) (c .before .before .loop .i) (c .before .before .before .pre .1 .1) (c .before .loop-test .taken) in omega arith
+cast-n c =
+    let then = c .before .before .before in let args = then .args in let pre = then .pre in
+    let d = digit-at (args .word .now) (c .before .before .loop .i) (pre .1 .1) (c .before .loop-test .taken) in
+    omega arith
 
 add-n : tie.Need-add-n Inv-loop μ-loop
-add-n c = let d = digit-at (c .before .before .before .args .word .now) (c .before .before .loop .i) (c .before .before .before .pre .1 .1) (c .before .loop-test .taken) in omega (arith, times (c .before .before .loop .n) (c .before .before .before .args .base) (c .before .before .before .pre .0), tens-nine (c .before .before .loop .i) 8 (omega arith))
+add-n c =
+    let then = c .before .before in let loop = then .loop in
+    let then = then .before in let args = then .args in let pre = then .pre in
+    let d = digit-at (args .word .now) (loop .i) (pre .1 .1) (c .before .loop-test .taken) in
+    omega (arith, times (loop .n) (args .base) (pre .0), tens-nine (loop .i) 8 (omega arith))
 
 add-i : tie.Need-add-i Inv-loop μ-loop
 add-i c = search needs
@@ -42,10 +54,20 @@ loop-less : tie.Need-loop-less Inv-loop μ-loop
 loop-less c = search needs
 
 loop-again : tie.Need-loop-again Inv-loop μ-loop
-loop-again c = let d = digit-at (c .before .before .before .args .word .now) (c .before .before .loop .i) (c .before .before .before .pre .1 .1) (c .before .loop-test .taken) in ((omega arith, value-small (c .before .before .loop .n) (c .before .before .before .args .base) (getD (c .before .before .before .args .word .now) (c .before .before .loop .i) 0 - 48) (c .before .before .loop .i) (c .before .before .before .pre .0) (omega arith) (omega arith)), sym (value-step (c .before .before .before .args .base) (c .before .before .before .args .word .now) (c .before .before .loop .i) (c .before .before .loop .n) (c .before .loop-test .taken)) ∙ c .before .before .loop .inv .1)
+loop-again c =
+    let then = c .before in let loop-test = then .loop-test in
+    let then = then .before in let loop = then .loop in
+    let then = then .before in let args = then .args in let pre = then .pre in
+    let d = digit-at (args .word .now) (loop .i) (pre .1 .1) (loop-test .taken) in (
+      (omega arith, value-small (loop .n) (args .base) (getD (args .word .now) (loop .i) 0 - 48) (loop .i) (pre .0) (omega arith) (omega arith)),
+      sym (value-step (args .base) (args .word .now) (loop .i) (loop .n) (loop-test .taken)) ∙ loop .inv .1,
+    )
 
 returns : tie.Need-returns Inv-loop μ-loop
-returns c = sym (value-end (c .before .before .args .base) (c .before .before .args .word .now) (c .before .loop .i) (c .before .loop .n) (c .loop-test .left)) ∙ c .before .loop .inv .1
+returns c =
+    let then = c .before in let loop = then .loop in
+    let args = then .before .args in
+    sym (value-end (args .base) (args .word .now) (loop .i) (loop .n) (c .loop-test .left)) ∙ loop .inv .1
 
 pub value-of-spec : {M : Type 1} → statement M
 value-of-spec =

@@ -16,7 +16,11 @@ is-same-requires : tie.Need-is-same-requires
 is-same-requires c κs = search needs
 
 returns : tie.Need-returns
-returns c = c .is-same .ensures ∙ fits-itself (c .before .before .before .before .before .before .args .form .now) (c .before .before .before .before .before .before .args .word .now) (sym (ap isLetter (c .before .before .before .byte-at .ensures)) ∙ sym (c .before .before .is-letter .ensures) ∙ c .before .if1 .taken)
+returns c =
+    let then = c .before .before .before in let byte-at = then .byte-at in
+    let args = then .before .before .before .args in
+    c .is-same .ensures ∙ fits-itself (args .form .now) (args .word .now)
+    (sym (ap isLetter (byte-at .ensures)) ∙ sym (c .before .before .is-letter .ensures) ∙ c .before .if1 .taken)
 
 slice-aggregate-is-same : tie.Need-slice-aggregate-is-same
 slice-aggregate-is-same c = search needs
@@ -28,7 +32,14 @@ is-number-requires : tie.Need-is-number-requires
 is-number-requires c κs = search needs
 
 returns-2 : tie.Need-returns-2
-returns-2 c = c .is-number .ensures ∙ fits-octal (c .before .before .before .before .before .before .before .before .before .args .form .now) (c .before .before .before .before .before .before .before .before .before .args .word .now) (sym (ap isLetter (c .before .before .before .before .before .before .byte-at .ensures)) ∙ sym (c .before .before .before .before .before .is-letter .ensures) ∙ c .before .before .before .before .if1 .left) (sym (c .before .before .is-same2 .ensures) ∙ c .before .if2 .taken)
+returns-2 c =
+    let then = c .before .before .before .before in let if1 = then .if1 in
+    let then = then .before in let is-letter = then .is-letter in
+    let then = then .before in let byte-at = then .byte-at in
+    let args = then .before .before .before .args in
+    c .is-number .ensures ∙ fits-octal (args .form .now) (args .word .now)
+    (sym (ap isLetter (byte-at .ensures)) ∙ sym (is-letter .ensures) ∙ if1 .left)
+    (sym (c .before .before .is-same2 .ensures) ∙ c .before .if2 .taken)
 
 slice-aggregate-is-same-2 : tie.Need-slice-aggregate-is-same-2
 slice-aggregate-is-same-2 c = search needs
@@ -37,13 +48,30 @@ is-same-requires-3 : tie.Need-is-same-requires-3
 is-same-requires-3 c κs = search needs
 
 returns-3 : tie.Need-returns-3
-returns-3 c = fits-id (c .before .before .before .before .before .before .before .before .before .before .before .args .form .now) (c .before .before .before .before .before .before .before .before .before .before .before .args .word .now) (sym (ap isLetter (c .before .before .before .before .before .before .before .before .byte-at .ensures)) ∙ sym (c .before .before .before .before .before .before .before .is-letter .ensures) ∙ c .before .before .before .before .before .before .if1 .left) (sym (c .before .before .before .before .is-same2 .ensures) ∙ c .before .before .before .if2 .left) (sym (c .before .is-same3 .ensures) ∙ c .if3 .taken)
+returns-3 c =
+    let then = c .before .before .before in let if2 = then .if2 in
+    let then = then .before in let is-same2 = then .is-same2 in
+    let then = then .before .before in let if1 = then .if1 in
+    let then = then .before in let is-letter = then .is-letter in
+    let then = then .before in let byte-at = then .byte-at in
+    let args = then .before .before .before .args in
+    fits-id (args .form .now) (args .word .now) (sym (ap isLetter (byte-at .ensures)) ∙ sym (is-letter .ensures) ∙ if1 .left)
+    (sym (is-same2 .ensures) ∙ if2 .left) (sym (c .before .is-same3 .ensures) ∙ c .if3 .taken)
 
 is-number-requires-2 : tie.Need-is-number-requires-2
 is-number-requires-2 c κs = search needs
 
 returns-4 : tie.Need-returns-4
-returns-4 c = c .is-number2 .ensures ∙ fits-decimal (c .before .before .before .before .before .before .before .before .before .before .before .before .args .form .now) (c .before .before .before .before .before .before .before .before .before .before .before .before .args .word .now) (sym (ap isLetter (c .before .before .before .before .before .before .before .before .before .byte-at .ensures)) ∙ sym (c .before .before .before .before .before .before .before .before .is-letter .ensures) ∙ c .before .before .before .before .before .before .before .if1 .left) (sym (c .before .before .before .before .before .is-same2 .ensures) ∙ c .before .before .before .before .if2 .left) (sym (c .before .before .is-same3 .ensures) ∙ c .before .if3 .left)
+returns-4 c =
+    let then = c .before .before .before .before in let if2 = then .if2 in
+    let then = then .before in let is-same2 = then .is-same2 in
+    let then = then .before .before in let if1 = then .if1 in
+    let then = then .before in let is-letter = then .is-letter in
+    let then = then .before in let byte-at = then .byte-at in
+    let args = then .before .before .before .args in
+    c .is-number2 .ensures ∙ fits-decimal (args .form .now) (args .word .now)
+    (sym (ap isLetter (byte-at .ensures)) ∙ sym (is-letter .ensures) ∙ if1 .left) (sym (is-same2 .ensures) ∙ if2 .left)
+    (sym (c .before .before .is-same3 .ensures) ∙ c .before .if3 .left)
 
 pub word-fits-spec : {M : Type 1} → statement M
 word-fits-spec =

@@ -85,24 +85,61 @@ units-of-requires : tie.Need-units-of-requires
 units-of-requires c κs = search needs
 
 returns : tie.Need-returns
-returns c = let a = c .before .before .before .before .before .before .before .before .before .before .before .before .args in
+returns c =
+    let then = c .before .before .before in let of-complete = then .of-complete in
+    let then = then .before in let packet-in = then .packet-in in
+    let then = then .before .before .before in let packet-of = then .packet-of in
+    let then = then .before in let place-of = then .place-of in
+    let a = then .before .before .before .before .args in
     refused-is (a .lists) (Complete (a .channel .0) (a .how)) _
-    (complete-verdict (a .lists) (a .channel .0) (a .how) _ refl (c .before .before .before .before .before .before .before .before .place-of .result) (c .before .before .before .before .before .before .before .packet-of .result) (c .before .before .before .before .before .before .before .before .place-of .ensures) (c .before .before .before .before .before .before .before .packet-of .ensures) (c .before .before .before .before .packet-in .result) (c .before .before .before .before .packet-in .ensures) _ refl (c .before .before .before .of-complete .result) (c .before .before .before .of-complete .ensures) ∙ c .before .refusal .given .1)
+    (complete-verdict (a .lists) (a .channel .0) (a .how) _ refl (place-of .result) (packet-of .result) (place-of .ensures) (packet-of .ensures)
+    (packet-in .result) (packet-in .ensures) _ refl (of-complete .result) (of-complete .ensures)
+    ∙ c .before .refusal .given .1)
 
 returns-2 : tie.Need-returns-2
-returns-2 c = let a = c .before .before .before .before .before .before .before .before .before .before .before .before .before .before .before .before .before .before .before .before .before .before .before .before .before .args in
-    let full = entries (a .lists) _ (c .before .before .before .before .before .before .before .before .before .before .before .before .before .before .before .before .before .before .before .before .before .before .before .before .before .good .0) in
-    complete-is (a .lists) (a .channel .0) (a .how) _ refl (c .before .before .before .before .before .before .before .before .before .before .before .before .before .before .before .before .before .before .before .before .before .place-of .result) (c .before .before .before .before .before .before .before .before .before .before .before .before .before .before .before .before .before .before .before .before .packet-of .result) (c .before .before .before .before .before .before .before .before .before .before .before .before .before .before .before .before .before .before .before .before .before .place-of .ensures) (c .before .before .before .before .before .before .before .before .before .before .before .before .before .before .before .before .before .before .before .before .packet-of .ensures) (c .before .before .before .before .before .before .before .before .before .before .before .before .before .before .before .before .before .packet-in .result) (c .before .before .before .before .before .before .before .before .before .before .before .before .before .before .before .before .before .packet-in .ensures) (places (a .lists) _ (c .before .before .before .before .before .before .before .before .before .before .before .before .before .before .before .before .before .before .before .before .before .before .before .before .before .good .0))
-    (complete-verdict (a .lists) (a .channel .0) (a .how) _ refl (c .before .before .before .before .before .before .before .before .before .before .before .before .before .before .before .before .before .before .before .before .before .place-of .result) (c .before .before .before .before .before .before .before .before .before .before .before .before .before .before .before .before .before .before .before .before .packet-of .result) (c .before .before .before .before .before .before .before .before .before .before .before .before .before .before .before .before .before .before .before .before .before .place-of .ensures) (c .before .before .before .before .before .before .before .before .before .before .before .before .before .before .before .before .before .before .before .before .packet-of .ensures) (c .before .before .before .before .before .before .before .before .before .before .before .before .before .before .before .before .before .packet-in .result) (c .before .before .before .before .before .before .before .before .before .before .before .before .before .before .before .before .before .packet-in .ensures) _ refl (c .before .before .before .before .before .before .before .before .before .before .before .before .before .before .before .before .of-complete .result) (c .before .before .before .before .before .before .before .before .before .before .before .before .before .before .before .before .of-complete .ensures) ∙ c .before .before .before .before .before .before .before .before .before .before .before .before .before .before .enum-told .given .1)
-    (c .before .before .before .before .before .before .before .before .before .before .before .before .before .idle .result) (c .before .before .before .before .before .before .before .before .before .before .before .before .before .idle .ensures) (c .before .before .before .before .before .before .before .before .before .before .before .is-breaking .result) (c .before .before .before .before .before .before .before .before .before .before .before .is-breaking .ensures) (c .before .before .before .before .before .before .before .before .before .before .over .result) (c .before .before .before .before .before .before .before .before .before .before .over .ensures) (c .before .before .before .before .before .relisted .result) (relisted-is (a .lists) full _ _ _ (c .before .before .before .before .before .relisted .ensures)) (c .units-of .result) (c .units-of .ensures)
+returns-2 c =
+    let then = c .before .before .before .before .before in let relisted = then .relisted in
+    let then = then .before .before .before .before .before in let over = then .over in
+    let then = then .before in let is-breaking = then .is-breaking in
+    let then = then .before .before in let idle = then .idle in
+    let then = then .before in let enum-told = then .enum-told in
+    let then = then .before .before in let of-complete = then .of-complete in
+    let then = then .before in let packet-in = then .packet-in in
+    let then = then .before .before .before in let packet-of = then .packet-of in
+    let then = then .before in let place-of = then .place-of in
+    let then = then .before .before .before .before in let a = then .args in let good = then .good in
+    let full = entries (a .lists) _ (good .0) in
+    complete-is (a .lists) (a .channel .0) (a .how) _ refl (place-of .result) (packet-of .result) (place-of .ensures) (packet-of .ensures)
+    (packet-in .result) (packet-in .ensures) (places (a .lists) _ (good .0))
+    (complete-verdict (a .lists) (a .channel .0) (a .how) _ refl (place-of .result) (packet-of .result) (place-of .ensures) (packet-of .ensures)
+    (packet-in .result) (packet-in .ensures) _ refl (of-complete .result) (of-complete .ensures)
+    ∙ enum-told .given .1)
+    (idle .result) (idle .ensures) (is-breaking .result) (is-breaking .ensures) (over .result) (over .ensures) (relisted .result)
+    (relisted-is (a .lists) full _ _ _ (relisted .ensures)) (c .units-of .result) (c .units-of .ensures)
 
 returns-3 : tie.Need-returns-3
-returns-3 c = let a = c .before .before .before .before .before .before .before .before .before .before .before .before .before .before .before .before .before .before .before .before .before .before .before .before .args in
-    let full = entries (a .lists) _ (c .before .before .before .before .before .before .before .before .before .before .before .before .before .before .before .before .before .before .before .before .before .before .before .before .good .0) in
-    complete-is (a .lists) (a .channel .0) (a .how) _ refl (c .before .before .before .before .before .before .before .before .before .before .before .before .before .before .before .before .before .before .before .before .place-of .result) (c .before .before .before .before .before .before .before .before .before .before .before .before .before .before .before .before .before .before .before .packet-of .result) (c .before .before .before .before .before .before .before .before .before .before .before .before .before .before .before .before .before .before .before .before .place-of .ensures) (c .before .before .before .before .before .before .before .before .before .before .before .before .before .before .before .before .before .before .before .packet-of .ensures) (c .before .before .before .before .before .before .before .before .before .before .before .before .before .before .before .before .packet-in .result) (c .before .before .before .before .before .before .before .before .before .before .before .before .before .before .before .before .packet-in .ensures) (places (a .lists) _ (c .before .before .before .before .before .before .before .before .before .before .before .before .before .before .before .before .before .before .before .before .before .before .before .before .good .0))
-    (complete-verdict (a .lists) (a .channel .0) (a .how) _ refl (c .before .before .before .before .before .before .before .before .before .before .before .before .before .before .before .before .before .before .before .before .place-of .result) (c .before .before .before .before .before .before .before .before .before .before .before .before .before .before .before .before .before .before .before .packet-of .result) (c .before .before .before .before .before .before .before .before .before .before .before .before .before .before .before .before .before .before .before .before .place-of .ensures) (c .before .before .before .before .before .before .before .before .before .before .before .before .before .before .before .before .before .before .before .packet-of .ensures) (c .before .before .before .before .before .before .before .before .before .before .before .before .before .before .before .before .packet-in .result) (c .before .before .before .before .before .before .before .before .before .before .before .before .before .before .before .before .packet-in .ensures) _ refl (c .before .before .before .before .before .before .before .before .before .before .before .before .before .before .before .of-complete .result) (c .before .before .before .before .before .before .before .before .before .before .before .before .before .before .before .of-complete .ensures) ∙ c .before .before .before .before .before .before .before .before .before .before .before .before .before .enum-told .given .1)
-    (c .before .before .before .before .before .before .before .before .before .before .before .before .idle .result) (c .before .before .before .before .before .before .before .before .before .before .before .before .idle .ensures) (c .before .before .before .before .before .before .before .before .before .before .is-breaking .result) (c .before .before .before .before .before .before .before .before .before .before .is-breaking .ensures) (c .before .before .before .before .before .before .before .before .before .over .result) (c .before .before .before .before .before .before .before .before .before .over .ensures) (c .before .before .before .before .relisted .result) (relisted-is (a .lists) full _ _ _ (c .before .before .before .before .relisted .ensures)) (a .lists .units)
-    (ap unitsFrom (unchanged (a .lists .units .of) (a .channel .0) (c .before .before .before .before .before .before .before .before .before .before .before .before .before .before .before .before .before .before .before .before .place-of .result) (c .before .before .before .before .before .before .before .before .before .before .before .before .before .before .before .before .packet-in .result .at) (c .before .before .unit-where .result) (c .before .before .unit-where .ensures) (c .before .before .before .before .before .before .before .before .before .before .is-breaking .result) (c .before .before .before .before .before .before .before .before .before .over .result .done) (sym (c .before .is-changing .ensures) ∙ c .if1 .left)))
+returns-3 c =
+    let then = c .before .before in let unit-where = then .unit-where in
+    let then = then .before .before in let relisted = then .relisted in
+    let then = then .before .before .before .before .before in let over = then .over in
+    let then = then .before in let is-breaking = then .is-breaking in
+    let then = then .before .before in let idle = then .idle in
+    let then = then .before in let enum-told = then .enum-told in
+    let then = then .before .before in let of-complete = then .of-complete in
+    let then = then .before in let packet-in = then .packet-in in
+    let then = then .before .before .before in let packet-of = then .packet-of in
+    let then = then .before in let place-of = then .place-of in
+    let then = then .before .before .before .before in let a = then .args in let good = then .good in
+    let full = entries (a .lists) _ (good .0) in
+    complete-is (a .lists) (a .channel .0) (a .how) _ refl (place-of .result) (packet-of .result) (place-of .ensures) (packet-of .ensures)
+    (packet-in .result) (packet-in .ensures) (places (a .lists) _ (good .0))
+    (complete-verdict (a .lists) (a .channel .0) (a .how) _ refl (place-of .result) (packet-of .result) (place-of .ensures) (packet-of .ensures)
+    (packet-in .result) (packet-in .ensures) _ refl (of-complete .result) (of-complete .ensures)
+    ∙ enum-told .given .1)
+    (idle .result) (idle .ensures) (is-breaking .result) (is-breaking .ensures) (over .result) (over .ensures) (relisted .result)
+    (relisted-is (a .lists) full _ _ _ (relisted .ensures)) (a .lists .units)
+    (ap unitsFrom (unchanged (a .lists .units .of) (a .channel .0) (place-of .result) (packet-in .result .at) (unit-where .result)
+    (unit-where .ensures) (is-breaking .result) (over .result .done) (sym (c .before .is-changing .ensures) ∙ c .if1 .left)))
 
 pub complete-spec : {M : Type 1} → statement M
 complete-spec =

@@ -41,20 +41,37 @@ released-requires : tie.Need-released-requires
 released-requires c κs = search needs
 
 returns : tie.Need-returns
-returns c = let a = c .before .before .before .before .before .args in
-    refused-is (a .lists) (End (a .place) (a .in-error)) _ (end-verdict (a .lists) (a .place) (a .in-error) (c .before .before .before .of-end .result) (c .before .before .before .of-end .ensures) ∙ c .before .refusal .given .1)
+returns c =
+    let then = c .before .before .before in let of-end = then .of-end in
+    let a = then .before .before .args in
+    refused-is (a .lists) (End (a .place) (a .in-error)) _
+    (end-verdict (a .lists) (a .place) (a .in-error) (of-end .result) (of-end .ensures) ∙ c .before .refusal .given .1)
 
 returns-2 : tie.Need-returns-2
-returns-2 c = let a = c .before .before .before .before .before .before .before .before .before .before .before .before .before .before .args in
-    let full = entries (a .lists) _ (c .before .before .before .before .before .before .before .before .before .before .before .before .before .before .good .0) in
-    end-is (a .lists) (a .place) (a .in-error) (places (a .lists) _ (c .before .before .before .before .before .before .before .before .before .before .before .before .before .before .good .0)) (end-verdict (a .lists) (a .place) (a .in-error) (c .before .before .before .before .before .before .before .before .before .before .before .before .of-end .result) (c .before .before .before .before .before .before .before .before .before .before .before .before .of-end .ensures) ∙ c .before .before .before .before .before .before .before .before .before .before .enum-told .given .1)
-    (c .before .before .before .before .before .before .before .before .closed .result) (c .before .before .before .before .before .before .before .before .closed .ensures) (c .before .before .before .relisted .result) (relisted-is (a .lists) full _ _ _ (c .before .before .before .relisted .ensures)) (c .released .result) (rw (c .before .before .if1 .taken) (c .released .ensures))
+returns-2 c =
+    let then = c .before .before .before in let relisted = then .relisted in
+    let then = then .before .before .before .before .before in let closed = then .closed in
+    let then = then .before .before in let enum-told = then .enum-told in
+    let then = then .before .before in let of-end = then .of-end in
+    let then = then .before .before in let a = then .args in let good = then .good in
+    let full = entries (a .lists) _ (good .0) in
+    end-is (a .lists) (a .place) (a .in-error) (places (a .lists) _ (good .0))
+    (end-verdict (a .lists) (a .place) (a .in-error) (of-end .result) (of-end .ensures) ∙ enum-told .given .1)
+    (closed .result) (closed .ensures) (relisted .result) (relisted-is (a .lists) full _ _ _ (relisted .ensures)) (c .released .result)
+    (rw (c .before .before .if1 .taken) (c .released .ensures))
 
 returns-3 : tie.Need-returns-3
-returns-3 c = let a = c .before .before .before .before .before .before .before .before .before .before .before .before .args in
-    let full = entries (a .lists) _ (c .before .before .before .before .before .before .before .before .before .before .before .before .good .0) in
-    end-is (a .lists) (a .place) (a .in-error) (places (a .lists) _ (c .before .before .before .before .before .before .before .before .before .before .before .before .good .0)) (end-verdict (a .lists) (a .place) (a .in-error) (c .before .before .before .before .before .before .before .before .before .before .of-end .result) (c .before .before .before .before .before .before .before .before .before .before .of-end .ensures) ∙ c .before .before .before .before .before .before .before .before .enum-told .given .1)
-    (c .before .before .before .before .before .before .closed .result) (c .before .before .before .before .before .before .closed .ensures) (c .before .relisted .result) (relisted-is (a .lists) full _ _ _ (c .before .relisted .ensures)) (a .lists .units) (rw (c .if1 .left) refl)
+returns-3 c =
+    let then = c .before in let relisted = then .relisted in
+    let then = then .before .before .before .before .before in let closed = then .closed in
+    let then = then .before .before in let enum-told = then .enum-told in
+    let then = then .before .before in let of-end = then .of-end in
+    let then = then .before .before in let a = then .args in let good = then .good in
+    let full = entries (a .lists) _ (good .0) in
+    end-is (a .lists) (a .place) (a .in-error) (places (a .lists) _ (good .0))
+    (end-verdict (a .lists) (a .place) (a .in-error) (of-end .result) (of-end .ensures) ∙ enum-told .given .1)
+    (closed .result) (closed .ensures) (relisted .result) (relisted-is (a .lists) full _ _ _ (relisted .ensures)) (a .lists .units)
+    (rw (c .if1 .left) refl)
 
 pub end-spec : {M : Type 1} → statement M
 end-spec =

@@ -22,10 +22,24 @@ with-mark-requires : tie.Need-with-mark-requires
 with-mark-requires c κs = search needs
 
 returns : tie.Need-returns
-returns c = refused-is (c .before .before .before .before .before .before .args .lists) (Mark (c .before .before .before .before .before .before .args .channel .0) (c .before .before .before .before .before .before .args .unit .0) (c .before .before .before .before .before .before .args .mark) (c .before .before .before .before .before .before .args .on)) _ (mark-verdict (c .before .before .before .before .before .before .args .lists) (c .before .before .before .before .before .before .args .channel .0) (c .before .before .before .before .before .before .args .unit .0) (c .before .before .before .before .before .before .args .mark) (c .before .before .before .before .before .before .args .on) (c .before .before .before .before .fitted-on .result) (c .before .before .before .before .fitted-on .ensures) (c .before .before .before .of-mark .result) (c .before .before .before .of-mark .ensures) ∙ c .before .refusal .given .1)
+returns c =
+    let then = c .before .before .before in let of-mark = then .of-mark in
+    let then = then .before in let fitted-on = then .fitted-on in
+    let args = then .before .before .args in
+    refused-is (args .lists) (Mark (args .channel .0) (args .unit .0) (args .mark) (args .on)) _
+    (mark-verdict (args .lists) (args .channel .0) (args .unit .0) (args .mark) (args .on) (fitted-on .result) (fitted-on .ensures)
+    (of-mark .result) (of-mark .ensures)
+    ∙ c .before .refusal .given .1)
 
 returns-2 : tie.Need-returns-2
-returns-2 c = mark-is (c .before .before .before .before .before .before .before .args .lists) (c .before .before .before .before .before .before .before .args .channel .0) (c .before .before .before .before .before .before .before .args .unit .0) (c .before .before .before .before .before .before .before .args .mark) (c .before .before .before .before .before .before .before .args .on) (mark-verdict (c .before .before .before .before .before .before .before .args .lists) (c .before .before .before .before .before .before .before .args .channel .0) (c .before .before .before .before .before .before .before .args .unit .0) (c .before .before .before .before .before .before .before .args .mark) (c .before .before .before .before .before .before .before .args .on) (c .before .before .before .before .before .fitted-on .result) (c .before .before .before .before .before .fitted-on .ensures) (c .before .before .before .before .of-mark .result) (c .before .before .before .before .of-mark .ensures) ∙ c .before .before .enum-told .given .1)
+returns-2 c =
+    let then = c .before .before .before .before in let of-mark = then .of-mark in
+    let then = then .before in let fitted-on = then .fitted-on in
+    let args = then .before .before .args in
+    mark-is (args .lists) (args .channel .0) (args .unit .0) (args .mark) (args .on)
+    (mark-verdict (args .lists) (args .channel .0) (args .unit .0) (args .mark) (args .on) (fitted-on .result) (fitted-on .ensures)
+    (of-mark .result) (of-mark .ensures)
+    ∙ c .before .before .enum-told .given .1)
     (c .with-mark .result) (c .with-mark .ensures)
 
 pub mark-spec : {M : Type 1} → statement M

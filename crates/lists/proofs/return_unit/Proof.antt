@@ -63,14 +63,31 @@ with-holder-at-requires : tie.Need-with-holder-at-requires
 with-holder-at-requires c κs = search needs
 
 returns : tie.Need-returns
-returns c = let a = c .before .before .before .before .before .before .before .before .before .args in
-    refused-is (a .lists) (Return (a .place) (a .channel .0) (a .unit .0)) _ (return-verdict (a .lists) (a .place) (a .channel .0) (a .unit .0) _ refl (c .before .before .before .before .before .before .before .unit-at .result) (c .before .before .before .before .before .before .before .unit-at .ensures) (c .before .before .before .of-return .result) (c .before .before .before .of-return .ensures) ∙ c .before .refusal .given .1)
+returns c =
+    let then = c .before .before .before in let of-return = then .of-return in
+    let then = then .before .before .before .before in let unit-at = then .unit-at in
+    let a = then .before .before .args in
+    refused-is (a .lists) (Return (a .place) (a .channel .0) (a .unit .0)) _
+    (return-verdict (a .lists) (a .place) (a .channel .0) (a .unit .0) _ refl (unit-at .result) (unit-at .ensures) (of-return .result)
+    (of-return .ensures)
+    ∙ c .before .refusal .given .1)
 
 returns-2 : tie.Need-returns-2
-returns-2 c = let a = c .before .before .before .before .before .before .before .before .before .before .before .before .before .before .before .before .before .args in
-    let full = entries (a .lists) _ (c .before .before .before .before .before .before .before .before .before .before .before .before .before .before .before .before .before .good .0) in
-    return-is (a .lists) (a .place) (a .channel .0) (a .unit .0) (places (a .lists) _ (c .before .before .before .before .before .before .before .before .before .before .before .before .before .before .before .before .before .good .0)) (return-verdict (a .lists) (a .place) (a .channel .0) (a .unit .0) _ refl (c .before .before .before .before .before .before .before .before .before .before .before .before .before .before .before .unit-at .result) (c .before .before .before .before .before .before .before .before .before .before .before .before .before .before .before .unit-at .ensures) (c .before .before .before .before .before .before .before .before .before .before .before .of-return .result) (c .before .before .before .before .before .before .before .before .before .before .before .of-return .ensures) ∙ c .before .before .before .before .before .before .before .before .before .enum-told .given .1)
-    (c .before .before .before .before .before .before .before .before .cut-at .result) (c .before .before .before .before .before .before .before .before .cut-at .ensures) (c .before .before .before .before .relisted .result) (relisted-is (a .lists) full _ _ _ (c .before .before .before .before .relisted .ensures)) (c .before .holder-of .result) (c .before .holder-of .ensures) (c .with-holder-at .result) (c .with-holder-at .ensures)
+returns-2 c =
+    let then = c .before in let holder-of = then .holder-of in
+    let then = then .before .before .before in let relisted = then .relisted in
+    let then = then .before .before .before .before in let cut-at = then .cut-at in
+    let then = then .before in let enum-told = then .enum-told in
+    let then = then .before .before in let of-return = then .of-return in
+    let then = then .before .before .before .before in let unit-at = then .unit-at in
+    let then = then .before .before in let a = then .args in let good = then .good in
+    let full = entries (a .lists) _ (good .0) in
+    return-is (a .lists) (a .place) (a .channel .0) (a .unit .0) (places (a .lists) _ (good .0))
+    (return-verdict (a .lists) (a .place) (a .channel .0) (a .unit .0) _ refl (unit-at .result) (unit-at .ensures) (of-return .result)
+    (of-return .ensures)
+    ∙ enum-told .given .1)
+    (cut-at .result) (cut-at .ensures) (relisted .result) (relisted-is (a .lists) full _ _ _ (relisted .ensures)) (holder-of .result)
+    (holder-of .ensures) (c .with-holder-at .result) (c .with-holder-at .ensures)
 
 pub return-unit-spec : {M : Type 1} → statement M
 return-unit-spec =

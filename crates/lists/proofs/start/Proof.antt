@@ -58,13 +58,21 @@ loop-less c = search needs
 
 loop-again : tie.Need-loop-again Inv-loop μ-loop
 unfolding placeOf
-loop-again c = let a = c .before .before .before .before .before .before .before .before .before .before .before .before .before .before .args in
-    let l = c .before .before .before .before .before .before .before .before .loop in
+loop-again c =
+    let then = c .before in let can-start = then .can-start in
+    let then = then .before .before in let entry-at = then .entry-at in
+    let then = then .before .before .before .before in let loop-test = then .loop-test in
+    let then = then .before in let l = then .loop in
+    let then = then .before in let size-of = then .size-of in
+    let then = then .before .before .before .before in let row-of = then .row-of in
+    let then = then .before in let a = then .args in let good = then .good in
     let e = getD (a .lists .list .entries) (l .k) 0 in
-    let t : canStartAt (c .before .before .before .before .before .before .before .before .before .before .before .before .before .row-of .result) (a .lists .jobs) (a .channel .0) e ≡ c .before .can-start .result =
-    rw (← c .before .before .before .entry-at .ensures) (starts-is (c .before .before .before .before .before .before .before .before .before .before .before .before .before .row-of .result) (a .lists .jobs) (a .channel .0) (c .before .before .before .entry-at .result) _ refl (c .before .can-start .result) (c .before .can-start .ensures)) in
-    search-on (a .lists) (a .channel .0) (c .before .before .before .before .before .before .before .before .before .before .before .before .before .row-of .result) (c .before .before .before .before .before .before .before .before .before .before .before .before .before .row-of .ensures) (entries (a .lists) _ (c .before .before .before .before .before .before .before .before .before .before .before .before .before .before .good .0)) (c .before .before .before .before .before .before .before .before .before .size-of .result) (c .before .before .before .before .before .before .before .before .before .size-of .ensures)
-    (l .k) (l .found) (l .inv) (c .before .before .before .before .before .before .before .loop-test .taken) (c .before .can-start .result) t (c .if1 .left)
+    let t : canStartAt (row-of .result) (a .lists .jobs) (a .channel .0) e ≡ can-start .result =
+    rw (← entry-at .ensures)
+    (starts-is (row-of .result) (a .lists .jobs) (a .channel .0) (entry-at .result) _ refl (can-start .result) (can-start .ensures)) in
+    search-on (a .lists) (a .channel .0) (row-of .result) (row-of .ensures) (entries (a .lists) _ (good .0)) (size-of .result)
+    (size-of .ensures)
+    (l .k) (l .found) (l .inv) (loop-test .taken) (can-start .result) t (c .if1 .left)
 
 cast-c : tie.Need-cast-c Inv-loop μ-loop
 cast-c c = search needs
@@ -128,34 +136,56 @@ element-set-from-busy c = search needs
 
 returns : tie.Need-returns Inv-loop μ-loop
 unfolding placeOf
-returns c = let a = c .before .before .before .before .before .before .before .before .before .before .before .before .before .before .args in
-    let full = entries (a .lists) _ (c .before .before .before .before .before .before .before .before .before .before .before .before .before .before .good .0) in
-    let l = c .before .before .before .before .before .before .before .before .loop in
-    let f : c .before .before .before .before .before .before .before .loop-test .found ≡ foundOf (find (startableOn (a .lists .units .of) (a .lists .jobs) (a .channel .0)) (listOf (a .lists .list))) =
+returns c =
+    let then = c .before .before .before in let of-start = then .of-start in
+    let then = then .before .before .before .before in let loop-test = then .loop-test in
+    let then = then .before in let l = then .loop in
+    let then = then .before in let size-of = then .size-of in
+    let then = then .before .before .before .before in let row-of = then .row-of in
+    let then = then .before in let a = then .args in let good = then .good in
+    let full = entries (a .lists) _ (good .0) in
+    let f : loop-test .found ≡ foundOf (find (startableOn (a .lists .units .of) (a .lists .jobs) (a .channel .0)) (listOf (a .lists .list))) =
     ⊎-elim
-    (λ w. w .1 ∙ search-over (a .lists) (a .channel .0) (c .before .before .before .before .before .before .before .before .before .before .before .before .before .row-of .result) (c .before .before .before .before .before .before .before .before .before .before .before .before .before .row-of .ensures) full (c .before .before .before .before .before .before .before .before .before .size-of .result) (c .before .before .before .before .before .before .before .before .before .size-of .ensures) (l .k) (l .found) (l .inv) (w .0 .left))
-    (λ w. let e : w .4 .result ≡ getD (a .lists .list .entries) (l .k) 0 = w .4 .ensures in
-    w .8 ∙ ap At e ∙ search-found (a .lists) (a .channel .0) (c .before .before .before .before .before .before .before .before .before .before .before .before .before .row-of .result) (c .before .before .before .before .before .before .before .before .before .before .before .before .before .row-of .ensures) full (c .before .before .before .before .before .before .before .before .before .size-of .result) (c .before .before .before .before .before .before .before .before .before .size-of .ensures) (l .k) (l .found) (l .inv) (w .0 .taken) (w .6 .result)
-    (rw (← e) (starts-is (c .before .before .before .before .before .before .before .before .before .before .before .before .before .row-of .result) (a .lists .jobs) (a .channel .0) (w .4 .result) _ refl (w .6 .result) (w .6 .ensures))) (w .7 .taken))
-    (c .before .before .before .before .before .before .before .loop-test .came) in
+    (λ w. w .1 ∙ search-over (a .lists) (a .channel .0) (row-of .result) (row-of .ensures) full (size-of .result) (size-of .ensures) (l .k)
+    (l .found) (l .inv) (w .0 .left))
+    (λ w.
+    let e : w .4 .result ≡ getD (a .lists .list .entries) (l .k) 0 = w .4 .ensures in
+    w .8 ∙ ap At e ∙ search-found (a .lists) (a .channel .0) (row-of .result) (row-of .ensures) full (size-of .result) (size-of .ensures) (l .k)
+    (l .found) (l .inv) (w .0 .taken) (w .6 .result)
+    (rw (← e) (starts-is (row-of .result) (a .lists .jobs) (a .channel .0) (w .4 .result) _ refl (w .6 .result) (w .6 .ensures))) (w .7 .taken))
+    (loop-test .came) in
     refused-is (a .lists) (Start (a .channel .0)) _
-    (start-verdict (a .lists) (a .channel .0) (c .before .before .before .before .before .before .before .loop-test .found) f _ refl (c .before .before .before .of-start .result) (c .before .before .before .of-start .ensures) ∙ c .before .refusal .given .1)
+    (start-verdict (a .lists) (a .channel .0) (loop-test .found) f _ refl (of-start .result) (of-start .ensures) ∙ c .before .refusal .given .1)
 
 returns-2 : tie.Need-returns-2 Inv-loop μ-loop
 unfolding placeOf packetOf
-returns-2 c = let a = c .before .before .before .before .before .before .before .before .before .before .before .before .before .before .before .before .before .before .before .before .before .before .args in
-    let full = entries (a .lists) _ (c .before .before .before .before .before .before .before .before .before .before .before .before .before .before .before .before .before .before .before .before .before .before .good .0) in
-    let l = c .before .before .before .before .before .before .before .before .before .before .before .before .before .before .before .before .loop in
-    let f : c .before .before .before .before .before .before .before .before .before .before .before .before .before .before .before .loop-test .found ≡ foundOf (find (startableOn (a .lists .units .of) (a .lists .jobs) (a .channel .0)) (listOf (a .lists .list))) =
+returns-2 c =
+    let then = c .before in let relisted = then .relisted in
+    let then = then .before .before .before .before in let begun = then .begun in
+    let then = then .before in let started = then .started in
+    let then = then .before .before in let entry-of = then .entry-of in
+    let then = then .before in let enum-told = then .enum-told in
+    let then = then .before .before in let of-start = then .of-start in
+    let then = then .before .before .before .before in let loop-test = then .loop-test in
+    let then = then .before in let l = then .loop in
+    let then = then .before in let size-of = then .size-of in
+    let then = then .before .before .before .before in let row-of = then .row-of in
+    let then = then .before in let a = then .args in let good = then .good in
+    let full = entries (a .lists) _ (good .0) in
+    let f : loop-test .found ≡ foundOf (find (startableOn (a .lists .units .of) (a .lists .jobs) (a .channel .0)) (listOf (a .lists .list))) =
     ⊎-elim
-    (λ w. w .1 ∙ search-over (a .lists) (a .channel .0) (c .before .before .before .before .before .before .before .before .before .before .before .before .before .before .before .before .before .before .before .before .before .row-of .result) (c .before .before .before .before .before .before .before .before .before .before .before .before .before .before .before .before .before .before .before .before .before .row-of .ensures) full (c .before .before .before .before .before .before .before .before .before .before .before .before .before .before .before .before .before .size-of .result) (c .before .before .before .before .before .before .before .before .before .before .before .before .before .before .before .before .before .size-of .ensures) (l .k) (l .found) (l .inv) (w .0 .left))
-    (λ w. let e : w .4 .result ≡ getD (a .lists .list .entries) (l .k) 0 = w .4 .ensures in
-    w .8 ∙ ap At e ∙ search-found (a .lists) (a .channel .0) (c .before .before .before .before .before .before .before .before .before .before .before .before .before .before .before .before .before .before .before .before .before .row-of .result) (c .before .before .before .before .before .before .before .before .before .before .before .before .before .before .before .before .before .before .before .before .before .row-of .ensures) full (c .before .before .before .before .before .before .before .before .before .before .before .before .before .before .before .before .before .size-of .result) (c .before .before .before .before .before .before .before .before .before .before .before .before .before .before .before .before .before .size-of .ensures) (l .k) (l .found) (l .inv) (w .0 .taken) (w .6 .result)
-    (rw (← e) (starts-is (c .before .before .before .before .before .before .before .before .before .before .before .before .before .before .before .before .before .before .before .before .before .row-of .result) (a .lists .jobs) (a .channel .0) (w .4 .result) _ refl (w .6 .result) (w .6 .ensures))) (w .7 .taken))
-    (c .before .before .before .before .before .before .before .before .before .before .before .before .before .before .before .loop-test .came) in
-    start-is (a .lists) (a .channel .0) (c .before .before .before .before .before .before .before .before .before .before .before .before .before .before .before .loop-test .found) f (places (a .lists) _ (c .before .before .before .before .before .before .before .before .before .before .before .before .before .before .before .before .before .before .before .before .before .before .good .0))
-    (start-verdict (a .lists) (a .channel .0) (c .before .before .before .before .before .before .before .before .before .before .before .before .before .before .before .loop-test .found) f _ refl (c .before .before .before .before .before .before .before .before .before .before .before .of-start .result) (c .before .before .before .before .before .before .before .before .before .before .before .of-start .ensures) ∙ c .before .before .before .before .before .before .before .before .before .enum-told .given .1)
-    (c .before .before .before .before .before .before .before .before .entry-of .result) (c .before .before .before .before .before .before .before .before .entry-of .ensures) (search needs) (c .before .before .before .before .before .begun .result) (c .before .before .before .before .before .begun .ensures) (c .before .before .before .before .before .before .started .result) (c .before .before .before .before .before .before .started .ensures) (c .before .relisted .result) (relisted-is (a .lists) full _ _ _ (c .before .relisted .ensures)) (c .busy-with .result) (c .busy-with .ensures)
+    (λ w. w .1 ∙ search-over (a .lists) (a .channel .0) (row-of .result) (row-of .ensures) full (size-of .result) (size-of .ensures) (l .k)
+    (l .found) (l .inv) (w .0 .left))
+    (λ w.
+    let e : w .4 .result ≡ getD (a .lists .list .entries) (l .k) 0 = w .4 .ensures in
+    w .8 ∙ ap At e ∙ search-found (a .lists) (a .channel .0) (row-of .result) (row-of .ensures) full (size-of .result) (size-of .ensures) (l .k)
+    (l .found) (l .inv) (w .0 .taken) (w .6 .result)
+    (rw (← e) (starts-is (row-of .result) (a .lists .jobs) (a .channel .0) (w .4 .result) _ refl (w .6 .result) (w .6 .ensures))) (w .7 .taken))
+    (loop-test .came) in
+    start-is (a .lists) (a .channel .0) (loop-test .found) f (places (a .lists) _ (good .0))
+    (start-verdict (a .lists) (a .channel .0) (loop-test .found) f _ refl (of-start .result) (of-start .ensures) ∙ enum-told .given .1)
+    (entry-of .result) (entry-of .ensures) (search needs) (begun .result) (begun .ensures) (started .result) (started .ensures)
+    (relisted .result) (relisted-is (a .lists) full _ _ _ (relisted .ensures)) (c .busy-with .result) (c .busy-with .ensures)
 
 pub start-spec : {M : Type 1} → statement M
 start-spec =

@@ -23,7 +23,11 @@ packet-in-requires c κs = search needs
 
 returns-3 : tie.Need-returns-3
 unfolding packetIn
-returns-3 c = rw (lt-ltb (c .before .before .before .before .before .args .place) 16 (omega (arith, c .before .before .before .before .if1 .left)), lt-ltb (c .before .before .before .before .before .args .packet) 16 (omega (arith, c .before .before .before .if2 .left)), c .packet-in .ensures)
+returns-3 c =
+    let then = c .before .before .before in let if2 = then .if2 in
+    let then = then .before in let if1 = then .if1 in
+    let args = then .before .args in
+    rw (lt-ltb (args .place) 16 (omega (arith, if1 .left)), lt-ltb (args .packet) 16 (omega (arith, if2 .left)), c .packet-in .ensures)
 
 pub status-spec : {M : Type 1} → statement M
 status-spec =

@@ -61,23 +61,54 @@ with-lock-at-requires : tie.Need-with-lock-at-requires
 with-lock-at-requires c κs = search needs
 
 returns : tie.Need-returns
-returns c = let a = c .before .before .before .before .before .before .before .before .before .before .args in
+returns c =
+    let then = c .before .before .before in let verdict = then .verdict in
+    let then = then .before .before .before .before in let unit-where = then .unit-where in
+    let then = then .before in let site-of = then .site-of in
+    let a = then .before .before .args in
     refused-is (a .lists) (Submit (a .place) (a .packet) (a .function) (a .channel .0) (a .spot)) _
-    (submit-verdict (a .lists) (a .place) (a .packet) (a .function) (a .channel .0) (a .spot) _ refl (c .before .before .before .before .before .before .before .unit-where .result) (rw (← c .before .before .before .before .before .before .before .before .site-of .ensures) (c .before .before .before .before .before .before .before .unit-where .ensures)) (c .before .before .before .verdict .result) (c .before .before .before .verdict .ensures) ∙ c .before .refusal .given .1)
+    (submit-verdict (a .lists) (a .place) (a .packet) (a .function) (a .channel .0) (a .spot) _ refl (unit-where .result)
+    (rw (← site-of .ensures) (unit-where .ensures)) (verdict .result) (verdict .ensures)
+    ∙ c .before .refusal .given .1)
 
 returns-2 : tie.Need-returns-2
-returns-2 c = let a = c .before .before .before .before .before .before .before .before .before .before .before .before .before .before .before .before .before .before .args in
-    let full = entries (a .lists) _ (c .before .before .before .before .before .before .before .before .before .before .before .before .before .before .before .before .before .before .good .0) in
-    submit-is (a .lists) (a .place) (a .packet) (a .function) (a .channel .0) (a .spot) _ refl (c .before .before .before .before .before .before .before .before .before .before .before .before .before .before .before .unit-where .result) (rw (← c .before .before .before .before .before .before .before .before .before .before .before .before .before .before .before .before .site-of .ensures) (c .before .before .before .before .before .before .before .before .before .before .before .before .before .before .before .unit-where .ensures)) (places (a .lists) _ (c .before .before .before .before .before .before .before .before .before .before .before .before .before .before .before .before .before .before .good .0))
-    (submit-verdict (a .lists) (a .place) (a .packet) (a .function) (a .channel .0) (a .spot) _ refl (c .before .before .before .before .before .before .before .before .before .before .before .before .before .before .before .unit-where .result) (rw (← c .before .before .before .before .before .before .before .before .before .before .before .before .before .before .before .before .site-of .ensures) (c .before .before .before .before .before .before .before .before .before .before .before .before .before .before .before .unit-where .ensures)) (c .before .before .before .before .before .before .before .before .before .before .before .verdict .result) (c .before .before .before .before .before .before .before .before .before .before .before .verdict .ensures) ∙ c .before .before .before .before .before .before .before .before .before .enum-told .given .1)
-    (c .before .before .before .before .before .before .before .before .is-unlocking .result) (c .before .before .before .before .before .before .before .before .is-unlocking .ensures) (c .before .before .before .before .before .before .before .job-after .result) (c .before .before .before .before .before .before .before .job-after .ensures) (c .before .before .before .list-of .result) (c .before .before .before .list-of .ensures (omega (arith, full))) (c .with-lock-at .result) (rw (c .before .before .if1 .taken, ← c .before .before .before .before .before .before .before .before .before .before .before .before .before .before .before .before .site-of .ensures) (c .with-lock-at .ensures))
+returns-2 c =
+    let then = c .before .before .before in let list-of = then .list-of in
+    let then = then .before .before .before .before in let job-after = then .job-after in
+    let then = then .before in let is-unlocking = then .is-unlocking in
+    let then = then .before in let enum-told = then .enum-told in
+    let then = then .before .before in let verdict = then .verdict in
+    let then = then .before .before .before .before in let unit-where = then .unit-where in
+    let then = then .before in let site-of = then .site-of in
+    let then = then .before .before in let a = then .args in let good = then .good in
+    let full = entries (a .lists) _ (good .0) in
+    submit-is (a .lists) (a .place) (a .packet) (a .function) (a .channel .0) (a .spot) _ refl (unit-where .result)
+    (rw (← site-of .ensures) (unit-where .ensures)) (places (a .lists) _ (good .0))
+    (submit-verdict (a .lists) (a .place) (a .packet) (a .function) (a .channel .0) (a .spot) _ refl (unit-where .result)
+    (rw (← site-of .ensures) (unit-where .ensures)) (verdict .result) (verdict .ensures)
+    ∙ enum-told .given .1)
+    (is-unlocking .result) (is-unlocking .ensures) (job-after .result) (job-after .ensures) (list-of .result)
+    (list-of .ensures (omega (arith, full))) (c .with-lock-at .result)
+    (rw (c .before .before .if1 .taken, ← site-of .ensures) (c .with-lock-at .ensures))
 
 returns-3 : tie.Need-returns-3
-returns-3 c = let a = c .before .before .before .before .before .before .before .before .before .before .before .before .before .before .before .before .args in
-    let full = entries (a .lists) _ (c .before .before .before .before .before .before .before .before .before .before .before .before .before .before .before .before .good .0) in
-    submit-is (a .lists) (a .place) (a .packet) (a .function) (a .channel .0) (a .spot) _ refl (c .before .before .before .before .before .before .before .before .before .before .before .before .before .unit-where .result) (rw (← c .before .before .before .before .before .before .before .before .before .before .before .before .before .before .site-of .ensures) (c .before .before .before .before .before .before .before .before .before .before .before .before .before .unit-where .ensures)) (places (a .lists) _ (c .before .before .before .before .before .before .before .before .before .before .before .before .before .before .before .before .good .0))
-    (submit-verdict (a .lists) (a .place) (a .packet) (a .function) (a .channel .0) (a .spot) _ refl (c .before .before .before .before .before .before .before .before .before .before .before .before .before .unit-where .result) (rw (← c .before .before .before .before .before .before .before .before .before .before .before .before .before .before .site-of .ensures) (c .before .before .before .before .before .before .before .before .before .before .before .before .before .unit-where .ensures)) (c .before .before .before .before .before .before .before .before .before .verdict .result) (c .before .before .before .before .before .before .before .before .before .verdict .ensures) ∙ c .before .before .before .before .before .before .before .enum-told .given .1)
-    (c .before .before .before .before .before .before .is-unlocking .result) (c .before .before .before .before .before .before .is-unlocking .ensures) (c .before .before .before .before .before .job-after .result) (c .before .before .before .before .before .job-after .ensures) (c .before .list-of .result) (c .before .list-of .ensures (omega (arith, full))) (a .lists .units) (rw (c .if1 .left) refl)
+returns-3 c =
+    let then = c .before in let list-of = then .list-of in
+    let then = then .before .before .before .before in let job-after = then .job-after in
+    let then = then .before in let is-unlocking = then .is-unlocking in
+    let then = then .before in let enum-told = then .enum-told in
+    let then = then .before .before in let verdict = then .verdict in
+    let then = then .before .before .before .before in let unit-where = then .unit-where in
+    let then = then .before in let site-of = then .site-of in
+    let then = then .before .before in let a = then .args in let good = then .good in
+    let full = entries (a .lists) _ (good .0) in
+    submit-is (a .lists) (a .place) (a .packet) (a .function) (a .channel .0) (a .spot) _ refl (unit-where .result)
+    (rw (← site-of .ensures) (unit-where .ensures)) (places (a .lists) _ (good .0))
+    (submit-verdict (a .lists) (a .place) (a .packet) (a .function) (a .channel .0) (a .spot) _ refl (unit-where .result)
+    (rw (← site-of .ensures) (unit-where .ensures)) (verdict .result) (verdict .ensures)
+    ∙ enum-told .given .1)
+    (is-unlocking .result) (is-unlocking .ensures) (job-after .result) (job-after .ensures) (list-of .result)
+    (list-of .ensures (omega (arith, full))) (a .lists .units) (rw (c .if1 .left) refl)
 
 pub submit-spec : {M : Type 1} → statement M
 submit-spec =

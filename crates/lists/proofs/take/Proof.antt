@@ -37,11 +37,21 @@ taken-requires : tie.Need-taken-requires
 taken-requires c κs = search needs
 
 returns : tie.Need-returns
-returns c = refused-is (c .before .before .before .before .before .args .lists) (Take (c .before .before .before .before .before .args .place) (c .before .before .before .before .before .args .assignment)) _ (take-verdict (c .before .before .before .before .before .args .lists) (c .before .before .before .before .before .args .place) (c .before .before .before .before .before .args .assignment) (c .before .before .before .of-take .result) (c .before .before .before .of-take .ensures) ∙ c .before .refusal .given .1)
+returns c =
+    let then = c .before .before .before in let of-take = then .of-take in
+    let args = then .before .before .args in
+    refused-is (args .lists) (Take (args .place) (args .assignment)) _
+    (take-verdict (args .lists) (args .place) (args .assignment) (of-take .result) (of-take .ensures) ∙ c .before .refusal .given .1)
 
 returns-2 : tie.Need-returns-2
-returns-2 c = take-is (c .before .before .before .before .before .before .before .before .before .args .lists) (c .before .before .before .before .before .before .before .before .before .args .place) (c .before .before .before .before .before .before .before .before .before .args .assignment) (take-verdict (c .before .before .before .before .before .before .before .before .before .args .lists) (c .before .before .before .before .before .before .before .before .before .args .place) (c .before .before .before .before .before .before .before .before .before .args .assignment) (c .before .before .before .before .before .before .before .of-take .result) (c .before .before .before .before .before .before .before .of-take .ensures) ∙ c .before .before .before .before .before .enum-told .given .1)
-    (c .before .before .before .running .result) (c .before .before .before .running .ensures) (c .taken .result) (c .taken .ensures)
+returns-2 c =
+    let then = c .before .before .before in let running = then .running in
+    let then = then .before .before in let enum-told = then .enum-told in
+    let then = then .before .before in let of-take = then .of-take in
+    let args = then .before .before .args in
+    take-is (args .lists) (args .place) (args .assignment)
+    (take-verdict (args .lists) (args .place) (args .assignment) (of-take .result) (of-take .ensures) ∙ enum-told .given .1)
+    (running .result) (running .ensures) (c .taken .result) (c .taken .ensures)
 
 pub take-spec : {M : Type 1} → statement M
 take-spec =

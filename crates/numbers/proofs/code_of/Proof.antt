@@ -19,7 +19,9 @@ array-copy-out-result : tie.Need-array-copy-out-result
 array-copy-out-result c = search needs
 
 returns : tie.Need-returns
-returns c = ap (λ (i : ℕ). getD codes i []) (c .before .row-of .ensures .is) ∙ row-code _ (row-low (c .before .before .args .kind)) ∙ ap codeOf (row-kind (c .before .before .args .kind))
+returns c =
+    let args = c .before .before .args in
+    ap (λ (i : ℕ). getD codes i []) (c .before .row-of .ensures .is) ∙ row-code _ (row-low (args .kind)) ∙ ap codeOf (row-kind (args .kind))
 
 pub code-of-spec : {M : Type 1} → statement M
 code-of-spec = tie.close (tie.spec row-of-requires mul-result array-copy-out-result returns)

@@ -38,7 +38,11 @@ array-copy-out-t35 : tie.Need-array-copy-out-t35 Inv-loop μ-loop
 array-copy-out-t35 c = search needs
 
 returns : tie.Need-returns Inv-loop μ-loop
-returns c = row-found (c .before .before .before .before .before .before .args .a) (c .before .before .before .before .before .before .args .b) (c .before .before .before .before .before .loop .row) (c .before .before .before .before .loop-test .taken) (c .before .before .before .before .before .loop .inv .1) (c .before .before .is-code .ensures) (c .before .if1 .taken)
+returns c =
+    let then = c .before .before .before .before in let loop-test = then .loop-test in
+    let then = then .before in let loop = then .loop in
+    let args = then .before .args in
+    row-found (args .a) (args .b) (loop .row) (loop-test .taken) (loop .inv .1) (c .before .before .is-code .ensures) (c .before .if1 .taken)
 
 add-row : tie.Need-add-row Inv-loop μ-loop
 add-row c = search needs
@@ -47,10 +51,19 @@ loop-less : tie.Need-loop-less Inv-loop μ-loop
 loop-less c = search needs
 
 loop-again : tie.Need-loop-again Inv-loop μ-loop
-loop-again c = (omega (arith, c .before .before .before .loop-test .taken), row-passed (c .before .before .before .before .before .args .a) (c .before .before .before .before .before .args .b) (c .before .before .before .before .loop .row) (c .before .before .before .loop-test .taken) (c .before .before .before .before .loop .inv .1) (c .before .is-code .ensures) (c .if1 .left))
+loop-again c =
+    let then = c .before .before .before in let loop-test = then .loop-test in
+    let then = then .before in let loop = then .loop in
+    let args = then .before .args in (
+      omega (arith, loop-test .taken),
+      row-passed (args .a) (args .b) (loop .row) (loop-test .taken) (loop .inv .1) (c .before .is-code .ensures) (c .if1 .left),
+    )
 
 returns-2 : tie.Need-returns-2 Inv-loop μ-loop
-returns-2 c = rows-over (c .before .before .args .a) (c .before .before .args .b) (c .before .loop .row) (c .loop-test .left) (c .before .loop .inv .1)
+returns-2 c =
+    let then = c .before in let loop = then .loop in
+    let args = then .before .args in
+    rows-over (args .a) (args .b) (loop .row) (c .loop-test .left) (loop .inv .1)
 
 pub kind-of-spec : {M : Type 1} → statement M
 kind-of-spec =

@@ -33,8 +33,12 @@ is-of-requires : tie.Need-is-of-requires Inv-loop μ-loop
 is-of-requires c κs = search needs
 
 returns : tie.Need-returns Inv-loop μ-loop
-returns c = let inv = c .before .before .before .before .loop .inv in
-    sym (any-here (λ (m : Carrier). moves (c .before .before .before .before .before .args .j) (m .motion)) (c .before .before .before .before .before .args .t1) (c .before .before .before .before .loop .i) (carrying Idle) (omega arith) (sym (c .before .is-of .ensures) ∙ c .if1 .taken))
+returns c =
+    let then = c .before .before .before .before in let loop = then .loop in
+    let args = then .before .args in
+    let inv = loop .inv in
+    sym (any-here (λ (m : Carrier). moves (args .j) (m .motion)) (args .t1) (loop .i) (carrying Idle) (omega arith)
+    (sym (c .before .is-of .ensures) ∙ c .if1 .taken))
 
 add-i : tie.Need-add-i Inv-loop μ-loop
 add-i c = search needs
@@ -43,15 +47,22 @@ loop-less : tie.Need-loop-less Inv-loop μ-loop
 loop-less c = omega arith
 
 loop-again : tie.Need-loop-again Inv-loop μ-loop
-loop-again c = let inv = c .before .before .before .before .loop .inv in (
-  omega arith,
-  inv .1,
-  any-step (λ (m : Carrier). moves (c .before .before .before .before .before .args .j) (m .motion)) (c .before .before .before .before .before .args .t1) (c .before .before .before .before .loop .i) (carrying Idle) (omega arith) (inv .2) (sym (c .before .is-of .ensures) ∙ c .if1 .left),
-)
+loop-again c =
+    let then = c .before .before .before .before in let loop = then .loop in
+    let args = then .before .args in
+    let inv = loop .inv in (
+      omega arith,
+      inv .1,
+      any-step (λ (m : Carrier). moves (args .j) (m .motion)) (args .t1) (loop .i) (carrying Idle) (omega arith) (inv .2)
+          (sym (c .before .is-of .ensures) ∙ c .if1 .left),
+    )
 
 returns-2 : tie.Need-returns-2 Inv-loop μ-loop
-returns-2 c = let inv = c .before .loop .inv in
-    sym (any-done (λ (m : Carrier). moves (c .before .before .args .j) (m .motion)) (c .before .before .args .t1) (c .before .loop .i) (omega arith) (inv .2))
+returns-2 c =
+    let then = c .before in let loop = then .loop in
+    let args = then .before .args in
+    let inv = loop .inv in
+    sym (any-done (λ (m : Carrier). moves (args .j) (m .motion)) (args .t1) (loop .i) (omega arith) (inv .2))
 
 pub any-moves-spec : {M : Type 1} → statement M
 any-moves-spec =

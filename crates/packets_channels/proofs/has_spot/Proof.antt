@@ -20,10 +20,17 @@ is-drum-requires : tie.Need-is-drum-requires
 is-drum-requires c κs = search needs
 
 returns : tie.Need-returns
-returns c = rw (c .before .before .before .before .before .before .has .given .1, c .before .before .before .spot .given .1, sym (c .before .is-drum .ensures) ∙ c .if1 .taken)
+returns c =
+    let then = c .before .before .before in let spot = then .spot in
+    let has = then .before .before .before .has in
+    rw (has .given .1, spot .given .1, sym (c .before .is-drum .ensures) ∙ c .if1 .taken)
 
 returns-2 : tie.Need-returns-2
-returns-2 c = rw (c .before .before .before .before .before .before .before .before .has .given .1, c .before .before .before .before .before .spot .given .1, sym (c .before .before .before .is-drum .ensures) ∙ c .before .before .if1 .left, le-ltb _ 16 (c .if2 .taken))
+returns-2 c =
+    let then = c .before .before .before in let is-drum = then .is-drum in
+    let then = then .before .before in let spot = then .spot in
+    let has = then .before .before .before .has in
+    rw (has .given .1, spot .given .1, sym (is-drum .ensures) ∙ c .before .before .if1 .left, le-ltb _ 16 (c .if2 .taken))
 
 cast-u : tie.Need-cast-u
 cast-u c = search needs
@@ -38,7 +45,12 @@ returns-3 : tie.Need-returns-3
 returns-3 c = rw (c .enum-told .given .1)
 
 returns-4 : tie.Need-returns-4
-returns-4 c = rw (c .before .before .before .before .before .before .before .before .before .has .given .1, c .before .before .before .before .before .before .spot .given .1, sym (c .before .before .before .before .is-drum .ensures) ∙ c .before .before .before .if1 .left, lt-ltb (c .before .before .before .before .before .before .spot .given .0 .0 .0) 16 (omega (arith, c .before .if2 .left)))
+returns-4 c =
+    let then = c .before .before .before in let if1 = then .if1 in
+    let then = then .before in let is-drum = then .is-drum in
+    let then = then .before .before in let spot = then .spot in
+    let has = then .before .before .before .has in
+    rw (has .given .1, spot .given .1, sym (is-drum .ensures) ∙ if1 .left, lt-ltb (spot .given .0 .0 .0) 16 (omega (arith, c .before .if2 .left)))
 
 returns-5 : tie.Need-returns-5
 returns-5 c = rw (c .before .before .before .before .has .given .1, c .before .enum-told2 .given .1) (c .is-drum2 .ensures)

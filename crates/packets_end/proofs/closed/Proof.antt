@@ -16,7 +16,9 @@ ending-requires : tie.Need-ending-requires
 ending-requires c κs = search needs
 
 returns : tie.Need-returns
-returns c = rw (c .ending .ensures, c .before .in-state .ensures, c .before .before .closing .ensures, c .before .before .before .all-changed .ensures)
+returns c =
+    let all-changed = c .before .before .before .all-changed in
+    rw (c .ending .ensures, c .before .in-state .ensures, c .before .before .closing .ensures, all-changed .ensures)
 
 pub closed-spec : {M : Type 1} → statement M
 closed-spec =

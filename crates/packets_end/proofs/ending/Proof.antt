@@ -14,7 +14,9 @@ leaving-as-requires : tie.Need-leaving-as-requires
 leaving-as-requires c κs = search needs
 
 returns : tie.Need-returns
-returns c = rw (sym (c .before .before .before .is-done .ensures) ∙ c .before .before .if1 .taken, c .before .in-state .ensures, c .leaving-as .ensures)
+returns c =
+    let is-done = c .before .before .before .is-done in
+    rw (sym (is-done .ensures) ∙ c .before .before .if1 .taken, c .before .in-state .ensures, c .leaving-as .ensures)
 
 returns-2 : tie.Need-returns-2
 returns-2 c = rw (sym (c .before .is-done .ensures) ∙ c .if1 .left)

@@ -44,15 +44,18 @@ loop-less c = omega arith
 
 loop-again : tie.Need-loop-again Inv-loop μ-loop
 loop-again c =
-    let l = c .before .before .before .loop in
-    let f = restatus (testOf (c .before .before .before .before .args .aim)) (changeOf (c .before .before .before .before .args .aim)) in
-    fill-turn (λ d. f (getD (c .before .before .before .before .args .ps) d blank)) blank 16 (c .before .before .before .before .args .ps) (l .inv) (omega arith) (c .changed .result)
+    let then = c .before .before .before in let l = then .loop in
+    let args = then .before .args in
+    let f = restatus (testOf (args .aim)) (changeOf (args .aim)) in
+    fill-turn (λ d. f (getD (args .ps) d blank)) blank 16 (args .ps) (l .inv) (omega arith) (c .changed .result)
     (c .changed .ensures ∙ ap f (l .inv .rest (l .i) (omega arith)))
 
 returns : tie.Need-returns Inv-loop μ-loop
 returns c =
-    fill-map (restatus (testOf (c .before .before .args .aim)) (changeOf (c .before .before .args .aim))) blank blank 16 (c .before .before .args .ps) (c .before .loop .out) (c .before .before .args .ps)
-    (blank-stays (c .before .before .args .aim)) (search needs) (c .before .loop .inv) (omega arith)
+    let then = c .before in let loop = then .loop in
+    let args = then .before .args in
+    fill-map (restatus (testOf (args .aim)) (changeOf (args .aim))) blank blank 16 (args .ps) (loop .out) (args .ps)
+    (blank-stays (args .aim)) (search needs) (loop .inv) (omega arith)
 
 pub all-changed-spec : {M : Type 1} → statement M
 all-changed-spec =

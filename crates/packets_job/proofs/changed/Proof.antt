@@ -14,7 +14,9 @@ with-status-requires : tie.Need-with-status-requires
 with-status-requires c κs = search needs
 
 returns : tie.Need-returns
-returns c = rw (c .with-status .ensures, c .before .changed-status .ensures, sym (c .before .before .before .is-meant .ensures) ∙ c .before .before .if1 .taken)
+returns c =
+    let is-meant = c .before .before .before .is-meant in
+    rw (c .with-status .ensures, c .before .changed-status .ensures, sym (is-meant .ensures) ∙ c .before .before .if1 .taken)
 
 returns-2 : tie.Need-returns-2
 returns-2 c = rw (sym (c .before .is-meant .ensures) ∙ c .if1 .left)

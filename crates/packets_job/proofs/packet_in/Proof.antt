@@ -11,8 +11,10 @@ blank-requires : tie.Need-blank-requires
 blank-requires c κs = search needs
 
 returns : tie.Need-returns
-returns c = let n : length (c .before .before .args .t1) ≡ 16 = search needs in
-    c .blank .ensures ∙ sym (List·getD-eq-default (c .before .before .args .t1) blank {n = c .before .before .args .p} (omega (arith, c .before .if1 .taken)))
+returns c =
+    let args = c .before .before .args in
+    let n : length (args .t1) ≡ 16 = search needs in
+    c .blank .ensures ∙ sym (List·getD-eq-default (args .t1) blank {n = args .p} (omega (arith, c .before .if1 .taken)))
 
 mul-result : tie.Need-mul-result
 mul-result c = search needs

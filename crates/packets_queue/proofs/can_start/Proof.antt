@@ -21,7 +21,10 @@ is-startable-requires : tie.Need-is-startable-requires
 is-startable-requires c κs = search needs
 
 returns : tie.Need-returns
-returns c = c .is-startable .ensures ∙ ap (λ (n : ℕ). canStart (c .before .before .before .args .row) (c .before .before .before .args .c .0) (getD (c .before .before .before .args .t1 .packets) n blank)) (c .before .before .number-of .ensures .is)
+returns c =
+    let args = c .before .before .before .args in
+    c .is-startable .ensures ∙ ap (λ (n : ℕ). canStart (args .row) (args .c .0) (getD (args .t1 .packets) n blank))
+    (c .before .before .number-of .ensures .is)
 
 pub can-start-spec : {M : Type 1} → statement M
 can-start-spec =

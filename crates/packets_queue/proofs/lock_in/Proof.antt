@@ -13,8 +13,10 @@ cast-i : tie.Need-cast-i
 cast-i c = search needs
 
 returns : tie.Need-returns
-returns c = let n : length (c .before .before .args .t1) ≡ 16 = search needs in
-    sym (ap (λ (k : Unit). k .interlock) (List·getD-eq-default (c .before .before .args .t1) (freshUnit false) {n = c .before .before .args .u .0} (omega (arith, c .if1 .taken))))
+returns c =
+    let args = c .before .before .args in
+    let n : length (args .t1) ≡ 16 = search needs in
+    sym (ap (λ (k : Unit). k .interlock) (List·getD-eq-default (args .t1) (freshUnit false) {n = args .u .0} (omega (arith, c .if1 .taken))))
 
 mul-unit : tie.Need-mul-unit
 mul-unit c = search needs

@@ -54,27 +54,38 @@ loop-less : tie.Need-loop-less Inv-loop μ-loop
 loop-less c = search needs
 
 loop-again : tie.Need-loop-again Inv-loop μ-loop
-loop-again c = let ps = c .before .before .before .before .before .before .before .before .before .before .before .args .job .packets in
-    let j = c .before .before .before .before .before .before .before .before .before .before .before .args .j in
-    let old = c .before .before .before .before .before .before .before .before .before .before .before .args .old .now in
-    let l = c .before .before .before .before .before .before .loop in
+loop-again c =
+    let then = c .before in let stays = then .stays in
+    let then = then .before .before in let number-of = then .number-of in
+    let then = then .before .before in let loop-test = then .loop-test in
+    let then = then .before in let l = then .loop in
+    let then = then .before .before in let size-of = then .size-of in
+    let args = then .before .before .before .args in
+    let ps = args .job .packets in
+    let j = args .j in
+    let old = args .old .now in
     let e = getD old (l .i) 0 in
-    let less = c .before .before .before .before .before .loop-test .taken in
-    let size = c .before .before .before .before .before .before .before .before .size-of .ensures in
+    let less = loop-test .taken in
+    let size = size-of .ensures in
     let h : l .i < length old = omega (arith, size .within) in
-    let t : isKept j ps e ≡ c .before .stays .result = rw (← c .before .before .before .number-of .ensures .is) (sym (c .before .stays .ensures)) in (
+    let t : isKept j ps e ≡ stays .result = rw (← number-of .ensures .is) (sym (stays .ensures)) in (
       omega arith,
       ⊎-elim
-          (λ w. rw (w .1, w .2) (relisting-kept (isKept j ps) old (l .entries) (l .kept) (l .i) (l .inv .1) h (omega (arith, l .inv .1 .few, size .few)) (t ∙ w .0 .taken)))
+          (λ w. rw (w .1, w .2) (relisting-kept (isKept j ps) old (l .entries) (l .kept) (l .i) (l .inv .1) h
+          (omega (arith, l .inv .1 .few, size .few)) (t ∙ w .0 .taken)))
           (λ w. rw (w .1, w .2) (relisting-gone (isKept j ps) old (l .entries) (l .kept) (l .i) (l .inv .1) h (t ∙ w .0 .left)))
           (c .if1 .came),
     )
 
 returns : tie.Need-returns Inv-loop μ-loop
-returns c = let l = c .before .loop in
-    let size = c .before .before .before .size-of .ensures in
-    let e : l .i ≡ c .before .before .before .size-of .result = omega (arith, l .inv .0, c .loop-test .left) in
-    relisted-done (c .before .before .before .before .before .before .args .j) (c .before .before .before .before .before .before .args .job .packets) (c .before .before .before .before .before .before .args .old .now) (l .entries) (c .before .before .before .before .before .before .args .count) (l .kept) (l .i) (l .inv .1) (omega (arith, size .few)) (e ∙ size .is)
+returns c =
+    let then = c .before .before .before in let size-of = then .size-of in
+    let args = then .before .before .before .args in
+    let l = c .before .loop in
+    let size = size-of .ensures in
+    let e : l .i ≡ size-of .result = omega (arith, l .inv .0, c .loop-test .left) in
+    relisted-done (args .j) (args .job .packets) (args .old .now) (l .entries) (args .count) (l .kept) (l .i) (l .inv .1)
+    (omega (arith, size .few)) (e ∙ size .is)
 
 pub relisted-spec : {M : Type 1} → statement M
 relisted-spec =

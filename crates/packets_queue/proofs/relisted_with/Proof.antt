@@ -17,7 +17,10 @@ with-entry-requires : tie.Need-with-entry-requires
 with-entry-requires c κs = c .relisted .ensures .tidy
 
 returns : tie.Need-returns
-returns c = c .with-entry .ensures ∙ ap (λ (l : List ℕ). padded (enlisted l (c .before .before .before .args .e))) (ap listOf (c .before .relisted .ensures .is) ∙ list-padded (relist (c .before .before .before .args .j) (c .before .before .before .args .job .packets) (listed (c .before .before .before .args .old .now) (c .before .before .before .args .count))))
+returns c =
+    let args = c .before .before .before .args in
+    c .with-entry .ensures ∙ ap (λ (l : List ℕ). padded (enlisted l (args .e)))
+    (ap listOf (c .before .relisted .ensures .is) ∙ list-padded (relist (args .j) (args .job .packets) (listed (args .old .now) (args .count))))
 
 pub relisted-with-spec : {M : Type 1} → statement M
 relisted-with-spec = tie.close (tie.spec relisted-requires with-entry-requires returns)

@@ -20,7 +20,10 @@ fresh-unit-requires : tie.Need-fresh-unit-requires
 fresh-unit-requires c κs = search needs
 
 returns : tie.Need-returns
-returns c = row-out (c .before .before .before .before .args .units .of) (of-square (c .before .before .before .grid-of .ensures)) (c .before .before .before .before .args .c .0) (c .before .if1 .taken) _ (rw (c .fresh-unit .ensures))
+returns c =
+    let then = c .before .before .before in let grid-of = then .grid-of in
+    let args = then .before .args in
+    row-out (args .units .of) (of-square (grid-of .ensures)) (args .c .0) (c .before .if1 .taken) _ (rw (c .fresh-unit .ensures))
 
 mul-result : tie.Need-mul-result
 mul-result c = search needs
@@ -29,7 +32,11 @@ array-copy-out-result : tie.Need-array-copy-out-result
 array-copy-out-result c = search needs
 
 returns-2 : tie.Need-returns-2
-returns-2 c = row-in (c .before .before .before .before .args .units .of) (c .before .before .before .before .args .c .0) (omega (arith, c .before .if1 .left)) _ (ap (λ (g : List (List Unit)). getD g (c .before .before .before .before .args .c .0) []) (c .before .before .before .grid-of .ensures .is))
+returns-2 c =
+    let then = c .before .before .before in let grid-of = then .grid-of in
+    let args = then .before .args in
+    row-in (args .units .of) (args .c .0) (omega (arith, c .before .if1 .left)) _
+    (ap (λ (g : List (List Unit)). getD g (args .c .0) []) (grid-of .ensures .is))
 
 pub row-of-spec : {M : Type 1} → statement M
 row-of-spec =

@@ -12,19 +12,25 @@ returns c = record { is = rw (lt-ltb 256 (length (c .before .args .entries .now)
 
 returns-2 : tie.Need-returns-2
 unfolding sizeOf
-returns-2 c = record {
-  is = rw (le-ltb 256 (length (c .before .before .args .entries .now)) (c .before .if1 .left), lt-ltb (length (c .before .before .args .entries .now)) (c .before .before .args .count) (c .if2 .taken));
-  few = c .before .if1 .left;
-  within = omega arith;
-}
+returns-2 c =
+    let then = c .before in let if1 = then .if1 in
+    let args = then .before .args in
+    record {
+      is = rw (le-ltb 256 (length (args .entries .now)) (if1 .left), lt-ltb (length (args .entries .now)) (args .count) (c .if2 .taken));
+      few = if1 .left;
+      within = omega arith;
+    }
 
 returns-3 : tie.Need-returns-3
 unfolding sizeOf
-returns-3 c = record {
-  is = rw (le-ltb 256 (length (c .before .before .args .entries .now)) (c .before .if1 .left), le-ltb (length (c .before .before .args .entries .now)) (c .before .before .args .count) (c .if2 .left));
-  few = omega (arith, c .before .if1 .left, c .if2 .left);
-  within = c .if2 .left;
-}
+returns-3 c =
+    let then = c .before in let if1 = then .if1 in
+    let args = then .before .args in
+    record {
+      is = rw (le-ltb 256 (length (args .entries .now)) (if1 .left), le-ltb (length (args .entries .now)) (args .count) (c .if2 .left));
+      few = omega (arith, if1 .left, c .if2 .left);
+      within = c .if2 .left;
+    }
 
 pub size-of-spec : {M : Type 1} → statement M
 size-of-spec = tie.close (tie.spec returns returns-2 returns-3)

@@ -15,13 +15,24 @@ returns-4 : tie.Need-returns-4
 returns-4 c = rw (c .before .before .before .if1 .left, c .before .before .if2 .left, c .before .if3 .left, c .if4 .taken)
 
 returns-5 : tie.Need-returns-5
-returns-5 c = rw (c .before .before .before .before .if1 .left, c .before .before .before .if2 .left, c .before .before .if3 .left, c .before .if4 .left, c .if5 .taken)
+returns-5 c =
+    let then = c .before .before .before in let if2 = then .if2 in
+    let if1 = then .before .if1 in
+    rw (if1 .left, if2 .left, c .before .before .if3 .left, c .before .if4 .left, c .if5 .taken)
 
 returns-6 : tie.Need-returns-6
-returns-6 c = rw (c .before .before .before .before .before .if1 .left, c .before .before .before .before .if2 .left, c .before .before .before .if3 .left, c .before .before .if4 .left, c .before .if5 .left, c .if6 .taken)
+returns-6 c =
+    let then = c .before .before .before in let if3 = then .if3 in
+    let then = then .before in let if2 = then .if2 in
+    let if1 = then .before .if1 in
+    rw (if1 .left, if2 .left, if3 .left, c .before .before .if4 .left, c .before .if5 .left, c .if6 .taken)
 
 returns-7 : tie.Need-returns-7
-returns-7 c = rw (c .before .before .before .before .before .if1 .left, c .before .before .before .before .if2 .left, c .before .before .before .if3 .left, c .before .before .if4 .left, c .before .if5 .left, c .if6 .left)
+returns-7 c =
+    let then = c .before .before .before in let if3 = then .if3 in
+    let then = then .before in let if2 = then .if2 in
+    let if1 = then .before .if1 in
+    rw (if1 .left, if2 .left, if3 .left, c .before .before .if4 .left, c .before .if5 .left, c .if6 .left)
 
 pub lowest-spec : {M : Type 1} → statement M
 lowest-spec =

@@ -28,7 +28,22 @@ lowest-requires : tie.Need-lowest-requires
 lowest-requires c κs = search needs
 
 returns : tie.Need-returns
-returns c = rw (c .lowest .ensures, c .before .is-busy .ensures, c .before .before .is-legal .ensures, c .before .before .before .is-returning .ensures, c .before .before .before .before .is-own .ensures, c .before .before .before .before .before .is-running .ensures, c .before .before .before .before .before .before .in-range .ensures, c .before .before .before .before .before .before .before .packet-in .ensures)
+returns c =
+    let then = c .before .before .before in let is-returning = then .is-returning in
+    let then = then .before in let is-own = then .is-own in
+    let then = then .before in let is-running = then .is-running in
+    let then = then .before in let in-range = then .in-range in
+    let packet-in = then .before .packet-in in
+    rw (
+      c .lowest .ensures,
+      c .before .is-busy .ensures,
+      c .before .before .is-legal .ensures,
+      is-returning .ensures,
+      is-own .ensures,
+      is-running .ensures,
+      in-range .ensures,
+      packet-in .ensures,
+    )
 
 pub verdict-spec : {M : Type 1} → statement M
 verdict-spec =

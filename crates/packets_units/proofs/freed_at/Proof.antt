@@ -17,13 +17,18 @@ with-holder-at-requires : tie.Need-with-holder-at-requires
 with-holder-at-requires c κs = search needs
 
 returns : tie.Need-returns
-returns c = let a = c .before .before .before .before .args in
-    let t : isReturning (unitAt (a .units .of) (a .c .0) (a .at) .holder) ≡ true = rw (← c .before .before .before .unit-where .ensures) (sym (c .before .before .is-returning .ensures) ∙ c .before .if1 .taken) in
+returns c =
+    let then = c .before .before .before in let unit-where = then .unit-where in
+    let a = then .before .args in
+    let t : isReturning (unitAt (a .units .of) (a .c .0) (a .at) .holder) ≡ true =
+    rw (← unit-where .ensures) (sym (c .before .before .is-returning .ensures) ∙ c .before .if1 .taken) in
     rw t (c .with-holder-at .ensures)
 
 returns-2 : tie.Need-returns-2
-returns-2 c = let a = c .before .before .before .args in
-    let t : isReturning (unitAt (a .units .of) (a .c .0) (a .at) .holder) ≡ false = rw (← c .before .before .unit-where .ensures) (sym (c .before .is-returning .ensures) ∙ c .if1 .left) in
+returns-2 c =
+    let a = c .before .before .before .args in
+    let t : isReturning (unitAt (a .units .of) (a .c .0) (a .at) .holder) ≡ false =
+    rw (← c .before .before .unit-where .ensures) (sym (c .before .is-returning .ensures) ∙ c .if1 .left) in
     rw t
 
 pub freed-at-spec : {M : Type 1} → statement M

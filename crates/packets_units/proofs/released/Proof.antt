@@ -28,7 +28,13 @@ grid-of-requires : tie.Need-grid-of-requires Inv-loop μ-loop
 grid-of-requires c κs = search needs
 
 loop-holds : tie.Need-loop-holds Inv-loop μ-loop
-loop-holds c = (omega arith, subst (λ (g : List (List Unit)). Passed (λ (d u : ℕ) (v : Unit). release (c .before .args .j) v) g (c .before .args .units .of) 0) (sym (c .grid-of .ensures .is)) (passed-none (λ (d u : ℕ) (v : Unit). release (c .before .args .j) v) (c .before .args .units .of) (of-square (c .grid-of .ensures))))
+loop-holds c =
+    let args = c .before .args in (
+      omega arith,
+      subst (λ (g : List (List Unit)). Passed (λ (d u : ℕ) (v : Unit). release (args .j) v) g (args .units .of) 0)
+          (sym (c .grid-of .ensures .is))
+          (passed-none (λ (d u : ℕ) (v : Unit). release (args .j) v) (args .units .of) (of-square (c .grid-of .ensures))),
+    )
 
 mul-unit : tie.Need-mul-unit Inv-loop μ-loop
 mul-unit c = search needs
@@ -65,23 +71,38 @@ loop-less c = omega (arith, c .before .before .before .loop-test .taken)
 
 loop-again : tie.Need-loop-again Inv-loop μ-loop
 unfolding unitIn
-loop-again c = let l = c .before .before .before .before .loop in
-    let grid = c .before .before .before .before .before .grid-of .result in
+loop-again c =
+    let then = c .before in let is-held-by = then .is-held-by in
+    let then = then .before .before in let loop-test = then .loop-test in
+    let then = then .before in let l = then .loop in
+    let then = then .before in let grid-of = then .grid-of in
+    let args = then .before .args in
+    let grid = grid-of .result in
     let unit = unitIn grid (l .i / 16) (l .i % 16) in
-    let less = c .before .before .before .loop-test .taken in
-    let f : ℕ → ℕ → Unit → Unit = (λ (d u : ℕ) (v : Unit). release (c .before .before .before .before .before .before .args .j) v) in (
+    let less = loop-test .taken in
+    let f : ℕ → ℕ → Unit → Unit = (λ (d u : ℕ) (v : Unit). release (args .j) v) in (
       omega arith,
       ⊎-elim
-          (λ w. subst (λ (n : Units). Passed f grid (n .of) (l .i + 1)) (sym (w .3 ∙ w .2 .ensures)) (passed-set f grid (l .next .of) (l .i) (l .inv .1) less (w .1 .result) (w .1 .ensures ∙ released-here unit (c .before .before .before .before .before .before .args .j) (sym (c .before .is-held-by .ensures) ∙ w .0 .taken))))
-          (λ w. subst (λ (n : Units). Passed f grid (n .of) (l .i + 1)) (sym (w .1)) (passed-left f grid (l .next .of) (l .i) (l .inv .1) less (released-not unit (c .before .before .before .before .before .before .args .j) (sym (c .before .is-held-by .ensures) ∙ w .0 .left))))
+          (λ w. subst (λ (n : Units). Passed f grid (n .of) (l .i + 1)) (sym (w .3 ∙ w .2 .ensures))
+          (passed-set f grid (l .next .of) (l .i) (l .inv .1) less (w .1 .result)
+          (w .1 .ensures ∙ released-here unit (args .j) (sym (is-held-by .ensures) ∙ w .0 .taken))))
+          (λ w. subst (λ (n : Units). Passed f grid (n .of) (l .i + 1)) (sym (w .1))
+          (passed-left f grid (l .next .of) (l .i) (l .inv .1) less (released-not unit (args .j) (sym (is-held-by .ensures) ∙ w .0 .left))))
           (c .if1 .came),
     )
 
 returns : tie.Need-returns Inv-loop μ-loop
-returns c = let l = c .before .loop in
-    let square : Square (c .before .before .before .args .units .of) = of-square (c .before .before .grid-of .ensures) in
-    let P : Passed (λ (d u : ℕ) (v : Unit). release (c .before .before .before .args .j) v) (c .before .before .before .args .units .of) (l .next .of) (l .i) = subst (λ (g : List (List Unit)). Passed (λ (d u : ℕ) (v : Unit). release (c .before .before .before .args .j) v) g (l .next .of) (l .i)) (c .before .before .grid-of .ensures .is) (l .inv .1) in
-    ap unitsFrom (passed-all (λ (d u : ℕ) (v : Unit). release (c .before .before .before .args .j) v) (c .before .before .before .args .units .of) (l .next .of) (releaseAll (c .before .before .before .args .units .of) (c .before .before .before .args .j)) (l .i) (c .loop-test .left) P (release-square (c .before .before .before .args .units .of) (c .before .before .before .args .j) square) (λ d u h k. unit-release (c .before .before .before .args .units .of) (c .before .before .before .args .j) d u))
+returns c =
+    let then = c .before .before in let grid-of = then .grid-of in
+    let args = then .before .args in
+    let l = c .before .loop in
+    let square : Square (args .units .of) = of-square (grid-of .ensures) in
+    let P : Passed (λ (d u : ℕ) (v : Unit). release (args .j) v) (args .units .of) (l .next .of) (l .i) =
+    subst (λ (g : List (List Unit)). Passed (λ (d u : ℕ) (v : Unit). release (args .j) v) g (l .next .of) (l .i))
+    (grid-of .ensures .is) (l .inv .1) in
+    ap unitsFrom (passed-all (λ (d u : ℕ) (v : Unit). release (args .j) v) (args .units .of) (l .next .of)
+    (releaseAll (args .units .of) (args .j)) (l .i) (c .loop-test .left) P (release-square (args .units .of) (args .j) square)
+    (λ d u h k. unit-release (args .units .of) (args .j) d u))
 
 pub released-spec : {M : Type 1} → statement M
 released-spec =

@@ -29,7 +29,13 @@ grid-of-requires : tie.Need-grid-of-requires Inv-loop μ-loop
 grid-of-requires c κs = search needs
 
 loop-holds : tie.Need-loop-holds Inv-loop μ-loop
-loop-holds c = (omega arith, subst (λ (g : List (List Unit)). Passed (λ (d u : ℕ) (v : Unit). takeUnit (c .before .args .j) (wantedIn (c .before .args .t3) d u) v) g (c .before .args .units .of) 0) (sym (c .grid-of .ensures .is)) (passed-none (λ (d u : ℕ) (v : Unit). takeUnit (c .before .args .j) (wantedIn (c .before .args .t3) d u) v) (c .before .args .units .of) (of-square (c .grid-of .ensures))))
+loop-holds c =
+    let args = c .before .args in (
+      omega arith,
+      subst (λ (g : List (List Unit)). Passed (λ (d u : ℕ) (v : Unit). takeUnit (args .j) (wantedIn (args .t3) d u) v) g (args .units .of) 0)
+          (sym (c .grid-of .ensures .is)) (passed-none (λ (d u : ℕ) (v : Unit). takeUnit (args .j) (wantedIn (args .t3) d u) v)
+          (args .units .of) (of-square (c .grid-of .ensures))),
+    )
 
 mul-unit : tie.Need-mul-unit Inv-loop μ-loop
 mul-unit c = search needs
@@ -69,24 +75,41 @@ loop-less c = omega (arith, c .before .before .before .loop-test .taken)
 
 loop-again : tie.Need-loop-again Inv-loop μ-loop
 unfolding unitIn
-loop-again c = let l = c .before .before .before .before .loop in
-    let grid = c .before .before .before .before .before .grid-of .result in
+loop-again c =
+    let then = c .before in let is-taken = then .is-taken in
+    let then = then .before .before in let loop-test = then .loop-test in
+    let then = then .before in let l = then .loop in
+    let then = then .before in let grid-of = then .grid-of in
+    let args = then .before .args in
+    let grid = grid-of .result in
     let unit = unitIn grid (l .i / 16) (l .i % 16) in
-    let less = c .before .before .before .loop-test .taken in
-    let t : (wantedIn (c .before .before .before .before .before .before .args .t3) (l .i / 16) (l .i % 16) && assignable unit) ≡ c .before .is-taken .result = ap (λ (b : Bool). b && assignable unit) (sym (wanted-is (c .before .before .before .before .before .before .args .t3) (l .i))) ∙ sym (c .before .is-taken .ensures) in
-    let f : ℕ → ℕ → Unit → Unit = (λ (d u : ℕ) (v : Unit). takeUnit (c .before .before .before .before .before .before .args .j) (wantedIn (c .before .before .before .before .before .before .args .t3) d u) v) in (
+    let less = loop-test .taken in
+    let t : (wantedIn (args .t3) (l .i / 16) (l .i % 16) && assignable unit) ≡ is-taken .result =
+    ap (λ (b : Bool). b && assignable unit) (sym (wanted-is (args .t3) (l .i))) ∙ sym (is-taken .ensures) in
+    let f : ℕ → ℕ → Unit → Unit = (λ (d u : ℕ) (v : Unit). takeUnit (args .j) (wantedIn (args .t3) d u) v) in (
       omega arith,
       ⊎-elim
-          (λ w. subst (λ (n : Units). Passed f grid (n .of) (l .i + 1)) (sym (w .3 ∙ w .2 .ensures)) (passed-set f grid (l .next .of) (l .i) (l .inv .1) less (w .1 .result) (w .1 .ensures ∙ taken-here unit (c .before .before .before .before .before .before .args .j) (wantedIn (c .before .before .before .before .before .before .args .t3) (l .i / 16) (l .i % 16)) (t ∙ w .0 .taken))))
-          (λ w. subst (λ (n : Units). Passed f grid (n .of) (l .i + 1)) (sym (w .1)) (passed-left f grid (l .next .of) (l .i) (l .inv .1) less (taken-not unit (c .before .before .before .before .before .before .args .j) (wantedIn (c .before .before .before .before .before .before .args .t3) (l .i / 16) (l .i % 16)) (t ∙ w .0 .left))))
+          (λ w. subst (λ (n : Units). Passed f grid (n .of) (l .i + 1)) (sym (w .3 ∙ w .2 .ensures))
+          (passed-set f grid (l .next .of) (l .i) (l .inv .1) less (w .1 .result)
+          (w .1 .ensures ∙ taken-here unit (args .j) (wantedIn (args .t3) (l .i / 16) (l .i % 16)) (t ∙ w .0 .taken))))
+          (λ w. subst (λ (n : Units). Passed f grid (n .of) (l .i + 1)) (sym (w .1))
+          (passed-left f grid (l .next .of) (l .i) (l .inv .1) less
+          (taken-not unit (args .j) (wantedIn (args .t3) (l .i / 16) (l .i % 16)) (t ∙ w .0 .left))))
           (c .if1 .came),
     )
 
 returns : tie.Need-returns Inv-loop μ-loop
-returns c = let l = c .before .loop in
-    let square : Square (c .before .before .before .args .units .of) = of-square (c .before .before .grid-of .ensures) in
-    let P : Passed (λ (d u : ℕ) (v : Unit). takeUnit (c .before .before .before .args .j) (wantedIn (c .before .before .before .args .t3) d u) v) (c .before .before .before .args .units .of) (l .next .of) (l .i) = subst (λ (g : List (List Unit)). Passed (λ (d u : ℕ) (v : Unit). takeUnit (c .before .before .before .args .j) (wantedIn (c .before .before .before .args .t3) d u) v) g (l .next .of) (l .i)) (c .before .before .grid-of .ensures .is) (l .inv .1) in
-    ap unitsFrom (passed-all (λ (d u : ℕ) (v : Unit). takeUnit (c .before .before .before .args .j) (wantedIn (c .before .before .before .args .t3) d u) v) (c .before .before .before .args .units .of) (l .next .of) (takeAll (c .before .before .before .args .units .of) (c .before .before .before .args .j) (wantedIn (c .before .before .before .args .t3))) (l .i) (c .loop-test .left) P (take-square (c .before .before .before .args .units .of) (c .before .before .before .args .j) (wantedIn (c .before .before .before .args .t3)) square) (take-read (c .before .before .before .args .units .of) (c .before .before .before .args .j) (wantedIn (c .before .before .before .args .t3)) square))
+returns c =
+    let then = c .before .before in let grid-of = then .grid-of in
+    let args = then .before .args in
+    let l = c .before .loop in
+    let square : Square (args .units .of) = of-square (grid-of .ensures) in
+    let P : Passed (λ (d u : ℕ) (v : Unit). takeUnit (args .j) (wantedIn (args .t3) d u) v) (args .units .of) (l .next .of) (l .i) =
+    subst (λ (g : List (List Unit)). Passed (λ (d u : ℕ) (v : Unit). takeUnit (args .j) (wantedIn (args .t3) d u) v) g (l .next .of) (l .i))
+    (grid-of .ensures .is) (l .inv .1) in
+    ap unitsFrom (passed-all (λ (d u : ℕ) (v : Unit). takeUnit (args .j) (wantedIn (args .t3) d u) v) (args .units .of) (l .next .of)
+    (takeAll (args .units .of) (args .j) (wantedIn (args .t3))) (l .i) (c .loop-test .left) P
+    (take-square (args .units .of) (args .j) (wantedIn (args .t3)) square) (take-read (args .units .of) (args .j) (wantedIn (args .t3)) square))
 
 pub taken-spec : {M : Type 1} → statement M
 taken-spec =

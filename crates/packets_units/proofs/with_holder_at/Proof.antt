@@ -16,7 +16,10 @@ with-state-at-requires : tie.Need-with-state-at-requires
 with-state-at-requires c κs = search needs
 
 returns : tie.Need-returns
-returns c = rw (c .with-state-at .ensures, c .before .handed .ensures, c .before .before .unit-where .ensures) (ap unitsFrom (held-as (c .before .before .before .args .units .of) (c .before .before .before .args .c .0) (c .before .before .before .args .at) (c .before .before .before .args .holder)))
+returns c =
+    let args = c .before .before .before .args in
+    rw (c .with-state-at .ensures, c .before .handed .ensures, c .before .before .unit-where .ensures)
+    (ap unitsFrom (held-as (args .units .of) (args .c .0) (args .at) (args .holder)))
 
 pub with-holder-at-spec : {M : Type 1} → statement M
 with-holder-at-spec =

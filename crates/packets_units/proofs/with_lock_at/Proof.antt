@@ -16,7 +16,10 @@ with-state-at-requires : tie.Need-with-state-at-requires
 with-state-at-requires c κs = search needs
 
 returns : tie.Need-returns
-returns c = rw (c .with-state-at .ensures, c .before .handed .ensures, c .before .before .unit-where .ensures) (ap unitsFrom (locked-as (c .before .before .before .args .units .of) (c .before .before .before .args .c .0) (c .before .before .before .args .at) (c .before .before .before .args .on)))
+returns c =
+    let args = c .before .before .before .args in
+    rw (c .with-state-at .ensures, c .before .handed .ensures, c .before .before .unit-where .ensures)
+    (ap unitsFrom (locked-as (args .units .of) (args .c .0) (args .at) (args .on)))
 
 pub with-lock-at-spec : {M : Type 1} → statement M
 with-lock-at-spec =

@@ -15,7 +15,9 @@ changed-at-requires : tie.Need-changed-at-requires
 changed-at-requires c κs = search needs
 
 returns : tie.Need-returns
-returns c = c .changed-at .ensures ∙ closing-by (c .before .before .before .args .schedule) (c .before .before .before .args .place) (c .before .before .of-place .ensures) (c .before .first-of .ensures)
+returns c =
+    let args = c .before .before .before .args in
+    c .changed-at .ensures ∙ closing-by (args .schedule) (args .place) (c .before .before .of-place .ensures) (c .before .first-of .ensures)
 
 pub closing-spec : {M : Type 1} → statement M
 closing-spec = tie.close (tie.spec of-place-requires first-of-requires changed-at-requires returns)

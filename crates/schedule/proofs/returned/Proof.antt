@@ -16,7 +16,12 @@ size-requires : tie.Need-size-requires
 size-requires c κs = search needs
 
 returns : tie.Need-returns
-returns c = return-none (c .before .before .before .before .args .schedule) (c .before .before .first-of .result) (c .before .size .ensures) (c .before .before .before .before .args .in-error) (c .if1 .taken) ∙ returned-by (c .before .before .before .before .args .schedule) (c .before .before .before .before .args .place) (c .before .before .before .of-place .ensures) (c .before .before .first-of .ensures) (c .before .before .before .before .args .in-error)
+returns c =
+    let then = c .before .before in let first-of = then .first-of in
+    let then = then .before in let of-place = then .of-place in
+    let args = then .before .args in
+    return-none (args .schedule) (first-of .result) (c .before .size .ensures) (args .in-error) (c .if1 .taken)
+    ∙ returned-by (args .schedule) (args .place) (of-place .ensures) (first-of .ensures) (args .in-error)
 
 entry-at-requires : tie.Need-entry-at-requires
 entry-at-requires c κs = search needs
@@ -25,19 +30,48 @@ without-requires : tie.Need-without-requires
 without-requires c κs = search needs
 
 returns-2 : tie.Need-returns-2
-returns-2 c = c .without .ensures ∙ return-normal (c .before .before .before .before .before .before .before .before .args .schedule) (c .before .before .before .before .before .before .first-of .result) (c .before .before .before .before .before .size .ensures) (c .before .before .before .before .if1 .left) (c .before .before .before .entry-at .ensures) (c .before .before .before .before .before .before .before .before .args .in-error) (not-true (c .before .before .before .before .before .before .before .before .args .in-error) (c .before .if2 .taken)) ∙ returned-by (c .before .before .before .before .before .before .before .before .args .schedule) (c .before .before .before .before .before .before .before .before .args .place) (c .before .before .before .before .before .before .before .of-place .ensures) (c .before .before .before .before .before .before .first-of .ensures) (c .before .before .before .before .before .before .before .before .args .in-error)
+returns-2 c =
+    let then = c .before .before .before in let entry-at = then .entry-at in
+    let then = then .before in let if1 = then .if1 in
+    let then = then .before in let size = then .size in
+    let then = then .before in let first-of = then .first-of in
+    let then = then .before in let of-place = then .of-place in
+    let args = then .before .args in
+    c .without .ensures ∙ return-normal (args .schedule) (first-of .result) (size .ensures) (if1 .left) (entry-at .ensures) (args .in-error)
+    (not-true (args .in-error) (c .before .if2 .taken))
+    ∙ returned-by (args .schedule) (args .place) (of-place .ensures) (first-of .ensures) (args .in-error)
 
 changed-at-requires : tie.Need-changed-at-requires
 changed-at-requires c κs = search needs
 
 returns-3 : tie.Need-returns-3
-returns-3 c = c .changed-at .ensures ∙ return-suspends (c .before .before .before .before .before .before .before .before .before .before .args .schedule) (c .before .before .before .before .before .before .before .before .first-of .result) (c .before .before .before .before .before .before .before .size .ensures) (c .before .before .before .before .before .before .if1 .left) (c .before .before .before .before .before .entry-at .ensures) (c .before .before .before .before .before .before .before .before .before .before .args .in-error) (not-false (c .before .before .before .before .before .before .before .before .before .before .args .in-error) (c .before .before .before .if2 .left)) (c .before .if3 .taken) ∙ returned-by (c .before .before .before .before .before .before .before .before .before .before .args .schedule) (c .before .before .before .before .before .before .before .before .before .before .args .place) (c .before .before .before .before .before .before .before .before .before .of-place .ensures) (c .before .before .before .before .before .before .before .before .first-of .ensures) (c .before .before .before .before .before .before .before .before .before .before .args .in-error)
+returns-3 c =
+    let then = c .before .before .before in let if2 = then .if2 in
+    let then = then .before .before in let entry-at = then .entry-at in
+    let then = then .before in let if1 = then .if1 in
+    let then = then .before in let size = then .size in
+    let then = then .before in let first-of = then .first-of in
+    let then = then .before in let of-place = then .of-place in
+    let args = then .before .args in
+    c .changed-at .ensures ∙ return-suspends (args .schedule) (first-of .result) (size .ensures) (if1 .left) (entry-at .ensures)
+    (args .in-error) (not-false (args .in-error) (if2 .left)) (c .before .if3 .taken)
+    ∙ returned-by (args .schedule) (args .place) (of-place .ensures) (first-of .ensures) (args .in-error)
 
 without-requires-2 : tie.Need-without-requires-2
 without-requires-2 c κs = search needs
 
 returns-4 : tie.Need-returns-4
-returns-4 c = c .without2 .ensures ∙ return-removes (c .before .before .before .before .before .before .before .before .before .before .args .schedule) (c .before .before .before .before .before .before .before .before .first-of .result) (c .before .before .before .before .before .before .before .size .ensures) (c .before .before .before .before .before .before .if1 .left) (c .before .before .before .before .before .entry-at .ensures) (c .before .before .before .before .before .before .before .before .before .before .args .in-error) (not-false (c .before .before .before .before .before .before .before .before .before .before .args .in-error) (c .before .before .before .if2 .left)) (c .before .if3 .left) ∙ returned-by (c .before .before .before .before .before .before .before .before .before .before .args .schedule) (c .before .before .before .before .before .before .before .before .before .before .args .place) (c .before .before .before .before .before .before .before .before .before .of-place .ensures) (c .before .before .before .before .before .before .before .before .first-of .ensures) (c .before .before .before .before .before .before .before .before .before .before .args .in-error)
+returns-4 c =
+    let then = c .before .before .before in let if2 = then .if2 in
+    let then = then .before .before in let entry-at = then .entry-at in
+    let then = then .before in let if1 = then .if1 in
+    let then = then .before in let size = then .size in
+    let then = then .before in let first-of = then .first-of in
+    let then = then .before in let of-place = then .of-place in
+    let args = then .before .args in
+    c .without2 .ensures ∙ return-removes (args .schedule) (first-of .result) (size .ensures) (if1 .left) (entry-at .ensures) (args .in-error)
+    (not-false (args .in-error) (if2 .left)) (c .before .if3 .left)
+    ∙ returned-by (args .schedule) (args .place) (of-place .ensures) (first-of .ensures) (args .in-error)
 
 pub returned-spec : {M : Type 1} → statement M
 returned-spec =

@@ -25,25 +25,43 @@ loop-holds : tie.Need-loop-holds Inv-loop μ-loop
 loop-holds c = marks-start _
 
 mul-lower-stands : tie.Need-mul-lower-stands Inv-loop μ-loop
-mul-lower-stands c = omega (arith, few (c .before .before .before .before .before .before .args .schedule) (full (c .before .before .before .before .before .before .args .schedule) _ (c .before .before .before .before .before .before .good .0)) (c .before .before .before .before .before .size .ensures))
+mul-lower-stands c =
+    let then = c .before .before .before .before .before in let size = then .size in
+    let then = then .before in let args = then .args in let good = then .good in
+    omega (arith, few (args .schedule) (full (args .schedule) _ (good .0)) (size .ensures))
 
 array-copy-out-lower-stands : tie.Need-array-copy-out-lower-stands Inv-loop μ-loop
-array-copy-out-lower-stands c = omega (arith, few (c .before .before .before .before .before .before .args .schedule) (full (c .before .before .before .before .before .before .args .schedule) _ (c .before .before .before .before .before .before .good .0)) (c .before .before .before .before .before .size .ensures))
+array-copy-out-lower-stands c =
+    let then = c .before .before .before .before .before in let size = then .size in
+    let then = then .before in let args = then .args in let good = then .good in
+    omega (arith, few (args .schedule) (full (args .schedule) _ (good .0)) (size .ensures))
 
 lower-stands-requires : tie.Need-lower-stands-requires Inv-loop μ-loop
-lower-stands-requires c κs = few (c .before .before .before .before .before .before .before .args .schedule) (full (c .before .before .before .before .before .before .before .args .schedule) _ (c .before .before .before .before .before .before .before .good .0)) (c .before .before .before .before .before .before .size .ensures)
+lower-stands-requires c κs =
+    let then = c .before .before .before .before .before .before in let size = then .size in
+    let then = then .before in let args = then .args in let good = then .good in
+    few (args .schedule) (full (args .schedule) _ (good .0)) (size .ensures)
 
 mul-is-candidate : tie.Need-mul-is-candidate Inv-loop μ-loop
-mul-is-candidate c = omega (arith, few (c .before .before .before .before .before .before .before .before .args .schedule) (full (c .before .before .before .before .before .before .before .before .args .schedule) _ (c .before .before .before .before .before .before .before .before .good .0)) (c .before .before .before .before .before .before .before .size .ensures))
+mul-is-candidate c =
+    let then = c .before .before .before .before .before .before .before in let size = then .size in
+    let then = then .before in let args = then .args in let good = then .good in
+    omega (arith, few (args .schedule) (full (args .schedule) _ (good .0)) (size .ensures))
 
 array-copy-out-is-candidate : tie.Need-array-copy-out-is-candidate Inv-loop μ-loop
-array-copy-out-is-candidate c = omega (arith, few (c .before .before .before .before .before .before .before .before .args .schedule) (full (c .before .before .before .before .before .before .before .before .args .schedule) _ (c .before .before .before .before .before .before .before .before .good .0)) (c .before .before .before .before .before .before .before .size .ensures))
+array-copy-out-is-candidate c =
+    let then = c .before .before .before .before .before .before .before in let size = then .size in
+    let then = then .before in let args = then .args in let good = then .good in
+    omega (arith, few (args .schedule) (full (args .schedule) _ (good .0)) (size .ensures))
 
 is-candidate-requires : tie.Need-is-candidate-requires Inv-loop μ-loop
 is-candidate-requires c κs = search needs
 
 array-write-marks : tie.Need-array-write-marks Inv-loop μ-loop
-array-write-marks c = omega (arith, few (c .before .before .before .before .before .before .before .before .before .before .args .schedule) (full (c .before .before .before .before .before .before .before .before .before .before .args .schedule) _ (c .before .before .before .before .before .before .before .before .before .before .good .0)) (c .before .before .before .before .before .before .before .before .before .size .ensures))
+array-write-marks c =
+    let then = c .before .before .before .before .before .before .before .before .before in let size = then .size in
+    let then = then .before in let args = then .args in let good = then .good in
+    omega (arith, few (args .schedule) (full (args .schedule) _ (good .0)) (size .ensures))
 
 add-k : tie.Need-add-k Inv-loop μ-loop
 add-k c = search needs
@@ -52,10 +70,19 @@ loop-less : tie.Need-loop-less Inv-loop μ-loop
 loop-less c = search needs
 
 loop-again : tie.Need-loop-again Inv-loop μ-loop
-loop-again c = marks-turn (c .before .before .before .before .before .before .before .before .before .before .args .schedule) (full (c .before .before .before .before .before .before .before .before .before .before .args .schedule) _ (c .before .before .before .before .before .before .before .before .before .before .good .0)) (c .before .before .before .before .before .before .before .before .before .size .ensures) _ (c .before .before .before .before .before .loop .inv) (omega arith) (c .before .before .before .before .before .before .before .before .outline-of .ensures) (c .before .before .lower-stands .ensures) (c .is-candidate .ensures)
+loop-again c =
+    let then = c .before .before .before .before .before in let loop = then .loop in
+    let then = then .before .before .before in let outline-of = then .outline-of in
+    let then = then .before in let size = then .size in
+    let then = then .before in let args = then .args in let good = then .good in
+    marks-turn (args .schedule) (full (args .schedule) _ (good .0)) (size .ensures) _ (loop .inv) (omega arith) (outline-of .ensures)
+    (c .before .before .lower-stands .ensures) (c .is-candidate .ensures)
 
 returns : tie.Need-returns Inv-loop μ-loop
-returns c = marks-end (c .before .before .before .before .before .before .args .schedule) (full (c .before .before .before .before .before .before .args .schedule) _ (c .before .before .before .before .before .before .good .0)) (c .before .before .before .before .before .size .ensures) (c .before .loop .inv) (omega arith)
+returns c =
+    let then = c .before .before .before .before .before in let size = then .size in
+    let then = then .before in let args = then .args in let good = then .good in
+    marks-end (args .schedule) (full (args .schedule) _ (good .0)) (size .ensures) (c .before .loop .inv) (omega arith)
 
 pub all-spec : {M : Type 1} → statement M
 all-spec =

@@ -14,7 +14,9 @@ is-serial-requires : tie.Need-is-serial-requires
 is-serial-requires c κs = search needs
 
 returns-2 : tie.Need-returns-2
-returns-2 c = rw (c .before .before .before .before .if1 .left, sym (c .before .before .is-active .ensures) ∙ c .before .if2 .taken) (c .is-serial .ensures)
+returns-2 c =
+    let if1 = c .before .before .before .before .if1 in
+    rw (if1 .left, sym (c .before .before .is-active .ensures) ∙ c .before .if2 .taken) (c .is-serial .ensures)
 
 returns-3 : tie.Need-returns-3
 returns-3 c = rw (c .before .before .before .if1 .left, sym (c .before .is-active .ensures) ∙ c .if2 .left)

@@ -27,7 +27,10 @@ is-lower-requires : tie.Need-is-lower-requires Inv-loop μ-loop
 is-lower-requires c κs = search needs
 
 returns : tie.Need-returns Inv-loop μ-loop
-returns c = lower-yes (c .before .before .before .before .before .args .t1) (c .before .before .before .before .before .args .n) (c .before .before .before .before .loop .i) (c .before .before .before .before .before .args .key) (c .before .before .before .before .loop .inv) (c .before .is-lower .ensures) (omega arith) (c .if1 .taken)
+returns c =
+    let then = c .before .before .before .before in let loop = then .loop in
+    let args = then .before .args in
+    lower-yes (args .t1) (args .n) (loop .i) (args .key) (loop .inv) (c .before .is-lower .ensures) (omega arith) (c .if1 .taken)
 
 add-i : tie.Need-add-i Inv-loop μ-loop
 add-i c = search needs
@@ -36,10 +39,16 @@ loop-less : tie.Need-loop-less Inv-loop μ-loop
 loop-less c = search needs
 
 loop-again : tie.Need-loop-again Inv-loop μ-loop
-loop-again c = lower-more (c .before .before .before .before .before .args .t1) (c .before .before .before .before .before .args .n) (c .before .before .before .before .loop .i) (c .before .before .before .before .before .args .key) (c .before .before .before .before .loop .inv) (c .before .is-lower .ensures) (omega arith) (c .if1 .left)
+loop-again c =
+    let then = c .before .before .before .before in let loop = then .loop in
+    let args = then .before .args in
+    lower-more (args .t1) (args .n) (loop .i) (args .key) (loop .inv) (c .before .is-lower .ensures) (omega arith) (c .if1 .left)
 
 returns-2 : tie.Need-returns-2 Inv-loop μ-loop
-returns-2 c = lower-no (c .before .before .args .t1) (c .before .before .args .n) (c .before .loop .i) (c .before .before .args .key) (c .before .loop .inv) (omega arith)
+returns-2 c =
+    let then = c .before in let loop = then .loop in
+    let args = then .before .args in
+    lower-no (args .t1) (args .n) (loop .i) (args .key) (loop .inv) (omega arith)
 
 pub lower-stands-spec : {M : Type 1} → statement M
 lower-stands-spec =

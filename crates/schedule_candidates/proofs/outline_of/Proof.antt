@@ -22,19 +22,31 @@ loop-holds : tie.Need-loop-holds Inv-loop μ-loop
 loop-holds c = outline-start _
 
 mul-entry : tie.Need-mul-entry Inv-loop μ-loop
-mul-entry c = omega (arith, few (c .before .before .before .before .args .schedule) (full (c .before .before .before .before .args .schedule) _ (c .before .before .before .before .good .0)) (c .before .before .before .size .ensures))
+mul-entry c =
+    let then = c .before .before .before in let size = then .size in
+    let then = then .before in let args = then .args in let good = then .good in
+    omega (arith, few (args .schedule) (full (args .schedule) _ (good .0)) (size .ensures))
 
 array-copy-out-entry : tie.Need-array-copy-out-entry Inv-loop μ-loop
-array-copy-out-entry c = omega (arith, few (c .before .before .before .before .args .schedule) (full (c .before .before .before .before .args .schedule) _ (c .before .before .before .before .good .0)) (c .before .before .before .size .ensures))
+array-copy-out-entry c =
+    let then = c .before .before .before in let size = then .size in
+    let then = then .before in let args = then .args in let good = then .good in
+    omega (arith, few (args .schedule) (full (args .schedule) _ (good .0)) (size .ensures))
 
 key-of-requires : tie.Need-key-of-requires Inv-loop μ-loop
 key-of-requires c κs = search needs
 
 mul-keys : tie.Need-mul-keys Inv-loop μ-loop
-mul-keys c = omega (arith, few (c .before .before .before .before .before .before .before .args .schedule) (full (c .before .before .before .before .before .before .before .args .schedule) _ (c .before .before .before .before .before .before .before .good .0)) (c .before .before .before .before .before .before .size .ensures))
+mul-keys c =
+    let then = c .before .before .before .before .before .before in let size = then .size in
+    let then = then .before in let args = then .args in let good = then .good in
+    omega (arith, few (args .schedule) (full (args .schedule) _ (good .0)) (size .ensures))
 
 array-set-from-keys : tie.Need-array-set-from-keys Inv-loop μ-loop
-array-set-from-keys c = omega (arith, few (c .before .before .before .before .before .before .before .args .schedule) (full (c .before .before .before .before .before .before .before .args .schedule) _ (c .before .before .before .before .before .before .before .good .0)) (c .before .before .before .before .before .before .size .ensures))
+array-set-from-keys c =
+    let then = c .before .before .before .before .before .before in let size = then .size in
+    let then = then .before in let args = then .args in let good = then .good in
+    omega (arith, few (args .schedule) (full (args .schedule) _ (good .0)) (size .ensures))
 
 runs-with-requires : tie.Need-runs-with-requires Inv-loop μ-loop
 runs-with-requires c κs = search needs
@@ -49,10 +61,18 @@ loop-less : tie.Need-loop-less Inv-loop μ-loop
 loop-less c = search needs
 
 loop-again : tie.Need-loop-again Inv-loop μ-loop
-loop-again c = outline-turn (c .before .before .before .before .before .before .before .before .before .args .schedule) (full (c .before .before .before .before .before .before .before .before .before .args .schedule) _ (c .before .before .before .before .before .before .before .before .before .good .0)) (c .before .before .before .before .before .before .before .before .size .ensures) _ (c .before .before .before .before .before .before .loop .inv) (omega arith) (c .before .before .key-of .ensures) (c .before .runs-with .ensures) (c .alone-with .ensures)
+loop-again c =
+    let then = c .before .before .before .before .before .before in let loop = then .loop in
+    let then = then .before .before in let size = then .size in
+    let then = then .before in let args = then .args in let good = then .good in
+    outline-turn (args .schedule) (full (args .schedule) _ (good .0)) (size .ensures) _ (loop .inv) (omega arith)
+    (c .before .before .key-of .ensures) (c .before .runs-with .ensures) (c .alone-with .ensures)
 
 returns : tie.Need-returns Inv-loop μ-loop
-returns c = outline-end (c .before .before .before .before .args .schedule) (full (c .before .before .before .before .args .schedule) _ (c .before .before .before .before .good .0)) (c .before .before .before .size .ensures) (c .before .loop .inv) (omega arith)
+returns c =
+    let then = c .before .before .before in let size = then .size in
+    let then = then .before in let args = then .args in let good = then .good in
+    outline-end (args .schedule) (full (args .schedule) _ (good .0)) (size .ensures) (c .before .loop .inv) (omega arith)
 
 pub outline-of-spec : {M : Type 1} → statement M
 outline-of-spec =

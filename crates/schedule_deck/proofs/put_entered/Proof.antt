@@ -23,7 +23,12 @@ same-length : tie.Need-same-length
 same-length c = search needs
 
 returns : tie.Need-returns
-returns c = noted (groupsOf (cardsOf (c .before .before .before .before .before .before .before .before .before .before .before .before .before .before .args .part .now))) (c .before .before .before .before .before .before .before .before .before .before .begin .ensures) (c .before .before .before .before .before .before .before .before .before .put-groups .ensures) (c .before .before .put-last .ensures)
+returns c =
+    let then = c .before .before .before .before .before .before .before .before .before in
+    let put-groups = then .put-groups in
+    let then = then .before in let begin = then .begin in
+    let args = then .before .before .before .before .args in
+    noted (groupsOf (cardsOf (args .part .now))) (begin .ensures) (put-groups .ensures) (c .before .before .put-last .ensures)
 
 pub put-entered-spec : {M : Type 1} → statement M
 put-entered-spec =

@@ -16,13 +16,18 @@ use Rattle.schedule_deck.proofs.put_groups.Statement.{statement}
 use Rattle.schedule_deck.proofs.put_groups.Tie as tie
 
 abbrev Inv-loop : tie.InvT-loop
-Inv-loop out₀ part schedule₀ outline₀ shown₀ last₀ at₀ from₀ out schedule outline shown last at from = AtGroups part out₀ (record { schedule = schedule₀; shown = shown₀; last = last₀ }) out (record { schedule = schedule; shown = shown; last = last }) at from × Outlines (inSchedule schedule) outline
+Inv-loop out₀ part schedule₀ outline₀ shown₀ last₀ at₀ from₀ out schedule outline shown last at from =
+    AtGroups part out₀ (record { schedule = schedule₀; shown = shown₀; last = last₀ }) out
+    (record { schedule = schedule; shown = shown; last = last }) at from
+    × Outlines (inSchedule schedule) outline
 
 abbrev μ-loop : tie.MeasureT-loop
 μ-loop out₀ part schedule₀ outline₀ shown₀ last₀ at₀ from₀ out schedule outline shown last at from = length part - from
 
 loop-holds : tie.Need-loop-holds Inv-loop μ-loop
-loop-holds c = (groups-start (c .before .before .before .before .before .before .args .part .now) (c .before .before .before .before .before .before .args .out .now) (c .before .before .before .before .before .before .args .start), c .before .before .outline-of .ensures)
+loop-holds c =
+    let args = c .before .before .before .before .before .before .args in
+    (groups-start (args .part .now) (args .out .now) (args .start), c .before .before .outline-of .ensures)
 
 outline-of-requires : tie.Need-outline-of-requires Inv-loop μ-loop
 outline-of-requires c κs = search needs
@@ -43,10 +48,14 @@ step-to-requires : tie.Need-step-to-requires Inv-loop μ-loop
 step-to-requires c κs = search needs
 
 same-length : tie.Need-same-length Inv-loop μ-loop
-same-length c = same-room (groups-over (c .before .before .before .before .before .loop .inv .0) (c .before .before .first-group .ensures) (c .before .if1 .taken) refl .text)
+same-length c =
+    let loop = c .before .before .before .before .before .loop in
+    same-room (groups-over (loop .inv .0) (c .before .before .first-group .ensures) (c .before .if1 .taken) refl .text)
 
 returns : tie.Need-returns Inv-loop μ-loop
-returns c = groups-over (c .before .before .before .before .before .loop .inv .0) (c .before .before .first-group .ensures) (c .before .if1 .taken) (c .step-to .ensures)
+returns c =
+    let loop = c .before .before .before .before .before .loop in
+    groups-over (loop .inv .0) (c .before .before .first-group .ensures) (c .before .if1 .taken) (c .step-to .ensures)
 
 card-at-requires : tie.Need-card-at-requires Inv-loop μ-loop
 card-at-requires c κs = search needs
@@ -79,18 +88,58 @@ put-verdict-requires-2 : tie.Need-put-verdict-requires-2 Inv-loop μ-loop
 put-verdict-requires-2 c κs = search needs
 
 add-from : tie.Need-add-from Inv-loop μ-loop
-add-from c = omega (arith, c .before .before .before .before .before .before .before .before .before .before .before .before .before .before .before .before .good .1 .0, group-within (c .before .before .before .before .before .before .before .before .before .loop .inv .0) (c .before .before .before .before .before .before .first-group .ensures) (c .before .before .before .before .before .before .before .before .loop-test .taken))
+add-from c =
+    let then = c .before .before .before .before .before .before in let first-group = then .first-group in
+    let then = then .before .before in let loop-test = then .loop-test in
+    let then = then .before in let loop = then .loop in
+    let good = then .before .before .before .before .before .before .before .good in
+    omega (arith, good .1 .0, group-within (loop .inv .0) (first-group .ensures) (loop-test .taken))
 
 loop-less : tie.Need-loop-less Inv-loop μ-loop
-loop-less c = omega (arith, group-within (c .before .before .before .before .before .before .before .before .before .loop .inv .0) (c .before .before .before .before .before .before .first-group .ensures) (c .before .before .before .before .before .before .before .before .loop-test .taken))
+loop-less c =
+    let then = c .before .before .before .before .before .before in let first-group = then .first-group in
+    let then = then .before .before in let loop-test = then .loop-test in
+    let loop = then .before .loop in
+    omega (arith, group-within (loop .inv .0) (first-group .ensures) (loop-test .taken))
 
 loop-again : tie.Need-loop-again Inv-loop μ-loop
-loop-again c = let p : Progress = record { schedule = c .before .before .before .before .before .before .before .before .before .loop .schedule; shown = c .before .before .before .before .before .before .before .before .before .loop .shown; last = c .before .before .before .before .before .before .before .before .before .loop .last } in
+loop-again c =
+    let then = c .before in let is-good = then .is-good in
+    let then = then .before in let read-group = then .read-group in
+    let then = then .before in let shown-by = then .shown-by in
+    let then = then .before in let card-at = then .card-at in
+    let then = then .before in let if1 = then .if1 in
+    let then = then .before in let first-group = then .first-group in
+    let then = then .before .before in let loop-test = then .loop-test in
+    let loop = then .before .loop in
+    let p : Progress = record { schedule = loop .schedule; shown = loop .shown; last = loop .last } in
     ⊎-elim
-    (λ w. (groups-meet (w .14) (w .15) (w .17) (w .18) (groups-turn (c .before .before .before .before .before .before .before .before .before .loop .inv .0) (c .before .before .before .before .before .before .first-group .ensures) (c .before .before .before .before .before .before .before .before .loop-test .taken) (c .before .before .before .before .before .if1 .left) (group-read p _ (c .before .before .before .before .card-at .ensures) (c .before .before .before .shown-by .ensures) (c .before .before .read-group .ensures) (judged-good (c .before .before .before .before .before .before .before .before .before .loop .schedule) (c .before .before .read-group .result .request) (c .before .before .before .before .before .before .before .before .before .loop .inv .1) (w .2 .ensures) (w .11 .ensures) (w .9 .ensures) (w .10 .taken) ∙ tried-good (c .before .before .before .before .before .before .before .before .before .loop .schedule) (c .before .before .read-group .result) (c .before .is-good .ensures) (w .0 .taken)) (w .8 .ensures) (w .4 .ensures))), outline-meet (w .15) (w .16) (outline-follows (c .before .before .before .before .before .before .before .before .before .loop .schedule) (c .before .before .read-group .result .request) (c .before .before .before .before .before .before .before .before .before .loop .inv .1) (w .2 .ensures) (w .11 .ensures))))
+    (λ w. (
+      groups-meet (w .14) (w .15) (w .17) (w .18) (groups-turn (loop .inv .0) (first-group .ensures) (loop-test .taken) (if1 .left)
+          (group-read p _ (card-at .ensures) (shown-by .ensures) (read-group .ensures)
+          (judged-good (loop .schedule) (read-group .result .request) (loop .inv .1) (w .2 .ensures) (w .11 .ensures)
+          (w .9 .ensures) (w .10 .taken)
+          ∙ tried-good (loop .schedule) (read-group .result) (is-good .ensures) (w .0 .taken))
+          (w .8 .ensures) (w .4 .ensures))),
+      outline-meet (w .15) (w .16)
+          (outline-follows (loop .schedule) (read-group .result .request) (loop .inv .1) (w .2 .ensures) (w .11 .ensures)),
+    ))
     (⊎-elim
-    (λ w. (groups-meet (w .11) (w .12) (w .14) (w .15) (groups-turn (c .before .before .before .before .before .before .before .before .before .loop .inv .0) (c .before .before .before .before .before .before .first-group .ensures) (c .before .before .before .before .before .before .before .before .loop-test .taken) (c .before .before .before .before .before .if1 .left) (group-read p _ (c .before .before .before .before .card-at .ensures) (c .before .before .before .shown-by .ensures) (c .before .before .read-group .ensures) (judged-wrong (c .before .before .before .before .before .before .before .before .before .loop .schedule) (c .before .before .read-group .result .request) (c .before .before .before .before .before .before .before .before .before .loop .inv .1) (w .2 .ensures) (w .9 .ensures) (w .10 .left) ∙ tried-good (c .before .before .before .before .before .before .before .before .before .loop .schedule) (c .before .before .read-group .result) (c .before .is-good .ensures) (w .0 .taken)) (w .8 .ensures) (w .4 .ensures))), outline-meet (w .12) (w .13) (c .before .before .before .before .before .before .before .before .before .loop .inv .1)))
-    (λ w. (groups-meet (w .5) (w .6) (w .8) (w .9) (groups-turn (c .before .before .before .before .before .before .before .before .before .loop .inv .0) (c .before .before .before .before .before .before .first-group .ensures) (c .before .before .before .before .before .before .before .before .loop-test .taken) (c .before .before .before .before .before .if1 .left) (group-read p _ (c .before .before .before .before .card-at .ensures) (c .before .before .before .shown-by .ensures) (c .before .before .read-group .ensures) (tried-bad (c .before .before .before .before .before .before .before .before .before .loop .schedule) (c .before .before .read-group .result) (c .before .is-good .ensures) (w .0 .left)) (last-kept (c .before .before .read-group .result .verdict) (c .before .before .before .before .before .before .before .before .before .loop .last) _ (c .before .is-good .ensures) (w .0 .left)) (w .2 .ensures))), outline-meet (w .6) (w .7) (c .before .before .before .before .before .before .before .before .before .loop .inv .1))))
+    (λ w. (
+      groups-meet (w .11) (w .12) (w .14) (w .15) (groups-turn (loop .inv .0) (first-group .ensures) (loop-test .taken) (if1 .left)
+          (group-read p _ (card-at .ensures) (shown-by .ensures) (read-group .ensures)
+          (judged-wrong (loop .schedule) (read-group .result .request) (loop .inv .1) (w .2 .ensures) (w .9 .ensures) (w .10 .left)
+          ∙ tried-good (loop .schedule) (read-group .result) (is-good .ensures) (w .0 .taken))
+          (w .8 .ensures) (w .4 .ensures))),
+      outline-meet (w .12) (w .13) (loop .inv .1),
+    ))
+    (λ w. (
+      groups-meet (w .5) (w .6) (w .8) (w .9) (groups-turn (loop .inv .0) (first-group .ensures) (loop-test .taken) (if1 .left)
+          (group-read p _ (card-at .ensures) (shown-by .ensures) (read-group .ensures)
+          (tried-bad (loop .schedule) (read-group .result) (is-good .ensures) (w .0 .left))
+          (last-kept (read-group .result .verdict) (loop .last) _ (is-good .ensures) (w .0 .left)) (w .2 .ensures))),
+      outline-meet (w .6) (w .7) (loop .inv .1),
+    )))
     (c .if2 .came)
 
 step-to-requires-2 : tie.Need-step-to-requires-2 Inv-loop μ-loop

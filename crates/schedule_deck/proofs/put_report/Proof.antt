@@ -31,7 +31,14 @@ same-length : tie.Need-same-length
 same-length c = search needs
 
 returns : tie.Need-returns
-returns c = report-put (groupsOf (cardsOf (c .before .before .before .before .before .before .before .before .before .before .before .before .before .before .before .before .before .before .before .args .part .now))) (c .before .before .before .before .before .before .before .before .before .before .before .before .before .before .before .empty .ensures) (c .before .before .before .before .before .before .before .before .before .before .before .before .before .before .begin .ensures) (c .before .before .before .before .before .before .before .before .before .before .before .before .before .put-groups .ensures) (c .before .before .before .before .before .before .put-schedule .ensures) (c .before .before .put-last .ensures)
+returns c =
+    let then = c .before .before .before .before .before .before in let put-schedule = then .put-schedule in
+    let then = then .before .before .before .before .before .before .before in let put-groups = then .put-groups in
+    let then = then .before in let begin = then .begin in
+    let then = then .before in let empty = then .empty in
+    let args = then .before .before .before .before .args in
+    report-put (groupsOf (cardsOf (args .part .now))) (empty .ensures) (begin .ensures) (put-groups .ensures) (put-schedule .ensures)
+    (c .before .before .put-last .ensures)
 
 pub put-report-spec : {M : Type 1} → statement M
 put-report-spec =

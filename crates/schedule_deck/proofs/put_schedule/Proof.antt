@@ -14,7 +14,8 @@ use Rattle.schedule_deck.proofs.put_schedule.Statement.{statement}
 use Rattle.schedule_deck.proofs.put_schedule.Tie as tie
 
 abbrev Inv-loop : tie.InvT-loop
-Inv-loop out₀ at n list next₀ i₀ out next i = (n ≡ length (take n list)) × ((i ≤ n) × Going out₀ at (scheduleText (take n list)) out next (scheduleText (drop i (take n list))))
+Inv-loop out₀ at n list next₀ i₀ out next i =
+    (n ≡ length (take n list)) × ((i ≤ n) × Going out₀ at (scheduleText (take n list)) out next (scheduleText (drop i (take n list))))
 
 abbrev μ-loop : tie.MeasureT-loop
 μ-loop out₀ at n list next₀ i₀ out next i = n - i
@@ -23,31 +24,74 @@ size-requires : tie.Need-size-requires Inv-loop μ-loop
 size-requires c κs = search needs
 
 loop-holds : tie.Need-loop-holds Inv-loop μ-loop
-loop-holds c = (c .before .size .ensures ∙ ap length (sym (schedule-sized (c .before .before .before .args .schedule) (c .before .size .ensures))), (omega arith, start _ _ _))
+loop-holds c =
+    let then = c .before in let size = then .size in
+    let args = then .before .before .args in
+    (size .ensures ∙ ap length (sym (schedule-sized (args .schedule) (size .ensures))), (omega arith, start _ _ _))
 
 mul-entry : tie.Need-mul-entry Inv-loop μ-loop
-mul-entry c = omega (arith, c .before .before .before .size .ensures, c .loop-test .taken, schedule-few (c .before .before .before .before .before .args .schedule) (full (c .before .before .before .before .before .args .schedule) _ (c .before .before .before .before .before .good .1 .1 .0)))
+mul-entry c =
+    let then = c .before .before .before in let size = then .size in
+    let then = then .before .before in let args = then .args in let good = then .good in
+    omega (arith, size .ensures, c .loop-test .taken, schedule-few (args .schedule) (full (args .schedule) _ (good .1 .1 .0)))
 
 array-copy-out-entry : tie.Need-array-copy-out-entry Inv-loop μ-loop
-array-copy-out-entry c = omega (arith, c .before .before .before .size .ensures, c .loop-test .taken, schedule-few (c .before .before .before .before .before .args .schedule) (full (c .before .before .before .before .before .args .schedule) _ (c .before .before .before .before .before .good .1 .1 .0)), full (c .before .before .before .before .before .args .schedule) _ (c .before .before .before .before .before .good .1 .1 .0))
+array-copy-out-entry c =
+    let then = c .before .before .before in let size = then .size in
+    let then = then .before .before in let args = then .args in let good = then .good in
+    omega (
+      arith,
+      size .ensures,
+      c .loop-test .taken,
+      schedule-few (args .schedule) (full (args .schedule) _ (good .1 .1 .0)),
+      full (args .schedule) _ (good .1 .1 .0),
+    )
 
 put-request-requires : tie.Need-put-request-requires Inv-loop μ-loop
 put-request-requires c κs = search needs
 
 add-i : tie.Need-add-i Inv-loop μ-loop
-add-i c = omega (arith, c .before .before .before .before .before .before .before .before .before .size .ensures, c .before .before .before .before .before .before .loop-test .taken, schedule-few (c .before .before .before .before .before .before .before .before .before .before .before .args .schedule) (full (c .before .before .before .before .before .before .before .before .before .before .before .args .schedule) _ (c .before .before .before .before .before .before .before .before .before .before .before .good .1 .1 .0)))
+add-i c =
+    let then = c .before .before .before .before .before .before in let loop-test = then .loop-test in
+    let then = then .before .before .before in let size = then .size in
+    let then = then .before .before in let args = then .args in let good = then .good in
+    omega (arith, size .ensures, loop-test .taken, schedule-few (args .schedule) (full (args .schedule) _ (good .1 .1 .0)))
 
 loop-less : tie.Need-loop-less Inv-loop μ-loop
 loop-less c = omega arith
 
 loop-again : tie.Need-loop-again Inv-loop μ-loop
-loop-again c = (c .before .before .before .before .before .before .before .loop .inv .0, (omega arith, lines-on (take (c .before .before .before .before .before .before .before .before .before .size .result) (c .before .before .before .before .before .before .before .before .before .before .before .args .schedule .entries)) (c .before .before .before .before .before .before .before .loop .i) (omega (arith, c .before .before .before .before .before .before .before .loop .inv .0, c .before .before .before .before .before .before .loop-test .taken)) (schedule-at (record { entries = c .before .before .before .before .before .before .before .before .before .before .before .args .schedule .entries; count = c .before .before .before .before .before .before .before .before .before .size .result }) (c .before .before .before .before .before .before .before .loop .i) _ (omega (arith, c .before .before .before .before .before .before .before .loop .inv .0, c .before .before .before .before .before .before .loop-test .taken))) (c .before .before .before .before .before .before .before .loop .inv .1 .1) (c .before .before .put-request .ensures)))
+loop-again c =
+    let then = c .before .before .before .before .before .before in let loop-test = then .loop-test in
+    let then = then .before in let loop = then .loop in
+    let then = then .before .before in let size = then .size in
+    let args = then .before .before .args in (
+      loop .inv .0,
+      (
+        omega arith,
+        lines-on (take (size .result) (args .schedule .entries)) (loop .i) (omega (arith, loop .inv .0, loop-test .taken))
+            (schedule-at (record { entries = args .schedule .entries; count = size .result }) (loop .i) _
+            (omega (arith, loop .inv .0, loop-test .taken)))
+            (loop .inv .1 .1) (c .before .before .put-request .ensures),
+      ),
+    )
 
 same-length : tie.Need-same-length Inv-loop μ-loop
-same-length c = same-room (end (rw (lines-end (take (c .before .before .before .size .result) (c .before .before .before .before .before .args .schedule .entries)) (c .before .loop .i) (omega (arith, c .before .loop .inv .0, c .loop-test .left))) at (c .before .loop .inv .1 .1)))
+same-length c =
+    let then = c .before in let loop = then .loop in
+    let then = then .before .before in let size = then .size in
+    let args = then .before .before .args in
+    same-room (end (rw (lines-end (take (size .result) (args .schedule .entries)) (loop .i) (omega (arith, loop .inv .0, c .loop-test .left)))
+    at (loop .inv .1 .1)))
 
 returns : tie.Need-returns Inv-loop μ-loop
-returns c = rw (schedule-sized (c .before .before .before .before .before .args .schedule) (c .before .before .before .size .ensures)) at (end (rw (lines-end (take (c .before .before .before .size .result) (c .before .before .before .before .before .args .schedule .entries)) (c .before .loop .i) (omega (arith, c .before .loop .inv .0, c .loop-test .left))) at (c .before .loop .inv .1 .1)))
+returns c =
+    let then = c .before in let loop = then .loop in
+    let then = then .before .before in let size = then .size in
+    let args = then .before .before .args in
+    rw (schedule-sized (args .schedule) (size .ensures)) at
+    (end (rw (lines-end (take (size .result) (args .schedule .entries)) (loop .i) (omega (arith, loop .inv .0, c .loop-test .left))) at
+    (loop .inv .1 .1)))
 
 pub put-schedule-spec : {M : Type 1} → statement M
 put-schedule-spec =

@@ -12,7 +12,11 @@ enum-known-end : tie.Need-enum-known-end
 enum-known-end c = search needs
 
 slice-aggregate-put-report : tie.Need-slice-aggregate-put-report
-slice-aggregate-put-report c = part-long (c .before .before .before .before .before .before .before .args .deck .now) (c .before .before .before .before .before .deck-end .ensures) (c .before .before .before .end .given .0 .0) (c .before .before .before .end .given .1)
+slice-aggregate-put-report c =
+    let then = c .before .before .before in let end = then .end in
+    let then = then .before .before in let deck-end = then .deck-end in
+    let args = then .before .before .args in
+    part-long (args .deck .now) (deck-end .ensures) (end .given .0 .0) (end .given .1)
 
 put-report-requires : tie.Need-put-report-requires
 put-report-requires c κs = search needs
@@ -24,10 +28,20 @@ put-refused-requires : tie.Need-put-refused-requires
 put-refused-requires c κs = search needs
 
 returns : tie.Need-returns
-returns c = reported (search needs) (c .before .before .before .before .before .before .before .before .args .deck .now) (rw (good-text (c .before .before .before .before .before .before .before .before .args .deck .now) (c .before .before .before .before .before .before .deck-end .ensures) (c .before .before .before .before .end .given .0 .0) (c .before .before .before .before .end .given .1)) at (c .put-report .ensures))
+returns c =
+    let then = c .before .before .before .before in let end = then .end in
+    let then = then .before .before in let deck-end = then .deck-end in
+    let args = then .before .before .args in
+    reported (search needs) (args .deck .now)
+    (rw (good-text (args .deck .now) (deck-end .ensures) (end .given .0 .0) (end .given .1)) at (c .put-report .ensures))
 
 returns-2 : tie.Need-returns-2
-returns-2 c = reported (search needs) (c .before .before .before .before .before .before .before .args .deck .now) (rw (refused-text (c .before .before .before .before .before .before .before .args .deck .now) (c .before .before .before .before .before .deck-end .ensures) (c .before .before .before .end2 .given .0 .0) (c .before .before .before .end2 .given .1)) at (c .put-refused .ensures))
+returns-2 c =
+    let then = c .before .before .before in let end2 = then .end2 in
+    let then = then .before .before in let deck-end = then .deck-end in
+    let args = then .before .before .args in
+    reported (search needs) (args .deck .now)
+    (rw (refused-text (args .deck .now) (deck-end .ensures) (end2 .given .0 .0) (end2 .given .1)) at (c .put-refused .ensures))
 
 pub report-spec : {M : Type 1} → statement M
 report-spec =

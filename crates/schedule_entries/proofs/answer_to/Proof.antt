@@ -13,7 +13,9 @@ told-by-requires : tie.Need-told-by-requires
 told-by-requires c κs = search needs
 
 returns : tie.Need-returns
-returns c = c .told-by .ensures ∙ ap (λ (m : Heading). told (c .before .before .args .query .question) (c .before .before .args .query) m) (c .before .heading-of .ensures)
+returns c =
+    let args = c .before .before .args in
+    c .told-by .ensures ∙ ap (λ (m : Heading). told (args .query .question) (args .query) m) (c .before .heading-of .ensures)
 
 pub answer-to-spec : {M : Type 1} → statement M
 answer-to-spec = tie.close (tie.spec heading-of-requires told-by-requires returns)

@@ -7,7 +7,9 @@ key-of-requires : tie.Need-key-of-requires
 key-of-requires c κs = search needs
 
 returns : tie.Need-returns
-returns c = λ i. record { id = c .before .before .before .args .entry .request .id; key = c .key-of .ensures i; state = c .before .before .before .args .entry .state }
+returns c =
+    let args = c .before .before .before .args in
+    λ i. record { id = args .entry .request .id; key = c .key-of .ensures i; state = args .entry .state }
 
 pub heading-of-spec : {M : Type 1} → statement M
 heading-of-spec = tie.close (tie.spec key-of-requires returns)

@@ -30,16 +30,34 @@ hear-requires : tie.Need-hear-requires Inv-loop μ-loop
 hear-requires c κs = search needs
 
 add-from : tie.Need-add-from Inv-loop μ-loop
-add-from c = let t = taken-within (c .before .before .before .before .before .before .before .before .before .before .before .before .args .piece .now) (c .before .before .before .before .before .before .before .before .before .before .loop .from) (c .before .before .before .before .before .before .before .before .before .loop-test .taken) (c .before .before .hear .ensures) in omega (arith, t .0, c .before .before .before .before .before .before .before .before .before .before .loop .inv .1)
+add-from c =
+    let then = c .before .before .before .before .before .before .before .before .before in
+    let loop-test = then .loop-test in
+    let then = then .before in let loop = then .loop in
+    let args = then .before .before .args in
+    let t = taken-within (args .piece .now) (loop .from) (loop-test .taken) (c .before .before .hear .ensures) in
+    omega (arith, t .0, loop .inv .1)
 
 written-requires : tie.Need-written-requires Inv-loop μ-loop
 written-requires c κs = search needs
 
 loop-less : tie.Need-loop-less Inv-loop μ-loop
-loop-less c = let t = taken-within (c .before .before .before .before .before .before .before .before .before .before .before .before .before .before .before .args .piece .now) (c .before .before .before .before .before .before .before .before .before .before .before .before .before .loop .from) (c .before .before .before .before .before .before .before .before .before .before .before .before .loop-test .taken) (c .before .before .before .before .before .hear .ensures) in omega (arith, t .0, t .1)
+loop-less c =
+    let then = c .before .before .before .before .before in let hear = then .hear in
+    let then = then .before .before .before .before .before .before .before in let loop-test = then .loop-test in
+    let then = then .before in let loop = then .loop in
+    let args = then .before .before .args in
+    let t = taken-within (args .piece .now) (loop .from) (loop-test .taken) (hear .ensures) in
+    omega (arith, t .0, t .1)
 
 loop-again : tie.Need-loop-again Inv-loop μ-loop
-loop-again c = let t = taken-within (c .before .before .before .before .before .before .before .before .before .before .before .before .before .before .before .args .piece .now) (c .before .before .before .before .before .before .before .before .before .before .before .before .before .loop .from) (c .before .before .before .before .before .before .before .before .before .before .before .before .loop-test .taken) (c .before .before .before .before .before .hear .ensures) in (t .0, c .before .before .before .before .before .before .before .before .before .before .before .before .before .loop .inv .1)
+loop-again c =
+    let then = c .before .before .before .before .before in let hear = then .hear in
+    let then = then .before .before .before .before .before .before .before in let loop-test = then .loop-test in
+    let then = then .before in let loop = then .loop in
+    let args = then .before .before .args in
+    let t = taken-within (args .piece .now) (loop .from) (loop-test .taken) (hear .ensures) in
+    (t .0, loop .inv .1)
 
 returns : tie.Need-returns Inv-loop μ-loop
 returns c = search needs

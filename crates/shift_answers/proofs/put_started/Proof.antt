@@ -38,7 +38,17 @@ same-length : tie.Need-same-length
 same-length c = search needs
 
 returns : tie.Need-returns
-returns c = andThen (c .before .before .before .before .before .before .before .before .before .before .before .before .before .before .before .before .before .before .before .before .before .before .before .before .before .before .put-bytes .ensures) (andThen (c .before .before .before .before .before .before .before .before .before .before .before .before .before .before .before .before .before .before .before .before .before .before .put-packet .ensures) (andThen (c .before .before .before .before .before .before .before .before .before .before .before .before .before .before .before .before .before .before .put-byte .ensures) (andThen (c .before .before .before .before .before .before .before .before .before .before .before .before .before .before .put-octal .ensures) (andThen (c .before .before .before .before .before .before .before .before .before .before .put-byte2 .ensures) (andThen (rw (c .before .before .before .before .before .before .before .before .before .before .before .before .before .before .before .before .before .before .before .before .before .before .before .before .before .before .before .before .before .number-at .ensures) at (c .before .before .before .before .before .before .put-decimal .ensures)) (c .before .before .put-byte3 .ensures))))))
+returns c =
+    let then = c .before .before .before .before .before .before in let put-decimal = then .put-decimal in
+    let then = then .before .before .before .before in let put-byte2 = then .put-byte2 in
+    let then = then .before .before .before .before in let put-octal = then .put-octal in
+    let then = then .before .before .before .before in let put-byte = then .put-byte in
+    let then = then .before .before .before .before in let put-packet = then .put-packet in
+    let then = then .before .before .before .before in let put-bytes = then .put-bytes in
+    let number-at = then .before .before .before .number-at in
+    andThen (put-bytes .ensures) (andThen (put-packet .ensures)
+    (andThen (put-byte .ensures) (andThen (put-octal .ensures)
+    (andThen (put-byte2 .ensures) (andThen (rw (number-at .ensures) at (put-decimal .ensures)) (c .before .before .put-byte3 .ensures))))))
 
 pub put-started-spec : {M : Type 1} → statement M
 put-started-spec =

@@ -20,7 +20,10 @@ same-length : tie.Need-same-length
 same-length c = search needs
 
 returns : tie.Need-returns
-returns c = andThen (c .before .before .before .before .before .before .before .before .before .before .put-bytes .ensures) (andThen (c .before .before .before .before .before .before .put-status-word .ensures) (c .before .before .put-byte .ensures))
+returns c =
+    let then = c .before .before .before .before .before .before in let put-status-word = then .put-status-word in
+    let put-bytes = then .before .before .before .before .put-bytes in
+    andThen (put-bytes .ensures) (andThen (put-status-word .ensures) (c .before .before .put-byte .ensures))
 
 pub put-status-spec : {M : Type 1} → statement M
 put-status-spec =

@@ -81,7 +81,10 @@ same-length-5 : tie.Need-same-length-5
 same-length-5 c = search needs
 
 returns-5 : tie.Need-returns-5
-returns-5 c = rw (c .before .before .before .before .before .before .before .before .before .before .status .given .1) (andThen (c .before .before .before .before .before .before .put-bytes5 .ensures) (c .before .before .put-octal .ensures))
+returns-5 c =
+    let then = c .before .before .before .before .before .before in let put-bytes5 = then .put-bytes5 in
+    let status = then .before .before .before .before .status in
+    rw (status .given .1) (andThen (put-bytes5 .ensures) (c .before .before .put-octal .ensures))
 
 pub put-status-word-spec : {M : Type 1} → statement M
 put-status-word-spec =

@@ -17,7 +17,8 @@ use Rattle.shift_begin.proofs.judge.Tie as tie
 abbrev found : Begun → Answer → Beginning
 found b a = record { begun = b; configuration = a .configuration }
 
-opened : (more : Bool) (s : List ℕ) {a : Answer} {b : Begun} {n : ℕ} → a ≡ configurationOf s → n ≡ length (linesOf s) → b ≡ saidSoFar (a .verdict) more n → found b a ≡ openingOf more s
+opened : (more : Bool) (s : List ℕ) {a : Answer} {b : Begun} {n : ℕ} → a ≡ configurationOf s → n ≡ length (linesOf s)
+    → b ≡ saidSoFar (a .verdict) more n → found b a ≡ openingOf more s
 unfolding openingOf
 opened more s e l f = rw (f, l, e)
 
@@ -31,7 +32,10 @@ so-far-requires : tie.Need-so-far-requires
 so-far-requires c κs = search needs
 
 returns : tie.Need-returns
-returns c = opened (c .before .before .before .before .before .args .more) (c .before .before .before .before .before .args .text .now) (c .before .before .before .read .ensures) (c .before .card-count .ensures) (c .so-far .ensures)
+returns c =
+    let then = c .before .before .before in let read = then .read in
+    let args = then .before .before .args in
+    opened (args .more) (args .text .now) (read .ensures) (c .before .card-count .ensures) (c .so-far .ensures)
 
 pub judge-spec : {M : Type 1} → statement M
 judge-spec = tie.close (tie.spec read-requires card-count-requires so-far-requires returns)

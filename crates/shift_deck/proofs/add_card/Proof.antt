@@ -14,7 +14,9 @@ sub-if2 : tie.Need-sub-if2
 sub-if2 c = search needs
 
 returns-2 : tie.Need-returns-2
-returns-2 c = too-long (c .before .before .before .args .room .now) (c .before .before .before .args .kept) (c .before .before .before .args .line .now) (omega arith)
+returns-2 c =
+    let args = c .before .before .before .args in
+    too-long (args .room .now) (args .kept) (args .line .now) (omega arith)
 
 put-bytes-requires : tie.Need-put-bytes-requires
 put-bytes-requires c κs = search needs
@@ -23,7 +25,10 @@ put-byte-requires : tie.Need-put-byte-requires
 put-byte-requires c κs = search needs
 
 returns-3 : tie.Need-returns-3
-returns-3 c = added (c .before .before .before .before .before .before .before .args .room .now) (c .before .before .before .before .before .before .before .args .kept) (c .before .before .before .before .before .before .before .args .line .now) (c .put-byte .last .0) (c .put-byte .result) (search needs) (omega arith) (andThen (c .before .before .put-bytes .ensures) (c .put-byte .ensures))
+returns-3 c =
+    let args = c .before .before .before .before .before .before .before .args in
+    added (args .room .now) (args .kept) (args .line .now) (c .put-byte .last .0) (c .put-byte .result) (search needs) (omega arith)
+    (andThen (c .before .before .put-bytes .ensures) (c .put-byte .ensures))
 
 pub add-card-spec : {M : Type 1} → statement M
 add-card-spec =

@@ -15,7 +15,15 @@ put-bytes-requires : tie.Need-put-bytes-requires
 put-bytes-requires c κs = search needs
 
 returns : tie.Need-returns
-returns c = record { handled = c .before .before .before .before .before .before .reply .result; handles = c .before .before .before .before .before .before .reply .ensures; leaves = refl; says = refl; behind = put-behind (c .before .front .ensures) (search needs) (search needs) (c .put-bytes .ensures) }
+returns c =
+    let reply = c .before .before .before .before .before .before .reply in
+    record {
+      handled = reply .result;
+      handles = reply .ensures;
+      leaves = refl;
+      says = refl;
+      behind = put-behind (c .before .front .ensures) (search needs) (search needs) (c .put-bytes .ensures);
+    }
 
 pub answer-call-spec : {M : Type 1} → statement M
 answer-call-spec = tie.close (tie.spec reply-requires front-requires put-bytes-requires returns)

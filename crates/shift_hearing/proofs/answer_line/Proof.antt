@@ -15,7 +15,14 @@ put-bytes-requires : tie.Need-put-bytes-requires
 put-bytes-requires c κs = search needs
 
 returns : tie.Need-returns
-returns c = record { turn = c .before .before .before .before .before .before .take-line .result; turns = c .before .before .before .before .before .before .take-line .ensures; shift = refl; behind = put-behind (c .before .front .ensures) (search needs) (search needs) (c .put-bytes .ensures) }
+returns c =
+    let take-line = c .before .before .before .before .before .before .take-line in
+    record {
+      turn = take-line .result;
+      turns = take-line .ensures;
+      shift = refl;
+      behind = put-behind (c .before .front .ensures) (search needs) (search needs) (c .put-bytes .ensures);
+    }
 
 pub answer-line-spec : {M : Type 1} → statement M
 answer-line-spec =

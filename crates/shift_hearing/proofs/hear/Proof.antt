@@ -41,7 +41,12 @@ take-up-requires : tie.Need-take-up-requires Inv-loop μ-loop
 take-up-requires c κs = search needs
 
 add-taken : tie.Need-add-taken Inv-loop μ-loop
-add-taken c = let t = taken-within (c .before .before .before .before .before .before .before .before .before .before .before .args .piece .now) (c .before .before .before .before .before .before .loop .taken) (c .before .before .before .before .before .loop-test .taken) (c .before .take-up .ensures) in omega (arith, t .0, c .before .before .before .before .before .before .loop .inv .1)
+add-taken c =
+    let then = c .before .before .before .before .before in let loop-test = then .loop-test in
+    let then = then .before in let loop = then .loop in
+    let args = then .before .before .before .before .before .args in
+    let t = taken-within (args .piece .now) (loop .taken) (loop-test .taken) (c .before .take-up .ensures) in
+    omega (arith, t .0, loop .inv .1)
 
 front-requires : tie.Need-front-requires Inv-loop μ-loop
 front-requires c κs = search needs
@@ -71,28 +76,105 @@ answer-line-requires : tie.Need-answer-line-requires Inv-loop μ-loop
 answer-line-requires c κs = search needs
 
 loop-less : tie.Need-loop-less Inv-loop μ-loop
-loop-less c = let t = taken-within (c .before .before .before .before .before .before .before .before .before .before .before .before .before .before .before .before .before .before .before .before .before .before .before .before .before .args .piece .now) (c .before .before .before .before .before .before .before .before .before .before .before .before .before .before .before .before .before .before .before .before .loop .taken) (c .before .before .before .before .before .before .before .before .before .before .before .before .before .before .before .before .before .before .before .loop-test .taken) (c .before .before .before .before .before .before .before .before .before .before .before .before .before .before .before .take-up .ensures) in omega (arith, t .0, t .1)
+loop-less c =
+    let then = c .before .before .before .before .before .before .before .before in
+    let then = then .before .before .before .before .before .before .before in let take-up = then .take-up in
+    let then = then .before .before .before .before in let loop-test = then .loop-test in
+    let then = then .before in let loop = then .loop in
+    let args = then .before .before .before .before .before .args in
+    let t = taken-within (args .piece .now) (loop .taken) (loop-test .taken) (take-up .ensures) in
+    omega (arith, t .0, t .1)
 
 loop-again : tie.Need-loop-again Inv-loop μ-loop
-loop-again c = (whole (c .before .before .before .before .before .before .before .before .before .before .before .before .before .before .before .before .before .before .before .before .loop .inv .0) (c .before .before .before .before .before .before .before .before .before .before .before .before .before .before .before .before .before .before .before .loop-test .taken) (leb-true (c .before .before .before .before .before .before .before .before .before .before .before .before .before .before .before .before .before .before .before .before .loop .at) 12288 (c .before .before .before .before .before .before .before .before .before .before .before .before .before .before .before .before .before .before .if1 .taken)) (c .before .before .before .before .before .before .before .before .before .before .before .before .before .before .before .take-up .ensures) (c .before .before .before .before .before .before .before .before .before .before .before .before .before .if2 .taken) (c .before .before .before .before .before .before .before .before .before .before .front .ensures) (call-behind (c .before .before .before .before .before .before .before .before .before .before .before .before .before .before .before .before .before .before .before .before .loop .phase) (c .before .before .before .before .before .before .before .before .before .before .before .before .before .before .before .before .before .before .before .before .loop .schedule) (c .follow .result) (c .before .before .before .before .before .before .before .before .before .before .before .before .before .before .before .before .before .before .before .before .loop .lists) (c .before .before .before .before .before .before .before .before .before .asked .result) (c .before .before .before .before .before .before .before .before .before .before .front .result .now) (c .before .before .before .before .before .before .before .before .before .before .before .before .before .before .before .before .before .before .before .before .loop .room) (c .before .before .before .before .before .before .before .before .before .before .before .before .before .before .before .before .before .before .before .before .loop .answer) _ (c .before .before .before .before .before .before .before .before .before .before .before .before .before .before .before .before .before .before .before .before .loop .out) _ (c .before .before .before .before .before .before .before .before .before .before .before .before .before .before .before .before .before .before .before .before .loop .at) (c .before .before .before .before .answer-call .result) (c .before .before .before .before .before .before .before .before .before .asked .ensures) (sym (c .before .before .before .before .before .before .before .before .is-for-lists .ensures) ∙ c .before .before .before .before .before .before .before .if3 .taken) (c .before .before .before .before .answer-call .ensures) (c .follow .ensures)), c .before .before .before .before .before .before .before .before .before .before .before .before .before .before .before .before .before .before .before .before .loop .inv .1)
+loop-again c =
+    let then = c .before .before .before .before in let answer-call = then .answer-call in
+    let then = then .before .before .before in let if3 = then .if3 in
+    let then = then .before in let is-for-lists = then .is-for-lists in
+    let then = then .before in let asked = then .asked in
+    let then = then .before in let front = then .front in
+    let then = then .before .before .before in let if2 = then .if2 in
+    let then = then .before .before in let take-up = then .take-up in
+    let then = then .before .before .before in let if1 = then .if1 in
+    let then = then .before in let loop-test = then .loop-test in
+    let loop = then .before .loop in (
+      whole (loop .inv .0) (loop-test .taken) (leb-true (loop .at) 12288 (if1 .taken)) (take-up .ensures) (if2 .taken) (front .ensures)
+          (call-behind (loop .phase) (loop .schedule) (c .follow .result) (loop .lists) (asked .result) (front .result .now) (loop .room)
+          (loop .answer) _ (loop .out) _ (loop .at) (answer-call .result) (asked .ensures) (sym (is-for-lists .ensures) ∙ if3 .taken)
+          (answer-call .ensures) (c .follow .ensures)),
+      loop .inv .1,
+    )
 
 loop-less-2 : tie.Need-loop-less-2 Inv-loop μ-loop
-loop-less-2 c = let t = taken-within (c .before .before .before .before .before .before .before .before .before .before .before .before .before .before .before .before .before .before .before .before .before .before .before .before .args .piece .now) (c .before .before .before .before .before .before .before .before .before .before .before .before .before .before .before .before .before .before .before .loop .taken) (c .before .before .before .before .before .before .before .before .before .before .before .before .before .before .before .before .before .before .loop-test .taken) (c .before .before .before .before .before .before .before .before .before .before .before .before .before .before .take-up .ensures) in omega (arith, t .0, t .1)
+loop-less-2 c =
+    let then = c .before .before .before .before .before .before .before in
+    let then = then .before .before .before .before .before .before .before in let take-up = then .take-up in
+    let then = then .before .before .before .before in let loop-test = then .loop-test in
+    let then = then .before in let loop = then .loop in
+    let args = then .before .before .before .before .before .args in
+    let t = taken-within (args .piece .now) (loop .taken) (loop-test .taken) (take-up .ensures) in
+    omega (arith, t .0, t .1)
 
 loop-again-2 : tie.Need-loop-again-2 Inv-loop μ-loop
-loop-again-2 c = (whole (c .before .before .before .before .before .before .before .before .before .before .before .before .before .before .before .before .before .before .before .loop .inv .0) (c .before .before .before .before .before .before .before .before .before .before .before .before .before .before .before .before .before .before .loop-test .taken) (leb-true (c .before .before .before .before .before .before .before .before .before .before .before .before .before .before .before .before .before .before .before .loop .at) 12288 (c .before .before .before .before .before .before .before .before .before .before .before .before .before .before .before .before .before .if1 .taken)) (c .before .before .before .before .before .before .before .before .before .before .before .before .before .before .take-up .ensures) (c .before .before .before .before .before .before .before .before .before .before .before .before .if2 .taken) (c .before .before .before .before .before .before .before .before .before .front .ensures) (call-behind (c .before .before .before .before .before .before .before .before .before .before .before .before .before .before .before .before .before .before .before .loop .phase) (c .before .before .before .before .before .before .before .before .before .before .before .before .before .before .before .before .before .before .before .loop .schedule) (c .before .before .before .before .before .before .before .before .before .before .before .before .before .before .before .before .before .before .before .loop .schedule) (c .before .before .before .before .before .before .before .before .before .before .before .before .before .before .before .before .before .before .before .loop .lists) (c .before .before .before .before .before .before .before .before .asked .result) (c .before .before .before .before .before .before .before .before .before .front .result .now) (c .before .before .before .before .before .before .before .before .before .before .before .before .before .before .before .before .before .before .before .loop .room) (c .before .before .before .before .before .before .before .before .before .before .before .before .before .before .before .before .before .before .before .loop .answer) _ (c .before .before .before .before .before .before .before .before .before .before .before .before .before .before .before .before .before .before .before .loop .out) _ (c .before .before .before .before .before .before .before .before .before .before .before .before .before .before .before .before .before .before .before .loop .at) (c .before .before .before .answer-call .result) (c .before .before .before .before .before .before .before .before .asked .ensures) (sym (c .before .before .before .before .before .before .before .is-for-lists .ensures) ∙ c .before .before .before .before .before .before .if3 .taken) (c .before .before .before .answer-call .ensures) (sym (c .before .is-followed .ensures (c .if4 .left) (c .before .before .before .before .before .before .before .before .before .before .before .before .before .before .before .before .before .before .before .loop .schedule)))), c .before .before .before .before .before .before .before .before .before .before .before .before .before .before .before .before .before .before .before .loop .inv .1)
+loop-again-2 c =
+    let then = c .before .before .before in let answer-call = then .answer-call in
+    let then = then .before .before .before in let if3 = then .if3 in
+    let then = then .before in let is-for-lists = then .is-for-lists in
+    let then = then .before in let asked = then .asked in
+    let then = then .before in let front = then .front in
+    let then = then .before .before .before in let if2 = then .if2 in
+    let then = then .before .before in let take-up = then .take-up in
+    let then = then .before .before .before in let if1 = then .if1 in
+    let then = then .before in let loop-test = then .loop-test in
+    let loop = then .before .loop in (
+      whole (loop .inv .0) (loop-test .taken) (leb-true (loop .at) 12288 (if1 .taken)) (take-up .ensures) (if2 .taken) (front .ensures)
+          (call-behind (loop .phase) (loop .schedule) (loop .schedule) (loop .lists) (asked .result) (front .result .now) (loop .room)
+          (loop .answer) _ (loop .out) _ (loop .at) (answer-call .result) (asked .ensures) (sym (is-for-lists .ensures) ∙ if3 .taken)
+          (answer-call .ensures) (sym (c .before .is-followed .ensures (c .if4 .left) (loop .schedule)))),
+      loop .inv .1,
+    )
 
 loop-less-3 : tie.Need-loop-less-3 Inv-loop μ-loop
-loop-less-3 c = let t = taken-within (c .before .before .before .before .before .before .before .before .before .before .before .before .before .before .before .before .before .before .before .before .before .before .before .before .before .before .before .before .before .before .args .piece .now) (c .before .before .before .before .before .before .before .before .before .before .before .before .before .before .before .before .before .before .before .before .before .before .before .before .before .loop .taken) (c .before .before .before .before .before .before .before .before .before .before .before .before .before .before .before .before .before .before .before .before .before .before .before .before .loop-test .taken) (c .before .before .before .before .before .before .before .before .before .before .before .before .before .before .before .before .before .before .before .before .take-up .ensures) in omega (arith, t .0, t .1)
+loop-less-3 c =
+    let then = c .before .before .before .before .before .before .before .before .before .before in
+    let then = then .before .before .before .before .before .before .before .before .before .before in
+    let take-up = then .take-up in
+    let then = then .before .before .before .before in let loop-test = then .loop-test in
+    let then = then .before in let loop = then .loop in
+    let args = then .before .before .before .before .before .args in
+    let t = taken-within (args .piece .now) (loop .taken) (loop-test .taken) (take-up .ensures) in
+    omega (arith, t .0, t .1)
 
 loop-again-3 : tie.Need-loop-again-3 Inv-loop μ-loop
-loop-again-3 c = (whole (c .before .before .before .before .before .before .before .before .before .before .before .before .before .before .before .before .before .before .before .before .before .before .before .before .before .loop .inv .0) (c .before .before .before .before .before .before .before .before .before .before .before .before .before .before .before .before .before .before .before .before .before .before .before .before .loop-test .taken) (leb-true (c .before .before .before .before .before .before .before .before .before .before .before .before .before .before .before .before .before .before .before .before .before .before .before .before .before .loop .at) 12288 (c .before .before .before .before .before .before .before .before .before .before .before .before .before .before .before .before .before .before .before .before .before .before .before .if1 .taken)) (c .before .before .before .before .before .before .before .before .before .before .before .before .before .before .before .before .before .before .before .before .take-up .ensures) (c .before .before .before .before .before .before .before .before .before .before .before .before .before .before .before .before .before .before .if2 .taken) (c .before .before .before .before .before .before .before .before .front2 .ensures) (named (c .before .before .before .before .before .before .before .before .before .before .before .shift-of .ensures) (c .before .before .before .before .answer-line .ensures)), c .before .before .before .before .before .before .before .before .before .before .before .before .before .before .before .before .before .before .before .before .before .before .before .before .before .loop .inv .1)
+loop-again-3 c =
+    let then = c .before .before .before .before in let answer-line = then .answer-line in
+    let then = then .before .before .before .before in let front2 = then .front2 in
+    let then = then .before .before .before in let shift-of = then .shift-of in
+    let then = then .before .before .before .before .before .before .before in let if2 = then .if2 in
+    let then = then .before .before in let take-up = then .take-up in
+    let then = then .before .before .before in let if1 = then .if1 in
+    let then = then .before in let loop-test = then .loop-test in
+    let loop = then .before .loop in (
+      whole (loop .inv .0) (loop-test .taken) (leb-true (loop .at) 12288 (if1 .taken)) (take-up .ensures) (if2 .taken) (front2 .ensures)
+          (named (shift-of .ensures) (answer-line .ensures)),
+      loop .inv .1,
+    )
 
 loop-less-4 : tie.Need-loop-less-4 Inv-loop μ-loop
-loop-less-4 c = let t = taken-within (c .before .before .before .before .before .before .before .before .before .before .before .before .args .piece .now) (c .before .before .before .before .before .before .before .loop .taken) (c .before .before .before .before .before .before .loop-test .taken) (c .before .before .take-up .ensures) in omega (arith, t .0, t .1)
+loop-less-4 c =
+    let then = c .before .before .before .before .before .before in let loop-test = then .loop-test in
+    let then = then .before in let loop = then .loop in
+    let args = then .before .before .before .before .before .args in
+    let t = taken-within (args .piece .now) (loop .taken) (loop-test .taken) (c .before .before .take-up .ensures) in
+    omega (arith, t .0, t .1)
 
 loop-again-4 : tie.Need-loop-again-4 Inv-loop μ-loop
-loop-again-4 c = (part (c .before .before .before .before .before .before .before .loop .inv .0) (c .before .before .before .before .before .before .loop-test .taken) (leb-true (c .before .before .before .before .before .before .before .loop .at) 12288 (c .before .before .before .before .before .if1 .taken)) (c .before .before .take-up .ensures) (c .if2 .left), c .before .before .before .before .before .before .before .loop .inv .1)
+loop-again-4 c =
+    let then = c .before .before .before .before .before in let if1 = then .if1 in
+    let then = then .before in let loop-test = then .loop-test in
+    let loop = then .before .loop in (
+      part (loop .inv .0) (loop-test .taken) (leb-true (loop .at) 12288 (if1 .taken)) (c .before .before .take-up .ensures) (c .if2 .left),
+      loop .inv .1,
+    )
 
 shift-of-requires-2 : tie.Need-shift-of-requires-2 Inv-loop μ-loop
 shift-of-requires-2 c κs = search needs
@@ -101,7 +183,10 @@ what-was-heard-requires : tie.Need-what-was-heard-requires Inv-loop μ-loop
 what-was-heard-requires c κs = search needs
 
 returns : tie.Need-returns Inv-loop μ-loop
-returns c = ended (c .before .before .before .loop .inv .0) (c .before .shift-of2 .ensures) (c .what-was-heard .ensures) (λ l. ⊎-elim (λ w. leb-false (c .before .before .before .loop .at) 12288 (w .1 .left)) (λ w. absurd (omega (arith, w .left))) (c .before .before .loop-test .came))
+returns c =
+    let loop = c .before .before .before .loop in
+    ended (loop .inv .0) (c .before .shift-of2 .ensures) (c .what-was-heard .ensures)
+    (λ l. ⊎-elim (λ w. leb-false (loop .at) 12288 (w .1 .left)) (λ w. absurd (omega (arith, w .left))) (c .before .before .loop-test .came))
 
 pub hear-spec : {M : Type 1} → statement M
 hear-spec =

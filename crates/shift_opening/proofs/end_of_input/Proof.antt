@@ -20,7 +20,17 @@ same-length : tie.Need-same-length
 same-length c = search needs
 
 returns : tie.Need-returns
-returns c = record { n = c .before .before .before .before .before .before .before .put-bytes .result; keeps = kept-within (c .before .before .before .before .before .before .before .before .before .before .before .before .args .room .now) (c .before .before .before .before .before .before .before .before .before .before .before .before .args .kept) (c .before .before .before .before .before .before .before .before .within .result) _ _ (c .before .before .before .before .before .before .before .put-bytes .result) (search needs) (c .before .before .before .before .before .before .before .before .within .ensures) (c .before .before .before .before .before .before .before .put-bytes .ensures); put = answers-as (c .before .before .before .before .asked .ensures) (c .before .before .answered .ensures) .put }
+returns c =
+    let then = c .before .before .before .before in let asked = then .asked in
+    let then = then .before .before .before in let put-bytes = then .put-bytes in
+    let then = then .before in let within = then .within in
+    let args = then .before .before .before .before .args in
+    record {
+      n = put-bytes .result;
+      keeps = kept-within (args .room .now) (args .kept) (within .result) _ _ (put-bytes .result) (search needs) (within .ensures)
+          (put-bytes .ensures);
+      put = answers-as (asked .ensures) (c .before .before .answered .ensures) .put;
+    }
 
 pub end-of-input-spec : {M : Type 1} → statement M
 end-of-input-spec =

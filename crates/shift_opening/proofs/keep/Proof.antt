@@ -15,7 +15,11 @@ put-byte-requires : tie.Need-put-byte-requires
 put-byte-requires c κs = search needs
 
 returns : tie.Need-returns
-returns c = kept-within (c .before .before .before .before .before .before .args .room .now) (c .before .before .before .before .before .before .args .kept) (c .before .before .before .within .result) _ _ (c .put-byte .result) (search needs) (c .before .before .before .within .ensures) (andThen (c .before .before .put-bytes .ensures) (c .put-byte .ensures))
+returns c =
+    let then = c .before .before .before in let within = then .within in
+    let args = then .before .before .before .args in
+    kept-within (args .room .now) (args .kept) (within .result) _ _ (c .put-byte .result) (search needs) (within .ensures)
+    (andThen (c .before .before .put-bytes .ensures) (c .put-byte .ensures))
 
 pub keep-spec : {M : Type 1} → statement M
 keep-spec = tie.close (tie.spec within-requires put-bytes-requires put-byte-requires returns)

@@ -17,7 +17,10 @@ same-length : tie.Need-same-length
 same-length c = search needs
 
 returns : tie.Need-returns
-returns c = record { n = c .before .before .before .before .before .before .before .keep .result; keeps = c .before .before .before .before .before .before .before .keep .ensures; answers = answers-as (c .before .before .before .before .asked .ensures) (c .before .before .answered .ensures) }
+returns c =
+    let then = c .before .before .before .before in let asked = then .asked in
+    let keep = then .before .before .before .keep in
+    record { n = keep .result; keeps = keep .ensures; answers = answers-as (asked .ensures) (c .before .before .answered .ensures) }
 
 pub take-line-spec : {M : Type 1} → statement M
 take-line-spec = tie.close (tie.spec keep-requires asked-requires answered-requires same-length returns)

@@ -25,7 +25,10 @@ same-length : tie.Need-same-length
 same-length c = search needs
 
 returns : tie.Need-returns
-returns c = keys (c .before .before .before .before .before .before .before .before .before .before .key .ensures) (c .before .before .before .before .before .before .put-bytes .ensures) (c .before .before .put-byte .ensures)
+returns c =
+    let then = c .before .before .before .before .before .before in let put-bytes = then .put-bytes in
+    let key = then .before .before .before .before .key in
+    keys (key .ensures) (put-bytes .ensures) (c .before .before .put-byte .ensures)
 
 pub key-spec : {M : Type 1} → statement M
 key-spec =

@@ -17,7 +17,14 @@ same-length : tie.Need-same-length
 same-length c = search needs
 
 returns : tie.Need-returns
-returns c = record { handled = c .before .before .before .before .reply .result; handles = c .before .before .before .before .reply .ensures; is = ap (λ (s : Schedule). let r : Replied = record { cell = cellOf s (c .before .before .before .before .reply .result .lists); at = c .before .before .before .before .reply .result .at } in r) (c .follow .ensures) }
+returns c =
+    let reply = c .before .before .before .before .reply in
+    record {
+      handled = reply .result;
+      handles = reply .ensures;
+      is = ap (λ (s : Schedule). let r : Replied = record { cell = cellOf s (reply .result .lists); at = reply .result .at } in r)
+          (c .follow .ensures);
+    }
 
 pub on-lists-spec : {M : Type 1} → statement M
 on-lists-spec = tie.close (tie.spec reply-requires follow-requires same-length returns)

@@ -32,19 +32,31 @@ put-part-requires : tie.Need-put-part-requires
 put-part-requires c κs = search needs
 
 returns : tie.Need-returns
-returns c = rw (c .enum-told .given .1) (none (c .before .before .before .args .out .now) (c .before .before .before .args .at))
+returns c =
+    let args = c .before .before .before .args in
+    rw (c .enum-told .given .1) (none (args .out .now) (args .at))
 
 returns-2 : tie.Need-returns-2
-returns-2 c = rw (c .enum-told2 .given .1) (none (c .before .before .before .args .out .now) (c .before .before .before .args .at))
+returns-2 c =
+    let args = c .before .before .before .args in
+    rw (c .enum-told2 .given .1) (none (args .out .now) (args .at))
 
 returns-3 : tie.Need-returns-3
-returns-3 c = rw (c .enum-told3 .given .1) (none (c .before .before .before .args .out .now) (c .before .before .before .args .at))
+returns-3 c =
+    let args = c .before .before .before .args in
+    rw (c .enum-told3 .given .1) (none (args .out .now) (args .at))
 
 same-length : tie.Need-same-length
 same-length c = search needs
 
 returns-4 : tie.Need-returns-4
-returns-4 c = rw (c .before .before .before .before .before .before .before .before .before .before .before .before .before .before .before .before .before .before .choice .given .1) (andThen (c .before .before .before .before .before .before .before .before .before .before .before .before .before .before .before .put-byte .ensures) (andThen (c .before .before .before .before .before .before .before .before .before .before .put-name .ensures) (andThen (c .before .before .before .before .before .before .put-byte2 .ensures) (c .before .before .put-part .ensures))))
+returns-4 c =
+    let then = c .before .before .before .before .before .before in let put-byte2 = then .put-byte2 in
+    let then = then .before .before .before .before in let put-name = then .put-name in
+    let then = then .before .before .before .before .before in let put-byte = then .put-byte in
+    let choice = then .before .before .before .choice in
+    rw (choice .given .1)
+    (andThen (put-byte .ensures) (andThen (put-name .ensures) (andThen (put-byte2 .ensures) (c .before .before .put-part .ensures))))
 
 pub put-lack-spec : {M : Type 1} → statement M
 put-lack-spec =

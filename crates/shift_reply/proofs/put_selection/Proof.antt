@@ -33,7 +33,11 @@ same-length-2 : tie.Need-same-length-2
 same-length-2 c = search needs
 
 returns-2 : tie.Need-returns-2
-returns-2 c = rw (c .before .before .before .before .before .before .before .before .before .before .before .before .before .before .outcome .given .1) (andThen (c .before .before .before .before .before .before .before .before .before .before .put-no .ensures) (andThen (c .before .before .before .before .before .before .put-lack .ensures) (c .before .before .put-byte .ensures)))
+returns-2 c =
+    let then = c .before .before .before .before .before .before in let put-lack = then .put-lack in
+    let then = then .before .before .before .before in let put-no = then .put-no in
+    let outcome = then .before .before .before .before .outcome in
+    rw (outcome .given .1) (andThen (put-no .ensures) (andThen (put-lack .ensures) (c .before .before .put-byte .ensures)))
 
 pub put-selection-spec : {M : Type 1} → statement M
 put-selection-spec =

@@ -11,7 +11,11 @@ put-refusal-requires : tie.Need-put-refusal-requires
 put-refusal-requires c κs = search needs
 
 returns : tie.Need-returns
-returns c = entered (c .before .before .before .before .before .before .args .cell) (c .before .before .before .before .before .before .args .deck .now) (c .before .before .before .before .before .before .args .out .now) _ _ (c .before .before .before .enter .result) (c .put-refusal .result) (search needs) (c .before .before .before .enter .ensures) (c .put-refusal .ensures)
+returns c =
+    let then = c .before .before .before in let enter = then .enter in
+    let args = then .before .before .before .args in
+    entered (args .cell) (args .deck .now) (args .out .now) _ _ (enter .result) (c .put-refusal .result) (search needs) (enter .ensures)
+    (c .put-refusal .ensures)
 
 pub reply-deck-spec : {M : Type 1} → statement M
 reply-deck-spec = tie.close (tie.spec enter-requires put-refusal-requires returns)

@@ -18,7 +18,9 @@ byte-at-requires c κs = search needs
 
 returns-2 : tie.Need-returns-2
 unfolding isEcho
-returns-2 c = rw (ne-eqb (length (c .before .before .before .args .line .now)) 0 (c .before .if1 .left)) (ap (λ (b : ℕ). eqb b 35) (c .byte-at .ensures))
+returns-2 c =
+    let args = c .before .before .before .args in
+    rw (ne-eqb (length (args .line .now)) 0 (c .before .if1 .left)) (ap (λ (b : ℕ). eqb b 35) (c .byte-at .ensures))
 
 pub is-echo-spec : {M : Type 1} → statement M
 is-echo-spec = tie.close (tie.spec returns byte-at-requires returns-2)

@@ -37,7 +37,10 @@ plain-requires-2 c κs = search needs
 
 returns-2 : tie.Need-returns-2
 unfolding sayBy table
-returns-2 c = c .plain2 .ensures ∙ rw (sym (c .before .before .before .before .before .fits2 .ensures) ∙ c .before .before .before .before .if1 .left, sym (c .before .before .fits3 .ensures) ∙ c .before .if2 .taken)
+returns-2 c =
+    let then = c .before .before .before .before in let if1 = then .if1 in
+    let fits2 = then .before .fits2 in
+    c .plain2 .ensures ∙ rw (sym (fits2 .ensures) ∙ if1 .left, sym (c .before .before .fits3 .ensures) ∙ c .before .if2 .taken)
 
 slice-aggregate-fits-3 : tie.Need-slice-aggregate-fits-3
 slice-aggregate-fits-3 c = search needs
@@ -53,7 +56,14 @@ plain-requires-3 c κs = search needs
 
 returns-3 : tie.Need-returns-3
 unfolding sayBy table
-returns-3 c = c .plain3 .ensures ∙ ap (λ (t : Act). said (Do t)) (c .before .submitted .ensures) ∙ rw (sym (c .before .before .before .before .before .before .before .before .before .fits2 .ensures) ∙ c .before .before .before .before .before .before .before .before .if1 .left, sym (c .before .before .before .before .before .before .fits3 .ensures) ∙ c .before .before .before .before .before .if2 .left, sym (c .before .before .before .fits4 .ensures) ∙ c .before .before .if3 .taken)
+returns-3 c =
+    let then = c .before .before .before in let fits4 = then .fits4 in
+    let then = then .before .before in let if2 = then .if2 in
+    let then = then .before in let fits3 = then .fits3 in
+    let then = then .before .before in let if1 = then .if1 in
+    let fits2 = then .before .fits2 in
+    c .plain3 .ensures ∙ ap (λ (t : Act). said (Do t)) (c .before .submitted .ensures)
+    ∙ rw (sym (fits2 .ensures) ∙ if1 .left, sym (fits3 .ensures) ∙ if2 .left, sym (fits4 .ensures) ∙ c .before .before .if3 .taken)
 
 slice-aggregate-fits-4 : tie.Need-slice-aggregate-fits-4
 slice-aggregate-fits-4 c = search needs
@@ -72,7 +82,19 @@ plain-requires-4 c κs = search needs
 
 returns-4 : tie.Need-returns-4
 unfolding sayBy table
-returns-4 c = c .plain4 .ensures ∙ ap (λ (t : Act). said (Do t)) (c .before .submitted2 .ensures ∙ ap (λ (n : ℕ). submissionOf n (wordsOf (c .before .before .before .before .before .before .before .before .before .before .before .before .before .before .before .before .args .line .now))) (c .before .before .number-at .ensures)) ∙ rw (sym (c .before .before .before .before .before .before .before .before .before .before .before .before .before .fits2 .ensures) ∙ c .before .before .before .before .before .before .before .before .before .before .before .before .if1 .left, sym (c .before .before .before .before .before .before .before .before .before .before .fits3 .ensures) ∙ c .before .before .before .before .before .before .before .before .before .if2 .left, sym (c .before .before .before .before .before .before .before .fits4 .ensures) ∙ c .before .before .before .before .before .before .if3 .left, sym (c .before .before .before .before .fits5 .ensures) ∙ c .before .before .before .if4 .taken)
+returns-4 c =
+    let then = c .before .before .before in let if4 = then .if4 in
+    let then = then .before in let fits5 = then .fits5 in
+    let then = then .before .before in let if3 = then .if3 in
+    let then = then .before in let fits4 = then .fits4 in
+    let then = then .before .before in let if2 = then .if2 in
+    let then = then .before in let fits3 = then .fits3 in
+    let then = then .before .before in let if1 = then .if1 in
+    let then = then .before in let fits2 = then .fits2 in
+    let args = then .before .before .before .args in
+    c .plain4 .ensures ∙ ap (λ (t : Act). said (Do t))
+    (c .before .submitted2 .ensures ∙ ap (λ (n : ℕ). submissionOf n (wordsOf (args .line .now))) (c .before .before .number-at .ensures))
+    ∙ rw (sym (fits2 .ensures) ∙ if1 .left, sym (fits3 .ensures) ∙ if2 .left, sym (fits4 .ensures) ∙ if3 .left, sym (fits5 .ensures) ∙ if4 .taken)
 
 slice-aggregate-fits-5 : tie.Need-slice-aggregate-fits-5
 slice-aggregate-fits-5 c = search needs
@@ -88,7 +110,24 @@ plain-requires-5 c κs = search needs
 
 returns-5 : tie.Need-returns-5
 unfolding sayBy table
-returns-5 c = c .plain5 .ensures ∙ ap (λ (c : ChannelNumber). said (Do (Start c))) (c .before .channel-at .ensures) ∙ rw (sym (c .before .before .before .before .before .before .before .before .before .before .before .before .before .before .before .fits2 .ensures) ∙ c .before .before .before .before .before .before .before .before .before .before .before .before .before .before .if1 .left, sym (c .before .before .before .before .before .before .before .before .before .before .before .before .fits3 .ensures) ∙ c .before .before .before .before .before .before .before .before .before .before .before .if2 .left, sym (c .before .before .before .before .before .before .before .before .before .fits4 .ensures) ∙ c .before .before .before .before .before .before .before .before .if3 .left, sym (c .before .before .before .before .before .before .fits5 .ensures) ∙ c .before .before .before .before .before .if4 .left, sym (c .before .before .before .fits6 .ensures) ∙ c .before .before .if5 .taken)
+returns-5 c =
+    let then = c .before .before .before in let fits6 = then .fits6 in
+    let then = then .before .before in let if4 = then .if4 in
+    let then = then .before in let fits5 = then .fits5 in
+    let then = then .before .before in let if3 = then .if3 in
+    let then = then .before in let fits4 = then .fits4 in
+    let then = then .before .before in let if2 = then .if2 in
+    let then = then .before in let fits3 = then .fits3 in
+    let then = then .before .before in let if1 = then .if1 in
+    let fits2 = then .before .fits2 in
+    c .plain5 .ensures ∙ ap (λ (c : ChannelNumber). said (Do (Start c))) (c .before .channel-at .ensures)
+    ∙ rw (
+      sym (fits2 .ensures) ∙ if1 .left,
+      sym (fits3 .ensures) ∙ if2 .left,
+      sym (fits4 .ensures) ∙ if3 .left,
+      sym (fits5 .ensures) ∙ if4 .left,
+      sym (fits6 .ensures) ∙ c .before .before .if5 .taken,
+    )
 
 slice-aggregate-fits-6 : tie.Need-slice-aggregate-fits-6
 slice-aggregate-fits-6 c = search needs
@@ -104,7 +143,27 @@ plain-requires-6 c κs = search needs
 
 returns-6 : tie.Need-returns-6
 unfolding sayBy table
-returns-6 c = c .plain6 .ensures ∙ ap (λ (c : ChannelNumber). said (Do (Complete c Full))) (c .before .channel-at2 .ensures) ∙ rw (sym (c .before .before .before .before .before .before .before .before .before .before .before .before .before .before .before .before .before .before .fits2 .ensures) ∙ c .before .before .before .before .before .before .before .before .before .before .before .before .before .before .before .before .before .if1 .left, sym (c .before .before .before .before .before .before .before .before .before .before .before .before .before .before .before .fits3 .ensures) ∙ c .before .before .before .before .before .before .before .before .before .before .before .before .before .before .if2 .left, sym (c .before .before .before .before .before .before .before .before .before .before .before .before .fits4 .ensures) ∙ c .before .before .before .before .before .before .before .before .before .before .before .if3 .left, sym (c .before .before .before .before .before .before .before .before .before .fits5 .ensures) ∙ c .before .before .before .before .before .before .before .before .if4 .left, sym (c .before .before .before .before .before .before .fits6 .ensures) ∙ c .before .before .before .before .before .if5 .left, sym (c .before .before .before .fits7 .ensures) ∙ c .before .before .if6 .taken)
+returns-6 c =
+    let then = c .before .before .before in let fits7 = then .fits7 in
+    let then = then .before .before in let if5 = then .if5 in
+    let then = then .before in let fits6 = then .fits6 in
+    let then = then .before .before in let if4 = then .if4 in
+    let then = then .before in let fits5 = then .fits5 in
+    let then = then .before .before in let if3 = then .if3 in
+    let then = then .before in let fits4 = then .fits4 in
+    let then = then .before .before in let if2 = then .if2 in
+    let then = then .before in let fits3 = then .fits3 in
+    let then = then .before .before in let if1 = then .if1 in
+    let fits2 = then .before .fits2 in
+    c .plain6 .ensures ∙ ap (λ (c : ChannelNumber). said (Do (Complete c Full))) (c .before .channel-at2 .ensures)
+    ∙ rw (
+      sym (fits2 .ensures) ∙ if1 .left,
+      sym (fits3 .ensures) ∙ if2 .left,
+      sym (fits4 .ensures) ∙ if3 .left,
+      sym (fits5 .ensures) ∙ if4 .left,
+      sym (fits6 .ensures) ∙ if5 .left,
+      sym (fits7 .ensures) ∙ c .before .before .if6 .taken,
+    )
 
 slice-aggregate-fits-7 : tie.Need-slice-aggregate-fits-7
 slice-aggregate-fits-7 c = search needs
@@ -120,7 +179,30 @@ plain-requires-7 c κs = search needs
 
 returns-7 : tie.Need-returns-7
 unfolding sayBy table
-returns-7 c = c .plain7 .ensures ∙ ap (λ (c : ChannelNumber). said (Do (Complete c Cut))) (c .before .channel-at3 .ensures) ∙ rw (sym (c .before .before .before .before .before .before .before .before .before .before .before .before .before .before .before .before .before .before .before .before .before .fits2 .ensures) ∙ c .before .before .before .before .before .before .before .before .before .before .before .before .before .before .before .before .before .before .before .before .if1 .left, sym (c .before .before .before .before .before .before .before .before .before .before .before .before .before .before .before .before .before .before .fits3 .ensures) ∙ c .before .before .before .before .before .before .before .before .before .before .before .before .before .before .before .before .before .if2 .left, sym (c .before .before .before .before .before .before .before .before .before .before .before .before .before .before .before .fits4 .ensures) ∙ c .before .before .before .before .before .before .before .before .before .before .before .before .before .before .if3 .left, sym (c .before .before .before .before .before .before .before .before .before .before .before .before .fits5 .ensures) ∙ c .before .before .before .before .before .before .before .before .before .before .before .if4 .left, sym (c .before .before .before .before .before .before .before .before .before .fits6 .ensures) ∙ c .before .before .before .before .before .before .before .before .if5 .left, sym (c .before .before .before .before .before .before .fits7 .ensures) ∙ c .before .before .before .before .before .if6 .left, sym (c .before .before .before .fits8 .ensures) ∙ c .before .before .if7 .taken)
+returns-7 c =
+    let then = c .before .before .before in let fits8 = then .fits8 in
+    let then = then .before .before in let if6 = then .if6 in
+    let then = then .before in let fits7 = then .fits7 in
+    let then = then .before .before in let if5 = then .if5 in
+    let then = then .before in let fits6 = then .fits6 in
+    let then = then .before .before in let if4 = then .if4 in
+    let then = then .before in let fits5 = then .fits5 in
+    let then = then .before .before in let if3 = then .if3 in
+    let then = then .before in let fits4 = then .fits4 in
+    let then = then .before .before in let if2 = then .if2 in
+    let then = then .before in let fits3 = then .fits3 in
+    let then = then .before .before in let if1 = then .if1 in
+    let fits2 = then .before .fits2 in
+    c .plain7 .ensures ∙ ap (λ (c : ChannelNumber). said (Do (Complete c Cut))) (c .before .channel-at3 .ensures)
+    ∙ rw (
+      sym (fits2 .ensures) ∙ if1 .left,
+      sym (fits3 .ensures) ∙ if2 .left,
+      sym (fits4 .ensures) ∙ if3 .left,
+      sym (fits5 .ensures) ∙ if4 .left,
+      sym (fits6 .ensures) ∙ if5 .left,
+      sym (fits7 .ensures) ∙ if6 .left,
+      sym (fits8 .ensures) ∙ c .before .before .if7 .taken,
+    )
 
 slice-aggregate-fits-8 : tie.Need-slice-aggregate-fits-8
 slice-aggregate-fits-8 c = search needs
@@ -139,14 +221,66 @@ plain-requires-8 c κs = search needs
 
 returns-8 : tie.Need-returns-8
 unfolding sayBy table
-returns-8 c = c .plain8 .ensures ∙ ap₂ (λ (c : ChannelNumber) (f : ℕ). said (Do (Complete c (Failed f)))) (c .before .before .channel-at4 .ensures) (c .before .code-at .ensures) ∙ rw (sym (c .before .before .before .before .before .before .before .before .before .before .before .before .before .before .before .before .before .before .before .before .before .before .before .before .before .fits2 .ensures) ∙ c .before .before .before .before .before .before .before .before .before .before .before .before .before .before .before .before .before .before .before .before .before .before .before .before .if1 .left, sym (c .before .before .before .before .before .before .before .before .before .before .before .before .before .before .before .before .before .before .before .before .before .before .fits3 .ensures) ∙ c .before .before .before .before .before .before .before .before .before .before .before .before .before .before .before .before .before .before .before .before .before .if2 .left, sym (c .before .before .before .before .before .before .before .before .before .before .before .before .before .before .before .before .before .before .before .fits4 .ensures) ∙ c .before .before .before .before .before .before .before .before .before .before .before .before .before .before .before .before .before .before .if3 .left, sym (c .before .before .before .before .before .before .before .before .before .before .before .before .before .before .before .before .fits5 .ensures) ∙ c .before .before .before .before .before .before .before .before .before .before .before .before .before .before .before .if4 .left, sym (c .before .before .before .before .before .before .before .before .before .before .before .before .before .fits6 .ensures) ∙ c .before .before .before .before .before .before .before .before .before .before .before .before .if5 .left, sym (c .before .before .before .before .before .before .before .before .before .before .fits7 .ensures) ∙ c .before .before .before .before .before .before .before .before .before .if6 .left, sym (c .before .before .before .before .before .before .before .fits8 .ensures) ∙ c .before .before .before .before .before .before .if7 .left, sym (c .before .before .before .before .fits9 .ensures) ∙ c .before .before .before .if8 .taken)
+returns-8 c =
+    let then = c .before .before .before in let if8 = then .if8 in
+    let then = then .before in let fits9 = then .fits9 in
+    let then = then .before .before in let if7 = then .if7 in
+    let then = then .before in let fits8 = then .fits8 in
+    let then = then .before .before in let if6 = then .if6 in
+    let then = then .before in let fits7 = then .fits7 in
+    let then = then .before .before in let if5 = then .if5 in
+    let then = then .before in let fits6 = then .fits6 in
+    let then = then .before .before in let if4 = then .if4 in
+    let then = then .before in let fits5 = then .fits5 in
+    let then = then .before .before in let if3 = then .if3 in
+    let then = then .before in let fits4 = then .fits4 in
+    let then = then .before .before in let if2 = then .if2 in
+    let then = then .before in let fits3 = then .fits3 in
+    let then = then .before .before in let if1 = then .if1 in
+    let fits2 = then .before .fits2 in
+    c .plain8 .ensures ∙ ap₂ (λ (c : ChannelNumber) (f : ℕ). said (Do (Complete c (Failed f)))) (c .before .before .channel-at4 .ensures)
+    (c .before .code-at .ensures)
+    ∙ rw (
+      sym (fits2 .ensures) ∙ if1 .left,
+      sym (fits3 .ensures) ∙ if2 .left,
+      sym (fits4 .ensures) ∙ if3 .left,
+      sym (fits5 .ensures) ∙ if4 .left,
+      sym (fits6 .ensures) ∙ if5 .left,
+      sym (fits7 .ensures) ∙ if6 .left,
+      sym (fits8 .ensures) ∙ if7 .left,
+      sym (fits9 .ensures) ∙ if8 .taken,
+    )
 
 on-units-requires : tie.Need-on-units-requires
 on-units-requires c κs = search needs
 
 returns-9 : tie.Need-returns-9
 unfolding sayBy table
-returns-9 c = c .on-units .ensures ∙ rw (sym (c .before .before .before .before .before .before .before .before .before .before .before .before .before .before .before .before .before .before .before .before .before .before .before .fits2 .ensures) ∙ c .before .before .before .before .before .before .before .before .before .before .before .before .before .before .before .before .before .before .before .before .before .before .if1 .left, sym (c .before .before .before .before .before .before .before .before .before .before .before .before .before .before .before .before .before .before .before .before .fits3 .ensures) ∙ c .before .before .before .before .before .before .before .before .before .before .before .before .before .before .before .before .before .before .before .if2 .left, sym (c .before .before .before .before .before .before .before .before .before .before .before .before .before .before .before .before .before .fits4 .ensures) ∙ c .before .before .before .before .before .before .before .before .before .before .before .before .before .before .before .before .if3 .left, sym (c .before .before .before .before .before .before .before .before .before .before .before .before .before .before .fits5 .ensures) ∙ c .before .before .before .before .before .before .before .before .before .before .before .before .before .if4 .left, sym (c .before .before .before .before .before .before .before .before .before .before .before .fits6 .ensures) ∙ c .before .before .before .before .before .before .before .before .before .before .if5 .left, sym (c .before .before .before .before .before .before .before .before .fits7 .ensures) ∙ c .before .before .before .before .before .before .before .if6 .left, sym (c .before .before .before .before .before .fits8 .ensures) ∙ c .before .before .before .before .if7 .left, sym (c .before .before .fits9 .ensures) ∙ c .before .if8 .left)
+returns-9 c =
+    let then = c .before .before .before .before in let if7 = then .if7 in
+    let then = then .before in let fits8 = then .fits8 in
+    let then = then .before .before in let if6 = then .if6 in
+    let then = then .before in let fits7 = then .fits7 in
+    let then = then .before .before in let if5 = then .if5 in
+    let then = then .before in let fits6 = then .fits6 in
+    let then = then .before .before in let if4 = then .if4 in
+    let then = then .before in let fits5 = then .fits5 in
+    let then = then .before .before in let if3 = then .if3 in
+    let then = then .before in let fits4 = then .fits4 in
+    let then = then .before .before in let if2 = then .if2 in
+    let then = then .before in let fits3 = then .fits3 in
+    let then = then .before .before in let if1 = then .if1 in
+    let fits2 = then .before .fits2 in
+    c .on-units .ensures ∙ rw (
+      sym (fits2 .ensures) ∙ if1 .left,
+      sym (fits3 .ensures) ∙ if2 .left,
+      sym (fits4 .ensures) ∙ if3 .left,
+      sym (fits5 .ensures) ∙ if4 .left,
+      sym (fits6 .ensures) ∙ if5 .left,
+      sym (fits7 .ensures) ∙ if6 .left,
+      sym (fits8 .ensures) ∙ if7 .left,
+      sym (c .before .before .fits9 .ensures) ∙ c .before .if8 .left,
+    )
 
 pub on-packets-spec : {M : Type 1} → statement M
 on-packets-spec =

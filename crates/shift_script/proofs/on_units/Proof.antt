@@ -27,7 +27,10 @@ plain-requires c κs = search needs
 
 returns : tie.Need-returns
 unfolding sayBy table
-returns c = c .plain .ensures ∙ ap (λ (p : ℕ). said (Do (End p false))) (c .before .small-at .ensures) ∙ rw (sym (c .before .before .before .fits2 .ensures) ∙ c .before .before .if1 .taken)
+returns c =
+    let fits2 = c .before .before .before .fits2 in
+    c .plain .ensures ∙ ap (λ (p : ℕ). said (Do (End p false))) (c .before .small-at .ensures)
+    ∙ rw (sym (fits2 .ensures) ∙ c .before .before .if1 .taken)
 
 slice-aggregate-fits-2 : tie.Need-slice-aggregate-fits-2
 slice-aggregate-fits-2 c = search needs
@@ -43,7 +46,12 @@ plain-requires-2 c κs = search needs
 
 returns-2 : tie.Need-returns-2
 unfolding sayBy table
-returns-2 c = c .plain2 .ensures ∙ ap (λ (p : ℕ). said (Do (End p true))) (c .before .small-at2 .ensures) ∙ rw (sym (c .before .before .before .before .before .before .fits2 .ensures) ∙ c .before .before .before .before .before .if1 .left, sym (c .before .before .before .fits3 .ensures) ∙ c .before .before .if2 .taken)
+returns-2 c =
+    let then = c .before .before .before in let fits3 = then .fits3 in
+    let then = then .before .before in let if1 = then .if1 in
+    let fits2 = then .before .fits2 in
+    c .plain2 .ensures ∙ ap (λ (p : ℕ). said (Do (End p true))) (c .before .small-at2 .ensures)
+    ∙ rw (sym (fits2 .ensures) ∙ if1 .left, sym (fits3 .ensures) ∙ c .before .before .if2 .taken)
 
 slice-aggregate-fits-3 : tie.Need-slice-aggregate-fits-3
 slice-aggregate-fits-3 c = search needs
@@ -62,7 +70,16 @@ plain-requires-3 c κs = search needs
 
 returns-3 : tie.Need-returns-3
 unfolding sayBy table
-returns-3 c = c .plain3 .ensures ∙ ap₂ (λ (c : ChannelNumber) (u : UnitNumber). said (Do (Mark c u Mark′.Down true))) (c .before .before .channel-at .ensures) (c .before .unit-at .ensures) ∙ rw (sym (c .before .before .before .before .before .before .before .before .before .before .fits2 .ensures) ∙ c .before .before .before .before .before .before .before .before .before .if1 .left, sym (c .before .before .before .before .before .before .before .fits3 .ensures) ∙ c .before .before .before .before .before .before .if2 .left, sym (c .before .before .before .before .fits4 .ensures) ∙ c .before .before .before .if3 .taken)
+returns-3 c =
+    let then = c .before .before .before in let if3 = then .if3 in
+    let then = then .before in let fits4 = then .fits4 in
+    let then = then .before .before in let if2 = then .if2 in
+    let then = then .before in let fits3 = then .fits3 in
+    let then = then .before .before in let if1 = then .if1 in
+    let fits2 = then .before .fits2 in
+    c .plain3 .ensures ∙ ap₂ (λ (c : ChannelNumber) (u : UnitNumber). said (Do (Mark c u Mark′.Down true)))
+    (c .before .before .channel-at .ensures) (c .before .unit-at .ensures)
+    ∙ rw (sym (fits2 .ensures) ∙ if1 .left, sym (fits3 .ensures) ∙ if2 .left, sym (fits4 .ensures) ∙ if3 .taken)
 
 slice-aggregate-fits-4 : tie.Need-slice-aggregate-fits-4
 slice-aggregate-fits-4 c = search needs
@@ -81,7 +98,18 @@ plain-requires-4 c κs = search needs
 
 returns-4 : tie.Need-returns-4
 unfolding sayBy table
-returns-4 c = c .plain4 .ensures ∙ ap₂ (λ (c : ChannelNumber) (u : UnitNumber). said (Do (Mark c u Mark′.Down false))) (c .before .before .channel-at2 .ensures) (c .before .unit-at2 .ensures) ∙ rw (sym (c .before .before .before .before .before .before .before .before .before .before .before .before .before .fits2 .ensures) ∙ c .before .before .before .before .before .before .before .before .before .before .before .before .if1 .left, sym (c .before .before .before .before .before .before .before .before .before .before .fits3 .ensures) ∙ c .before .before .before .before .before .before .before .before .before .if2 .left, sym (c .before .before .before .before .before .before .before .fits4 .ensures) ∙ c .before .before .before .before .before .before .if3 .left, sym (c .before .before .before .before .fits5 .ensures) ∙ c .before .before .before .if4 .taken)
+returns-4 c =
+    let then = c .before .before .before in let if4 = then .if4 in
+    let then = then .before in let fits5 = then .fits5 in
+    let then = then .before .before in let if3 = then .if3 in
+    let then = then .before in let fits4 = then .fits4 in
+    let then = then .before .before in let if2 = then .if2 in
+    let then = then .before in let fits3 = then .fits3 in
+    let then = then .before .before in let if1 = then .if1 in
+    let fits2 = then .before .fits2 in
+    c .plain4 .ensures ∙ ap₂ (λ (c : ChannelNumber) (u : UnitNumber). said (Do (Mark c u Mark′.Down false)))
+    (c .before .before .channel-at2 .ensures) (c .before .unit-at2 .ensures)
+    ∙ rw (sym (fits2 .ensures) ∙ if1 .left, sym (fits3 .ensures) ∙ if2 .left, sym (fits4 .ensures) ∙ if3 .left, sym (fits5 .ensures) ∙ if4 .taken)
 
 slice-aggregate-fits-5 : tie.Need-slice-aggregate-fits-5
 slice-aggregate-fits-5 c = search needs
@@ -100,7 +128,26 @@ plain-requires-5 c κs = search needs
 
 returns-5 : tie.Need-returns-5
 unfolding sayBy table
-returns-5 c = c .plain5 .ensures ∙ ap₂ (λ (c : ChannelNumber) (u : UnitNumber). said (Do (Mark c u Mark′.Reserved true))) (c .before .before .channel-at3 .ensures) (c .before .unit-at3 .ensures) ∙ rw (sym (c .before .before .before .before .before .before .before .before .before .before .before .before .before .before .before .before .fits2 .ensures) ∙ c .before .before .before .before .before .before .before .before .before .before .before .before .before .before .before .if1 .left, sym (c .before .before .before .before .before .before .before .before .before .before .before .before .before .fits3 .ensures) ∙ c .before .before .before .before .before .before .before .before .before .before .before .before .if2 .left, sym (c .before .before .before .before .before .before .before .before .before .before .fits4 .ensures) ∙ c .before .before .before .before .before .before .before .before .before .if3 .left, sym (c .before .before .before .before .before .before .before .fits5 .ensures) ∙ c .before .before .before .before .before .before .if4 .left, sym (c .before .before .before .before .fits6 .ensures) ∙ c .before .before .before .if5 .taken)
+returns-5 c =
+    let then = c .before .before .before in let if5 = then .if5 in
+    let then = then .before in let fits6 = then .fits6 in
+    let then = then .before .before in let if4 = then .if4 in
+    let then = then .before in let fits5 = then .fits5 in
+    let then = then .before .before in let if3 = then .if3 in
+    let then = then .before in let fits4 = then .fits4 in
+    let then = then .before .before in let if2 = then .if2 in
+    let then = then .before in let fits3 = then .fits3 in
+    let then = then .before .before in let if1 = then .if1 in
+    let fits2 = then .before .fits2 in
+    c .plain5 .ensures ∙ ap₂ (λ (c : ChannelNumber) (u : UnitNumber). said (Do (Mark c u Mark′.Reserved true)))
+    (c .before .before .channel-at3 .ensures) (c .before .unit-at3 .ensures)
+    ∙ rw (
+      sym (fits2 .ensures) ∙ if1 .left,
+      sym (fits3 .ensures) ∙ if2 .left,
+      sym (fits4 .ensures) ∙ if3 .left,
+      sym (fits5 .ensures) ∙ if4 .left,
+      sym (fits6 .ensures) ∙ if5 .taken,
+    )
 
 slice-aggregate-fits-6 : tie.Need-slice-aggregate-fits-6
 slice-aggregate-fits-6 c = search needs
@@ -119,14 +166,54 @@ plain-requires-6 c κs = search needs
 
 returns-6 : tie.Need-returns-6
 unfolding sayBy table
-returns-6 c = c .plain6 .ensures ∙ ap₂ (λ (c : ChannelNumber) (u : UnitNumber). said (Do (Mark c u Mark′.Reserved false))) (c .before .before .channel-at4 .ensures) (c .before .unit-at4 .ensures) ∙ rw (sym (c .before .before .before .before .before .before .before .before .before .before .before .before .before .before .before .before .before .before .before .fits2 .ensures) ∙ c .before .before .before .before .before .before .before .before .before .before .before .before .before .before .before .before .before .before .if1 .left, sym (c .before .before .before .before .before .before .before .before .before .before .before .before .before .before .before .before .fits3 .ensures) ∙ c .before .before .before .before .before .before .before .before .before .before .before .before .before .before .before .if2 .left, sym (c .before .before .before .before .before .before .before .before .before .before .before .before .before .fits4 .ensures) ∙ c .before .before .before .before .before .before .before .before .before .before .before .before .if3 .left, sym (c .before .before .before .before .before .before .before .before .before .before .fits5 .ensures) ∙ c .before .before .before .before .before .before .before .before .before .if4 .left, sym (c .before .before .before .before .before .before .before .fits6 .ensures) ∙ c .before .before .before .before .before .before .if5 .left, sym (c .before .before .before .before .fits7 .ensures) ∙ c .before .before .before .if6 .taken)
+returns-6 c =
+    let then = c .before .before .before in let if6 = then .if6 in
+    let then = then .before in let fits7 = then .fits7 in
+    let then = then .before .before in let if5 = then .if5 in
+    let then = then .before in let fits6 = then .fits6 in
+    let then = then .before .before in let if4 = then .if4 in
+    let then = then .before in let fits5 = then .fits5 in
+    let then = then .before .before in let if3 = then .if3 in
+    let then = then .before in let fits4 = then .fits4 in
+    let then = then .before .before in let if2 = then .if2 in
+    let then = then .before in let fits3 = then .fits3 in
+    let then = then .before .before in let if1 = then .if1 in
+    let fits2 = then .before .fits2 in
+    c .plain6 .ensures ∙ ap₂ (λ (c : ChannelNumber) (u : UnitNumber). said (Do (Mark c u Mark′.Reserved false)))
+    (c .before .before .channel-at4 .ensures) (c .before .unit-at4 .ensures)
+    ∙ rw (
+      sym (fits2 .ensures) ∙ if1 .left,
+      sym (fits3 .ensures) ∙ if2 .left,
+      sym (fits4 .ensures) ∙ if3 .left,
+      sym (fits5 .ensures) ∙ if4 .left,
+      sym (fits6 .ensures) ∙ if5 .left,
+      sym (fits7 .ensures) ∙ if6 .taken,
+    )
 
 on-requests-requires : tie.Need-on-requests-requires
 on-requests-requires c κs = search needs
 
 returns-7 : tie.Need-returns-7
 unfolding sayBy table
-returns-7 c = c .on-requests .ensures ∙ rw (sym (c .before .before .before .before .before .before .before .before .before .before .before .before .before .before .before .before .before .fits2 .ensures) ∙ c .before .before .before .before .before .before .before .before .before .before .before .before .before .before .before .before .if1 .left, sym (c .before .before .before .before .before .before .before .before .before .before .before .before .before .before .fits3 .ensures) ∙ c .before .before .before .before .before .before .before .before .before .before .before .before .before .if2 .left, sym (c .before .before .before .before .before .before .before .before .before .before .before .fits4 .ensures) ∙ c .before .before .before .before .before .before .before .before .before .before .if3 .left, sym (c .before .before .before .before .before .before .before .before .fits5 .ensures) ∙ c .before .before .before .before .before .before .before .if4 .left, sym (c .before .before .before .before .before .fits6 .ensures) ∙ c .before .before .before .before .if5 .left, sym (c .before .before .fits7 .ensures) ∙ c .before .if6 .left)
+returns-7 c =
+    let then = c .before .before .before .before in let if5 = then .if5 in
+    let then = then .before in let fits6 = then .fits6 in
+    let then = then .before .before in let if4 = then .if4 in
+    let then = then .before in let fits5 = then .fits5 in
+    let then = then .before .before in let if3 = then .if3 in
+    let then = then .before in let fits4 = then .fits4 in
+    let then = then .before .before in let if2 = then .if2 in
+    let then = then .before in let fits3 = then .fits3 in
+    let then = then .before .before in let if1 = then .if1 in
+    let fits2 = then .before .fits2 in
+    c .on-requests .ensures ∙ rw (
+      sym (fits2 .ensures) ∙ if1 .left,
+      sym (fits3 .ensures) ∙ if2 .left,
+      sym (fits4 .ensures) ∙ if3 .left,
+      sym (fits5 .ensures) ∙ if4 .left,
+      sym (fits6 .ensures) ∙ if5 .left,
+      sym (c .before .before .fits7 .ensures) ∙ c .before .if6 .left,
+    )
 
 pub on-units-spec : {M : Type 1} → statement M
 on-units-spec =

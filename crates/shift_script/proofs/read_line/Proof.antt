@@ -22,7 +22,10 @@ plain-requires-2 c κs = search needs
 
 returns-2 : tie.Need-returns-2
 unfolding lineSays
-returns-2 c = c .plain2 .ensures ∙ rw (le-ltb 255 (length (c .before .before .before .before .before .args .line .now)) (c .before .before .before .if1 .left), sym (c .before .before .is-echo .ensures) ∙ c .before .if2 .taken)
+returns-2 c =
+    let then = c .before .before .before in let if1 = then .if1 in
+    let args = then .before .before .args in
+    c .plain2 .ensures ∙ rw (le-ltb 255 (length (args .line .now)) (if1 .left), sym (c .before .before .is-echo .ensures) ∙ c .before .if2 .taken)
 
 is-key-requires : tie.Need-is-key-requires
 is-key-requires c κs = search needs
@@ -32,14 +35,32 @@ plain-requires-3 c κs = search needs
 
 returns-3 : tie.Need-returns-3
 unfolding lineSays
-returns-3 c = c .plain3 .ensures ∙ rw (le-ltb 255 (length (c .before .before .before .before .before .before .before .args .line .now)) (c .before .before .before .before .before .if1 .left), sym (c .before .before .before .before .is-echo .ensures) ∙ c .before .before .before .if2 .left, sym (c .before .before .is-key .ensures) ∙ c .before .if3 .taken)
+returns-3 c =
+    let then = c .before .before .before in let if2 = then .if2 in
+    let then = then .before in let is-echo = then .is-echo in
+    let then = then .before in let if1 = then .if1 in
+    let args = then .before .before .args in
+    c .plain3 .ensures ∙ rw (
+      le-ltb 255 (length (args .line .now)) (if1 .left),
+      sym (is-echo .ensures) ∙ if2 .left,
+      sym (c .before .before .is-key .ensures) ∙ c .before .if3 .taken,
+    )
 
 on-packets-requires : tie.Need-on-packets-requires
 on-packets-requires c κs = search needs
 
 returns-4 : tie.Need-returns-4
 unfolding lineSays
-returns-4 c = c .on-packets .ensures ∙ rw (le-ltb 255 (length (c .before .before .before .before .before .before .before .args .line .now)) (c .before .before .before .before .before .if1 .left), sym (c .before .before .before .before .is-echo .ensures) ∙ c .before .before .before .if2 .left, sym (c .before .before .is-key .ensures) ∙ c .before .if3 .left)
+returns-4 c =
+    let then = c .before .before .before in let if2 = then .if2 in
+    let then = then .before in let is-echo = then .is-echo in
+    let then = then .before in let if1 = then .if1 in
+    let args = then .before .before .args in
+    c .on-packets .ensures ∙ rw (
+      le-ltb 255 (length (args .line .now)) (if1 .left),
+      sym (is-echo .ensures) ∙ if2 .left,
+      sym (c .before .before .is-key .ensures) ∙ c .before .if3 .left,
+    )
 
 pub read-line-spec : {M : Type 1} → statement M
 read-line-spec =

@@ -16,13 +16,29 @@ order-of-requires : tie.Need-order-of-requires
 order-of-requires c κs = search needs
 
 mul-slot : tie.Need-mul-slot
-mul-slot c = record { fits = omega (arith, c .order-of .ensures, leb-true (orderOf (c .before .args .kind)) unitKinds (all-kinds (λ k. leb (orderOf k) unitKinds) refl (c .before .args .kind))) }
+mul-slot c =
+    let args = c .before .args in
+    record {
+      fits = omega (
+        arith,
+        c .order-of .ensures,
+        leb-true (orderOf (args .kind)) unitKinds (all-kinds (λ k. leb (orderOf k) unitKinds) refl (args .kind)),
+      );
+    }
 
 cast-slot : tie.Need-cast-slot
 cast-slot c = search needs
 
 add-slot : tie.Need-add-slot
-add-slot c = record { fits = omega (arith, c .before .order-of .ensures, leb-true (orderOf (c .before .before .args .kind)) unitKinds (all-kinds (λ k. leb (orderOf k) unitKinds) refl (c .before .before .args .kind))) }
+add-slot c =
+    let args = c .before .before .args in
+    record {
+      fits = omega (
+        arith,
+        c .before .order-of .ensures,
+        leb-true (orderOf (args .kind)) unitKinds (all-kinds (λ k. leb (orderOf k) unitKinds) refl (args .kind)),
+      );
+    }
 
 array-read-result : tie.Need-array-read-result
 array-read-result c = search needs
@@ -33,8 +49,10 @@ returns c = rw (c .before .before .order-of .ensures)
 
 returns-2 : tie.Need-returns-2
 unfolding asked
-returns-2 c = let n : length (c .before .before .before .args .t1) ≡ counts = search needs in
-    sym (List·getD-eq-default (c .before .before .before .args .t1) 0 (omega (arith, c .before .before .order-of .ensures)))
+returns-2 c =
+    let args = c .before .before .before .args in
+    let n : length (args .t1) ≡ counts = search needs in
+    sym (List·getD-eq-default (args .t1) 0 (omega (arith, c .before .before .order-of .ensures)))
 
 pub asked-for-spec : {M : Type 1} → statement M
 asked-for-spec =

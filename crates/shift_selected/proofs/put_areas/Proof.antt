@@ -32,7 +32,10 @@ same-length : tie.Need-same-length
 same-length c = search needs
 
 returns : tie.Need-returns
-returns c = andThen (c .before .before .before .before .before .before .before .before .before .before .before .before .before .put-run .ensures) (andThen (c .before .before .before .before .before .before .before .put-run2 .ensures) (c .before .before .put-run3 .ensures))
+returns c =
+    let then = c .before .before .before .before .before .before .before in let put-run2 = then .put-run2 in
+    let put-run = then .before .before .before .before .before .before .put-run in
+    andThen (put-run .ensures) (andThen (put-run2 .ensures) (c .before .before .put-run3 .ensures))
 
 pub put-areas-spec : {M : Type 1} → statement M
 put-areas-spec =

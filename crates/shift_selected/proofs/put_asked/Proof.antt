@@ -11,7 +11,9 @@ asked-for-requires c κs = search needs
 
 returns : tie.Need-returns
 unfolding askedText
-returns c = rw (← c .before .asked-for .ensures, eq-eqb _ _ (c .if1 .taken)) (none (c .before .before .before .args .out .now) (c .before .before .before .args .at))
+returns c =
+    let args = c .before .before .before .args in
+    rw (← c .before .asked-for .ensures, eq-eqb _ _ (c .if1 .taken)) (none (args .out .now) (args .at))
 
 put-entry-requires : tie.Need-put-entry-requires
 put-entry-requires c κs = search needs
@@ -21,7 +23,10 @@ same-length c = search needs
 
 returns-2 : tie.Need-returns-2
 unfolding askedText
-returns-2 c = rw (← c .before .before .before .before .before .asked-for .ensures, ne-eqb _ _ (c .before .before .before .before .if1 .left)) (c .before .before .put-entry .ensures)
+returns-2 c =
+    let then = c .before .before .before .before in let if1 = then .if1 in
+    let asked-for = then .before .asked-for in
+    rw (← asked-for .ensures, ne-eqb _ _ (if1 .left)) (c .before .before .put-entry .ensures)
 
 pub put-asked-spec : {M : Type 1} → statement M
 put-asked-spec =

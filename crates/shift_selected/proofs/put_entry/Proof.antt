@@ -27,7 +27,13 @@ same-length c = search needs
 
 returns : tie.Need-returns
 unfolding entryText
-returns c = rw (eq-eqb _ _ (c .before .before .before .before .if1 .taken)) (andThen (c .before .before .before .before .before .before .before .before .before .before .before .before .before .before .put-byte .ensures) (andThen (rw (c .before .before .before .before .before .before .before .before .before .before .before .code-of .ensures) at (c .before .before .before .before .before .before .before .before .put-bytes .ensures)) (c .before .before .put-units .ensures)))
+returns c =
+    let then = c .before .before .before .before in let if1 = then .if1 in
+    let then = then .before .before .before .before in let put-bytes = then .put-bytes in
+    let then = then .before .before .before in let code-of = then .code-of in
+    let put-byte = then .before .before .before .put-byte in
+    rw (eq-eqb _ _ (if1 .taken))
+    (andThen (put-byte .ensures) (andThen (rw (code-of .ensures) at (put-bytes .ensures)) (c .before .before .put-units .ensures)))
 
 cast-put-decimal : tie.Need-cast-put-decimal
 cast-put-decimal c = search needs
@@ -43,7 +49,14 @@ same-length-2 c = search needs
 
 returns-2 : tie.Need-returns-2
 unfolding entryText
-returns-2 c = rw (ne-eqb _ _ (c .before .before .before .before .before .before .before .before .before .if1 .left)) (andThen (c .before .before .before .before .before .before .before .before .before .before .before .before .before .before .before .before .before .before .before .put-byte .ensures) (andThen (rw (c .before .before .before .before .before .before .before .before .before .before .before .before .before .before .before .before .code-of .ensures) at (c .before .before .before .before .before .before .before .before .before .before .before .before .before .put-bytes .ensures)) (andThen (c .before .before .before .before .before .before .put-decimal .ensures) (c .before .before .put-units2 .ensures))))
+returns-2 c =
+    let then = c .before .before .before .before .before .before in let put-decimal = then .put-decimal in
+    let then = then .before .before .before in let if1 = then .if1 in
+    let then = then .before .before .before .before in let put-bytes = then .put-bytes in
+    let then = then .before .before .before in let code-of = then .code-of in
+    let put-byte = then .before .before .before .put-byte in
+    rw (ne-eqb _ _ (if1 .left)) (andThen (put-byte .ensures)
+    (andThen (rw (code-of .ensures) at (put-bytes .ensures)) (andThen (put-decimal .ensures) (c .before .before .put-units2 .ensures))))
 
 pub put-entry-spec : {M : Type 1} → statement M
 put-entry-spec =

@@ -24,15 +24,28 @@ same-length c = search needs
 
 returns : tie.Need-returns
 unfolding givenText
-returns c = rw (sym (c .before .before .before .before .before .before .before .before .before .before .before .is-of-kind .ensures) ∙ c .before .before .before .before .before .before .before .before .before .before .if1 .taken, sym (c .before .before .before .before .before .before .before .before .before .is-to .ensures) ∙ c .before .before .before .before .before .before .before .before .if2 .taken) (andThen (c .before .before .before .before .before .before .put-byte .ensures) (c .before .before .put-unit .ensures))
+returns c =
+    let then = c .before .before .before .before .before .before in let put-byte = then .put-byte in
+    let then = then .before .before in let if2 = then .if2 in
+    let then = then .before in let is-to = then .is-to in
+    let then = then .before in let if1 = then .if1 in
+    let is-of-kind = then .before .is-of-kind in
+    rw (sym (is-of-kind .ensures) ∙ if1 .taken, sym (is-to .ensures) ∙ if2 .taken)
+    (andThen (put-byte .ensures) (c .before .before .put-unit .ensures))
 
 returns-2 : tie.Need-returns-2
 unfolding givenText
-returns-2 c = rw (sym (c .before .before .before .is-of-kind .ensures) ∙ c .before .before .if1 .taken, sym (c .before .is-to .ensures) ∙ c .if2 .left) (none (c .before .before .before .before .before .args .out .now) (c .before .before .before .before .before .args .at))
+returns-2 c =
+    let then = c .before .before .before in let is-of-kind = then .is-of-kind in
+    let args = then .before .before .args in
+    rw (sym (is-of-kind .ensures) ∙ c .before .before .if1 .taken, sym (c .before .is-to .ensures) ∙ c .if2 .left)
+    (none (args .out .now) (args .at))
 
 returns-3 : tie.Need-returns-3
 unfolding givenText
-returns-3 c = rw (sym (c .before .is-of-kind .ensures) ∙ c .if1 .left) (none (c .before .before .before .args .out .now) (c .before .before .before .args .at))
+returns-3 c =
+    let args = c .before .before .before .args in
+    rw (sym (c .before .is-of-kind .ensures) ∙ c .if1 .left) (none (args .out .now) (args .at))
 
 pub put-given-spec : {M : Type 1} → statement M
 put-given-spec =

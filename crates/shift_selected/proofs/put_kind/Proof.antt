@@ -12,7 +12,9 @@ use Rattle.shift_selected.proofs.put_kind.Statement.{statement}
 use Rattle.shift_selected.proofs.put_kind.Tie as tie
 
 abbrev Inv-loop : tie.InvT-loop
-Inv-loop out₀ at kind units channels heads next₀ l₀ out next l = (l ≤ 16) × Going out₀ at (kindText units channels heads kind) out next (eachFrom (λ i. askedText units channels heads kind (logical i)) (16 - l) l)
+Inv-loop out₀ at kind units channels heads next₀ l₀ out next l =
+    (l ≤ 16) × Going out₀ at (kindText units channels heads kind) out next
+    (eachFrom (λ i. askedText units channels heads kind (logical i)) (16 - l) l)
 
 abbrev μ-loop : tie.MeasureT-loop
 μ-loop out₀ at kind units channels heads next₀ l₀ out next l = 16 - l
@@ -30,13 +32,25 @@ loop-less : tie.Need-loop-less Inv-loop μ-loop
 loop-less c = omega arith
 
 loop-again : tie.Need-loop-again Inv-loop μ-loop
-loop-again c = (omega arith, on (λ i. askedText (c .before .before .before .before .before .before .before .args .units) (c .before .before .before .before .before .before .before .args .channels) (c .before .before .before .before .before .before .before .args .heads) (c .before .before .before .before .before .before .before .args .kind) (logical i)) 16 (c .before .before .before .before .loop-test .taken) (c .before .before .before .before .before .loop .inv .1) (c .before .before .put-asked .ensures))
+loop-again c =
+    let then = c .before .before .before .before in let loop-test = then .loop-test in
+    let then = then .before in let loop = then .loop in
+    let args = then .before .before .args in (
+      omega arith,
+      on (λ i. askedText (args .units) (args .channels) (args .heads) (args .kind) (logical i)) 16 (loop-test .taken) (loop .inv .1)
+          (c .before .before .put-asked .ensures),
+    )
 
 same-length : tie.Need-same-length Inv-loop μ-loop
-same-length c = same-room (over (λ i. askedText (c .before .before .before .args .units) (c .before .before .before .args .channels) (c .before .before .before .args .heads) (c .before .before .before .args .kind) (logical i)) 16 (c .loop-test .left) (c .before .loop .inv .1))
+same-length c =
+    let args = c .before .before .before .args in
+    same-room (over (λ i. askedText (args .units) (args .channels) (args .heads) (args .kind) (logical i)) 16 (c .loop-test .left)
+    (c .before .loop .inv .1))
 
 returns : tie.Need-returns Inv-loop μ-loop
-returns c = over (λ i. askedText (c .before .before .before .args .units) (c .before .before .before .args .channels) (c .before .before .before .args .heads) (c .before .before .before .args .kind) (logical i)) 16 (c .loop-test .left) (c .before .loop .inv .1)
+returns c =
+    let args = c .before .before .before .args in
+    over (λ i. askedText (args .units) (args .channels) (args .heads) (args .kind) (logical i)) 16 (c .loop-test .left) (c .before .loop .inv .1)
 
 pub put-kind-spec : {M : Type 1} → statement M
 put-kind-spec =

@@ -18,7 +18,9 @@ use Rattle.shift_selected.proofs.put_kinds.Statement.{statement}
 use Rattle.shift_selected.proofs.put_kinds.Tie as tie
 
 abbrev Inv-loop : tie.InvT-loop
-Inv-loop out₀ at units channels heads next₀ order₀ out next order = (order ≤ unitKinds) × Going out₀ at (kindsText units channels heads) out next (eachFrom (λ i. kindText units channels heads (kindAt i)) (unitKinds - order) order)
+Inv-loop out₀ at units channels heads next₀ order₀ out next order =
+    (order ≤ unitKinds) × Going out₀ at (kindsText units channels heads) out next
+    (eachFrom (λ i. kindText units channels heads (kindAt i)) (unitKinds - order) order)
 
 abbrev μ-loop : tie.MeasureT-loop
 μ-loop out₀ at units channels heads next₀ order₀ out next order = unitKinds - order
@@ -39,18 +41,32 @@ loop-less : tie.Need-loop-less Inv-loop μ-loop
 loop-less c = omega arith
 
 -- what is put of a kind is put of one that is the same
-same-kind : {room after : List ℕ} {at r : ℕ} (units : List ℕ) (channels : List Channel) (heads : List Head) {k m : Kind} → k ≡ m → Written room at (kindText units channels heads k) after r
+same-kind : {room after : List ℕ} {at r : ℕ} (units : List ℕ) (channels : List Channel) (heads : List Head) {k m : Kind} → k ≡ m
+    → Written room at (kindText units channels heads k) after r
     → Written room at (kindText units channels heads m) after r
 same-kind {room} {after} {at} {r} units channels heads e w = subst (λ (k : Kind). Written room at (kindText units channels heads k) after r) e w
 
 loop-again : tie.Need-loop-again Inv-loop μ-loop
-loop-again c = (omega arith, on (λ i. kindText (c .before .before .before .before .before .before .before .before .args .units) (c .before .before .before .before .before .before .before .before .args .channels) (c .before .before .before .before .before .before .before .before .args .heads) (kindAt i)) unitKinds (c .before .before .before .before .before .loop-test .taken) (c .before .before .before .before .before .before .loop .inv .1) (same-kind (c .before .before .before .before .before .before .before .before .args .units) (c .before .before .before .before .before .before .before .before .args .channels) (c .before .before .before .before .before .before .before .before .args .heads) (c .before .before .before .kind-at .ensures) (c .before .before .put-kind .ensures)))
+loop-again c =
+    let then = c .before .before .before in let kind-at = then .kind-at in
+    let then = then .before .before in let loop-test = then .loop-test in
+    let then = then .before in let loop = then .loop in
+    let args = then .before .before .args in (
+      omega arith,
+      on (λ i. kindText (args .units) (args .channels) (args .heads) (kindAt i)) unitKinds (loop-test .taken) (loop .inv .1)
+          (same-kind (args .units) (args .channels) (args .heads) (kind-at .ensures) (c .before .before .put-kind .ensures)),
+    )
 
 same-length : tie.Need-same-length Inv-loop μ-loop
-same-length c = same-room (over (λ i. kindText (c .before .before .before .args .units) (c .before .before .before .args .channels) (c .before .before .before .args .heads) (kindAt i)) unitKinds (c .loop-test .left) (c .before .loop .inv .1))
+same-length c =
+    let args = c .before .before .before .args in
+    same-room (over (λ i. kindText (args .units) (args .channels) (args .heads) (kindAt i)) unitKinds (c .loop-test .left)
+    (c .before .loop .inv .1))
 
 returns : tie.Need-returns Inv-loop μ-loop
-returns c = over (λ i. kindText (c .before .before .before .args .units) (c .before .before .before .args .channels) (c .before .before .before .args .heads) (kindAt i)) unitKinds (c .loop-test .left) (c .before .loop .inv .1)
+returns c =
+    let args = c .before .before .before .args in
+    over (λ i. kindText (args .units) (args .channels) (args .heads) (kindAt i)) unitKinds (c .loop-test .left) (c .before .loop .inv .1)
 
 pub put-kinds-spec : {M : Type 1} → statement M
 put-kinds-spec =

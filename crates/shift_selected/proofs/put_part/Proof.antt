@@ -49,7 +49,10 @@ same-length-3 : tie.Need-same-length-3
 same-length-3 c = search needs
 
 returns-3 : tie.Need-returns-3
-returns-3 c = rw (c .before .before .before .before .before .before .before .part .given .1) (rw (c .before .before .before .before .before .code-of .ensures) at (c .before .before .put-bytes3 .ensures))
+returns-3 c =
+    let then = c .before .before .before .before .before in let code-of = then .code-of in
+    let part = then .before .before .part in
+    rw (part .given .1) (rw (code-of .ensures) at (c .before .before .put-bytes3 .ensures))
 
 pub put-part-spec : {M : Type 1} → statement M
 put-part-spec =

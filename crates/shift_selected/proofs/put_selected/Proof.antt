@@ -35,7 +35,16 @@ same-length : tie.Need-same-length
 same-length c = search needs
 
 returns : tie.Need-returns
-returns c = andThen (c .before .before .before .before .before .before .before .before .before .before .before .before .before .before .before .before .before .before .before .before .before .before .before .before .before .before .before .before .before .before .before .put-bytes .ensures) (andThen (c .before .before .before .before .before .before .before .before .before .before .before .before .before .before .before .before .before .before .before .before .before .before .before .before .before .before .before .put-decimal .ensures) (andThen (c .before .before .before .before .before .before .before .before .before .before .before .before .before .before .before .before .before .before .before .before .before .before .before .put-byte .ensures) (andThen (c .before .before .before .before .before .before .before .before .before .before .before .before .before .before .before .before .before .put-name .ensures) (andThen (c .before .before .before .before .before .before .before .before .before .before .before .before .put-areas .ensures) (andThen (c .before .before .before .before .before .before .put-kinds .ensures) (c .before .before .put-byte2 .ensures))))))
+returns c =
+    let then = c .before .before .before .before .before .before in let put-kinds = then .put-kinds in
+    let then = then .before .before .before .before .before .before in let put-areas = then .put-areas in
+    let then = then .before .before .before .before .before in let put-name = then .put-name in
+    let then = then .before .before .before .before .before .before in let put-byte = then .put-byte in
+    let then = then .before .before .before .before in let put-decimal = then .put-decimal in
+    let put-bytes = then .before .before .before .before .put-bytes in
+    andThen (put-bytes .ensures) (andThen (put-decimal .ensures)
+    (andThen (put-byte .ensures)
+    (andThen (put-name .ensures) (andThen (put-areas .ensures) (andThen (put-kinds .ensures) (c .before .before .put-byte2 .ensures))))))
 
 pub put-selected-spec : {M : Type 1} → statement M
 put-selected-spec =

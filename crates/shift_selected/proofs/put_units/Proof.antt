@@ -11,7 +11,8 @@ use Rattle.shift_selected.proofs.put_units.Statement.{statement}
 use Rattle.shift_selected.proofs.put_units.Tie as tie
 
 abbrev Inv-loop : tie.InvT-loop
-Inv-loop out₀ at kind logical channels heads next₀ i₀ out next i = (i ≤ 256) × Going out₀ at (unitsText channels heads kind logical) out next (eachFrom (unitAt channels heads kind logical) (256 - i) i)
+Inv-loop out₀ at kind logical channels heads next₀ i₀ out next i =
+    (i ≤ 256) × Going out₀ at (unitsText channels heads kind logical) out next (eachFrom (unitAt channels heads kind logical) (256 - i) i)
 
 abbrev μ-loop : tie.MeasureT-loop
 μ-loop out₀ at kind logical channels heads next₀ i₀ out next i = 256 - i
@@ -44,13 +45,24 @@ loop-less : tie.Need-loop-less Inv-loop μ-loop
 loop-less c = omega arith
 
 loop-again : tie.Need-loop-again Inv-loop μ-loop
-loop-again c = (omega arith, on (unitAt (c .before .before .before .before .before .before .before .before .before .args .t5) (c .before .before .before .before .before .before .before .before .before .args .t6) (c .before .before .before .before .before .before .before .before .before .args .kind) (c .before .before .before .before .before .before .before .before .before .args .logical)) 256 (c .before .before .before .before .before .before .loop-test .taken) (c .before .before .before .before .before .before .before .loop .inv .1) (c .before .before .put-given .ensures))
+loop-again c =
+    let then = c .before .before .before .before .before .before in let loop-test = then .loop-test in
+    let then = then .before in let loop = then .loop in
+    let args = then .before .before .args in (
+      omega arith,
+      on (unitAt (args .t5) (args .t6) (args .kind) (args .logical)) 256 (loop-test .taken) (loop .inv .1)
+          (c .before .before .put-given .ensures),
+    )
 
 same-length : tie.Need-same-length Inv-loop μ-loop
-same-length c = same-room (over (unitAt (c .before .before .before .args .t5) (c .before .before .before .args .t6) (c .before .before .before .args .kind) (c .before .before .before .args .logical)) 256 (c .loop-test .left) (c .before .loop .inv .1))
+same-length c =
+    let args = c .before .before .before .args in
+    same-room (over (unitAt (args .t5) (args .t6) (args .kind) (args .logical)) 256 (c .loop-test .left) (c .before .loop .inv .1))
 
 returns : tie.Need-returns Inv-loop μ-loop
-returns c = over (unitAt (c .before .before .before .args .t5) (c .before .before .before .args .t6) (c .before .before .before .args .kind) (c .before .before .before .args .logical)) 256 (c .loop-test .left) (c .before .loop .inv .1)
+returns c =
+    let args = c .before .before .before .args in
+    over (unitAt (args .t5) (args .t6) (args .kind) (args .logical)) 256 (c .loop-test .left) (c .before .loop .inv .1)
 
 pub put-units-spec : {M : Type 1} → statement M
 put-units-spec =

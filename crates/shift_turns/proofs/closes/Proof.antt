@@ -8,7 +8,10 @@ close-requires : tie.Need-close-requires
 close-requires c κs = search needs
 
 returns : tie.Need-returns
-returns c = closes-none (c .before .before .before .before .args .shift .phase) (c .before .before .before .before .args .shift .cell) (c .before .before .before .before .args .rest .now) (c .before .before .before .before .args .room .now) (c .before .before .before .before .args .out .now) _ (c .close .result) (c .before .before .if1 .taken) (c .close .ensures)
+returns c =
+    let args = c .before .before .before .before .args in
+    closes-none (args .shift .phase) (args .shift .cell) (args .rest .now) (args .room .now) (args .out .now) _ (c .close .result)
+    (c .before .before .if1 .taken) (c .close .ensures)
 
 take-line-requires : tie.Need-take-line-requires
 take-line-requires c κs = search needs
@@ -17,7 +20,12 @@ close-requires-2 : tie.Need-close-requires-2
 close-requires-2 c κs = search needs
 
 returns-2 : tie.Need-returns-2
-returns-2 c = closes-some (c .before .before .before .before .before .before .before .before .args .shift .phase) (c .before .before .before .before .before .before .before .before .args .shift .cell) (c .before .before .before .before .before .before .before .before .args .rest .now) (c .before .before .before .before .before .before .before .before .args .room .now) _ (c .before .before .before .before .before .before .before .before .args .out .now) _ _ (c .before .before .before .take-line .result) (c .close2 .result) (c .before .before .before .before .before .before .if1 .left) (c .before .before .before .take-line .ensures) (c .close2 .ensures)
+returns-2 c =
+    let then = c .before .before .before in let take-line = then .take-line in
+    let then = then .before .before .before in let if1 = then .if1 in
+    let args = then .before .before .args in
+    closes-some (args .shift .phase) (args .shift .cell) (args .rest .now) (args .room .now) _ (args .out .now) _ _ (take-line .result)
+    (c .close2 .result) (if1 .left) (take-line .ensures) (c .close2 .ensures)
 
 pub closes-spec : {M : Type 1} → statement M
 closes-spec =

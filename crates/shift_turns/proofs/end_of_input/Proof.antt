@@ -37,16 +37,24 @@ returns : tie.Need-returns
 returns c = rw (c .before .before .before .before .phase .given .1) (c .end-of-input .ensures)
 
 returns-2 : tie.Need-returns-2
-returns-2 c = rw (c .before .before .before .enum-told .given .1) (rw (c .before .before .before .enum-told .given .1) at (c .closes .ensures))
+returns-2 c =
+    let enum-told = c .before .before .before .enum-told in
+    rw (enum-told .given .1) (rw (enum-told .given .1) at (c .closes .ensures))
 
 returns-3 : tie.Need-returns-3
-returns-3 c = rw (c .before .before .before .enum-told2 .given .1) (rw (c .before .before .before .enum-told2 .given .1) at (c .closes2 .ensures))
+returns-3 c =
+    let enum-told2 = c .before .before .before .enum-told2 in
+    rw (enum-told2 .given .1) (rw (enum-told2 .given .1) at (c .closes2 .ensures))
 
 returns-4 : tie.Need-returns-4
-returns-4 c = rw (c .before .before .before .enum-told3 .given .1) (rw (c .before .before .before .enum-told3 .given .1) at (c .closes3 .ensures))
+returns-4 c =
+    let enum-told3 = c .before .before .before .enum-told3 in
+    rw (enum-told3 .given .1) (rw (enum-told3 .given .1) at (c .closes3 .ensures))
 
 returns-5 : tie.Need-returns-5
-returns-5 c = rw (c .before .before .before .enum-told4 .given .1) (rw (c .before .before .before .enum-told4 .given .1) at (c .closes4 .ensures))
+returns-5 c =
+    let enum-told4 = c .before .before .before .enum-told4 in
+    rw (enum-told4 .given .1) (rw (enum-told4 .given .1) at (c .closes4 .ensures))
 
 pub end-of-input-spec : {M : Type 1} → statement M
 end-of-input-spec =

@@ -18,7 +18,9 @@ fresh-requires : tie.Need-fresh-requires
 fresh-requires c κs = search needs
 
 returns : tie.Need-returns
-returns c = ap (λ (x : Cell). shiftOf (Phase′.Begins 0) x) (c .fresh .ensures ∙ ap (λ (l : List Channel). freshCell (record { channels = l; down = noDown; codes = noCodes })) (c .before .no-channels .ensures))
+returns c =
+    ap (λ (x : Cell). shiftOf (Phase′.Begins 0) x) (c .fresh .ensures
+    ∙ ap (λ (l : List Channel). freshCell (record { channels = l; down = noDown; codes = noCodes })) (c .before .no-channels .ensures))
 
 pub fresh-spec : {M : Type 1} → statement M
 fresh-spec = tie.close (tie.spec no-channels-requires fresh-requires returns)

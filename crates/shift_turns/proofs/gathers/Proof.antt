@@ -25,16 +25,29 @@ is-last-card-requires : tie.Need-is-last-card-requires
 is-last-card-requires c κs = search needs
 
 entered-requires : tie.Need-entered-requires
-entered-requires c κs = let d = deck-within (c .before .before .before .before .before .before .before .before .add-card .ensures) (c .before .before .before .before .before .before .n .given .1) in search needs
+entered-requires c κs =
+    let then = c .before .before .before .before .before .before in let n = then .n in
+    let add-card = then .before .before .add-card in
+    let d = deck-within (add-card .ensures) (n .given .1) in
+    search needs
 
 returns-2 : tie.Need-returns-2
-returns-2 c = gathered (c .before .before .before .before .before .before .before .before .before .add-card .ensures) (c .before .before .before .before .before .before .before .n .given .1) (sym (c .before .before .before .before .if1 .taken) ∙ c .before .before .before .before .before .is-last-card .ensures) (c .entered .ensures)
+returns-2 c =
+    let then = c .before .before .before .before in let if1 = then .if1 in
+    let then = then .before in let is-last-card = then .is-last-card in
+    let then = then .before .before in let n = then .n in
+    let add-card = then .before .before .add-card in
+    gathered (add-card .ensures) (n .given .1) (sym (if1 .taken) ∙ is-last-card .ensures) (c .entered .ensures)
 
 turned-requires : tie.Need-turned-requires
 turned-requires c κs = search needs
 
 returns-3 : tie.Need-returns-3
-returns-3 c = gathered (c .before .before .before .before .before .before .add-card .ensures) (c .before .before .before .before .n .given .1) (sym (c .before .if1 .left) ∙ c .before .before .is-last-card .ensures) (silent (c .turned .ensures))
+returns-3 c =
+    let then = c .before .before .before .before in let n = then .n in
+    let add-card = then .before .before .add-card in
+    gathered (add-card .ensures) (n .given .1) (sym (c .before .if1 .left) ∙ c .before .before .is-last-card .ensures)
+    (silent (c .turned .ensures))
 
 pub gathers-spec : {M : Type 1} → statement M
 gathers-spec =

@@ -15,7 +15,10 @@ turned-requires : tie.Need-turned-requires
 turned-requires c κs = search needs
 
 returns : tie.Need-returns
-returns c = rw (sym (c .before .before .before .before .is-last-card .ensures) ∙ c .before .before .before .if1 .taken) (says (c .turned .ensures) (c .before .put-refused .ensures))
+returns c =
+    let then = c .before .before .before in let if1 = then .if1 in
+    let is-last-card = then .before .is-last-card in
+    rw (sym (is-last-card .ensures) ∙ if1 .taken) (says (c .turned .ensures) (c .before .put-refused .ensures))
 
 turned-requires-2 : tie.Need-turned-requires-2
 turned-requires-2 c κs = search needs

@@ -17,7 +17,11 @@ turned-requires : tie.Need-turned-requires
 turned-requires c κs = search needs
 
 returns : tie.Need-returns
-returns c = talked (c .before .before .before .before .before .before .before .args .line .now) (c .before .before .before .before .before .read-line .ensures) (c .before .before .before .reply-line .ensures) (c .before .after-line .ensures) (c .turned .ensures)
+returns c =
+    let then = c .before .before .before in let reply-line = then .reply-line in
+    let then = then .before .before in let read-line = then .read-line in
+    let args = then .before .before .args in
+    talked (args .line .now) (read-line .ensures) (reply-line .ensures) (c .before .after-line .ensures) (c .turned .ensures)
 
 pub talks-spec : {M : Type 1} → statement M
 talks-spec =

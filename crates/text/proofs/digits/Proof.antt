@@ -27,22 +27,38 @@ is-digit-requires : tie.Need-is-digit-requires Inv-loop μ-loop
 is-digit-requires c κs = search needs
 
 returns : tie.Need-returns Inv-loop μ-loop
-returns c = stop (c .before .before .before .before .loop .inv) (c .before .before .before .loop-test .taken) (sym (c .before .is-digit .ensures) ∙ not-true _ (c .if1 .taken))
+returns c =
+    let then = c .before .before .before in let loop-test = then .loop-test in
+    let loop = then .before .loop in
+    stop (loop .inv) (loop-test .taken) (sym (c .before .is-digit .ensures) ∙ not-true _ (c .if1 .taken))
 
 returns-2 : tie.Need-returns-2 Inv-loop μ-loop
-returns-2 c = full (c .before .before .before .before .before .loop .inv) (c .before .before .before .before .loop-test .taken) (sym (c .before .before .is-digit .ensures) ∙ not-false _ (c .before .if1 .left)) (c .if2 .taken)
+returns-2 c =
+    let then = c .before .before .before .before in let loop-test = then .loop-test in
+    let loop = then .before .loop in
+    full (loop .inv) (loop-test .taken) (sym (c .before .before .is-digit .ensures) ∙ not-false _ (c .before .if1 .left)) (c .if2 .taken)
 
 mul-value : tie.Need-mul-value Inv-loop μ-loop
 mul-value c = record { fits = omega (arith, more-fits (c .before .before .before .before .before .loop .inv) (omega arith)) }
 
 sub-value : tie.Need-sub-value Inv-loop μ-loop
-sub-value c = digit-bounds (getD (c .before .before .before .before .before .before .before .args .s .now) (c .before .before .before .before .before .loop .i) 0) (sym (c .before .before .is-digit .ensures) ∙ not-false _ (c .before .if1 .left)) .0
+sub-value c =
+    let then = c .before .before .before .before .before in let loop = then .loop in
+    let args = then .before .before .args in
+    digit-bounds (getD (args .s .now) (loop .i) 0) (sym (c .before .before .is-digit .ensures) ∙ not-false _ (c .before .if1 .left)) .0
 
 cast-value : tie.Need-cast-value Inv-loop μ-loop
-cast-value c = record { fits = omega (arith, c .before .before .before .shared-slice-known2 .given (c .before .before .before .before .before .loop .i)) }
+cast-value c =
+    let then = c .before .before .before in let shared-slice-known2 = then .shared-slice-known2 in
+    let loop = then .before .before .loop in
+    record { fits = omega (arith, shared-slice-known2 .given (loop .i)) }
 
 add-value : tie.Need-add-value Inv-loop μ-loop
-add-value c = let b = digit-bounds (getD (c .before .before .before .before .before .before .before .args .s .now) (c .before .before .before .before .before .loop .i) 0) (sym (c .before .before .is-digit .ensures) ∙ not-false _ (c .before .if1 .left)) in record { fits = omega (arith, more-fits (c .before .before .before .before .before .loop .inv) (omega arith)) }
+add-value c =
+    let then = c .before .before .before .before .before in let loop = then .loop in
+    let args = then .before .before .args in
+    let b = digit-bounds (getD (args .s .now) (loop .i) 0) (sym (c .before .before .is-digit .ensures) ∙ not-false _ (c .before .if1 .left)) in
+    record { fits = omega (arith, more-fits (loop .inv) (omega arith)) }
 
 add-i : tie.Need-add-i Inv-loop μ-loop
 add-i c = search needs
@@ -51,7 +67,10 @@ loop-less : tie.Need-loop-less Inv-loop μ-loop
 loop-less c = search needs
 
 loop-again : tie.Need-loop-again Inv-loop μ-loop
-loop-again c = next (c .before .before .before .before .before .loop .inv) (c .before .before .before .before .loop-test .taken) (sym (c .before .before .is-digit .ensures) ∙ not-false _ (c .before .if1 .left)) (omega arith)
+loop-again c =
+    let then = c .before .before .before .before in let loop-test = then .loop-test in
+    let loop = then .before .loop in
+    next (loop .inv) (loop-test .taken) (sym (c .before .before .is-digit .ensures) ∙ not-false _ (c .before .if1 .left)) (omega arith)
 
 returns-3 : tie.Need-returns-3 Inv-loop μ-loop
 returns-3 c = ended (c .before .loop .inv) (c .loop-test .left)

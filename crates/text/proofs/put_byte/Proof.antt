@@ -20,7 +20,9 @@ returns : tie.Need-returns
 returns c = search needs
 
 returns-2 : tie.Need-returns-2
-returns-2 c = record { bytes = sym (set-out (c .before .args .room .now) (c .before .args .at) (c .before .args .b) (c .if1 .left)); reached = omega (arith, c .if1 .left) }
+returns-2 c =
+    let args = c .before .args in
+    record { bytes = sym (set-out (args .room .now) (args .at) (args .b) (c .if1 .left)); reached = omega (arith, c .if1 .left) }
 
 pub put-byte-spec : {M : Type 1} → statement M
 put-byte-spec = tie.close (tie.spec slice-write-room add-result same-length returns returns-2)

@@ -32,10 +32,19 @@ loop-less : tie.Need-loop-less Inv-loop μ-loop
 loop-less c = search needs
 
 loop-again : tie.Need-loop-again Inv-loop μ-loop
-loop-again c = (omega arith, turn (rw (add-one (c .before .before .before .before .before .before .loop .i), ← drop-cons (c .before .before .before .before .before .before .before .before .before .args .piece .now) (c .before .before .before .before .before .before .loop .i) 0 (c .before .before .before .before .before .loop-test .taken)) (c .before .before .before .before .before .before .loop .inv .1)) (c .before .before .put-byte .ensures))
+loop-again c =
+    let then = c .before .before .before .before .before in let loop-test = then .loop-test in
+    let then = then .before in let loop = then .loop in
+    let args = then .before .before .before .args in (
+      omega arith,
+      turn (rw (add-one (loop .i), ← drop-cons (args .piece .now) (loop .i) 0 (loop-test .taken)) (loop .inv .1))
+          (c .before .before .put-byte .ensures),
+    )
 
 same-length : tie.Need-same-length Inv-loop μ-loop
-same-length c = same-room (end (rw (drop-of-length-le (c .before .before .before .before .args .piece .now) (c .loop-test .left)) at (c .before .loop .inv .1)))
+same-length c =
+    let args = c .before .before .before .before .args in
+    same-room (end (rw (drop-of-length-le (args .piece .now) (c .loop-test .left)) at (c .before .loop .inv .1)))
 
 returns : tie.Need-returns Inv-loop μ-loop
 returns c = end (rw (drop-of-length-le (c .before .before .before .before .args .piece .now) (c .loop-test .left)) at (c .before .loop .inv .1))

@@ -36,13 +36,28 @@ add-t11 : tie.Need-add-t11
 add-t11 c = search needs
 
 returns : tie.Need-returns
-returns c = two-yes (c .before .before .before .before .before .before .before .args .s .now) (c .before .before .before .before .before .byte-at .ensures) (c .before .before .before .is-digit .ensures) (c .before .before .before .before .byte-at2 .ensures) (c .before .is-digit2 .ensures) (c .before .before .if1 .taken) (c .if2 .taken)
+returns c =
+    let then = c .before .before .before in let is-digit = then .is-digit in
+    let then = then .before in let byte-at2 = then .byte-at2 in
+    let then = then .before in let byte-at = then .byte-at in
+    let args = then .before .before .args in
+    two-yes (args .s .now) (byte-at .ensures) (is-digit .ensures) (byte-at2 .ensures) (c .before .is-digit2 .ensures)
+    (c .before .before .if1 .taken) (c .if2 .taken)
 
 returns-2 : tie.Need-returns-2
-returns-2 c = two-half (c .before .before .before .before .before .before .before .args .s .now) (c .before .before .before .before .before .byte-at .ensures) (c .before .before .before .is-digit .ensures) (c .before .before .before .before .byte-at2 .ensures) (c .before .is-digit2 .ensures) (c .before .before .if1 .taken) (c .if2 .left)
+returns-2 c =
+    let then = c .before .before .before in let is-digit = then .is-digit in
+    let then = then .before in let byte-at2 = then .byte-at2 in
+    let then = then .before in let byte-at = then .byte-at in
+    let args = then .before .before .args in
+    two-half (args .s .now) (byte-at .ensures) (is-digit .ensures) (byte-at2 .ensures) (c .before .is-digit2 .ensures)
+    (c .before .before .if1 .taken) (c .if2 .left)
 
 returns-3 : tie.Need-returns-3
-returns-3 c = two-no (c .before .before .before .before .before .args .s .now) (c .before .before .before .byte-at .ensures) (c .before .is-digit .ensures) (c .if1 .left)
+returns-3 c =
+    let then = c .before .before .before in let byte-at = then .byte-at in
+    let args = then .before .before .args in
+    two-no (args .s .now) (byte-at .ensures) (c .before .is-digit .ensures) (c .if1 .left)
 
 pub two-digits-spec : {M : Type 1} → statement M
 two-digits-spec =

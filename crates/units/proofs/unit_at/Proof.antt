@@ -21,13 +21,22 @@ fresh-unit-requires : tie.Need-fresh-unit-requires
 fresh-unit-requires c κs = search needs
 
 returns : tie.Need-returns
-returns c = c .fresh-unit .ensures ∙ sym (read-past (c .before .before .before .before .before .args .units .of) (of-square (c .before .before .before .before .grid-of .ensures)) (c .before .before .before .before .before .args .channel .0) (c .before .before .before .before .before .args .unit .0) (c .before .if1 .taken))
+returns c =
+    let then = c .before .before .before .before in let grid-of = then .grid-of in
+    let args = then .before .args in
+    c .fresh-unit .ensures ∙ sym (read-past (args .units .of) (of-square (grid-of .ensures)) (args .channel .0) (args .unit .0)
+    (c .before .if1 .taken))
 
 fresh-unit-requires-2 : tie.Need-fresh-unit-requires-2
 fresh-unit-requires-2 c κs = search needs
 
 returns-2 : tie.Need-returns-2
-returns-2 c = c .fresh-unit2 .ensures ∙ sym (read-beside (c .before .before .before .before .before .before .before .args .units .of) (of-square (c .before .before .before .before .before .before .grid-of .ensures)) (c .before .before .before .before .before .before .before .args .channel .0) (c .before .before .before .before .before .before .before .args .unit .0) (omega (arith, c .before .before .before .if1 .left)) (c .before .if2 .taken))
+returns-2 c =
+    let then = c .before .before .before in let if1 = then .if1 in
+    let then = then .before .before .before in let grid-of = then .grid-of in
+    let args = then .before .args in
+    c .fresh-unit2 .ensures ∙ sym (read-beside (args .units .of) (of-square (grid-of .ensures)) (args .channel .0) (args .unit .0)
+    (omega (arith, if1 .left)) (c .before .if2 .taken))
 
 mul-result : tie.Need-mul-result
 mul-result c = search needs

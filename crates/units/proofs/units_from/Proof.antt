@@ -39,7 +39,8 @@ use Rattle.units.proofs.units_from.Code as code
 abbrev stayed : Stays (units-from.ended .signature .params) (units-from.ended .kept)
 stayed = (stay-none (λ _. G.Grid) yes, tt)
 
-module _ {M : Type 1} (𝓤 : URA M) (H : Heap 𝓤) (A : Atoms 𝓤) (W : Given 𝓤 H A) (mem : Memory → SProp 𝓤) (run : Routine → Fun 𝓤) (us : List (List U.Unit)) where
+module _ {M : Type 1} (𝓤 : URA M) (H : Heap 𝓤) (A : Atoms 𝓤) (W : Given 𝓤 H A) (mem : Memory → SProp 𝓤) (run : Routine → Fun 𝓤)
+    (us : List (List U.Unit)) where
   abbrev next : Units
   next = unitsFrom us
 
@@ -52,11 +53,15 @@ module _ {M : Type 1} (𝓤 : URA M) (H : Heap 𝓤) (A : Atoms 𝓤) (W : Given
   exits : Is T.the-row next (mach ∷ []) → ent 𝓤 (sem 𝓤 H A (G.Grid .own us (G.val us ∷ []))) (Post mach)
   exits g =
       qed W (‵ (G.Grid .own us (G.val us ∷ [])) ∷ []) ∵
-      suffices ! _ (ends-at 𝓤 H A units-from.ended stayed (units-from.clauses 𝓤 H A mem run) W ((tt, tt, tt, (us, tt), (G.val us ∷ [], tt)), tt) mach next (tt, tt) (tt, tt)) $ says ! refl $
-      nothing ! $ move ! (1 ∷ 0 ∷ []) $ fjoin ! $ owned ! T.the-row (Is T.the-row) (LL.makes T.the-type T′.the-plain 𝓤 H A) next _ g $ move ! (1 ∷ 0 ∷ []) $ nothing ! $ done !
+      suffices ! _ (ends-at 𝓤 H A units-from.ended stayed (units-from.clauses 𝓤 H A mem run) W ((tt, tt, tt, (us, tt), (G.val us ∷ [], tt)), tt)
+      mach next (tt, tt) (tt, tt)) $
+      says ! refl $
+      nothing ! $ move ! (1 ∷ 0 ∷ []) $ fjoin ! $ owned ! T.the-row (Is T.the-row) (LL.makes T.the-type T′.the-plain 𝓤 H A) next _ g $
+      move ! (1 ∷ 0 ∷ []) $ nothing ! $ done !
 
   module _ (C : Calls 𝓤 H) (Λ : Loops 𝓤 H) where
-    walk : Is G.Grid us (G.val us ∷ []) → ent 𝓤 (onEntry 𝓤 H A units-from.signature tt tt (us, tt) (G.val us ∷ [], tt)) (WpFn 𝓤 H C Λ code.function (G.val us ∷ []) Post)
+    walk : Is G.Grid us (G.val us ∷ [])
+        → ent 𝓤 (onEntry 𝓤 H A units-from.signature tt tt (us, tt) (G.val us ∷ [], tt)) (WpFn 𝓤 H C Λ code.function (G.val us ∷ []) Post)
     walk gu =
         let wu = G.lawful 𝓤 H A W .typed us _ gu .0 in
         let is = LL.owes T.the-type T′.the-laws next (G.in-field us _ gu, tt) in
@@ -64,16 +69,21 @@ module _ {M : Type 1} (𝓤 : URA M) (H : Heap 𝓤) (A : Atoms 𝓤) (W : Given
         qed W (‵ ftrue ∷ ‵ (owns (G.Grid ∷ []) (us, tt) (G.val us ∷ [], tt)) ∷ []) ∵ enter ! C Λ code.function (G.val us ∷ []) _ $
         alloc1 ! (λ l₀. alloc1 ! (λ l₁. alloc0 ! $ params1 ! $ pass1 ! (init ! 0 refl wu) $ pass0 ! $
         assigns ! (agg ! (and-then ! (load ! (from ! (stop !)) (look ! 0 refl)) (no-more !))) (from ! (stop !)) (init ! 2 refl wn) $
-        returns ! (look ! 2 refl) $ forget ! 0 refl $ forget ! 2 refl $ move ! (2 ∷ 3 ∷ []) $ free1 ! $ free1 ! $ free0 ! $ keep ! (1 ∷ []) $ fsplit ! $ keep ! (0 ∷ []) $ by ! (exits is)))
+        returns ! (look ! 2 refl) $ forget ! 0 refl $ forget ! 2 refl $ move ! (2 ∷ 3 ∷ []) $ free1 ! $ free1 ! $ free0 ! $ keep ! (1 ∷ []) $
+        fsplit ! $ keep ! (0 ∷ []) $ by ! (exits is)))
 
 module _ {M : Type 1} (𝓤 : URA M) (H : Heap 𝓤) (A : Atoms 𝓤) (W : Given 𝓤 H A) (mem : Memory → SProp 𝓤) (run : Routine → Fun 𝓤) where
   walks : (C : Calls 𝓤 H) (Λ : Loops 𝓤 H) → Walks 𝓤 H A units-from.ended stayed (WpFn 𝓤 H C Λ code.function) (units-from.clauses 𝓤 H A mem run)
-  walks C Λ = walked 𝓤 H A units-from.ended stayed (units-from.clauses 𝓤 H A mem run) (WpFn 𝓤 H C Λ code.function) (λ κs. ((λ us. G.val us ∷ []), tt)) (λ κs. (G.tells, tt))
+  walks C Λ =
+      walked 𝓤 H A units-from.ended stayed (units-from.clauses 𝓤 H A mem run) (WpFn 𝓤 H C Λ code.function) (λ κs. ((λ us. G.val us ∷ []), tt))
+      (λ κs. (G.tells, tt))
       (λ κs qs bounds a g are. via 𝓤 _ (fst∗ 𝓤 _ (emp 𝓤)) (walk 𝓤 H A W mem run (a .0) C Λ (are .0)))
 
 meets : {M : Type 1} (𝓤 : URA M) (H : Heap 𝓤) (A : Atoms 𝓤) → Given 𝓤 H A → (mem : Memory → SProp 𝓤) (run : Routine → Fun 𝓤) (𝓣 : Tables 𝓤 H)
     → Meets 𝓤 H A units-from.signature (WpFn 𝓤 H (𝓣 .C) (𝓣 .Λ) code.function) (units-from.spec 𝓤 H A mem run)
-meets 𝓤 H A W mem run 𝓣 = walk-meets 𝓤 H A units-from.ended stayed W (goes-none 𝓤 H A W 0 (λ _. G.Grid) yes (λ κs x f. refl), tt) (units-from.clauses 𝓤 H A mem run) (WpFn 𝓤 H (𝓣 .C) (𝓣 .Λ) code.function) (WpFn-mono 𝓤 H (W .laws) 𝓣 code.function) (walks 𝓤 H A W mem run (𝓣 .C) (𝓣 .Λ))
+meets 𝓤 H A W mem run 𝓣 =
+    walk-meets 𝓤 H A units-from.ended stayed W (goes-none 𝓤 H A W 0 (λ _. G.Grid) yes (λ κs x f. refl), tt) (units-from.clauses 𝓤 H A mem run)
+    (WpFn 𝓤 H (𝓣 .C) (𝓣 .Λ) code.function) (WpFn-mono 𝓤 H (W .laws) 𝓣 code.function) (walks 𝓤 H A W mem run (𝓣 .C) (𝓣 .Λ))
 
 pub units-from-spec : {M : Type 1} → stated.statement M
 unfolding code.routine tablesOf

@@ -18,10 +18,18 @@ cast-u : tie.Need-cast-u
 cast-u c = search needs
 
 returns : tie.Need-returns
-returns c = sym (ap unitsFrom (set-past (c .before .before .before .before .args .units .of) (of-square (c .before .before .before .grid-of .ensures)) (c .before .before .before .before .args .channel .0) (c .before .before .before .before .args .unit .0) (c .before .before .before .before .args .state) (c .if1 .taken)))
+returns c =
+    let then = c .before .before .before in let grid-of = then .grid-of in
+    let args = then .before .args in
+    sym (ap unitsFrom
+    (set-past (args .units .of) (of-square (grid-of .ensures)) (args .channel .0) (args .unit .0) (args .state) (c .if1 .taken)))
 
 returns-2 : tie.Need-returns-2
-returns-2 c = sym (ap unitsFrom (set-beside (c .before .before .before .before .before .args .units .of) (of-square (c .before .before .before .before .grid-of .ensures)) (c .before .before .before .before .before .args .channel .0) (c .before .before .before .before .before .args .unit .0) (c .before .before .before .before .before .args .state) (omega (arith, c .before .if1 .left)) (c .if2 .taken)))
+returns-2 c =
+    let then = c .before .before .before .before in let grid-of = then .grid-of in
+    let args = then .before .args in
+    sym (ap unitsFrom (set-beside (args .units .of) (of-square (grid-of .ensures)) (args .channel .0) (args .unit .0) (args .state)
+    (omega (arith, c .before .if1 .left)) (c .if2 .taken)))
 
 mul-state : tie.Need-mul-state
 mul-state c = search needs

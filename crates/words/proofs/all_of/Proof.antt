@@ -10,10 +10,14 @@ leading-of-requires : tie.Need-leading-of-requires
 leading-of-requires c κs = search needs
 
 returns : tie.Need-returns
-returns c = sym (every-leads (passes (c .before .before .before .args .class)) (c .before .before .before .args .s .now) (sym (c .before .leading-of .ensures) ∙ c .if1 .taken))
+returns c =
+    let args = c .before .before .before .args in
+    sym (every-leads (passes (args .class)) (args .s .now) (sym (c .before .leading-of .ensures) ∙ c .if1 .taken))
 
 returns-2 : tie.Need-returns-2
-returns-2 c = sym (every-leads-not (passes (c .before .before .before .args .class)) (c .before .before .before .args .s .now) (λ e. c .if1 .left (c .before .leading-of .ensures ∙ e)))
+returns-2 c =
+    let args = c .before .before .before .args in
+    sym (every-leads-not (passes (args .class)) (args .s .now) (λ e. c .if1 .left (c .before .leading-of .ensures ∙ e)))
 
 pub all-of-spec : {M : Type 1} → statement M
 all-of-spec = tie.close (tie.spec leading-of-requires returns returns-2)

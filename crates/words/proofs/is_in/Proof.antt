@@ -23,7 +23,10 @@ shared-slice-read-if1 : tie.Need-shared-slice-read-if1 Inv-loop μ-loop
 shared-slice-read-if1 c = search needs
 
 returns : tie.Need-returns Inv-loop μ-loop
-returns c = sym (has-here (c .before .before .before .before .args .letters .now) (c .before .before .before .before .args .b) (c .before .before .before .loop .i) (c .before .before .loop-test .taken) (c .if1 .taken)) ∙ c .before .before .before .loop .inv .1
+returns c =
+    let then = c .before .before .before in let loop = then .loop in
+    let args = then .before .args in
+    sym (has-here (args .letters .now) (args .b) (loop .i) (c .before .before .loop-test .taken) (c .if1 .taken)) ∙ loop .inv .1
 
 add-i : tie.Need-add-i Inv-loop μ-loop
 add-i c = search needs
@@ -32,10 +35,16 @@ loop-less : tie.Need-loop-less Inv-loop μ-loop
 loop-less c = search needs
 
 loop-again : tie.Need-loop-again Inv-loop μ-loop
-loop-again c = (omega arith, sym (has-later (c .before .before .before .before .args .letters .now) (c .before .before .before .before .args .b) (c .before .before .before .loop .i) (c .before .before .loop-test .taken) (c .if1 .left)) ∙ c .before .before .before .loop .inv .1)
+loop-again c =
+    let then = c .before .before .before in let loop = then .loop in
+    let args = then .before .args in
+    (omega arith, sym (has-later (args .letters .now) (args .b) (loop .i) (c .before .before .loop-test .taken) (c .if1 .left)) ∙ loop .inv .1)
 
 returns-2 : tie.Need-returns-2 Inv-loop μ-loop
-returns-2 c = sym (has-end (c .before .before .args .letters .now) (c .before .before .args .b) (c .before .loop .i) (c .loop-test .left)) ∙ c .before .loop .inv .1
+returns-2 c =
+    let then = c .before in let loop = then .loop in
+    let args = then .before .args in
+    sym (has-end (args .letters .now) (args .b) (loop .i) (c .loop-test .left)) ∙ loop .inv .1
 
 pub is-in-spec : {M : Type 1} → statement M
 is-in-spec =

@@ -52,10 +52,16 @@ returns-3 : tie.Need-returns-3
 returns-3 c = cc
 
 returns-4 : tie.Need-returns-4
-returns-4 c = alnum-passes (c .before .before .before .before .args .class) (c .before .before .before .before .args .b) (c .before .is-alnum2 .result) (c .before .before .enum-told4 .given .1) (c .before .is-alnum2 .ensures) (c .if1 .taken)
+returns-4 c =
+    let then = c .before in let is-alnum2 = then .is-alnum2 in
+    let args = then .before .before .before .args in
+    alnum-passes (args .class) (args .b) (is-alnum2 .result) (c .before .before .enum-told4 .given .1) (is-alnum2 .ensures) (c .if1 .taken)
 
 returns-5 : tie.Need-returns-5
-returns-5 c = other-passes (c .before .before .before .before .args .class) (c .before .before .before .before .args .b) (c .before .is-alnum2 .result) (c .before .before .enum-told4 .given .1) (c .before .is-alnum2 .ensures) (c .if1 .left)
+returns-5 c =
+    let then = c .before in let is-alnum2 = then .is-alnum2 in
+    let args = then .before .before .before .args in
+    other-passes (args .class) (args .b) (is-alnum2 .result) (c .before .before .enum-told4 .given .1) (is-alnum2 .ensures) (c .if1 .left)
 
 pub is-of-spec : {M : Type 1} → statement M
 is-of-spec =

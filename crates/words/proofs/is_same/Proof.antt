@@ -29,7 +29,11 @@ shared-slice-read-if2-2 : tie.Need-shared-slice-read-if2-2 Inv-loop μ-loop
 shared-slice-read-if2-2 c = search needs
 
 returns-2 : tie.Need-returns-2 Inv-loop μ-loop
-returns-2 c = sym (same-fail (c .before .before .before .before .before .before .args .s .now) (c .before .before .before .before .before .before .args .t .now) (c .before .before .before .before .loop .i) (c .before .before .before .loop-test .taken) (omega arith) (c .if2 .taken)) ∙ c .before .before .before .before .loop .inv .1
+returns-2 c =
+    let then = c .before .before .before in let loop-test = then .loop-test in
+    let then = then .before in let loop = then .loop in
+    let args = then .before .before .args in
+    sym (same-fail (args .s .now) (args .t .now) (loop .i) (loop-test .taken) (omega arith) (c .if2 .taken)) ∙ loop .inv .1
 
 add-i : tie.Need-add-i Inv-loop μ-loop
 add-i c = search needs
@@ -38,10 +42,17 @@ loop-less : tie.Need-loop-less Inv-loop μ-loop
 loop-less c = search needs
 
 loop-again : tie.Need-loop-again Inv-loop μ-loop
-loop-again c = (omega arith, sym (same-pass (c .before .before .before .before .before .before .args .s .now) (c .before .before .before .before .before .before .args .t .now) (c .before .before .before .before .loop .i) (c .before .before .before .loop-test .taken) (omega arith) (c .if2 .left)) ∙ c .before .before .before .before .loop .inv .1)
+loop-again c =
+    let then = c .before .before .before in let loop-test = then .loop-test in
+    let then = then .before in let loop = then .loop in
+    let args = then .before .before .args in
+    (omega arith, sym (same-pass (args .s .now) (args .t .now) (loop .i) (loop-test .taken) (omega arith) (c .if2 .left)) ∙ loop .inv .1)
 
 returns-3 : tie.Need-returns-3 Inv-loop μ-loop
-returns-3 c = sym (same-end (c .before .before .before .args .s .now) (c .before .before .before .args .t .now) (c .before .loop .i) (c .loop-test .left) (omega arith)) ∙ c .before .loop .inv .1
+returns-3 c =
+    let then = c .before in let loop = then .loop in
+    let args = then .before .before .args in
+    sym (same-end (args .s .now) (args .t .now) (loop .i) (c .loop-test .left) (omega arith)) ∙ loop .inv .1
 
 pub is-same-spec : {M : Type 1} → statement M
 is-same-spec =

@@ -25,7 +25,11 @@ shared-slice-read-if1 : tie.Need-shared-slice-read-if1 Inv-loop μ-loop
 shared-slice-read-if1 c = search needs
 
 returns : tie.Need-returns Inv-loop μ-loop
-returns c = sym (leading-stop (isnt (c .before .before .before .before .args .b)) (c .before .before .before .before .args .s .now) (c .before .before .before .loop .at) (c .before .before .loop-test .taken) (ap not (eq-eqb _ _ (c .if1 .taken)))) ∙ c .before .before .before .loop .inv .1
+returns c =
+    let then = c .before .before .before in let loop = then .loop in
+    let args = then .before .args in
+    sym (leading-stop (isnt (args .b)) (args .s .now) (loop .at) (c .before .before .loop-test .taken) (ap not (eq-eqb _ _ (c .if1 .taken))))
+    ∙ loop .inv .1
 
 add-at : tie.Need-add-at Inv-loop μ-loop
 add-at c = search needs
@@ -34,10 +38,19 @@ loop-less : tie.Need-loop-less Inv-loop μ-loop
 loop-less c = search needs
 
 loop-again : tie.Need-loop-again Inv-loop μ-loop
-loop-again c = (omega arith, sym (leading-pass (isnt (c .before .before .before .before .args .b)) (c .before .before .before .before .args .s .now) (c .before .before .before .loop .at) (c .before .before .loop-test .taken) (ap not (ne-eqb _ _ (c .if1 .left)))) ∙ c .before .before .before .loop .inv .1)
+loop-again c =
+    let then = c .before .before .before in let loop = then .loop in
+    let args = then .before .args in (
+      omega arith,
+      sym (leading-pass (isnt (args .b)) (args .s .now) (loop .at) (c .before .before .loop-test .taken) (ap not (ne-eqb _ _ (c .if1 .left))))
+          ∙ loop .inv .1,
+    )
 
 returns-2 : tie.Need-returns-2 Inv-loop μ-loop
-returns-2 c = sym (leading-end (isnt (c .before .before .args .b)) (c .before .before .args .s .now) (c .before .loop .at) (c .loop-test .left)) ∙ c .before .loop .inv .1
+returns-2 c =
+    let then = c .before in let loop = then .loop in
+    let args = then .before .args in
+    sym (leading-end (isnt (args .b)) (args .s .now) (loop .at) (c .loop-test .left)) ∙ loop .inv .1
 
 pub until-spec : {M : Type 1} → statement M
 until-spec =

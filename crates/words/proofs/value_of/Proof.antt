@@ -30,7 +30,9 @@ digit-value-requires : tie.Need-digit-value-requires Inv-loop μ-loop
 digit-value-requires c κs = search needs
 
 add-n : tie.Need-add-n Inv-loop μ-loop
-add-n c = omega (arith, cap-most (c .before .before .before .loop .i) 5 (omega arith), c .before .shared-slice-known2 .given (c .before .before .before .loop .i))
+add-n c =
+    let loop = c .before .before .before .loop in
+    omega (arith, cap-most (loop .i) 5 (omega arith), c .before .shared-slice-known2 .given (loop .i))
 
 add-i : tie.Need-add-i Inv-loop μ-loop
 add-i c = search needs
@@ -39,10 +41,18 @@ loop-less : tie.Need-loop-less Inv-loop μ-loop
 loop-less c = search needs
 
 loop-again : tie.Need-loop-again Inv-loop μ-loop
-loop-again c = ((omega arith, rw (add-one (c .before .before .before .loop .i)) (omega (arith, c .before .shared-slice-known2 .given (c .before .before .before .loop .i)))), rw (c .digit-value .ensures, ← value-step (c .before .before .before .before .before .args .s .now) (c .before .before .before .loop .i) (c .before .before .before .loop .n) (c .before .before .loop-test .taken)) (c .before .before .before .loop .inv .1))
+loop-again c =
+    let then = c .before .before .before in let loop = then .loop in
+    let args = then .before .before .args in (
+      (omega arith, rw (add-one (loop .i)) (omega (arith, c .before .shared-slice-known2 .given (loop .i)))),
+      rw (c .digit-value .ensures, ← value-step (args .s .now) (loop .i) (loop .n) (c .before .before .loop-test .taken)) (loop .inv .1),
+    )
 
 returns : tie.Need-returns Inv-loop μ-loop
-returns c = sym (value-end (c .before .before .before .args .s .now) (c .before .loop .i) (c .before .loop .n) (c .loop-test .left)) ∙ c .before .loop .inv .1
+returns c =
+    let then = c .before in let loop = then .loop in
+    let args = then .before .before .args in
+    sym (value-end (args .s .now) (loop .i) (loop .n) (c .loop-test .left)) ∙ loop .inv .1
 
 pub value-of-spec : {M : Type 1} → statement M
 value-of-spec =

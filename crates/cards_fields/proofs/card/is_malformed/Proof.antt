@@ -34,25 +34,60 @@ is-card-byte-requires : tie.Need-is-card-byte-requires Inv-loop μ-loop
 is-card-byte-requires c κs = search needs
 
 returns-2 : tie.Need-returns-2 Inv-loop μ-loop
-returns-2 c = let l = c .before .before .before .before .before .before .loop in let s = c .before .before .before .before .before .before .before .before .before .args .card .now in sym (by-form s false (omega arith) (sym (l .inv .1) ∙ closed-more s (l .i) (c .before .before .before .before .before .loop-test .taken) (l .over) (c .before .if3 .taken) (c .if4 .taken)))
+returns-2 c =
+    let then = c .before .before .before .before .before in let loop-test = then .loop-test in
+    let then = then .before in let l = then .loop in
+    let args = then .before .before .before .args in
+    let s = args .card .now in
+    sym (by-form s false (omega arith)
+    (sym (l .inv .1) ∙ closed-more s (l .i) (loop-test .taken) (l .over) (c .before .if3 .taken) (c .if4 .taken)))
 
 loop-less : tie.Need-loop-less Inv-loop μ-loop
 loop-less c = search needs
 
 loop-again : tie.Need-loop-again Inv-loop μ-loop
-loop-again c = let l = c .before .before .before .before .before .before .loop in let s = c .before .before .before .before .before .before .before .before .before .args .card .now in (omega arith, sym (closed-blank s (l .i) (c .before .before .before .before .before .loop-test .taken) (l .over) (sym (c .before .before .before .is-card-byte .ensures) ∙ c .before .before .if2 .taken) (c .before .if3 .taken) (c .if4 .left)) ∙ l .inv .1)
+loop-again c =
+    let then = c .before .before .before in let is-card-byte = then .is-card-byte in
+    let then = then .before .before in let loop-test = then .loop-test in
+    let then = then .before in let l = then .loop in
+    let args = then .before .before .before .args in
+    let s = args .card .now in (
+      omega arith,
+      sym (closed-blank s (l .i) (loop-test .taken) (l .over) (sym (is-card-byte .ensures) ∙ c .before .before .if2 .taken)
+          (c .before .if3 .taken) (c .if4 .left))
+          ∙ l .inv .1,
+    )
 
 loop-less-2 : tie.Need-loop-less-2 Inv-loop μ-loop
 loop-less-2 c = search needs
 
 loop-again-2 : tie.Need-loop-again-2 Inv-loop μ-loop
-loop-again-2 c = let l = c .before .before .before .before .before .loop in let s = c .before .before .before .before .before .before .before .before .args .card .now in (omega arith, sym (closed-next s (l .i) (c .before .before .before .before .loop-test .taken) (l .over) (sym (c .before .before .is-card-byte .ensures) ∙ c .before .if2 .taken) (c .if3 .left)) ∙ l .inv .1)
+loop-again-2 c =
+    let then = c .before .before .before .before in let loop-test = then .loop-test in
+    let then = then .before in let l = then .loop in
+    let args = then .before .before .before .args in
+    let s = args .card .now in (
+      omega arith,
+      sym (closed-next s (l .i) (loop-test .taken) (l .over)
+          (sym (c .before .before .is-card-byte .ensures) ∙ c .before .if2 .taken) (c .if3 .left))
+          ∙ l .inv .1,
+    )
 
 returns-3 : tie.Need-returns-3 Inv-loop μ-loop
-returns-3 c = let l = c .before .before .before .before .loop in let s = c .before .before .before .before .before .before .before .args .card .now in sym (by-form s false (omega arith) (sym (l .inv .1) ∙ closed-bad s (l .i) (c .before .before .before .loop-test .taken) (l .over) (sym (c .before .is-card-byte .ensures) ∙ c .if2 .left)))
+returns-3 c =
+    let then = c .before .before .before in let loop-test = then .loop-test in
+    let then = then .before in let l = then .loop in
+    let args = then .before .before .before .args in
+    let s = args .card .now in
+    sym (by-form s false (omega arith)
+    (sym (l .inv .1) ∙ closed-bad s (l .i) (loop-test .taken) (l .over) (sym (c .before .is-card-byte .ensures) ∙ c .if2 .left)))
 
 returns-4 : tie.Need-returns-4 Inv-loop μ-loop
-returns-4 c = let l = c .before .loop in let s = c .before .before .before .before .args .card .now in sym (by-form s (l .over) (omega arith) (sym (l .inv .1) ∙ closed-end s (l .i) (l .over) (c .loop-test .left)))
+returns-4 c =
+    let args = c .before .before .before .before .args in
+    let l = c .before .loop in
+    let s = args .card .now in
+    sym (by-form s (l .over) (omega arith) (sym (l .inv .1) ∙ closed-end s (l .i) (l .over) (c .loop-test .left)))
 
 pub is-malformed-spec : {M : Type 1} → statement M
 is-malformed-spec =

@@ -26,7 +26,10 @@ add-i : tie.Need-add-i Inv-loop μ-loop
 add-i c = search needs
 
 returns : tie.Need-returns Inv-loop μ-loop
-returns c = omega (arith, count-period (c .before .before .before .before .args .card .now) (c .before .before .before .loop .i) (c .before .before .loop-test .taken) (c .if1 .taken))
+returns c =
+    let then = c .before .before .before in let loop = then .loop in
+    let args = then .before .args in
+    omega (arith, count-period (args .card .now) (loop .i) (c .before .before .loop-test .taken) (c .if1 .taken))
 
 add-n : tie.Need-add-n Inv-loop μ-loop
 add-n c = search needs
@@ -35,13 +38,21 @@ loop-less : tie.Need-loop-less Inv-loop μ-loop
 loop-less c = search needs
 
 loop-again : tie.Need-loop-again Inv-loop μ-loop
-loop-again c = omega (arith, count-comma (c .before .before .before .before .before .args .card .now) (c .before .before .before .before .loop .i) (c .before .before .before .loop-test .taken) (c .if2 .taken))
+loop-again c =
+    let then = c .before .before .before in let loop-test = then .loop-test in
+    let then = then .before in let loop = then .loop in
+    let args = then .before .args in
+    omega (arith, count-comma (args .card .now) (loop .i) (loop-test .taken) (c .if2 .taken))
 
 loop-less-2 : tie.Need-loop-less-2 Inv-loop μ-loop
 loop-less-2 c = search needs
 
 loop-again-2 : tie.Need-loop-again-2 Inv-loop μ-loop
-loop-again-2 c = omega (arith, count-other (c .before .before .before .before .before .args .card .now) (c .before .before .before .before .loop .i) (c .before .before .before .loop-test .taken) (c .before .if1 .left) (c .if2 .left))
+loop-again-2 c =
+    let then = c .before .before .before in let loop-test = then .loop-test in
+    let then = then .before in let loop = then .loop in
+    let args = then .before .args in
+    omega (arith, count-other (args .card .now) (loop .i) (loop-test .taken) (c .before .if1 .left) (c .if2 .left))
 
 returns-2 : tie.Need-returns-2 Inv-loop μ-loop
 returns-2 c = omega (arith, count-end (c .before .before .args .card .now) (c .before .loop .i) (c .loop-test .left))

@@ -14,13 +14,17 @@ add-t9 : tie.Need-add-t9
 add-t9 c = search needs
 
 returns-2 : tie.Need-returns-2
-returns-2 c = rw (ne-eqb (c .before .before .before .args .b) 32 (c .before .before .if1 .left), lt-ltb (c .before .before .before .args .f .len) 12 (c .if2 .taken))
+returns-2 c =
+    let args = c .before .before .before .args in
+    rw (ne-eqb (args .b) 32 (c .before .before .if1 .left), lt-ltb (args .f .len) 12 (c .if2 .taken))
 
 add-t11 : tie.Need-add-t11
 add-t11 c = search needs
 
 returns-3 : tie.Need-returns-3
-returns-3 c = rw (ne-eqb (c .before .before .before .args .b) 32 (c .before .before .if1 .left), le-ltb (c .before .before .before .args .f .len) 12 (c .if2 .left))
+returns-3 c =
+    let args = c .before .before .before .args in
+    rw (ne-eqb (args .b) 32 (c .before .before .if1 .left), le-ltb (args .f .len) 12 (c .if2 .left))
 
 pub with-byte-spec : {M : Type 1} → statement M
 with-byte-spec = tie.close (tie.spec returns array-write-bytes add-t9 returns-2 add-t11 returns-3)

@@ -30,7 +30,12 @@ part-result-end : tie.Need-part-result-end Inv-loop μ-loop
 part-result-end c = search needs
 
 returns : tie.Need-returns Inv-loop μ-loop
-returns c = let e : c .before .before .before .loop .at ≡ size (take (c .before .before .before .before .before .args .k) (cardsOf (c .before .before .before .before .before .args .text .now))) = omega (arith, c .before .before .before .loop .inv .1, front-done (c .before .before .before .before .before .args .text .now) (c .before .before .before .loop .at) (c .before .before .before .loop .left) (c .before .if1 .taken)) in rest-is (c .before .before .before .before .before .args .text .now) (c .before .before .before .loop .at) ∙ ap (λ (n : ℕ). drop n (c .before .before .before .before .before .args .text .now)) e
+returns c =
+    let then = c .before .before .before in let loop = then .loop in
+    let args = then .before .before .args in
+    let e : loop .at ≡ size (take (args .k) (cardsOf (args .text .now))) =
+    omega (arith, loop .inv .1, front-done (args .text .now) (loop .at) (loop .left) (c .before .if1 .taken)) in
+    rest-is (args .text .now) (loop .at) ∙ ap (λ (n : ℕ). drop n (args .text .now)) e
 
 sub-card-len : tie.Need-sub-card-len Inv-loop μ-loop
 sub-card-len c = search needs
@@ -45,7 +50,12 @@ card-len-requires : tie.Need-card-len-requires Inv-loop μ-loop
 card-len-requires c κs = search needs
 
 add-end : tie.Need-add-end Inv-loop μ-loop
-add-end c = let f = found (c .before .before .before .before .before .before .args .text .now) (c .before .before .before .before .loop .at) (c .before .before .before .loop-test .taken) (c .card-len .result) (c .card-len .ensures) in omega arith
+add-end c =
+    let then = c .before .before .before in let loop-test = then .loop-test in
+    let then = then .before in let loop = then .loop in
+    let args = then .before .before .args in
+    let f = found (args .text .now) (loop .at) (loop-test .taken) (c .card-len .result) (c .card-len .ensures) in
+    omega arith
 
 sub-result-2 : tie.Need-sub-result-2 Inv-loop μ-loop
 sub-result-2 c = search needs
@@ -57,19 +67,49 @@ part-result-end-2 : tie.Need-part-result-end-2 Inv-loop μ-loop
 part-result-end-2 c = search needs
 
 returns-2 : tie.Need-returns-2 Inv-loop μ-loop
-returns-2 c = let f = found (c .before .before .before .before .before .before .before .before .args .text .now) (c .before .before .before .before .before .before .loop .at) (c .before .before .before .before .before .loop-test .taken) (c .before .before .card-len .result) (c .before .before .card-len .ensures) in let e : c .before .before .before .before .before .before .loop .at ≡ size (take (c .before .before .before .before .before .before .before .before .args .k) (cardsOf (c .before .before .before .before .before .before .before .before .args .text .now))) = omega (arith, c .before .before .before .before .before .before .loop .inv .1, front-none (c .before .before .before .before .before .before .before .before .args .text .now) (c .before .before .before .before .before .before .loop .at) (c .before .before .before .before .before .before .loop .left) (f .ends (omega arith))) in rest-is (c .before .before .before .before .before .before .before .before .args .text .now) (c .before .before .before .before .before .before .loop .at) ∙ ap (λ (n : ℕ). drop n (c .before .before .before .before .before .before .before .before .args .text .now)) e
+returns-2 c =
+    let then = c .before .before in let card-len = then .card-len in
+    let then = then .before .before .before in let loop-test = then .loop-test in
+    let then = then .before in let loop = then .loop in
+    let args = then .before .before .args in
+    let f = found (args .text .now) (loop .at) (loop-test .taken) (card-len .result) (card-len .ensures) in
+    let e : loop .at ≡ size (take (args .k) (cardsOf (args .text .now))) =
+    omega (arith, loop .inv .1, front-none (args .text .now) (loop .at) (loop .left) (f .ends (omega arith))) in
+    rest-is (args .text .now) (loop .at) ∙ ap (λ (n : ℕ). drop n (args .text .now)) e
 
 sub-left : tie.Need-sub-left Inv-loop μ-loop
 sub-left c = search needs
 
 add-at : tie.Need-add-at Inv-loop μ-loop
-add-at c = let f = found (c .before .before .before .before .before .before .before .args .text .now) (c .before .before .before .before .before .loop .at) (c .before .before .before .before .loop-test .taken) (c .before .card-len .result) (c .before .card-len .ensures) in omega arith
+add-at c =
+    let then = c .before in let card-len = then .card-len in
+    let then = then .before .before .before in let loop-test = then .loop-test in
+    let then = then .before in let loop = then .loop in
+    let args = then .before .before .args in
+    let f = found (args .text .now) (loop .at) (loop-test .taken) (card-len .result) (card-len .ensures) in
+    omega arith
 
 loop-less : tie.Need-loop-less Inv-loop μ-loop
-loop-less c = let f = found (c .before .before .before .before .before .before .before .args .text .now) (c .before .before .before .before .before .loop .at) (c .before .before .before .before .loop-test .taken) (c .before .card-len .result) (c .before .card-len .ensures) in omega arith
+loop-less c =
+    let then = c .before in let card-len = then .card-len in
+    let then = then .before .before .before in let loop-test = then .loop-test in
+    let then = then .before in let loop = then .loop in
+    let args = then .before .before .args in
+    let f = found (args .text .now) (loop .at) (loop-test .taken) (card-len .result) (card-len .ensures) in
+    omega arith
 
 loop-again : tie.Need-loop-again Inv-loop μ-loop
-loop-again c = let f = found (c .before .before .before .before .before .before .before .args .text .now) (c .before .before .before .before .before .loop .at) (c .before .before .before .before .loop-test .taken) (c .before .card-len .result) (c .before .card-len .ensures) in let m = front-more (c .before .before .before .before .before .before .before .args .text .now) (c .before .before .before .before .before .loop .at) (c .before .before .before .before .before .loop .left) (take (c .before .card-len .result) (drop (c .before .before .before .before .before .loop .at) (c .before .before .before .before .before .before .before .args .text .now))) (c .before .before .before .before .before .loop .at + c .before .card-len .result + 1) (f .goes (omega arith)) (c .before .before .before .if1 .left) in let l = f .long in (omega arith, omega (arith, c .before .before .before .before .before .loop .inv .1))
+loop-again c =
+    let then = c .before in let card-len = then .card-len in
+    let then = then .before .before in let if1 = then .if1 in
+    let then = then .before in let loop-test = then .loop-test in
+    let then = then .before in let loop = then .loop in
+    let args = then .before .before .args in
+    let f = found (args .text .now) (loop .at) (loop-test .taken) (card-len .result) (card-len .ensures) in
+    let m = front-more (args .text .now) (loop .at) (loop .left) (take (card-len .result) (drop (loop .at) (args .text .now)))
+    (loop .at + card-len .result + 1) (f .goes (omega arith)) (if1 .left) in
+    let l = f .long in
+    (omega arith, omega (arith, loop .inv .1))
 
 sub-result-3 : tie.Need-sub-result-3 Inv-loop μ-loop
 sub-result-3 c = search needs
@@ -81,7 +121,16 @@ part-result-end-3 : tie.Need-part-result-end-3 Inv-loop μ-loop
 part-result-end-3 c = search needs
 
 returns-3 : tie.Need-returns-3 Inv-loop μ-loop
-returns-3 c = let e : c .before .before .loop .at ≡ size (take (c .before .before .before .before .args .k) (cardsOf (c .before .before .before .before .args .text .now))) = omega (arith, c .before .before .loop .inv .1, front-none (c .before .before .before .before .args .text .now) (c .before .before .loop .at) (c .before .before .loop .left) (lines-done (c .before .before .before .before .args .text .now) (c .before .before .loop .at) (c .before .loop-test .left))) in rest-is (c .before .before .before .before .args .text .now) (c .before .before .loop .at) ∙ ap (λ (n : ℕ). drop n (c .before .before .before .before .args .text .now)) e
+returns-3 c =
+    let then = c .before .before in let loop = then .loop in
+    let args = then .before .before .args in
+    let e : loop .at ≡ size (take (args .k) (cardsOf (args .text .now))) =
+    omega (
+      arith,
+      loop .inv .1,
+      front-none (args .text .now) (loop .at) (loop .left) (lines-done (args .text .now) (loop .at) (c .before .loop-test .left)),
+    ) in
+    rest-is (args .text .now) (loop .at) ∙ ap (λ (n : ℕ). drop n (args .text .now)) e
 
 pub behind-spec : {M : Type 1} → statement M
 behind-spec =

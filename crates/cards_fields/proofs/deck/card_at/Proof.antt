@@ -33,7 +33,11 @@ card-len-requires : tie.Need-card-len-requires Inv-loop μ-loop
 card-len-requires c κs = search needs
 
 add-end : tie.Need-add-end Inv-loop μ-loop
-add-end c = let f = found (c .before .before .before .before .before .args .text .now) (c .before .before .before .loop .at) (c .before .before .loop-test .taken) (c .card-len .result) (c .card-len .ensures) in omega arith
+add-end c =
+    let then = c .before .before .before in let loop = then .loop in
+    let args = then .before .before .args in
+    let f = found (args .text .now) (loop .at) (c .before .before .loop-test .taken) (c .card-len .result) (c .card-len .ensures) in
+    omega arith
 
 sub-result : tie.Need-sub-result Inv-loop μ-loop
 sub-result c = search needs
@@ -45,7 +49,13 @@ part-result-end : tie.Need-part-result-end Inv-loop μ-loop
 part-result-end c = search needs
 
 returns : tie.Need-returns Inv-loop μ-loop
-returns c = let f = found (c .before .before .before .before .before .before .before .args .text .now) (c .before .before .before .before .before .loop .at) (c .before .before .before .before .loop-test .taken) (c .before .before .card-len .result) (c .before .before .card-len .ensures) in sym (card-none (c .before .before .before .before .before .before .before .args .text .now) (c .before .before .before .before .before .loop .at) (c .before .before .before .before .before .loop .left) (f .ends (omega arith))) ∙ c .before .before .before .before .before .loop .inv .1
+returns c =
+    let then = c .before .before in let card-len = then .card-len in
+    let then = then .before .before in let loop-test = then .loop-test in
+    let then = then .before in let loop = then .loop in
+    let args = then .before .before .args in
+    let f = found (args .text .now) (loop .at) (loop-test .taken) (card-len .result) (card-len .ensures) in
+    sym (card-none (args .text .now) (loop .at) (loop .left) (f .ends (omega arith))) ∙ loop .inv .1
 
 sub-result-2 : tie.Need-sub-result-2 Inv-loop μ-loop
 sub-result-2 c = search needs
@@ -54,26 +64,59 @@ part-result-start-2 : tie.Need-part-result-start-2 Inv-loop μ-loop
 part-result-start-2 c = search needs
 
 part-result-end-2 : tie.Need-part-result-end-2 Inv-loop μ-loop
-part-result-end-2 c = let f = found (c .before .before .before .before .before .before .before .args .text .now) (c .before .before .before .before .before .loop .at) (c .before .before .before .before .loop-test .taken) (c .before .before .card-len .result) (c .before .before .card-len .ensures) in omega arith
+part-result-end-2 c =
+    let then = c .before .before in let card-len = then .card-len in
+    let then = then .before .before in let loop-test = then .loop-test in
+    let then = then .before in let loop = then .loop in
+    let args = then .before .before .args in
+    let f = found (args .text .now) (loop .at) (loop-test .taken) (card-len .result) (card-len .ensures) in
+    omega arith
 
 returns-2 : tie.Need-returns-2 Inv-loop μ-loop
-returns-2 c = let f = found (c .before .before .before .before .before .before .before .before .args .text .now) (c .before .before .before .before .before .before .loop .at) (c .before .before .before .before .before .loop-test .taken) (c .before .before .before .card-len .result) (c .before .before .before .card-len .ensures) in
-    part-is (c .before .before .before .before .before .before .before .before .args .text .now) (c .before .before .before .before .before .before .loop .at) (c .before .before .before .card-len .result)
-    ∙ sym (card-here (c .before .before .before .before .before .before .before .before .args .text .now) (c .before .before .before .before .before .before .loop .at) (c .before .before .before .before .before .before .loop .left) (take (c .before .before .before .card-len .result) (drop (c .before .before .before .before .before .before .loop .at) (c .before .before .before .before .before .before .before .before .args .text .now))) (c .before .before .before .before .before .before .loop .at + c .before .before .before .card-len .result + 1) (f .goes (omega arith)) (c .before .if2 .taken))
-    ∙ c .before .before .before .before .before .before .loop .inv .1
+returns-2 c =
+    let then = c .before .before .before in let card-len = then .card-len in
+    let then = then .before .before in let loop-test = then .loop-test in
+    let then = then .before in let loop = then .loop in
+    let args = then .before .before .args in
+    let f = found (args .text .now) (loop .at) (loop-test .taken) (card-len .result) (card-len .ensures) in
+    part-is (args .text .now) (loop .at) (card-len .result)
+    ∙ sym (card-here (args .text .now) (loop .at) (loop .left) (take (card-len .result) (drop (loop .at) (args .text .now)))
+    (loop .at + card-len .result + 1) (f .goes (omega arith)) (c .before .if2 .taken))
+    ∙ loop .inv .1
 
 sub-left : tie.Need-sub-left Inv-loop μ-loop
 sub-left c = search needs
 
 add-at : tie.Need-add-at Inv-loop μ-loop
-add-at c = let f = found (c .before .before .before .before .before .before .before .args .text .now) (c .before .before .before .before .before .loop .at) (c .before .before .before .before .loop-test .taken) (c .before .before .card-len .result) (c .before .before .card-len .ensures) in omega arith
+add-at c =
+    let then = c .before .before in let card-len = then .card-len in
+    let then = then .before .before in let loop-test = then .loop-test in
+    let then = then .before in let loop = then .loop in
+    let args = then .before .before .args in
+    let f = found (args .text .now) (loop .at) (loop-test .taken) (card-len .result) (card-len .ensures) in
+    omega arith
 
 loop-less : tie.Need-loop-less Inv-loop μ-loop
-loop-less c = let f = found (c .before .before .before .before .before .before .before .args .text .now) (c .before .before .before .before .before .loop .at) (c .before .before .before .before .loop-test .taken) (c .before .before .card-len .result) (c .before .before .card-len .ensures) in omega arith
+loop-less c =
+    let then = c .before .before in let card-len = then .card-len in
+    let then = then .before .before in let loop-test = then .loop-test in
+    let then = then .before in let loop = then .loop in
+    let args = then .before .before .args in
+    let f = found (args .text .now) (loop .at) (loop-test .taken) (card-len .result) (card-len .ensures) in
+    omega arith
 
 loop-again : tie.Need-loop-again Inv-loop μ-loop
-loop-again c = let f = found (c .before .before .before .before .before .before .before .args .text .now) (c .before .before .before .before .before .loop .at) (c .before .before .before .before .loop-test .taken) (c .before .before .card-len .result) (c .before .before .card-len .ensures) in
-    (omega arith, sym (card-later (c .before .before .before .before .before .before .before .args .text .now) (c .before .before .before .before .before .loop .at) (c .before .before .before .before .before .loop .left) (take (c .before .before .card-len .result) (drop (c .before .before .before .before .before .loop .at) (c .before .before .before .before .before .before .before .args .text .now))) (c .before .before .before .before .before .loop .at + c .before .before .card-len .result + 1) (f .goes (omega arith)) (c .if2 .left)) ∙ c .before .before .before .before .before .loop .inv .1)
+loop-again c =
+    let then = c .before .before in let card-len = then .card-len in
+    let then = then .before .before in let loop-test = then .loop-test in
+    let then = then .before in let loop = then .loop in
+    let args = then .before .before .args in
+    let f = found (args .text .now) (loop .at) (loop-test .taken) (card-len .result) (card-len .ensures) in (
+      omega arith,
+      sym (card-later (args .text .now) (loop .at) (loop .left) (take (card-len .result) (drop (loop .at) (args .text .now)))
+          (loop .at + card-len .result + 1) (f .goes (omega arith)) (c .if2 .left))
+          ∙ loop .inv .1,
+    )
 
 sub-result-3 : tie.Need-sub-result-3 Inv-loop μ-loop
 sub-result-3 c = search needs
@@ -85,7 +128,11 @@ part-result-end-3 : tie.Need-part-result-end-3 Inv-loop μ-loop
 part-result-end-3 c = search needs
 
 returns-3 : tie.Need-returns-3 Inv-loop μ-loop
-returns-3 c = sym (card-none (c .before .before .before .before .args .text .now) (c .before .before .loop .at) (c .before .before .loop .left) (lines-done (c .before .before .before .before .args .text .now) (c .before .before .loop .at) (c .before .loop-test .left))) ∙ c .before .before .loop .inv .1
+returns-3 c =
+    let then = c .before .before in let loop = then .loop in
+    let args = then .before .before .args in
+    sym (card-none (args .text .now) (loop .at) (loop .left) (lines-done (args .text .now) (loop .at) (c .before .loop-test .left)))
+    ∙ loop .inv .1
 
 pub card-at-spec : {M : Type 1} → statement M
 card-at-spec =

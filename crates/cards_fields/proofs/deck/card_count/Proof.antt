@@ -36,25 +36,58 @@ sub-if1 : tie.Need-sub-if1 Inv-loop μ-loop
 sub-if1 c = search needs
 
 returns : tie.Need-returns Inv-loop μ-loop
-returns c = let f = found (c .before .before .before .before .before .before .args .text .now) (c .before .before .before .before .loop .at) (c .before .before .before .loop-test .taken) (c .before .card-len .result) (c .before .card-len .ensures) in omega (arith, ap (length {A = List ℕ}) (f .ends (omega arith)), c .before .before .before .before .loop .inv .1)
+returns c =
+    let then = c .before in let card-len = then .card-len in
+    let then = then .before .before in let loop-test = then .loop-test in
+    let then = then .before in let loop = then .loop in
+    let args = then .before .before .args in
+    let f = found (args .text .now) (loop .at) (loop-test .taken) (card-len .result) (card-len .ensures) in
+    omega (arith, ap (length {A = List ℕ}) (f .ends (omega arith)), loop .inv .1)
 
 add-at : tie.Need-add-at Inv-loop μ-loop
-add-at c = let f = found (c .before .before .before .before .before .before .args .text .now) (c .before .before .before .before .loop .at) (c .before .before .before .loop-test .taken) (c .before .card-len .result) (c .before .card-len .ensures) in omega arith
+add-at c =
+    let then = c .before in let card-len = then .card-len in
+    let then = then .before .before in let loop-test = then .loop-test in
+    let then = then .before in let loop = then .loop in
+    let args = then .before .before .args in
+    let f = found (args .text .now) (loop .at) (loop-test .taken) (card-len .result) (card-len .ensures) in
+    omega arith
 
 add-at-2 : tie.Need-add-at-2 Inv-loop μ-loop
-add-at-2 c = let f = found (c .before .before .before .before .before .before .args .text .now) (c .before .before .before .before .loop .at) (c .before .before .before .loop-test .taken) (c .before .card-len .result) (c .before .card-len .ensures) in omega arith
+add-at-2 c =
+    let then = c .before in let card-len = then .card-len in
+    let then = then .before .before in let loop-test = then .loop-test in
+    let then = then .before in let loop = then .loop in
+    let args = then .before .before .args in
+    let f = found (args .text .now) (loop .at) (loop-test .taken) (card-len .result) (card-len .ensures) in
+    omega arith
 
 add-n : tie.Need-add-n Inv-loop μ-loop
 add-n c = search needs
 
 loop-less : tie.Need-loop-less Inv-loop μ-loop
-loop-less c = let f = found (c .before .before .before .before .before .before .args .text .now) (c .before .before .before .before .loop .at) (c .before .before .before .loop-test .taken) (c .before .card-len .result) (c .before .card-len .ensures) in omega arith
+loop-less c =
+    let then = c .before in let card-len = then .card-len in
+    let then = then .before .before in let loop-test = then .loop-test in
+    let then = then .before in let loop = then .loop in
+    let args = then .before .before .args in
+    let f = found (args .text .now) (loop .at) (loop-test .taken) (card-len .result) (card-len .ensures) in
+    omega arith
 
 loop-again : tie.Need-loop-again Inv-loop μ-loop
-loop-again c = let f = found (c .before .before .before .before .before .before .args .text .now) (c .before .before .before .before .loop .at) (c .before .before .before .loop-test .taken) (c .before .card-len .result) (c .before .card-len .ensures) in omega (arith, ap (length {A = List ℕ}) (f .goes (omega arith)), c .before .before .before .before .loop .inv .1)
+loop-again c =
+    let then = c .before in let card-len = then .card-len in
+    let then = then .before .before in let loop-test = then .loop-test in
+    let then = then .before in let loop = then .loop in
+    let args = then .before .before .args in
+    let f = found (args .text .now) (loop .at) (loop-test .taken) (card-len .result) (card-len .ensures) in
+    omega (arith, ap (length {A = List ℕ}) (f .goes (omega arith)), loop .inv .1)
 
 returns-2 : tie.Need-returns-2 Inv-loop μ-loop
-returns-2 c = omega (arith, ap (length {A = List ℕ}) (lines-done (c .before .before .before .args .text .now) (c .before .loop .at) (c .loop-test .left)), c .before .loop .inv .1)
+returns-2 c =
+    let then = c .before in let loop = then .loop in
+    let args = then .before .before .args in
+    omega (arith, ap (length {A = List ℕ}) (lines-done (args .text .now) (loop .at) (c .loop-test .left)), loop .inv .1)
 
 pub card-count-spec : {M : Type 1} → statement M
 card-count-spec =

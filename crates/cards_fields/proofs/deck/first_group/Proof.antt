@@ -11,7 +11,10 @@ group-len-requires : tie.Need-group-len-requires
 group-len-requires c κs = search needs
 
 slice-aggregate-result : tie.Need-slice-aggregate-result
-slice-aggregate-result c = sym (length-take-le (c .before .group-len .result) (c .before .before .before .args .rest .now) (c .before .group-len .ensures .1))
+slice-aggregate-result c =
+    let then = c .before in let group-len = then .group-len in
+    let args = then .before .before .args in
+    sym (length-take-le (group-len .result) (args .rest .now) (group-len .ensures .1))
 
 returns : tie.Need-returns
 returns c = ap (λ (n : ℕ). take n (c .before .before .before .args .rest .now)) (c .before .group-len .ensures .0)

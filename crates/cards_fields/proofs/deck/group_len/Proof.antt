@@ -34,19 +34,47 @@ card-len-requires : tie.Need-card-len-requires Inv-loop μ-loop
 card-len-requires c κs = search needs
 
 add-end : tie.Need-add-end Inv-loop μ-loop
-add-end c = let f = found (c .before .before .before .before .before .args .rest .now) (c .before .before .before .loop .at) (c .before .before .loop-test .taken) (c .card-len .result) (c .card-len .ensures) in omega arith
+add-end c =
+    let then = c .before .before .before in let loop = then .loop in
+    let args = then .before .before .args in
+    let f = found (args .rest .now) (loop .at) (c .before .before .loop-test .taken) (c .card-len .result) (c .card-len .ensures) in
+    omega arith
 
 returns : tie.Need-returns Inv-loop μ-loop
-returns c = let f = found (c .before .before .before .before .before .before .args .rest .now) (c .before .before .before .before .loop .at) (c .before .before .before .loop-test .taken) (c .before .card-len .result) (c .before .card-len .ensures) in (omega (arith, no-group (c .before .before .before .before .before .before .args .rest .now) (c .before .before .before .before .loop .at) (f .ends (omega arith)), c .before .before .before .before .loop .inv .1), omega arith)
+returns c =
+    let then = c .before in let card-len = then .card-len in
+    let then = then .before .before in let loop-test = then .loop-test in
+    let then = then .before in let loop = then .loop in
+    let args = then .before .before .args in
+    let f = found (args .rest .now) (loop .at) (loop-test .taken) (card-len .result) (card-len .ensures) in
+    (omega (arith, no-group (args .rest .now) (loop .at) (f .ends (omega arith)), loop .inv .1), omega arith)
 
 add-at : tie.Need-add-at Inv-loop μ-loop
-add-at c = let f = found (c .before .before .before .before .before .before .args .rest .now) (c .before .before .before .before .loop .at) (c .before .before .before .loop-test .taken) (c .before .card-len .result) (c .before .card-len .ensures) in omega arith
+add-at c =
+    let then = c .before in let card-len = then .card-len in
+    let then = then .before .before in let loop-test = then .loop-test in
+    let then = then .before in let loop = then .loop in
+    let args = then .before .before .args in
+    let f = found (args .rest .now) (loop .at) (loop-test .taken) (card-len .result) (card-len .ensures) in
+    omega arith
 
 sub-opens-group : tie.Need-sub-opens-group Inv-loop μ-loop
-sub-opens-group c = let f = found (c .before .before .before .before .before .before .args .rest .now) (c .before .before .before .before .loop .at) (c .before .before .before .loop-test .taken) (c .before .card-len .result) (c .before .card-len .ensures) in omega arith
+sub-opens-group c =
+    let then = c .before in let card-len = then .card-len in
+    let then = then .before .before in let loop-test = then .loop-test in
+    let then = then .before in let loop = then .loop in
+    let args = then .before .before .args in
+    let f = found (args .rest .now) (loop .at) (loop-test .taken) (card-len .result) (card-len .ensures) in
+    omega arith
 
 part-opens-group-start : tie.Need-part-opens-group-start Inv-loop μ-loop
-part-opens-group-start c = let f = found (c .before .before .before .before .before .before .args .rest .now) (c .before .before .before .before .loop .at) (c .before .before .before .loop-test .taken) (c .before .card-len .result) (c .before .card-len .ensures) in omega arith
+part-opens-group-start c =
+    let then = c .before in let card-len = then .card-len in
+    let then = then .before .before in let loop-test = then .loop-test in
+    let then = then .before in let loop = then .loop in
+    let args = then .before .before .args in
+    let f = found (args .rest .now) (loop .at) (loop-test .taken) (card-len .result) (card-len .ensures) in
+    omega arith
 
 part-opens-group-end : tie.Need-part-opens-group-end Inv-loop μ-loop
 part-opens-group-end c = search needs
@@ -55,24 +83,49 @@ opens-group-requires : tie.Need-opens-group-requires Inv-loop μ-loop
 opens-group-requires c κs = search needs
 
 returns-2 : tie.Need-returns-2 Inv-loop μ-loop
-returns-2 c = let f = found (c .before .before .before .before .before .before .before .before .before .args .rest .now) (c .before .before .before .before .before .before .before .loop .at) (c .before .before .before .before .before .before .loop-test .taken) (c .before .before .before .before .card-len .result) (c .before .before .before .before .card-len .ensures) in
-    let o = sym (ap (λ (l : List ℕ). opens (cardsOf l)) (rest-is (c .before .before .before .before .before .before .before .before .before .args .rest .now) (c .before .before .before .before .before .before .before .loop .at + c .before .before .before .before .card-len .result + 1))) ∙ sym (c .before .opens-group .ensures) ∙ c .if2 .taken in
+returns-2 c =
+    let then = c .before .before .before .before in let card-len = then .card-len in
+    let then = then .before .before in let loop-test = then .loop-test in
+    let then = then .before in let loop = then .loop in
+    let args = then .before .before .args in
+    let f = found (args .rest .now) (loop .at) (loop-test .taken) (card-len .result) (card-len .ensures) in
+    let o = sym (ap (λ (l : List ℕ). opens (cardsOf l)) (rest-is (args .rest .now) (loop .at + card-len .result + 1)))
+    ∙ sym (c .before .opens-group .ensures) ∙ c .if2 .taken in
     let l = f .long in
-    let g = group-here (c .before .before .before .before .before .before .before .before .before .args .rest .now) (c .before .before .before .before .before .before .before .loop .at) (take (c .before .before .before .before .card-len .result) (drop (c .before .before .before .before .before .before .before .loop .at) (c .before .before .before .before .before .before .before .before .before .args .rest .now))) (c .before .before .before .before .before .before .before .loop .at + c .before .before .before .before .card-len .result + 1) (f .goes (omega arith)) o in
+    let g = group-here (args .rest .now) (loop .at) (take (card-len .result) (drop (loop .at) (args .rest .now)))
+    (loop .at + card-len .result + 1) (f .goes (omega arith)) o in
     (omega arith, omega arith)
 
 loop-less : tie.Need-loop-less Inv-loop μ-loop
-loop-less c = let f = found (c .before .before .before .before .before .before .before .before .before .args .rest .now) (c .before .before .before .before .before .before .before .loop .at) (c .before .before .before .before .before .before .loop-test .taken) (c .before .before .before .before .card-len .result) (c .before .before .before .before .card-len .ensures) in omega arith
+loop-less c =
+    let then = c .before .before .before .before in let card-len = then .card-len in
+    let then = then .before .before in let loop-test = then .loop-test in
+    let then = then .before in let loop = then .loop in
+    let args = then .before .before .args in
+    let f = found (args .rest .now) (loop .at) (loop-test .taken) (card-len .result) (card-len .ensures) in
+    omega arith
 
 loop-again : tie.Need-loop-again Inv-loop μ-loop
-loop-again c = let f = found (c .before .before .before .before .before .before .before .before .before .args .rest .now) (c .before .before .before .before .before .before .before .loop .at) (c .before .before .before .before .before .before .loop-test .taken) (c .before .before .before .before .card-len .result) (c .before .before .before .before .card-len .ensures) in
-    let o = sym (ap (λ (l : List ℕ). opens (cardsOf l)) (rest-is (c .before .before .before .before .before .before .before .before .before .args .rest .now) (c .before .before .before .before .before .before .before .loop .at + c .before .before .before .before .card-len .result + 1))) ∙ sym (c .before .opens-group .ensures) ∙ c .if2 .left in
+loop-again c =
+    let then = c .before .before .before .before in let card-len = then .card-len in
+    let then = then .before .before in let loop-test = then .loop-test in
+    let then = then .before in let loop = then .loop in
+    let args = then .before .before .args in
+    let f = found (args .rest .now) (loop .at) (loop-test .taken) (card-len .result) (card-len .ensures) in
+    let o = sym (ap (λ (l : List ℕ). opens (cardsOf l)) (rest-is (args .rest .now) (loop .at + card-len .result + 1)))
+    ∙ sym (c .before .opens-group .ensures) ∙ c .if2 .left in
     let l = f .long in
-    let g = group-later (c .before .before .before .before .before .before .before .before .before .args .rest .now) (c .before .before .before .before .before .before .before .loop .at) (take (c .before .before .before .before .card-len .result) (drop (c .before .before .before .before .before .before .before .loop .at) (c .before .before .before .before .before .before .before .before .before .args .rest .now))) (c .before .before .before .before .before .before .before .loop .at + c .before .before .before .before .card-len .result + 1) (f .goes (omega arith)) o in
+    let g = group-later (args .rest .now) (loop .at) (take (card-len .result) (drop (loop .at) (args .rest .now)))
+    (loop .at + card-len .result + 1) (f .goes (omega arith)) o in
     (omega arith, omega arith)
 
 returns-3 : tie.Need-returns-3 Inv-loop μ-loop
-returns-3 c = (omega (arith, no-group (c .before .before .before .args .rest .now) (c .before .loop .at) (lines-done (c .before .before .before .args .rest .now) (c .before .loop .at) (c .loop-test .left)), c .before .loop .inv .1), omega arith)
+returns-3 c =
+    let then = c .before in let loop = then .loop in
+    let args = then .before .before .args in (
+      omega (arith, no-group (args .rest .now) (loop .at) (lines-done (args .rest .now) (loop .at) (c .loop-test .left)), loop .inv .1),
+      omega arith,
+    )
 
 pub group-len-spec : {M : Type 1} → statement M
 group-len-spec =

@@ -32,16 +32,27 @@ loop-less : tie.Need-loop-less Inv-loop μ-loop
 loop-less c = search needs
 
 loop-again : tie.Need-loop-again Inv-loop μ-loop
-loop-again c = let e = cut-here (c .before .before .before .before .args .cut) (c .before .before .before .before .args .s .now) (c .before .before .before .loop .i) (c .before .before .loop-test .taken) (c .if1 .taken) in ((omega arith, omega arith), omega (arith, c .before .before .before .loop .inv .1))
+loop-again c =
+    let then = c .before .before .before in let loop = then .loop in
+    let args = then .before .args in
+    let e = cut-here (args .cut) (args .s .now) (loop .i) (c .before .before .loop-test .taken) (c .if1 .taken) in
+    ((omega arith, omega arith), omega (arith, loop .inv .1))
 
 loop-less-2 : tie.Need-loop-less-2 Inv-loop μ-loop
 loop-less-2 c = search needs
 
 loop-again-2 : tie.Need-loop-again-2 Inv-loop μ-loop
-loop-again-2 c = let e = cut-later (c .before .before .before .before .args .cut) (c .before .before .before .before .args .s .now) (c .before .before .before .loop .i) (c .before .before .loop-test .taken) (c .if1 .left) in ((omega arith, omega arith), omega (arith, c .before .before .before .loop .inv .1))
+loop-again-2 c =
+    let then = c .before .before .before in let loop = then .loop in
+    let args = then .before .args in
+    let e = cut-later (args .cut) (args .s .now) (loop .i) (c .before .before .loop-test .taken) (c .if1 .left) in
+    ((omega arith, omega arith), omega (arith, loop .inv .1))
 
 returns : tie.Need-returns Inv-loop μ-loop
-returns c = omega (arith, cut-end (c .before .before .args .cut) (c .before .before .args .s .now) (c .before .loop .i) (c .loop-test .left), c .before .loop .inv .1)
+returns c =
+    let then = c .before in let loop = then .loop in
+    let args = then .before .args in
+    omega (arith, cut-end (args .cut) (args .s .now) (loop .i) (c .loop-test .left), loop .inv .1)
 
 pub cuts-spec : {M : Type 1} → statement M
 cuts-spec =

@@ -34,10 +34,18 @@ loop-less : tie.Need-loop-less Inv-loop μ-loop
 loop-less c = search needs
 
 loop-again : tie.Need-loop-again Inv-loop μ-loop
-loop-again c = ((omega arith, rw (c .with-byte .ensures) (omega (arith, pushed-len (c .before .before .before .loop .f) (getD (c .before .before .before .before .before .args .s .now) (c .before .before .before .loop .i) 0)))), rw (c .with-byte .ensures) (gather-step (c .before .before .before .before .before .args .s .now) (c .before .before .before .loop .i) (c .before .before .before .loop .f) (c .before .before .loop-test .taken)) ∙ c .before .before .before .loop .inv .1)
+loop-again c =
+    let then = c .before .before .before in let loop = then .loop in
+    let args = then .before .before .args in (
+      (omega arith, rw (c .with-byte .ensures) (omega (arith, pushed-len (loop .f) (getD (args .s .now) (loop .i) 0)))),
+      rw (c .with-byte .ensures) (gather-step (args .s .now) (loop .i) (loop .f) (c .before .before .loop-test .taken)) ∙ loop .inv .1,
+    )
 
 returns : tie.Need-returns Inv-loop μ-loop
-returns c = sym (gather-end (c .before .before .before .args .s .now) (c .before .loop .i) (c .before .loop .f) (c .loop-test .left)) ∙ c .before .loop .inv .1 ∙ gathered (spaceless (c .before .before .before .args .s .now))
+returns c =
+    let then = c .before in let loop = then .loop in
+    let args = then .before .before .args in
+    sym (gather-end (args .s .now) (loop .i) (loop .f) (c .loop-test .left)) ∙ loop .inv .1 ∙ gathered (spaceless (args .s .now))
 
 pub gathered-spec : {M : Type 1} → statement M
 gathered-spec =

@@ -13,19 +13,33 @@ gathered-requires : tie.Need-gathered-requires
 gathered-requires c κs = search needs
 
 returns : tie.Need-returns
-returns c = sym (number-much (spaceless (c .before .before .before .args .s .now)) (c .before .gathered .result) (c .before .gathered .ensures) (c .if1 .taken))
+returns c =
+    let then = c .before in let gathered = then .gathered in
+    let args = then .before .before .args in
+    sym (number-much (spaceless (args .s .now)) (gathered .result) (gathered .ensures) (c .if1 .taken))
 
 array-share-prefix-bytes : tie.Need-array-share-prefix-bytes
-array-share-prefix-bytes c = omega (arith, within (c .before .before .gathered .result) (spaceless (c .before .before .before .before .args .s .now)) (c .before .before .gathered .ensures), c .before .if1 .left)
+array-share-prefix-bytes c =
+    let then = c .before .before in let gathered = then .gathered in
+    let args = then .before .before .args in
+    omega (arith, within (gathered .result) (spaceless (args .s .now)) (gathered .ensures), c .before .if1 .left)
 
 slice-aggregate-number : tie.Need-slice-aggregate-number
-slice-aggregate-number c = sym (length-take-le (c .before .before .before .gathered .result .len) (c .before .before .before .gathered .result .bytes) (omega (arith, within (c .before .before .before .gathered .result) (spaceless (c .before .before .before .before .before .args .s .now)) (c .before .before .before .gathered .ensures), c .before .before .if1 .left)))
+slice-aggregate-number c =
+    let then = c .before .before .before in let gathered = then .gathered in
+    let args = then .before .before .args in
+    sym (length-take-le (gathered .result .len) (gathered .result .bytes)
+    (omega (arith, within (gathered .result) (spaceless (args .s .now)) (gathered .ensures), c .before .before .if1 .left)))
 
 number-requires : tie.Need-number-requires
 number-requires c κs = search needs
 
 returns-2 : tie.Need-returns-2
-returns-2 c = c .number .ensures ∙ number-few (spaceless (c .before .before .before .before .before .before .args .s .now)) (c .before .before .before .before .gathered .result) (c .before .before .before .before .gathered .ensures) (c .before .before .before .if1 .left)
+returns-2 c =
+    let then = c .before .before .before in let if1 = then .if1 in
+    let then = then .before in let gathered = then .gathered in
+    let args = then .before .before .args in
+    c .number .ensures ∙ number-few (spaceless (args .s .now)) (gathered .result) (gathered .ensures) (if1 .left)
 
 pub number-of-spec : {M : Type 1} → statement M
 number-of-spec =

@@ -45,13 +45,28 @@ part-result-end : tie.Need-part-result-end Inv-loop μ-loop
 part-result-end c = search needs
 
 returns : tie.Need-returns Inv-loop μ-loop
-returns c = sym (piece-none (c .before .before .before .before .before .before .before .args .cut) (c .before .before .before .before .before .before .before .args .s .now) (c .before .before .before .before .before .loop .from) (c .before .before .until .result) (c .before .before .until .ensures) (c .before .before .before .before .before .loop .left) (c .before .before .before .before .before .loop .inv .0) (c .before .before .before .before .loop-test .taken) (c .before .if1 .taken)) ∙ c .before .before .before .before .before .loop .inv .1
+returns c =
+    let then = c .before .before in let until = then .until in
+    let then = then .before .before in let loop-test = then .loop-test in
+    let then = then .before in let loop = then .loop in
+    let args = then .before .before .args in
+    sym (piece-none (args .cut) (args .s .now) (loop .from) (until .result) (until .ensures) (loop .left) (loop .inv .0) (loop-test .taken)
+    (c .before .if1 .taken))
+    ∙ loop .inv .1
 
 add-from : tie.Need-add-from Inv-loop μ-loop
-add-from c = omega (arith, piece-within (c .before .before .before .before .before .before .args .cut) (c .before .before .before .before .before .before .args .s .now) (c .before .before .before .before .loop .from) (c .before .until .result) (c .before .until .ensures) (c .before .before .before .before .loop .inv .0))
+add-from c =
+    let then = c .before in let until = then .until in
+    let then = then .before .before .before in let loop = then .loop in
+    let args = then .before .before .args in
+    omega (arith, piece-within (args .cut) (args .s .now) (loop .from) (until .result) (until .ensures) (loop .inv .0))
 
 add-from-2 : tie.Need-add-from-2 Inv-loop μ-loop
-add-from-2 c = omega (arith, piece-within (c .before .before .before .before .before .before .args .cut) (c .before .before .before .before .before .before .args .s .now) (c .before .before .before .before .loop .from) (c .before .until .result) (c .before .until .ensures) (c .before .before .before .before .loop .inv .0), c .if1 .left)
+add-from-2 c =
+    let then = c .before in let until = then .until in
+    let then = then .before .before .before in let loop = then .loop in
+    let args = then .before .before .args in
+    omega (arith, piece-within (args .cut) (args .s .now) (loop .from) (until .result) (until .ensures) (loop .inv .0), c .if1 .left)
 
 sub-left : tie.Need-sub-left Inv-loop μ-loop
 sub-left c = search needs
@@ -60,7 +75,16 @@ loop-less : tie.Need-loop-less Inv-loop μ-loop
 loop-less c = search needs
 
 loop-again : tie.Need-loop-again Inv-loop μ-loop
-loop-again c = (omega (arith, piece-within (c .before .before .before .before .before .before .args .cut) (c .before .before .before .before .before .before .args .s .now) (c .before .before .before .before .loop .from) (c .before .until .result) (c .before .until .ensures) (c .before .before .before .before .loop .inv .0), c .if1 .left), piece-next (c .before .before .before .before .before .before .args .cut) (c .before .before .before .before .before .before .args .s .now) (c .before .before .before .before .loop .from) (c .before .until .result) (c .before .until .ensures) (c .before .before .before .before .loop .left) (c .before .before .before .before .loop .inv .0) (c .before .before .before .loop-test .taken) (c .if1 .left) ∙ c .before .before .before .before .loop .inv .1)
+loop-again c =
+    let then = c .before in let until = then .until in
+    let then = then .before .before in let loop-test = then .loop-test in
+    let then = then .before in let loop = then .loop in
+    let args = then .before .before .args in (
+      omega (arith, piece-within (args .cut) (args .s .now) (loop .from) (until .result) (until .ensures) (loop .inv .0), c .if1 .left),
+      piece-next (args .cut) (args .s .now) (loop .from) (until .result) (until .ensures) (loop .left) (loop .inv .0)
+          (loop-test .taken) (c .if1 .left)
+          ∙ loop .inv .1,
+    )
 
 sub-until-2 : tie.Need-sub-until-2 Inv-loop μ-loop
 sub-until-2 c = search needs
@@ -75,7 +99,10 @@ until-requires-2 : tie.Need-until-requires-2 Inv-loop μ-loop
 until-requires-2 c κs = search needs
 
 add-result : tie.Need-add-result Inv-loop μ-loop
-add-result c = omega (arith, piece-within (c .before .before .before .before .before .args .cut) (c .before .before .before .before .before .args .s .now) (c .before .before .before .loop .from) (c .until2 .result) (c .until2 .ensures) (c .before .before .before .loop .inv .0))
+add-result c =
+    let then = c .before .before .before in let loop = then .loop in
+    let args = then .before .before .args in
+    omega (arith, piece-within (args .cut) (args .s .now) (loop .from) (c .until2 .result) (c .until2 .ensures) (loop .inv .0))
 
 sub-result-2 : tie.Need-sub-result-2 Inv-loop μ-loop
 sub-result-2 c = search needs
@@ -84,10 +111,19 @@ part-result-start-2 : tie.Need-part-result-start-2 Inv-loop μ-loop
 part-result-start-2 c = search needs
 
 part-result-end-2 : tie.Need-part-result-end-2 Inv-loop μ-loop
-part-result-end-2 c = omega (arith, piece-within (c .before .before .before .before .before .args .cut) (c .before .before .before .before .before .args .s .now) (c .before .before .before .loop .from) (c .until2 .result) (c .until2 .ensures) (c .before .before .before .loop .inv .0))
+part-result-end-2 c =
+    let then = c .before .before .before in let loop = then .loop in
+    let args = then .before .before .args in
+    omega (arith, piece-within (args .cut) (args .s .now) (loop .from) (c .until2 .result) (c .until2 .ensures) (loop .inv .0))
 
 returns-2 : tie.Need-returns-2 Inv-loop μ-loop
-returns-2 c = piece-here (c .before .before .before .before .before .before .args .cut) (c .before .before .before .before .before .before .args .s .now) (c .before .before .before .before .loop .from) (c .before .until2 .result) (c .before .until2 .ensures) (c .before .before .before .before .loop .left) (omega (arith, c .before .before .before .loop-test .left)) ∙ c .before .before .before .before .loop .inv .1
+returns-2 c =
+    let then = c .before in let until2 = then .until2 in
+    let then = then .before .before in let loop-test = then .loop-test in
+    let then = then .before in let loop = then .loop in
+    let args = then .before .before .args in
+    piece-here (args .cut) (args .s .now) (loop .from) (until2 .result) (until2 .ensures) (loop .left) (omega (arith, loop-test .left))
+    ∙ loop .inv .1
 
 pub piece-at-spec : {M : Type 1} → statement M
 piece-at-spec =

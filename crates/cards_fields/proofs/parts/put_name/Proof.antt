@@ -32,19 +32,35 @@ loop-less : tie.Need-loop-less Inv-loop μ-loop
 loop-less c = search needs
 
 loop-again : tie.Need-loop-again Inv-loop μ-loop
-loop-again c = (omega arith, turn (rw (name-byte (c .before .before .before .before .before .before .before .before .before .before .args .name .now) (c .before .before .before .before .before .before .before .loop .i) (c .before .before .before .before .before .before .loop-test .taken) (c .before .before .before .before .if1 .taken)) at (c .before .before .before .before .before .before .before .loop .inv .1)) (c .before .before .put-byte .ensures))
+loop-again c =
+    let then = c .before .before .before .before in let if1 = then .if1 in
+    let then = then .before .before in let loop-test = then .loop-test in
+    let then = then .before in let loop = then .loop in
+    let args = then .before .before .before .args in (
+      omega arith,
+      turn (rw (name-byte (args .name .now) (loop .i) (loop-test .taken) (if1 .taken)) at (loop .inv .1)) (c .before .before .put-byte .ensures),
+    )
 
 loop-less-2 : tie.Need-loop-less-2 Inv-loop μ-loop
 loop-less-2 c = search needs
 
 loop-again-2 : tie.Need-loop-again-2 Inv-loop μ-loop
-loop-again-2 c = (omega arith, rw (name-blank (c .before .before .before .before .before .before .args .name .now) (c .before .before .before .loop .i) (c .before .before .loop-test .taken) (c .if1 .left)) at (c .before .before .before .loop .inv .1))
+loop-again-2 c =
+    let then = c .before .before .before in let loop = then .loop in
+    let args = then .before .before .before .args in
+    (omega arith, rw (name-blank (args .name .now) (loop .i) (c .before .before .loop-test .taken) (c .if1 .left)) at (loop .inv .1))
 
 same-length : tie.Need-same-length Inv-loop μ-loop
-same-length c = same-room (end (rw (name-end (c .before .before .before .before .args .name .now) (c .before .loop .i) (c .loop-test .left)) at (c .before .loop .inv .1)))
+same-length c =
+    let then = c .before in let loop = then .loop in
+    let args = then .before .before .before .args in
+    same-room (end (rw (name-end (args .name .now) (loop .i) (c .loop-test .left)) at (loop .inv .1)))
 
 returns : tie.Need-returns Inv-loop μ-loop
-returns c = end (rw (name-end (c .before .before .before .before .args .name .now) (c .before .loop .i) (c .loop-test .left)) at (c .before .loop .inv .1))
+returns c =
+    let then = c .before in let loop = then .loop in
+    let args = then .before .before .before .args in
+    end (rw (name-end (args .name .now) (loop .i) (c .loop-test .left)) at (loop .inv .1))
 
 pub put-name-spec : {M : Type 1} → statement M
 put-name-spec =

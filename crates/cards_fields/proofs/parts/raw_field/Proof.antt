@@ -17,13 +17,19 @@ until-requires : tie.Need-until-requires
 until-requires c κs = search needs
 
 slice-aggregate-piece-at : tie.Need-slice-aggregate-piece-at
-slice-aggregate-piece-at c = sym (length-take-le (c .before .until .result) (c .before .before .before .args .card .now) (omega (arith, c .before .until .ensures, leading-most (isnt 46) (c .before .before .before .args .card .now))))
+slice-aggregate-piece-at c =
+    let then = c .before in let until = then .until in
+    let args = then .before .before .args in
+    sym (length-take-le (until .result) (args .card .now) (omega (arith, until .ensures, leading-most (isnt 46) (args .card .now))))
 
 piece-at-requires : tie.Need-piece-at-requires
 piece-at-requires c κs = search needs
 
 returns : tie.Need-returns
-returns c = c .piece-at .ensures ∙ ap (λ (s : List ℕ). getD (pieces 44 s) (c .before .before .before .before .args .k) []) (before-period (c .before .before .before .before .args .card .now) (c .before .before .until .result) (c .before .before .until .ensures))
+returns c =
+    let then = c .before .before in let until = then .until in
+    let args = then .before .before .args in
+    c .piece-at .ensures ∙ ap (λ (s : List ℕ). getD (pieces 44 s) (args .k) []) (before-period (args .card .now) (until .result) (until .ensures))
 
 pub raw-field-spec : {M : Type 1} → statement M
 raw-field-spec =

@@ -38,7 +38,16 @@ is-same-card-requires : tie.Need-is-same-card-requires Inv-loop μ-loop
 is-same-card-requires c κs = search needs
 
 returns : tie.Need-returns Inv-loop μ-loop
-returns c = let a = fourteen (c .before .before .before .before .before .before .before .before .args .f) _ (c .before .before .before .before .before .before .before .before .good .0) in let b = fourteen (c .before .before .before .before .before .before .before .before .args .g) _ (c .before .before .before .before .before .before .before .before .good .1 .0) in sym (same-other (c .before .before .before .before .before .before .before .before .args .f .cards) (c .before .before .before .before .before .before .before .before .args .g .cards) (c .before .before .before .before .before .loop .k) (omega (arith, c .before .before .before .before .loop-test .taken)) (omega (arith, c .before .before .before .before .loop-test .taken)) (c .before .is-same-card .result) (c .before .is-same-card .ensures) (not-true _ (c .if1 .taken))) ∙ c .before .before .before .before .before .loop .inv .1
+returns c =
+    let then = c .before in let is-same-card = then .is-same-card in
+    let then = then .before .before .before in let loop-test = then .loop-test in
+    let then = then .before in let loop = then .loop in
+    let then = then .before .before .before in let args = then .args in let good = then .good in
+    let a = fourteen (args .f) _ (good .0) in
+    let b = fourteen (args .g) _ (good .1 .0) in
+    sym (same-other (args .f .cards) (args .g .cards) (loop .k) (omega (arith, loop-test .taken)) (omega (arith, loop-test .taken))
+    (is-same-card .result) (is-same-card .ensures) (not-true _ (c .if1 .taken)))
+    ∙ loop .inv .1
 
 add-k : tie.Need-add-k Inv-loop μ-loop
 add-k c = search needs
@@ -47,10 +56,27 @@ loop-less : tie.Need-loop-less Inv-loop μ-loop
 loop-less c = omega (arith, c .before .before .before .before .loop-test .taken)
 
 loop-again : tie.Need-loop-again Inv-loop μ-loop
-loop-again c = let a = fourteen (c .before .before .before .before .before .before .before .before .args .f) _ (c .before .before .before .before .before .before .before .before .good .0) in let b = fourteen (c .before .before .before .before .before .before .before .before .args .g) _ (c .before .before .before .before .before .before .before .before .good .1 .0) in (omega (arith, c .before .before .before .before .loop-test .taken), sym (same-on (c .before .before .before .before .before .before .before .before .args .f .cards) (c .before .before .before .before .before .before .before .before .args .g .cards) (c .before .before .before .before .before .loop .k) (omega (arith, c .before .before .before .before .loop-test .taken)) (omega (arith, c .before .before .before .before .loop-test .taken)) (c .before .is-same-card .result) (c .before .is-same-card .ensures) (not-false _ (c .if1 .left))) ∙ c .before .before .before .before .before .loop .inv .1)
+loop-again c =
+    let then = c .before in let is-same-card = then .is-same-card in
+    let then = then .before .before .before in let loop-test = then .loop-test in
+    let then = then .before in let loop = then .loop in
+    let then = then .before .before .before in let args = then .args in let good = then .good in
+    let a = fourteen (args .f) _ (good .0) in
+    let b = fourteen (args .g) _ (good .1 .0) in (
+      omega (arith, loop-test .taken),
+      sym (same-on (args .f .cards) (args .g .cards) (loop .k) (omega (arith, loop-test .taken)) (omega (arith, loop-test .taken))
+          (is-same-card .result) (is-same-card .ensures) (not-false _ (c .if1 .left)))
+          ∙ loop .inv .1,
+    )
 
 returns-2 : tie.Need-returns-2 Inv-loop μ-loop
-returns-2 c = let a = fourteen (c .before .before .before .before .args .f) _ (c .before .before .before .before .good .0) in let b = fourteen (c .before .before .before .before .args .g) _ (c .before .before .before .before .good .1 .0) in sym (same-done (c .before .before .before .before .args .f .cards) (c .before .before .before .before .args .g .cards) (c .before .loop .k) (omega (arith, c .loop-test .left)) (omega (arith, c .loop-test .left))) ∙ c .before .loop .inv .1
+returns-2 c =
+    let then = c .before in let loop = then .loop in
+    let then = then .before .before .before in let args = then .args in let good = then .good in
+    let a = fourteen (args .f) _ (good .0) in
+    let b = fourteen (args .g) _ (good .1 .0) in
+    sym (same-done (args .f .cards) (args .g .cards) (loop .k) (omega (arith, c .loop-test .left)) (omega (arith, c .loop-test .left)))
+    ∙ loop .inv .1
 
 pub are-same-cards-spec : {M : Type 1} → statement M
 are-same-cards-spec =

@@ -15,7 +15,9 @@ is-good-requires c κs = search needs
 
 returns : tie.Need-returns
 unfolding furtherError
-returns c = rw (← c .before .before .types-error .ensures) (sym (or-else-some (c .before .before .types-error .result) _ (sym (c .before .is-good .ensures) ∙ not-true _ (c .if1 .taken))))
+returns c =
+    let types-error = c .before .before .types-error in
+    rw (← types-error .ensures) (sym (or-else-some (types-error .result) _ (sym (c .before .is-good .ensures) ∙ not-true _ (c .if1 .taken))))
 
 together-error-requires : tie.Need-together-error-requires
 together-error-requires c κs = search needs
@@ -25,14 +27,31 @@ is-good-requires-2 c κs = search needs
 
 returns-2 : tie.Need-returns-2
 unfolding furtherError
-returns-2 c = rw (← c .before .before .before .before .before .types-error .ensures, good-is (c .before .before .before .before .before .types-error .result) (sym (c .before .before .before .before .is-good .ensures) ∙ not-false _ (c .before .before .before .if1 .left)), ← c .before .before .together-error .ensures) (sym (or-else-some (c .before .before .together-error .result) _ (sym (c .before .is-good2 .ensures) ∙ not-true _ (c .if2 .taken))))
+returns-2 c =
+    let then = c .before .before in let together-error = then .together-error in
+    let then = then .before in let if1 = then .if1 in
+    let then = then .before in let is-good = then .is-good in
+    let types-error = then .before .types-error in
+    rw (← types-error .ensures, good-is (types-error .result) (sym (is-good .ensures) ∙ not-false _ (if1 .left)), ← together-error .ensures)
+    (sym (or-else-some (together-error .result) _ (sym (c .before .is-good2 .ensures) ∙ not-true _ (c .if2 .taken))))
 
 contents-error-requires : tie.Need-contents-error-requires
 contents-error-requires c κs = search needs
 
 returns-3 : tie.Need-returns-3
 unfolding furtherError
-returns-3 c = rw (← c .before .before .before .before .before .before .types-error .ensures, good-is (c .before .before .before .before .before .before .types-error .result) (sym (c .before .before .before .before .before .is-good .ensures) ∙ not-false _ (c .before .before .before .before .if1 .left)), ← c .before .before .before .together-error .ensures, good-is (c .before .before .before .together-error .result) (sym (c .before .before .is-good2 .ensures) ∙ not-false _ (c .before .if2 .left)), ← c .contents-error .ensures) (sym (or-else-good (c .contents-error .result)))
+returns-3 c =
+    let then = c .before .before .before in let together-error = then .together-error in
+    let then = then .before in let if1 = then .if1 in
+    let then = then .before in let is-good = then .is-good in
+    let types-error = then .before .types-error in
+    rw (
+      ← types-error .ensures,
+      good-is (types-error .result) (sym (is-good .ensures) ∙ not-false _ (if1 .left)),
+      ← together-error .ensures,
+      good-is (together-error .result) (sym (c .before .before .is-good2 .ensures) ∙ not-false _ (c .before .if2 .left)),
+      ← c .contents-error .ensures,
+    ) (sym (or-else-good (c .contents-error .result)))
 
 pub further-error-spec : {M : Type 1} → statement M
 further-error-spec =

@@ -6,7 +6,9 @@ use Rattle.cards_full.proofs.check.is_same_card.Statement.{statement}
 use Rattle.cards_full.proofs.check.is_same_card.Tie as tie
 
 returns : tie.Need-returns
-returns c = rw (ne-eqb (c .before .before .before .args .c .len) (c .before .before .before .args .d .len) (c .if1 .taken))
+returns c =
+    let args = c .before .before .before .args in
+    rw (ne-eqb (args .c .len) (args .d .len) (c .if1 .taken))
 
 slice-aggregate-is-same : tie.Need-slice-aggregate-is-same
 slice-aggregate-is-same c = search needs
@@ -18,7 +20,10 @@ is-same-requires : tie.Need-is-same-requires
 is-same-requires c κs = search needs
 
 returns-2 : tie.Need-returns-2
-returns-2 c = c .is-same .ensures ∙ rw (eq-eqb (c .before .before .before .before .before .before .before .before .args .c .len) (c .before .before .before .before .before .before .before .before .args .d .len) (c .before .before .before .before .before .if1 .left))
+returns-2 c =
+    let then = c .before .before .before .before .before in let if1 = then .if1 in
+    let args = then .before .before .before .args in
+    c .is-same .ensures ∙ rw (eq-eqb (args .c .len) (args .d .len) (if1 .left))
 
 pub is-same-card-spec : {M : Type 1} → statement M
 is-same-card-spec =

@@ -16,7 +16,9 @@ unfolding takesFull
 returns c = rw (sym (c .before .is-taken-further .ensures) ∙ not-true _ (c .if1 .taken))
 
 add-is-taken : tie.Need-add-is-taken
-add-is-taken c = omega (arith, few-taken (c .before .before .before .before .args .full .further) (sym (c .before .before .is-taken-further .ensures) ∙ not-false _ (c .before .if1 .left)))
+add-is-taken c =
+    let args = c .before .before .before .before .args in
+    omega (arith, few-taken (args .full .further) (sym (c .before .before .is-taken-further .ensures) ∙ not-false _ (c .before .if1 .left)))
 
 is-taken-requires : tie.Need-is-taken-requires
 is-taken-requires c κs = search needs

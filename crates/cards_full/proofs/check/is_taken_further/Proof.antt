@@ -31,19 +31,37 @@ is-good-requires : tie.Need-is-good-requires
 is-good-requires c κs = search needs
 
 returns : tie.Need-returns
-returns c = not-read (c .before .before .before .before .before .before .before .before .args .further) (fourteen (c .before .before .before .before .before .before .before .before .args .further) _ (c .before .before .before .before .before .before .before .before .good .0)) (texts-78 (c .before .before .before .before .before .before .before .before .args .further) _ (c .before .before .before .before .before .before .before .before .good .0)) (c .before .before .before .before .before .put-further .ensures) (sym (ap good (c .before .before .further-error .ensures)) ∙ sym (c .before .is-good .ensures) ∙ not-true _ (c .if1 .taken))
+returns c =
+    let then = c .before .before .before .before .before in let put-further = then .put-further in
+    let then = then .before .before .before in let args = then .args in let good′ = then .good in
+    not-read (args .further) (fourteen (args .further) _ (good′ .0)) (texts-78 (args .further) _ (good′ .0)) (put-further .ensures)
+    (sym (ap good (c .before .before .further-error .ensures)) ∙ sym (c .before .is-good .ensures) ∙ not-true _ (c .if1 .taken))
 
 held-requires : tie.Need-held-requires
 held-requires c κs = search needs
 
 returns-2 : tie.Need-returns-2
-returns-2 c = not-counted (c .before .before .before .before .before .before .before .before .before .before .before .before .args .further) (fourteen (c .before .before .before .before .before .before .before .before .before .before .before .before .args .further) _ (c .before .before .before .before .before .before .before .before .before .before .before .before .good .0)) (texts-78 (c .before .before .before .before .before .before .before .before .before .before .before .before .args .further) _ (c .before .before .before .before .before .before .before .before .before .before .before .before .good .0)) (c .before .before .before .before .before .before .before .before .before .put-further .ensures) (c .before .before .before .held .result) (c .before .before .before .held .ensures) (c .if2 .taken)
+returns-2 c =
+    let then = c .before .before .before in let held = then .held in
+    let then = then .before .before .before .before .before .before in let put-further = then .put-further in
+    let then = then .before .before .before in let args = then .args in let good = then .good in
+    not-counted (args .further) (fourteen (args .further) _ (good .0)) (texts-78 (args .further) _ (good .0)) (put-further .ensures)
+    (held .result) (held .ensures) (c .if2 .taken)
 
 are-same-cards-requires : tie.Need-are-same-cards-requires
 are-same-cards-requires c κs = search needs
 
 returns-3 : tie.Need-returns-3
-returns-3 c = compared (c .before .before .before .before .before .before .before .before .before .before .before .before .before .args .further) (fourteen (c .before .before .before .before .before .before .before .before .before .before .before .before .before .args .further) _ (c .before .before .before .before .before .before .before .before .before .before .before .before .before .good .0)) (texts-78 (c .before .before .before .before .before .before .before .before .before .before .before .before .before .args .further) _ (c .before .before .before .before .before .before .before .before .before .before .before .before .before .good .0)) (c .before .before .before .before .before .before .before .before .before .before .put-further .ensures) (c .before .before .before .before .held .result) (c .before .before .before .before .held .ensures) (sym (ap good (c .before .before .before .before .before .before .before .further-error .ensures)) ∙ sym (c .before .before .before .before .before .before .is-good .ensures) ∙ not-false _ (c .before .before .before .before .before .if1 .left)) (c .before .if2 .left) (c .are-same-cards .result) (c .are-same-cards .ensures)
+returns-3 c =
+    let then = c .before .before .before .before in let held = then .held in
+    let then = then .before in let if1 = then .if1 in
+    let then = then .before in let is-good = then .is-good in
+    let then = then .before in let further-error = then .further-error in
+    let then = then .before .before .before in let put-further = then .put-further in
+    let then = then .before .before .before in let args = then .args in let good′ = then .good in
+    compared (args .further) (fourteen (args .further) _ (good′ .0)) (texts-78 (args .further) _ (good′ .0)) (put-further .ensures)
+    (held .result) (held .ensures) (sym (ap good (further-error .ensures)) ∙ sym (is-good .ensures) ∙ not-false _ (if1 .left))
+    (c .before .if2 .left) (c .are-same-cards .result) (c .are-same-cards .ensures)
 
 pub is-taken-further-spec : {M : Type 1} → statement M
 is-taken-further-spec =

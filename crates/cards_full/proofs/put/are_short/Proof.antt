@@ -14,7 +14,9 @@ use Rattle.cards_full.proofs.put.are_short.Statement.{statement}
 use Rattle.cards_full.proofs.put.are_short.Tie as tie
 
 abbrev Inv-loop : tie.InvT-loop
-Inv-loop before n cards i₀ i = (i ≤ n) × ((id : List ℕ) → length id + 1 ≡ before → short (behindId id (textsIn (drop i (take n cards)))) ≡ short (behindId id (textsIn (take n cards))))
+Inv-loop before n cards i₀ i =
+    (i ≤ n) × ((id : List ℕ) → length id + 1 ≡ before
+    → short (behindId id (textsIn (drop i (take n cards)))) ≡ short (behindId id (textsIn (take n cards))))
 
 abbrev μ-loop : tie.MeasureT-loop
 μ-loop before n cards i₀ i = n - i
@@ -29,16 +31,32 @@ sub-if1 : tie.Need-sub-if1 Inv-loop μ-loop
 sub-if1 c = search needs
 
 mul-len-of : tie.Need-mul-len-of Inv-loop μ-loop
-mul-len-of c = let l = fourteen (c .before .before .before .before .args .further) _ (c .before .before .before .before .good .1 .0) in omega (arith, l, (within-cards (c .before .before .before .before .args .further) (c .before .before .before .count-of .result) (c .before .before .before .count-of .ensures)), c .loop-test .taken)
+mul-len-of c =
+    let then = c .before .before .before in let count-of = then .count-of in
+    let then = then .before in let args = then .args in let good = then .good in
+    let l = fourteen (args .further) _ (good .1 .0) in
+    omega (arith, l, (within-cards (args .further) (count-of .result) (count-of .ensures)), c .loop-test .taken)
 
 array-copy-out-len-of : tie.Need-array-copy-out-len-of Inv-loop μ-loop
-array-copy-out-len-of c = let l = fourteen (c .before .before .before .before .args .further) _ (c .before .before .before .before .good .1 .0) in omega (arith, l, (within-cards (c .before .before .before .before .args .further) (c .before .before .before .count-of .result) (c .before .before .before .count-of .ensures)), c .loop-test .taken)
+array-copy-out-len-of c =
+    let then = c .before .before .before in let count-of = then .count-of in
+    let then = then .before in let args = then .args in let good = then .good in
+    let l = fourteen (args .further) _ (good .1 .0) in
+    omega (arith, l, (within-cards (args .further) (count-of .result) (count-of .ensures)), c .loop-test .taken)
 
 len-of-requires : tie.Need-len-of-requires Inv-loop μ-loop
 len-of-requires c κs = search needs
 
 returns : tie.Need-returns Inv-loop μ-loop
-returns c = λ id e. sym (short-long id (c .before .before .before .before .before .before .before .args .further .cards) (c .before .before .before .before .before .before .count-of .result) (within-cards (c .before .before .before .before .before .before .before .args .further) (c .before .before .before .before .before .before .count-of .result) (c .before .before .before .before .before .before .count-of .ensures)) (c .before .before .before .before .loop .i) (c .before .before .before .before .before .before .before .args .before) (c .before .len-of .result) (sym e) (c .before .len-of .ensures) (c .before .before .before .loop-test .taken) (c .before .before .before .before .before .before .before .pre) (c .if1 .taken)) ∙ c .before .before .before .before .loop .inv .1 id e ∙ ap (λ (x : List (List ℕ)). short (behindId id x)) (the-texts (c .before .before .before .before .before .before .before .args .further) (c .before .before .before .before .before .before .count-of .result) (c .before .before .before .before .before .before .count-of .ensures))
+returns c =
+    let then = c .before in let len-of = then .len-of in
+    let then = then .before .before in let loop-test = then .loop-test in
+    let then = then .before in let loop = then .loop in
+    let then = then .before .before in let count-of = then .count-of in
+    let then = then .before in let args = then .args in let pre = then .pre in
+    λ id e. sym (short-long id (args .further .cards) (count-of .result) (within-cards (args .further) (count-of .result) (count-of .ensures))
+    (loop .i) (args .before) (len-of .result) (sym e) (len-of .ensures) (loop-test .taken) pre (c .if1 .taken))
+    ∙ loop .inv .1 id e ∙ ap (λ (x : List (List ℕ)). short (behindId id x)) (the-texts (args .further) (count-of .result) (count-of .ensures))
 
 add-i : tie.Need-add-i Inv-loop μ-loop
 add-i c = search needs
@@ -47,10 +65,26 @@ loop-less : tie.Need-loop-less Inv-loop μ-loop
 loop-less c = omega (arith, c .before .before .before .loop-test .taken)
 
 loop-again : tie.Need-loop-again Inv-loop μ-loop
-loop-again c = (omega (arith, c .before .before .before .loop-test .taken), λ id e. sym (short-on id (c .before .before .before .before .before .before .before .args .further .cards) (c .before .before .before .before .before .before .count-of .result) (within-cards (c .before .before .before .before .before .before .before .args .further) (c .before .before .before .before .before .before .count-of .result) (c .before .before .before .before .before .before .count-of .ensures)) (c .before .before .before .before .loop .i) (c .before .before .before .before .before .before .before .args .before) (c .before .len-of .result) (sym e) (c .before .len-of .ensures) (c .before .before .before .loop-test .taken) (c .before .before .before .before .before .before .before .pre) (c .if1 .left)) ∙ c .before .before .before .before .loop .inv .1 id e)
+loop-again c =
+    let then = c .before in let len-of = then .len-of in
+    let then = then .before .before in let loop-test = then .loop-test in
+    let then = then .before in let loop = then .loop in
+    let then = then .before .before in let count-of = then .count-of in
+    let then = then .before in let args = then .args in let pre = then .pre in (
+      omega (arith, loop-test .taken),
+      λ id e. sym (short-on id (args .further .cards) (count-of .result) (within-cards (args .further) (count-of .result) (count-of .ensures))
+          (loop .i) (args .before) (len-of .result) (sym e) (len-of .ensures) (loop-test .taken) pre (c .if1 .left))
+          ∙ loop .inv .1 id e,
+    )
 
 returns-2 : tie.Need-returns-2 Inv-loop μ-loop
-returns-2 c = λ id e. sym (short-end id (c .before .before .before .before .args .further .cards) (c .before .before .before .count-of .result) (within-cards (c .before .before .before .before .args .further) (c .before .before .before .count-of .result) (c .before .before .before .count-of .ensures)) (c .before .loop .i) (c .loop-test .left)) ∙ c .before .loop .inv .1 id e ∙ ap (λ (x : List (List ℕ)). short (behindId id x)) (the-texts (c .before .before .before .before .args .further) (c .before .before .before .count-of .result) (c .before .before .before .count-of .ensures))
+returns-2 c =
+    let then = c .before in let loop = then .loop in
+    let then = then .before .before in let count-of = then .count-of in
+    let args = then .before .args in
+    λ id e. sym (short-end id (args .further .cards) (count-of .result) (within-cards (args .further) (count-of .result) (count-of .ensures))
+    (loop .i) (c .loop-test .left))
+    ∙ loop .inv .1 id e ∙ ap (λ (x : List (List ℕ)). short (behindId id x)) (the-texts (args .further) (count-of .result) (count-of .ensures))
 
 pub are-short-spec : {M : Type 1} → statement M
 are-short-spec =

@@ -24,10 +24,17 @@ len-of-requires : tie.Need-len-of-requires
 len-of-requires c κs = search needs
 
 array-share-prefix-bytes : tie.Need-array-share-prefix-bytes
-array-share-prefix-bytes c = counted-most (c .before .before .before .before .before .before .before .before .before .before .before .before .before .args .card .len) (c .before .before .before .before .before .before .before .before .before .before .before .before .before .args .card .text) (c .before .before .len-of .result) (c .before .before .len-of .ensures)
+array-share-prefix-bytes c =
+    let then = c .before .before in let len-of = then .len-of in
+    let args = then .before .before .before .before .before .before .before .before .before .before .before .args in
+    counted-most (args .card .len) (args .card .text) (len-of .result) (len-of .ensures)
 
 slice-aggregate-put-bytes : tie.Need-slice-aggregate-put-bytes
-slice-aggregate-put-bytes c = sym (length-take-le (c .before .before .before .len-of .result) (c .before .before .before .before .before .before .before .before .before .before .before .before .before .before .args .card .text) (counted-most (c .before .before .before .before .before .before .before .before .before .before .before .before .before .before .args .card .len) (c .before .before .before .before .before .before .before .before .before .before .before .before .before .before .args .card .text) (c .before .before .before .len-of .result) (c .before .before .before .len-of .ensures)))
+slice-aggregate-put-bytes c =
+    let then = c .before .before .before in let len-of = then .len-of in
+    let args = then .before .before .before .before .before .before .before .before .before .before .before .args in
+    sym (length-take-le (len-of .result) (args .card .text)
+    (counted-most (args .card .len) (args .card .text) (len-of .result) (len-of .ensures)))
 
 put-bytes-requires : tie.Need-put-bytes-requires
 put-bytes-requires c κs = search needs
@@ -39,7 +46,14 @@ same-length : tie.Need-same-length
 same-length c = search needs
 
 returns : tie.Need-returns
-returns c = line-put (c .before .before .before .before .before .before .before .before .before .before .before .before .before .before .before .before .before .before .before .before .before .args .card) (c .before .before .before .before .before .before .before .before .before .before .len-of .result) (take-counted (c .before .before .before .before .before .before .before .before .before .before .before .before .before .before .before .before .before .before .before .before .before .args .card .len) (c .before .before .before .before .before .before .before .before .before .before .before .before .before .before .before .before .before .before .before .before .before .args .card .text) (c .before .before .before .before .before .before .before .before .before .before .len-of .result) (c .before .before .before .before .before .before .before .before .before .before .len-of .ensures)) (c .before .before .before .before .before .before .before .before .before .before .before .before .before .before .before .before .before .put-name .ensures) (c .before .before .before .before .before .before .before .before .before .before .before .before .before .put-byte .ensures) (c .before .before .before .before .before .before .put-bytes .ensures) (c .before .before .put-byte2 .ensures)
+returns c =
+    let then = c .before .before .before .before .before .before in let put-bytes = then .put-bytes in
+    let then = then .before .before .before .before in let len-of = then .len-of in
+    let then = then .before .before .before in let put-byte = then .put-byte in
+    let then = then .before .before .before .before in let put-name = then .put-name in
+    let args = then .before .before .before .before .args in
+    line-put (args .card) (len-of .result) (take-counted (args .card .len) (args .card .text) (len-of .result) (len-of .ensures))
+    (put-name .ensures) (put-byte .ensures) (put-bytes .ensures) (c .before .before .put-byte2 .ensures)
 
 pub put-card-spec : {M : Type 1} → statement M
 put-card-spec =

@@ -18,7 +18,9 @@ use Rattle.cards_full.proofs.put.put_further.Statement.{statement}
 use Rattle.cards_full.proofs.put.put_further.Tie as tie
 
 abbrev Inv-loop : tie.InvT-loop
-Inv-loop room₀ at id n cards next₀ i₀ room next i = (i ≤ n) × Going room₀ at (linesText (behindId (spaceless id) (textsIn (take n cards)))) room next (linesText (behindId (spaceless id) (textsIn (drop i (take n cards)))))
+Inv-loop room₀ at id n cards next₀ i₀ room next i =
+    (i ≤ n) × Going room₀ at (linesText (behindId (spaceless id) (textsIn (take n cards)))) room next
+    (linesText (behindId (spaceless id) (textsIn (drop i (take n cards)))))
 
 abbrev μ-loop : tie.MeasureT-loop
 μ-loop room₀ at id n cards next₀ i₀ room next i = n - i
@@ -30,10 +32,18 @@ loop-holds : tie.Need-loop-holds Inv-loop μ-loop
 loop-holds c = (omega arith, λ after next w. w)
 
 mul-put-card : tie.Need-mul-put-card Inv-loop μ-loop
-mul-put-card c = let l = fourteen (c .before .before .before .before .before .before .before .args .further) _ (c .before .before .before .before .before .before .before .good .1 .1 .1 .0) in omega (arith, l, (within-cards (c .before .before .before .before .before .before .before .args .further) (c .before .before .before .before .count-of .result) (c .before .before .before .before .count-of .ensures)), c .before .loop-test .taken)
+mul-put-card c =
+    let then = c .before .before .before .before in let count-of = then .count-of in
+    let then = then .before .before .before in let args = then .args in let good = then .good in
+    let l = fourteen (args .further) _ (good .1 .1 .1 .0) in
+    omega (arith, l, (within-cards (args .further) (count-of .result) (count-of .ensures)), c .before .loop-test .taken)
 
 array-copy-out-put-card : tie.Need-array-copy-out-put-card Inv-loop μ-loop
-array-copy-out-put-card c = let l = fourteen (c .before .before .before .before .before .before .before .args .further) _ (c .before .before .before .before .before .before .before .good .1 .1 .1 .0) in omega (arith, l, (within-cards (c .before .before .before .before .before .before .before .args .further) (c .before .before .before .before .count-of .result) (c .before .before .before .before .count-of .ensures)), c .before .loop-test .taken)
+array-copy-out-put-card c =
+    let then = c .before .before .before .before in let count-of = then .count-of in
+    let then = then .before .before .before in let args = then .args in let good = then .good in
+    let l = fourteen (args .further) _ (good .1 .1 .1 .0) in
+    omega (arith, l, (within-cards (args .further) (count-of .result) (count-of .ensures)), c .before .loop-test .taken)
 
 put-card-requires : tie.Need-put-card-requires Inv-loop μ-loop
 put-card-requires c κs = search needs
@@ -45,13 +55,41 @@ loop-less : tie.Need-loop-less Inv-loop μ-loop
 loop-less c = omega (arith, c .before .before .before .before .before .loop-test .taken)
 
 loop-again : tie.Need-loop-again Inv-loop μ-loop
-loop-again c = (omega (arith, c .before .before .before .before .before .loop-test .taken), lines-turn (spaceless (c .before .before .before .before .before .before .before .before .before .before .before .args .id .now)) (c .before .before .before .before .before .before .before .before .before .before .before .args .further .cards) (c .before .before .before .before .before .before .before .before .count-of .result) (within-cards (c .before .before .before .before .before .before .before .before .before .before .before .args .further) (c .before .before .before .before .before .before .before .before .count-of .result) (c .before .before .before .before .before .before .before .before .count-of .ensures)) (c .before .before .before .before .before .before .loop .i) (c .before .before .before .before .before .loop-test .taken) (c .before .before .before .before .before .before .loop .inv .1) (c .before .before .put-card .ensures))
+loop-again c =
+    let then = c .before .before .before .before .before in let loop-test = then .loop-test in
+    let then = then .before in let loop = then .loop in
+    let then = then .before .before in let count-of = then .count-of in
+    let args = then .before .before .before .args in (
+      omega (arith, loop-test .taken),
+      lines-turn (spaceless (args .id .now)) (args .further .cards) (count-of .result)
+          (within-cards (args .further) (count-of .result) (count-of .ensures)) (loop .i) (loop-test .taken) (loop .inv .1)
+          (c .before .before .put-card .ensures),
+    )
 
 same-length : tie.Need-same-length Inv-loop μ-loop
-same-length c = same-room (end (subst (λ (x : List ℕ). Going (c .before .before .before .before .before .before .args .room .now) (c .before .before .before .before .before .before .args .at) (linesText (behindId (spaceless (c .before .before .before .before .before .before .args .id .now)) (textsIn (take (c .before .before .before .count-of .result) (c .before .before .before .before .before .before .args .further .cards))))) (c .before .loop .room) (c .before .loop .next) x) (lines-end (spaceless (c .before .before .before .before .before .before .args .id .now)) (c .before .before .before .before .before .before .args .further .cards) (c .before .before .before .count-of .result) (within-cards (c .before .before .before .before .before .before .args .further) (c .before .before .before .count-of .result) (c .before .before .before .count-of .ensures)) (c .before .loop .i) (c .loop-test .left)) (c .before .loop .inv .1)))
+same-length c =
+    let then = c .before in let loop = then .loop in
+    let then = then .before .before in let count-of = then .count-of in
+    let args = then .before .before .before .args in
+    same-room (end (subst (λ (x : List ℕ). Going (args .room .now) (args .at)
+    (linesText (behindId (spaceless (args .id .now)) (textsIn (take (count-of .result) (args .further .cards))))) (loop .room) (loop .next) x)
+    (lines-end (spaceless (args .id .now)) (args .further .cards) (count-of .result)
+    (within-cards (args .further) (count-of .result) (count-of .ensures)) (loop .i) (c .loop-test .left))
+    (loop .inv .1)))
 
 returns : tie.Need-returns Inv-loop μ-loop
-returns c = subst (λ (x : List (List ℕ)). Written (c .before .before .before .before .before .before .args .room .now) (c .before .before .before .before .before .before .args .at) (linesText (behindId (spaceless (c .before .before .before .before .before .before .args .id .now)) x)) (c .before .loop .room) (c .before .loop .next)) (the-texts (c .before .before .before .before .before .before .args .further) (c .before .before .before .count-of .result) (c .before .before .before .count-of .ensures)) (end (subst (λ (x : List ℕ). Going (c .before .before .before .before .before .before .args .room .now) (c .before .before .before .before .before .before .args .at) (linesText (behindId (spaceless (c .before .before .before .before .before .before .args .id .now)) (textsIn (take (c .before .before .before .count-of .result) (c .before .before .before .before .before .before .args .further .cards))))) (c .before .loop .room) (c .before .loop .next) x) (lines-end (spaceless (c .before .before .before .before .before .before .args .id .now)) (c .before .before .before .before .before .before .args .further .cards) (c .before .before .before .count-of .result) (within-cards (c .before .before .before .before .before .before .args .further) (c .before .before .before .count-of .result) (c .before .before .before .count-of .ensures)) (c .before .loop .i) (c .loop-test .left)) (c .before .loop .inv .1)))
+returns c =
+    let then = c .before in let loop = then .loop in
+    let then = then .before .before in let count-of = then .count-of in
+    let args = then .before .before .before .args in
+    subst
+    (λ (x : List (List ℕ)). Written (args .room .now) (args .at) (linesText (behindId (spaceless (args .id .now)) x)) (loop .room) (loop .next))
+    (the-texts (args .further) (count-of .result) (count-of .ensures))
+    (end (subst (λ (x : List ℕ). Going (args .room .now) (args .at)
+    (linesText (behindId (spaceless (args .id .now)) (textsIn (take (count-of .result) (args .further .cards))))) (loop .room) (loop .next) x)
+    (lines-end (spaceless (args .id .now)) (args .further .cards) (count-of .result)
+    (within-cards (args .further) (count-of .result) (count-of .ensures)) (loop .i) (c .loop-test .left))
+    (loop .inv .1)))
 
 pub put-further-spec : {M : Type 1} → statement M
 put-further-spec =

@@ -26,7 +26,13 @@ is-field-requires : tie.Need-is-field-requires Inv-loop μ-loop
 is-field-requires c κs = search needs
 
 returns : tie.Need-returns Inv-loop μ-loop
-returns c = sym (fields-wrong (ptyFields (c .before .before .before .before .args .n) (c .before .before .before .before .args .r)) (c .before .before .before .loop .k) (c .before .before .loop-test .taken) (c .before .is-field .result) (c .before .is-field .ensures) (not-true _ (c .if1 .taken))) ∙ c .before .before .before .loop .inv .1
+returns c =
+    let then = c .before in let is-field = then .is-field in
+    let then = then .before .before in let loop = then .loop in
+    let args = then .before .args in
+    sym (fields-wrong (ptyFields (args .n) (args .r)) (loop .k) (c .before .before .loop-test .taken) (is-field .result) (is-field .ensures)
+    (not-true _ (c .if1 .taken)))
+    ∙ loop .inv .1
 
 add-k : tie.Need-add-k Inv-loop μ-loop
 add-k c = search needs
@@ -35,10 +41,21 @@ loop-less : tie.Need-loop-less Inv-loop μ-loop
 loop-less c = search needs
 
 loop-again : tie.Need-loop-again Inv-loop μ-loop
-loop-again c = (omega arith, sym (fields-right (ptyFields (c .before .before .before .before .args .n) (c .before .before .before .before .args .r)) (c .before .before .before .loop .k) (c .before .before .loop-test .taken) (c .before .is-field .result) (c .before .is-field .ensures) (not-false _ (c .if1 .left))) ∙ c .before .before .before .loop .inv .1)
+loop-again c =
+    let then = c .before in let is-field = then .is-field in
+    let then = then .before .before in let loop = then .loop in
+    let args = then .before .args in (
+      omega arith,
+      sym (fields-right (ptyFields (args .n) (args .r)) (loop .k) (c .before .before .loop-test .taken) (is-field .result) (is-field .ensures)
+          (not-false _ (c .if1 .left)))
+          ∙ loop .inv .1,
+    )
 
 returns-2 : tie.Need-returns-2 Inv-loop μ-loop
-returns-2 c = sym (ap good (fields-done (ptyFields (c .before .before .args .n) (c .before .before .args .r)) (c .before .loop .k) (c .loop-test .left))) ∙ c .before .loop .inv .1
+returns-2 c =
+    let then = c .before in let loop = then .loop in
+    let args = then .before .args in
+    sym (ap good (fields-done (ptyFields (args .n) (args .r)) (loop .k) (c .loop-test .left))) ∙ loop .inv .1
 
 pub are-fields-spec : {M : Type 1} → statement M
 are-fields-spec =

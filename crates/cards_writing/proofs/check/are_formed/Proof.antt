@@ -13,7 +13,10 @@ is-formed-requires : tie.Need-is-formed-requires
 is-formed-requires c κs = search needs
 
 returns : tie.Need-returns
-returns c = rw ((formed-is 6 (c .before .before .before .before .args .r .id) (c .before .is-formed .result) (search needs) (c .before .is-formed .ensures)) ∙ not-true _ (c .if1 .taken))
+returns c =
+    let then = c .before in let is-formed = then .is-formed in
+    let args = then .before .before .before .args in
+    rw ((formed-is 6 (args .r .id) (is-formed .result) (search needs) (is-formed .ensures)) ∙ not-true _ (c .if1 .taken))
 
 slice-aggregate-is-formed-2 : tie.Need-slice-aggregate-is-formed-2
 slice-aggregate-is-formed-2 c = search needs
@@ -22,7 +25,15 @@ is-formed-requires-2 : tie.Need-is-formed-requires-2
 is-formed-requires-2 c κs = search needs
 
 returns-2 : tie.Need-returns-2
-returns-2 c = rw ((formed-is 6 (c .before .before .before .before .before .before .before .before .args .r .id) (c .before .before .before .before .before .is-formed .result) (search needs) (c .before .before .before .before .before .is-formed .ensures)) ∙ not-false _ (c .before .before .before .before .if1 .left), (formed-is 12 (c .before .before .before .before .before .before .before .before .args .r .program) (c .before .is-formed2 .result) (search needs) (c .before .is-formed2 .ensures)) ∙ not-true _ (c .if2 .taken))
+returns-2 c =
+    let then = c .before in let is-formed2 = then .is-formed2 in
+    let then = then .before .before .before in let if1 = then .if1 in
+    let then = then .before in let is-formed = then .is-formed in
+    let args = then .before .before .before .args in
+    rw (
+      (formed-is 6 (args .r .id) (is-formed .result) (search needs) (is-formed .ensures)) ∙ not-false _ (if1 .left),
+      (formed-is 12 (args .r .program) (is-formed2 .result) (search needs) (is-formed2 .ensures)) ∙ not-true _ (c .if2 .taken),
+    )
 
 slice-aggregate-is-formed-3 : tie.Need-slice-aggregate-is-formed-3
 slice-aggregate-is-formed-3 c = search needs
@@ -31,7 +42,18 @@ is-formed-requires-3 : tie.Need-is-formed-requires-3
 is-formed-requires-3 c κs = search needs
 
 returns-3 : tie.Need-returns-3
-returns-3 c = rw ((formed-is 6 (c .before .before .before .before .before .before .before .before .before .before .before .before .args .r .id) (c .before .before .before .before .before .before .before .before .before .is-formed .result) (search needs) (c .before .before .before .before .before .before .before .before .before .is-formed .ensures)) ∙ not-false _ (c .before .before .before .before .before .before .before .before .if1 .left), (formed-is 12 (c .before .before .before .before .before .before .before .before .before .before .before .before .args .r .program) (c .before .before .before .before .before .is-formed2 .result) (search needs) (c .before .before .before .before .before .is-formed2 .ensures)) ∙ not-false _ (c .before .before .before .before .if2 .left), (formed-is 6 (c .before .before .before .before .before .before .before .before .before .before .before .before .args .r .medium) (c .before .is-formed3 .result) (search needs) (c .before .is-formed3 .ensures)) ∙ not-true _ (c .if3 .taken))
+returns-3 c =
+    let then = c .before in let is-formed3 = then .is-formed3 in
+    let then = then .before .before .before in let if2 = then .if2 in
+    let then = then .before in let is-formed2 = then .is-formed2 in
+    let then = then .before .before .before in let if1 = then .if1 in
+    let then = then .before in let is-formed = then .is-formed in
+    let args = then .before .before .before .args in
+    rw (
+      (formed-is 6 (args .r .id) (is-formed .result) (search needs) (is-formed .ensures)) ∙ not-false _ (if1 .left),
+      (formed-is 12 (args .r .program) (is-formed2 .result) (search needs) (is-formed2 .ensures)) ∙ not-false _ (if2 .left),
+      (formed-is 6 (args .r .medium) (is-formed3 .result) (search needs) (is-formed3 .ensures)) ∙ not-true _ (c .if3 .taken),
+    )
 
 slice-aggregate-is-formed-4 : tie.Need-slice-aggregate-is-formed-4
 slice-aggregate-is-formed-4 c = search needs
@@ -40,7 +62,20 @@ is-formed-requires-4 : tie.Need-is-formed-requires-4
 is-formed-requires-4 c κs = search needs
 
 returns-4 : tie.Need-returns-4
-returns-4 c = rw ((formed-is 6 (c .before .before .before .before .before .before .before .before .before .before .before .before .before .before .before .args .r .id) (c .before .before .before .before .before .before .before .before .before .before .before .before .is-formed .result) (search needs) (c .before .before .before .before .before .before .before .before .before .before .before .before .is-formed .ensures)) ∙ not-false _ (c .before .before .before .before .before .before .before .before .before .before .before .if1 .left), (formed-is 12 (c .before .before .before .before .before .before .before .before .before .before .before .before .before .before .before .args .r .program) (c .before .before .before .before .before .before .before .before .is-formed2 .result) (search needs) (c .before .before .before .before .before .before .before .before .is-formed2 .ensures)) ∙ not-false _ (c .before .before .before .before .before .before .before .if2 .left), (formed-is 6 (c .before .before .before .before .before .before .before .before .before .before .before .before .before .before .before .args .r .medium) (c .before .before .before .before .is-formed3 .result) (search needs) (c .before .before .before .before .is-formed3 .ensures)) ∙ not-false _ (c .before .before .before .if3 .left), (formed-is 6 (c .before .before .before .before .before .before .before .before .before .before .before .before .before .before .before .args .r .library) (c .is-formed4 .result) (search needs) (c .is-formed4 .ensures)))
+returns-4 c =
+    let if3 = c .before .before .before .if3 in
+    let is-formed3 = c .before .before .before .before .is-formed3 in
+    let if2 = c .before .before .before .before .before .before .before .if2 in
+    let is-formed2 = c .before .before .before .before .before .before .before .before .is-formed2 in
+    let if1 = c .before .before .before .before .before .before .before .before .before .before .before .if1 in
+    let is-formed = c .before .before .before .before .before .before .before .before .before .before .before .before .is-formed in
+    let args = c .before .before .before .before .before .before .before .before .before .before .before .before .before .before .before .args in
+    rw (
+      (formed-is 6 (args .r .id) (is-formed .result) (search needs) (is-formed .ensures)) ∙ not-false _ (if1 .left),
+      (formed-is 12 (args .r .program) (is-formed2 .result) (search needs) (is-formed2 .ensures)) ∙ not-false _ (if2 .left),
+      (formed-is 6 (args .r .medium) (is-formed3 .result) (search needs) (is-formed3 .ensures)) ∙ not-false _ (if3 .left),
+      (formed-is 6 (args .r .library) (c .is-formed4 .result) (search needs) (c .is-formed4 .ensures)),
+    )
 
 pub are-formed-spec : {M : Type 1} → statement M
 are-formed-spec =

@@ -28,7 +28,15 @@ number-at-requires : tie.Need-number-at-requires Inv-loop μ-loop
 number-at-requires c κs = search needs
 
 returns : tie.Need-returns Inv-loop μ-loop
-returns c = let l : length (c .before .before .before .before .before .args .f .units) ≡ counts = search needs in sym (number-high (asksOf (c .before .before .before .before .before .args .f)) (c .before .before .before .before .loop .k) (c .before .number-at .result) (c .before .before .limit-at .result) (omega arith) (c .before .number-at .ensures) (c .before .before .limit-at .ensures) (c .if1 .taken)) ∙ c .before .before .before .before .loop .inv .1
+returns c =
+    let then = c .before in let number-at = then .number-at in
+    let then = then .before in let limit-at = then .limit-at in
+    let then = then .before .before in let loop = then .loop in
+    let args = then .before .args in
+    let l : length (args .f .units) ≡ counts = search needs in
+    sym (number-high (asksOf (args .f)) (loop .k) (number-at .result) (limit-at .result) (omega arith) (number-at .ensures) (limit-at .ensures)
+    (c .if1 .taken))
+    ∙ loop .inv .1
 
 add-k : tie.Need-add-k Inv-loop μ-loop
 add-k c = search needs
@@ -37,10 +45,24 @@ loop-less : tie.Need-loop-less Inv-loop μ-loop
 loop-less c = search needs
 
 loop-again : tie.Need-loop-again Inv-loop μ-loop
-loop-again c = let l : length (c .before .before .before .before .before .args .f .units) ≡ counts = search needs in (omega arith, sym (number-low (asksOf (c .before .before .before .before .before .args .f)) (c .before .before .before .before .loop .k) (c .before .number-at .result) (c .before .before .limit-at .result) (omega arith) (c .before .number-at .ensures) (c .before .before .limit-at .ensures) (c .if1 .left)) ∙ c .before .before .before .before .loop .inv .1)
+loop-again c =
+    let then = c .before in let number-at = then .number-at in
+    let then = then .before in let limit-at = then .limit-at in
+    let then = then .before .before in let loop = then .loop in
+    let args = then .before .args in
+    let l : length (args .f .units) ≡ counts = search needs in (
+      omega arith,
+      sym (number-low (asksOf (args .f)) (loop .k) (number-at .result) (limit-at .result) (omega arith) (number-at .ensures)
+          (limit-at .ensures) (c .if1 .left))
+          ∙ loop .inv .1,
+    )
 
 returns-2 : tie.Need-returns-2 Inv-loop μ-loop
-returns-2 c = let l : length (c .before .before .args .f .units) ≡ counts = search needs in sym (numbers-done (asksOf (c .before .before .args .f)) (c .before .loop .k) (omega arith) (omega arith)) ∙ c .before .loop .inv .1
+returns-2 c =
+    let then = c .before in let loop = then .loop in
+    let args = then .before .args in
+    let l : length (args .f .units) ≡ counts = search needs in
+    sym (numbers-done (asksOf (args .f)) (loop .k) (omega arith) (omega arith)) ∙ loop .inv .1
 
 pub are-numbers-spec : {M : Type 1} → statement M
 are-numbers-spec =

@@ -13,13 +13,32 @@ returns : tie.Need-returns
 returns c = rw (sym (c .before .is-letter .ensures) ∙ not-true _ (c .if1 .taken))
 
 returns-2 : tie.Need-returns-2
-returns-2 c = rw (sym (c .before .before .before .is-letter .ensures) ∙ not-false _ (c .before .before .if1 .left), le-ltb (c .before .before .before .before .args .r .sequence) 64 (omega arith))
+returns-2 c =
+    let then = c .before .before .before in let is-letter = then .is-letter in
+    let args = then .before .args in
+    rw (sym (is-letter .ensures) ∙ not-false _ (c .before .before .if1 .left), le-ltb (args .r .sequence) 64 (omega arith))
 
 returns-3 : tie.Need-returns-3
-returns-3 c = rw (sym (c .before .before .before .before .before .is-letter .ensures) ∙ not-false _ (c .before .before .before .before .if1 .left), lt-ltb (c .before .before .before .before .before .before .args .r .sequence) 64 (omega arith), le-ltb (c .before .before .before .before .before .before .args .r .precedence) 64 (omega arith))
+returns-3 c =
+    let then = c .before .before .before .before in let if1 = then .if1 in
+    let then = then .before in let is-letter = then .is-letter in
+    let args = then .before .args in
+    rw (
+      sym (is-letter .ensures) ∙ not-false _ (if1 .left),
+      lt-ltb (args .r .sequence) 64 (omega arith),
+      le-ltb (args .r .precedence) 64 (omega arith),
+    )
 
 returns-4 : tie.Need-returns-4
-returns-4 c = rw (sym (c .before .before .before .before .before .before .is-letter .ensures) ∙ not-false _ (c .before .before .before .before .before .if1 .left), lt-ltb (c .before .before .before .before .before .before .before .args .r .sequence) 64 (omega arith), lt-ltb (c .before .before .before .before .before .before .before .args .r .precedence) 64 (omega arith))
+returns-4 c =
+    let then = c .before .before .before .before .before in let if1 = then .if1 in
+    let then = then .before in let is-letter = then .is-letter in
+    let args = then .before .args in
+    rw (
+      sym (is-letter .ensures) ∙ not-false _ (if1 .left),
+      lt-ltb (args .r .sequence) 64 (omega arith),
+      lt-ltb (args .r .precedence) 64 (omega arith),
+    )
 
 pub are-ranges-spec : {M : Type 1} → statement M
 are-ranges-spec = tie.close (tie.spec is-letter-requires returns returns-2 returns-3 returns-4)

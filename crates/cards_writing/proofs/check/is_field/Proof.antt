@@ -26,7 +26,10 @@ is-good-requires : tie.Need-is-good-requires
 is-good-requires c κs = search needs
 
 returns : tie.Need-returns
-returns c = c .is-good .ensures ∙ ap good (c .before .field-error .ensures ∙ field-put (c .before .before .before .before .before .before .args .k) (c .before .before .before .before .put-field .ensures))
+returns c =
+    let then = c .before .before .before .before in let put-field = then .put-field in
+    let args = then .before .before .args in
+    c .is-good .ensures ∙ ap good (c .before .field-error .ensures ∙ field-put (args .k) (put-field .ensures))
 
 pub is-field-spec : {M : Type 1} → statement M
 is-field-spec =

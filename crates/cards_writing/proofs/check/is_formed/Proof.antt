@@ -27,22 +27,37 @@ add-i : tie.Need-add-i Inv-loop μ-loop
 add-i c = search needs
 
 returns : tie.Need-returns Inv-loop μ-loop
-returns c = sym (formed-bad (c .before .before .before .before .before .args .name .now) (c .before .before .before .before .loop .i) (c .before .before .before .loop-test .taken) (c .before .before .before .before .loop .over) (c .before .if1 .taken) (c .if2 .taken)) ∙ c .before .before .before .before .loop .inv .1
+returns c =
+    let then = c .before .before .before in let loop-test = then .loop-test in
+    let then = then .before in let loop = then .loop in
+    let args = then .before .args in
+    sym (formed-bad (args .name .now) (loop .i) (loop-test .taken) (loop .over) (c .before .if1 .taken) (c .if2 .taken)) ∙ loop .inv .1
 
 loop-less : tie.Need-loop-less Inv-loop μ-loop
 loop-less c = search needs
 
 loop-again : tie.Need-loop-again Inv-loop μ-loop
-loop-again c = (omega arith, sym (formed-blank (c .before .before .before .before .before .args .name .now) (c .before .before .before .before .loop .i) (c .before .before .before .loop-test .taken) (c .before .before .before .before .loop .over) (c .before .if1 .taken) (c .if2 .left)) ∙ c .before .before .before .before .loop .inv .1)
+loop-again c =
+    let then = c .before .before .before in let loop-test = then .loop-test in
+    let then = then .before in let loop = then .loop in
+    let args = then .before .args in (
+      omega arith,
+      sym (formed-blank (args .name .now) (loop .i) (loop-test .taken) (loop .over) (c .before .if1 .taken) (c .if2 .left)) ∙ loop .inv .1,
+    )
 
 loop-less-2 : tie.Need-loop-less-2 Inv-loop μ-loop
 loop-less-2 c = search needs
 
 loop-again-2 : tie.Need-loop-again-2 Inv-loop μ-loop
-loop-again-2 c = (omega arith, sym (formed-next (c .before .before .before .before .args .name .now) (c .before .before .before .loop .i) (c .before .before .loop-test .taken) (c .before .before .before .loop .over) (c .if1 .left)) ∙ c .before .before .before .loop .inv .1)
+loop-again-2 c =
+    let then = c .before .before .before in let loop = then .loop in
+    let args = then .before .args in
+    (omega arith, sym (formed-next (args .name .now) (loop .i) (c .before .before .loop-test .taken) (loop .over) (c .if1 .left)) ∙ loop .inv .1)
 
 returns-2 : tie.Need-returns-2 Inv-loop μ-loop
-returns-2 c = sym (formed-end (c .before .before .args .name .now) (c .before .loop .i) (c .before .loop .over) (c .loop-test .left)) ∙ c .before .loop .inv .1
+returns-2 c =
+    let loop = c .before .loop in
+    sym (formed-end (c .before .before .args .name .now) (loop .i) (loop .over) (c .loop-test .left)) ∙ loop .inv .1
 
 pub is-formed-spec : {M : Type 1} → statement M
 is-formed-spec =

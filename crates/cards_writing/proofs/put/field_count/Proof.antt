@@ -10,16 +10,26 @@ is-empty-requires : tie.Need-is-empty-requires
 is-empty-requires c κs = search needs
 
 returns : tie.Need-returns
-returns c = sym (all-written (c .before .before .args .n) (c .before .before .args .r) (eqb-false _ 0 (sym (c .before .is-empty .ensures) ∙ not-true _ (c .if1 .taken))))
+returns c =
+    let args = c .before .before .args in
+    sym (all-written (args .n) (args .r) (eqb-false _ 0 (sym (c .before .is-empty .ensures) ∙ not-true _ (c .if1 .taken))))
 
 is-empty-requires-2 : tie.Need-is-empty-requires-2
 is-empty-requires-2 c κs = search needs
 
 returns-2 : tie.Need-returns-2
-returns-2 c = sym (library-left (c .before .before .before .before .args .n) (c .before .before .before .before .args .r) (eqb-true _ 0 (sym (c .before .before .before .is-empty .ensures) ∙ not-false _ (c .before .before .if1 .left))) (eqb-false _ 0 (sym (c .before .is-empty2 .ensures) ∙ not-true _ (c .if2 .taken))))
+returns-2 c =
+    let then = c .before .before .before in let is-empty = then .is-empty in
+    let args = then .before .args in
+    sym (library-left (args .n) (args .r) (eqb-true _ 0 (sym (is-empty .ensures) ∙ not-false _ (c .before .before .if1 .left)))
+    (eqb-false _ 0 (sym (c .before .is-empty2 .ensures) ∙ not-true _ (c .if2 .taken))))
 
 returns-3 : tie.Need-returns-3
-returns-3 c = sym (both-left (c .before .before .before .before .args .n) (c .before .before .before .before .args .r) (eqb-true _ 0 (sym (c .before .before .before .is-empty .ensures) ∙ not-false _ (c .before .before .if1 .left))) (eqb-true _ 0 (sym (c .before .is-empty2 .ensures) ∙ not-false _ (c .if2 .left))))
+returns-3 c =
+    let then = c .before .before .before in let is-empty = then .is-empty in
+    let args = then .before .args in
+    sym (both-left (args .n) (args .r) (eqb-true _ 0 (sym (is-empty .ensures) ∙ not-false _ (c .before .before .if1 .left)))
+    (eqb-true _ 0 (sym (c .before .is-empty2 .ensures) ∙ not-false _ (c .if2 .left))))
 
 pub field-count-spec : {M : Type 1} → statement M
 field-count-spec =

@@ -15,7 +15,8 @@ use Rattle.cards_writing.proofs.put.put_entries.Statement.{statement}
 use Rattle.cards_writing.proofs.put.put_entries.Tie as tie
 
 abbrev Inv-loop : tie.InvT-loop
-Inv-loop room₀ at f next₀ k₀ room next k = (k ≤ slots) × Going room₀ at (tailText (entryTexts 0 (asksOf f))) room next (tailText (entryTexts k (drop k (asksOf f))))
+Inv-loop room₀ at f next₀ k₀ room next k =
+    (k ≤ slots) × Going room₀ at (tailText (entryTexts 0 (asksOf f))) room next (tailText (entryTexts k (drop k (asksOf f))))
 
 abbrev μ-loop : tie.MeasureT-loop
 μ-loop room₀ at f next₀ k₀ room next k = slots - k
@@ -39,22 +40,45 @@ loop-less : tie.Need-loop-less Inv-loop μ-loop
 loop-less c = search needs
 
 loop-again : tie.Need-loop-again Inv-loop μ-loop
-loop-again c = let l : length (c .before .before .before .before .before .before .before .before .before .before .before .before .before .args .f .units) ≡ counts = search needs in (omega arith, entry-turn (asksOf (c .before .before .before .before .before .before .before .before .before .before .before .before .before .args .f)) (c .before .before .before .before .before .before .before .before .before .before .before .loop .k) (c .before .before .before .before .before .before .before .before .before .number-at .result) (omega arith) (c .before .before .before .before .before .before .before .before .before .number-at .ensures) (c .before .before .before .before .before .before .before .before .if1 .taken) (c .before .before .before .before .before .before .before .before .before .before .before .loop .inv .1) (c .before .before .before .before .before .before .put-byte .ensures) (c .before .before .put-entry .ensures))
+loop-again c =
+    let then = c .before .before .before .before .before .before in let put-byte = then .put-byte in
+    let then = then .before .before in let if1 = then .if1 in
+    let then = then .before in let number-at = then .number-at in
+    let then = then .before .before in let loop = then .loop in
+    let args = then .before .before .args in
+    let l : length (args .f .units) ≡ counts = search needs in (
+      omega arith,
+      entry-turn (asksOf (args .f)) (loop .k) (number-at .result) (omega arith) (number-at .ensures) (if1 .taken) (loop .inv .1)
+          (put-byte .ensures) (c .before .before .put-entry .ensures),
+    )
 
 loop-less-2 : tie.Need-loop-less-2 Inv-loop μ-loop
 loop-less-2 c = search needs
 
 loop-again-2 : tie.Need-loop-again-2 Inv-loop μ-loop
-loop-again-2 c = let l : length (c .before .before .before .before .before .args .f .units) ≡ counts = search needs in (omega arith, entry-skip (asksOf (c .before .before .before .before .before .args .f)) (c .before .before .before .loop .k) (c .before .number-at .result) (omega arith) (c .before .number-at .ensures) (c .if1 .left) (c .before .before .before .loop .inv .1))
+loop-again-2 c =
+    let then = c .before in let number-at = then .number-at in
+    let then = then .before .before in let loop = then .loop in
+    let args = then .before .before .args in
+    let l : length (args .f .units) ≡ counts = search needs in
+    (omega arith, entry-skip (asksOf (args .f)) (loop .k) (number-at .result) (omega arith) (number-at .ensures) (c .if1 .left) (loop .inv .1))
 
 put-byte-requires-2 : tie.Need-put-byte-requires-2 Inv-loop μ-loop
 put-byte-requires-2 c κs = search needs
 
 same-length : tie.Need-same-length Inv-loop μ-loop
-same-length c = let l : length (c .before .before .before .before .before .before .before .args .f .units) ≡ counts = search needs in same-room (entry-end (asksOf (c .before .before .before .before .before .before .before .args .f)) (c .before .before .before .before .before .loop .k) (omega arith) (c .before .before .before .before .before .loop .inv .1) (c .before .before .put-byte2 .ensures))
+same-length c =
+    let then = c .before .before .before .before .before in let loop = then .loop in
+    let args = then .before .before .args in
+    let l : length (args .f .units) ≡ counts = search needs in
+    same-room (entry-end (asksOf (args .f)) (loop .k) (omega arith) (loop .inv .1) (c .before .before .put-byte2 .ensures))
 
 returns : tie.Need-returns Inv-loop μ-loop
-returns c = let l : length (c .before .before .before .before .before .before .before .args .f .units) ≡ counts = search needs in entry-end (asksOf (c .before .before .before .before .before .before .before .args .f)) (c .before .before .before .before .before .loop .k) (omega arith) (c .before .before .before .before .before .loop .inv .1) (c .before .before .put-byte2 .ensures)
+returns c =
+    let then = c .before .before .before .before .before in let loop = then .loop in
+    let args = then .before .before .args in
+    let l : length (args .f .units) ≡ counts = search needs in
+    entry-end (asksOf (args .f)) (loop .k) (omega arith) (loop .inv .1) (c .before .before .put-byte2 .ensures)
 
 pub put-entries-spec : {M : Type 1} → statement M
 put-entries-spec =

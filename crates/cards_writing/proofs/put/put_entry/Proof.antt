@@ -27,7 +27,15 @@ same-length c = search needs
 
 returns : tie.Need-returns
 unfolding entryText
-returns c = rw (← c .before .before .before .before .before .before .before .before .before .before .before .before .before .code-at .ensures, eq-eqb (channelAt (c .before .before .before .before .before .before .before .before .before .before .before .before .before .before .before .before .args .k)) 0 (sym (c .before .before .before .before .before .before .before .before .before .channel-at .ensures) ∙ c .before .before .before .before .before .before .before .before .if1 .taken)) (andThen (c .before .before .before .before .before .before .before .before .before .before .before .before .put-code .ensures) (andThen (c .before .before .before .before .before .before .put-byte .ensures) (c .before .before .put-decimal .ensures)))
+returns c =
+    let then = c .before .before .before .before .before .before in let put-byte = then .put-byte in
+    let then = then .before .before in let if1 = then .if1 in
+    let then = then .before in let channel-at = then .channel-at in
+    let then = then .before .before .before in let put-code = then .put-code in
+    let then = then .before in let code-at = then .code-at in
+    let args = then .before .before .before .args in
+    rw (← code-at .ensures, eq-eqb (channelAt (args .k)) 0 (sym (channel-at .ensures) ∙ if1 .taken))
+    (andThen (put-code .ensures) (andThen (put-byte .ensures) (c .before .before .put-decimal .ensures)))
 
 put-decimal-requires-2 : tie.Need-put-decimal-requires-2
 put-decimal-requires-2 c κs = search needs
@@ -43,7 +51,15 @@ same-length-2 c = search needs
 
 returns-2 : tie.Need-returns-2
 unfolding entryText
-returns-2 c = rw (← c .before .before .before .before .before .before .before .before .before .before .before .before .before .before .before .before .before .code-at .ensures, ← c .before .before .before .before .before .before .before .before .before .before .before .before .before .channel-at .ensures, ne-eqb (c .before .before .before .before .before .before .before .before .before .before .before .before .before .channel-at .result) 0 (c .before .before .before .before .before .before .before .before .before .before .before .before .if1 .left)) (andThen (c .before .before .before .before .before .before .before .before .before .before .before .before .before .before .before .before .put-code .ensures) (andThen (c .before .before .before .before .before .before .before .before .before .before .put-decimal2 .ensures) (andThen (c .before .before .before .before .before .before .put-byte2 .ensures) (c .before .before .put-decimal3 .ensures))))
+returns-2 c =
+    let then = c .before .before .before .before .before .before in let put-byte2 = then .put-byte2 in
+    let then = then .before .before .before .before in let put-decimal2 = then .put-decimal2 in
+    let then = then .before .before in let if1 = then .if1 in
+    let then = then .before in let channel-at = then .channel-at in
+    let then = then .before .before .before in let put-code = then .put-code in
+    let code-at = then .before .code-at in
+    rw (← code-at .ensures, ← channel-at .ensures, ne-eqb (channel-at .result) 0 (if1 .left))
+    (andThen (put-code .ensures) (andThen (put-decimal2 .ensures) (andThen (put-byte2 .ensures) (c .before .before .put-decimal3 .ensures))))
 
 pub put-entry-spec : {M : Type 1} → statement M
 put-entry-spec =

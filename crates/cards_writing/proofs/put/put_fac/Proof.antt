@@ -25,7 +25,10 @@ same-length c = search needs
 
 returns : tie.Need-returns
 unfolding facText
-returns c = andThen (c .before .before .before .before .before .before .before .before .before .before .before .put-name .ensures) (andThen (c .before .before .before .before .before .before .put-bytes .ensures) (c .before .before .put-entries .ensures))
+returns c =
+    let then = c .before .before .before .before .before .before in let put-bytes = then .put-bytes in
+    let put-name = then .before .before .before .before .before .put-name in
+    andThen (put-name .ensures) (andThen (put-bytes .ensures) (c .before .before .put-entries .ensures))
 
 pub put-fac-spec : {M : Type 1} → statement M
 put-fac-spec =

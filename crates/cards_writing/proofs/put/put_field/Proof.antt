@@ -166,7 +166,9 @@ unfolding ptyFields
 returns-14 c = rw (c .before .before .before .before .before .match .keys14) (c .before .before .put-name4 .ensures)
 
 returns-15 : tie.Need-returns-15
-returns-15 c = rw (no-field (c .before .before .before .before .before .before .args .n) (c .before .before .before .before .before .before .args .r) (c .before .before .before .before .before .before .args .k) (missed 14 (c .before .before .before .before .before .before .args .k) (c .match .rest))) (none (c .before .before .before .before .before .before .args .room .now) (c .before .before .before .before .before .before .args .at))
+returns-15 c =
+    let args = c .before .before .before .before .before .before .args in
+    rw (no-field (args .n) (args .r) (args .k) (missed 14 (args .k) (c .match .rest))) (none (args .room .now) (args .at))
 
 pub put-field-spec : {M : Type 1} → statement M
 put-field-spec =

@@ -13,7 +13,9 @@ use Rattle.cards_writing.proofs.put.put_fields.Statement.{statement}
 use Rattle.cards_writing.proofs.put.put_fields.Tie as tie
 
 abbrev Inv-loop : tie.InvT-loop
-Inv-loop room₀ at r n count next₀ k₀ room next k = ((1 ≤ k) × (count ≡ length (trimmed (ptyFields n r)))) × Going room₀ at (tailText (drop 1 (trimmed (ptyFields n r)))) room next (tailText (drop k (trimmed (ptyFields n r))))
+Inv-loop room₀ at r n count next₀ k₀ room next k =
+    ((1 ≤ k) × (count ≡ length (trimmed (ptyFields n r))))
+    × Going room₀ at (tailText (drop 1 (trimmed (ptyFields n r)))) room next (tailText (drop k (trimmed (ptyFields n r))))
 
 abbrev μ-loop : tie.MeasureT-loop
 μ-loop room₀ at r n count next₀ k₀ room next k = count - k
@@ -37,16 +39,28 @@ loop-less : tie.Need-loop-less Inv-loop μ-loop
 loop-less c = search needs
 
 loop-again : tie.Need-loop-again Inv-loop μ-loop
-loop-again c = ((omega arith, c .before .before .before .before .before .before .before .before .before .loop .inv .0 .1), pty-turn (c .before .before .before .before .before .before .before .before .before .before .before .before .args .n) (c .before .before .before .before .before .before .before .before .before .before .before .before .args .r) (c .before .before .before .before .before .before .before .before .before .loop .k) (omega arith) (c .before .before .before .before .before .before .before .before .before .loop .inv .1) (c .before .before .before .before .before .before .put-byte .ensures) (c .before .before .put-field .ensures))
+loop-again c =
+    let then = c .before .before .before .before .before .before in let put-byte = then .put-byte in
+    let then = then .before .before .before in let loop = then .loop in
+    let args = then .before .before .before .args in (
+      (omega arith, loop .inv .0 .1),
+      pty-turn (args .n) (args .r) (loop .k) (omega arith) (loop .inv .1) (put-byte .ensures) (c .before .before .put-field .ensures),
+    )
 
 put-byte-requires-2 : tie.Need-put-byte-requires-2 Inv-loop μ-loop
 put-byte-requires-2 c κs = search needs
 
 same-length : tie.Need-same-length Inv-loop μ-loop
-same-length c = same-room (pty-end (c .before .before .before .before .before .before .before .before .args .n) (c .before .before .before .before .before .before .before .before .args .r) (c .before .before .before .before .before .loop .k) (omega arith) (c .before .before .before .before .before .loop .inv .1) (c .before .before .put-byte2 .ensures))
+same-length c =
+    let then = c .before .before .before .before .before in let loop = then .loop in
+    let args = then .before .before .before .args in
+    same-room (pty-end (args .n) (args .r) (loop .k) (omega arith) (loop .inv .1) (c .before .before .put-byte2 .ensures))
 
 returns : tie.Need-returns Inv-loop μ-loop
-returns c = pty-end (c .before .before .before .before .before .before .before .before .args .n) (c .before .before .before .before .before .before .before .before .args .r) (c .before .before .before .before .before .loop .k) (omega arith) (c .before .before .before .before .before .loop .inv .1) (c .before .before .put-byte2 .ensures)
+returns c =
+    let then = c .before .before .before .before .before in let loop = then .loop in
+    let args = then .before .before .before .args in
+    pty-end (args .n) (args .r) (loop .k) (omega arith) (loop .inv .1) (c .before .before .put-byte2 .ensures)
 
 pub put-fields-spec : {M : Type 1} → statement M
 put-fields-spec =

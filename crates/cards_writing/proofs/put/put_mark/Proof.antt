@@ -15,7 +15,10 @@ same-length : tie.Need-same-length
 same-length c = search needs
 
 returns-2 : tie.Need-returns-2
-returns-2 c = rw (ne-eqb (c .before .before .before .before .before .before .args .mark) 32 (c .before .before .before .before .if1 .left)) (c .before .before .put-byte .ensures)
+returns-2 c =
+    let then = c .before .before .before .before in let if1 = then .if1 in
+    let args = then .before .before .args in
+    rw (ne-eqb (args .mark) 32 (if1 .left)) (c .before .before .put-byte .ensures)
 
 pub put-mark-spec : {M : Type 1} → statement M
 put-mark-spec = tie.close (tie.spec returns put-byte-requires same-length returns-2)

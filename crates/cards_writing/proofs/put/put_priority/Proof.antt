@@ -17,7 +17,11 @@ same-length c = search needs
 
 returns : tie.Need-returns
 unfolding priorityText
-returns c = rw (eq-eqb (c .before .before .before .before .before .before .before .before .before .before .args .r .sequence) 0 (c .before .before .before .before .before .before .before .before .if1 .taken)) (andThen (c .before .before .before .before .before .before .put-byte .ensures) (c .before .before .put-two .ensures))
+returns c =
+    let then = c .before .before .before .before .before .before in let put-byte = then .put-byte in
+    let then = then .before .before in let if1 = then .if1 in
+    let args = then .before .before .args in
+    rw (eq-eqb (args .r .sequence) 0 (if1 .taken)) (andThen (put-byte .ensures) (c .before .before .put-two .ensures))
 
 put-two-requires-2 : tie.Need-put-two-requires-2
 put-two-requires-2 c κs = search needs
@@ -33,7 +37,13 @@ same-length-2 c = search needs
 
 returns-2 : tie.Need-returns-2
 unfolding priorityText
-returns-2 c = rw (ne-eqb (c .before .before .before .before .before .before .before .before .before .before .before .before .before .before .args .r .sequence) 0 (c .before .before .before .before .before .before .before .before .before .before .before .before .if1 .left)) (andThen (c .before .before .before .before .before .before .before .before .before .before .put-two2 .ensures) (andThen (c .before .before .before .before .before .before .put-byte2 .ensures) (c .before .before .put-two3 .ensures)))
+returns-2 c =
+    let then = c .before .before .before .before .before .before in let put-byte2 = then .put-byte2 in
+    let then = then .before .before .before .before in let put-two2 = then .put-two2 in
+    let then = then .before .before in let if1 = then .if1 in
+    let args = then .before .before .args in
+    rw (ne-eqb (args .r .sequence) 0 (if1 .left))
+    (andThen (put-two2 .ensures) (andThen (put-byte2 .ensures) (c .before .before .put-two3 .ensures)))
 
 pub put-priority-spec : {M : Type 1} → statement M
 put-priority-spec =

@@ -15,7 +15,10 @@ same-length : tie.Need-same-length
 same-length c = search needs
 
 returns : tie.Need-returns
-returns c = rw (pty-first (c .before .before .before .before .before .before .before .before .before .args .n) (c .before .before .before .before .before .before .before .before .before .args .r)) (andThen (c .before .before .before .before .before .before .put-field .ensures) (c .before .before .put-fields .ensures))
+returns c =
+    let then = c .before .before .before .before .before .before in let put-field = then .put-field in
+    let args = then .before .before .before .args in
+    rw (pty-first (args .n) (args .r)) (andThen (put-field .ensures) (c .before .before .put-fields .ensures))
 
 pub put-pty-spec : {M : Type 1} → statement M
 put-pty-spec = tie.close (tie.spec put-field-requires put-fields-requires same-length returns)

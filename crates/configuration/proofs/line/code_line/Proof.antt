@@ -23,11 +23,19 @@ returns c = record { is = rw (told (c .before .before .two-digits .ensures) (c .
 
 returns-2 : tie.Need-returns-2
 unfolding codeLine
-returns-2 c = record { is = rw (told (c .before .before .before .before .two-digits .ensures) (c .before .before .n .given .1), lt-leb _ _ (c .if1 .taken)); fits = omega arith }
+returns-2 c =
+    let two-digits = c .before .before .before .before .two-digits in
+    record { is = rw (told (two-digits .ensures) (c .before .before .n .given .1), lt-leb _ _ (c .if1 .taken)); fits = omega arith }
 
 returns-3 : tie.Need-returns-3
 unfolding codeLine
-returns-3 c = record { is = rw (told (c .before .before .before .before .before .two-digits .ensures) (c .before .before .before .n .given .1), le-leb _ _ (c .before .if1 .left), lt-leb _ _ (c .if2 .taken)); fits = omega arith }
+returns-3 c =
+    let then = c .before .before .before in let n = then .n in
+    let two-digits = then .before .before .two-digits in
+    record {
+      is = rw (told (two-digits .ensures) (n .given .1), le-leb _ _ (c .before .if1 .left), lt-leb _ _ (c .if2 .taken));
+      fits = omega arith;
+    }
 
 mul-code : tie.Need-mul-code
 mul-code c = search needs
@@ -40,21 +48,65 @@ is-code-requires c κs = search needs
 
 returns-4 : tie.Need-returns-4
 unfolding codeLine
-returns-4 c = record { is = rw (told (c .before .before .before .before .before .before .before .two-digits .ensures) (c .before .before .before .before .before .n .given .1), le-leb _ _ (c .before .before .before .if1 .left), le-leb _ _ (c .before .before .if2 .left), told (c .before .is-code .ensures) (not-true _ (c .if3 .taken))); fits = omega arith }
+returns-4 c =
+    let then = c .before .before .before in let if1 = then .if1 in
+    let then = then .before .before in let n = then .n in
+    let two-digits = then .before .before .two-digits in
+    record {
+      is = rw (
+        told (two-digits .ensures) (n .given .1),
+        le-leb _ _ (if1 .left),
+        le-leb _ _ (c .before .before .if2 .left),
+        told (c .before .is-code .ensures) (not-true _ (c .if3 .taken)),
+      );
+      fits = omega arith;
+    }
 
 byte-at-requires : tie.Need-byte-at-requires
 byte-at-requires c κs = search needs
 
 returns-5 : tie.Need-returns-5
 unfolding codeLine
-returns-5 c = record { is = rw (told (c .before .before .before .before .before .before .before .before .before .two-digits .ensures) (c .before .before .before .before .before .before .before .n .given .1), le-leb _ _ (c .before .before .before .before .before .if1 .left), le-leb _ _ (c .before .before .before .before .if2 .left), told (c .before .before .before .is-code .ensures) (not-false _ (c .before .before .if3 .left)), ne-eqb _ _ (untold (c .before .byte-at .ensures) (c .if4 .taken))); fits = omega arith }
+returns-5 c =
+    let then = c .before .before .before in let is-code = then .is-code in
+    let then = then .before in let if2 = then .if2 in
+    let then = then .before in let if1 = then .if1 in
+    let then = then .before .before in let n = then .n in
+    let two-digits = then .before .before .two-digits in
+    record {
+      is = rw (
+        told (two-digits .ensures) (n .given .1),
+        le-leb _ _ (if1 .left),
+        le-leb _ _ (if2 .left),
+        told (is-code .ensures) (not-false _ (c .before .before .if3 .left)),
+        ne-eqb _ _ (untold (c .before .byte-at .ensures) (c .if4 .taken)),
+      );
+      fits = omega arith;
+    }
 
 cast-t10 : tie.Need-cast-t10
 cast-t10 c = search needs
 
 returns-6 : tie.Need-returns-6
 unfolding codeLine
-returns-6 c = record { is = rw (told (c .before .before .before .before .before .before .before .before .before .two-digits .ensures) (c .before .before .before .before .before .before .before .n .given .1), le-leb _ _ (c .before .before .before .before .before .if1 .left), le-leb _ _ (c .before .before .before .before .if2 .left), told (c .before .before .before .is-code .ensures) (not-false _ (c .before .before .if3 .left)), eq-eqb _ _ (told (c .before .byte-at .ensures) (c .if4 .left))); fits = (omega arith, omega (arith, there (c .before .before .before .before .before .before .before .before .before .before .before .args .s .now) 2 10 (told (c .before .byte-at .ensures) (c .if4 .left)) (omega arith))) }
+returns-6 c =
+    let then = c .before in let byte-at = then .byte-at in
+    let then = then .before .before in let is-code = then .is-code in
+    let then = then .before in let if2 = then .if2 in
+    let then = then .before in let if1 = then .if1 in
+    let then = then .before .before in let n = then .n in
+    let then = then .before .before in let two-digits = then .two-digits in
+    let args = then .before .before .args in
+    record {
+      is = rw (
+        told (two-digits .ensures) (n .given .1),
+        le-leb _ _ (if1 .left),
+        le-leb _ _ (if2 .left),
+        told (is-code .ensures) (not-false _ (c .before .before .if3 .left)),
+        eq-eqb _ _ (told (byte-at .ensures) (c .if4 .left)),
+      );
+      fits = (omega arith, omega (arith, there (args .s .now) 2 10 (told (byte-at .ensures) (c .if4 .left)) (omega arith)));
+    }
 
 pub code-line-spec : {M : Type 1} → statement M
 code-line-spec =

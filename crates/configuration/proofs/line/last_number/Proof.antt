@@ -27,21 +27,50 @@ returns-2 c = rw (told (c .before .before .before .before .decimal .ensures) (c 
 
 returns-3 : tie.Need-returns-3
 unfolding lastNumber
-returns-3 c = rw (told (c .before .before .before .before .before .decimal .ensures) (c .before .before .before .n .given .1), le-leb _ _ (c .before .if1 .left), lt-leb _ _ (c .if2 .taken))
+returns-3 c =
+    let then = c .before .before .before in let n = then .n in
+    let decimal = then .before .before .decimal in
+    rw (told (decimal .ensures) (n .given .1), le-leb _ _ (c .before .if1 .left), lt-leb _ _ (c .if2 .taken))
 
 byte-at-requires : tie.Need-byte-at-requires
 byte-at-requires c κs = search needs
 
 add-t9 : tie.Need-add-t9
-add-t9 c = record { fits = omega (arith, there (c .before .before .before .before .before .before .before .before .before .args .s .now) (c .before .before .before .before .before .n .given .0 .1 .0) 10 (told (c .before .byte-at .ensures) (c .if3 .taken)) (omega arith)) }
+add-t9 c =
+    let then = c .before .before .before .before .before in let n = then .n in
+    let args = then .before .before .before .before .args in
+    record {
+      fits = omega (
+        arith,
+        there (args .s .now) (n .given .0 .1 .0) 10 (told (c .before .byte-at .ensures) (c .if3 .taken)) (omega arith),
+      );
+    }
 
 returns-4 : tie.Need-returns-4
 unfolding lastNumber
-returns-4 c = rw (told (c .before .before .before .before .before .before .before .decimal .ensures) (c .before .before .before .before .before .n .given .1), le-leb _ _ (c .before .before .before .if1 .left), le-leb _ _ (c .before .before .if2 .left), eq-eqb _ _ (told (c .before .byte-at .ensures) (c .if3 .taken)))
+returns-4 c =
+    let then = c .before .before .before in let if1 = then .if1 in
+    let then = then .before .before in let n = then .n in
+    let decimal = then .before .before .decimal in
+    rw (
+      told (decimal .ensures) (n .given .1),
+      le-leb _ _ (if1 .left),
+      le-leb _ _ (c .before .before .if2 .left),
+      eq-eqb _ _ (told (c .before .byte-at .ensures) (c .if3 .taken)),
+    )
 
 returns-5 : tie.Need-returns-5
 unfolding lastNumber
-returns-5 c = rw (told (c .before .before .before .before .before .before .before .decimal .ensures) (c .before .before .before .before .before .n .given .1), le-leb _ _ (c .before .before .before .if1 .left), le-leb _ _ (c .before .before .if2 .left), ne-eqb _ _ (untold (c .before .byte-at .ensures) (c .if3 .left)))
+returns-5 c =
+    let then = c .before .before .before in let if1 = then .if1 in
+    let then = then .before .before in let n = then .n in
+    let decimal = then .before .before .decimal in
+    rw (
+      told (decimal .ensures) (n .given .1),
+      le-leb _ _ (if1 .left),
+      le-leb _ _ (c .before .before .if2 .left),
+      ne-eqb _ _ (untold (c .before .byte-at .ensures) (c .if3 .left)),
+    )
 
 pub last-number-spec : {M : Type 1} → statement M
 last-number-spec =

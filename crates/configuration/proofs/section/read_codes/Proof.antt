@@ -17,7 +17,9 @@ use Rattle.configuration.proofs.section.read_codes.Statement.{statement
 use Rattle.configuration.proofs.section.read_codes.Tie as tie
 
 abbrev Inv-loop : tie.InvT-loop
-Inv-loop s count first start of₀ left₀ line₀ at₀ next₀ of left line at next = ((of < 2 ^ next) × (next ≤ 64)) × At codeSection s count first start (record { next = 0; of = noCodes }) left line at (record { next = next; of = of })
+Inv-loop s count first start of₀ left₀ line₀ at₀ next₀ of left line at next =
+    ((of < 2 ^ next) × (next ≤ 64)) × At codeSection s count first start (record { next = 0; of = noCodes }) left line at
+    (record { next = next; of = of })
 
 abbrev μ-loop : tie.MeasureT-loop
 μ-loop s count first start of₀ left₀ line₀ at₀ next₀ of left line at next = left
@@ -47,28 +49,72 @@ bad-codes-requires : tie.Need-bad-codes-requires Inv-loop μ-loop
 bad-codes-requires c κs = search needs
 
 returns : tie.Need-returns Inv-loop μ-loop
-returns c = at-stop (c .before .before .before .before .before .before .loop .inv .1) (c .before .before .before .before .before .loop-test .taken) (codes-wrong (told (line-is (c .before .before .before .before .before .before .before .before .args .s .now) (c .before .before .before .before .before .before .loop .at) codeLine (c .before .before .before .code-line .ensures .is)) (c .before .enum-told .given .1))) (c .bad-codes .ensures) .is
+returns c =
+    let then = c .before .before .before in let code-line = then .code-line in
+    let then = then .before .before in let loop-test = then .loop-test in
+    let then = then .before in let loop = then .loop in
+    let args = then .before .before .args in
+    at-stop (loop .inv .1) (loop-test .taken)
+    (codes-wrong (told (line-is (args .s .now) (loop .at) codeLine (code-line .ensures .is)) (c .before .enum-told .given .1)))
+    (c .bad-codes .ensures) .is
 
 bad-codes-requires-2 : tie.Need-bad-codes-requires-2 Inv-loop μ-loop
 bad-codes-requires-2 c κs = search needs
 
 returns-2 : tie.Need-returns-2 Inv-loop μ-loop
-returns-2 c = at-stop (c .before .before .before .before .before .before .before .before .loop .inv .1) (c .before .before .before .before .before .before .before .loop-test .taken) (codes-refused (told (line-is (c .before .before .before .before .before .before .before .before .before .before .args .s .now) (c .before .before .before .before .before .before .before .before .loop .at) codeLine (c .before .before .before .before .before .code-line .ensures .is)) (c .before .before .before .code .given .1)) (lt-leb _ _ (c .before .if1 .taken))) (c .bad-codes2 .ensures) .is
+returns-2 c =
+    let then = c .before .before .before in let code = then .code in
+    let then = then .before .before in let code-line = then .code-line in
+    let then = then .before .before in let loop-test = then .loop-test in
+    let then = then .before in let loop = then .loop in
+    let args = then .before .before .args in
+    at-stop (loop .inv .1) (loop-test .taken)
+    (codes-refused (told (line-is (args .s .now) (loop .at) codeLine (code-line .ensures .is)) (code .given .1))
+    (lt-leb _ _ (c .before .if1 .taken)))
+    (c .bad-codes2 .ensures) .is
 
 cast-of : tie.Need-cast-of Inv-loop μ-loop
 cast-of c = search needs
 
 shl-of : tie.Need-shl-of Inv-loop μ-loop
-shl-of c = omega (arith, line-fits (c .before .before .before .before .before .before .before .before .before .args .s .now) (c .before .before .before .before .before .before .before .loop .at) codeFits (c .before .before .before .before .code-line .ensures .fits) (c .before .before .code .given .1))
+shl-of c =
+    let then = c .before .before .before .before in let code-line = then .code-line in
+    let then = then .before .before .before in let loop = then .loop in
+    let args = then .before .before .args in
+    omega (arith, line-fits (args .s .now) (loop .at) codeFits (code-line .ensures .fits) (c .before .before .code .given .1))
 
 add-of : tie.Need-add-of Inv-loop μ-loop
-add-of c = record { fits = rw (shifted (c .before .before .code .given .0 .0) (line-fits (c .before .before .before .before .before .before .before .before .before .args .s .now) (c .before .before .before .before .before .before .before .loop .at) codeFits (c .before .before .before .before .code-line .ensures .fits) (c .before .before .code .given .1) .0)) (in-word (c .before .before .before .before .before .before .before .loop .of) (c .before .before .before .before .before .before .before .loop .next) (c .before .before .code .given .0 .0) (c .before .before .before .before .before .before .before .loop .inv .0 .0) (c .if1 .left) (line-fits (c .before .before .before .before .before .before .before .before .before .args .s .now) (c .before .before .before .before .before .before .before .loop .at) codeFits (c .before .before .before .before .code-line .ensures .fits) (c .before .before .code .given .1) .0)) }
+add-of c =
+    let then = c .before .before in let code = then .code in
+    let then = then .before .before in let code-line = then .code-line in
+    let then = then .before .before .before in let loop = then .loop in
+    let args = then .before .before .args in
+    record {
+      fits = rw
+          (shifted (code .given .0 .0) (line-fits (args .s .now) (loop .at) codeFits (code-line .ensures .fits) (code .given .1) .0))
+          (in-word (loop .of) (loop .next) (code .given .0 .0) (loop .inv .0 .0) (c .if1 .left)
+          (line-fits (args .s .now) (loop .at) codeFits (code-line .ensures .fits) (code .given .1) .0));
+    }
 
 add-next : tie.Need-add-next Inv-loop μ-loop
-add-next c = record { fits = omega (arith, line-fits (c .before .before .before .before .before .before .before .before .before .args .s .now) (c .before .before .before .before .before .before .before .loop .at) codeFits (c .before .before .before .before .code-line .ensures .fits) (c .before .before .code .given .1)) }
+add-next c =
+    let then = c .before .before .before .before in let code-line = then .code-line in
+    let then = then .before .before .before in let loop = then .loop in
+    let args = then .before .before .args in
+    record { fits = omega (arith, line-fits (args .s .now) (loop .at) codeFits (code-line .ensures .fits) (c .before .before .code .given .1)) }
 
 add-at : tie.Need-add-at Inv-loop μ-loop
-add-at c = record { fits = omega (arith, line-fits (c .before .before .before .before .before .before .before .before .before .args .s .now) (c .before .before .before .before .before .before .before .loop .at) codeFits (c .before .before .before .before .code-line .ensures .fits) (c .before .before .code .given .1), c .before .before .before .before .before .before .before .loop .inv .1 .within) }
+add-at c =
+    let then = c .before .before .before .before in let code-line = then .code-line in
+    let then = then .before .before .before in let loop = then .loop in
+    let args = then .before .before .args in
+    record {
+      fits = omega (
+        arith,
+        line-fits (args .s .now) (loop .at) codeFits (code-line .ensures .fits) (c .before .before .code .given .1),
+        loop .inv .1 .within,
+      );
+    }
 
 add-line : tie.Need-add-line Inv-loop μ-loop
 add-line c = search needs
@@ -80,7 +126,22 @@ loop-less : tie.Need-loop-less Inv-loop μ-loop
 loop-less c = search needs
 
 loop-again : tie.Need-loop-again Inv-loop μ-loop
-loop-again c = ((rw (shifted (c .before .before .code .given .0 .0) (line-fits (c .before .before .before .before .before .before .before .before .before .args .s .now) (c .before .before .before .before .before .before .before .loop .at) codeFits (c .before .before .before .before .code-line .ensures .fits) (c .before .before .code .given .1) .0)) (add-below (c .before .before .before .before .before .before .before .loop .of) (c .before .before .before .before .before .before .before .loop .next) (c .before .before .code .given .0 .0) (c .before .before .before .before .before .before .before .loop .inv .0 .0) (c .if1 .left)), omega (arith, line-fits (c .before .before .before .before .before .before .before .before .before .args .s .now) (c .before .before .before .before .before .before .before .loop .at) codeFits (c .before .before .before .before .code-line .ensures .fits) (c .before .before .code .given .1))), rw (shifted (c .before .before .code .given .0 .0) (line-fits (c .before .before .before .before .before .before .before .before .before .args .s .now) (c .before .before .before .before .before .before .before .loop .at) codeFits (c .before .before .before .before .code-line .ensures .fits) (c .before .before .code .given .1) .0)) (at-turn (c .before .before .before .before .before .before .before .loop .inv .1) (c .before .before .before .before .before .before .loop-test .taken) (codes-go (told (line-is (c .before .before .before .before .before .before .before .before .before .args .s .now) (c .before .before .before .before .before .before .before .loop .at) codeLine (c .before .before .before .before .code-line .ensures .is)) (c .before .before .code .given .1)) (le-leb _ _ (c .if1 .left))) (line-fits (c .before .before .before .before .before .before .before .before .before .args .s .now) (c .before .before .before .before .before .before .before .loop .at) codeFits (c .before .before .before .before .code-line .ensures .fits) (c .before .before .code .given .1) .1)))
+loop-again c =
+    let then = c .before .before in let code = then .code in
+    let then = then .before .before in let code-line = then .code-line in
+    let then = then .before .before in let loop-test = then .loop-test in
+    let then = then .before in let loop = then .loop in
+    let args = then .before .before .args in (
+      (
+        rw (shifted (code .given .0 .0) (line-fits (args .s .now) (loop .at) codeFits (code-line .ensures .fits) (code .given .1) .0))
+            (add-below (loop .of) (loop .next) (code .given .0 .0) (loop .inv .0 .0) (c .if1 .left)),
+        omega (arith, line-fits (args .s .now) (loop .at) codeFits (code-line .ensures .fits) (code .given .1)),
+      ),
+      rw (shifted (code .given .0 .0) (line-fits (args .s .now) (loop .at) codeFits (code-line .ensures .fits) (code .given .1) .0))
+          (at-turn (loop .inv .1) (loop-test .taken)
+          (codes-go (told (line-is (args .s .now) (loop .at) codeLine (code-line .ensures .is)) (code .given .1)) (le-leb _ _ (c .if1 .left)))
+          (line-fits (args .s .now) (loop .at) codeFits (code-line .ensures .fits) (code .given .1) .1)),
+    )
 
 returns-3 : tie.Need-returns-3 Inv-loop μ-loop
 unfolding codesFrom

@@ -18,13 +18,19 @@ relisted-with-requires : tie.Need-relisted-with-requires
 relisted-with-requires c κs = search needs
 
 returns : tie.Need-returns
-returns c = λ h. rw (sym (c .before .before .is-listing .ensures) ∙ c .before .if1 .taken, ← listed-is (c .before .before .before .before .args .old .now) (c .before .before .before .before .args .count) h) (c .relisted-with .ensures)
+returns c =
+    let args = c .before .before .before .before .args in
+    λ h. rw (sym (c .before .before .is-listing .ensures) ∙ c .before .if1 .taken, ← listed-is (args .old .now) (args .count) h)
+    (c .relisted-with .ensures)
 
 relisted-requires : tie.Need-relisted-requires
 relisted-requires c κs = search needs
 
 returns-2 : tie.Need-returns-2
-returns-2 c = λ h. rw (sym (c .before .before .is-listing .ensures) ∙ c .before .if1 .left, ← listed-is (c .before .before .before .before .args .old .now) (c .before .before .before .before .args .count) h) (c .relisted .ensures .is)
+returns-2 c =
+    let args = c .before .before .before .before .args in
+    λ h. rw (sym (c .before .before .is-listing .ensures) ∙ c .before .if1 .left, ← listed-is (args .old .now) (args .count) h)
+    (c .relisted .ensures .is)
 
 pub list-of-spec : {M : Type 1} → statement M
 list-of-spec =

@@ -24,7 +24,9 @@ returns-2 : tie.Need-returns-2
 returns-2 c = rw (c .enum-told .given .1)
 
 returns-3 : tie.Need-returns-3
-returns-3 c = rw (c .before .before .before .before .motion .given .1, eq-eqb _ _ (c .before .before .if1 .left)) (c .is-at .ensures ∙ rw (c .before .packet-in .ensures))
+returns-3 c =
+    let motion = c .before .before .before .before .motion in
+    rw (motion .given .1, eq-eqb _ _ (c .before .before .if1 .left)) (c .is-at .ensures ∙ rw (c .before .packet-in .ensures))
 
 pub moves-at-spec : {M : Type 1} → statement M
 moves-at-spec =

@@ -18,11 +18,14 @@ freed-at-requires : tie.Need-freed-at-requires
 freed-at-requires c κs = search needs
 
 returns : tie.Need-returns
-returns c = let a = c .before .before .before .args in
-    let shut : c .before .before .if1 .next ≡ unitsFrom (cond (a .breaking) (setLock (a .units .of) (a .c .0) (a .at) true) (a .units .of)) =
-    ⊎-elim (λ t. rw (t .0 .taken) (t .2 ∙ t .1 .ensures)) (λ t. rw (t .0 .left) (t .1)) (c .before .before .if1 .came) in
-    let left : c .before .if2 .next ≡ unitsFrom (cond (a .done) (releaseAll (c .before .before .if1 .next .of) (a .j)) (c .before .before .if1 .next .of)) =
-    ⊎-elim (λ t. rw (t .0 .taken) (t .2 ∙ t .1 .ensures)) (λ t. rw (t .0 .left) (t .1)) (c .before .if2 .came) in
+returns c =
+    let then = c .before in let if2 = then .if2 in
+    let then = then .before in let if1 = then .if1 in
+    let a = then .before .args in
+    let shut : if1 .next ≡ unitsFrom (cond (a .breaking) (setLock (a .units .of) (a .c .0) (a .at) true) (a .units .of)) =
+    ⊎-elim (λ t. rw (t .0 .taken) (t .2 ∙ t .1 .ensures)) (λ t. rw (t .0 .left) (t .1)) (if1 .came) in
+    let left : if2 .next ≡ unitsFrom (cond (a .done) (releaseAll (if1 .next .of) (a .j)) (if1 .next .of)) =
+    ⊎-elim (λ t. rw (t .0 .taken) (t .2 ∙ t .1 .ensures)) (λ t. rw (t .0 .left) (t .1)) (if2 .came) in
     rw (c .freed-at .ensures, left, shut)
 
 pub units-of-spec : {M : Type 1} → statement M

@@ -13,10 +13,14 @@ is-running-requires : tie.Need-is-running-requires
 is-running-requires c κs = search needs
 
 returns-2 : tie.Need-returns-2
-returns-2 c = rw (lt-ltb (c .before .before .before .args .j) 16 (omega (arith, c .before .before .if1 .left)), sym (c .before .is-running .ensures) ∙ not-true _ (c .if2 .taken))
+returns-2 c =
+    let args = c .before .before .before .args in
+    rw (lt-ltb (args .j) 16 (omega (arith, c .before .before .if1 .left)), sym (c .before .is-running .ensures) ∙ not-true _ (c .if2 .taken))
 
 returns-3 : tie.Need-returns-3
-returns-3 c = rw (lt-ltb (c .before .before .before .args .j) 16 (omega (arith, c .before .before .if1 .left)), sym (c .before .is-running .ensures) ∙ not-false _ (c .if2 .left))
+returns-3 c =
+    let args = c .before .before .before .args in
+    rw (lt-ltb (args .j) 16 (omega (arith, c .before .before .if1 .left)), sym (c .before .is-running .ensures) ∙ not-false _ (c .if2 .left))
 
 pub of-end-spec : {M : Type 1} → statement M
 of-end-spec = tie.close (tie.spec returns is-running-requires returns-2 returns-3)
