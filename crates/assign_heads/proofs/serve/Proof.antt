@@ -29,9 +29,9 @@ give-requires c κs = owners-logical (c .owners .ensures)
 
 returns-2 : tie.Need-returns-2
 returns-2 c =
-    let then = c .before .before .before .before .before in let choose = then .choose in
-    let then = then .before in let free-counts = then .free-counts in
-    let args = then .before .before .args in
+    let choose = c .before .before .before .before .before .choose in
+    let free-counts = c .before .before .before .before .before .before .free-counts in
+    let args = c .before .before .before .before .before .before .before .before .args in
     chosen (omega arith) (search needs) (free-counts .ensures)
     (found-least (free-counts .result) (args .wants) (choose .result) (not-false (choose .result .ok) (c .before .before .if1 .left))
     (choose .ensures))
