@@ -4,9 +4,12 @@
 //! them back.
 
 pub mod calls;
+pub mod clock;
 pub mod heads;
+pub mod help;
 pub mod journal;
 pub mod process;
+pub mod replay;
 pub mod run;
 mod sheets;
 pub mod stack;
@@ -14,5 +17,8 @@ pub mod standing;
 pub mod store;
 mod sum;
 pub mod svg;
+pub mod time;
 pub mod tracks;
+mod watch;
 pub mod who;
+pub mod words;

@@ -2,70 +2,75 @@
 
 use std::ffi::OsString;
 use std::io::Write;
-use std::path::Path;
+use std::path::{Path, PathBuf};
 use std::process::ExitCode;
 
 use night::run::{run_here, Options};
-use night::{stack, standing, store, svg, tracks, who};
-
-const USAGE: &str = "usage: night run --journal FILE [--shift PROGRAM] CONFIG
-       night show --journal FILE [--sheet K]
-       night who --journal FILE cc uu N";
+use night::store::Opening;
+use night::words::{self, Asked, Failure, Words};
+use night::{help, stack, standing, store, svg, tracks, who};
 
 fn main() -> ExitCode {
-    let outcome = night(&mut std::env::args_os().skip(1).collect());
-    let Err(message) = outcome else { return ExitCode::SUCCESS };
+    let (message, status) = match night(std::env::args_os().skip(1).collect()) {
+        Ok(()) => return ExitCode::SUCCESS,
+        Err(Failure::InError) => return ExitCode::FAILURE,
+        Err(Failure::Failed(message)) => (message, 1),
+        Err(Failure::Use(message)) => (message, 2),
+    };
     eprintln!("night: {message}");
-    ExitCode::from(if message == USAGE { 2 } else { 1 })
+    ExitCode::from(status)
 }
 
-fn night(words: &mut Vec<OsString>) -> Result<(), String> {
-    let journal = option(words, "--journal")?.ok_or(USAGE)?;
-    let program = option(words, "--shift")?;
-    let sheet = option(words, "--sheet")?;
-    let (command, rest) = words.split_first().ok_or(USAGE)?;
-    match (command.to_str(), rest) {
-        (Some("run"), [configuration]) if sheet.is_none() => {
-            stack::check()?;
-            let program = program.map(Into::into).or_else(|| standing::beside("shift"));
-            let program = program.ok_or("where the shift program stands cannot be told: name it with --shift")?;
-            run_here(&Options { journal: journal.into(), configuration: configuration.into(), program })
-        }
-        (Some("show"), []) if program.is_none() => {
-            let sheet = sheet.map(|sheet| number(&sheet)).transpose()?;
-            show(journal.as_ref(), sheet)
-        }
-        (Some("who"), [channel, unit, call]) if program.is_none() && sheet.is_none() => {
-            let (channel, unit, call) = (number(channel)?, number(unit)?, number(call)?);
-            let journal = store::look_at(journal.as_ref())?;
-            give_out(&(who::who(&journal, channel, unit, call)? + "\n"))
-        }
-        _ => Err(USAGE.into()),
+fn night(words: Vec<OsString>) -> Result<(), Failure> {
+    let words = match words::read(words)? {
+        Asked::Help(command) => return Ok(give_out(&help::page(command))?),
+        Asked::Version => return Ok(give_out(&format!("night {}\n", standing::version()))?),
+        Asked::Command(words) => words,
+    };
+    match words.command.name {
+        "run" => run(&words),
+        "show" => show(&words),
+        _ => who(&words),
     }
 }
 
-/// Takes an option and its value out of the words.
-fn option(words: &mut Vec<OsString>, name: &str) -> Result<Option<OsString>, String> {
-    let Some(at) = words.iter().position(|word| word == name) else { return Ok(None) };
-    words.remove(at);
-    if at == words.len() {
-        return Err(USAGE.into());
-    }
-    Ok(Some(words.remove(at)))
+fn shift(words: &Words) -> Result<PathBuf, Failure> {
+    let named = words.option("--shift").map(PathBuf::from).or_else(|| standing::beside("shift"));
+    Ok(named.ok_or("where the shift program stands cannot be told: name it with --shift")?)
 }
 
-fn number<N: std::str::FromStr>(word: &OsString) -> Result<N, String> {
-    let number = word.to_str().and_then(|word| word.parse().ok());
-    number.ok_or_else(|| format!("{} is no number", word.to_string_lossy()))
+fn run(words: &Words) -> Result<(), Failure> {
+    let journal = words.needed("--journal")?.into();
+    words.exclude("--new", "--resume")?;
+    let [configuration] = words.rest(["CONFIG"])?;
+    let opening = match (words.has("--new"), words.has("--resume")) {
+        (true, _) => Opening::New,
+        (_, true) => Opening::Resume,
+        _ => Opening::Any,
+    };
+    let program = shift(words)?;
+    stack::check()?;
+    Ok(run_here(&Options { journal, configuration: configuration.into(), program, opening })?)
 }
 
-fn show(path: &Path, sheet: Option<usize>) -> Result<(), String> {
+fn show(words: &Words) -> Result<(), Failure> {
+    let path: &Path = words.needed("--journal")?.as_ref();
+    let [] = words.rest([])?;
+    let sheet = words.option("--sheet").map(|word| words.number("--sheet", word)).transpose()?;
     let journal = store::look_at(path)?;
     let configuration = journal.configuration.as_deref().ok_or("the journal has no configuration yet")?;
     let tracks = tracks::tracks(configuration, &journal.calls).ok_or("the journal's configuration cannot be read")?;
     let word = |shown: String| shown.split(' ').next().unwrap_or_default().to_string();
     let words: Vec<String> = journal.calls.iter().map(|answered| word(answered.call.shown())).collect();
-    give_out(&svg::picture(&tracks, &words, sheet)?)
+    Ok(give_out(&svg::picture(&tracks, &words, sheet)?)?)
+}
+
+fn who(words: &Words) -> Result<(), Failure> {
+    let path: &Path = words.needed("--journal")?.as_ref();
+    let [channel, unit, call] = words.rest(["cc", "uu", "N"])?;
+    let (channel, unit) = (words.number("the channel", channel)?, words.number("the unit", unit)?);
+    let call = words.number("the call", call)?;
+    Ok(give_out(&(who::who(&store::look_at(path)?, channel, unit, call)? + "\n"))?)
 }
 
 fn give_out(text: &str) -> Result<(), String> {

@@ -1,6 +1,7 @@
 //! Any bytes on standard input and in the journal are answered, and never by a crash.
 
-use night::journal::{write_beginning, write_record};
+use night::journal::{write_beginning, write_record, Origin};
+use night::time::Time;
 use ordinary::shift::converse;
 
 use crate::random::{damage, Random, ODD_BYTES};
@@ -97,7 +98,6 @@ fn any_record_is_read_or_refused() {
         "+",
         "-",
         ">",
-        "=4 0",
         "ACK",
         "SELECT",
         "START",
@@ -118,9 +118,10 @@ fn any_record_is_read_or_refused() {
     for _ in 0..20_000 {
         let mut body: String = (0..random.below(30)).map(|_| *random.pick(&words)).collect();
         if random.percent(80) {
-            body = format!("<1 {body}\n>ACK {}\n=4 0\n", body.replace('\n', " "));
+            body = format!("<1 {body}\n>ACK {}\n", body.replace('\n', " "));
         }
-        let bytes = [write_beginning(CONFIGURATION), write_record(1, body.as_bytes())].concat();
+        let (beginning, chain) = write_beginning(&Origin { script: 7, program: 1 }, Time(1), CONFIGURATION);
+        let bytes = [beginning, write_record(chain, 1, Time(2), body.as_bytes()).0].concat();
         let Ok(journal) = night::journal::read(&bytes) else { continue };
         read += 1;
         let drawn = night::tracks::tracks(CONFIGURATION, &journal.calls).unwrap();

@@ -34,7 +34,10 @@ mod scripts;
 
 mod any_bytes;
 mod disk;
+mod foreign;
 mod kills;
 mod looked_at;
 mod recovery;
+mod start;
 mod support;
+mod torn;
