@@ -23,39 +23,41 @@ pub struct Sort {
     pub extent: Extent,
     /// It only asks: it is answered and not written into the journal.
     pub asks: bool,
+    /// The request of document 02 that brings it; 0 for none.
+    pub since: u32,
 }
 
-const fn line(word: &'static str, fields: &'static str) -> Sort {
-    Sort { word, fields, extent: Extent::Line, asks: false }
+const fn line(word: &'static str, fields: &'static str, since: u32) -> Sort {
+    Sort { word, fields, extent: Extent::Line, asks: false, since }
 }
 
-const fn asks(word: &'static str, fields: &'static str) -> Sort {
-    Sort { word, fields, extent: Extent::Line, asks: true }
+const fn asks(word: &'static str, fields: &'static str, since: u32) -> Sort {
+    Sort { word, fields, extent: Extent::Line, asks: true, since }
 }
 
 /// All calls. One that the program answers and that is not here is taken for a line that changes something, so a new
 /// call has to be put here if it only asks or has several lines, and into `heads.rs` if it changes holdings or marks.
 pub const SORTS: [Sort; 20] = [
-    Sort { word: "DECK", fields: "", extent: Extent::Deck, asks: false },
-    line("SELECT", ""),
-    line("SUBMIT", "p k ff cc x [h]"),
-    line("START", "cc"),
-    line("DONE", "cc"),
-    line("CUT", "cc"),
-    line("FAIL", "cc ff"),
-    line("RETURN", "p cc uu"),
-    line("END", "p"),
-    line("ABORT", "p"),
-    line("DOWN", "cc uu"),
-    line("UP", "cc uu"),
-    line("RESERVE", "cc uu"),
-    line("UNRESERVE", "cc uu"),
-    line("RELEASE", "id"),
-    line("DELETE", "id"),
-    line("KEY", "message"),
-    asks("STATUS", "p k"),
-    asks("BOARD", ""),
-    asks("TIMES", ""),
+    Sort { word: "DECK", fields: "", extent: Extent::Deck, asks: false, since: 0 },
+    line("SELECT", "", 0),
+    line("SUBMIT", "p k ff cc x [h]", 0),
+    line("START", "cc", 0),
+    line("DONE", "cc", 0),
+    line("CUT", "cc", 0),
+    line("FAIL", "cc ff", 0),
+    line("RETURN", "p cc uu", 5),
+    line("END", "p", 0),
+    line("ABORT", "p", 0),
+    line("DOWN", "cc uu", 0),
+    line("UP", "cc uu", 0),
+    line("RESERVE", "cc uu", 0),
+    line("UNRESERVE", "cc uu", 0),
+    line("RELEASE", "id", 0),
+    line("DELETE", "id", 0),
+    line("KEY", "message", 1),
+    asks("STATUS", "p k", 0),
+    asks("BOARD", "", 0),
+    asks("TIMES", "", 11),
 ];
 
 /// The sort of call that a line is of, by its first word.

@@ -1,7 +1,7 @@
 //! `night run`: the shift program with a journal beneath it, spoken to as the program itself.
 
 use std::fs::File;
-use std::io::{self, ErrorKind, Read, Write};
+use std::io::{self, ErrorKind, IsTerminal, Read, Write};
 use std::path::{Path, PathBuf};
 
 use crate::calls::{Call, Gathering};
@@ -10,6 +10,7 @@ use crate::process::{self, Process, DEATHS};
 use crate::replay::{play, revive};
 use crate::standing;
 use crate::store::{Opening, Store};
+use crate::terminal;
 
 /// The most calls of one record. Their answers are held back until all of them are on the disk.
 const TOGETHER: usize = 256;
@@ -235,7 +236,11 @@ impl<W> Drop for Night<W> {
     }
 }
 
-/// The night's own input and output.
+/// The night's own input and output. At a terminal there is more to say.
 pub fn run_here(options: &Options) -> Result<(), String> {
-    run(options, io::stdin().lock(), io::stdout().lock())
+    let (input, output) = (io::stdin().lock(), io::stdout().lock());
+    if input.is_terminal() && output.is_terminal() {
+        return terminal::talk(&mut Night::begin(options, output)?, input);
+    }
+    run(options, input, output)
 }

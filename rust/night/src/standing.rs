@@ -35,9 +35,9 @@ pub fn proved(this: &Path) -> Option<PathBuf> {
 /// How many requests of document 02 the shift program has: what its script can say.
 pub const SCRIPT: u32 = 7;
 
-/// The version of what is installed.
-pub fn version() -> String {
-    format!("{}, for scripts with {SCRIPT} requests", env!("CARGO_PKG_VERSION"))
+/// The line that says the version of an installed program.
+pub fn version(name: &str) -> String {
+    format!("{name} (Luffgravel) {}, with {SCRIPT} requests\n", env!("CARGO_PKG_VERSION"))
 }
 
 /// What a journal says of the program that it is begun with. The program that is started first from `bin` only looks at

@@ -130,9 +130,11 @@ impl Words {
         self.options.iter().find(|(given, _)| *given == name).map(|(_, value)| value)
     }
 
-    /// The value of an option that has to be there.
-    pub fn needed(&self, name: &str) -> Result<&OsString, Failure> {
-        self.option(name).ok_or_else(|| self.wrong(&format!("{name} {} is missing", help::value_of(name))))
+    /// The journal: as the option names it, or the environment.
+    pub fn journal(&self) -> Result<OsString, Failure> {
+        let named = self.option("--journal").cloned();
+        let named = named.or_else(|| std::env::var_os("NIGHT_JOURNAL").filter(|name| !name.is_empty()));
+        named.ok_or_else(|| self.wrong("--journal FILE is missing, and NIGHT_JOURNAL names none"))
     }
 
     /// Not both of two options.

@@ -2,6 +2,7 @@
 
 use night::journal::{write_beginning, write_record, Origin};
 use night::time::Time;
+use night::who::{self, Question};
 use ordinary::shift::converse;
 
 use crate::random::{damage, Random, ODD_BYTES};
@@ -127,7 +128,14 @@ fn any_record_is_read_or_refused() {
         let drawn = night::tracks::tracks(CONFIGURATION, &journal.calls).unwrap();
         let words = vec!["<&>".to_string(); journal.calls.len()];
         assert!(night::svg::picture(&drawn, &words, None).unwrap().ends_with("</svg>\n"));
-        night::who::who(&journal, 3, 0, journal.calls.len()).unwrap();
+        for calls in [None, Some(journal.calls.len())] {
+            let question = Question { head: Some((3, 0)), job: None, calls };
+            assert!(who::answer(&journal, &question, false).unwrap().ends_with('\n'));
+            who::answer(&journal, &question, true).unwrap();
+        }
+        let all = || 0..journal.calls.len();
+        assert_eq!(night::log::objects(&journal, all()).lines().count(), journal.calls.len());
+        night::log::text(&journal, all());
     }
     assert!(read > 1000, "{read}");
 }

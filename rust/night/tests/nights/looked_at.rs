@@ -154,7 +154,7 @@ fn messages_are_calls_and_their_marks_are_seen() {
     let texts: Vec<Vec<u8>> = calls.iter().map(|(line, _, _)| [line, &b"\n"[..]].concat()).collect();
     assert_eq!(kept.into_iter().map(|answered| answered.call.text).collect::<Vec<_>>(), texts);
     for (number, (_, _, is_down)) in (1..).zip(&calls) {
-        let said = night(&["who", "03", "01", &i32::to_string(&number)], &place);
+        let said = night(&["who", "03", "01", "--at", &i32::to_string(&number)], &place);
         assert_eq!(said.ends_with(": free; marked down\n"), *is_down, "{said}");
         assert_eq!(said.ends_with(": free\n"), !*is_down, "{said}");
     }
@@ -194,7 +194,7 @@ fn a_head_that_is_given_back_is_looked_up_and_shown() {
         ("01", "15", "held by J2 (place 2); no packet moves"),
         ("02", "15", "held by J1 (place 1); no packet moves"),
     ] {
-        let said = night(&["who", "03", unit, call], &place);
+        let said = night(&["who", "03", unit, "--at", call], &place);
         assert!(said.ends_with(&format!(": {due}\n")), "{said}");
     }
     let shown = night(&["show"], &place);
@@ -234,6 +234,13 @@ fn the_journal_says_why_nothing_was_selected() {
     assert!(place.answers(b"BOARD\n").starts_with(b"PLACE 0 J0 RUNS\n"));
 }
 
+/// What is said of a call, without its time, which is that of the test.
+fn untimed(said: &str) -> String {
+    let (before, rest) = said.split_once(" (").unwrap();
+    let (_, after) = rest.split_once(", ").unwrap();
+    format!("{before} ({after}")
+}
+
 #[test]
 fn the_night_of_the_readme_is_shown_and_looked_up() {
     let script = include_bytes!("../../../../examples/night.script");
@@ -254,7 +261,7 @@ fn the_night_of_the_readme_is_shown_and_looked_up() {
         ("19", "03/00 after call 19 (START 03): held by C3 (place 0); packet 1 moves (function 42)\n"),
         ("20", "03/00 after call 20 (FAIL 03 13): held by C3 (place 0); no packet moves; interlock\n"),
     ] {
-        assert_eq!(night(&["who", "03", "00", call], &place), due);
+        assert_eq!(untimed(&night(&["who", "03", "00", "--at", call], &place)), due);
     }
     // A head that is given back is its job's until the block that moves there completes.
     for (call, due) in [
@@ -270,6 +277,6 @@ fn the_night_of_the_readme_is_shown_and_looked_up() {
         ("26", "03/02 after call 26 (CUT 03): free\n"),
         ("27", "03/02 after call 27 (SELECT): held by E5 (place 1); no packet moves\n"),
     ] {
-        assert_eq!(night(&["who", "03", "02", call], &place), due);
+        assert_eq!(untimed(&night(&["who", "03", "02", "--at", call], &place)), due);
     }
 }

@@ -33,6 +33,8 @@ mod returns;
 mod scripts;
 
 mod any_bytes;
+mod asked;
+mod checked;
 mod disk;
 mod foreign;
 mod kills;
@@ -40,4 +42,6 @@ mod looked_at;
 mod recovery;
 mod start;
 mod support;
+mod terminal;
 mod torn;
+mod words;

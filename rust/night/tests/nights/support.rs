@@ -27,6 +27,17 @@ pub fn program() -> PathBuf {
     program
 }
 
+/// The folder of the proved programs.
+pub fn programs() -> PathBuf {
+    program().parent().unwrap().to_path_buf()
+}
+
+/// Runs `night` with these words.
+pub fn night(words: &[&str]) -> Output {
+    let mut command = Command::new(env!("CARGO_BIN_EXE_night"));
+    command.args(words).env_remove("NIGHT_JOURNAL").stdin(Stdio::null()).output().unwrap()
+}
+
 /// An empty folder of this name.
 pub fn folder(name: &str) -> PathBuf {
     let folder = Path::new(env!("CARGO_TARGET_TMPDIR")).join(name);

@@ -1,0 +1,127 @@
+//! The commands that run a night and look at one.
+
+use std::io::Write;
+use std::path::{Path, PathBuf};
+
+use crate::calls::Call;
+use crate::journal::Journal;
+use crate::json::object;
+use crate::moment::Moment;
+use crate::run::{run_here, Options};
+use crate::store::{self, Opening};
+use crate::who::Question;
+use crate::words::{Failure, Words};
+use crate::{log, replay, stack, standing, svg, tracks, who};
+
+/// Writes to standard output.
+pub fn give_out(text: &[u8]) -> Result<(), String> {
+    let mut output = std::io::stdout().lock();
+    let given = output.write_all(text).and_then(|()| output.flush());
+    given.map_err(|error| format!("this cannot be given out: {error}"))
+}
+
+/// Where a proved program is.
+pub fn program(words: &Words, name: &str) -> Result<PathBuf, Failure> {
+    stack::check()?;
+    if let Some(program) = words.option("--shift").filter(|_| name == "shift") {
+        return Ok(program.into());
+    }
+    let found =
+        words.option("--programs").map(|folder| Path::new(folder).join(name)).or_else(|| standing::beside(name));
+    Ok(found.ok_or_else(|| format!("where the program {name} is cannot be told: name its folder with --programs"))?)
+}
+
+pub fn run(words: &Words) -> Result<(), Failure> {
+    let journal = words.journal()?.into();
+    words.exclude("--new", "--resume")?;
+    let [configuration] = words.rest(["CONFIG"])?;
+    let opening = match (words.has("--new"), words.has("--resume")) {
+        (true, _) => Opening::New,
+        (_, true) => Opening::Resume,
+        _ => Opening::Any,
+    };
+    let program = program(words, "shift")?;
+    Ok(run_here(&Options { journal, configuration: configuration.into(), program, opening })?)
+}
+
+/// The journal that is looked at.
+pub fn journal(words: &Words) -> Result<Journal, Failure> {
+    Ok(store::look_at(words.journal()?.as_ref())?)
+}
+
+/// The moment that an option asks for.
+fn moment(words: &Words, name: &str) -> Result<Option<Moment>, Failure> {
+    let Some(word) = words.option(name) else { return Ok(None) };
+    let moment = word.to_str().and_then(Moment::read);
+    let wrong = || {
+        let word = word.to_string_lossy();
+        words.wrong(&format!("{name} {word} is no moment: say a call (34) or a time (02:40, 2026-11-17T02:40:07)"))
+    };
+    moment.map(Some).ok_or_else(wrong)
+}
+
+/// After how many calls.
+fn calls(words: &Words, journal: &Journal) -> Result<Option<usize>, Failure> {
+    Ok(moment(words, "--at")?.map(|moment| moment.calls(journal)).transpose()?)
+}
+
+pub fn who(words: &Words) -> Result<(), Failure> {
+    words.journal()?;
+    let job = words.option("--job").map(|id| id.to_string_lossy().into_owned());
+    let head = match (words.rest.is_empty(), &job) {
+        (true, Some(_)) => None,
+        _ => {
+            let [channel, unit] = words.rest(["the channel cc", "the unit uu"])?;
+            Some((words.number("the channel", channel)?, words.number("the unit", unit)?))
+        }
+    };
+    moment(words, "--at")?;
+    let journal = journal(words)?;
+    let question = Question { head, job, calls: calls(words, &journal)? };
+    Ok(give_out(who::answer(&journal, &question, words.has("--json"))?.as_bytes())?)
+}
+
+/// The calls that `--from` and `--to` ask for, the first being number 0.
+pub fn range(words: &Words, journal: &Journal) -> Result<std::ops::Range<usize>, Failure> {
+    let from = moment(words, "--from")?.map_or(Ok(0), |moment| moment.calls_before(journal))?;
+    let to = moment(words, "--to")?.map_or(Ok(journal.calls.len()), |moment| moment.calls(journal))?;
+    if from > to {
+        return Err("--from is after --to".into());
+    }
+    Ok(from..to)
+}
+
+pub fn log(words: &Words) -> Result<(), Failure> {
+    let [] = words.rest([])?;
+    let journal = journal(words)?;
+    let calls = range(words, &journal)?;
+    let said = if words.has("--json") { log::objects(&journal, calls) } else { log::text(&journal, calls) };
+    Ok(give_out(said.as_bytes())?)
+}
+
+pub fn board(words: &Words) -> Result<(), Failure> {
+    let [] = words.rest([])?;
+    let journal = journal(words)?;
+    let calls = calls(words, &journal)?.unwrap_or(journal.calls.len());
+    let call = Call { text: b"BOARD\n".to_vec(), open: false };
+    let board = replay::ask(&program(words, "shift")?, &journal, calls, &call)?;
+    if !words.has("--json") {
+        return Ok(give_out(&board)?);
+    }
+    let last = calls.checked_sub(1).and_then(|at| journal.calls.get(at));
+    let time = last.and_then(|answered| answered.time).map(|time| time.to_string());
+    let line = |line: &str| object(vec![("call", calls.into()), ("time", time.clone().into()), ("line", line.into())]);
+    let board = String::from_utf8_lossy(&board);
+    Ok(give_out(board.lines().map(line).collect::<String>().as_bytes())?)
+}
+
+pub fn show(words: &Words) -> Result<(), Failure> {
+    let [] = words.rest([])?;
+    let sheet = words.option("--sheet").map(|word| words.number("--sheet", word)).transpose()?;
+    let journal = journal(words)?;
+    let configuration = journal.configuration.as_deref().ok_or("the journal has no configuration yet")?;
+    let tracks = tracks::tracks(configuration, &journal.calls).ok_or("the journal's configuration cannot be read")?;
+    let word = |shown: String| shown.split(' ').next().unwrap_or_default().to_string();
+    let words: Vec<String> = journal.calls.iter().map(|answered| word(answered.call.shown())).collect();
+    Ok(give_out(svg::picture(&tracks, &words, sheet)?.as_bytes())?)
+}
