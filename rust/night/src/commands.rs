@@ -9,9 +9,10 @@ use crate::json::object;
 use crate::moment::Moment;
 use crate::run::{run_here, Options};
 use crate::store::{self, Opening};
+use crate::svg::{Notes, Picture};
 use crate::who::Question;
 use crate::words::{Failure, Words};
-use crate::{log, replay, stack, standing, svg, tracks, who};
+use crate::{log, replay, stack, standing, tracks, who};
 
 /// Writes to standard output.
 pub fn give_out(text: &[u8]) -> Result<(), String> {
@@ -117,11 +118,40 @@ pub fn board(words: &Words) -> Result<(), Failure> {
 
 pub fn show(words: &Words) -> Result<(), Failure> {
     let [] = words.rest([])?;
-    let sheet = words.option("--sheet").map(|word| words.number("--sheet", word)).transpose()?;
+    words.exclude("--sheet", "--sheets")?;
+    let sheet: Option<usize> = words.option("--sheet").map(|word| words.number("--sheet", word)).transpose()?;
+    let path = PathBuf::from(words.journal()?);
     let journal = journal(words)?;
     let configuration = journal.configuration.as_deref().ok_or("the journal has no configuration yet")?;
     let tracks = tracks::tracks(configuration, &journal.calls).ok_or("the journal's configuration cannot be read")?;
-    let word = |shown: String| shown.split(' ').next().unwrap_or_default().to_string();
-    let words: Vec<String> = journal.calls.iter().map(|answered| word(answered.call.shown())).collect();
-    Ok(give_out(svg::picture(&tracks, &words, sheet)?.as_bytes())?)
+    let notes = Notes::new(&path.file_name().unwrap_or_default().to_string_lossy(), &journal);
+    let calls = range(words, &journal)?;
+    // The fresh cell belongs to the night's beginning.
+    let first = if calls.start == 0 { 0 } else { calls.start + 1 };
+    let picture = Picture::new(&tracks, &notes, first..(calls.end + 1).max(first + 1));
+    if let Some(folder) = words.option("--sheets") {
+        return write_sheets(&picture, folder.as_ref());
+    }
+    let number = sheet.unwrap_or(1);
+    let count = picture.count();
+    let svg = picture.sheet(number).ok_or_else(|| format!("there is no sheet {number}: the picture has {count}"))?;
+    if sheet.is_none() && count > 1 {
+        eprintln!("night: sheet 1 of {count}: --sheet K writes another, --sheets FOLDER all, --from and --to less of the night");
+    }
+    Ok(give_out(svg.as_bytes())?)
+}
+
+/// Writes all sheets into a folder of their own.
+fn write_sheets(picture: &Picture, folder: &Path) -> Result<(), Failure> {
+    let failed = |error: std::io::Error| format!("{}: {error}", folder.display());
+    std::fs::create_dir_all(folder).map_err(failed)?;
+    if std::fs::read_dir(folder).map_err(failed)?.next().is_some() {
+        return Err(format!("{} is not empty: name another folder for the sheets", folder.display()).into());
+    }
+    for number in 1..=picture.count() {
+        let svg = picture.sheet(number).unwrap_or_default();
+        std::fs::write(folder.join(format!("sheet-{number:03}.svg")), svg).map_err(failed)?;
+    }
+    eprintln!("night: {} sheets are in {}", picture.count(), folder.display());
+    Ok(())
 }

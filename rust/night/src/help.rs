@@ -22,7 +22,7 @@ const fn flag(name: &'static str, does: &'static str) -> Opt {
     Opt { name, value: None, does }
 }
 
-pub const OPTIONS: [Opt; 14] = [
+pub const OPTIONS: [Opt; 15] = [
     valued("--journal", "FILE", "the night's journal; without it, NIGHT_JOURNAL of the environment names it"),
     flag("--new", "begin a new journal, and refuse one that is there"),
     flag("--resume", "go on with a journal, and refuse one that is not there"),
@@ -31,6 +31,7 @@ pub const OPTIONS: [Opt; 14] = [
     valued("--to", "WHEN", "up to this call or time"),
     valued("--job", "ID", "only what this job had"),
     valued("--sheet", "K", "which sheet of the picture, counted from 1"),
+    valued("--sheets", "FOLDER", "an empty folder for all sheets of the picture"),
     valued("--deck", "DECK", "a deck to check"),
     flag("--json", "objects of JSON, one a line"),
     valued("--shift", "PROGRAM", "the shift program, if not the one beside night"),
@@ -73,7 +74,12 @@ pub const COMMANDS: [Command; 10] = [
         "shows the board, at the journal's end or at a moment, as the proved program gives it",
         &["--journal", "--at", "--json", "--shift", "--programs"],
     ),
-    command("show", "night show --journal FILE [--sheet K]", "draws the night as SVG", &["--journal", "--sheet"]),
+    command(
+        "show",
+        "night show --journal FILE [--from WHEN] [--to WHEN] [--sheet K | --sheets FOLDER]",
+        "draws the night as SVG, on sheets of A4: the first or another on standard output, or all into a folder",
+        &["--journal", "--from", "--to", "--sheet", "--sheets"],
+    ),
     command(
         "check",
         "night check CONFIG | night check --deck DECK [--journal FILE]",

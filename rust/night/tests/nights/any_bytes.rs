@@ -1,6 +1,7 @@
 //! Any bytes on standard input and in the journal are answered, and never by a crash.
 
 use night::journal::{write_beginning, write_record, Origin};
+use night::svg::{Notes, Picture};
 use night::time::Time;
 use night::who::{self, Question};
 use ordinary::shift::converse;
@@ -126,8 +127,9 @@ fn any_record_is_read_or_refused() {
         let Ok(journal) = night::journal::read(&bytes) else { continue };
         read += 1;
         let drawn = night::tracks::tracks(CONFIGURATION, &journal.calls).unwrap();
-        let words = vec!["<&>".to_string(); journal.calls.len()];
-        assert!(night::svg::picture(&drawn, &words, None).unwrap().ends_with("</svg>\n"));
+        let notes = Notes::new("<&>", &journal);
+        let picture = Picture::new(&drawn, &notes, 0..journal.calls.len() + 1);
+        assert!((1..=picture.count()).all(|number| picture.sheet(number).unwrap().ends_with("</svg>\n")));
         for calls in [None, Some(journal.calls.len())] {
             let question = Question { head: Some((3, 0)), job: None, calls };
             assert!(who::answer(&journal, &question, false).unwrap().ends_with('\n'));

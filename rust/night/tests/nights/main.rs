@@ -39,6 +39,7 @@ mod disk;
 mod foreign;
 mod kills;
 mod looked_at;
+mod picture;
 mod recovery;
 mod start;
 mod support;

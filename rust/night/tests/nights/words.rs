@@ -58,3 +58,42 @@ fn options_are_taken_in_either_form_and_the_environment_may_name_the_journal() {
     let mut command = Command::new(env!("CARGO_BIN_EXE_night"));
     assert_eq!(command.arg("log").env("NIGHT_JOURNAL", &journal).output().unwrap().stdout, due);
 }
+
+/// What bash completes, with the file of completions, where this is typed behind `night`.
+fn completed(words: &[&str]) -> Vec<String> {
+    let file = concat!(env!("CARGO_MANIFEST_DIR"), "/completions.bash");
+    let typed: Vec<String> = words.iter().map(|word| format!("'{word}'")).collect();
+    let script = format!(
+        ". '{file}'; COMP_WORDS=(night {}); COMP_CWORD={}; _night; printf '%s\\n' \"${{COMPREPLY[@]}}\"",
+        typed.join(" "),
+        words.len()
+    );
+    let output = Command::new("bash").args(["-c", &script]).output().expect("bash is there");
+    assert!(output.status.success(), "{}", said(&output));
+    let mut lines: Vec<String> = String::from_utf8(output.stdout).unwrap().lines().map(str::to_string).collect();
+    lines.retain(|line| !line.is_empty());
+    lines.sort();
+    lines
+}
+
+#[test]
+fn bash_completes_every_command_and_option() {
+    let sorted = |words: &[&str]| {
+        let mut words: Vec<String> = words.iter().map(|word| word.to_string()).collect();
+        words.sort();
+        words
+    };
+    let names: Vec<&str> = night::help::COMMANDS.iter().map(|command| command.name).collect();
+    assert_eq!(completed(&[""]), sorted(&names));
+    for command in &night::help::COMMANDS {
+        let due = [command.options, &["--help", "--version"]].concat();
+        assert_eq!(completed(&[command.name, "--"]), sorted(&due), "night {}", command.name);
+        assert_eq!(completed(&[command.name, "--hel"]), ["--help"]);
+    }
+    let file = concat!(env!("CARGO_MANIFEST_DIR"), "/Cargo.tom");
+    let whole = concat!(env!("CARGO_MANIFEST_DIR"), "/Cargo.toml");
+    assert_eq!(completed(&["run", "--journal", file]), [whole]);
+    assert_eq!(completed(&["run", "--journal", "=", file]), [whole]);
+    assert_eq!(completed(&["check", file]), [whole]);
+    assert!(completed(&["who", "--at", ""]).is_empty());
+}
