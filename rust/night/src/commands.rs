@@ -1,6 +1,6 @@
 //! The commands that run a night and look at one.
 
-use std::io::Write;
+use std::io::{ErrorKind, Write};
 use std::path::{Path, PathBuf};
 
 use crate::calls::Call;
@@ -18,7 +18,11 @@ use crate::{log, replay, stack, standing, tracks, who};
 pub fn give_out(text: &[u8]) -> Result<(), String> {
     let mut output = std::io::stdout().lock();
     let given = output.write_all(text).and_then(|()| output.flush());
-    given.map_err(|error| format!("this cannot be given out: {error}"))
+    match given {
+        // A reader that has seen enough is no error.
+        Err(error) if error.kind() == ErrorKind::BrokenPipe => Ok(()),
+        given => given.map_err(|error| format!("this cannot be given out: {error}")),
+    }
 }
 
 /// Where a proved program is.
@@ -47,7 +51,13 @@ pub fn run(words: &Words) -> Result<(), Failure> {
 
 /// The journal that is looked at.
 pub fn journal(words: &Words) -> Result<Journal, Failure> {
-    Ok(store::look_at(words.journal()?.as_ref())?)
+    let path = PathBuf::from(words.journal()?);
+    let journal = store::look_at(&path)?;
+    if journal.torn > 0 {
+        let (path, bytes) = (path.display(), journal.torn);
+        eprintln!("night: {path}: the last {bytes} bytes are no whole record: torn, or being written just now");
+    }
+    Ok(journal)
 }
 
 /// The moment that an option asks for.

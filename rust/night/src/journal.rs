@@ -172,7 +172,10 @@ pub fn read(bytes: &[u8]) -> Result<Journal, Fault> {
             Next::Record(head, body, length) if journal.take(&head, body).is_some() => {
                 journal.records += 1;
                 journal.length += length;
-                journal.chain = head.sum;
+                journal.chain = match journal.format {
+                    Format::First => first::chain(journal.chain, head.sum),
+                    Format::Second => head.sum,
+                };
             }
             Next::Torn => {
                 journal.torn = rest.len();

@@ -192,7 +192,7 @@ impl<W: Write> Night<W> {
             .map(|(call, answer)| Answered::new(call.clone(), answer))
             .collect();
         if !answered.is_empty() {
-            self.store.append(&answered)?;
+            self.store.append(&answered).map_err(|what| format!("{what}. Not answered: {}", first.shown()))?;
         }
         give_out(&mut self.output, &answers.concat())
     }
@@ -207,6 +207,9 @@ fn say_torn(path: &Path, journal: &Journal, torn: &[u8]) {
     let said = format!("the last record, number {number}, is torn: {bytes} bytes, cut while they were written");
     eprintln!("night: {path}: {said}. Probably never answered: look at the heads. It is kept in {path}.torn:");
     let end = torn.iter().rposition(|&byte| byte != 0).map_or(0, |at| at + 1);
+    if end < torn.len() {
+        eprintln!("night:   ({} zeros at its end)", torn.len() - end);
+    }
     for line in torn[..end.min(SHOWN_ROOM)].split(|&byte| byte == b'\n').filter(|line| !line.is_empty()) {
         let shown = String::from_utf8_lossy(line);
         eprintln!(

@@ -54,9 +54,10 @@ fn explain(path: &Path, fault: Fault) -> String {
             "{path} is a journal of another version of night, and is left as it is: use the version that wrote it"
         ),
         Fault::Damaged { record, calls, length } => format!(
-            "{path}: record {record} is damaged: its bytes are not those that were written, and what it had was \
-             answered. Nothing is changed. Keep the file. `head -c {length} {path} > NEW` makes a journal of what is \
-             whole before it, {calls} calls; what came after, look up at the heads, one by one"
+            "{path}: record {record} is damaged: its bytes are not those that were written. What it had was probably \
+             answered, so nothing is dropped and nothing is changed. Keep the file. `head -c {length} '{path}' > NEW` \
+             makes a journal of what is whole before it, {calls} calls; what came after, look up at the heads, one by \
+             one"
         ),
     }
 }
@@ -153,7 +154,7 @@ impl Store {
     /// Puts calls and their answers on the disk, as one record.
     pub fn append(&mut self, calls: &[Answered]) -> Result<(), String> {
         let (record, sum) = match self.format {
-            Format::First => (journal::write_first(self.records, self.calls + 1, calls), 0),
+            Format::First => journal::write_first(self.chain, self.records, self.calls + 1, calls),
             Format::Second => {
                 let tick = self.clock.tick();
                 let body = journal::write_calls(self.calls + 1, tick.jump, calls);
@@ -213,7 +214,9 @@ impl Store {
 
     /// Puts what a file without a name still has into one that has a name.
     fn rescue(&self) -> String {
-        let path = beside(&self.path, ".rescued");
+        let names = (1..).map(|number| if number == 1 { ".rescued".into() } else { format!(".rescued-{number}") });
+        let free = names.map(|end| beside(&self.path, &end)).find(|path| !path.exists());
+        let path = free.unwrap_or_default();
         let mut bytes = vec![0; self.length as usize];
         let rescued = self.file.read_exact_at(&mut bytes, 0).and_then(|()| {
             let mut file = OpenOptions::new().write(true).create_new(true).open(&path)?;

@@ -3,7 +3,7 @@
 
 use super::{first_line, without_zeros, write_call, Answer, Answered, Head, Next, LINE_ROOM};
 use crate::calls::Call;
-use crate::sum::check_sum;
+use crate::sum::{check_sum, continued};
 
 pub const HEADER: &[u8] = b"luffgravel night journal 1\n";
 
@@ -11,15 +11,22 @@ fn record_sum(place: &str, body: &[u8]) -> u64 {
     check_sum(&[place.as_bytes(), b"\n", body].concat())
 }
 
-/// The record of this number, with calls of which the first has the other number.
-pub fn write_next(number: u64, first: usize, calls: &[Answered]) -> Vec<u8> {
-    write_record(number, &write_calls(first, calls))
+/// The sum of a record and of all before it. The records themselves do not have it.
+pub fn chain(before: u64, sum: u64) -> u64 {
+    continued(before, &sum.to_le_bytes())
 }
 
-pub fn write_record(number: u64, body: &[u8]) -> Vec<u8> {
+/// The record of this number behind others with this sum, with calls of which the first has the other number; and the
+/// sum of all of them.
+pub fn write_next(before: u64, number: u64, first: usize, calls: &[Answered]) -> (Vec<u8>, u64) {
+    let (record, sum) = write_record(number, &write_calls(first, calls));
+    (record, chain(before, sum))
+}
+
+pub fn write_record(number: u64, body: &[u8]) -> (Vec<u8>, u64) {
     let place = format!("{number} {}", body.len());
     let sum = record_sum(&place, body);
-    [format!("\n@ {place} {sum:016x}\n").as_bytes(), body].concat()
+    ([format!("\n@ {place} {sum:016x}\n").as_bytes(), body].concat(), sum)
 }
 
 /// The body of a record of calls, the first of which has this number.

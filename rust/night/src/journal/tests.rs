@@ -44,12 +44,12 @@ fn journal(last: usize) -> (Vec<u8>, Vec<usize>) {
 fn first_journal(last: usize) -> (Vec<u8>, Vec<usize>) {
     let lines = CONFIGURATION.split_inclusive(|&byte| byte == b'\n');
     let body: Vec<u8> = lines.flat_map(|line| [b":", line].concat()).collect();
-    let mut bytes = [first::HEADER, &first::write_record(0, &body)].concat();
+    let mut bytes = [first::HEADER, &first::write_record(0, &body).0].concat();
     let mut starts = vec![first::HEADER.len()];
     let first = 5 - last;
     for (number, from, to) in [(1, 0, first), (2, first, 5)] {
         starts.push(bytes.len());
-        bytes.extend(first::write_next(number, from + 1, &calls()[from..to]));
+        bytes.extend(first::write_next(0, number, from + 1, &calls()[from..to]).0);
     }
     (bytes, starts)
 }

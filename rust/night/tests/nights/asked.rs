@@ -179,6 +179,17 @@ fn what_cannot_be_asked_is_named() {
 }
 
 #[test]
+fn what_is_no_whole_record_is_told_where_a_journal_is_looked_at() {
+    let place = place("looked-torn");
+    let bytes = place.journal_bytes();
+    std::fs::write(place.journal(), &bytes[..bytes.len() - 5]).unwrap();
+    let journal = place.journal();
+    let output = night(&["log", "--journal", journal.to_str().unwrap()]);
+    assert!(output.status.success() && !String::from_utf8_lossy(&output.stdout).contains("DOWN 3 1"));
+    assert!(said(&output).contains("bytes are no whole record"), "{}", said(&output));
+}
+
+#[test]
 fn a_jump_of_the_clock_is_in_the_log() {
     let place = Place::new("jumped", CONFIGURATION);
     place.set_clock(EVENING.0, 0);

@@ -27,6 +27,7 @@ fn ends(mut running: Running, line: &str, words: &str) {
 fn noticed(name: &str, act: fn(&Path), words: &str) {
     for (lines, line) in [(1, "DOWN 3 2\n"), (1, "BOARD\n"), (40, "DOWN 3 2\n"), (40, "STATUS 0 0\n")] {
         let place = Place::new(name, CONFIGURATION);
+        fs::write(place.beside(".rescued"), b"of another night").unwrap();
         let mut running = place.start();
         for _ in 0..lines {
             running.send(b"DOWN 3 1\n");
@@ -35,8 +36,9 @@ fn noticed(name: &str, act: fn(&Path), words: &str) {
         act(&place.journal());
         ends(running, line, words);
         if ["removed", "replaced"].contains(&name) {
-            let rescued = night::store::look_at(&place.beside(".rescued")).unwrap();
+            let rescued = night::store::look_at(&place.beside(".rescued-2")).unwrap();
             assert_eq!((rescued.calls.len(), rescued.torn), (lines, 0));
+            assert_eq!(fs::read(place.beside(".rescued")).unwrap(), b"of another night");
         }
     }
 }

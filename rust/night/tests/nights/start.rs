@@ -134,7 +134,16 @@ fn a_journal_of_the_first_format_is_played_back_looked_at_and_gone_on_with() {
     let journal = night::store::look_at(&place.journal()).unwrap();
     assert_eq!((journal.format, journal.calls.len(), journal.torn), (Format::First, 37, 0));
     assert!(place.journal_bytes().starts_with(old));
+    // Dates alone are not taken for somebody else's bytes in it.
+    let mut running = place.start();
+    running.send(b"DOWN 3 3\n");
+    assert_eq!(running.answer(4), b"ACK\n");
+    let file = std::fs::OpenOptions::new().write(true).open(place.journal()).unwrap();
+    file.set_modified(std::time::SystemTime::UNIX_EPOCH).unwrap();
+    running.send(b"UP 3 3\n");
+    assert_eq!(running.answer(4), b"ACK\n");
+    running.finish();
     place.answers(b"SELECT\n");
-    // The next version of the old program would still take it.
-    assert!(place.journal_bytes().ends_with(b"<38 SELECT\n>NO 19\n=6 4be5798d60c182d8\n"));
+    // The old program would still take it.
+    assert!(place.journal_bytes().ends_with(b"<40 SELECT\n>NO 19\n=6 4be5798d60c182d8\n"));
 }

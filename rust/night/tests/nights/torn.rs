@@ -30,7 +30,11 @@ fn one_changed_byte_of_the_last_record_is_refused_and_nothing_is_dropped() {
         }
         // What to do is said, and works.
         let output = place.run(b"");
-        assert!(said(&output).contains(&format!("head -c {start} {}", place.journal().display())), "{}", said(&output));
+        assert!(
+            said(&output).contains(&format!("`head -c {start} '{}' > NEW`", place.journal().display())),
+            "{}",
+            said(&output)
+        );
         std::fs::write(place.journal(), &bytes[..start]).unwrap();
         assert!(place.answers(b"BOARD\n").starts_with(b"UNIT 03/01 DOWN\nCORE"));
     }
