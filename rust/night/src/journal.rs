@@ -259,7 +259,7 @@ fn first_line(number: usize, line: &[u8]) -> Option<&[u8]> {
 
 /// The body of the call's lines, as both formats write them.
 fn write_call(number: usize, call: &Call, body: &mut Vec<u8>) {
-    body.extend(format!("<{number} ").bytes());
+    body.extend_from_slice(format!("<{number} ").as_bytes());
     let mut between: &[u8] = b"";
     for line in call.text.split_inclusive(|&byte| byte == b'\n') {
         body.extend(between);

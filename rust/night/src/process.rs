@@ -63,7 +63,11 @@ impl Process {
 
     /// Hands over calls, as many as go together. Where the program is gone, its answers will not come.
     pub fn send(&mut self, calls: &[Call]) {
-        let text: Vec<u8> = calls.iter().flat_map(|call| [&call.text, behind(call)].concat()).collect();
+        let mut text = Vec::new();
+        for call in calls {
+            text.extend_from_slice(&call.text);
+            text.extend_from_slice(behind(call));
+        }
         let is_open = calls.last().is_some_and(|call| call.open);
         let sent = if is_open { self.write(&calls[0].text) } else { self.write(&text) };
         if is_open || sent.is_err() {

@@ -6,16 +6,19 @@ use crate::calls::Call;
 use crate::journal::{Answered, Journal};
 use crate::process::{self, Process, DEATHS};
 
-/// Plays calls into a process and hands on each answer. Answers whether the process lives.
+/// Plays calls into a process and hands on each answer. While the process works on calls, something else is done.
+/// Answers whether the process lives.
 pub fn play(
     process: &mut Process,
     calls: &[Call],
+    mut meanwhile: impl FnMut() -> Result<(), String>,
     mut take: impl FnMut(Vec<u8>) -> Result<(), String>,
 ) -> Result<bool, String> {
     let mut rest = calls;
     while !rest.is_empty() {
         let (sent, later) = rest.split_at(process::together(rest));
         process.send(sent);
+        meanwhile()?;
         if !hear(process, sent, &mut take)? {
             return Ok(false);
         }
@@ -46,10 +49,11 @@ pub fn revive(program: &Path, configuration: &[u8], played: &[Answered]) -> Resu
     let due = || (1..).zip(played).filter(|(_, answered)| !answered.call.open);
     let calls: Vec<Call> = due().map(|(_, answered)| answered.call.clone()).collect();
     let mut due = due();
-    let lives = play(&mut process, &calls, |answer| match due.next() {
+    let compare = |answer: Vec<u8>| match due.next() {
         Some((number, recorded)) if !recorded.answer.is(&answer) => Err(differs(number, recorded, &answer)),
         _ => Ok(()),
-    })?;
+    };
+    let lives = play(&mut process, &calls, || Ok(()), compare)?;
     Ok((process, lives))
 }
 
@@ -71,10 +75,11 @@ pub fn ask(program: &Path, journal: &Journal, calls: usize, call: &Call) -> Resu
         let (mut process, lives) = revive(program, configuration, &journal.calls[..calls])?;
         let mut said = None;
         if lives {
-            play(&mut process, std::slice::from_ref(call), |answer| {
+            let take = |answer| {
                 said = Some(answer);
                 Ok(())
-            })?;
+            };
+            play(&mut process, std::slice::from_ref(call), || Ok(()), take)?;
         }
         process.end();
         if let Some(said) = said {

@@ -161,7 +161,8 @@ impl<W: Write> Night<W> {
         Ok(())
     }
 
-    /// Plays calls and answers the answers that came before the program died, if it did.
+    /// Plays calls and answers the answers that came before the program died, if it did. While the program works on
+    /// them it is looked whether somebody else has had a hand in the journal: then there are none.
     fn play_on(&mut self, calls: &[Call]) -> Result<Vec<Vec<u8>>, String> {
         let mut answers = Vec::new();
         if self.process.is_none() {
@@ -170,21 +171,22 @@ impl<W: Write> Night<W> {
             self.revive(&played)?;
         }
         if let Some(mut process) = self.process.take() {
-            let lives = play(&mut process, calls, |answer| {
+            let unanswered = |what: String| format!("{what}. Not answered, and not kept: {}", calls[0].shown());
+            let check = || self.store.check().map_err(unanswered);
+            let take = |answer| {
                 answers.push(answer);
                 Ok(())
-            })?;
+            };
+            let lives = play(&mut process, calls, check, take)?;
             self.mourn_or_keep(process, lives);
         }
         Ok(answers)
     }
 
     /// Puts the calls that may have changed something into the journal and on the disk, and only then gives the answers
-    /// out. If somebody else has had a hand in the journal, none is given out.
+    /// out.
     fn keep(&mut self, calls: &[Call], answers: Vec<Vec<u8>>) -> Result<(), String> {
         let Some(first) = calls.first() else { return Ok(()) };
-        let unanswered = |what: String| format!("{what}. Not answered, and not kept: {}", first.shown());
-        self.store.check().map_err(unanswered)?;
         let answered: Vec<Answered> = calls
             .iter()
             .zip(&answers)

@@ -132,13 +132,12 @@ impl Store {
         }
         self.cut().map_err(|error| self.failed(error))?;
         if !is_new {
-            return self.look();
+            return Ok(());
         }
         let (bytes, sum) = journal::write_beginning(origin, self.clock.tick().time, configuration);
         self.write(&bytes).map_err(|error| self.failed(error))?;
         (self.records, self.chain) = (1, sum);
-        self.keep_name().map_err(|error| self.failed(error))?;
-        self.look()
+        self.keep_name().map_err(|error| self.failed(error))
     }
 
     /// Puts what is torn behind what was torn before, in a file of its own.
@@ -169,7 +168,7 @@ impl Store {
         self.records += 1;
         self.calls += calls.len();
         self.chain = sum;
-        self.look()
+        Ok(())
     }
 
     /// The journal that is on the disk, read again.
@@ -229,19 +228,14 @@ impl Store {
         }
     }
 
-    /// Notes how the file is now. It must still be the one of its name.
-    fn look(&mut self) -> Result<(), String> {
-        self.seen = Seen::new(&self.file.metadata().map_err(|error| self.failed(error))?);
-        match self.seen.change(&self.path) {
-            Change::None => Ok(()),
-            change => Err(self.foreign(change)),
-        }
-    }
-
+    /// Writes behind what is there, and through to the disk. How the file is then is noted before the disk has it, so
+    /// that what somebody else does meanwhile shows.
     fn write(&mut self, bytes: &[u8]) -> io::Result<()> {
         self.file.write_all_at(bytes, self.length)?;
+        let length = self.length + bytes.len() as u64;
+        let seen = Seen::new(&self.file.metadata()?).of_length(length);
         self.file.sync_data()?;
-        self.length += bytes.len() as u64;
+        (self.length, self.seen) = (length, seen);
         Ok(())
     }
 
@@ -250,6 +244,7 @@ impl Store {
             return Ok(());
         }
         self.file.set_len(self.length)?;
+        self.seen = Seen::new(&self.file.metadata()?).of_length(self.length);
         self.file.sync_data()
     }
 

@@ -78,7 +78,9 @@ impl Time {
 
 impl fmt::Display for Time {
     fn fmt(&self, to: &mut fmt::Formatter) -> fmt::Result {
-        write!(to, "{}T{}.{:03}Z", self.date(), self.clock(), self.0 % SECOND)
+        let ((year, month, of_month), seconds) = (date(self.day()), self.0 % DAY / SECOND);
+        let (hour, minute, second) = (seconds / 3600, seconds / 60 % 60, seconds % 60);
+        write!(to, "{year:04}-{month:02}-{of_month:02}T{hour:02}:{minute:02}:{second:02}.{:03}Z", self.0 % SECOND)
     }
 }
 

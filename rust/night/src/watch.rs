@@ -38,6 +38,11 @@ impl Seen {
         }
     }
 
+    /// The same file with another length.
+    pub fn of_length(self, length: u64) -> Seen {
+        Seen { length, ..self }
+    }
+
     /// What has become of the file, which was seen so, under this name.
     pub fn change(&self, path: &Path) -> Change {
         match std::fs::metadata(path) {
