@@ -76,16 +76,25 @@ fn calls(words: &Words, journal: &Journal) -> Result<Option<usize>, Failure> {
     Ok(moment(words, "--at")?.map(|moment| moment.calls(journal)).transpose()?)
 }
 
+/// The head that is asked for: `03 00`, or as the board shows it `03/00`.
+fn head(words: &Words) -> Result<(u32, u32), Failure> {
+    let parts = match &words.rest[..] {
+        [word] => {
+            word.to_str().and_then(|word| word.split_once('/')).map(|(channel, unit)| [channel.into(), unit.into()])
+        }
+        _ => None,
+    };
+    let [channel, unit] = match &parts {
+        Some([channel, unit]) => [channel, unit],
+        None => words.rest(["the channel cc", "the unit uu"])?,
+    };
+    Ok((words.number("the channel", channel)?, words.number("the unit", unit)?))
+}
+
 pub fn who(words: &Words) -> Result<(), Failure> {
     words.journal()?;
     let job = words.option("--job").map(|id| id.to_string_lossy().into_owned());
-    let head = match (words.rest.is_empty(), &job) {
-        (true, Some(_)) => None,
-        _ => {
-            let [channel, unit] = words.rest(["the channel cc", "the unit uu"])?;
-            Some((words.number("the channel", channel)?, words.number("the unit", unit)?))
-        }
-    };
+    let head = if words.rest.is_empty() && job.is_some() { None } else { Some(head(words)?) };
     moment(words, "--at")?;
     let journal = journal(words)?;
     let question = Question { head, job, calls: calls(words, &journal)? };

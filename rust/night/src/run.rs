@@ -5,6 +5,7 @@ use std::io::{self, ErrorKind, IsTerminal, Read, Write};
 use std::path::{Path, PathBuf};
 
 use crate::calls::{Call, Gathering};
+use crate::checking::foreign_text;
 use crate::journal::{Answered, Format, Journal, Origin};
 use crate::process::{self, Process, DEATHS};
 use crate::replay::{play, revive};
@@ -60,7 +61,8 @@ impl<W: Write> Night<W> {
         let configuration = read_configuration(&options.configuration)?;
         if let Some(refusal) = process::refusal(&options.program, &configuration)? {
             give_out(&mut output, &refusal)?;
-            return Err(format!("{} is no configuration", options.configuration.display()));
+            let why = foreign_text(&configuration).map_or(String::new(), |why| format!(": it {why}"));
+            return Err(format!("{} is no configuration{why}", options.configuration.display()));
         }
         let program = options.program.clone();
         let origin = standing::origin(&program)?;

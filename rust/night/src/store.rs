@@ -145,7 +145,8 @@ impl Store {
         let path = beside(&self.path, ".torn");
         let kept = OpenOptions::new().append(true).create(true).open(&path).and_then(|mut file| {
             file.write_all(torn)?;
-            file.sync_all()
+            file.sync_all()?;
+            self.keep_name()
         });
         kept.map_err(|error| format!("what is torn cannot be kept in {}: {error}", path.display()))
     }
@@ -248,7 +249,7 @@ impl Store {
         self.file.sync_data()
     }
 
-    /// Puts the name of a new file on the disk: its folder has it.
+    /// Puts the names of new files on the disk: their folder has them.
     fn keep_name(&self) -> io::Result<()> {
         let folder = self.path.parent().filter(|folder| !folder.as_os_str().is_empty()).unwrap_or(Path::new("."));
         File::open(folder)?.sync_all()
@@ -260,10 +261,13 @@ impl Store {
 }
 
 fn no_journal(path: &Path) -> String {
-    format!("there is no journal {} to go on with: --resume begins none", path.display())
+    format!("there is no journal {} to go on with: --resume begins none, --new does", path.display())
 }
 
 fn is_there(path: &Path, journal: &Journal) -> String {
     let calls = journal.calls.len();
-    format!("the journal {} is there already, with {calls} calls: --new writes into none that is", path.display())
+    let path = path.display();
+    format!(
+        "the journal {path} is there already, with {calls} calls: --new wants a new name, --resume goes on with this one"
+    )
 }

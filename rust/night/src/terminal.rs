@@ -79,6 +79,10 @@ fn own<W: Write>(night: &mut Night<W>, gathering: &mut Gathering, line: &str) ->
             String::new()
         }
         [".who", channel, unit] => who_had(night, channel, unit)?,
+        [".who", head] if head.contains('/') => {
+            let (channel, unit) = head.split_once('/').unwrap_or_default();
+            who_had(night, channel, unit)?
+        }
         [".log"] => {
             let journal = night.journal()?;
             log::text(&journal, journal.calls.len().saturating_sub(SHOWN)..journal.calls.len())

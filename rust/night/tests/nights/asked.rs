@@ -54,6 +54,7 @@ fn who_lists_every_holding_of_a_head_with_job_calls_and_times() {
     let b7 = "B7 (place 0) from call 7 (2026-11-17 00:04:00, SELECT) and still has it\n";
     assert_eq!(asked(&place, &["who", "03", "00"]), format!("03/00: A1 (place 0) {a1}03/00: {b7}"));
     assert_eq!(asked(&place, &["who", "3", "1"]), format!("03/01: {b7}"));
+    assert_eq!(asked(&place, &["who", "03/01"]), format!("03/01: {b7}"));
     // A word of the drum, and what a job had.
     let drum = format!("07 drum 35329-35428: A1 (place 0) {a1}");
     assert_eq!(asked(&place, &["who", "07", "35428"]), drum);
@@ -159,6 +160,7 @@ fn what_cannot_be_asked_is_named() {
         (&["who", "03", "00", "--at", "2:40"], 2, "--at 2:40 is no moment"),
         (&["who", "03", "00", "--at", "12:00"], 1, "12:00:00 UTC is far from this journal"),
         (&["who", "03"], 2, "the unit uu is missing"),
+        (&["who", "03/x"], 2, "the unit x is no number"),
         (&["who", "x3", "00"], 2, "the channel x3 is no number"),
         (&["who", "03", "00", "8"], 2, "8 is a word too many"),
         (&["log", "--from", "5", "--to", "3"], 1, "--from is after --to"),

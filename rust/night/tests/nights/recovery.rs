@@ -7,7 +7,7 @@ use night::journal::{write_record, Fault};
 use ordinary::shift::converse;
 
 use crate::random::Random;
-use crate::support::{script, Place, Script};
+use crate::support::{said, script, Place, Script};
 
 const CONFIGURATION: &[u8] = b"1\n03 MT 4\n0\n2\n03\n11\n";
 
@@ -142,6 +142,10 @@ fn a_bad_configuration_is_answered_and_no_journal_is_made() {
         let output = place.run(b"BOARD\n");
         assert_eq!(String::from_utf8_lossy(&output.stdout), due);
         assert!(!output.status.success() && !place.journal().exists());
+    }
+    for (text, words) in [(&b"\xef\xbb\xbf0\n0\n0\n"[..], "byte order mark"), (b"0\r\n0\r\n0\r\n", "CR LF")] {
+        let output = Place::new("bad-text", text).run(b"BOARD\n");
+        assert!(output.stdout == b"ER 14 LINE 1\n" && said(&output).contains(words), "{}", said(&output));
     }
 }
 

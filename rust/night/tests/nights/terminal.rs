@@ -77,6 +77,7 @@ fn at_a_terminal_there_is_a_prompt_and_lines_of_its_own() {
     assert!(board.starts_with("PLACE 0 A1 RUNS\nUNIT 03/00 HELD 0\n") && board.ends_with("END OF BOARD\n"), "{board}");
     assert_eq!(talk.type_line("BOARD", PROMPT), board);
     let who = talk.type_line(".who 03 00", PROMPT);
+    assert_eq!(talk.type_line(".who 3/0", PROMPT), who);
     assert!(who.starts_with("03/00: A1 (place 0) from call 2 (") && who.ends_with("and still has it\n"), "{who}");
     assert!(talk.type_line(".log", PROMPT).ends_with("  SELECT\n               > ACK 0 A1 IB 2-2 MT 03/00\n"));
     assert!(talk.type_line(".frob", PROMPT).contains(".frob"));
