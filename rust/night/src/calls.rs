@@ -23,22 +23,25 @@ pub struct Sort {
     pub extent: Extent,
     /// It only asks: it is answered and not written into the journal.
     pub asks: bool,
+    /// Its answer may have several lines.
+    pub lines: bool,
     /// The request of document 02 that brings it; 0 for none.
     pub since: u32,
 }
 
 const fn line(word: &'static str, fields: &'static str, since: u32) -> Sort {
-    Sort { word, fields, extent: Extent::Line, asks: false, since }
+    Sort { word, fields, extent: Extent::Line, asks: false, lines: false, since }
 }
 
-const fn asks(word: &'static str, fields: &'static str, since: u32) -> Sort {
-    Sort { word, fields, extent: Extent::Line, asks: true, since }
+const fn asks(word: &'static str, fields: &'static str, lines: bool, since: u32) -> Sort {
+    Sort { word, fields, extent: Extent::Line, asks: true, lines, since }
 }
 
-/// All calls. One that the program answers and that is not here is taken for a line that changes something, so a new
-/// call has to be put here if it only asks or has several lines, and into `heads.rs` if it changes holdings or marks.
+/// All calls. One that the program answers and that is not here is taken for a line that changes something and has any
+/// answer. So a new call has to be put here if it only asks or has several lines, and into `heads.rs` if it changes
+/// holdings or marks.
 pub const SORTS: [Sort; 20] = [
-    Sort { word: "DECK", fields: "", extent: Extent::Deck, asks: false, since: 0 },
+    Sort { word: "DECK", fields: "", extent: Extent::Deck, asks: false, lines: true, since: 0 },
     line("SELECT", "", 0),
     line("SUBMIT", "p k ff cc x [h]", 0),
     line("START", "cc", 0),
@@ -55,9 +58,9 @@ pub const SORTS: [Sort; 20] = [
     line("RELEASE", "id", 0),
     line("DELETE", "id", 0),
     line("KEY", "message", 1),
-    asks("STATUS", "p k", 0),
-    asks("BOARD", "", 0),
-    asks("TIMES", "", 11),
+    asks("STATUS", "p k", false, 0),
+    asks("BOARD", "", true, 0),
+    asks("TIMES", "", true, 11),
 ];
 
 /// The sort of call that a line is of, by its first word.
@@ -79,6 +82,11 @@ impl Call {
     /// Is it no call at all? The program has then echoed the line or answered `??`, and nothing has changed.
     pub fn is_none(&self, answer: &[u8]) -> bool {
         answer == b"??\n" || answer == self.text
+    }
+
+    /// Is its answer one line, whatever it is?
+    pub fn has_line(&self) -> bool {
+        sort(&self.text).is_some_and(|sort| !sort.lines)
     }
 
     /// Does it only ask, whatever is answered?

@@ -3,6 +3,7 @@
 use std::os::unix::fs::PermissionsExt;
 use std::process::Command;
 
+use night::calls::Call;
 use night::journal::{write_record, Fault};
 use ordinary::shift::converse;
 
@@ -36,6 +37,20 @@ fn whole_nights_are_answered_as_the_ordinary_cell_does_to_the_byte() {
             assert_eq!(String::from_utf8_lossy(&place.answers(&said)), String::from_utf8_lossy(&all[before..]));
         }
     }
+}
+
+#[test]
+fn calls_whose_answer_is_said_to_be_one_line_have_one_line() {
+    let mut counts = [0, 0];
+    for seed in 0..25 {
+        for step in script(seed, 600).steps {
+            let has_line = Call { text: step.text.clone(), open: false }.has_line();
+            counts[usize::from(has_line)] += 1;
+            let lines = step.due.iter().filter(|&&byte| byte == b'\n').count();
+            assert!(!has_line || lines == 1, "{}: {lines} lines", String::from_utf8_lossy(&step.text));
+        }
+    }
+    assert!(counts[0] > 1000 && counts[1] > 5000, "{counts:?}");
 }
 
 #[test]
