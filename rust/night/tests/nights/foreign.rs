@@ -12,6 +12,7 @@ const CONFIGURATION: &[u8] = b"1\n03 MT 4\n0\n2\n03\n11\n";
 /// The night does not answer this line, and ends with these words.
 fn ends(mut running: Running, line: &str, words: &str) {
     running.send(line.as_bytes());
+    running.input = None;
     let mut given = Vec::new();
     running.output.read_to_end(&mut given).unwrap();
     let status = running.child.wait().unwrap();
