@@ -202,6 +202,7 @@ fn read_header(bytes: &[u8]) -> Result<Option<Journal>, Fault> {
     }
     match second::read_header(line) {
         Some(origin) => Ok(Some(Journal { origin: Some(origin), ..journal })),
+        None if line.starts_with(second::HEADER.as_bytes()) => Err(Fault::Damaged { record: 0, calls: 0, length: 0 }),
         None if line.starts_with(FAMILY) => Err(Fault::OtherVersion),
         None => Err(Fault::NoJournal),
     }

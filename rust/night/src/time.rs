@@ -51,6 +51,14 @@ fn digits(text: &str, count: usize) -> Option<u64> {
     text.parse().ok().filter(|_| fits)
 }
 
+/// Writes a number with as many digits as there is room. Each record has a time, so this is done by hand.
+fn put(room: &mut [u8], mut number: u64) {
+    for digit in room.iter_mut().rev() {
+        *digit = b'0' + (number % 10) as u8;
+        number /= 10;
+    }
+}
+
 impl Time {
     /// A time as the journal has it.
     pub fn read(text: &str) -> Option<Time> {
@@ -79,8 +87,15 @@ impl Time {
 impl fmt::Display for Time {
     fn fmt(&self, to: &mut fmt::Formatter) -> fmt::Result {
         let ((year, month, of_month), seconds) = (date(self.day()), self.0 % DAY / SECOND);
-        let (hour, minute, second) = (seconds / 3600, seconds / 60 % 60, seconds % 60);
-        write!(to, "{year:04}-{month:02}-{of_month:02}T{hour:02}:{minute:02}:{second:02}.{:03}Z", self.0 % SECOND)
+        let mut text = *b"0000-00-00T00:00:00.000Z";
+        let clock = [(11, seconds / 3600), (14, seconds / 60 % 60), (17, seconds % 60)];
+        [(5, month), (8, of_month)]
+            .into_iter()
+            .chain(clock)
+            .for_each(|(at, number)| put(&mut text[at..at + 2], number));
+        put(&mut text[..4], year);
+        put(&mut text[20..23], self.0 % SECOND);
+        to.write_str(std::str::from_utf8(&text).unwrap_or_default())
     }
 }
 

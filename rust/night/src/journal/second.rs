@@ -7,7 +7,7 @@ use crate::calls::Call;
 use crate::sum::{check_sum, continued};
 use crate::time::Time;
 
-const HEADER: &str = "luffgravel night journal 2 script ";
+pub const HEADER: &str = "luffgravel night journal 2 script ";
 
 /// What the first line of a record says.
 #[derive(Clone, Copy, Debug, PartialEq, Eq)]

@@ -186,5 +186,10 @@ fn other_files_are_no_journals() {
     assert_eq!(read(&[b'x'; 5000]), Err(Fault::NoJournal));
     assert_eq!(read(b"luffgravel night journal 3\n"), Err(Fault::OtherVersion));
     assert_eq!(read(b"luffgravel night journal 2\n"), Err(Fault::OtherVersion));
+    // One that an editor of another machine has saved is damaged from its first line on.
+    let text = String::from_utf8(write_beginning(&ORIGIN, BEGUN, CONFIGURATION).0).unwrap();
+    let damaged = Err(Fault::Damaged { record: 0, calls: 0, length: 0 });
+    assert_eq!(read(text.replace('\n', "\r\n").as_bytes()), damaged);
+    assert_eq!(read(text.replace("script 7", "script x").as_bytes()), damaged);
     assert_eq!(read(&[0; 5000]).map(|journal| journal.configuration), Ok(None));
 }
