@@ -209,7 +209,7 @@ impl Store {
             Change::Unknown(error) => format!("cannot be looked at any more: {error}"),
             _ => "was written by somebody else: its bytes are not those that this night wrote".to_string(),
         };
-        format!("while this night ran, the journal {path} {what}")
+        format!("while this night ran, the journal {path}, which had {} calls, {what}", self.calls)
     }
 
     /// Puts what a file without a name still has into one that has a name.
