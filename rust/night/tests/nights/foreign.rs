@@ -19,7 +19,9 @@ fn ends(mut running: Running, line: &str, words: &str) {
     let said = running.said();
     assert_eq!((status.code(), String::from_utf8_lossy(&given).as_ref()), (Some(1), ""), "{line}: {said}");
     assert!(
-        said.contains(words) && said.contains(&format!("Not answered, and not kept: {}", line.trim_end())),
+        said.contains(words)
+            && said.contains(", which had ")
+            && said.contains(&format!("Not answered, and not kept: {}", line.trim_end())),
         "{said}"
     );
 }
