@@ -61,6 +61,9 @@ fn who_lists_every_holding_of_a_head_with_job_calls_and_times() {
     assert_eq!(asked(&place, &["who", "07", "35429"]), "no job: nothing was held\n");
     assert_eq!(asked(&place, &["who", "--job", "A1"]), format!("03/00: A1 (place 0) {a1}{drum}"));
     assert_eq!(asked(&place, &["who", "03", "00", "--job=B7"]), format!("03/00: {b7}"));
+    // It has it after the call that gave it, and no longer after the one that took it.
+    let had = |at: &str| asked(&place, &["who", "--job", "A1", "--at", at]).matches("A1 (place 0)").count();
+    assert_eq!(["1", "2", "5", "6"].map(had), [0, 2, 2, 0]);
     assert_eq!(asked(&place, &["who", "--job", "B7", "--at", "6"]), "no job: nothing was held\n");
     assert_eq!(asked(&place, &["who", "--job", "B7", "--at", "00:04"]).lines().count(), 2);
 }
