@@ -59,9 +59,10 @@ impl Judge {
         let line = String::from_utf8_lossy(line);
         let words: Vec<&str> = line.trim_end_matches('\n').split(' ').collect();
         self.in_error |= match (self.program, &words[..]) {
-            ("listing", ["ER", ..]) => true,
-            ("deck" | "cards", ["SP", _, "ER" | "NO", _] | ["SCH", "ER", _] | ["NO", _]) => true,
             ("desk", ["NO", _]) => self.begins,
+            ("listing", ["ER", ..]) | ("deck" | "cards", ["SP", _, "ER" | "NO", _] | ["SCH", "ER", _] | ["NO", _]) => {
+                true
+            }
             _ => false,
         };
         // The desk shows cards, which may say anything, and then from where they are.

@@ -79,7 +79,7 @@ fn completed(words: &[&str]) -> Vec<String> {
 #[test]
 fn bash_completes_every_command_and_option() {
     let sorted = |words: &[&str]| {
-        let mut words: Vec<String> = words.iter().map(|word| word.to_string()).collect();
+        let mut words: Vec<String> = words.iter().map(ToString::to_string).collect();
         words.sort();
         words
     };
