@@ -2,7 +2,7 @@
 
 use std::process::Command;
 
-use crate::support::{night, said, Place};
+use crate::support::{folder, night, said, Place};
 
 #[test]
 fn help_and_version_are_on_standard_output_with_status_0() {
@@ -96,4 +96,22 @@ fn bash_completes_every_command_and_option() {
     assert_eq!(completed(&["run", "--journal", "=", file]), [whole]);
     assert_eq!(completed(&["check", file]), [whole]);
     assert!(completed(&["who", "--at", ""]).is_empty());
+}
+
+/// What `./install` puts before each proved program.
+#[test]
+fn the_proved_programs_have_a_help_and_a_version_too() {
+    for (name, _) in night::help::PROGRAMS {
+        let program = folder(&format!("begin-{name}")).join(name);
+        std::fs::copy(env!("CARGO_BIN_EXE_begin"), &program).unwrap();
+        let run = |word: &str| Command::new(&program).arg(word).stdin(std::process::Stdio::null()).output().unwrap();
+        for (word, start) in [("--help", format!("usage: {name} ")), ("--version", format!("{name} (Luffgravel) "))] {
+            let output = run(word);
+            assert_eq!((output.status.code(), said(&output).as_str()), (Some(0), ""), "{name} {word}");
+            assert!(output.stdout.starts_with(start.as_bytes()), "{name} {word}");
+        }
+        let output = run("x.conf");
+        assert!(said(&output).starts_with(&format!("{name}: x.conf is a word too many")), "{}", said(&output));
+        assert_eq!((output.status.code(), output.stdout.len()), (Some(2), 0));
+    }
 }
