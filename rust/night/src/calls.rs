@@ -7,6 +7,68 @@ const LINE_ROOM: usize = 1 << 16;
 /// is awaited.
 const DECK_ROOM: usize = 1 << 20;
 
+/// How far a call reaches.
+#[derive(Clone, Copy, Debug, PartialEq, Eq)]
+pub enum Extent {
+    Line,
+    /// The line and the deck behind it, up to its termination card.
+    Deck,
+}
+
+/// A call of the script.
+pub struct Sort {
+    pub word: &'static str,
+    /// What follows the word, for a reader.
+    pub fields: &'static str,
+    pub extent: Extent,
+    /// It only asks: it is answered and not written into the journal.
+    pub asks: bool,
+    /// Its answer may have several lines.
+    pub lines: bool,
+    /// The request of document 02 that brings it; 0 for none.
+    pub since: u32,
+}
+
+const fn line(word: &'static str, fields: &'static str, since: u32) -> Sort {
+    Sort { word, fields, extent: Extent::Line, asks: false, lines: false, since }
+}
+
+const fn asks(word: &'static str, fields: &'static str, lines: bool, since: u32) -> Sort {
+    Sort { word, fields, extent: Extent::Line, asks: true, lines, since }
+}
+
+/// All calls. One that the program answers and that is not here is taken for a line that changes something and has any
+/// answer. So a new call has to be put here if it only asks or has several lines, and into `heads.rs` if it changes
+/// holdings or marks.
+pub const SORTS: [Sort; 20] = [
+    Sort { word: "DECK", fields: "", extent: Extent::Deck, asks: false, lines: true, since: 0 },
+    line("SELECT", "", 0),
+    line("SUBMIT", "p k ff cc x [h]", 0),
+    line("START", "cc", 0),
+    line("DONE", "cc", 0),
+    line("CUT", "cc", 0),
+    line("FAIL", "cc ff", 0),
+    line("RETURN", "p cc uu", 5),
+    line("END", "p", 0),
+    line("ABORT", "p", 0),
+    line("DOWN", "cc uu", 0),
+    line("UP", "cc uu", 0),
+    line("RESERVE", "cc uu", 0),
+    line("UNRESERVE", "cc uu", 0),
+    line("RELEASE", "id", 0),
+    line("DELETE", "id", 0),
+    line("KEY", "message", 1),
+    asks("STATUS", "p k", false, 0),
+    asks("BOARD", "", true, 0),
+    asks("TIMES", "", true, 11),
+];
+
+/// The sort of call that a line is of, by its first word.
+fn sort(line: &[u8]) -> Option<&'static Sort> {
+    let word = line.split(|byte| b" \n".contains(byte)).next()?;
+    SORTS.iter().find(|sort| sort.word.as_bytes() == word)
+}
+
 /// What the shift program gets and answers as one: lines, each with its LF.
 #[derive(Clone, Debug, PartialEq, Eq)]
 pub struct Call {
@@ -22,6 +84,16 @@ impl Call {
         answer == b"??\n" || answer == self.text
     }
 
+    /// Is its answer one line, whatever it is?
+    pub fn has_line(&self) -> bool {
+        sort(&self.text).is_some_and(|sort| !sort.lines)
+    }
+
+    /// Does it only ask, whatever is answered?
+    pub fn asks(&self) -> bool {
+        sort(&self.text).is_some_and(|sort| sort.asks)
+    }
+
     /// The first line as text, for messages.
     pub fn shown(&self) -> String {
         let line = self.text.split(|&byte| byte == b'\n').next().unwrap_or_default();
@@ -30,15 +102,12 @@ impl Call {
     }
 }
 
+/// The termination card, with its LF.
+pub const TERMINATION: &[u8] = b")))))))) +++++++++++++                                                  ))))))))\n";
+
 /// Is this line, with its LF, the termination card?
-fn is_termination(line: &[u8]) -> bool {
-    let due = |column: usize| match column {
-        1..=8 | 73..=80 => b')',
-        10..=22 => b'+',
-        81 => b'\n',
-        _ => b' ',
-    };
-    line.len() == 81 && line.iter().zip(1..).all(|(&byte, column)| byte == due(column))
+pub fn is_termination(line: &[u8]) -> bool {
+    line == TERMINATION
 }
 
 /// What came in and is no call yet.
@@ -68,6 +137,16 @@ impl Gathering {
         calls
     }
 
+    /// Is a deck begun whose termination card has not come?
+    pub fn is_open(&self) -> bool {
+        !self.deck.is_empty()
+    }
+
+    /// Forgets the deck that is begun.
+    pub fn cancel(&mut self) {
+        self.deck.clear();
+    }
+
     /// Takes up a part of one line, whose LF may be its last byte.
     fn take_part(&mut self, part: &[u8]) -> Option<Call> {
         let is_whole = part.last() == Some(&b'\n');
@@ -84,7 +163,8 @@ impl Gathering {
 
     fn take_line(&mut self, line: Vec<u8>) -> Option<Call> {
         if self.deck.is_empty() {
-            if line != b"DECK\n" {
+            let opens = |sort: &Sort| sort.extent == Extent::Deck && line[..line.len() - 1] == *sort.word.as_bytes();
+            if !sort(&line).is_some_and(opens) {
                 return Some(Call { text: line, open: false });
             }
             self.deck = line;
@@ -103,6 +183,26 @@ mod tests {
     use super::*;
 
     const TERMINATION: &str = ")))))))) +++++++++++++                                                  ))))))))\n";
+
+    #[test]
+    fn the_termination_card_has_its_80_columns() {
+        let due = |column: usize| match column {
+            1..=8 | 73..=80 => ')',
+            10..=22 => '+',
+            _ => ' ',
+        };
+        assert_eq!(TERMINATION, (1..=80).map(due).chain(['\n']).collect::<String>());
+        assert!(is_termination(TERMINATION.as_bytes()));
+    }
+
+    #[test]
+    fn calls_that_only_ask_are_known_by_their_first_word() {
+        let asks = |text: &str| Call { text: text.into(), open: false }.asks();
+        assert!(["BOARD\n", "STATUS 0 0\n", "STATUS 99 x\n", "TIMES\n"].iter().all(|text| asks(text)));
+        let others =
+            ["BOARDS\n", " BOARD\n", "KEY BOARD\n", "DECK\nBOARD\n", "TIME 5\n", "SELECT\n", "\n", "LATER 1\n"];
+        assert!(!others.iter().any(|text| asks(text)));
+    }
 
     fn calls(pieces: &[&str]) -> Vec<(String, bool)> {
         let mut gathering = Gathering::default();

@@ -21,10 +21,12 @@ pub struct Process {
     output: BufReader<ChildStdout>,
 }
 
-/// The line that is sent behind a call. It is echoed, so that its echo ends the call's answer, and it is never what
-/// the call itself may echo.
+/// The line that is sent behind a call whose answer may have several lines. It is echoed, so that its echo ends the
+/// answer, and it is never what the call itself may echo.
 fn behind(call: &Call) -> &'static [u8] {
-    if call.text == b"\n" {
+    if call.has_line() {
+        b""
+    } else if call.text == b"\n" {
         b"#\n"
     } else {
         b"\n"
@@ -63,7 +65,11 @@ impl Process {
 
     /// Hands over calls, as many as go together. Where the program is gone, its answers will not come.
     pub fn send(&mut self, calls: &[Call]) {
-        let text: Vec<u8> = calls.iter().flat_map(|call| [&call.text, behind(call)].concat()).collect();
+        let mut text = Vec::new();
+        for call in calls {
+            text.extend_from_slice(&call.text);
+            text.extend_from_slice(behind(call));
+        }
         let is_open = calls.last().is_some_and(|call| call.open);
         let sent = if is_open { self.write(&calls[0].text) } else { self.write(&text) };
         if is_open || sent.is_err() {
@@ -85,6 +91,9 @@ impl Process {
             let read = output.read_until(b'\n', &mut answer);
             if !matches!(read, Ok(1..)) || answer.last() != Some(&b'\n') {
                 return None;
+            }
+            if call.has_line() {
+                return Some(answer);
             }
             if &answer[start..] == behind(call) {
                 answer.truncate(start);

@@ -1,28 +1,36 @@
 //! `night run`: the shift program with a journal beneath it, spoken to as the program itself.
 
 use std::fs::File;
-use std::io::{self, ErrorKind, Read, Write};
+use std::io::{self, ErrorKind, IsTerminal, Read, Write};
 use std::path::{Path, PathBuf};
 
 use crate::calls::{Call, Gathering};
-use crate::journal::{Answer, Answered, Journal};
+use crate::checking::foreign_text;
+use crate::journal::{Answered, Format, Journal, Origin};
 use crate::process::{self, Process, DEATHS};
-use crate::store::Store;
+use crate::replay::{play, revive};
+use crate::standing;
+use crate::store::{Opening, Store};
+use crate::terminal;
 
 /// The most calls of one record. Their answers are held back until all of them are on the disk.
 const TOGETHER: usize = 256;
 /// More than a configuration has: what is cut off of a longer text decides nothing.
 const CONFIGURATION_ROOM: u64 = 4096;
+/// So much of a torn record is shown.
+const SHOWN_ROOM: usize = 2000;
 
 pub struct Options {
     pub journal: PathBuf,
     pub configuration: PathBuf,
     pub program: PathBuf,
+    pub opening: Opening,
 }
 
 /// A night that runs.
-struct Night<W> {
+pub struct Night<W> {
     program: PathBuf,
+    origin: Origin,
     configuration: Vec<u8>,
     store: Store,
     /// `None` when it has died.
@@ -31,17 +39,8 @@ struct Night<W> {
 }
 
 /// Runs a night on this input and output, up to the input's end.
-pub fn run(options: &Options, input: impl Read, mut output: impl Write) -> Result<(), String> {
-    let configuration = read_configuration(&options.configuration)?;
-    if let Some(refusal) = process::refusal(&options.program, &configuration)? {
-        give_out(&mut output, &refusal)?;
-        return Err(format!("{} is no configuration", options.configuration.display()));
-    }
-    let (store, journal) = Store::open(&options.journal)?;
-    let program = options.program.clone();
-    let mut night = Night { program, configuration, store, process: None, output };
-    night.recover(&options.journal, &journal)?;
-    night.talk(input)
+pub fn run(options: &Options, input: impl Read, output: impl Write) -> Result<(), String> {
+    Night::begin(options, output)?.talk(input)
 }
 
 fn read_configuration(path: &Path) -> Result<Vec<u8>, String> {
@@ -56,49 +55,51 @@ fn give_out(output: &mut impl Write, answers: &[u8]) -> Result<(), String> {
     given.map_err(|error| format!("an answer cannot be given out: {error}"))
 }
 
-/// What is said of a call that is answered otherwise than it was.
-fn differs(number: usize, recorded: &Answered, answer: &[u8]) -> String {
-    let answer = answer.split(|&byte| byte == b'\n').next().unwrap_or_default();
-    let answer = String::from_utf8_lossy(answer);
-    let call = recorded.call.shown();
-    format!(
-        "call {number} of the journal, {call}, was answered otherwise than by this shift program, which says {answer}. \
-         Is it another version? The journal is left as it is"
-    )
-}
-
 impl<W: Write> Night<W> {
+    /// Begins a night, or goes back to where its journal ended, and says which.
+    pub fn begin(options: &Options, mut output: W) -> Result<Night<W>, String> {
+        let configuration = read_configuration(&options.configuration)?;
+        if let Some(refusal) = process::refusal(&options.program, &configuration)? {
+            give_out(&mut output, &refusal)?;
+            let why = foreign_text(&configuration).map_or(String::new(), |why| format!(": it {why}"));
+            return Err(format!("{} is no configuration{why}", options.configuration.display()));
+        }
+        let program = options.program.clone();
+        let origin = standing::origin(&program)?;
+        let (store, journal, torn) = Store::open(&options.journal, options.opening)?;
+        let mut night = Night { program, origin, configuration, store, process: None, output };
+        night.recover(&options.journal, &journal, &torn)?;
+        Ok(night)
+    }
+
     /// Goes back to where the journal ended.
-    fn recover(&mut self, path: &Path, journal: &Journal) -> Result<(), String> {
+    fn recover(&mut self, path: &Path, journal: &Journal, torn: &[u8]) -> Result<(), String> {
         if journal.configuration.as_ref().is_some_and(|text| *text != self.configuration) {
             return Err(format!("the journal {} is of another configuration, and is left as it is", path.display()));
         }
-        if journal.torn > 0 {
-            let (path, number, bytes) = (path.display(), journal.records, journal.torn);
-            let said = format!("the last record, number {number}, is torn ({bytes} bytes)");
-            eprintln!("night: {path}: {said}. It was never answered and is dropped");
-        }
+        self.say_origin(path, journal);
         for _ in 0..DEATHS {
             if self.revive(&journal.calls)? {
-                return self.store.begin(&self.configuration);
+                self.store.begin(&self.origin, &self.configuration, torn)?;
+                say_torn(path, journal, torn);
+                say_start(path, journal);
+                return Ok(());
             }
         }
         Err(format!("{} died {DEATHS} times while the journal was played back", self.program.display()))
     }
 
+    /// Says so where another program began the journal: its answers are compared all the same.
+    fn say_origin(&self, path: &Path, journal: &Journal) {
+        let Some(began) = journal.origin.filter(|began| *began != self.origin) else { return };
+        let shown = |origin: &Origin| format!("sum {:016x}, script {}", origin.program, origin.script);
+        let (path, began, now) = (path.display(), shown(&began), shown(&self.origin));
+        eprintln!("night: {path} was begun with another shift program ({began}) than this one ({now})");
+    }
+
     /// Starts the program and plays the journal's calls into it. Answers whether it lives.
     fn revive(&mut self, played: &[Answered]) -> Result<bool, String> {
-        let mut process = Process::start(&self.program, &self.configuration)?;
-        // A deck that was left open changed nothing, and could only be played at an end.
-        let due = || (1..).zip(played).filter(|(_, answered)| !answered.call.open);
-        let calls: Vec<Call> = due().map(|(_, answered)| answered.call.clone()).collect();
-        let mut due = due();
-        let lives = play(&mut process, &calls, |answer| match due.next() {
-            Some((number, recorded)) if Answer::new(&answer) != recorded.answer => {
-                Err(differs(number, recorded, &answer))
-            }
-            _ => Ok(()),
-        })?;
+        let (process, lives) = revive(&self.program, &self.configuration, played)?;
         self.mourn_or_keep(process, lives);
         Ok(lives)
     }
@@ -114,7 +115,7 @@ impl<W: Write> Night<W> {
     }
 
     /// Answers lines until the input ends.
-    fn talk(&mut self, mut input: impl Read) -> Result<(), String> {
+    pub fn talk(&mut self, mut input: impl Read) -> Result<(), String> {
         let mut gathering = Gathering::default();
         let mut piece = vec![0; 1 << 16];
         loop {
@@ -127,8 +128,18 @@ impl<W: Write> Night<W> {
         }
     }
 
-    fn answer_all(&mut self, calls: &[Call]) -> Result<(), String> {
+    pub fn answer_all(&mut self, calls: &[Call]) -> Result<(), String> {
         calls.chunks(TOGETHER).try_for_each(|calls| self.answer(calls))
+    }
+
+    /// The journal as it is now.
+    pub fn journal(&mut self) -> Result<Journal, String> {
+        self.store.journal()
+    }
+
+    /// Where answers go.
+    pub fn output(&mut self) -> &mut W {
+        &mut self.output
     }
 
     /// Answers calls that came together, with another process for each that dies.
@@ -152,70 +163,76 @@ impl<W: Write> Night<W> {
         Ok(())
     }
 
-    /// Plays calls and answers the answers that came before the program died, if it did.
+    /// Plays calls and answers the answers that came before the program died, if it did. While the program works on
+    /// them it is looked whether somebody else has had a hand in the journal: then there are none.
     fn play_on(&mut self, calls: &[Call]) -> Result<Vec<Vec<u8>>, String> {
         let mut answers = Vec::new();
         if self.process.is_none() {
-            let played = self.store.calls()?;
+            let played = self.store.journal()?.calls;
             eprintln!("night: starting another and playing {} calls back", played.len());
             self.revive(&played)?;
         }
         if let Some(mut process) = self.process.take() {
-            let lives = play(&mut process, calls, |answer| {
+            let unanswered = |what: String| format!("{what}. Not answered, and not kept: {}", calls[0].shown());
+            let check = || self.store.check().map_err(unanswered);
+            let take = |answer| {
                 answers.push(answer);
                 Ok(())
-            })?;
+            };
+            let lives = play(&mut process, calls, check, take)?;
             self.mourn_or_keep(process, lives);
         }
         Ok(answers)
     }
 
-    /// Puts what were calls into the journal and on the disk, and only then gives the answers out.
+    /// Puts the calls that may have changed something into the journal and on the disk, and only then gives the answers
+    /// out.
     fn keep(&mut self, calls: &[Call], answers: Vec<Vec<u8>>) -> Result<(), String> {
+        let Some(first) = calls.first() else { return Ok(()) };
         let answered: Vec<Answered> = calls
             .iter()
             .zip(&answers)
-            .filter(|(call, answer)| !call.is_none(answer))
-            .map(|(call, answer)| Answered { call: call.clone(), answer: Answer::new(answer) })
+            .filter(|(call, answer)| !call.asks() && !call.is_none(answer))
+            .map(|(call, answer)| Answered::new(call.clone(), answer))
             .collect();
         if !answered.is_empty() {
-            self.store.append(&answered)?;
+            self.store.append(&answered).map_err(|what| format!("{what}. Not answered: {}", first.shown()))?;
         }
         give_out(&mut self.output, &answers.concat())
     }
 }
 
-/// Plays calls into a process and hands on each answer. Answers whether the process lives.
-fn play(
-    process: &mut Process,
-    calls: &[Call],
-    mut take: impl FnMut(Vec<u8>) -> Result<(), String>,
-) -> Result<bool, String> {
-    let mut rest = calls;
-    while !rest.is_empty() {
-        let (sent, later) = rest.split_at(process::together(rest));
-        process.send(sent);
-        if !hear(process, sent, &mut take)? {
-            return Ok(false);
-        }
-        rest = later;
+/// Shows what an interrupted append has left: nobody can know of it but from here.
+fn say_torn(path: &Path, journal: &Journal, torn: &[u8]) {
+    if torn.is_empty() {
+        return;
     }
-    Ok(true)
+    let (path, number, bytes) = (path.display(), journal.records, torn.len());
+    let said = format!("the last record, number {number}, is torn: {bytes} bytes, cut while they were written");
+    eprintln!("night: {path}: {said}. Probably never answered: look at the heads. It is kept in {path}.torn:");
+    let end = torn.iter().rposition(|&byte| byte != 0).map_or(0, |at| at + 1);
+    if end < torn.len() {
+        eprintln!("night:   ({} zeros at its end)", torn.len() - end);
+    }
+    for line in torn[..end.min(SHOWN_ROOM)].split(|&byte| byte == b'\n').filter(|line| !line.is_empty()) {
+        let shown = String::from_utf8_lossy(line);
+        eprintln!(
+            "night:   {}",
+            shown.chars().map(|char| if char.is_control() { '?' } else { char }).collect::<String>()
+        );
+    }
 }
 
-/// Hands on the answers to calls that were sent. Answers whether the process lives.
-fn hear(
-    process: &mut Process,
-    sent: &[Call],
-    take: &mut impl FnMut(Vec<u8>) -> Result<(), String>,
-) -> Result<bool, String> {
-    for call in sent {
-        match process.answer(call) {
-            Some(answer) => take(answer)?,
-            None => return Ok(false),
-        }
+fn say_start(path: &Path, journal: &Journal) {
+    let path = path.display();
+    if journal.configuration.is_none() {
+        eprintln!("night: {path}: new journal begun");
+        return;
     }
-    Ok(true)
+    let last = journal.calls.last().and_then(|answered| answered.time);
+    let last = last.map_or(String::new(), |time| format!(", the last at {} UTC on {}", time.clock(), time.date()));
+    let old = if journal.format == Format::First { "; it is of the first format, and has no times" } else { "" };
+    eprintln!("night: {path}: {} calls played back{last}{old}", journal.calls.len());
 }
 
 impl<W> Drop for Night<W> {
@@ -226,7 +243,11 @@ impl<W> Drop for Night<W> {
     }
 }
 
-/// The night's own input and output.
+/// The night's own input and output. At a terminal there is more to say.
 pub fn run_here(options: &Options) -> Result<(), String> {
-    run(options, io::stdin().lock(), io::stdout().lock())
+    let (input, output) = (io::stdin().lock(), io::stdout().lock());
+    if input.is_terminal() && output.is_terminal() {
+        return terminal::talk(&mut Night::begin(options, output)?, input);
+    }
+    run(options, input, output)
 }

@@ -12,9 +12,9 @@ pub const WIDTH: f64 = 297.0;
 pub const HEIGHT: f64 = 210.0;
 pub const LEFT: f64 = 26.0;
 pub const RIGHT: f64 = 15.0;
-pub const TOP: f64 = 24.0;
+pub const TOP: f64 = 28.0;
 pub const BOTTOM: f64 = 14.0;
-pub const ROW: f64 = 6.0;
+pub const ROW: f64 = 7.0;
 /// A little over seven points.
 pub const TEXT: f64 = 2.6;
 /// What a character takes at most, in a fixed pitch.
@@ -49,9 +49,9 @@ pub fn label_width(id: &str) -> f64 {
     text_width(id) + 1.2
 }
 
-/// The sheets of a night; all have the same width.
-pub fn sheets(tracks: &Tracks) -> Vec<Sheet> {
-    let mut columns = columns(tracks);
+/// The sheets of these calls of a night, 0 being the fresh cell; all have the same size.
+pub fn sheets(tracks: &Tracks, calls: Range<usize>) -> Vec<Sheet> {
+    let mut columns = columns(tracks, calls);
     if let [(_, edges)] = &mut columns[..] {
         stretch(edges);
     }
@@ -74,13 +74,13 @@ fn stretch(edges: &mut [f64]) {
 }
 
 /// The calls of each sheet from left to right, and their edges.
-fn columns(tracks: &Tracks) -> Vec<(Range<usize>, Vec<f64>)> {
-    let widths = widths(tracks);
+fn columns(tracks: &Tracks, calls: Range<usize>) -> Vec<(Range<usize>, Vec<f64>)> {
+    let widths = widths(tracks, &calls);
     let ends = ends(tracks);
     let mut columns = Vec::new();
-    let mut first = 0;
-    while first <= tracks.calls {
-        let edges = edges(first, &widths, &ends);
+    let mut first = calls.start;
+    while first < calls.end {
+        let edges = edges(first..calls.end, &widths, &ends);
         let next = first + edges.len() - 1;
         columns.push((first..next, edges));
         first = next;
@@ -89,8 +89,8 @@ fn columns(tracks: &Tracks) -> Vec<(Range<usize>, Vec<f64>)> {
 }
 
 /// What each call takes at least: where there is room on one sheet, all the same.
-fn widths(tracks: &Tracks) -> Vec<f64> {
-    let is_short = (tracks.calls + 1) as f64 * CHANGING <= WIDTH - LEFT - RIGHT;
+fn widths(tracks: &Tracks, calls: &Range<usize>) -> Vec<f64> {
+    let is_short = calls.len() as f64 * CHANGING <= WIDTH - LEFT - RIGHT;
     let mut widths = vec![if is_short { CHANGING } else { UNCHANGING }; tracks.calls + 1];
     for call in tracks.rows.iter().flat_map(Row::changes).filter(|&call| call <= tracks.calls) {
         widths[call] = CHANGING;
@@ -108,9 +108,10 @@ fn ends(tracks: &Tracks) -> Vec<Vec<(usize, f64)>> {
 }
 
 /// The edges of as many calls as one sheet takes, one at least.
-fn edges(first: usize, widths: &[f64], ends: &[Vec<(usize, f64)>]) -> Vec<f64> {
+fn edges(calls: Range<usize>, widths: &[f64], ends: &[Vec<(usize, f64)>]) -> Vec<f64> {
+    let first = calls.start;
     let mut edges = vec![0.0];
-    for call in first..widths.len() {
+    for call in calls {
         let begins = |from: usize| edges[from.max(first) - first];
         let needed = ends[call + 1].iter().map(|&(from, room)| begins(from) + room);
         let edge = needed.fold(edges[call - first] + widths[call], f64::max);

@@ -3,6 +3,9 @@
 use std::env;
 use std::path::{Path, PathBuf};
 
+use crate::journal::Origin;
+use crate::sum::check_sum;
+
 /// Where this program stands, as far as that can be told.
 pub fn this_program() -> Option<PathBuf> {
     // The system says it through /proc. A root without that leaves how the program was called.
@@ -27,6 +30,23 @@ pub fn beside(name: &str) -> Option<PathBuf> {
 /// The proved program of the same name as this one, which stands in `bin`.
 pub fn proved(this: &Path) -> Option<PathBuf> {
     Some(this.parent()?.join("../lib/luffgravel").join(this.file_name()?))
+}
+
+/// How many requests of document 02 the shift program has: what its script can say.
+pub const SCRIPT: u32 = 7;
+
+/// The line that says the version of an installed program.
+pub fn version(name: &str) -> String {
+    format!("{name} (Luffgravel) {}, with {SCRIPT} requests\n", env!("CARGO_PKG_VERSION"))
+}
+
+/// What a journal says of the program that it is begun with. The program that is started first from `bin` only looks at
+/// the stack: the proved one behind it counts.
+pub fn origin(program: &Path) -> Result<Origin, String> {
+    let behind = proved(program).filter(|path| path.is_file());
+    let path = behind.as_deref().unwrap_or(program);
+    let bytes = std::fs::read(path).map_err(|error| format!("the program {}: {error}", path.display()))?;
+    Ok(Origin { script: SCRIPT, program: check_sum(&bytes) })
 }
 
 #[cfg(test)]

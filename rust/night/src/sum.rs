@@ -26,8 +26,13 @@ const fn table() -> [u64; 256] {
 
 /// The check sum of a text. Any change within 64 bits gives another one.
 pub fn check_sum(text: &[u8]) -> u64 {
+    continued(0, text)
+}
+
+/// The check sum of a text of which this is the sum so far, and these are the bytes that follow.
+pub fn continued(sum: u64, text: &[u8]) -> u64 {
     let step = |sum: u64, byte: &u8| TABLE[usize::from(sum as u8 ^ byte)] ^ (sum >> 8);
-    !text.iter().fold(!0, step)
+    !text.iter().fold(!sum, step)
 }
 
 #[cfg(test)]
@@ -38,5 +43,6 @@ mod tests {
     fn the_sum_of_the_nine_digits_is_the_published_one() {
         assert_eq!(check_sum(b"123456789"), 0x995d_c9bb_df19_39fa);
         assert_eq!(check_sum(b""), 0);
+        assert_eq!(continued(check_sum(b"1234"), b"56789"), 0x995d_c9bb_df19_39fa);
     }
 }

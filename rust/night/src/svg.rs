@@ -1,9 +1,14 @@
-//! `night show`: the picture of a night, as SVG with sizes of A4 sheets.
+//! `night show`: the picture of a night, as SVG: sheets of A4, as many as the night needs.
+
+mod row;
 
 use std::fmt::Write;
+use std::ops::Range;
 
-use crate::sheets::{self, label_width, text_width, Sheet, BOTTOM, HEIGHT, LEFT, RIGHT, ROW, TEXT, TOP, WIDTH};
-use crate::tracks::{Holding, Row, Span, Track, Tracks};
+use crate::journal::Journal;
+use crate::sheets::{self, text_width, Sheet, CHARACTER, HEIGHT, ROW, TEXT, TOP, WIDTH};
+use crate::time::Time;
+use crate::tracks::Tracks;
 
 /// What every sheet uses: hatching, crosses, and how each thing looks.
 const STYLE: &str = r##"<defs>
@@ -20,8 +25,8 @@ text { font-family: "DejaVu Sans Mono", "Liberation Mono", monospace; fill: blac
 .moving { fill: #203040 }
 .stopping { fill: url(#stopping); stroke: black; stroke-width: 0.15 }
 .interlock { fill: url(#interlock); stroke: #b00020; stroke-width: 0.15 }
-.down { stroke: #b00020; stroke-width: 0.6 }
-.reserved { stroke: #0050a0; stroke-width: 0.6; stroke-dasharray: 1 0.5 }
+.down { fill: #f6c8ce; stroke: #b00020; stroke-width: 0.3 }
+.reserved { fill: #cfe0f6; stroke: #0050a0; stroke-width: 0.3; stroke-dasharray: 1 0.5 }
 .row { stroke: #cccccc; stroke-width: 0.1 }
 .call { stroke: #cccccc; stroke-width: 0.1 }
 </style>
@@ -30,49 +35,127 @@ text { font-family: "DejaVu Sans Mono", "Liberation Mono", monospace; fill: blac
 /// The upper part of a bar has its text, the lower part what moves.
 const BAR: f64 = 4.2;
 const LOWER: f64 = 1.4;
+/// The height of a line in the list of calls, and how far apart its two columns are.
+const LINE: f64 = 3.6;
+const COLUMN: f64 = 140.0;
 
-/// Text that may stand in SVG whatever its characters are.
+/// A call, as the picture tells of it.
+#[derive(Clone, Debug, Default)]
+pub struct Note {
+    pub time: Option<Time>,
+    pub word: String,
+    /// The call and its answer, in a line.
+    pub text: String,
+}
+
+/// What the picture says of its journal.
+#[derive(Clone, Debug, Default)]
+pub struct Notes {
+    pub name: String,
+    pub begun: Option<Time>,
+    /// Call 1 comes first.
+    pub calls: Vec<Note>,
+}
+
+impl Notes {
+    pub fn new(name: &str, journal: &Journal) -> Notes {
+        let calls = journal.calls.iter().map(|answered| {
+            let shown = answered.call.shown();
+            let first = |text: &[u8]| {
+                String::from_utf8_lossy(text.split(|&byte| byte == b'\n').next().unwrap_or_default()).into_owned()
+            };
+            let answer = answered.answer.text().map_or("..".to_string(), first);
+            let word = shown.split(' ').next().unwrap_or_default().to_string();
+            Note { time: answered.time, word, text: format!("{shown}: {answer}") }
+        });
+        Notes { name: name.to_string(), begun: journal.begun, calls: calls.collect() }
+    }
+
+    fn call(&self, call: usize) -> Option<&Note> {
+        self.calls.get(call.checked_sub(1)?)
+    }
+
+    /// The time of a call; that of the beginning for the fresh cell.
+    fn time(&self, call: usize) -> Option<Time> {
+        if call == 0 {
+            self.begun
+        } else {
+            self.call(call)?.time
+        }
+    }
+}
+
+/// The picture of some calls of a night.
+pub struct Picture<'n> {
+    tracks: &'n Tracks,
+    notes: &'n Notes,
+    sheets: Vec<Sheet>,
+}
+
+impl Picture<'_> {
+    /// The calls from one number to another, the first being 0: the fresh cell.
+    pub fn new<'n>(tracks: &'n Tracks, notes: &'n Notes, calls: Range<usize>) -> Picture<'n> {
+        Picture { tracks, notes, sheets: sheets::sheets(tracks, calls) }
+    }
+
+    /// How many sheets it has.
+    pub fn count(&self) -> usize {
+        self.sheets.len()
+    }
+
+    /// One sheet, counted from 1.
+    pub fn sheet(&self, number: usize) -> Option<String> {
+        let sheet = self.sheets.get(number.checked_sub(1)?)?;
+        let mut drawing = Drawing { svg: String::new() };
+        drawing.open();
+        drawing.text(8.0, 9.0, &self.title(sheet, number));
+        let bottom = TOP + sheet.rows.len() as f64 * ROW;
+        drawing.call_numbers(sheet, self.notes, bottom);
+        let rows = self.tracks.rows[sheet.rows.clone()].iter();
+        for (row, y) in rows.zip((0..).map(|at| TOP + f64::from(at) * ROW)) {
+            drawing.row(sheet, row, y);
+        }
+        drawing.legend(bottom + 7.0);
+        drawing.list(sheet, self.notes, bottom + 14.0);
+        drawing.line(format_args!("</svg>"));
+        Some(drawing.svg)
+    }
+
+    /// The journal's name and date, the calls and times of the sheet, and which sheet it is.
+    fn title(&self, sheet: &Sheet, number: usize) -> String {
+        // Column 0 is the fresh cell, and no call.
+        let last = sheet.calls.end - 1;
+        let first = sheet.calls.start.max(1).min(last);
+        let times = [first, last].map(|call| self.notes.time(call));
+        let times = match times {
+            [Some(from), Some(to)] if from.day() == to.day() => {
+                format!("{}, {} to {} UTC, ", from.date(), from.clock(), to.clock())
+            }
+            [Some(from), Some(to)] => {
+                format!("{} {} to {} {} UTC, ", from.date(), from.clock(), to.date(), to.clock())
+            }
+            _ => String::new(),
+        };
+        let name = &self.notes.name;
+        format!("Luffgravel: {name}, {times}calls {first} to {last}, sheet {number} of {}", self.sheets.len())
+    }
+}
+
+/// Text that may be in SVG whatever its characters are.
 fn escaped(text: &str) -> String {
     let escape = |char| match char {
         '&' => "&amp;".to_string(),
         '<' => "&lt;".to_string(),
         '>' => "&gt;".to_string(),
-        char if char.is_control() => "?".to_string(),
+        char if char.is_control() || "\u{fffe}\u{ffff}".contains(char) => "?".to_string(),
         char => char.to_string(),
     };
     text.chars().map(escape).collect()
 }
 
-/// A picture that is being drawn.
+/// A sheet that is being drawn.
 struct Drawing {
     svg: String,
-}
-
-/// The whole picture, sheet below sheet, or one sheet of it, counted from 1. `words` has the first word of each call.
-pub fn picture(tracks: &Tracks, words: &[String], chosen: Option<usize>) -> Result<String, String> {
-    let sheets = sheets::sheets(tracks);
-    let shown: Vec<usize> = (0..sheets.len()).filter(|at| chosen.is_none_or(|chosen| chosen == at + 1)).collect();
-    if shown.is_empty() {
-        return Err(format!("the picture has {} sheets", sheets.len()));
-    }
-    let (width, height) = size(&sheets);
-    let mut drawing = Drawing { svg: String::new() };
-    drawing.open(width, height * shown.len() as f64);
-    for (position, &at) in shown.iter().enumerate() {
-        drawing.line(format_args!(r#"<g transform="translate(0 {:.2})">"#, position as f64 * height));
-        let title = format!("sheet {} of {}", at + 1, sheets.len());
-        drawing.sheet(&sheets[at], &tracks.rows, words, &title);
-        drawing.line(format_args!("</g>"));
-    }
-    drawing.line(format_args!("</svg>"));
-    Ok(drawing.svg)
-}
-
-/// The size of a sheet: A4, and less where a single one has little on it.
-fn size(sheets: &[Sheet]) -> (f64, f64) {
-    let [sheet] = sheets else { return (WIDTH, HEIGHT) };
-    let width = sheet.edge(sheet.calls.end) + RIGHT;
-    (width.max(220.0), TOP + sheet.rows.len() as f64 * ROW + BOTTOM)
 }
 
 impl Drawing {
@@ -81,11 +164,11 @@ impl Drawing {
         let _ = writeln!(self.svg, "{line}");
     }
 
-    fn open(&mut self, width: f64, height: f64) {
-        let size = format!(r#"width="{width:.2}mm" height="{height:.2}mm" viewBox="0 0 {width:.2} {height:.2}""#);
+    fn open(&mut self) {
+        let size = format!(r#"width="{WIDTH}mm" height="{HEIGHT}mm" viewBox="0 0 {WIDTH} {HEIGHT}""#);
         self.line(format_args!(r#"<svg xmlns="http://www.w3.org/2000/svg" {size} font-size="{TEXT}">"#));
         self.svg += STYLE;
-        self.line(format_args!(r#"<rect width="{width:.2}" height="{height:.2}" fill="white"/>"#));
+        self.line(format_args!(r#"<rect width="{WIDTH}" height="{HEIGHT}" fill="white"/>"#));
     }
 
     fn text(&mut self, x: f64, y: f64, text: &str) {
@@ -110,95 +193,50 @@ impl Drawing {
         self.line(format_args!("<title>{}</title></rect>", escaped(said)));
     }
 
-    fn sheet(&mut self, sheet: &Sheet, rows: &[Row], words: &[String], title: &str) {
-        // Column 0 is the fresh cell, and no call.
-        let last = sheet.calls.end - 1;
-        let first = sheet.calls.start.max(1).min(last);
-        self.text(8.0, 9.0, &format!("Luffgravel: a night, calls {first} to {last}, {title}"));
-        let bottom = TOP + sheet.rows.len() as f64 * ROW;
-        self.call_numbers(sheet, words, bottom);
-        for (row, y) in rows[sheet.rows.clone()].iter().zip((0..).map(|at| TOP + f64::from(at) * ROW)) {
-            self.row(sheet, row, y);
-        }
-        self.legend(bottom + 7.0);
-    }
-
-    /// Call numbers along the top, wherever there is room for one, and beneath them the call's word, where its column
-    /// has room.
-    fn call_numbers(&mut self, sheet: &Sheet, words: &[String], bottom: f64) {
+    /// Call numbers along the top, wherever there is room for one; above them the time, where it is another minute, and
+    /// beneath them the call's word, where its column has room.
+    fn call_numbers(&mut self, sheet: &Sheet, notes: &Notes, bottom: f64) {
         self.text(8.0, TOP - 6.0, "call");
-        let mut free = 0.0;
+        if notes.begun.is_some() {
+            self.text(8.0, TOP - 10.0, "UTC");
+        }
+        let (mut free, mut time_free) = (0.0, 0.0);
+        let mut minute = String::new();
         for call in sheet.calls.clone() {
             let (x, end) = (sheet.edge(call), sheet.edge(call + 1));
-            let word = call.checked_sub(1).and_then(|at| words.get(at)).map_or("", String::as_str);
+            let time = notes.time(call).map_or(String::new(), |time| time.clock()[..5].to_string());
+            if time != minute && x >= time_free {
+                self.text(x + 0.4, TOP - 10.0, &time);
+                time_free = x + text_width(&time) + 1.0;
+                minute = time;
+            }
             if x < free {
                 continue;
             }
             self.stroke("call", (x, TOP - 9.0), (x, bottom));
             self.text(x + 0.4, TOP - 6.0, &call.to_string());
             free = x + text_width(&call.to_string()) + 1.0;
+            let word = notes.call(call).map_or("", |note| &note.word);
             if text_width(word) + 0.8 < end - x {
                 self.text(x + 0.4, TOP - 2.2, word);
             }
         }
     }
 
-    fn row(&mut self, sheet: &Sheet, row: &Row, y: f64) {
-        let right = sheet.edge(sheet.calls.end);
-        self.stroke("row", (LEFT, y + ROW), (right, y + ROW));
-        self.text(8.0, y + 3.9, &row.name);
-        let top = y + 0.95;
-        on_sheet(sheet, &row.holdings).for_each(|span| self.holding(sheet, row, span, top));
-        on_sheet(sheet, &row.returning).for_each(|span| self.returning(sheet, row, span, top));
-        on_sheet(sheet, &row.holdings).for_each(|span| self.label(sheet, span, top));
-        let lower = top + BAR - LOWER;
-        on_sheet(sheet, &row.interlock).for_each(|span| self.lower(sheet, row, span, "interlock", "interlock", lower));
-        on_sheet(sheet, &row.moves).for_each(|span| {
-            let (class, word) = if span.what.stopping { ("stopping", "is stopping") } else { ("moving", "moves") };
-            self.lower(sheet, row, span, class, &format!("packet {} {word}", span.what.packet), lower);
-        });
-        self.mark(sheet, &row.down, "down", y + 0.5);
-        self.mark(sheet, &row.reserved, "reserved", y + ROW - 0.4);
-        let letters = [(&row.down, "D"), (&row.reserved, "R")]
-            .map(|(track, letter)| if holds_last(sheet, track) { letter } else { "" });
-        self.text(right + 1.5, y + 3.9, &letters.concat());
-    }
-
-    /// What moves, or is locked, in the lower part of a bar.
-    fn lower<T>(&mut self, sheet: &Sheet, row: &Row, span: &Span<T>, class: &str, said: &str, y: f64) {
-        let said = format!("{}: {said} from call {} to {}", row.name, span.from, span.to);
-        self.area(class, between(sheet, span), y, LOWER, &said);
-    }
-
-    /// The bar of a holding.
-    fn holding(&mut self, sheet: &Sheet, row: &Row, span: &Span<Holding>, top: f64) {
-        let Holding { place, id, .. } = &span.what;
-        let said = format!("{}: held by {id} in place {place} from call {} to {}", row.name, span.from, span.to);
-        self.area("held", between(sheet, span), top, BAR, &said);
-    }
-
-    /// The end of a bar, while the head is being returned.
-    fn returning(&mut self, sheet: &Sheet, row: &Row, span: &Span<()>, top: f64) {
-        let said = format!("{}: being returned from call {} to {}", row.name, span.from, span.to);
-        self.area("returning", between(sheet, span), top, BAR, &said);
-    }
-
-    /// The ID of a bar's job.
-    fn label(&mut self, sheet: &Sheet, span: &Span<Holding>, top: f64) {
-        let x = between(sheet, span);
-        let Holding { id, area, .. } = &span.what;
-        let with_area = area.map(|(first, last)| format!("{id} {first}-{last}"));
-        let fits = |text: &&String| label_width(text) <= x.1 - x.0 + 0.01;
-        // What goes on and is too narrow here has its ID on the next sheet.
-        if let Some(text) = with_area.as_ref().filter(fits).or(Some(id).filter(fits)) {
-            self.text(x.0 + 0.6, top + 2.4, text);
+    /// The calls of the sheet with their answers, in two columns, where there is room for all of them.
+    fn list(&mut self, sheet: &Sheet, notes: &Notes, top: f64) {
+        let calls: Vec<usize> = sheet.calls.clone().filter(|call| notes.call(*call).is_some()).collect();
+        let of_column = calls.len().div_ceil(2);
+        if top + of_column as f64 * LINE > HEIGHT - 4.0 {
+            return;
         }
-    }
-
-    /// A mark, along an edge of its row while it holds.
-    fn mark(&mut self, sheet: &Sheet, track: &Track<()>, class: &str, y: f64) {
-        for (from, to) in on_sheet(sheet, track).map(|span| between(sheet, span)) {
-            self.stroke(class, (from, y), (to, y));
+        for (at, &call) in calls.iter().enumerate() {
+            let Some(note) = notes.call(call) else { continue };
+            let time = note.time.map_or(String::new(), |time| time.clock() + " ");
+            let text: String =
+                format!("{call:4} {time}{}", note.text).chars().take((COLUMN / CHARACTER) as usize - 2).collect();
+            let (x, y) = (8.0 + (at / of_column) as f64 * COLUMN, top + (at % of_column) as f64 * LINE);
+            self.text(x, y, &text);
         }
     }
 
@@ -214,26 +252,11 @@ impl Drawing {
             ("reserved", "reserved (R)"),
         ] {
             match class {
-                "down" | "reserved" => self.stroke(class, (x, y - 1.0), (x + 6.0, y - 1.0)),
-                "held" | "returning" => self.area(class, (x, x + 6.0), y - 2.6, 3.2, said),
+                "held" | "returning" | "down" | "reserved" => self.area(class, (x, x + 6.0), y - 2.6, 3.2, said),
                 _ => self.area(class, (x, x + 6.0), y - 1.8, LOWER, said),
             }
             self.text(x + 7.2, y, said);
             x += 7.2 + text_width(said) + 4.0;
         }
     }
-}
-
-/// The spans of a track that the sheet shows.
-fn on_sheet<'t, T>(sheet: &'t Sheet, track: &'t Track<T>) -> impl Iterator<Item = &'t Span<T>> {
-    track.0.iter().filter(|span| span.from < sheet.calls.end && sheet.calls.start < span.to)
-}
-
-/// Does it hold where the sheet ends?
-fn holds_last(sheet: &Sheet, track: &Track<()>) -> bool {
-    on_sheet(sheet, track).any(|span| span.to >= sheet.calls.end)
-}
-
-fn between<T>(sheet: &Sheet, span: &Span<T>) -> (f64, f64) {
-    (sheet.edge(span.from), sheet.edge(span.to))
 }

@@ -1,6 +1,9 @@
 //! Any bytes on standard input and in the journal are answered, and never by a crash.
 
-use night::journal::{write_beginning, write_record};
+use night::journal::{write_beginning, write_record, Origin};
+use night::svg::{Notes, Picture};
+use night::time::Time;
+use night::who::{self, Question};
 use ordinary::shift::converse;
 
 use crate::random::{damage, Random, ODD_BYTES};
@@ -97,7 +100,6 @@ fn any_record_is_read_or_refused() {
         "+",
         "-",
         ">",
-        "=4 0",
         "ACK",
         "SELECT",
         "START",
@@ -118,15 +120,24 @@ fn any_record_is_read_or_refused() {
     for _ in 0..20_000 {
         let mut body: String = (0..random.below(30)).map(|_| *random.pick(&words)).collect();
         if random.percent(80) {
-            body = format!("<1 {body}\n>ACK {}\n=4 0\n", body.replace('\n', " "));
+            body = format!("<1 {body}\n>ACK {}\n", body.replace('\n', " "));
         }
-        let bytes = [write_beginning(CONFIGURATION), write_record(1, body.as_bytes())].concat();
+        let (beginning, chain) = write_beginning(&Origin { script: 7, program: 1 }, Time(1), CONFIGURATION);
+        let bytes = [beginning, write_record(chain, 1, Time(2), body.as_bytes()).0].concat();
         let Ok(journal) = night::journal::read(&bytes) else { continue };
         read += 1;
         let drawn = night::tracks::tracks(CONFIGURATION, &journal.calls).unwrap();
-        let words = vec!["<&>".to_string(); journal.calls.len()];
-        assert!(night::svg::picture(&drawn, &words, None).unwrap().ends_with("</svg>\n"));
-        night::who::who(&journal, 3, 0, journal.calls.len()).unwrap();
+        let notes = Notes::new("<&>", &journal);
+        let picture = Picture::new(&drawn, &notes, 0..journal.calls.len() + 1);
+        assert!((1..=picture.count()).all(|number| picture.sheet(number).unwrap().ends_with("</svg>\n")));
+        for calls in [None, Some(journal.calls.len())] {
+            let question = Question { head: Some((3, 0)), job: None, calls };
+            assert!(who::answer(&journal, &question, false).unwrap().ends_with('\n'));
+            who::answer(&journal, &question, true).unwrap();
+        }
+        let all = || 0..journal.calls.len();
+        assert_eq!(night::log::objects(&journal, all()).lines().count(), journal.calls.len());
+        night::log::text(&journal, all());
     }
     assert!(read > 1000, "{read}");
 }

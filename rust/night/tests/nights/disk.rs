@@ -56,10 +56,10 @@ fn a_disk_that_becomes_full_ends_the_night_before_the_answer() {
     assert_eq!((kept.calls.len(), kept.torn), (answered, 0));
     // With room again the night goes on. Without, it still starts, and answers nothing.
     std::fs::write(disk.0.join("rest"), vec![0; 1 << 16]).unwrap_err();
-    let output = place.run("BOARD\n".repeat(500).as_bytes());
+    let output = place.run("DOWN 3 1\n".repeat(500).as_bytes());
     assert_eq!((output.status.success(), output.stdout.len()), (false, 0));
     std::fs::remove_file(disk.0.join("rest")).unwrap();
-    assert_eq!(place.answers(b"STATUS 0 0\n"), b"ACK BLANK\n");
+    assert_eq!(place.answers(b"SELECT\n"), b"NO 19\n");
     assert_eq!(night::store::look_at(&place.journal()).unwrap().calls.len(), answered + 1);
 }
 
@@ -85,16 +85,16 @@ fn a_full_disk_and_one_that_is_only_read_are_refused_at_the_start() {
 fn the_sync_comes_before_the_answer() {
     let place = Place::new("sync", CONFIGURATION);
     let mut strace = Command::new("strace");
-    strace.args(["-e", "trace=write,fdatasync", "-e", "signal=none", "-o"]).arg(place.folder.join("trace"));
+    strace.args(["-e", "trace=write,pwrite64,fdatasync", "-e", "signal=none", "-o"]).arg(place.folder.join("trace"));
     let night = place.command();
     let mut child = strace.arg(night.get_program()).args(night.get_args()).stdin(Stdio::piped()).spawn().unwrap();
     child.stdin.take().unwrap().write_all(b"DOWN 3 1\nUP 3 1\n").unwrap();
     assert!(child.wait().unwrap().success());
     let trace = std::fs::read_to_string(place.folder.join("trace")).unwrap();
     let steps = trace.lines().filter_map(|line| {
-        let of_interest = ["write(1", "write(3", "fdatasync(3"];
+        let of_interest = ["write(1", "pwrite64(3", "fdatasync(3"];
         of_interest.into_iter().find(|start| line.starts_with(start))
     });
-    let calls = ["write(3", "fdatasync(3", "write(1"];
-    assert_eq!(steps.collect::<Vec<_>>(), [&["write(3", "fdatasync(3"][..], &calls].concat(), "{trace}");
+    let calls = ["pwrite64(3", "fdatasync(3", "write(1"];
+    assert_eq!(steps.collect::<Vec<_>>(), [&["pwrite64(3", "fdatasync(3"][..], &calls].concat(), "{trace}");
 }

@@ -82,7 +82,7 @@ impl Test<'_> {
     }
 
     fn calls(&self, from: usize, to: usize) -> usize {
-        self.script.steps[from..to].iter().filter(|step| step.is_call).count()
+        self.script.steps[from..to].iter().filter(|step| step.is_kept).count()
     }
 
     /// Reads what is due to the steps, which must come as it is due.
@@ -165,7 +165,7 @@ impl Test<'_> {
         self.tally.in_flight_lost += self.kept + in_flight - kept;
         let mut due = kept - self.kept;
         while due > 0 {
-            due -= usize::from(self.script.steps[self.answered].is_call);
+            due -= usize::from(self.script.steps[self.answered].is_kept);
             self.answered += 1;
         }
         self.kept = kept;
@@ -186,7 +186,6 @@ impl Test<'_> {
             let due = ordinary.answer_line(line.as_bytes());
             running.send(format!("{line}\n").as_bytes());
             assert_eq!(shown(&running.answer(due.len())), shown(&due));
-            self.kept += 1;
         }
     }
 

@@ -4,7 +4,7 @@ use std::process::Command;
 
 use night::calls::Call;
 use night::heads::Heads;
-use night::journal::{Answer, Answered};
+use night::journal::Answered;
 use night::tracks::{tracks, Row, Track};
 use ordinary::cell::{Cell, Status};
 use ordinary::numbers::{ChannelNumber, UnitNumber};
@@ -15,11 +15,8 @@ use crate::support::{script, Place, Script};
 
 /// The calls of a script as a journal has them.
 fn answered(script: &Script) -> Vec<Answered> {
-    let calls = script.steps.iter().filter(|step| step.is_call);
-    let answered = |text: &[u8], due: &[u8]| Answered {
-        call: Call { text: text.to_vec(), open: false },
-        answer: Answer::new(due),
-    };
+    let calls = script.steps.iter().filter(|step| step.is_kept);
+    let answered = |text: &[u8], due: &[u8]| Answered::new(Call { text: text.to_vec(), open: false }, due);
     calls.map(|step| answered(&step.text, &step.due)).collect()
 }
 
@@ -71,7 +68,7 @@ fn the_heads_are_those_of_the_ordinary_cell_after_each_call() {
         let script = script(seed, 400);
         let mut heads = Heads::fresh(&script.configuration).unwrap();
         compare_heads(&heads, script.fresh.cell());
-        for (answered, step) in answered(&script).iter().zip(script.steps.iter().filter(|step| step.is_call)) {
+        for (answered, step) in answered(&script).iter().zip(script.steps.iter().filter(|step| step.is_kept)) {
             heads.hear(answered);
             compare_heads(&heads, step.after.cell());
             compare_jobs(&heads, step.after.cell());
@@ -157,11 +154,11 @@ fn messages_are_calls_and_their_marks_are_seen() {
     let texts: Vec<Vec<u8>> = calls.iter().map(|(line, _, _)| [line, &b"\n"[..]].concat()).collect();
     assert_eq!(kept.into_iter().map(|answered| answered.call.text).collect::<Vec<_>>(), texts);
     for (number, (_, _, is_down)) in (1..).zip(&calls) {
-        let said = night(&["who", "03", "01", &i32::to_string(&number)], &place);
+        let said = night(&["who", "03", "01", "--at", &i32::to_string(&number)], &place);
         assert_eq!(said.ends_with(": free; marked down\n"), *is_down, "{said}");
         assert_eq!(said.ends_with(": free\n"), !*is_down, "{said}");
     }
-    assert!(night(&["show"], &place).contains(r#"<line class="down""#));
+    assert!(night(&["show"], &place).contains(r#"<rect class="down""#));
     // They are played back.
     assert!(place.answers(b"BOARD\n").starts_with(b"UNIT 03/01 DOWN\nCORE "));
 }
@@ -197,7 +194,7 @@ fn a_head_that_is_given_back_is_looked_up_and_shown() {
         ("01", "15", "held by J2 (place 2); no packet moves"),
         ("02", "15", "held by J1 (place 1); no packet moves"),
     ] {
-        let said = night(&["who", "03", unit, call], &place);
+        let said = night(&["who", "03", unit, "--at", call], &place);
         assert!(said.ends_with(&format!(": {due}\n")), "{said}");
     }
     let shown = night(&["show"], &place);
@@ -230,50 +227,54 @@ fn the_journal_says_why_nothing_was_selected() {
     let place = Place::new("why", CONFIGURATION);
     assert_eq!(place.answers(input.as_bytes()), converse(&[CONFIGURATION, input.as_bytes()].concat())[..]);
     let kept = night::store::look_at(&place.journal()).unwrap().calls;
-    let refused =
-        kept.iter().filter_map(|answered| answered.answer.line.as_deref()).filter(|line| line.starts_with(b"NO"));
+    let refused = kept.iter().filter_map(|answered| answered.answer.line()).filter(|line| line.starts_with(b"NO"));
     let refused: Vec<&[u8]> = refused.collect();
     assert_eq!(refused, [&b"NO 19\n"[..], b"NO 18\n", b"NO 20 J16 MT\n", b"NO 20 J17 CORE\n", b"NO 19\n"]);
     // They are played back, and were answered the same.
     assert!(place.answers(b"BOARD\n").starts_with(b"PLACE 0 J0 RUNS\n"));
 }
 
+/// What is said of a call, without its time, which is that of the test.
+fn untimed(said: &str) -> String {
+    let (before, rest) = said.split_once(" (").unwrap();
+    let (_, after) = rest.split_once(", ").unwrap();
+    format!("{before} ({after}")
+}
+
 #[test]
-fn the_night_of_the_readme_is_shown_and_looked_up() {
+fn the_night_of_the_readme_is_looked_up() {
     let script = include_bytes!("../../../../examples/night.script");
     let cut = script.iter().position(|&byte| byte == b'#').unwrap();
     let place = Place::new("readme", &script[..cut]);
     place.answers(&script[cut..]);
-    let shown = night(&["show"], &place);
-    assert_eq!(shown, include_str!("../../../../docs/night.svg"), "docs/night.svg is another picture: draw it again");
     for (call, due) in [
         ("4", "03/00 after call 4 (END 0): free\n"),
         ("5", "03/00 after call 5 (SELECT): held by A1 (place 0); no packet moves\n"),
         ("8", "03/00 after call 8 (START 03): held by A1 (place 0); packet 0 moves (function 42)\n"),
         ("9", "03/00 after call 9 (END 0): held by A1 (place 0, closing); packet 0 is stopping (function 42)\n"),
-        ("13", "03/00 after call 13 (CUT 03): free\n"),
-        ("15", "03/00 after call 15 (SELECT): held by C3 (place 0); no packet moves\n"),
+        ("12", "03/00 after call 12 (CUT 03): free\n"),
+        ("14", "03/00 after call 14 (SELECT): held by C3 (place 0); no packet moves\n"),
         // End of data locks nothing; a lost position does.
-        ("20", "03/00 after call 20 (FAIL 03 03): held by C3 (place 0); no packet moves\n"),
-        ("21", "03/00 after call 21 (START 03): held by C3 (place 0); packet 1 moves (function 42)\n"),
-        ("22", "03/00 after call 22 (FAIL 03 13): held by C3 (place 0); no packet moves; interlock\n"),
+        ("18", "03/00 after call 18 (FAIL 03 03): held by C3 (place 0); no packet moves\n"),
+        ("19", "03/00 after call 19 (START 03): held by C3 (place 0); packet 1 moves (function 42)\n"),
+        ("20", "03/00 after call 20 (FAIL 03 13): held by C3 (place 0); no packet moves; interlock\n"),
     ] {
-        assert_eq!(night(&["who", "03", "00", call], &place), due);
+        assert_eq!(untimed(&night(&["who", "03", "00", "--at", call], &place)), due);
     }
     // A head that is given back is its job's until the block that moves there completes.
     for (call, due) in [
-        ("25", "03/02 after call 25 (START 03): held by C3 (place 0); packet 2 moves (function 42)\n"),
+        ("22", "03/02 after call 22 (START 03): held by C3 (place 0); packet 2 moves (function 42)\n"),
         (
-            "26",
-            "03/02 after call 26 (RETURN 0 03 02): held by C3 (place 0); packet 2 is stopping (function 42); being returned\n",
+            "23",
+            "03/02 after call 23 (RETURN 0 03 02): held by C3 (place 0); packet 2 is stopping (function 42); being returned\n",
         ),
         (
-            "28",
-            "03/02 after call 28 (SELECT): held by C3 (place 0); packet 2 is stopping (function 42); being returned\n",
+            "25",
+            "03/02 after call 25 (SELECT): held by C3 (place 0); packet 2 is stopping (function 42); being returned\n",
         ),
-        ("30", "03/02 after call 30 (CUT 03): free\n"),
-        ("31", "03/02 after call 31 (SELECT): held by E5 (place 1); no packet moves\n"),
+        ("26", "03/02 after call 26 (CUT 03): free\n"),
+        ("27", "03/02 after call 27 (SELECT): held by E5 (place 1); no packet moves\n"),
     ] {
-        assert_eq!(night(&["who", "03", "02", call], &place), due);
+        assert_eq!(untimed(&night(&["who", "03", "02", "--at", call], &place)), due);
     }
 }

@@ -7,8 +7,16 @@
 use compare::{random, scripts};
 
 mod any_bytes;
+mod asked;
+mod checked;
 mod disk;
+mod foreign;
 mod kills;
 mod looked_at;
+mod picture;
 mod recovery;
+mod start;
 mod support;
+mod terminal;
+mod torn;
+mod words;

@@ -3,11 +3,12 @@
 use std::os::unix::fs::PermissionsExt;
 use std::process::Command;
 
+use night::calls::Call;
 use night::journal::{write_record, Fault};
 use ordinary::shift::converse;
 
 use crate::random::Random;
-use crate::support::{script, Place, Script};
+use crate::support::{said, script, Place, Script};
 
 const CONFIGURATION: &[u8] = b"1\n03 MT 4\n0\n2\n03\n11\n";
 
@@ -39,6 +40,20 @@ fn whole_nights_are_answered_as_the_ordinary_cell_does_to_the_byte() {
 }
 
 #[test]
+fn calls_whose_answer_is_said_to_be_one_line_have_one_line() {
+    let mut counts = [0, 0];
+    for seed in 0..25 {
+        for step in script(seed, 600).steps {
+            let has_line = Call { text: step.text.clone(), open: false }.has_line();
+            counts[usize::from(has_line)] += 1;
+            let lines = step.due.iter().filter(|&&byte| byte == b'\n').count();
+            assert!(!has_line || lines == 1, "{}: {lines} lines", String::from_utf8_lossy(&step.text));
+        }
+    }
+    assert!(counts[0] > 1000 && counts[1] > 5000, "{counts:?}");
+}
+
+#[test]
 fn a_torn_last_record_is_dropped_and_the_others_are_kept() {
     let mut random = Random::new(1);
     for seed in 0..25 {
@@ -50,32 +65,33 @@ fn a_torn_last_record_is_dropped_and_the_others_are_kept() {
         let bytes = place.journal_bytes();
         place.answers(b"SELECT\n");
         let longer = place.journal_bytes();
-        let cut = random.within(bytes.len() + 1..=longer.len() - 1);
+        let cut = random.within(bytes.len() + 1..=longer.len() - 2);
         let mut torn = longer[..cut].to_vec();
-        // The disk may have kept any bytes of what was not yet written through.
-        torn.extend((0..random.below(3000)).map(|_| random.below(256) as u8 & [0, 255][cut % 2]));
+        // The disk may have made room for what was not yet written through.
+        torn.resize(longer.len() - random.below(longer.len() - cut), 0);
         std::fs::write(place.journal(), &torn).unwrap();
         let output = place.run(b"BOARD\n");
         let ordinary = &mut script.steps[half - 1].after.clone();
         assert_eq!(String::from_utf8_lossy(&output.stdout), String::from_utf8_lossy(&ordinary.answer_line(b"BOARD")));
         assert!(String::from_utf8_lossy(&output.stderr).contains("is torn"));
+        assert_eq!(std::fs::read(place.beside(".torn")).unwrap(), torn[bytes.len()..]);
         assert!(place.journal_bytes().starts_with(&bytes));
         assert_eq!(night::store::look_at(&place.journal()).unwrap().torn, 0);
     }
 }
 
 #[test]
-fn a_damaged_record_before_the_last_stops_the_start_and_changes_nothing() {
+fn a_damaged_record_stops_the_start_and_changes_nothing() {
     let mut random = Random::new(2);
     let place = Place::new("damaged", CONFIGURATION);
-    for line in ["SELECT\n", "BOARD\n", "DOWN 3 1\n", "STATUS 0 0\n"] {
+    for line in ["SELECT\n", "UP 3 1\n", "DOWN 3 1\n", "BOARD\nSELECT\n"] {
         place.answers(line.as_bytes());
     }
     let bytes = place.journal_bytes();
     let starts: Vec<usize> = (0..bytes.len()).filter(|&at| bytes[at..].starts_with(b"\n@")).collect();
     assert_eq!(starts.len(), 5);
     for _ in 0..60 {
-        let at = random.within(starts[0]..=starts[4] - 1);
+        let at = random.within(starts[0]..=bytes.len() - 1);
         let record = starts.iter().filter(|&&start| start <= at).count() - 1;
         let mut damaged = bytes.clone();
         damaged[at] ^= 1 << random.below(8);
@@ -96,7 +112,8 @@ fn a_start_that_was_cut_short_begins_anew() {
     }
     std::fs::write(place.journal(), vec![0; 4096]).unwrap();
     assert_eq!(place.answers(b"SELECT\n"), b"NO 19\n");
-    assert!(place.journal_bytes().starts_with(&bytes));
+    let read = night::store::look_at(&place.journal()).unwrap();
+    assert_eq!((read.configuration.as_deref(), read.calls.len()), (Some(CONFIGURATION), 1));
 }
 
 #[test]
@@ -140,6 +157,10 @@ fn a_bad_configuration_is_answered_and_no_journal_is_made() {
         let output = place.run(b"BOARD\n");
         assert_eq!(String::from_utf8_lossy(&output.stdout), due);
         assert!(!output.status.success() && !place.journal().exists());
+    }
+    for (text, words) in [(&b"\xef\xbb\xbf0\n0\n0\n"[..], "byte order mark"), (b"0\r\n0\r\n0\r\n", "CR LF")] {
+        let output = Place::new("bad-text", text).run(b"BOARD\n");
+        assert!(output.stdout == b"ER 14 LINE 1\n" && said(&output).contains(words), "{}", said(&output));
     }
 }
 
@@ -212,6 +233,8 @@ fn a_program_that_answers_otherwise_is_noticed() {
     place.is_refused("call 2 of the journal, START 3, was answered otherwise");
     assert_eq!(place.journal_bytes(), bytes);
     // A record whose sum is right and whose text is none is damaged too.
-    std::fs::write(place.journal(), [&bytes[..], &write_record(2, b"<9 SELECT\n")].concat()).unwrap();
+    let read = night::journal::read(&bytes).unwrap();
+    let record = write_record(read.chain, 2, read.last().unwrap(), b"<9 SELECT\n").0;
+    std::fs::write(place.journal(), [&bytes[..], &record].concat()).unwrap();
     place.is_refused("record 2 is damaged");
 }

@@ -27,6 +27,17 @@ pub fn program() -> PathBuf {
     program
 }
 
+/// The folder of the proved programs.
+pub fn programs() -> PathBuf {
+    program().parent().unwrap().to_path_buf()
+}
+
+/// Runs `night` with these words.
+pub fn night(words: &[&str]) -> Output {
+    let mut command = Command::new(env!("CARGO_BIN_EXE_night"));
+    command.args(words).env_remove("NIGHT_JOURNAL").stdin(Stdio::null()).output().unwrap()
+}
+
 /// An empty folder of this name.
 pub fn folder(name: &str) -> PathBuf {
     let folder = Path::new(env!("CARGO_TARGET_TMPDIR")).join(name);
@@ -47,6 +58,11 @@ fn lose_patience() {
     });
 }
 
+/// What a program said on standard error.
+pub fn said(output: &Output) -> String {
+    String::from_utf8_lossy(&output.stderr).into_owned()
+}
+
 /// A folder with a configuration in it, and the command that runs a night there.
 pub struct Place {
     pub folder: PathBuf,
@@ -65,6 +81,16 @@ impl Place {
         self.folder.join("journal")
     }
 
+    /// What stands beside the journal under its name and this.
+    pub fn beside(&self, end: &str) -> PathBuf {
+        self.folder.join(format!("journal{end}"))
+    }
+
+    /// Sets the clock: what the system's shows, and what has passed, in milliseconds.
+    pub fn set_clock(&self, system: u64, passed: u64) {
+        std::fs::write(self.folder.join("clock"), format!("{system} {passed}")).unwrap();
+    }
+
     pub fn journal_bytes(&self) -> Vec<u8> {
         std::fs::read(self.journal()).unwrap()
     }
@@ -73,6 +99,8 @@ impl Place {
         let mut command = Command::new(env!("CARGO_BIN_EXE_night"));
         command.arg("run").arg("--journal").arg(self.journal()).arg("--shift").arg(&self.program);
         command.arg(self.folder.join("configuration"));
+        // Where this file is not there, the clock is the system's.
+        command.env("NIGHT_TEST_CLOCK", self.folder.join("clock"));
         command.stdin(Stdio::piped()).stdout(Stdio::piped()).stderr(Stdio::piped());
         command
     }
@@ -128,6 +156,10 @@ impl Running {
         self.input.as_mut().unwrap().write_all(text).unwrap();
     }
 
+    pub fn said(&self) -> String {
+        std::fs::read_to_string(&self.said).unwrap()
+    }
+
     /// Waits for an answer of this length, while the input stays open.
     pub fn answer(&mut self, length: usize) -> Vec<u8> {
         let mut answer = vec![0; length];
@@ -159,7 +191,8 @@ impl Running {
 pub struct Step {
     pub text: Vec<u8>,
     pub due: Vec<u8>,
-    pub is_call: bool,
+    /// It is a call, and one that does not only ask.
+    pub is_kept: bool,
     pub after: Shift,
 }
 
@@ -188,6 +221,7 @@ pub fn script(seed: u64, calls: usize) -> Script {
 fn step(shift: &mut Shift, piece: &[u8]) -> Step {
     let lines = piece.split_inclusive(|&byte| byte == b'\n');
     let due: Vec<u8> = lines.flat_map(|line| shift.answer_line(&line[..line.len() - 1])).collect();
-    let is_call = due != b"??\n" && due != piece;
-    Step { text: piece.to_vec(), due, is_call, after: shift.clone() }
+    let asks = [&b"BOARD"[..], b"STATUS"].contains(&piece.split(|byte| b" \n".contains(byte)).next().unwrap());
+    let is_kept = due != b"??\n" && due != piece && !asks;
+    Step { text: piece.to_vec(), due, is_kept, after: shift.clone() }
 }
