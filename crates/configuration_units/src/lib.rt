@@ -1,7 +1,5 @@
 // The units of a configured cell when it is fresh.
 use channels::Configuration;
-use numbers::ChannelNumber;
-use numbers::UnitNumber;
 use units::Units;
 ghost use mathlib.Core.Path.{_≡_};
 ghost use Rattle.units.specs.State.{unitsFrom};
@@ -15,19 +13,20 @@ pub fn fresh(configuration: Configuration) -> Units
     fresh_from(down)
 }
 
-// The same, of the down units alone: all units free and unmarked, then each down one put.
+// The same, of the down units alone. Only down units are stored, in a local grid that becomes a state once: a state
+// that is handed on is copied whole.
 fn fresh_from(down: [bool; 256]) -> Units
     ensures { λ r. ⌜ r ≡ unitsFrom (freshUnits down) ⌝ }
 {
-    let mut next = units::none_held();
+    let mut grid = units::grid_of(units::none_held());
     let mut i: usize = 0;
     while i < 256 {
         if down[i] {
-            let channel = ChannelNumber((i / 16) as u8);
-            let unit = UnitNumber((i % 16) as u8);
-            next = units::with_unit(next, channel, unit, units::fresh_unit(true));
+            let c = i / 16;
+            let u = i % 16;
+            grid[c][u] = units::fresh_unit(true);
         }
         i += 1;
     }
-    next
+    units::units_from(grid)
 }
