@@ -118,15 +118,15 @@ loop-again c =
     let then = then .before in let size = then .size in
     let then = then .before in let args = then .args in let good = then .good in
     ⊎-elim (λ w. walk-next (args .schedule) (full (args .schedule) _ (good .0)) (size .ensures) (all .ensures)
-    (supplyOf (args .units .of) (args .occupancy) (args .areas) (args .channels)) (loop .so-far) (loop .inv) (omega arith) _ (w .0 .taken)
+    (supplyOf (args .units .of) (args .occupancy) (args .areas) (args .channels)) (loop .so-far) (loop .inv) (omega (arith, c)) _ (w .0 .taken)
     (w .6 .given .0 .0)
-    (told (args .units .of) (args .occupancy) (args .areas) (args .channels) _ (count .result) (omega arith) (count .ensures)
+    (told (args .units .of) (args .occupancy) (args .areas) (args .channels) _ (count .result) (omega (arith, c)) (count .ensures)
     (drum-length .ensures) (w .4 .ensures) (w .6 .given .1))
     (c .if1 .so-far) (w .9 ∙ w .8 .ensures))
     (λ w. subst (λ (x : Noted). Walked (take (size .result) (args .schedule .entries))
     (supplyOf (args .units .of) (args .occupancy) (args .areas) (args .channels)) (x .lacking) (x .at) (loop .k + 1))
     (sym (w .1)) (walk-on (args .schedule) (full (args .schedule) _ (good .0)) (size .ensures) (all .ensures)
-    (supplyOf (args .units .of) (args .occupancy) (args .areas) (args .channels)) (loop .so-far) (loop .inv) (omega arith) (w .0 .left)))
+    (supplyOf (args .units .of) (args .occupancy) (args .areas) (args .channels)) (loop .so-far) (loop .inv) (omega (arith, c)) (w .0 .left)))
     (c .if1 .came)
 
 none-picked-requires : tie.Need-none-picked-requires Inv-loop μ-loop
