@@ -34,7 +34,7 @@ pub record HasKind (supply : Supply) (wanted : Facilities) (order : ℕ) : Type 
   pub to : ℕ → Given
   pub served : Served (freeOf supply order) (want (wantsOf wanted order)) on to
 
--- a part alone has a solution in this cell; it is lacking where it has none
+-- a part alone has a solution in this supply; it is lacking where it has none
 abbrev pub Has : Supply → Facilities → Part → Type 0
 Has supply wanted Core = HasCore (supply .occupancy) wanted
 Has supply wanted Drum = HasDrum (supply .areas) (drumLength (supply .channels)) wanted
@@ -53,6 +53,6 @@ abbrev pub FirstOf : (Part → Type 0) → List Part → Lacking → Type 0
 FirstOf has [] r = r ≡ Nothing
 FirstOf has (p ∷ ps) r = ((has p → ⊥) × (r ≡ First p)) ⊎ (has p × FirstOf has ps r)
 
--- what is lacking first in this cell for what a job asks for
+-- what is lacking first in this supply for what a job asks for
 abbrev pub FirstLacking : Supply → Facilities → Lacking → Type 0
 FirstLacking supply wanted r = FirstOf (Has supply wanted) parts r

@@ -1,4 +1,4 @@
--- The parts of an assignment and the first that is lacking, by what is counted and held. For a cell that is counted so
+-- The parts of an assignment and the first that is lacking, by what is counted and held. For a supply that is counted so
 -- this is what crates/assign/specs/Parts.antt says of it (proofs/InCellLaws: in-cell).
 use Prim.Native.Nat.{ℕ}
 use mathlib.Core.Path.{_≡_}

@@ -60,7 +60,7 @@ leftBy Stays s place otherwise = otherwise
 leftBy AfterNormal s place otherwise = returned s place false
 leftBy AfterError s place otherwise = returned s place true
 
--- the schedule follows the answer: a completion may have returned its job's facilities; a job that has ended is closing,
+-- the schedule follows the answer. A completion may have returned its job's facilities. A job that has ended is closing,
 -- unless its facilities returned at once
 abbrev pub followed : Schedule → Answer → Schedule
 followed s Done = s

@@ -1,6 +1,6 @@
 -- What a history of the cell is to the request lists: the calls on them, each with the answer that the history records. A
--- call is told as none, one or several of theirs: a selection as a taking, a keyboard message as the call that it asks
--- for. A reader has to believe this page.
+-- call is told as none, one or several of theirs. A selection is told as a taking, a keyboard message as the call that it
+-- asks for. A reader has to believe this page.
 use mathlib.Core.List.{List, [], _∷_, _++_}
 use mathlib.Core.Option.{Option, none, some}
 use Rattle.numbers.specs.declared.Outcome.{Outcome}

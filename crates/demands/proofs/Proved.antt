@@ -50,12 +50,12 @@ use Rattle.packets.specs.declared.Verdict.the-variants.{Granted}
 use Rattle.assign.proofs.LackingLaws.{exists-exactly}
 use Rattle.cell_selection.specs.Selecting.{isJob, takingOf, leftBy}
 use Rattle.cell_selection.specs.declared.Selection.{Selection}
-use Rattle.cell.specs.Calls.{Enters}
+use Rattle.cell.specs.Calls.{Enters, acted}
 use Rattle.cell.specs.declared.Cell.{Cell}
 use Rattle.lists.specs.declared.StatusAnswer.the-variants.{Is}
-use Rattle.cell_history.specs.Told.{inside, told, toldOf}
+use Rattle.cell_history.specs.Told.{inside, said, told, toldOf}
 use Rattle.cell_history.specs.History.{Call, Chosen, Does, Event, Leads, Reached, Reply, Select, Shown}
-use Rattle.demands.specs.Demands.{Demand1, Demand2, Demand3, joins, taken}
+use Rattle.demands.specs.Demands.{Demand1, Demand2, Demand3, joins, takenInto}
 use Rattle.demands.proofs.InOrder.{first-in-order}
 use Rattle.demands.proofs.Named.{named-so, nobody-so}
 use Rattle.demands.proofs.Oldest.{ordered}
@@ -203,7 +203,9 @@ demand-2 =
         every-cell configuration es c h .always .moving channel place packet,
         every-cell configuration es c h .always .movers place packet,
       );
-      told = does-told;
+      itself = λ c d x reply h. (acted c x .answer, h .0, ap (said x) (h .0));
+      selection = λ c d s h. refl;
+      leads = does-told;
       codes = told-so (λ before y after. (place packet : ℕ) → packetIn (after .jobs) place packet .status ≡ statusAfter before y place packet)
           (λ l s y r g. codes l s r y g);
       interlocks = told-so
@@ -226,14 +228,14 @@ demand-2 =
 -- a holding that begins with a taking, whatever call it is of
 module _ (configuration : Configuration) (before : List Event) (c : Cell) (r : Reached configuration before c) (d : Cell) (x : Call)
     (reply : Reply) (k : Does c x reply d) (early late : List Lists.Event) (place : ℕ) (given : Assignment)
-    (is : toldOf x reply ≡ early ++ (taken place given ∷ late)) (s : State)
-    (leads : Lists.Leads (inside c) (early ++ (taken place given ∷ [])) s) where
+    (is : toldOf x reply ≡ early ++ (takenInto place given ∷ late)) (s : State)
+    (leads : Lists.Leads (inside c) (early ++ (takenInto place given ∷ [])) s) where
   abbrev taking : Rules.Call
   taking = Rules.Take place given
 
   -- the lists before the taking, and after it
-  between : (t : State) × Lists.Leads (inside c) early t × Lists.Leads t (taken place given ∷ []) s
-  between = leads-split (inside c) early (taken place given ∷ []) s leads
+  between : (t : State) × Lists.Leads (inside c) early t × Lists.Leads t (takenInto place given ∷ []) s
+  between = leads-split (inside c) early (takenInto place given ∷ []) s leads
 
   abbrev free : State
   free = between .0
@@ -252,11 +254,11 @@ module _ (configuration : Configuration) (before : List Event) (c : Cell) (r : R
       → Stretch h s (late ++ told during) → Isolated (configuration .codes) h (late ++ told during) (inside e)
   as-told h at H during e l stretch =
       let after : s ≡ Rules.step free taking .state = between .2 .1 in
-      let all : Lists.Leads (inside c) ((early ++ (taken place given ∷ [])) ++ late) (inside d) =
+      let all : Lists.Leads (inside c) ((early ++ (takenInto place given ∷ [])) ++ late) (inside d) =
       subst (λ (m : List Lists.Event). Lists.Leads (inside c) m (inside d))
-      (is ∙ sym (append-assoc early (taken place given ∷ []) late)) (does-told c d x reply k) in
-      let rest = leads-split (inside c) (early ++ (taken place given ∷ [])) late (inside d) all in
-      let q : rest .0 ≡ s = leads-once (inside c) (early ++ (taken place given ∷ [])) (rest .0) s (rest .1) leads in
+      (is ∙ sym (append-assoc early (takenInto place given ∷ []) late)) (does-told c d x reply k) in
+      let rest = leads-split (inside c) (early ++ (takenInto place given ∷ [])) late (inside d) all in
+      let q : rest .0 ≡ s = leads-once (inside c) (early ++ (takenInto place given ∷ [])) (rest .0) s (rest .1) leads in
       let m : Lists.Leads s (late ++ told during) (inside e) =
       leads-append s late (inside d) (told during) (inside e)
       (subst (λ (t : State). Lists.Leads t late (inside d)) q (rest .2)) (leads-told d e during l) in

@@ -74,6 +74,7 @@ use Rattle.packets.specs.Interlocks.{interlockAfter}
 use Rattle.numbers.specs.Elements.{find, keep}
 use Rattle.packets.specs.State.{State, entryOf, heldBy, inMotion, isClosing, isEmpty, isStill, jobIn, motionOn, noCore, packetIn, stateIn}
 use Rattle.packets.specs.Rules.{closing, isAt}
+use Rattle.packets.specs.declared.Act.{Act}
 use Rattle.packets.specs.declared.Act.the-variants.{Complete, End, Mark, Return, Start, Submit}
 use Rattle.packets.specs.declared.Answer.{Answer}
 use Rattle.packets.specs.declared.Answer.the-variants as Answers
@@ -238,6 +239,10 @@ joins (Rules.Do (End place inError)) = []
 joins (Rules.Do (Return place channel unit)) = []
 joins (Rules.Do (Mark channel unit mark on)) = []
 
+-- a job was taken into a place with an assignment
+abbrev pub takenInto : ℕ → Assignment → Lists.Event
+takenInto place given = record { call = Rules.Take place given; answer = Answers.Done }
+
 -- each accepted call of a history of the request lists is answered as the rules say, from the state before it
 abbrev pub AnsweredSo : State → List Lists.Event → Type 0
 AnsweredSo s [] = Unit {0}
@@ -397,9 +402,14 @@ pub record Demand2 : Type 0 where
       → (inMotion (packetIn (inside c .jobs) place packet .status) ≡ true) × (packetIn (inside c .jobs) place packet .channel .0 ≡ channel))
       × (inMotion (packetIn (inside c .jobs) place packet .status) ≡ true
       → motionOn (inside c) (packetIn (inside c .jobs) place packet .channel .0) ≡ Busy place packet)
-  -- Of a call the request lists are told none, one or several calls of theirs: these, each answered so, lead from the
-  -- lists before it to the lists after it
-  pub told : (c d : Cell) (x : Call) (reply : Reply) → Does c x reply d → Lists.Leads (inside c) (toldOf x reply) (inside d)
+  -- A call on packets, jobs, units or marks is told to the request lists as itself, with the answer that was replied,
+  pub itself : (c d : Cell) (x : Act) (reply : Reply) → Does c (Do x) reply d
+      → (a : Answer) × (reply ≡ Said a) × (toldOf (Do x) reply ≡ record { call = Rules.Do x; answer = a } ∷ [])
+  -- and a selection that is answered Done as the taking of its job, done.
+  pub selection : (c d : Cell) (s : Selection) → Does c Select (Chosen Done s) d
+      → toldOf Select (Chosen Done s) ≡ takenInto (s .place) (assignmentOf (s .request .facilities) (s .assigned)) ∷ []
+  -- A call is told as none, one or several of theirs: these, each answered so, lead from the lists before it to those after
+  pub leads : (c d : Cell) (x : Call) (reply : Reply) → Does c x reply d → Lists.Leads (inside c) (toldOf x reply) (inside d)
   -- "packets end with the stated codes": over any history, after each of these that is accepted each packet's status is
   -- the stated one,
   pub codes : (configuration : Configuration) (es : List Event) (c : Cell) → Reached configuration es c
@@ -453,10 +463,6 @@ MovesThere c place channel unit =
     (packet : ℕ) × (inMotion (packetIn (inside c .jobs) place packet .status) ≡ true)
     × (isAt (channel .0) (AtUnit unit) (packetIn (inside c .jobs) place packet) ≡ true)
 
--- a job was taken into a place with an assignment
-abbrev pub taken : ℕ → Assignment → Lists.Event
-taken place given = record { call = Rules.Take place given; answer = Answers.Done }
-
 -- "3. Take any sequence of calls from a fresh cell and one job's holding of one unit or piece of drum: the accepted
 -- calls that acted on it, given to a lone unit written separately, make the same starts in the same order and leave
 -- the same packet statuses; on a unit nothing of another job starts or moves meanwhile."
@@ -466,13 +472,13 @@ pub record Demand3 : Type 0 where
   pub alike :
       -- any sequence of calls from a fresh cell
       (configuration : Configuration) (before : List Event) (c : Cell) → Reached configuration before c
-      -- then a call by which, after others that it is told as or not, a job is taken; the lists are then s
+      -- then a call that is told as a taking of a job, with others before it and after it or none; the lists are then s
       → (d : Cell) (x : Call) (reply : Reply) → Does c x reply d
-      → (early late : List Lists.Event) (place : ℕ) (given : Assignment) → toldOf x reply ≡ early ++ (taken place given ∷ late)
-      → (s : State) → Lists.Leads (inside c) (early ++ (taken place given ∷ [])) s
+      → (early late : List Lists.Event) (place : ℕ) (given : Assignment) → toldOf x reply ≡ early ++ (takenInto place given ∷ late)
+      → (s : State) → Lists.Leads (inside c) (early ++ (takenInto place given ∷ [])) s
       -- one holding of it: a unit, or its piece of the drum
       → (h : Holding) → h .place ≡ place → Holds s h
-      -- what is left of that call and any calls after it, before each of which it has it: up to its return, "the unit's
+      -- the rest of that call, and any calls after it. Before each the job has the holding: up to its return, "the unit's
       -- own" or with the rest of the job's facilities, or any earlier moment
       → (during : List Event) (e : Cell) → Leads d during e → Stretch h s (late ++ told during)
       -- by what the caller was told: the lone unit, which "takes the same section", takes every call that acted, makes

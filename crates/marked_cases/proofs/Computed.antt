@@ -54,16 +54,16 @@ abbrev orNext : ℕ → Lacking → Assigned → Lacking → ℕ → (Lacking �
 orNext k Nothing a l at next = record { found = true; lacking = Nothing; at = k; assigned = a }
 orNext k (First part) a l at next = next (lackingThen l part) (atThen l at k)
 
-abbrev pickFrom : List Entry → Assign.Cell → ℕ → ℕ → Lacking → ℕ → Pick
+abbrev pickFrom : List Entry → Assign.Supply → ℕ → ℕ → Lacking → ℕ → Pick
 pickFrom es cell zero k l at = record { found = false; lacking = l; at = at; assigned = nothing }
 pickFrom es cell (suc n) k l at =
     let p = assignOf cell (entryAt es k .request .facilities) in
     cond (candidate es (entryAt es k)) (orNext k (p .lacking) (p .assigned) l at (pickFrom es cell n (k + 1))) (pickFrom es cell n (k + 1) l at)
 
-abbrev pickOf : List Entry → Assign.Cell → Pick
+abbrev pickOf : List Entry → Assign.Supply → Pick
 pickOf es cell = pickFrom es cell (length es) 0 Nothing 0
 
-module _ (es : List Entry) (cell : Assign.Cell) (size : length (cell .channels) ≡ 16)
+module _ (es : List Entry) (cell : Assign.Supply) (size : length (cell .channels) ≡ 16)
     (full : (k : ℕ) → length (entryAt es k .request .facilities .units) ≡ many) where
   picks-from : (n k : ℕ) (x : Lacking) (at : ℕ) → k + n ≡ length es → Walked es cell x at k → Picks es cell (pickFrom es cell n k x at)
   picks-from zero k x at e w = walked-all es cell k w (omega arith) nothing refl

@@ -167,7 +167,7 @@ module _ (section : ℕ) where
       by-bool (f n) (λ t. (n, t))
       (λ t. let z : _≡_ {A = ℕ} (one (f n)) 0 = rw t refl in some-of n f (omega (arith, sum-suc n (λ i. one (f i)))))
 
-  abbrev seen₁ : Assign.Cell
+  abbrev seen₁ : Assign.Supply
   seen₁ = supplyIn lists₁
 
   free-48 : freeOf seen₁ 1 48 ≡ true

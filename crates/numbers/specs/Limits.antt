@@ -1,4 +1,5 @@
--- THE LIMITS, in document 01's order, and those of the requests after it; what follows from one is computed from it.
+-- THE LIMITS, in document 01's order, each request's beside what it extends; what follows from one is computed from it. A
+-- reader has to believe this page.
 use Prim.Native.Nat.{ℕ, _+_, _-_, _*_}
 
 -- "Core: 32 blocks"

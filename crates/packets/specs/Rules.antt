@@ -97,7 +97,8 @@ use Rattle.packets.specs.State.{
 pub data Call : Type 0 where
   -- a job is taken into a place with an assignment
   Take : ℕ → Assignment → Call
-  -- a submission, a start, a completion, a job's end, a unit's return (02, request 5), a mark set (true) or cleared
+  -- a submission names place, packet, function, channel and unit or address; a start and a completion name the channel;
+  -- the job in a place ends (true: in error), or gives a unit back (02, request 5); a mark is set (true) or cleared
   Do : Act → Call
 
 -- the unit, or the address X or L
