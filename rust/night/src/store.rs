@@ -204,7 +204,12 @@ impl Store {
         let what = match change {
             Change::Removed => format!("was removed or moved away. {}", self.rescue()),
             Change::Replaced => format!("was replaced by another file. {}", self.rescue()),
-            Change::Cut(to) => format!("was cut by somebody else, from {} bytes to {to}", self.length),
+            Change::Cut(to) => {
+                let cut = format!("was cut by somebody else, from {} bytes to {to}", self.length);
+                format!(
+                    "{cut}. What is missing was answered: put back a whole copy, or look at the heads before you go on"
+                )
+            }
             Change::Longer(by) => format!("was written by somebody else: it has {by} bytes more than this night wrote"),
             Change::Unknown(error) => format!("cannot be looked at any more: {error}"),
             _ => "was written by somebody else: its bytes are not those that this night wrote".to_string(),

@@ -95,7 +95,7 @@ pub fn next(bytes: &[u8], number: u64, chain: u64) -> Next<'_> {
     Next::Damaged
 }
 
-/// Is this the first part of a record's first line, and behind it nothing or zeros?
+/// Is this the first part of a record's first line, and after it nothing or zeros, no more than the record has?
 fn is_cut(bytes: &[u8], number: u64) -> bool {
     let written = without_zeros(bytes);
     let begins = format!("\n@ {number} ");
@@ -103,6 +103,16 @@ fn is_cut(bytes: &[u8], number: u64) -> bool {
     written[..part] == begins.as_bytes()[..part]
         && written[part..].len() < LINE_ROOM
         && written[part..].iter().all(|&byte| b" 0123456789abcdef-T:.Z".contains(&byte))
+        && whole_length(&written[part..], begins.len()).is_none_or(|length| bytes.len() <= length)
+}
+
+/// The bytes of a whole record, where its first line was written as far as its length: the line's time and two sums
+/// have a width of their own.
+fn whole_length(rest: &[u8], begins: usize) -> Option<usize> {
+    let digits = rest.iter().position(|&byte| byte == b' ')?;
+    let length: usize = std::str::from_utf8(&rest[..digits]).ok()?.parse().ok()?;
+    let line = begins + digits + " 2026-11-17T02:41:07.123Z".len() + 2 * " 0123456789abcdef".len() + 1;
+    Some(line + length)
 }
 
 fn read_head(line: &[u8], chain: u64) -> Option<Head> {

@@ -101,6 +101,13 @@ fn a_last_record_that_is_cut_is_torn_and_the_others_are_kept() {
     }
 }
 
+/// Where the length of the record that begins here can be read: after its length, or in the first format after its line.
+fn known_from(bytes: &[u8], start: usize) -> usize {
+    let is_second = read(bytes).unwrap().format == Format::Second;
+    let (mark, skipped) = if is_second { (b' ', 5) } else { (b'\n', 1) };
+    bytes[start..].iter().skip(skipped).position(|&byte| byte == mark).unwrap() + start + skipped + 1
+}
+
 #[test]
 fn a_last_record_of_which_the_end_was_never_written_is_torn() {
     for (bytes, starts) in [journal(1), journal(4), first_journal(1), first_journal(4)] {
@@ -108,10 +115,10 @@ fn a_last_record_of_which_the_end_was_never_written_is_torn() {
             let mut unwritten = bytes.clone();
             unwritten[from..].fill(0);
             assert_eq!(last_record(&unwritten), "torn", "zeros from {from}");
-            // An append is never longer than its record: behind one whose length can be read no zeros are due.
-            let head = bytes[starts[2] + 1..].iter().position(|&byte| byte == b'\n').unwrap() + starts[2] + 2;
+            // An append is never longer than its record: after one whose length can be read no zeros are due.
             let longer = [&unwritten[..], &[0; 100]].concat();
-            assert_eq!(last_record(&longer), if from < head { "torn" } else { "damaged" }, "zeros from {from} on");
+            let taken = if from < known_from(&bytes, starts[2]) { "torn" } else { "damaged" };
+            assert_eq!(last_record(&longer), taken, "zeros from {from} on");
         }
         // Nothing that was said is missing.
         let all_said = [&bytes[..bytes.len() - 1], &[0]].concat();
