@@ -147,14 +147,14 @@ pub record ShownSo (id repair day : List ℕ) (r : Extent) (part : List ℕ) : T
   -- and no card is shown exactly where there is a refusal
   pub empty : Exactly (part ≡ []) ((n : Refusal) × (r .which ≡ Which′.Refused n))
 
--- "1. Every card, deck, configuration and call is answered, whatever is in it. Bad input gets document 01's number,
--- and after a refused call everything stands, byte for byte, as before." That each is answered is what the check
--- says of the public functions: none has a condition on its input, and each ends.
+-- "1. Every card, deck, configuration and call is answered, whatever is in it. Bad input gets the numbered refusal from
+-- document 01, and after a refused call the cell and the schedule stand as they did before." That each is answered is
+-- what the check says of the public functions: none has a condition on its input, and each ends.
 pub record Demand1 : Type 0 where
-  -- "Bad input gets document 01's number": a call is refused with the first number, in the table's order, whose sentence
+  -- "Bad input gets the numbered refusal from document 01": a call is refused with the first number, in the table's order, whose sentence
   -- holds, and only then: the lowest, but that 17 comes before all and 21 after 3
   pub numbers : (c d : Cell) (x : Call) (reply : Reply) → Does c x reply d → RefusedBy (isSelect x) c x (refusalIn reply)
-  -- "after a refused call everything stands, byte for byte, as before": the cell,
+  -- "after a refused call the cell and the schedule stand as they did before": the cell,
   pub stands : (c d : Cell) (x : Call) (reply : Reply) (n : Refusal) → Does c x reply d → refusalIn reply ≡ some n → d ≡ c
   -- the room that was lent for a deck's answer,
   pub lent : (c : Cell) (deck room after : List ℕ) (r : DeckAnswer) (n : Refusal) → Enters c deck room after r
@@ -273,9 +273,9 @@ pub record Missing (c : Cell) (s : Selection) : Type 0 where
   pub lacking : FirstLacking (supplyIn (c .lists)) (entryAt (inSchedule (c .schedule)) at .request .facilities) (First part)
   pub told : s .choice ≡ Lacks part
 
--- "2. It is right: cards written are read back as the same request; the job selected is the first in order, of
--- those allowed to run, for which all facilities can be found; selection is refused exactly when no place is free
--- or no such job exists; packets end with the stated codes."
+-- "2. It is right against UP-2577 Rev. 1 as document 01 condenses it. Cards written are read back as the same request. The
+-- job selected is the first in order, of those allowed to run, for which all its facilities can be found, and selection is
+-- refused exactly when no place is free or no job allowed to run has such an assignment. Packets end with the stated codes."
 pub record Demand2 : Type 0 where
   -- "cards written are read back as the same request": every request with its further cards that breaks no rule is
   -- written where its cards fit, and they are read as it,
@@ -318,8 +318,8 @@ pub record Demand2 : Type 0 where
   -- "ID, 1-6 letters or digits": such is the ID of every request in a schedule that any calls lead to,
   pub identified : (configuration : Configuration) (es : List Event) (c : Cell) → Reached configuration es c
       → Each (λ r. Name isAlnum 1 6 (r .id)) (requests (inSchedule (c .schedule)))
-  -- so that a word is no request's ID if it has over six bytes or one that is no letter or digit: "15 no such ID"
-  -- answers it
+  -- so that a word is no request's ID if it has over six bytes or one that is no letter or digit: the answer is
+  -- 15, "no such ID"
   pub nobody : (configuration : Configuration) (es : List Event) (c : Cell) → Reached configuration es c
       → (word : List ℕ) → IsWord word → (6 < length word) ⊎ (every isAlnum word ≡ false)
       → find (isNamed (idOf word)) (inSchedule (c .schedule)) ≡ none
@@ -463,9 +463,11 @@ MovesThere c place channel unit =
     (packet : ℕ) × (inMotion (packetIn (inside c .jobs) place packet .status) ≡ true)
     × (isAt (channel .0) (AtUnit unit) (packetIn (inside c .jobs) place packet) ≡ true)
 
--- "3. Take any sequence of calls from a fresh cell and one job's holding of one unit or piece of drum: the accepted
--- calls that acted on it, given to a lone unit written separately, make the same starts in the same order and leave
--- the same packet statuses; on a unit nothing of another job starts or moves meanwhile."
+-- "3. Take any sequence of calls from a fresh cell, and a stretch in which one job holds one unit or a piece of drum, from
+-- its assignment up to its return or any earlier moment. List only the accepted calls that acted on that holding, as
+-- document 01 names them. Given to a lone unit that follows the written rules, they make the same starts in the same order
+-- and leave the same status in every packet last submitted there. On a unit that isn't the drum, nothing of another job
+-- starts or is still moving during that stretch."
 pub record Demand3 : Type 0 where
   -- a history with keyboard messages is one with the calls that they are
   pub spelled : SpelledAlways
