@@ -1,5 +1,6 @@
 // What is configured: the channels of the cell, the units that are down, and the codes that set interlock.
 #![tactic(auto)]
+
 ghost use Rattle.std.specs.Prelude.{◌≡◌, get_or};
 ghost use Rattle.channels.specs.Channels.{no_channel, no_channels, units_of, channel_in, has_unit, sets_interlock};
 

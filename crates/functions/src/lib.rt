@@ -1,5 +1,6 @@
 // Which functions are legal on which kind of channel.
 #![tactic(auto)]
+
 mod table;
 
 ghost use Rattle.std.specs.Prelude.{◌≡◌};

@@ -1,6 +1,7 @@
 // The bulletin's three kinds of count, none of which can be passed for another; the kinds of channel; the refusals; the
 // limits.
 #![tactic(auto)]
+
 pub mod limits;
 
 ghost use Rattle.std.specs.Prelude.{◌≡◌};

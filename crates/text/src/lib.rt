@@ -1,5 +1,6 @@
 // Text as bytes: classes of bytes, numbers read, and pieces of text put into lent room.
 #![tactic(auto)]
+
 ghost use Rattle.std.specs.Prelude.{◌≡◌, [], ◌∷◌, get_or};
 ghost use Rattle.text.specs.Class.{is_digit, is_letter, is_alnum};
 ghost use Rattle.text.specs.Room.{Written};

@@ -1,5 +1,6 @@
 // The state of all units of the cell.
 #![tactic(auto)]
+
 ghost use Rattle.std.specs.Prelude.{◌≡◌};
 ghost use Rattle.units.specs.State.{GridOf, units_from, fresh_unit, none_held, unit_in, unit_set, is_free, is_returning, assignable, marked_unit};
 
