@@ -7,4 +7,4 @@ use Rattle.channels.specs.Channels.{no_channel}
 use Rattle.channels.proofs.channel_of.Goals as goal
 
 pub returns : goal.returns
-returns c = c.no_channel.ensures ∙ sym (get_or-eq_default c.args.t1 no_channel (omega arith))
+returns c = c.no_channel.ensures ∙ sym (get_or-eq_default c.args.channels no_channel (omega arith))
