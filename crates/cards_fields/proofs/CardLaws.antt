@@ -14,7 +14,7 @@ use Rattle.numbers.specs.Quoted.{byte}
 use Rattle.numbers.proofs.Tests.{by_bool, never, both}
 use Rattle.numbers.specs.Limits.{card_length}
 use Rattle.text.specs.Class.{is_digit, is_letter, is_alnum}
-use Rattle.text.proofs.ClassLaws.{is_digit, digit-bounds}
+use Rattle.text.proofs.ClassLaws.{is_digit_lem, digit-bounds}
 use Rattle.text.specs.Writing.{decimal_text}
 use Rattle.text.proofs.Tens.{one-digit, more-digits}
 use Rattle.words.specs.Words.{passes, every, has, value, value_from}
@@ -145,8 +145,8 @@ number-back n =
 pub number_digits : (n : ℕ) → every is_digit (decimal_text n) ≡ true
 number_digits n =
     by_digits (λ n. every is_digit (decimal_text n) ≡ true)
-    (λ n h. rw (one-digit n h, is_digit n h))
-    (λ n h ih. rw (more-digits n h) (every_append is_digit (decimal_text (n / 10)) ((48 + n % 10) ∷ []) ih (rw (is_digit (n % 10) (omega arith)))))
+    (λ n h. rw (one-digit n h, is_digit_lem n h))
+    (λ n h ih. rw (more-digits n h) (every_append is_digit (decimal_text (n / 10)) ((48 + n % 10) ∷ []) ih (rw (is_digit_lem (n % 10) (omega arith)))))
     n n (omega arith)
 
 pub digit-no-letter : (b : ℕ) → is_digit b ≡ true → is_letter b ≡ false

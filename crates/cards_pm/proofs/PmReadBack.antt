@@ -12,7 +12,7 @@ use Rattle.numbers.specs.Quoted.{byte, bytes}
 use Rattle.numbers.proofs.Tests.{never, both, or-true}
 use Rattle.numbers.specs.Limits.{card_length, pm_length}
 use Rattle.text.specs.Class.{is_digit, is_letter, is_alnum}
-use Rattle.text.proofs.ClassLaws.{is_digit}
+use Rattle.text.proofs.ClassLaws.{is_digit_lem}
 use Rattle.words.specs.Words.{every, has, same, isnt, leading}
 use Rattle.words.specs.Lines.{lf}
 use Rattle.words.proofs.WordLaws.{every-weaker, every_append}
@@ -102,7 +102,7 @@ pub record ReadBack (id : List ℕ) (s : Sheet) : Type 0 where
 
 module _ (id : List ℕ) (s : Sheet) (named : every plain id ≡ true) (p : Proper s) where
   pub digit : is_digit (48 + s.digit) ≡ true
-  digit = is_digit s.digit (omega (arith, p.one))
+  digit = is_digit_lem s.digit (omega (arith, p.one))
 
   kind-plain : every plain (80 ∷ 77 ∷ (48 + s.digit) ∷ []) ≡ true
   kind-plain = rw (letter-plain 80 pm-letters.0, letter-plain 77 pm-letters.1, digit-plain (48 + s.digit) digit)

@@ -13,7 +13,7 @@ use borrow.Author.Tests.{eq-eqb, ne_eqb, eqb-true, lt-leb}
 use Rattle.numbers.specs.Quoted.{byte}
 use Rattle.numbers.proofs.Tests.{by_bool, never, both}
 use Rattle.text.specs.Class.{is_digit, is_letter, is_alnum}
-use Rattle.text.proofs.ClassLaws.{is_digit, digit-bounds}
+use Rattle.text.proofs.ClassLaws.{is_digit_lem, digit-bounds}
 use Rattle.text.specs.Writing.{two_text, decimal_text}
 use Rattle.text.proofs.Tens.{one-digit, more-digits}
 use Rattle.words.specs.Words.{passes, every, has, value, value_from}
@@ -91,7 +91,7 @@ pub two_back : (n : ℕ) → value (two_text n) ≡ n
 two_back n = omega arith
 
 pub two_digits : (n : ℕ) → n < 100 → every is_digit (two_text n) ≡ true
-two_digits n h = rw (is_digit (n / 10) (omega arith), is_digit (n % 10) (omega arith))
+two_digits n h = rw (is_digit_lem (n / 10) (omega arith), is_digit_lem (n % 10) (omega arith))
 
 -- a written priority is read as it was
 module _ (q l p : ℕ) (hq : q < 64) (hp : p < 64) (hl : is_letter l ≡ true) where
@@ -103,7 +103,7 @@ module _ (q l p : ℕ) (hq : q < 64) (hp : p < 64) (hl : is_letter l ≡ true) w
       ⊎_elim
       (λ e. rw (eq-eqb q 0 e) (lettered (l ∷ two_text p) hl ∙ ap (λ (k : ℕ). ranked k l (two_text p)) (sym e)))
       (λ n. rw (ne_eqb q 0 (λ e. omega arith))
-      (sequenced (two_text q ++ (l ∷ two_text p)) (digit-no-letter (48 + q / 10) (is_digit (q / 10) (omega arith))) (two_digits q (omega arith)) q
+      (sequenced (two_text q ++ (l ∷ two_text p)) (digit-no-letter (48 + q / 10) (is_digit_lem (q / 10) (omega arith))) (two_digits q (omega arith)) q
       (sym (two_back q)) n (omega arith)))
       (eq-zero-or-pos q)
 

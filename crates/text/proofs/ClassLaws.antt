@@ -17,9 +17,9 @@ digit-bounds b e =
     (leb-true (byte "0") b p.0, leb-true b (byte "9") p.1)
 
 -- and "0" + d is one for d below 10
-pub is_digit : (d : ℕ) → d < 10 → is_digit (byte "0" + d) ≡ true
+pub is_digit_lem : (d : ℕ) → d < 10 → is_digit (byte "0" + d) ≡ true
 unfolding is_digit
-is_digit d h = rw (le-leb 48 (48 + d) (omega arith), le-leb (48 + d) 57 (omega arith))
+is_digit_lem d h = rw (le-leb 48 (48 + d) (omega arith), le-leb (48 + d) 57 (omega arith))
 
 -- a letter is one of "A" to "Z"
 pub letter-bounds : (b : ℕ) → is_letter b ≡ true → (byte "A" ≤ b) × (b ≤ byte "Z")

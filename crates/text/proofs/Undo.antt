@@ -10,7 +10,7 @@ use native.Mathlib.Omega.{arith}
 use lib.ListN.{length, get_or, length-append}
 use borrow.Author.Tests.{lt-ltb, le-leb, ne_eqb}
 use Rattle.text.specs.Class.{is_digit}
-use Rattle.text.proofs.ClassLaws.{is_digit}
+use Rattle.text.proofs.ClassLaws.{is_digit_lem}
 use Rattle.text.specs.Reading.{two_digits_of, digits_from, decimal_of}
 use Rattle.text.specs.Writing.{two_text, decimal_text}
 use Rattle.text.proofs.Tens.{one-digit, more-digits}
@@ -21,7 +21,7 @@ pub two-undone : (n : ℕ) (rest : List ℕ) → n < 100 → two_digits_of (two_
 unfolding two_digits_of
 two-undone n rest h =
     let e : (48 + n / 10 - 48) * 10 + (48 + n % 10 - 48) ≡ n = omega arith in
-    rw (is_digit (n / 10) (omega arith), is_digit (n % 10) (omega arith), e)
+    rw (is_digit_lem (n / 10) (omega arith), is_digit_lem (n % 10) (omega arith), e)
 
 -- one digit is read on
 on : (d more value count : ℕ) (rest : List ℕ) → d < 10
@@ -30,7 +30,7 @@ unfolding digits_from
 on d more value count rest h =
     let a : more + 1 - 1 ≡ more = omega arith in
     let b : value * 10 + (48 + d - 48) ≡ value * 10 + d = omega arith in
-    rw (is_digit d h, lt-ltb 0 (more + 1) (omega arith), a, b)
+    rw (is_digit_lem d h, lt-ltb 0 (more + 1) (omega arith), a, b)
 
 -- all digits of n are read, and then the rest
 abbrev Reads : ℕ → ℕ → List ℕ → Type 0

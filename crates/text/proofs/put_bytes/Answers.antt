@@ -1,6 +1,5 @@
 -- `text::put_bytes` meets its contract. The loop's invariant is `Going`: whoever writes the rest has written the
 -- whole. Assumes nothing.
-use Prim.Native.Nat.{◌-◌}
 use native.Mathlib.Omega.{arith}
 use native.Mathlib.Numerals.{add-one}
 use lib.ListN.{drop_of_length-le}
