@@ -1,5 +1,6 @@
 // The core that a job gets: two runs of free blocks, found in the occupancy word.
 #![tactic(auto)]
+
 ghost use Rattle.std.specs.Prelude.{◌+◌, ◌≤◌};
 ghost use Rattle.numbers.specs.Decides.{Decides};
 ghost use Rattle.numbers.specs.Limits.{last_block};
