@@ -1,5 +1,6 @@
 // The drum area that a job gets: the lowest one that is free.
 #![tactic(auto)]
+
 ghost use Rattle.std.specs.Prelude.{◌+◌, ◌≤◌};
 ghost use Rattle.assign_drum.specs.Drum.{LowestStart};
 ghost use Rattle.numbers.specs.Decides.{Decides};
