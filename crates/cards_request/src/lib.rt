@@ -1,5 +1,6 @@
 // What all cards share: the request, its further cards, the card errors and their numbers, and the request for nothing.
 #![tactic(auto)]
+
 ghost use Rattle.std.specs.Prelude.{◌≡◌};
 ghost use Rattle.cards_request.specs.Errors.{error_number, good};
 ghost use Rattle.cards_request.specs.Requests.{no_facilities, no_request, no_card, no_further};
