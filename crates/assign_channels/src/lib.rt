@@ -1,5 +1,6 @@
 // The channels that a kind's entries get, by the number of assignable units on each channel.
 #![tactic(auto)]
+
 ghost use Rattle.std.specs.Prelude.{◌≡◌, ◌<◌, drop};
 ghost use Rattle.assign_channels.specs.Choice.{total, LeastList};
 ghost use Rattle.assign_channels.specs.Greedy.{cnt, hall_b, lowest_of};
