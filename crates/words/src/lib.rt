@@ -1,5 +1,6 @@
 // Tests over a whole text, and the number that its digits write.
 #![tactic(auto)]
+
 ghost use Rattle.std.specs.Prelude.{◌≡◌, ◌-◌, ◌≤◌, length};
 ghost use Rattle.numbers.specs.Quoted.{byte};
 ghost use Rattle.words.specs.Words.{passes, every, has, same, isnt, leading, value, number_in};
