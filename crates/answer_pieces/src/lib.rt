@@ -1,6 +1,7 @@
 // Pieces of text that the answers and the board of the shift program share, and the line of a refused call, which the
 // desk program prints too.
 #![tactic(auto)]
+
 ghost use Rattle.std.specs.Prelude.{◌≡◌};
 ghost use Rattle.text.specs.Room.{Written};
 ghost use Rattle.text.specs.Writing.{octal_text};
