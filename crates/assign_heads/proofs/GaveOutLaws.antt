@@ -18,7 +18,7 @@ use Rattle.assign_heads.specs.Heads.{is_given}
 use Rattle.assign_heads.specs.Whose.{logical, free_at, blank, to_at}
 use Rattle.assign_heads.specs.Giving.{taker_of, less_of}
 use Rattle.assign_heads.proofs.GivingLaws.{Took, took, not_free}
-use Rattle.assign_heads.specs.GaveOut.{Passed, own_at, Logical, Gave, GaveOut}
+use Rattle.assign_heads.specs.GaveOut.{own_at, Logical, Gave, GaveOut}
 use Rattle.assign_heads.proofs.PassedLaws.{carried, onward, begun}
 
 less-long : (left : ByLogical) (g : Given) → length (less_of left g).0 ≡ length left.0

@@ -120,8 +120,8 @@ module _ (free : List Bool) (wants : ByLogical) (counts : ByChannel) (channels :
 module _ (free : List Bool) (wants : ByLogical) (counts : ByChannel) (channels : List ChannelNumber) (to : ℕ → Given)
     (size : length wants.0 ≡ 16) (long : length channels ≡ 16) (has : FreeCounts free counts)
     (s : Served (free_at free) (want wants) (on channels) to) where
-  count_at : (l : ℕ) → 1 ≤ l → l < 16 → 1 ≤ want wants l → want wants l ≤ count_at counts (on channels l)
-  count_at l h k q =
+  count_at_lem : (l : ℕ) → 1 ≤ l → l < 16 → 1 ≤ want wants l → want wants l ≤ count_at counts (on channels l)
+  count_at_lem l h k q =
       let c = on channels l in
       let a = only-channel to (λ i. is_to l (to i)) c (λ i t. s.there i l h t) in
       let m = sum_mono 16 (λ u. one (is_to l (to (c * 16 + u)))) (λ u. one (free_at free (c * 16 + u)))
@@ -145,4 +145,4 @@ module _ (free : List Bool) (wants : ByLogical) (counts : ByChannel) (channels :
       omega (arith, by-entry to, wants-total wants size, counts-total has)
 
   pub served-placed : Placed counts wants channels
-  served-placed = record { long = long; fits = count_at; own = s.own; rest = rest; none-0 = s.none-0; none = s.none }
+  served-placed = record { long = long; fits = count_at_lem; own = s.own; rest = rest; none-0 = s.none-0; none = s.none }

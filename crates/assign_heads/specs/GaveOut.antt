@@ -23,12 +23,12 @@ pub record Passed (free : ℕ → Bool) (own want : ℕ → ℕ) (to : ℕ → G
   pub rest : (j k : ℕ) → j < k → k < i → is_to 0 (to k) ≡ true → free j ≡ true → is_given (to j) ≡ true
 
 -- the number of the entry that has a channel
-abbrev pub field_own : List LogicalChannel → ℕ → ℕ
-field_own own c = (get_or own c (logical 0)).0
+abbrev pub own_at : List LogicalChannel → ℕ → ℕ
+own_at own c = (get_or own c (logical 0)).0
 
 -- each is a logical channel
 pub record Logical (own : List LogicalChannel) : Type 0 where
-  pub each : (c : ℕ) → c < 16 → field_own own c < 16
+  pub each : (c : ℕ) → c < 16 → own_at own c < 16
 
 -- the units below i have been given; the units of other kinds keep what they were given to
 pub record Gave (free : List Bool) (own : List LogicalChannel) (wants : ByLogical) (before after : List Head) (left : ByLogical)
@@ -36,7 +36,7 @@ pub record Gave (free : List Bool) (own : List LogicalChannel) (wants : ByLogica
   pub high : i ≤ 256
   pub wide : length after ≡ 256
   pub long : length left.0 ≡ 16
-  pub passed : Passed (free_at free) (field_own own) (want wants) (to_at free after) left i
+  pub passed : Passed (free_at free) (own_at own) (want wants) (to_at free after) left i
   pub kept : (j : ℕ) → free_at free j ≡ false → get_or after j blank ≡ get_or before j blank
 
 -- all units have been given

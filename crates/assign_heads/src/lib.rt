@@ -1,5 +1,6 @@
 // The units that a kind's entries get: unit u of channel c stands at c * 16 + u.
 #![tactic(auto)]
+
 ghost use Rattle.std.specs.Prelude.{◌≡◌, ℕ, ◌+◌, ◌*◌, ◌<◌};
 ghost use Rattle.assign_heads.specs.Sums.{how_many};
 ghost use Rattle.assign_heads.specs.Whose.{free_at, given_at};
