@@ -1,5 +1,6 @@
 // The configuration of a cell, read from text.
 #![tactic(auto)]
+
 mod line;
 mod section;
 
