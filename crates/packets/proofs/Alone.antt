@@ -18,7 +18,7 @@ use Rattle.packets.proofs.InvUnits.{mark-holder}
 use Rattle.packets.proofs.Laws.{find-holds}
 use Rattle.numbers.specs.Elements.{find}
 use Rattle.packets.specs.Rules.{Call, Do, Take, accept, always, answer, begins, begun, closing, completed}
-use Rattle.packets.specs.Rules.{cut, decided, finished, is_trouble, locked, marked, packet, refusal}
+use Rattle.packets.specs.Rules.{cut, decided, finished, is_trouble, locked, marked, refusal}
 use Rattle.packets.specs.Rules.{return_if_done, site_of, startable, started, step, submitted}
 use Rattle.packets.proofs.ByNumber.{Start}
 use Rattle.packets.specs.declared.Act.TheVariants as Act'

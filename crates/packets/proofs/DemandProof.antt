@@ -28,7 +28,7 @@ use Rattle.packets.proofs.Reaching.{event, reached-append, reached-more, step-ac
 use Rattle.packets.proofs.There.{is-there, there-unit, unit-held}
 use Rattle.packets.proofs.InvJobs.{held-once}
 use Rattle.packets.proofs.Waiting.{Waits, reached-waits}
-use Rattle.packets.specs.State.{State, blank, held_by, is_empty, is_running, lock, motion_on, packet_in, place_of, state_in, take_all, wanted}
+use Rattle.packets.specs.State.{State, blank, held_by, is_empty, is_running, motion_on, packet_in, place_of, state_in, take_all, wanted}
 use Rattle.packets.proofs.Steps.{reached-inv, step-inv}
 use Rattle.packets.proofs.Store.{packet-fresh, state-fresh, unit-take}
 use Rattle.packets.proofs.Told.{assigns-to}

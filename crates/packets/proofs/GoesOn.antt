@@ -17,7 +17,7 @@ use Rattle.packets.proofs.Told.{assigns-to, completes-on, starts-on, submits}
 use Rattle.packets.specs.Codes.{status_after}
 use Rattle.numbers.specs.Elements.{find}
 use Rattle.packets.specs.Rules.{Call, Do, Take, accept, aimed, is_at, is_trouble, locked, refusal, site_of, startable}
-use Rattle.packets.proofs.ByNumber.{Complete, End, Mark, Return, Start, Submit}
+use Rattle.packets.proofs.ByNumber.{Complete, Start}
 use Rattle.packets.specs.declared.Act.TheVariants as Act'
 use Rattle.packets.specs.State.{State, is_empty, is_packet, is_unit, motion_on, packet_in, packet_of, place_of, state_in}
 use Rattle.packets.specs.declared.How.{How}

@@ -2,8 +2,8 @@
 -- on the unit and what moves there is of the holder. So a completion gives back a unit that is being returned, and a
 -- return frees its unit or lets it wait for what moves there. Assumes nothing.
 use Prim.Native.Nat.{ℕ, ◌<◌}
-use mathlib.Core.Path.{◌≡◌, refl, sym, ap, ◌∙◌}
-use mathlib.Core.Bool.{Bool, true, false, cond, ◌&&◌}
+use mathlib.Core.Path.{◌≡◌, refl, sym, ◌∙◌}
+use mathlib.Core.Bool.{true, false, cond, ◌&&◌}
 use mathlib.Core.List.{List}
 use native.Mathlib.Omega.{arith}
 use lib.ListN.{length}
@@ -14,7 +14,7 @@ use Rattle.units.specs.State.{is_free, is_returning, unit_in}
 use Rattle.units.specs.declared.Holder.{Holder}
 use Rattle.units.specs.declared.Holder.TheVariants.{Free, Held, Returning}
 use Rattle.units.specs.declared.Unit.{Unit as UnitState}
-use Rattle.packets.proofs.Inv.{EntryOk, Inv, Owned, OwnedAt, Staying, running-alive}
+use Rattle.packets.proofs.Inv.{EntryOk, Inv, Owned, OwnedAt, running-alive}
 use Rattle.packets.proofs.InvJobs.{held-once, held-taken}
 use Rattle.packets.proofs.InvStores.{motion-move, sweep-inv}
 use Rattle.packets.proofs.Laws.{all_both, all-imp, and_left, and_right, eqb-self}

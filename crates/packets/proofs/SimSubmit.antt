@@ -19,7 +19,7 @@ use Rattle.packets.proofs.SimRest.{sim-enqueue, sim-enqueue-away, sim-units, sim
 use Rattle.packets.proofs.SimSweep.{sim-fails, sim-halts}
 use Rattle.packets.specs.State.{State, entry_of, held_by, is_busy, is_empty, is_running, job_in, lock}
 use Rattle.packets.specs.State.{packet_in, put, same, set_lock, state_in, store, sweep, unit_at}
-use Rattle.packets.proofs.There.{covers-meant, covers-there, goes_to, is-there, its_own, lock-away}
+use Rattle.packets.proofs.There.{covers-meant, covers-there, goes_to_lem, is-there, its_own, lock-away}
 use Rattle.packets.proofs.There.{lock-here, lock-is, return-is, there-channel, there-kind, there-unit, unit-held}
 use Rattle.packets.proofs.StepSubmit.{Ready, listed-new, ready-fits, ready-inside, ready-store, ready-sweep, stored_at}
 use Rattle.packets.proofs.Sites.{locked-unit, same-is}
@@ -127,7 +127,7 @@ module _ (h : Holding) (s : State) (I : Inv s) (H : Holds s h) (l : Lone) (S : S
 
     pub sim-submit : Sim h (submitted s j p f c w) (hears l p f (target_of w))
     sim-submit =
-        rw (goes_to w)
+        rw (goes_to_lem w)
         (by_bool (eqb f 0o07)
         (λ e. let then = cond (locked s c a) (unlock s j p f c a) (pass s j p f c a) in
         rw e (subst (λ (x : Bool). Sim h then (unlocks l p f (word_at a) x)) locked-is (sim-seven (locked s c a) refl)))

@@ -97,9 +97,9 @@ pub its_own : (h : Holding) (s : State) → Holds s h → is_its h s.units ≡ t
 its_own h s H = by_bool h.drum (λ d. rw d) (λ d. rw d (unit-held h s H d))
 
 -- a lone unit reads where a submission goes as the rules do
-pub goes_to : (w : Spot) → goes_to (target_of w) ≡ word_at (site_of w)
-goes_to (OnUnit u) = refl
-goes_to (OnDrum x h) = refl
+pub goes_to_lem : (w : Spot) → goes_to (target_of w) ≡ word_at (site_of w)
+goes_to_lem (OnUnit u) = refl
+goes_to_lem (OnDrum x h) = refl
 
 -- words are in the order of the addresses
 word-order : (x y : ℕ) → leb (word_of x) (word_of y) ≡ leb x y

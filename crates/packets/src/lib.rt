@@ -1,5 +1,6 @@
 // The records of packets and request lists, in which every number is in range or answered as not there.
 #![tactic(auto)]
+
 use channels::Channel;
 use numbers::{ChannelNumber, Refusal, UnitNumber};
 use units::{Mark, Units};
