@@ -1,5 +1,6 @@
 // A request as it stands in the schedule: its state, its key, and what can be asked of it.
 #![tactic(auto)]
+
 ghost use Rattle.std.specs.Prelude.{◌≡◌};
 ghost use Rattle.schedule_entries.specs.Entries.{key_of, same_rank, same_key, lower_sequence, precedes};
 ghost use Rattle.schedule_entries.specs.Entries.{waiting, suspended, active, in_place, serial, blank, first_state};
