@@ -136,8 +136,8 @@ no-groups d h = by (either d)
     by (empty e z) = e
     by (full f) = absurd (omega (arith, f.some, f.within, length-take (group_size d) d))
 
-pub first_group : (d : List ℕ) → (length (take (group_size d) d) ≡ 0 → ⊥) → First d
-first_group d n = by (either d)
+pub first_group_lem : (d : List ℕ) → (length (take (group_size d) d) ≡ 0 → ⊥) → First d
+first_group_lem d n = by (either d)
   where
     by : Either d → First d
     by (empty e z) = absurd (n (rw z))

@@ -1,5 +1,6 @@
 // Cards as lines of a deck, groups of cards as parts of it, a card's fields and the parts of these.
 #![tactic(auto)]
+
 pub mod card;
 pub mod deck;
 pub mod parts;

@@ -9,7 +9,7 @@ use Rattle.numbers.specs.declared.Refusal.{Refusal}
 use Rattle.text.specs.Room.{Written, Whole}
 use Rattle.text.proofs.RoomLaws.{none, entire}
 use Rattle.cards_fields.specs.Deck.{cards_of, size, groups_of, group_size, deck_end}
-use Rattle.cards_fields.proofs.Groups.{First, no-groups, first_group}
+use Rattle.cards_fields.proofs.Groups.{First, no-groups, first_group_lem}
 use Rattle.cards_fields.specs.declared.DeckEnd.{DeckEnd}
 use Rattle.cards_fields.specs.declared.DeckEnd.TheVariants as Ends
 use Rattle.cards_lines.specs.Shown.{shown_by, refused_text}
@@ -81,7 +81,7 @@ module _ (s : List ℕ) (p : Printing) where
 
     module _ (z : length g ≡ 0 → ⊥) where
       found : First d
-      found = first_group d (λ k. z (ap length f ∙ k))
+      found = first_group_lem d (λ k. z (ap length f ∙ k))
 
       pub group-within : p.from + length g ≤ length s
       group-within =

@@ -12,7 +12,7 @@ use Rattle.words.proofs.LineLaws.{lines-text}
 use Rattle.cards_fields.specs.Fields.{fields}
 use Rattle.cards_fields.specs.Deck.{cards_of, group_size}
 use Rattle.cards_fields.proofs.FieldLaws.{rest-is}
-use Rattle.cards_fields.proofs.Groups.{First, no-groups, first_group}
+use Rattle.cards_fields.proofs.Groups.{First, no-groups, first_group_lem}
 use Rattle.desk_show.specs.Showing.{opens_for, has_id, NoneHas, groups_text, FirstOf}
 use Rattle.desk_show.specs.Seeking.{groups_in, StandsAt}
 
@@ -63,7 +63,7 @@ module _ {id cards : List ℕ} {from : ℕ} (w : Seeking id cards from) where
 
     module _ (n : length g ≡ 0 → ⊥) where
       found : First (drop from cards)
-      found = first_group (drop from cards) (λ z. n (ap length group-is ∙ z))
+      found = first_group_lem (drop from cards) (λ z. n (ap length group-is ∙ z))
 
       long : length g ≡ group_size (drop from cards)
       long = ap length group-is ∙ length-take-le (group_size (drop from cards)) (drop from cards) found.within

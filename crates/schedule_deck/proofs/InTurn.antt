@@ -10,7 +10,7 @@ use Rattle.text.specs.Room.{Written, Whole}
 use Rattle.text.proofs.RoomLaws.{Going, start, turn, end, none, and_then, entire}
 use Rattle.cards_fields.proofs.FieldLaws.{rest-is}
 use Rattle.cards_fields.specs.Deck.{cards_of, groups_of, group_size, deck_end, deck_groups}
-use Rattle.cards_fields.proofs.Groups.{no-groups, first_group, ends, deck-cards}
+use Rattle.cards_fields.proofs.Groups.{no-groups, first_group_lem, ends, deck-cards}
 use Rattle.cards_fields.specs.declared.DeckEnd.{DeckEnd}
 use Rattle.cards_fields.specs.declared.DeckEnd.TheVariants.{At, Refused}
 use Rattle.schedule_list.specs.InSchedule.{in_schedule, schedule_of}
@@ -32,7 +32,7 @@ use Rattle.schedule_deck.specs.declared.Entered.{Entered}
 -- the group that the code found, and those of the rest
 next-group : (d : List ℕ) → (length (take (group_size d) d) ≡ 0 → ⊥)
     → groups_of (cards_of d) ≡ cards_of (take (group_size d) d) ∷ groups_of (cards_of (drop (length (take (group_size d) d)) d))
-next-group d n = let f = first_group d n in rw (length-take-le (group_size d) d f.within) f.next
+next-group d n = let f = first_group_lem d n in rw (length-take-le (group_size d) d f.within) f.next
 
 pub record AtGroups (part room : List ℕ) (first : Progress) (out : List ℕ) (p : Progress) (at from : ℕ) : Type 0 where
   pub within : from ≤ length part
