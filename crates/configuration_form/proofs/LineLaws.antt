@@ -26,9 +26,7 @@ use Rattle.text.specs.Reading.{two_digits_of, decimal_of}
 use Rattle.text.specs.Writing.{two_text, decimal_text}
 use Rattle.text.proofs.Undo.{two-undone, decimal-undone}
 use Rattle.text.proofs.Redo.{not-wrong, two-redone, decimal-redone}
-use Rattle.configuration.specs.declared.line.ChannelLine.{ChannelLine}
 use Rattle.configuration.specs.declared.line.ChannelLine.TheVariants as ChannelLine'
-use Rattle.configuration.specs.declared.line.DownLine.{DownLine}
 use Rattle.configuration.specs.declared.line.DownLine.TheVariants as DownLine'
 use Rattle.configuration.specs.Lines.{on_number, on_kind, stands, least, most, last_number, channel_line, down_line}
 use Rattle.configuration_form.specs.Form.{Item, line}

@@ -1,7 +1,7 @@
 -- "The codes that set interlock, one a line": in the word of a text in the written form, bit k is 1 exactly if a line of
 -- the text lists code k. Line by line: a code line's code is above all before it, so that adding its bit sets that bit
 -- and no other; every other line leaves the word as it is. Assumes nothing.
-use Prim.Native.Nat.{ℕ, zero, ◌+◌, ◌^◌, ◌≤◌, ◌<◌}
+use Prim.Native.Nat.{ℕ, zero, suc, ◌+◌, ◌^◌, ◌≤◌, ◌<◌}
 use mathlib.Core.Path.{◌≡◌, refl, sym, ap, ◌∙◌}
 use mathlib.Core.Bool.{Bool, true, false, ◌||◌}
 use mathlib.Core.List.{List, [], ◌∷◌}
@@ -73,6 +73,10 @@ turns {due} k (AllRight.more {item = item} {items = items} r a) h =
 -- what is configured is the word at the end
 the_word : (due : Due) (of : List Channel) (marks : List Bool) (word : ℕ) → Complete due of marks word → word_at due ≡ word
 the_word (Due.codes zero next o m w) of marks word c = c.2
+the_word Due.first of marks word c = elim c [ ]
+the_word (Due.channels left next drum _) of marks word c = elim c [ ]
+the_word (Due.downs left next _ down) of marks word c = elim c [ ]
+the_word (Due.codes (suc _) next o m w) of marks word c = elim c [ ]
 
 none-set : (k : ℕ) → sets_interlock 0 k ≡ false
 unfolding sets_interlock

@@ -12,12 +12,9 @@ use Rattle.numbers.specs.declared.ChannelNumber.{ChannelNumber}
 use Rattle.numbers.specs.declared.UnitNumber.{UnitNumber}
 use Rattle.numbers.specs.declared.Kind.{Kind}
 use Rattle.numbers.specs.Limits.{most_codes}
-use Rattle.text.specs.declared.Number.{Number}
 use Rattle.text.specs.declared.Number.TheVariants as Number'
 use Rattle.channels.specs.declared.Channel.{Channel}
-use Rattle.configuration.specs.declared.line.ChannelLine.{ChannelLine}
 use Rattle.configuration.specs.declared.line.ChannelLine.TheVariants as ChannelLine'
-use Rattle.configuration.specs.declared.line.DownLine.{DownLine}
 use Rattle.configuration.specs.declared.line.DownLine.TheVariants as DownLine'
 use Rattle.configuration.specs.Lines.{least, most, last_number, channel_line, down_line, code_line}
 use Rattle.configuration.specs.Configured.{refused, good, configuration_of}
@@ -110,10 +107,18 @@ reads-once {t = t} {u = u} x p y q =
 -- where all is configured nothing right follows, and what is configured is known
 pub all-stops : (due : Due) (of : List Channel) (marks : List Bool) (word : ℕ) (rest : List ℕ) → Complete due of marks word → Stop due rest
 all-stops (Due.codes zero next o m w) of marks word rest c = λ item end t r e. nothing-due r
+all-stops Due.first of marks word rest c = elim c [ ]
+all-stops (Due.channels left next drum _) of marks word rest c = elim c [ ]
+all-stops (Due.downs left next _ down) of marks word rest c = elim c [ ]
+all-stops (Due.codes (suc _) next o m w) of marks word rest c = elim c [ ]
 
 all_once : (due : Due) (of o : List Channel) (marks m : List Bool) (word w : ℕ) → Complete due of marks word → Complete due o m w
     → (of ≡ o) × (marks ≡ m) × (word ≡ w)
 all_once (Due.codes zero next x y z) of o marks m word w c d = (sym c.0 ∙ d.0, sym c.1 ∙ d.1, sym c.2 ∙ d.2)
+all_once Due.first of o marks m word w c d = elim c [ ]
+all_once (Due.channels left next drum _) of o marks m word w c d = elim c [ ]
+all_once (Due.downs left next _ down) of o marks m word w c d = elim c [ ]
+all_once (Due.codes (suc _) next x y z) of o marks m word w c d = elim c [ ]
 
 -- every configuration in the written form is read as itself
 pub read_back : (s : List ℕ) (of : List Channel) (marks : List Bool) (word : ℕ) → InForm s of marks word → configuration_of s ≡ good of marks word
