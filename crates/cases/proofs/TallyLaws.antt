@@ -1,5 +1,5 @@
 -- Going from case to case ends: the next argument is further on, and not past the end. Assumes nothing.
-use Rattle.std.proofs.Common.{◌≡◌, ℕ, ◌-◌, ◌<◌, ◌≤◌, Bool, ltb, ap, ◌∙◌, arith, ltb-true, lt-ltb}
+use Rattle.std.proofs.Common.{◌≡◌, ℕ, ◌-◌, ◌<◌, ◌≤◌, Bool, ltb, ap, arith, ltb-true, lt-ltb}
 use Rattle.numbers.proofs.Tests.{by_bool}
 use Rattle.cases.specs.Tallies.{two_on, judged_of}
 use Rattle.cases.specs.declared.Tally.{Tally}

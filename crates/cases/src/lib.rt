@@ -1,11 +1,16 @@
 // What the programs that run cases share: the files that their arguments name, two for each case, and the count of
 // those that agree.
 #![tactic(auto)]
-ghost use Rattle.std.specs.Prelude.{◌≡◌, false};
-ghost use Rattle.io.specs.Counts.{IsPrefixLen};
+
+ghost use Rattle.std.specs.Prelude.{◌≡◌, ◌≤◌, false, length, take};
 ghost use Rattle.cases.specs.Tallies.{first_of, two_on, judged_of};
 
-use libc::STDOUT_FILENO;
+use std::env::{Env, FillError};
+use std::fs::File;
+use std::rt::Files;
+
+// Room for the name of a file.
+const NAME: usize = 4096;
 
 // Whether a file is there, and how many bytes of it stand in the room for it.
 #[derive(Clone, Copy)]
@@ -22,42 +27,74 @@ pub struct Tally {
     pub good: u64,
 }
 
+// Puts argument i into a room, and answers its length: 0 where there is none, or where the room is too small.
+fn name_of(rt: &impl Env, i: usize, room: &mut [u8; NAME]) -> usize
+    ensures { result ≤ length room.new }
+{
+    match rt.arg(i, room) {
+        Ok(n) => n,
+        Err(_) => 0,
+    }
+}
+
+// Opens the file of this name; none where there is no such file. A name that is no UTF-8 names none.
+fn opened<R: Files>(rt: &R, name: &[u8]) -> Option<R::File> {
+    match std::str::from_utf8(name) {
+        Ok(path) => File::open(rt, path).ok(),
+        Err(_) => None,
+    }
+}
+
 // Puts the file that argument i names into a room; nothing where there is no such file.
-pub fn load(i: usize, room: &mut [u8]) -> Loaded
-    ensures counts { IsPrefixLen result.len room.new }
+pub fn load(rt: &(impl Env + Files), i: usize, room: &mut [u8]) -> Loaded
+    ensures within { result.len ≤ length room.new }
+    ensures counts { result.len ≡ length (take result.len room.new) }
     ensures none { result.there ≡ false → result.len ≡ 0 }
 {
-    let mut path = io::buffer();
-    let n = os::arg(i, &mut path);
-    let fd = os::open_read(&path[..n]);
-    if fd < 0 {
-        return Loaded {
+    let mut name = [0u8; NAME];
+    let n = name_of(rt, i, &mut name);
+    match opened(rt, &name[..n]) {
+        Some(mut file) => Loaded {
+            there: true,
+            len: reading::fill(&mut file, room),
+        },
+        None => Loaded {
             there: false,
             len: 0,
-        };
+        },
     }
-    let len = io::read_full(fd, room);
-    libc::close(fd);
-    Loaded { there: true, len }
+}
+
+// How many arguments there are, the program's own name among them.
+fn arg_count(rt: &impl Env) -> usize {
+    let mut name = [0u8; NAME];
+    for i in 0..usize::MAX {
+        match rt.arg(i, &mut name) {
+            Ok(_) => {}
+            Err(FillError::TooLong) => {}
+            Err(FillError::NotPresent) => return i,
+        }
+    }
+    usize::MAX
 }
 
 // Before the first case.
-pub fn first() -> Tally
+pub fn first(rt: &impl Env) -> Tally
     ensures { result ≡ first_of result.count }
 {
     Tally {
         at: 1,
-        count: os::arg_count(),
+        count: arg_count(rt),
         good: 0,
     }
 }
 
 // Names a case that does not agree.
-fn name_case(i: usize) {
-    let mut path = io::buffer();
-    let n = os::arg(i, &mut path);
-    io::write_all(STDOUT_FILENO, &path[..n]);
-    io::write_all(STDOUT_FILENO, b" differs\n");
+fn name_case(rt: &(impl Env + Print), i: usize) {
+    let mut name = [0u8; NAME];
+    let n = name_of(rt, i, &mut name);
+    let _ = rt.write_all(&name[..n]);
+    let _ = rt.write_all(b" differs\n");
 }
 
 // The argument two on, where there is one, else the end of them.
@@ -73,7 +110,7 @@ fn two_on(at: usize, count: usize) -> usize
 }
 
 // Counts a case that agrees, and names one that does not.
-pub fn judged(tally: Tally, agrees: bool) -> Tally
+pub fn judged(rt: &(impl Env + Print), tally: Tally, agrees: bool) -> Tally
     ensures { result ≡ judged_of tally agrees }
 {
     let at = tally.at;
@@ -83,10 +120,10 @@ pub fn judged(tally: Tally, agrees: bool) -> Tally
         return Tally {
             at: two_on(at, count),
             count,
-            good: std::num::wrapping_add_u64(good, 1),
+            good: good.wrapping_add(1),
         };
     }
-    name_case(at);
+    name_case(rt, at);
     Tally {
         at: two_on(at, count),
         count,
@@ -95,11 +132,10 @@ pub fn judged(tally: Tally, agrees: bool) -> Tally
 }
 
 // Prints how many cases agree, and answers that number.
-pub fn print(tally: Tally) -> u64
+pub fn print(rt: &impl Print, tally: Tally) -> u64
     ensures { result ≡ tally.good }
 {
     let good = tally.good;
-    io::print_decimal(STDOUT_FILENO, good);
-    io::write_all(STDOUT_FILENO, b" cases agree\n");
+    let _ = println!(rt; "{good} cases agree");
     good
 }
