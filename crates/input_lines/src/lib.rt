@@ -1,6 +1,7 @@
 // The lines of an input that comes in pieces: the bytes of the next line are taken up from a piece, behind those that
 // came before.
 #![tactic(auto)]
+
 ghost use Rattle.std.specs.Prelude.{◌≡◌, take};
 ghost use Rattle.input_lines.specs.Lines.{TakesUp};
 
