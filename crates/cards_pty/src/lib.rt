@@ -1,5 +1,6 @@
 // The PTY card: each field's length and content, the priority, and the card's errors.
 #![tactic(auto)]
+
 ghost use Rattle.std.specs.Prelude.{◌≡◌, ◌≤◌, ◌<◌, length};
 ghost use Rattle.cards_fields.specs.Fields.{field, fields};
 ghost use Rattle.cards_pty.specs.Pty.{program_name, no_priority, precedence, last_of_all, ranked, priority_of, rule_at};
