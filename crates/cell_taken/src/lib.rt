@@ -1,5 +1,6 @@
 // What the jobs in their places hold of core and drum, as the assigner asks for it, and the lowest free place.
 #![tactic(auto)]
+
 ghost use Rattle.std.specs.Prelude.{◌≡◌, map};
 ghost use Rattle.numbers.specs.Limits.{blocks};
 ghost use Rattle.packets.specs.State.{in_run};
