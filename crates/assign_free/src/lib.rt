@@ -1,5 +1,6 @@
 // The assignable units of a kind.
 #![tactic(auto)]
+
 ghost use Rattle.std.specs.Prelude.{◌≡◌};
 ghost use Rattle.assign_free.specs.Assignable.{units_of_kind, FreeUnits};
 ghost use Rattle.assign_free.specs.Counts.{CountsOf};
