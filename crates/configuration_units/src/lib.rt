@@ -1,5 +1,6 @@
 // The units of a configured cell when it is fresh.
 #![tactic(auto)]
+
 ghost use Rattle.std.specs.Prelude.{◌≡◌};
 ghost use Rattle.units.specs.State.{units_from};
 ghost use Rattle.configuration_units.specs.Fresh.{fresh_units};
