@@ -1,5 +1,6 @@
 // How many units are assignable, by kind and channel: the one look at the units that a selection takes.
 #![tactic(auto)]
+
 ghost use Rattle.std.specs.Prelude.{◌≡◌, ◌<◌};
 ghost use Rattle.units.specs.State.{Square};
 ghost use Rattle.assign_counts.specs.Assignable.{order_in, AssignableOn, Counted};
