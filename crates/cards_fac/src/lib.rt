@@ -1,5 +1,6 @@
 // The FAC card: its entries, what they ask for, and the card's errors.
 #![tactic(auto)]
+
 ghost use Rattle.std.specs.Prelude.{◌≡◌, false, ◌≤◌, ◌<◌, get_or, drop, set};
 ghost use Rattle.cards_fields.specs.Fields.{field, fields};
 ghost use Rattle.cards_request.specs.Errors.{good};
