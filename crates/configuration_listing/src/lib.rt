@@ -1,5 +1,6 @@
 // The listing of a configuration, as text in lent room.
 #![tactic(auto)]
+
 ghost use Rattle.std.specs.Prelude.{◌≡◌, cond, ◌&&◌, [], ltb, get_or};
 ghost use Rattle.text.specs.Room.{Written};
 ghost use Rattle.units.specs.State.{assignable};
