@@ -1,6 +1,5 @@
 -- `packets_job::all_changed` meets its contract. The invariant: the packets passed are changed, the others as they
 -- were. Assumes nothing.
-use Prim.Native.Nat.{◌-◌}
 use mathlib.Core.Path.{refl, ap, ◌∙◌}
 use native.Mathlib.Omega.{arith}
 use lib.ListN.{get_or}
