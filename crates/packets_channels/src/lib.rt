@@ -1,5 +1,6 @@
 // What the channels have, and what moves on them.
 #![tactic(auto)]
+
 ghost use Rattle.std.specs.Prelude.{◌≡◌};
 ghost use Rattle.packets.specs.State.{fitted_on, is_drum_of, is_there_of, moves, any_moves};
 ghost use Rattle.packets.specs.Rules.{reaches};

@@ -1,5 +1,6 @@
 // One place: its job and the job's 16 packets, each function on the part that it reads or changes.
 #![tactic(auto)]
+
 ghost use Rattle.std.specs.Prelude.{◌≡◌, map, get_or, set};
 ghost use Rattle.packets.specs.declared.Site.TheVariants.{AtUnit};
 ghost use Rattle.packets.specs.declared.Spot.TheVariants.{OnDrum};
