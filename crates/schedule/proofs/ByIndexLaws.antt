@@ -6,7 +6,6 @@ use mathlib.Core.List.{List}
 use lib.ListN.{length}
 use borrow.Author.Tests.{ltb-true, ltb-false}
 use Rattle.numbers.proofs.Tests.{by_bool}
-use Rattle.numbers.specs.Elements.{find}
 use Rattle.schedule_entries.specs.Entries.{is_named}
 use Rattle.schedule_entries.specs.declared.State.TheVariants.{Waiting, Suspended, Closing}
 use Rattle.schedule_list.specs.InSchedule.{in_schedule, there, changed_at}

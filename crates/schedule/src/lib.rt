@@ -1,5 +1,6 @@
 // What the calls make of the schedule: a request released or deleted; its job is taken, closes, has returned.
 #![tactic(auto)]
+
 ghost use Rattle.std.specs.Prelude.{◌≡◌};
 ghost use Rattle.schedule.specs.Calls.{released, deleted, taken, closing, returned, refused, done};
 
