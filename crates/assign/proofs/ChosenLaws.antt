@@ -36,9 +36,7 @@ use Rattle.assign.specs.declared.KindChannels.{KindChannels}
 use Rattle.assign.specs.declared.Kinds.{Kinds}
 use Rattle.assign.specs.declared.Assigned.{Assigned}
 use Rattle.assign.specs.declared.Lacking.{Lacking}
-use Rattle.assign.specs.declared.Lacking.TheVariants as Lacking
 use Rattle.assign.specs.declared.Part.{Part}
-use Rattle.assign.specs.declared.Part.TheVariants as Part
 use Rattle.assign.specs.declared.Provision.{Provision}
 use Rattle.assign.specs.Parts.{parts, FirstLacking, Has, HasCore, HasKind}
 use Rattle.assign.specs.Assignment.{Supply, drum_length, wants_of, no_channels, channels_of, free_of, given, given_of, IsAssignment}

@@ -13,7 +13,6 @@ use Rattle.numbers.specs.declared.Kind.{Kind}
 use Rattle.numbers.specs.declared.Kind.TheVariants.{Md}
 use Rattle.numbers.proofs.KindLaws.{map_at, kind-order}
 use Rattle.assign.specs.declared.Lacking.{Lacking}
-use Rattle.assign.specs.declared.Lacking.TheVariants as Lacking
 use Rattle.assign.specs.declared.Part.{Part}
 use Rattle.assign.specs.declared.Part.TheVariants.{Core, Units}
 use Rattle.assign.specs.Parts.{FirstOf, kinds}

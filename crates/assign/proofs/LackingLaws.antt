@@ -6,7 +6,6 @@ use Rattle.cards_request.specs.Requests.{counts}
 use Rattle.cards_request.specs.declared.Facilities.{Facilities}
 use Rattle.assign.specs.declared.Assigned.{Assigned}
 use Rattle.assign.specs.declared.Lacking.{Lacking}
-use Rattle.assign.specs.declared.Lacking.TheVariants as Lacking
 use Rattle.assign.specs.declared.Provision.{Provision}
 use Rattle.assign.specs.Assignment.{Supply, IsAssignment}
 use Rattle.assign.specs.Parts.{parts, FirstLacking, Has}

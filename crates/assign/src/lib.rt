@@ -1,5 +1,6 @@
 // The facilities that a job gets: core, drum area, and units of each kind; or which of them is lacking first.
 #![tactic(auto)]
+
 ghost use Rattle.std.specs.Prelude.{◌≡◌};
 ghost use Rattle.assign_free.specs.Assignable.{is_free_of};
 ghost use Rattle.assign.specs.Assignment.{drum_length, supply_of, wants_of};
