@@ -1,6 +1,7 @@
 // Which part of what a job asks for is lacking first: told from the number of assignable units, the occupancy word
 // and the drum areas alone, so that no unit is looked at and nothing is assigned.
 #![tactic(auto)]
+
 ghost use Rattle.numbers.specs.Decides.{Decides};
 ghost use Rattle.assign.specs.Parts.{FirstOf, kinds};
 ghost use Rattle.assign_lacking.specs.ByCounts.{Servable, HasUnits, LackingByCounts};
