@@ -1,5 +1,6 @@
 // A line's words against a form, and what they write: numbers and IDs.
 #![tactic(auto)]
+
 ghost use Rattle.std.specs.Prelude.{◌≡◌, true, [], ◌≤◌, length, get_or};
 ghost use Rattle.words.specs.Words.{every};
 ghost use Rattle.text.specs.Class.{is_digit};
