@@ -1,6 +1,7 @@
 // Completions and ends, on the parts that they read and change: the job's packets and its state, and whether its
 // facilities return.
 #![tactic(auto)]
+
 ghost use Rattle.std.specs.Prelude.{◌≡◌, not, ◌&&◌};
 ghost use Rattle.packets.specs.State.{is_unit, is_stopping, is_closing, any_moves};
 ghost use Rattle.packets.specs.Rules.{is_wrong, code_for, is_trouble, leaving_as, closing};

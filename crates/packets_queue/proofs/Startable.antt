@@ -11,7 +11,6 @@ use Rattle.units.specs.declared.Unit.{Unit as UnitState}
 use Rattle.packets_queue.proofs.Relist.{entry-is}
 use Rattle.units.specs.State.{Square, fresh_unit, unit_in}
 use Rattle.units.proofs.StateLaws.{read_past}
-use Rattle.packets.specs.Lone.{locks}
 use Rattle.numbers.specs.Elements.{find}
 use Rattle.packets.specs.Rules.{startable_on}
 use Rattle.packets.specs.State.{blank, job_in, packet_in, packet_of, place_of, unit_at}

@@ -1,5 +1,6 @@
 // The list of the listed packets of all channels, the oldest first.
 #![tactic(auto)]
+
 ghost use Rattle.std.specs.Prelude.{◌≡◌, not, ◌||◌, [], eqb, get_or, replicate};
 ghost use Rattle.packets.specs.State.{blank, is_listed, place_of, packet_of, relist, enlisted};
 ghost use Rattle.packets_queue.specs.Padded.{list_of, padded, Tidy};

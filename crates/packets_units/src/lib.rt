@@ -1,5 +1,6 @@
 // Who holds the units: the interlock and the holder of one, and the units that a job is given and returns.
 #![tactic(auto)]
+
 ghost use Rattle.std.specs.Prelude.{◌≡◌, ◌&&◌};
 ghost use Rattle.units.specs.State.{units_from, assignable};
 ghost use Rattle.packets.specs.State.{held_by, unit_at, set_lock, set_holder, freed_at, release_all, take_all};

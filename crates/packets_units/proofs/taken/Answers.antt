@@ -1,0 +1,57 @@
+-- `packets_units::taken` meets its contract. The invariant: the units passed are changed, the others as they were.
+-- Assumes nothing.
+use mathlib.Core.Bool.{Bool, ◌&&◌}
+use Prim.Native.Nat.{ℕ, ◌+◌, ◌/◌, ◌%◌}
+use mathlib.Core.Path.{◌≡◌, sym, ap, subst, ◌∙◌}
+use native.Mathlib.Omega.{arith}
+use Rattle.units.specs.declared.Unit.{Unit}
+use Rattle.units.specs.declared.Units.{Units}
+use Rattle.units.specs.State.{unit_in, units_from, Square, assignable}
+use Rattle.units.proofs.EachUnit.{Passed, passed_none, passed-set, passed-left, passed-all}
+use Rattle.units.proofs.StateLaws.{of-square}
+use Rattle.packets.specs.State.{take_unit, take_all}
+use Rattle.packets.proofs.UnitLaws.{take-square, take-read}
+use Rattle.packets_units.specs.Handed.{wanted_in}
+use Rattle.packets_units.proofs.HandedLaws.{taken_here, taken_not, wanted-is}
+use mathlib.Core.List.{List}
+use Rattle.packets_units.proofs.taken.Goals as goal
+use Rattle.packets_units.proofs.taken.Goals.{then-is_taken, else-is_taken}
+
+pub loop-i-init : goal.loop-i-init
+loop-i-init c = (
+  omega arith,
+  subst (λ (g : List (List Unit)). Passed (λ (d u : ℕ) (v : Unit). take_unit c.args.j (wanted_in c.args.wanted d u) v) g c.args.units.of 0)
+      (sym c.grid_of-grid.ensures.is) (passed_none (λ (d u : ℕ) (v : Unit). take_unit c.args.j (wanted_in c.args.wanted d u) v)
+      c.args.units.of (of-square c.grid_of-grid.ensures)),
+)
+
+pub loop-i-smaller : goal.loop-i-smaller
+loop-i-smaller c = omega (arith, c.loop-i-test.true)
+
+pub loop-i-preserved : goal.loop-i-preserved
+unfolding unit_in
+loop-i-preserved c =
+    let unit = unit_in c.grid_of-grid.result (c.loop-i.i / 16) (c.loop-i.i % 16) in
+    let t : (wanted_in c.args.wanted (c.loop-i.i / 16) (c.loop-i.i % 16) && assignable unit) ≡ c.is_taken.result =
+    ap (λ (b : Bool). b && assignable unit) (sym (wanted-is c.args.wanted c.loop-i.i)) ∙ sym c.is_taken.ensures in
+    let f : ℕ → ℕ → Unit → Unit = (λ (d u : ℕ) (v : Unit). take_unit c.args.j (wanted_in c.args.wanted d u) v) in (
+      omega arith,
+      elim c.if-is_taken.branch [
+        | then-is_taken w ↦ subst (λ (n : Units). Passed f c.grid_of-grid.result n.of (c.loop-i.i + 1)) (sym (w.next-is ∙ w.with_unit-next.ensures))
+            (passed-set f c.grid_of-grid.result c.loop-i.next.of c.loop-i.i c.loop-i.invariant.1 c.loop-i-test.true w.handed-state.result
+            (w.handed-state.ensures ∙ taken_here unit c.args.j (wanted_in c.args.wanted (c.loop-i.i / 16) (c.loop-i.i % 16)) (t ∙ w.if-is_taken.true)))
+        | else-is_taken w ↦ subst (λ (n : Units). Passed f c.grid_of-grid.result n.of (c.loop-i.i + 1)) (sym w.next-is)
+            (passed-left f c.grid_of-grid.result c.loop-i.next.of c.loop-i.i c.loop-i.invariant.1 c.loop-i-test.true
+            (taken_not unit c.args.j (wanted_in c.args.wanted (c.loop-i.i / 16) (c.loop-i.i % 16)) (t ∙ w.if-is_taken.false)))
+      ],
+    )
+
+pub returns : goal.returns
+returns c =
+    let square : Square c.args.units.of = of-square c.grid_of-grid.ensures in
+    let P : Passed (λ (d u : ℕ) (v : Unit). take_unit c.args.j (wanted_in c.args.wanted d u) v) c.args.units.of c.loop-i.next.of c.loop-i.i =
+    subst (λ (g : List (List Unit)). Passed (λ (d u : ℕ) (v : Unit). take_unit c.args.j (wanted_in c.args.wanted d u) v) g c.loop-i.next.of c.loop-i.i)
+    c.grid_of-grid.ensures.is c.loop-i.invariant.1 in
+    ap units_from (passed-all (λ (d u : ℕ) (v : Unit). take_unit c.args.j (wanted_in c.args.wanted d u) v) c.args.units.of c.loop-i.next.of
+    (take_all c.args.units.of c.args.j (wanted_in c.args.wanted)) c.loop-i.i c.loop-i-test.false P
+    (take-square c.args.units.of c.args.j (wanted_in c.args.wanted) square) (take-read c.args.units.of c.args.j (wanted_in c.args.wanted) square))
