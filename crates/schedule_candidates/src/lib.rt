@@ -1,6 +1,7 @@
 // Which requests in the schedule are candidates. The schedule's array is taken out once in each function: a call that
 // takes it copies it.
 #![tactic(auto)]
+
 ghost use Rattle.std.specs.Prelude.{◌≡◌, ◌||◌, ◌&&◌, ◌≤◌};
 ghost use Rattle.numbers.specs.Limits.{most_requests};
 ghost use Rattle.schedule_entries.specs.Entries.{active, serial};
