@@ -1,5 +1,6 @@
 // The board's lines of units: those that are held or marked.
 #![tactic(auto)]
+
 ghost use Rattle.std.specs.Prelude.{◌≡◌, min};
 ghost use Rattle.channels.specs.Channels.{units_of};
 ghost use Rattle.text.specs.Room.{Written};
