@@ -1,10 +1,10 @@
 -- How long the line of a job selected is at most: 9,786 bytes, if its numbers and name are what their types let them
 -- be. A unit is given to one entry of a kind at most, so a kind's entries name 256 units at most, together. Assumes
 -- nothing.
-use Prim.Native.Nat.{ℕ, zero, suc, ◌+◌, ◌*◌, ◌-◌, ◌/◌, ◌%◌, ◌^◌, ◌≤◌, ◌<◌}
+use Prim.Native.Nat.{ℕ, zero, suc, ◌+◌, ◌*◌, ◌-◌, ◌/◌, ◌^◌, ◌≤◌, ◌<◌}
 use mathlib.Core.Path.{◌≡◌, refl}
-use mathlib.Core.Bool.{Bool, true, false, cond, ◌&&◌}
-use mathlib.Core.List.{List, [], ◌∷◌, ◌++◌}
+use mathlib.Core.Bool.{false, cond, ◌&&◌}
+use mathlib.Core.List.{List, [], ◌++◌}
 use native.Mathlib.Omega.{arith}
 use native.Mathlib.Nat.{suc-mul}
 use lib.Dec.{eqb, leb, ltb}
@@ -17,7 +17,6 @@ use Rattle.numbers.proofs.Tests.{both, by_bool}
 use Rattle.numbers.proofs.KindLaws.{code-long}
 use Rattle.text.specs.Writing.{decimal_text}
 use Rattle.text.proofs.Undo.{few-digits}
-use Rattle.cards_request.specs.declared.Facilities.{Facilities}
 use Rattle.cards_request.specs.declared.Request.{Request}
 use Rattle.cards_fields.specs.Fields.{spaceless}
 use Rattle.cards_fields.proofs.FieldLaws.{spaceless-short}
@@ -28,7 +27,7 @@ use Rattle.assign_heads.specs.declared.Given.{Given}
 use Rattle.assign_heads.specs.declared.Given.TheVariants as G
 use Rattle.assign_heads.specs.declared.Head.{Head}
 use Rattle.assign.specs.declared.Assigned.{Assigned}
-use Rattle.answer_pieces.specs.Pieces.{each, each_from, span_text, unit_text}
+use Rattle.answer_pieces.specs.Pieces.{each_from, span_text}
 use Rattle.shift_selected.specs.Selected.{areas_text, asked, asked_text, entry_text, given_text, is_of_kind, is_to, kind_text, kinds_text, run_text}
 use Rattle.shift_selected.specs.Selected.{selected_text, unit_at, units_text}
 

@@ -1,5 +1,6 @@
 // What a selection answers: the place, the job's ID and all that it was given; and the word for a part that is lacking.
 #![tactic(auto)]
+
 ghost use Rattle.std.specs.Prelude.{◌≡◌};
 ghost use Rattle.text.specs.Room.{Written};
 ghost use Rattle.shift_selected.specs.Selected.{run_text, is_of_kind, is_to, given_text, units_text, entry_text};
