@@ -1,5 +1,6 @@
 // The board's lines of places and of core.
 #![tactic(auto)]
+
 ghost use Rattle.std.specs.Prelude.{◌≡◌, ◌<◌, take};
 ghost use Rattle.packets.specs.State.{in_run, is_empty};
 ghost use Rattle.text.specs.Room.{Written};
