@@ -1,6 +1,7 @@
 // The lines that the deck and cards programs share, in lent room: that of a card error, with the ID that it shows, and
 // that of a refused deck.
 #![tactic(auto)]
+
 ghost use Rattle.std.specs.Prelude.{◌≡◌};
 ghost use Rattle.text.specs.Room.{Written};
 ghost use Rattle.cards_lines.specs.Shown.{shown_by, error_line, refused_text};

@@ -1,5 +1,6 @@
 // The PM cards: the number, the text as it stands, what is wrong with a card, and its text from the type on.
 #![tactic(auto)]
+
 ghost use Rattle.std.specs.Prelude.{◌≡◌, length};
 ghost use Rattle.text.specs.Room.{Written};
 ghost use Rattle.words.specs.Words.{every};

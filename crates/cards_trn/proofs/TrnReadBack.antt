@@ -15,7 +15,6 @@ use Rattle.words.specs.Words.{every, same}
 use Rattle.words.proofs.LineLaws.{NoLf}
 use Rattle.cards_fields.specs.Fields.{field, fields, malformed, card_text}
 use Rattle.cards_fields.proofs.CardLaws.{plain, AllPlain, fields_back, card-good, card-line}
-use Rattle.cards_fields.proofs.RoundLaws.{named}
 use Rattle.cards_request.specs.declared.CardVerdict.TheVariants.{Good}
 use Rattle.cards_trn.specs.Trn.{is_trn, has_count, trn_error, trn_text}
 use Rattle.cards_trn.specs.Transfers.{Transfer, is_there, trn_fields, ProperTrn, trn_of}

@@ -1,5 +1,6 @@
 // The TRN card: its receiving count, its transfers, the card's errors, and its text from the type on.
 #![tactic(auto)]
+
 ghost use Rattle.std.specs.Prelude.{◌≡◌, ◌<◌, drop};
 ghost use Rattle.text.specs.Room.{Written};
 ghost use Rattle.cards_fields.specs.Fields.{fields, spaceless, tail_text};
