@@ -1,28 +1,24 @@
 -- Written text read back, form by form: fields left off at the end, names, numbers of two digits and the priority.
 -- Assumes nothing.
-use Prim.Native.Nat.{ℕ, zero, suc, ◌+◌, ◌-◌, ◌*◌, ◌/◌, ◌%◌, ◌≤◌, ◌<◌}
+use Prim.Native.Nat.{ℕ, suc, ◌+◌, ◌/◌, ◌%◌, ◌≤◌, ◌<◌}
 use mathlib.Core.Path.{◌≡◌, refl, sym, ap, ◌∙◌}
-use mathlib.Core.Bool.{Bool, true, false, cond, ◌||◌, not}
-use mathlib.Core.List.{List, [], ◌∷◌, ◌++◌, append-nil}
+use mathlib.Core.Bool.{true, false, cond, not}
+use mathlib.Core.List.{List, [], ◌∷◌, ◌++◌}
 use mathlib.Core.Logic.{⊎_elim}
 use native.Mathlib.Nat.{eq-zero-or-pos}
 use native.Mathlib.Omega.{arith}
 use lib.Dec.{eqb}
 use lib.ListN.{length, get_or}
-use borrow.Author.Tests.{eq-eqb, ne_eqb, eqb-true, lt-leb}
-use Rattle.numbers.specs.Quoted.{byte}
+use borrow.Author.Tests.{eq-eqb, ne_eqb, eqb-true}
 use Rattle.numbers.proofs.Tests.{by_bool, never, both}
-use Rattle.text.specs.Class.{is_digit, is_letter, is_alnum}
-use Rattle.text.proofs.ClassLaws.{is_digit_lem, digit-bounds}
-use Rattle.text.specs.Writing.{two_text, decimal_text}
-use Rattle.text.proofs.Tens.{one-digit, more-digits}
-use Rattle.words.specs.Words.{passes, every, has, value, value_from}
+use Rattle.text.specs.Class.{is_digit, is_letter}
+use Rattle.text.proofs.ClassLaws.{is_digit_lem}
+use Rattle.text.specs.Writing.{two_text}
+use Rattle.words.specs.Words.{passes, every, has, value}
 use Rattle.words.specs.declared.Class.TheVariants.{Hyphened}
 use Rattle.words.proofs.WordLaws.{every_append, every-weaker}
-use Rattle.cards_fields.specs.Fields.{fields, onto, spaceless, padded, card_byte, closed, malformed}
+use Rattle.cards_fields.specs.Fields.{spaceless, padded}
 use Rattle.cards_fields.proofs.CardLaws.{plain, AllPlain, listed_plain, hyphened-plain, letter-plain, digit-plain, digit-no-letter}
-use Rattle.words.specs.Lines.{lf}
-use Rattle.words.proofs.LineLaws.{NoLf}
 use Rattle.cards_request.specs.Errors.{or_else}
 use Rattle.cards_pty.specs.Pty.{Rule, one_of, program_name, field_error, fields_from, priority_of, ranked, last_of_all}
 use Rattle.cards_pty.proofs.PriorityLaws.{lettered, sequenced, rank-good, rank-last}

@@ -16,7 +16,6 @@ use Rattle.text.specs.Room.{reach, Written}
 use Rattle.text.proofs.RoomLaws.{Going, turn, fitted}
 use Rattle.text.specs.Writing.{decimal_text}
 use Rattle.text.proofs.Tens.{one-digit, more-digits}
-use Rattle.words.proofs.WordLaws.{drop-step}
 use Rattle.cards_fields.specs.Fields.{card_text, tail_text}
 use Rattle.cards_fac.specs.Fac.{codes, last_code}
 use Rattle.cards_request.specs.declared.Request.{Request}

@@ -1,4 +1,5 @@
 // A request's PTY and FAC cards put into lent room, and whether a request is one that cards can hold.
 #![tactic(auto)]
+
 pub mod check;
 pub mod put;

@@ -1,0 +1,18 @@
+-- `cards_writing::put::put_code` meets its contract: the code with the index, of the list of codes. Assumes nothing.
+use mathlib.Core.Path.{sym}
+use Rattle.cards_fac.specs.Fac.{codes}
+use Rattle.cards_fac.proofs.EntryLaws.{code-size}
+use Rattle.text.proofs.RoomLaws.{none}
+use Rattle.cards_writing.proofs.PutLaws.{no_code}
+use Rattle.cards_writing.proofs.put.put_code.Goals as goal
+
+pub returns-then-code-gt-LAST_CODE : goal.returns-then-code-gt-LAST_CODE
+returns-then-code-gt-LAST_CODE c = rw (no_code c.args.code c.if-code-gt-LAST_CODE.true) (none c.args.room.now c.args.at)
+
+pub slice_bounds-put_bytes-end : goal.slice_bounds-put_bytes-end
+unfolding codes
+slice_bounds-put_bytes-end c = sym (code-size c.args.code c.if-code-gt-LAST_CODE.false)
+
+pub returns : goal.returns
+unfolding codes
+returns c = c.put_bytes.ensures
