@@ -1,11 +1,9 @@
 -- AN ANSWER STANDS WHOLE IN ITS ROOM: a deck that is read has at most 16,384 bytes, so its part has no more, and the line
 -- behind it at most twelve. Then what a call leaves, by what the line belongs to. Assumes nothing.
-use Prim.Native.Nat.{ℕ, ◌+◌, ◌≤◌}
-use mathlib.Core.Path.{◌≡◌, refl, sym, ap, subst, ◌∙◌}
-use mathlib.Core.Bool.{Bool, true, false, cond}
-use mathlib.Core.List.{List, [], ◌∷◌, ◌++◌}
+use Prim.Native.Nat.{ℕ, ◌≤◌}
+use mathlib.Core.Path.{◌≡◌, refl, ap, ◌∙◌}
+use mathlib.Core.List.{List, [], ◌++◌}
 use native.Mathlib.Omega.{arith}
-use lib.Dec.{eqb}
 use lib.ListN.{length, take, drop, length-append, length-take, length-drop}
 use Rattle.numbers.specs.Quoted.{bytes}
 use Rattle.numbers.specs.Refusals.{number_of}
@@ -19,11 +17,11 @@ use Rattle.text.proofs.RoomLaws.{none, and_then, entire}
 use Rattle.text.proofs.Undo.{few-digits}
 use Rattle.cards_fields.proofs.Groups.{ends}
 use Rattle.answer_pieces.specs.Pieces.{no_text, no_line}
-use Rattle.desk_show.specs.Showing.{IsRead, ShowsFrom, bad, of_repair, of_day, nobody, part_in, part_of, Shows}
+use Rattle.desk_show.specs.Showing.{IsRead, ShowsFrom, bad, of_repair, of_day, nobody, part_in, Shows}
 use Rattle.desk_show.specs.declared.Extent.{Extent}
 use Rattle.desk_show.specs.declared.Which.{Which}
 use Rattle.desk_show.specs.declared.Which.TheVariants.{Repair, Day, Refused}
-use Rattle.desk_hearing.specs.Printing.{closing, Says}
+use Rattle.desk_hearing.specs.Printing.{closing}
 use Rattle.desk_hearing.specs.Putting.{Answered}
 
 refused-few : (refusal : Refusal) → length (no_line refusal) ≤ 6

@@ -15,7 +15,6 @@ use Rattle.input_lines.specs.Lines.{TakesUp}
 use Rattle.input_lines.specs.declared.Cut.{Cut}
 use Rattle.input_lines.proofs.LineLaws.{taken-within as lines-within}
 use Rattle.answer_pieces.specs.Pieces.{no_line}
-use Rattle.desk_hearing.specs.Printing.{Says}
 use Rattle.desk_hearing.specs.Hearing.{desk_of, Standing, standing, line_in, repair_in, day_in, Turns, TurnsIf, Heard, EndsIf, Ends, Ended}
 use Rattle.desk_hearing.specs.Putting.{Answered}
 use Rattle.desk_hearing.specs.declared.Stage.{Stage}
@@ -102,8 +101,8 @@ module _ (s : Standing) where
     pub no-day : s.desk.stage ≡ GathersDay → Ended s out after· at
     no-day e = ended GathersDay e refl (refused-put l put)
 
-  pub no_line : s.desk.stage ≡ Asks → s.desk.line ≡ 0 → (out : List ℕ) → Ended s out out 0
-  no_line e z out = ended Asks e (subst (λ (b : Bool). EndsIf b s []) (sym (eq-eqb s.desk.line 0 z)) refl) (nothing_put out)
+  pub no_line_lem : s.desk.stage ≡ Asks → s.desk.line ≡ 0 → (out : List ℕ) → Ended s out out 0
+  no_line_lem e z out = ended Asks e (subst (λ (b : Bool). EndsIf b s []) (sym (eq-eqb s.desk.line 0 z)) refl) (nothing_put out)
 
   pub last_line : s.desk.stage ≡ Asks → (s.desk.line ≡ 0 → ⊥) → {out after· : List ℕ} {at : ℕ}
       → Answered (line_in s) (repair_in s) (day_in s) out after· at

@@ -1,11 +1,11 @@
 -- ONE OUTCOME: what is printed for an ID, what a call leaves and answers, what the end of the input answers, and what the
 -- program prints for an input are one. Assumes nothing.
 use Prim.Native.Nat.{ℕ}
-use mathlib.Core.Path.{◌≡◌, refl, sym, ap, subst, ◌∙◌}
-use mathlib.Core.Bool.{Bool, true, false, ◌&&◌}
+use mathlib.Core.Path.{◌≡◌, sym, ap, subst, ◌∙◌}
+use mathlib.Core.Bool.{Bool, true, false}
 use mathlib.Core.List.{List, [], ◌∷◌, ◌++◌}
 use lib.Dec.{eqb}
-use lib.ListN.{length, take}
+use lib.ListN.{take}
 use Rattle.numbers.proofs.Tests.{never}
 use Rattle.text.specs.Room.{Whole}
 use Rattle.text.proofs.RoomLaws.{written_one, whole-one}

@@ -68,12 +68,12 @@ module _ (k : ℕ) (big : deck_bytes < k) where
 
   -- ---- the end of the input
 
-  last_line : (s : Standing) (line repair day last : List ℕ) → Stands k s line repair day
+  last_line_lem : (s : Standing) (line repair day last : List ℕ) → Stands k s line repair day
       → EndsIf (eqb s.desk.line 0) s last → SaysAll repair day (last_line line) last
-  last_line s [] repair day last w e =
+  last_line_lem s [] repair day last w e =
       let z = eq-eqb s.desk.line 0 (omega (arith, kept-count w.line)) in
       subst (λ (b : Bool). EndsIf b s last) z e
-  last_line s (b ∷ line) repair day last w e =
+  last_line_lem s (b ∷ line) repair day last w e =
       let z = ne_eqb s.desk.line 0 (λ i. omega (arith, kept-count w.line)) in
       let h : Says (line_in s) (repair_in s) (day_in s) last = subst (λ (b : Bool). EndsIf b s last) z e in
       (last, [], says w (subst (λ (l : List ℕ). Says l (repair_in s) (day_in s) last) w.line.front h), refl, sym (append-nil last))
@@ -82,7 +82,7 @@ module _ (k : ℕ) (big : deck_bytes < k) where
       → Claims stage repair day line last
   at-end GathersRepair s line repair day last w e = gather_none (DayFrom last day) repair line w.clean e
   at-end GathersDay s line repair day last w e = gather_none (AsksFrom last repair) day line w.clean e
-  at-end Asks s line repair day last w e = rw (asked-last line w.clean) (last_line s line repair day last w e)
+  at-end Asks s line repair day last w e = rw (asked-last line w.clean) (last_line_lem s line repair day last w e)
 
   -- ---- a whole line
 

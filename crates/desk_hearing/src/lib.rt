@@ -1,6 +1,7 @@
 // The desk program: two decks gathered line by line in lent room, and then a line for each ID that is asked for,
 // answered in lent room with the request's own cards from the deck that has them.
 #![tactic(auto)]
+
 ghost use Rattle.std.specs.Prelude.{◌≡◌, cond, take};
 ghost use Rattle.text.specs.Room.{Written, Whole};
 ghost use Rattle.words.specs.Lines.{line_text};

@@ -1,14 +1,14 @@
 -- WHETHER A CARD OPENS A GROUP WITH AN ID, as the code tests it: the ID is well formed, and the card's first field is
 -- the ID. Assumes nothing.
 use Prim.Native.Nat.{ℕ, ◌≤◌, ◌<◌}
-use mathlib.Core.Path.{◌≡◌, refl, sym, ap, ◌∙◌}
+use mathlib.Core.Path.{◌≡◌, sym, ap, ◌∙◌}
 use mathlib.Core.Bool.{Bool, true, false, ◌&&◌}
 use mathlib.Core.List.{List}
 use native.Mathlib.Omega.{arith}
 use lib.Dec.{leb}
 use lib.ListN.{length}
 use borrow.Author.Tests.{le-leb, lt-leb, leb-true}
-use Rattle.numbers.proofs.Tests.{by_bool, both, never}
+use Rattle.numbers.proofs.Tests.{by_bool, both}
 use Rattle.text.specs.Class.{is_alnum}
 use Rattle.words.specs.Words.{every, same}
 use Rattle.words.proofs.WordLaws.{same-equal, and-false}

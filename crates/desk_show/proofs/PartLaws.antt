@@ -10,13 +10,13 @@ use native.Mathlib.Omega.{arith}
 use lib.ListN.{length, take, drop, length-take, length-drop, drop_of_length-le}
 use lib.Seq.{length-take-le, take_all, take-nil, take-take}
 use Rattle.numbers.specs.declared.Refusal.{Refusal}
-use Rattle.numbers.specs.declared.Refusal.TheVariants.{BadDeck, NoGroup}
+use Rattle.numbers.specs.declared.Refusal.TheVariants.{BadDeck}
 use Rattle.numbers.proofs.Tests.{never}
 use Rattle.cards_fields.specs.Deck.{groups_of, deck_end, deck_groups}
 use Rattle.cards_fields.proofs.Groups.{ends, refused-bad, deck-cards}
 use Rattle.cards_fields.specs.declared.DeckEnd.TheVariants as Ends
-use Rattle.desk_show.specs.Showing.{NoneHas, FirstOf, IsBad, IsRead, ShowsFrom, bad, of_repair, of_day, nobody, part_in, part_of, Shows}
-use Rattle.desk_show.specs.Seeking.{groups_in, StandsAt, refused_for, FindsBy, FindsIn, clipped_to, span_by, span_of}
+use Rattle.desk_show.specs.Showing.{NoneHas, FirstOf, IsBad, bad, of_repair, of_day, nobody, part_in, part_of, Shows}
+use Rattle.desk_show.specs.Seeking.{groups_in, StandsAt, refused_for, FindsBy, FindsIn, span_by, span_of}
 use Rattle.desk_show.specs.declared.Which.{Which}
 use Rattle.desk_show.specs.declared.Which.TheVariants.{Repair, Day, Refused}
 use Rattle.desk_show.specs.declared.Extent.{Extent}

@@ -13,7 +13,7 @@ use Rattle.cards_fields.specs.Fields.{fields}
 use Rattle.cards_fields.specs.Deck.{cards_of, group_size}
 use Rattle.cards_fields.proofs.FieldLaws.{rest-is}
 use Rattle.cards_fields.proofs.Groups.{First, no-groups, first_group_lem}
-use Rattle.desk_show.specs.Showing.{opens_for, has_id, NoneHas, groups_text, FirstOf}
+use Rattle.desk_show.specs.Showing.{opens_for, has_id, NoneHas, groups_text}
 use Rattle.desk_show.specs.Seeking.{groups_in, StandsAt}
 
 -- groups one behind the other

@@ -2,7 +2,7 @@
 -- Assumes nothing.
 use Prim.Native.Nat.{ℕ}
 use mathlib.Core.Path.{◌≡◌, refl, sym, ap, ◌∙◌}
-use mathlib.Core.Bool.{true, false}
+use mathlib.Core.Bool.{true}
 use mathlib.Core.List.{List, [], ◌∷◌, ◌++◌}
 use mathlib.Core.Logic.{◌⊎◌, ⊎_elim}
 use native.Mathlib.Omega.{arith}
@@ -10,7 +10,6 @@ use lib.ListN.{length}
 use Rattle.numbers.proofs.Tests.{never}
 use Rattle.numbers.specs.declared.Refusal.TheVariants.{BadDeck}
 use Rattle.words.specs.Lines.{lines_text}
-use Rattle.cards_fields.specs.Deck.{deck_end}
 use Rattle.cards_fields.specs.declared.DeckEnd.TheVariants as Ends
 use Rattle.desk_show.specs.Showing.{has_id, NoneHas, groups_text, FirstOf, IsBad, IsRead, ShowsFrom, bad}
 use Rattle.desk_show.specs.Showing.{of_repair, of_day, nobody, part_of, Shows, Shown}

@@ -1,6 +1,7 @@
 // Two decks on the desk: a request's own cards, as a part of the deck that has them. Nothing is copied, nothing is
 // checked, and there is no cell.
 #![tactic(auto)]
+
 ghost use Rattle.std.specs.Prelude.{◌≡◌};
 ghost use Rattle.cards_fields.specs.Fields.{is_name};
 ghost use Rattle.desk_show.specs.Showing.{opens_for, part_of, Shows, Shown};

@@ -1,6 +1,7 @@
 // Keyboard messages: what the operator types, `DWN Ccc Uuu`, `AVL Ccc Uuu`, `SEL jrid` or `DEL jrid`, and what it asks
 // for. Any bytes are a message.
 #![tactic(auto)]
+
 ghost use Rattle.std.specs.Prelude.{◌≡◌, true, [], min, get_or};
 ghost use Rattle.numbers.specs.Quoted.{byte};
 ghost use Rattle.text.specs.Class.{is_digit};

@@ -1,0 +1,28 @@
+-- `desk_show::find` meets its contract: both decks are looked at before anything is searched for. Assumes nothing.
+use Rattle.desk_show.proofs.PartLaws.{found-shows, refused-shows, read-long, is-bad}
+use Rattle.desk_show.proofs.find.Goals as goal
+use mathlib.Core.Path.{sym, ◌∙◌}
+use mathlib.Core.Logic.{inl, inr}
+
+pub slice_bounds-find_in-end : goal.slice_bounds-find_in-end
+slice_bounds-find_in-end c =
+    read-long c.args.repair.now c.in-At.n (sym c.deck_end.ensures ∙ c.in-At.is)
+
+pub slice_bounds-find_in-end-in-At-deck_end : goal.slice_bounds-find_in-end-in-At-deck_end
+slice_bounds-find_in-end-in-At-deck_end c =
+    read-long c.args.day.now c.in-At-deck_end.m (sym c.deck_end-in-At.ensures ∙ c.in-At-deck_end.is)
+
+pub returns-in-At-deck_end : goal.returns-in-At-deck_end
+returns-in-At-deck_end c =
+    found-shows c.args.id.now c.args.repair.now c.args.day.now (sym c.deck_end.ensures ∙ c.in-At.is)
+    (sym c.deck_end-in-At.ensures ∙ c.in-At-deck_end.is) c.find_in.ensures
+
+pub returns-in-Refused-deck_end : goal.returns-in-Refused-deck_end
+returns-in-Refused-deck_end c =
+    let b = is-bad c.args.day.now c.in-Refused-deck_end.refusal (sym c.deck_end-in-At.ensures ∙ c.in-Refused-deck_end.is) in
+    refused-shows c.args.id.now c.args.repair.now c.args.day.now c.in-Refused-deck_end.refusal (b.0, inr b.1) c.refused.ensures
+
+pub returns-in-Refused : goal.returns-in-Refused
+returns-in-Refused c =
+    let b = is-bad c.args.repair.now c.in-Refused.refusal (sym c.deck_end.ensures ∙ c.in-Refused.is) in
+    refused-shows c.args.id.now c.args.repair.now c.args.day.now c.in-Refused.refusal (b.0, inl b.1) c.refused-in-Refused.ensures
