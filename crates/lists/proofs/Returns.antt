@@ -2,7 +2,6 @@
 use Prim.Native.Nat.{ℕ, ◌%◌, ◌<◌}
 use mathlib.Core.Path.{◌≡◌, refl, sym, ap, ◌∙◌}
 use mathlib.Core.Bool.{not, cond, ◌&&◌}
-use mathlib.Core.List.{List, map}
 use native.Mathlib.Omega.{arith}
 use lib.ListN.{length, get_or, set}
 use lib.Dec.{ltb}
@@ -20,7 +19,7 @@ use Rattle.packets.proofs.Laws.{and_left, and_right, passes}
 use Rattle.packets.specs.Rules.{accept, answer, cut, is_at, moves_at, reaches, refusal, return_refusal}
 use Rattle.packets.proofs.ByNumber.{Return}
 use Rattle.packets.specs.State.{State, carrying, fitted_on, hold, job_in, motion_on, no_job, packet_in}
-use Rattle.packets.specs.State.{relist, restatus, set_holder, state_in, sweep, with_packets}
+use Rattle.packets.specs.State.{relist, set_holder, state_in, sweep}
 use Rattle.packets.specs.declared.Acted.{Acted}
 use Rattle.packets.specs.declared.Answer.TheVariants.{Done}
 use Rattle.packets.specs.declared.Job.{Job}

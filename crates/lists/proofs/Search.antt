@@ -38,8 +38,8 @@ module _ (r : Lists) (c : ℕ) (row : List UnitState) (R : RowOf r.units.of c ro
   abbrev pub wanted : Found
   wanted = found_of (find (startable_on r.units.of r.jobs c) (list_of r.list))
 
-  found_of : (o : Option ℕ) → find test (take end r.list.entries) ≡ o → found_of o ≡ wanted
-  found_of o e =
+  found_of_lem : (o : Option ℕ) → find test (take end r.list.entries) ≡ o → found_of o ≡ wanted
+  found_of_lem o e =
       sym (ap found_of e)
       ∙ ap (λ (l : List ℕ). found_of (find test l))
       (ap (λ (n : ℕ). take n r.list.entries) S.is ∙ listed-is r.list.entries r.list.count (omega (arith, full)))
@@ -49,14 +49,14 @@ module _ (r : Lists) (c : ℕ) (row : List UnitState) (R : RowOf r.units.of c ro
     pub search-over : end ≤ k → found ≡ wanted
     search-over h =
         let e : k ≡ end = omega (arith, L.passed) in
-        L.nowhere ∙ found_of none (rw e at L.unstarted)
+        L.nowhere ∙ found_of_lem none (rw e at L.unstarted)
 
     module _ (less : k < end) (b : Bool) (t : test (get_or r.list.entries k 0) ≡ b) where
       pub search-found : b ≡ true → At (get_or r.list.entries k 0) ≡ wanted
       search-found y =
           let e : find test (take (k + 1) r.list.entries) ≡ some (get_or r.list.entries k 0) =
           find-step test r.list.entries k 0 (omega (arith, S.within)) L.unstarted ∙ rw (t ∙ y) in
-          found_of (some (get_or r.list.entries k 0)) (find-part test r.list.entries (k + 1) end (get_or r.list.entries k 0) (omega arith) e)
+          found_of_lem (some (get_or r.list.entries k 0)) (find-part test r.list.entries (k + 1) end (get_or r.list.entries k 0) (omega arith) e)
 
       pub search-on : b ≡ false → Searching row r.jobs c r.list.entries end (k + 1) found
       search-on n =

@@ -2,6 +2,7 @@
 // returns it with its answer. The list's entries are lent, and units that are only looked at are taken out before the
 // state is copied into `next`: so one copy of it lies between a call and the next.
 #![tactic(auto)]
+
 mod after;
 mod verdicts;
 

@@ -1,5 +1,6 @@
 // Submission, on the parts that it reads and changes: whether it is refused, and the job then.
 #![tactic(auto)]
+
 ghost use Rattle.std.specs.Prelude.{◌≡◌, not, ◌&&◌};
 ghost use Rattle.numbers.specs.declared.Refusal.TheVariants.{OutOfRange, NoJob, NotTheJobs, BeingReturned, NotLegal, PacketInUse};
 ghost use Rattle.packets.specs.declared.Verdict.TheVariants.{Granted};

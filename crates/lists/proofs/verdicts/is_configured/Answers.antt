@@ -1,0 +1,10 @@
+-- `lists::verdicts::is_configured` meets its contract. Assumes nothing.
+use native.Mathlib.Omega.{arith}
+use borrow.Author.Tests.{le-ltb, lt-ltb}
+use Rattle.lists.proofs.verdicts.is_configured.Goals as goal
+
+pub returns-then-c-gt15 : goal.returns-then-c-gt15
+returns-then-c-gt15 c = rw (le-ltb c.args.c.0 16 c.if-c-gt15.true)
+
+pub returns : goal.returns
+returns c = rw (lt-ltb c.args.c.0 16 (omega (arith, c.if-c-gt15.false))) c.is_there.ensures
