@@ -1,5 +1,6 @@
 // What is answered to a keyboard message: `mc ACK`, or `mc ee IN ER`.
 #![tactic(auto)]
+
 ghost use Rattle.std.specs.Prelude.{◌≡◌};
 ghost use Rattle.text.specs.Room.{Whole, Written};
 ghost use Rattle.keyboard_answers.specs.MessageAnswers.{word_text, mark_word, mc_of, shown_number, error_text, said_text, told_text, answer_text};
