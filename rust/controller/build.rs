@@ -1,8 +1,8 @@
-//! Links libcontroller.a, which `rt staticlib controller` writes, from the folder that LUFFGRAVEL_LIB names, else from
-//! the repository's target/staticlib.
+//! Links libcontroller.a from the folder that LUFFGRAVEL_LIB names, else a copy of what `rt lib` writes in the
+//! repository's crates/controller_c.
 
 use std::path::{Path, PathBuf};
-use std::{env, process};
+use std::{env, fs, process};
 
 fn main() {
     println!("cargo:rerun-if-env-changed=LUFFGRAVEL_LIB");
@@ -17,19 +17,33 @@ fn link() -> Result<(), String> {
     if !target.starts_with("x86_64-") || !target.contains("-linux-") {
         return Err(format!("the archive is for x86-64 Linux, and this is a build for {target}"));
     }
-    let folder = match env::var_os("LUFFGRAVEL_LIB") {
-        Some(folder) => PathBuf::from(folder),
-        None => Path::new(env!("CARGO_MANIFEST_DIR")).join("../../target/staticlib"),
+    let archive = match env::var_os("LUFFGRAVEL_LIB") {
+        Some(folder) => there(Path::new(&folder).join("libcontroller.a"))?,
+        None => copied()?,
     };
-    let archive = folder.join("libcontroller.a");
-    println!("cargo:rerun-if-changed={}", archive.display());
-    if !archive.is_file() {
-        let shown = archive.display();
-        return Err(format!("{shown} is not there: run `rt staticlib controller` at the repository's top, or let LUFFGRAVEL_LIB name its folder"));
-    }
+    let folder = archive.parent().ok_or("the archive lies in no folder")?;
     println!("cargo:rustc-link-search=native={}", folder.display());
     println!("cargo:rustc-link-lib=static=controller");
-    // What depends on this crate, as a test that compiles C, is told the same folder.
+    // What depends on this crate, as a test that compiles C, is told the same archive.
     println!("cargo:rustc-env=LUFFGRAVEL_ARCHIVE={}", archive.display());
     Ok(())
+}
+
+/// A copy of the archive of crates/controller_c under the name by which it is linked.
+fn copied() -> Result<PathBuf, String> {
+    let built = there(Path::new(env!("CARGO_MANIFEST_DIR")).join("../../crates/controller_c/out/libcontroller_c.a"))?;
+    let folder = env::var_os("OUT_DIR").ok_or("OUT_DIR is not set")?;
+    let archive = Path::new(&folder).join("libcontroller.a");
+    fs::copy(built, &archive).map_err(|error| format!("{}: {error}", archive.display()))?;
+    Ok(archive)
+}
+
+/// An archive that has to be there already.
+fn there(archive: PathBuf) -> Result<PathBuf, String> {
+    let shown = archive.display();
+    println!("cargo:rerun-if-changed={shown}");
+    if !archive.is_file() {
+        return Err(format!("{shown} is not there: run `rt lib` in crates/controller_c, or let LUFFGRAVEL_LIB name the folder of libcontroller.a"));
+    }
+    Ok(archive)
 }

@@ -2,6 +2,8 @@
 // is printed piece by piece, and each piece is compared with what is left of the wanted text.
 #![tactic(auto)]
 use cards_report::Coming;
+use std::env::Env;
+use std::rt::Files;
 
 // Whether nothing more is to be printed.
 fn is_over(coming: Coming) -> bool {
@@ -32,7 +34,7 @@ fn prints(deck: &[u8], wanted: &[u8]) -> bool {
         if wanted.len() - from < at {
             return false;
         }
-        if !check::same(&room[..at], &wanted[from..from + at]) {
+        if &room[..at] != &wanted[from..from + at] {
             return false;
         }
         from += at;
@@ -42,20 +44,20 @@ fn prints(deck: &[u8], wanted: &[u8]) -> bool {
 }
 
 // Whether what is printed of file i is file j; a missing one is a failure.
-fn agrees(i: usize, j: usize) -> bool {
-    let mut text = io::large_buffer();
-    let input = cases::load(i, &mut text);
-    let mut wanted = io::large_buffer();
-    let output = cases::load(j, &mut wanted);
+fn agrees(rt: &(impl Env + Files), i: usize, j: usize) -> bool {
+    let mut text = [0u8; 65536];
+    let input = cases::load(rt, i, &mut text);
+    let mut wanted = [0u8; 65536];
+    let output = cases::load(rt, j, &mut wanted);
     input.there && output.there && prints(&text[..input.len], &wanted[..output.len])
 }
 
 // Prints how many cases agree.
-fn main() {
-    let mut tally = cases::first();
+fn main(rt: HostRuntime) {
+    let mut tally = cases::first(&rt);
     while tally.at < tally.count {
-        let agree = agrees(tally.at, tally.at + 1);
-        tally = cases::judged(tally, agree);
+        let agree = agrees(&rt, tally.at, tally.at + 1);
+        tally = cases::judged(&rt, tally, agree);
     }
-    cases::print(tally);
+    cases::print(&rt, tally);
 }

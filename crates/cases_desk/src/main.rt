@@ -3,6 +3,9 @@
 #![tactic(auto)]
 ghost use Rattle.std.specs.Prelude.{◌≤◌, ◌<◌};
 
+use std::env::Env;
+use std::rt::Files;
+
 // Where a piece of this size ends that starts before the end of an input.
 fn end_of(at: usize, size: usize, len: usize) -> usize
     requires { (at < len) × (0 < size) }
@@ -49,21 +52,21 @@ fn prints(
     wanted: &[u8],
 ) -> bool {
     let whole = play(input, 65536, out, said);
-    if !check::same(input_lines::front(said, whole), wanted) {
+    if input_lines::front(said, whole) != wanted {
         return false;
     }
     let pieces = play(input, 7, out, said);
-    check::same(input_lines::front(said, pieces), wanted)
+    input_lines::front(said, pieces) == wanted
 }
 
 // Whether what is printed of file i is file j; a missing one is a failure.
-fn agrees(i: usize, j: usize) -> bool {
-    let mut text = io::large_buffer();
-    let input = cases::load(i, &mut text);
-    let mut wanted = io::large_buffer();
-    let output = cases::load(j, &mut wanted);
+fn agrees(rt: &(impl Env + Files), i: usize, j: usize) -> bool {
+    let mut text = [0u8; 65536];
+    let input = cases::load(rt, i, &mut text);
+    let mut wanted = [0u8; 65536];
+    let output = cases::load(rt, j, &mut wanted);
     let mut out = [0u8; desk_hearing::ROOM];
-    let mut said = io::large_buffer();
+    let mut said = [0u8; 65536];
     input.there
         && output.there
         && prints(
@@ -75,11 +78,11 @@ fn agrees(i: usize, j: usize) -> bool {
 }
 
 // Prints how many cases agree.
-fn main() {
-    let mut tally = cases::first();
+fn main(rt: HostRuntime) {
+    let mut tally = cases::first(&rt);
     while tally.at < tally.count {
-        let agree = agrees(tally.at, tally.at + 1);
-        tally = cases::judged(tally, agree);
+        let agree = agrees(&rt, tally.at, tally.at + 1);
+        tally = cases::judged(&rt, tally, agree);
     }
-    cases::print(tally);
+    cases::print(&rt, tally);
 }

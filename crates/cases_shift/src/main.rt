@@ -2,6 +2,8 @@
 #![tactic(auto)]
 use numbers::limits;
 use shift_turns::Shift;
+use std::env::Env;
+use std::rt::Files;
 
 // The end of a script, after `kept` bytes of a last line: its answer is put behind what was said before.
 fn finish(
@@ -57,17 +59,17 @@ fn says(
     wanted: &[u8],
 ) -> bool {
     let length = play(script, line, out, said);
-    check::same(input_lines::front(said, length), wanted)
+    input_lines::front(said, length) == wanted
 }
 
 // Whether the answers to the script in file i are file j; a missing one is a failure.
-fn agrees(i: usize, j: usize) -> bool {
-    let mut script = io::large_buffer();
-    let input = cases::load(i, &mut script);
-    let mut wanted = io::large_buffer();
-    let output = cases::load(j, &mut wanted);
-    let mut out = io::large_buffer();
-    let mut said = io::large_buffer();
+fn agrees(rt: &(impl Env + Files), i: usize, j: usize) -> bool {
+    let mut script = [0u8; 65536];
+    let input = cases::load(rt, i, &mut script);
+    let mut wanted = [0u8; 65536];
+    let output = cases::load(rt, j, &mut wanted);
+    let mut out = [0u8; 65536];
+    let mut said = [0u8; 65536];
     let mut line = [0u8; shift_hearing::LINE];
     input.there
         && output.there
@@ -81,11 +83,11 @@ fn agrees(i: usize, j: usize) -> bool {
 }
 
 // Prints how many cases agree.
-fn main() {
-    let mut tally = cases::first();
+fn main(rt: HostRuntime) {
+    let mut tally = cases::first(&rt);
     while tally.at < tally.count {
-        let agree = agrees(tally.at, tally.at + 1);
-        tally = cases::judged(tally, agree);
+        let agree = agrees(&rt, tally.at, tally.at + 1);
+        tally = cases::judged(&rt, tally, agree);
     }
-    cases::print(tally);
+    cases::print(&rt, tally);
 }

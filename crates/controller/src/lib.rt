@@ -1,6 +1,6 @@
-// What a controller links: functions over numbers and lent bytes, under names that C can call. Each hands its
-// arguments on and keeps the promise of the function that it calls. None has a state of its own or a `requires`; what
-// no contract can ask of a caller in another language is in docs/LINKING.md.
+// What a controller calls: functions over numbers and lent bytes. Each hands its arguments on and keeps the promise of
+// the function that it calls. None has a state of its own or a `requires`. The crate controller_c exports them under
+// these names; what no contract can ask of a caller in another language is in docs/LINKING.md.
 #![tactic(auto)]
 ghost use Rattle.std.specs.Prelude.{◌≡◌};
 ghost use Rattle.configuration_listing.specs.Listing.{Listed};
@@ -16,8 +16,7 @@ use numbers::Coded;
 
 // Puts the listing of a configuration into lent room and answers its length. 96 bytes are enough; a smaller room gets
 // what fits.
-#[unsafe(no_mangle)]
-pub extern "C" fn luffgravel_listing(config: &[u8], out: &mut [u8]) -> usize
+pub fn luffgravel_listing(config: &[u8], out: &mut [u8]) -> usize
     ensures { Listed config.now out.old out.new result }
 {
     configuration_listing::listing(config, out)
@@ -25,8 +24,7 @@ pub extern "C" fn luffgravel_listing(config: &[u8], out: &mut [u8]) -> usize
 
 // Puts what the deck program prints into lent room and answers its length. The room holds every report, so nothing is
 // cut.
-#[unsafe(no_mangle)]
-pub extern "C" fn luffgravel_deck(deck: &[u8], out: &mut [u8; schedule_deck::ROOM]) -> usize
+pub fn luffgravel_deck(deck: &[u8], out: &mut [u8; schedule_deck::ROOM]) -> usize
     ensures { Reported deck.now out.old out.new result }
 {
     schedule_deck::report(deck, out)
@@ -43,8 +41,7 @@ fn bad_line_of(verdict: TextVerdict) -> usize
 }
 
 // The first bad or missing line of a configuration, counted from 1; 0 where the text is one.
-#[unsafe(no_mangle)]
-pub extern "C" fn luffgravel_bad_line(config: &[u8]) -> usize
+pub fn luffgravel_bad_line(config: &[u8]) -> usize
     ensures { result ≡ bad_line_of (configuration_of config.now).verdict }
 {
     let answer = configuration::read(config);
@@ -53,8 +50,7 @@ pub extern "C" fn luffgravel_bad_line(config: &[u8]) -> usize
 }
 
 // Whether a function code is legal on channels of the kind with this code of two letters; none is on any other's.
-#[unsafe(no_mangle)]
-pub extern "C" fn luffgravel_is_legal(first: u8, second: u8, function: u8) -> bool
+pub fn luffgravel_is_legal(first: u8, second: u8, function: u8) -> bool
     ensures { result ≡ legal_by (kind_of first second) function }
 {
     let coded = numbers::kind_of(first, second);
@@ -66,8 +62,7 @@ pub extern "C" fn luffgravel_is_legal(first: u8, second: u8, function: u8) -> bo
 
 // Whether ib blocks and db blocks of core are free and apart; then the least pair of starts, IB's and DB's, is put
 // into i and j. A set bit is a taken block.
-#[unsafe(no_mangle)]
-pub extern "C" fn luffgravel_core(taken: u32, ib: u32, db: u32, i: &mut u32, j: &mut u32) -> bool
+pub fn luffgravel_core(taken: u32, ib: u32, db: u32, i: &mut u32, j: &mut u32) -> bool
     ensures { Placed taken ib db i.old j.old i.new j.new result }
 {
     let found = assign_core::search(taken, ib, db);
@@ -83,8 +78,7 @@ pub extern "C" fn luffgravel_core(taken: u32, ib: u32, db: u32, i: &mut u32, j: 
 
 // Which of two decks has the first group of an ID, put into deck, 1 the repair deck and 2 the day's, and where its cards
 // stand there, put into from and length, and 0 answers; or the refusal, 11 or 22, and all three are kept.
-#[unsafe(no_mangle)]
-pub extern "C" fn luffgravel_desk(
+pub fn luffgravel_desk(
     id: &[u8],
     repair: &[u8],
     day: &[u8],

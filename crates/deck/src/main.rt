@@ -1,12 +1,11 @@
 // Reads a deck on standard input and prints its report.
 #![tactic(auto)]
-use libc::{STDIN_FILENO, STDOUT_FILENO};
 
 // A deck has at most 16,384 bytes: of a longer one as much is read as shows that, since the buffer holds more.
-fn main() {
-    let mut deck = io::large_buffer();
-    let n = io::read_full(STDIN_FILENO, &mut deck);
+fn main(rt: HostRuntime) {
+    let mut deck = [0u8; 65536];
+    let n = reading::fill(&mut rt.stdin(), &mut deck);
     let mut room = [0; schedule_deck::ROOM];
     let length = schedule_deck::report(&deck[..n], &mut room);
-    io::write_all(STDOUT_FILENO, &room[..length]);
+    let _ = rt.write_all(&room[..length]);
 }

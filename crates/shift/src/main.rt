@@ -1,7 +1,6 @@
 // The whole cell as a program to talk to: reads a script on standard input and answers each line as soon as it has
 // come.
 #![tactic(auto)]
-use libc::{STDERR_FILENO, STDIN_FILENO, STDOUT_FILENO};
 use numbers::limits;
 use shift_turns::{Phase, Shift};
 
@@ -15,16 +14,17 @@ struct Talked {
 }
 
 // Writes the first n bytes, and answers whether that went well; where it did not, says so on standard error.
-fn written(out: &[u8], n: usize) -> bool {
-    let well = io::write_all(STDOUT_FILENO, input_lines::front(out, n));
+fn written(rt: &(impl Print + Eprint), out: &[u8], n: usize) -> bool {
+    let well = rt.write_all(input_lines::front(out, n)).is_ok();
     if !well {
-        io::write_all(STDERR_FILENO, b"shift: an answer could not be written\n");
+        let _ = eprintln!(rt; "shift: an answer could not be written");
     }
     well
 }
 
 // Has a piece of the input heard, and writes the answers.
 fn talk(
+    rt: &(impl Print + Eprint),
     first: Shift,
     len: usize,
     piece: &[u8],
@@ -42,7 +42,7 @@ fn talk(
         shift = heard.shift;
         kept = heard.len;
         from += heard.taken;
-        well = written(out, heard.at);
+        well = written(rt, out, heard.at);
     }
     Talked {
         shift,
@@ -53,6 +53,7 @@ fn talk(
 
 // The end of the input, after `len` bytes of a last line.
 fn finish(
+    rt: &(impl Print + Eprint),
     shift: Shift,
     len: usize,
     line: &[u8; shift_hearing::LINE],
@@ -60,7 +61,7 @@ fn finish(
     answer: &mut [u8; schedule_deck::ROOM],
 ) {
     let n = shift_hearing::finish(shift, len, line, room, answer);
-    written(answer, n);
+    written(rt, answer, n);
 }
 
 // Whether nothing more is answered: the configuration was bad.
@@ -76,7 +77,8 @@ fn is_over(phase: Phase) -> bool {
 
 // A proved loop has to end, and nothing says that the input does: the loop counts its turns down, from a number that
 // no run uses up.
-fn main() {
+fn main(rt: HostRuntime) {
+    let mut input = rt.stdin();
     let mut line = [0u8; shift_hearing::LINE];
     let mut room = [0u8; limits::DECK_BYTES];
     let mut answer = [0u8; schedule_deck::ROOM];
@@ -85,14 +87,14 @@ fn main() {
     let mut len: usize = 0;
     let mut left = u64::MAX;
     while 0 < left {
-        let mut piece = io::buffer();
-        let got = libc::read(STDIN_FILENO, &mut piece);
-        let n = io::count(got, &piece);
+        let mut piece = [0u8; 4096];
+        let n = reading::read(&mut input, &mut piece);
         if n == 0 {
-            finish(shift, len, &line, &mut room, &mut answer);
+            finish(&rt, shift, len, &line, &mut room, &mut answer);
             return;
         }
         let talked = talk(
+            &rt,
             shift,
             len,
             &piece[..n],

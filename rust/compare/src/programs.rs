@@ -31,22 +31,13 @@ impl Program {
     /// A proved program of the repository, started as its `run` script does, without the script's own time.
     pub fn proved(name: &str) -> Result<Program, String> {
         let repository = Path::new(env!("CARGO_MANIFEST_DIR")).join("../..");
-        let program = repository.join("target/bin").join(name);
+        let program = repository.join("crates").join(name).join("out").join(name);
         if !program.is_file() {
             return Err(format!("{} is not there: build it with ./run {name}", program.display()));
         }
-        let tools = kit()?.join("on").join(std::env::consts::ARCH).join("toolchain");
-        let emulator = tools.join("bin/qemu-x86_64");
-        let mut command = Vec::new();
-        if emulator.is_file() {
-            command.push(emulator.into());
-        }
-        let libraries = tools.join("lib");
-        command.push(libraries.join("ld-linux-x86-64.so.2").into());
-        command.push("--library-path".into());
-        command.push(libraries.into());
-        command.push(program.into());
-        Ok(Program { command })
+        let libraries = kit()?.join("toolchain/lib");
+        let loader = libraries.join("ld-linux-x86-64.so.2");
+        Ok(Program { command: vec![loader.into(), "--library-path".into(), libraries.into(), program.into()] })
     }
 
     /// Hands over the whole input and takes the whole output.

@@ -1,8 +1,8 @@
 //! The proved functions of the crate `controller` (crates/controller at the repository's top), behind safe Rust.
 //!
-//! They are linked from libcontroller.a, which `rt staticlib controller` writes. What each promises is proved of the
-//! function itself; that it is declared here as it is exported there is not, and stands on this file, docs/LINKING.md
-//! and the tests.
+//! They are linked from libcontroller.a, which is what `rt lib` writes in crates/controller_c. What each promises is
+//! proved of the function itself; that it is declared here as it is exported there is not, and stands on this file,
+//! docs/LINKING.md and the tests.
 
 #![no_std]
 

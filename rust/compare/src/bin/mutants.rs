@@ -14,6 +14,9 @@ use std::process::{Command, ExitCode, Stdio};
 
 const USAGE: &str = "usage: mutants cards|deck|desk|listing|shift [--last N] [--count N] [-- COMMAND..]";
 
+/// The proved programs that may be compared with.
+const PROGRAMS: [&str; 5] = ["cards", "deck", "desk", "listing", "shift"];
+
 /// The workspace of the copy: only what is compared is built there, and no lint is asked for.
 const WORKSPACE: &str = "\
 [workspace]
@@ -83,9 +86,13 @@ impl Workplace {
         fs::copy(top.join("Cargo.lock"), work.join("Cargo.lock")).expect("a copied file");
         fs::write(work.join("Cargo.toml"), WORKSPACE).expect("a written file");
         // Without proved programs there is another command to compare with.
-        let proved = top.join("../target/bin");
-        if proved.is_dir() {
-            copy(&proved, &repository.join("target/bin"));
+        for name in PROGRAMS {
+            let place = Path::new("crates").join(name).join("out");
+            let proved = top.join("..").join(&place).join(name);
+            if proved.is_file() {
+                fs::create_dir_all(repository.join(&place)).expect("a folder for the copy");
+                fs::copy(proved, repository.join(&place).join(name)).expect("a copied file");
+            }
         }
         Workplace { top: top.into(), repository }
     }

@@ -1,8 +1,8 @@
 //! Nights with the real programs: killed, damaged, on a full disk, with any bytes, and compared with the ordinary
 //! cell.
 //!
-//! They need the proved shift program: `target/bin/shift` at the top (`./run shift` builds it), or the one that
-//! `LUFFGRAVEL_SHIFT` names.
+//! They need the proved programs: `crates/NAME/out/NAME` at the top (`./run NAME` builds it), or the shift program that
+//! `LUFFGRAVEL_SHIFT` names with the others beside it.
 
 use compare::{random, scripts};
 

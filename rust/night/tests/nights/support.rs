@@ -3,7 +3,7 @@
 use std::io::{Read, Write};
 use std::path::{Path, PathBuf};
 use std::process::{Child, ChildStdin, ChildStdout, Command, Output, Stdio};
-use std::sync::Once;
+use std::sync::{Once, OnceLock};
 use std::time::Duration;
 
 use ordinary::configuration::Configuration;
@@ -15,10 +15,14 @@ use crate::scripts;
 /// How long all tests together may take; on a busy machine they took a minute.
 const PATIENCE: Duration = Duration::from_secs(900);
 
+/// A proved program as the kit has built it.
+fn built(name: &str) -> PathBuf {
+    Path::new(env!("CARGO_MANIFEST_DIR")).join("../../crates").join(name).join("out").join(name)
+}
+
 /// The proved shift program. There is no other to fall back on: without it a test fails.
 pub fn program() -> PathBuf {
-    let built = Path::new(env!("CARGO_MANIFEST_DIR")).join("../../target/bin/shift");
-    let program = std::env::var_os("LUFFGRAVEL_SHIFT").map_or(built, PathBuf::from);
+    let program = std::env::var_os("LUFFGRAVEL_SHIFT").map_or_else(|| built("shift"), PathBuf::from);
     assert!(
         program.is_file(),
         "{} is not there: build it with ./run shift, or set LUFFGRAVEL_SHIFT",
@@ -27,9 +31,21 @@ pub fn program() -> PathBuf {
     program
 }
 
-/// The folder of the proved programs.
+/// The folder of the proved programs: that of the shift program that is named, or one with links to those of the kit.
 pub fn programs() -> PathBuf {
-    program().parent().unwrap().to_path_buf()
+    static FOLDER: OnceLock<PathBuf> = OnceLock::new();
+    if let Some(shift) = std::env::var_os("LUFFGRAVEL_SHIFT") {
+        return Path::new(&shift).parent().unwrap().to_path_buf();
+    }
+    let gather = || {
+        let folder = folder("programs");
+        for name in ["listing", "deck", "cards", "desk", "shift"] {
+            assert!(built(name).is_file(), "{} is not there: build it with ./run {name}", built(name).display());
+            std::os::unix::fs::symlink(built(name), folder.join(name)).unwrap();
+        }
+        folder
+    };
+    FOLDER.get_or_init(gather).clone()
 }
 
 /// Runs `night` with these words.
