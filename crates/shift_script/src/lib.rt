@@ -1,5 +1,6 @@
 // The script of a cell that is talked to line by line: what a line says.
 #![tactic(auto)]
+
 ghost use Rattle.std.specs.Prelude.{◌≡◌, min, drop};
 ghost use Rattle.line_words.specs.Forms.{words_of};
 ghost use Rattle.shift_script.specs.Script.{said, named, small_at, code_at, channel_at, unit_at, submission_of};
