@@ -1,5 +1,6 @@
 // A deck gathered card by card into lent room, up to its termination card.
 #![tactic(auto)]
+
 ghost use Rattle.std.specs.Prelude.{◌≡◌, length};
 ghost use Rattle.cards_fields.specs.Deck.{is_termination};
 ghost use Rattle.shift_deck.specs.Gathering.{Adds};
