@@ -25,7 +25,6 @@ use Rattle.assign.specs.Parts.{parts, FirstOf, FirstLacking}
 use Rattle.assign.specs.Chosen.{Assigns, nothing}
 use Rattle.assign.specs.declared.Assigned.{Assigned}
 use Rattle.assign.specs.declared.Lacking.{Lacking}
-use Rattle.assign.specs.declared.Lacking.TheVariants as Lacking
 use Rattle.assign.specs.declared.Part.{Part}
 use Rattle.assign.specs.declared.Provision.{Provision}
 use Rattle.assign.proofs.ChosenLaws.{none-lacking}

@@ -1,6 +1,7 @@
 // Which request is selected: the first candidate in order that has an assignment, for the lowest free place; or why
 // none is, and what the first candidate lacks.
 #![tactic(auto)]
+
 ghost use Rattle.std.specs.Prelude.{◌≡◌, map, ◌<◌};
 ghost use Rattle.numbers.specs.Limits.{blocks};
 ghost use Rattle.assign.specs.Assignment.{supply_of};

@@ -1,0 +1,28 @@
+-- `cell_selection::choose` meets its contract: by what is picked among the candidates. Assumes nothing.
+use mathlib.Core.Path.{subst}
+use Rattle.schedule_list.specs.InSchedule.{in_schedule}
+use Rattle.cell_taken.specs.Taken.{LowestFree}
+use Rattle.cell_selection.proofs.Walk.{refused_full, refused_none, refused-lacks, selected}
+use Rattle.cell_selection.proofs.choose.Goals as goal
+
+pub returns-in_default : goal.returns-in_default
+returns-in_default c =
+    refused_full (in_schedule c.args.schedule) c.args.lists c.unselected.result
+    (subst (LowestFree c.args.lists.jobs) c.in_default.is c.lowest_free.ensures) c.unselected.ensures
+
+pub returns-then-picked : goal.returns-then-picked
+returns-then-picked c =
+    selected (in_schedule c.args.schedule) c.args.lists c.picked_in-picked.result c.in-At.place c.entry_at-entry.result c.picked_in-picked.ensures
+    (subst (LowestFree c.args.lists.jobs) c.in-At.is c.lowest_free.ensures) c.entry_at-entry.ensures c.if-picked.true
+
+pub returns-in-Nothing : goal.returns-in-Nothing
+returns-in-Nothing c =
+    refused_none (in_schedule c.args.schedule) c.args.lists c.picked_in-picked.result c.in-At.place c.entry_at-entry.result c.picked_in-picked.ensures
+    (subst (LowestFree c.args.lists.jobs) c.in-At.is c.lowest_free.ensures) c.entry_at-entry.ensures c.if-picked.false
+    c.in-Nothing.is c.unselected-in-Nothing.result c.unselected-in-Nothing.ensures
+
+pub returns-in-First : goal.returns-in-First
+returns-in-First c =
+    refused-lacks (in_schedule c.args.schedule) c.args.lists c.picked_in-picked.result c.in-At.place c.entry_at-entry.result c.picked_in-picked.ensures
+    (subst (LowestFree c.args.lists.jobs) c.in-At.is c.lowest_free.ensures) c.entry_at-entry.ensures c.if-picked.false c.in-First.part
+    c.in-First.is c.unselected-in-First.result c.unselected-in-First.ensures
