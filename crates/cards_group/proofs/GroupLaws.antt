@@ -1,7 +1,7 @@
 -- The order of a group's errors and what the group reads as, by the tests that the code makes. Assumes nothing.
 use Prim.Native.Nat.{ℕ, ◌≤◌, ◌<◌}
 use mathlib.Core.Path.{◌≡◌, refl, sym, ap, subst, ◌∙◌}
-use mathlib.Core.Bool.{Bool, true, false, ◌||◌, not}
+use mathlib.Core.Bool.{true, false, ◌||◌, not}
 use mathlib.Core.List.{List, [], ◌∷◌}
 use lib.Dec.{eqb}
 use lib.ListN.{length, get_or, drop}
@@ -9,9 +9,9 @@ use borrow.Author.Tests.{le-leb, le-ltb, lt-ltb, eq-eqb, ne_eqb}
 use Rattle.numbers.proofs.Tests.{never}
 use Rattle.numbers.specs.Elements.{any}
 use Rattle.numbers.specs.Limits.{most_cards}
-use Rattle.words.specs.Words.{same, value}
+use Rattle.words.specs.Words.{value}
 use Rattle.cards_fields.specs.Fields.{field, field_is, padded}
-use Rattle.cards_request.specs.Errors.{error_if, good, first_of, or_else}
+use Rattle.cards_request.specs.Errors.{error_if, good, or_else}
 use Rattle.cards_request.proofs.ErrorLaws.{good-is, or-else-good, or_else_some, or_else_none}
 use Rattle.cards_fac.specs.Fac.{facilities_of, asks_of, asked_answer, is_fac, fac_error, asked, fac_of}
 use Rattle.cards_fac.proofs.AskLaws.{asked-verdict}

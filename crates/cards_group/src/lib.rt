@@ -1,5 +1,6 @@
 // A group of cards: what it asks for, or its first error.
 #![tactic(auto)]
+
 ghost use Rattle.std.specs.Prelude.{◌≡◌, false, ◌||◌, ◌≤◌, length};
 ghost use Rattle.numbers.specs.Elements.{any};
 ghost use Rattle.words.specs.Words.{same, value};
