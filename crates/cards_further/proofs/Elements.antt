@@ -4,14 +4,16 @@ use mathlib.Core.Path.{◌≡◌, sym, subst, ◌∙◌}
 use mathlib.Core.List.{List, [], ◌∷◌, map}
 use native.Mathlib.Nat.{le_of_suc-le-suc}
 use native.Mathlib.Omega.{arith}
+use Rattle.std.proofs.lemmas.List.{map-id}
 use lib.ListN.{length, get_or, length-map, get_or-eq_default}
 use lib.Dec.{ltb}
 use borrow.Author.Tests.{ltb-true, ltb-false}
 use mir.Val.{Val}
 use denote.Shadow.{shadow}
 use denote.Laws.{Is}
-use denote.Array.{each}
-use denote.Struct.Field.{Field, array_field}
+use denote.Array.{Array, each}
+use denote.RattleType.{RattleType}
+use denote.Struct.Field.{Field, row_field, array_field}
 use Rattle.numbers.proofs.Tests.{by_bool}
 
 -- an array has its length, and each element is of the element's type
@@ -37,3 +39,12 @@ everywhere F n P xs vs p f d z i =
     by_bool (ltb i (length xs))
     (λ t. f (get_or xs i d) (each_at F xs p.0 p.1.1 i d (ltb-true i (length xs) t)))
     (λ e. subst P (sym (get_or-eq_default xs d {n = i} (ltb-false i (length xs) e))) z)
+
+-- the same of an array that is a field by its own row, whose values are its elements as they stand
+pub long_row : (R : RattleType) (n : ℕ) (xs : List R.Denot) (vs : List Val) → Is (Array R n) xs vs → length xs ≡ n
+long_row R n xs vs p = p.1.0.1
+
+pub everywhere_row : (R : RattleType) (n : ℕ) (P : R.Denot → Type 0) (xs : List R.Denot) (vs : List Val) → Is (Array R n) xs vs
+    → ((x : R.Denot) → Some (row_field R) x → P x) → (d : R.Denot) → P d → (i : ℕ) → P (get_or xs i d)
+everywhere_row R n P xs vs p =
+    everywhere (row_field R) n P xs vs (subst (λ (l : List R.Denot). Is (Array R n) l vs) (sym (map-id xs)) p)

@@ -6,12 +6,13 @@ use mathlib.Core.List.{List, [], ◌∷◌}
 use mathlib.Core.Logic.{⊎_elim}
 use native.Mathlib.Nat.{eq-zero-or-pos}
 use native.Mathlib.Omega.{arith}
-use lib.ListN.{length, length-map, length-take, get_or, take, drop, drop_of_length-le}
+use lib.ListN.{length, length-take, get_or, take, drop, drop_of_length-le}
 use lib.Seq.{drop-cons, get_or-take, length-take-le, take_all}
 use mir.Val.{Val}
 use denote.Laws.{Is}
 use denote.Struct.Laws as LL
-use denote.Struct.Field.{u8-field}
+use denote.Struct.Field.{row_field}
+use denote.Builtin.{u8}
 use Rattle.numbers.specs.Limits.{most_further, text_length}
 use Rattle.cards_request.specs.Requests.{texts, texts_in}
 use Rattle.cards_request.specs.declared.FurtherCard.{FurtherCard}
@@ -19,10 +20,10 @@ use Rattle.cards_request.specs.declared.Further as S
 use Rattle.cards_request.specs.contracts.FurtherCard as C
 use Rattle.cards_request.specs.contracts.Further as T
 use Rattle.cards_request.proofs.Further.TheLaws as T'
-use Rattle.cards_further.proofs.Elements.{Some, everywhere, long}
+use Rattle.cards_further.proofs.Elements.{Some, everywhere_row, long_row}
 
 pub fourteen : (f : S.Further) (vs : List Val) → Is T.the_row f vs → length f.cards ≡ most_further
-fourteen f vs g = sym (length-map f.cards _) ∙ (LL.owed T.the_type T'.the_laws f vs g).0.1.0.1
+fourteen f vs g = (LL.owed T.the_type T'.the_laws f vs g).0.1.0.1
 
 pub count_less {ℓ} : {A : Type ℓ} (len : ℕ) (l : List A) → len ≤ length l → len ≡ length (take len l)
 count_less len l h = sym (length-take-le len l h)
@@ -77,7 +78,11 @@ cards-end cards n i h = ap texts_in (drop_of_length-le (take n cards) {i = i} (o
 
 -- each card's text has 78 bytes at most
 card-78 : (c : FurtherCard) → Some C.the_field c → length c.text ≤ text_length
-card-78 c s = let l = long u8-field text_length c.text _ s.1.1.1.0 in omega arith
+card-78 c s = let l : length c.text ≡ text_length = long_row u8 text_length c.text _ s.1.1.1.0 in omega arith
+
+card_row-78 : (c : FurtherCard) → Some (row_field C.the_row) c → length c.text ≤ text_length
+card_row-78 c s = let l : length c.text ≡ text_length = long_row u8 text_length c.text _ s.1.1.1.0 in omega arith
 
 pub texts-78 : (f : S.Further) (vs : List Val) → Is T.the_row f vs → (i : ℕ) → length (get_or f.cards i past).text ≤ text_length
-texts-78 f vs g = everywhere C.the_field most_further (λ c. length c.text ≤ text_length) f.cards _ g.1.1.0 card-78 past (omega arith)
+texts-78 f vs g =
+    everywhere_row C.the_row most_further (λ c. length c.text ≤ text_length) f.cards _ g.1.1.0 card_row-78 past (omega arith)

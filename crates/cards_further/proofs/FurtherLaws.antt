@@ -1,11 +1,11 @@
 -- The further cards from a position on, one card further: what the walks over them keep; and the errors by the tests that
 -- the code makes. Assumes nothing.
-use Prim.Native.Nat.{ℕ, zero, suc, ◌+◌, ◌-◌, ◌≤◌, ◌<◌, min}
-use mathlib.Core.Path.{◌≡◌, refl, sym, ap, subst, ◌∙◌}
+use Prim.Native.Nat.{ℕ, zero, suc, ◌+◌, ◌-◌, ◌≤◌, min}
+use mathlib.Core.Path.{◌≡◌, refl, sym, ap, ◌∙◌}
 use mathlib.Core.Bool.{Bool, true, false, beq, cond, ◌&&◌, ◌||◌, not}
 use mathlib.Core.List.{List, [], ◌∷◌, ◌++◌, append_assoc, append-nil}
 use native.Mathlib.Omega.{arith}
-use lib.ListN.{length, get_or, drop, take, set, replicate, length-append, length-drop, length-replicate}
+use lib.ListN.{length, drop, take, set, replicate, length-append, length-drop, length-replicate}
 use lib.Seq.{sets}
 use lib.Dec.{eqb, ltb}
 use borrow.Author.Tests.{eqb-true, eqb-false, le-leb, lt-leb, ltb-true, ltb-false}
@@ -20,17 +20,16 @@ use Rattle.words.specs.Lines.{line_of, lines_of}
 use Rattle.words.proofs.WordLaws.{leading-most}
 use Rattle.words.proofs.LineLaws.{no_line, first-line}
 use Rattle.cards_fields.specs.Deck.{cards_of}
-use Rattle.cards_request.specs.Errors.{good, or_else}
+use Rattle.cards_request.specs.Errors.{good}
 use Rattle.cards_request.proofs.ErrorLaws.{good-is, or_else_some}
 use Rattle.cards_request.specs.Requests.{no_card}
 use Rattle.cards_pm.specs.Pm.{is_pm, digit_of, rising}
 use Rattle.cards_trn.specs.Trn.{is_trn, has_count}
 use Rattle.cards_request.specs.declared.CardVerdict.{CardVerdict}
-use Rattle.cards_request.specs.declared.CardVerdict.TheVariants.{Good}
 use Rattle.cards_request.specs.declared.FurtherCard.{FurtherCard}
 use Rattle.cards_request.specs.declared.Further.{Further}
 use Rattle.cards_further.specs.Together.{past}
-use Rattle.cards_further.specs.Further.{content_error, contents_error, canonical, canonicals, held_card, held_in, held}
+use Rattle.cards_further.specs.Further.{content_error, contents_error, held_card, held_in, held}
 
 -- two answers differ, or do not
 pub differ : (a b : Bool) → not (beq a b) ≡ true → a ≡ b → ⊥

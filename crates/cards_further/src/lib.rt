@@ -1,6 +1,7 @@
 // The further cards of a group, those behind its FAC card: their errors, and what is held of them. They are looked at
 // as a part of the deck, each card as the part that starts where the last one ended.
 #![tactic(auto)]
+
 ghost use Rattle.std.specs.Prelude.{◌≡◌, false, cond, ◌&&◌, ◌||◌, [], ◌+◌, ◌≤◌, ltb, length, take, drop};
 ghost use Rattle.numbers.specs.Elements.{any};
 ghost use Rattle.text.specs.Room.{Written};
