@@ -8,8 +8,8 @@ use mathlib.Core.List.{List, [], ◌∷◌, ◌++◌}
 use native.Mathlib.Nat.{eq-zero-or-pos, le_of_suc-le-suc, zero-add}
 use native.Mathlib.Omega.{arith}
 use lib.Dec.{eqb, ltb}
-use lib.ListN.{length, get_or, take, drop, drop_of_length-le, length-take, length-append, get_or-eq_default, get_or-append}
-use lib.Seq.{take_all, take-take, get_or-take, get_or-drop, drop-cons, drop-drop, length-take-le, get_or-append-add, ext_get_or}
+use lib.ListN.{length, get_or, take, drop, length-take, length-append, get_or-eq_default, get_or-append}
+use lib.Seq.{take-take, get_or-take, get_or-drop, drop-drop, length-take-le, get_or-append-add, ext_get_or}
 use borrow.Author.Tests.{eq-eqb, ne_eqb, ltb-true, ltb-false}
 use Rattle.numbers.specs.Quoted.{byte, bytes}
 use Rattle.numbers.proofs.Tests.{by_bool, both}
@@ -26,7 +26,7 @@ use Rattle.cards_request.specs.declared.Further.{Further}
 use Rattle.cards_request.specs.declared.FurtherCard.{FurtherCard}
 use Rattle.cards_request.specs.Requests.{texts_in, texts}
 use Rattle.cards_pm.proofs.PmLaws.{and-true}
-use Rattle.cards_further.proofs.Fourteen.{past, text_of, cards-step, cards-end, texts-length}
+use Rattle.cards_further.proofs.Fourteen.{text_of, cards-step, cards-end}
 use Rattle.cards_table.specs.Table.{is_pm_text, digit_in, letters_in, rows, card_at, table_size, place, Table}
 use Rattle.cards_table.specs.TableText.{rows_from, table_text}
 

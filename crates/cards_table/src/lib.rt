@@ -1,5 +1,6 @@
 // The parameter table of a request's PM cards, in lent room.
 #![tactic(auto)]
+
 ghost use Rattle.std.specs.Prelude.{◌≡◌, cond, ◌+◌, ◌<◌, take};
 ghost use Rattle.numbers.specs.Limits.{pm_length};
 ghost use Rattle.text.specs.Room.{Written};
