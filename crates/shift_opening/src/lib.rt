@@ -1,6 +1,7 @@
 // The configuration in front of a script, as its lines come: they are kept in lent room until they are a configuration
 // or one of them is bad.
 #![tactic(auto)]
+
 ghost use Rattle.std.specs.Prelude.{◌≡◌, ◌≤◌, min, length, take};
 ghost use Rattle.numbers.specs.Limits.{deck_bytes};
 ghost use Rattle.text.specs.Room.{Written};
