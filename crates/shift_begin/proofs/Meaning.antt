@@ -18,7 +18,7 @@ use Rattle.words.proofs.LineLaws.{has-line}
 use Rattle.configuration.specs.declared.TextVerdict.TheVariants as Verdict'
 use Rattle.configuration.specs.declared.Answer.{Answer}
 use Rattle.configuration.specs.Configured.{refused, good, configuration_of}
-use Rattle.configuration_form.specs.Form.{written, Due, Complete, Reads, Bad, InForm, FirstBad}
+use Rattle.configuration_form.specs.Form.{written, Due, Complete, Reads, InForm, FirstBad}
 use Rattle.configuration_form.specs.Means.{Said}
 use Rattle.configuration_form.proofs.Meaning.{meaning}
 use Rattle.configuration_form.proofs.Unique.{all-stops, read_back, first-named}

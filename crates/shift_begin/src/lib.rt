@@ -1,6 +1,7 @@
 // The configuration in front of a script: whether the lines so far are one, are wrong, or are still to be followed by
 // more.
 #![tactic(auto)]
+
 ghost use Rattle.std.specs.Prelude.{◌≡◌};
 ghost use Rattle.shift_begin.specs.Opening.{said_so_far, opening_of};
 
