@@ -1,7 +1,7 @@
 -- What reading a line means. Every call of the table that a line can say is read back from the line that is written for
 -- it; a line that is read as such a call has exactly the words of one row of the table, with single spaces between
 -- them; and an ID is that of one word alone. A keyboard message: page KeyLaws. Assumes nothing.
-use Prim.Native.Nat.{ℕ, zero, suc, ◌+◌, ◌^◌, ◌≤◌, ◌<◌}
+use Prim.Native.Nat.{ℕ, zero, suc, ◌^◌, ◌≤◌, ◌<◌}
 use mathlib.Core.Path.{◌≡◌, refl, sym, ap, ◌∙◌}
 use mathlib.Core.Bool.{true, false}
 use mathlib.Core.List.{List, [], ◌∷◌}

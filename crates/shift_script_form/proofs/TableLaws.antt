@@ -71,11 +71,13 @@ both-fit r q ws lr lq fr fq =
     rw (f, same_self (first_in q), eq-eqb (length (words_in r)) (length (words_in q)) n)
 
 letters : (r : Row) (rows : List Row) → apart rows ≡ true → In r rows → is_letter (get_or (first_in r) 0 0) ≡ true
+letters r [] a x = elim x [ ]
 letters r (q ∷ rows) a In.here = (both (is_letter (get_or (first_in q) 0 0)) (unlike q rows && apart rows) a).0
 letters r (q ∷ rows) a (In.later i) =
     letters r rows (both (unlike q rows) (apart rows) (both (is_letter (get_or (first_in q) 0 0)) (unlike q rows && apart rows) a).1).1 i
 
 unlike-in : (q r : Row) (rows : List Row) → unlike q rows ≡ true → In r rows → alike q r ≡ false
+unlike-in q r [] u x = elim x [ ]
 unlike-in q r (x ∷ rows) u In.here = not-true-false (both (not (alike q x)) (unlike q rows) u).0
   where
     not-true-false : {b : Bool} → not b ≡ true → b ≡ false
@@ -85,6 +87,7 @@ unlike-in q r (x ∷ rows) u (In.later i) = unlike-in q r rows (both (not (alike
 -- a line says what the row that it fits says
 says : (rows : List Row) (r : Row) (ws : List (List ℕ)) → apart rows ≡ true → In r rows → fitting (words_in r) ws ≡ true → say_by rows ws ≡ r.says ws
 unfolding say_by
+says [] r ws a x f = elim x [ ]
 says (q ∷ rows) r ws a In.here f = rw f
 says (q ∷ rows) r ws a (In.later i) f =
     let p = both (is_letter (get_or (first_in q) 0 0)) (unlike q rows && apart rows) a in

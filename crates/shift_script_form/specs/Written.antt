@@ -1,5 +1,5 @@
 -- How the calls of a script are written.
-use Rattle.std.specs.Prelude.{ℕ, zero, suc, ◌+◌, ◌/◌, ◌%◌, ◌^◌, ◌≤◌, ◌<◌, ◌≡◌, Bool, true, false, cond, List, [], ◌∷◌, ◌++◌, ltb, length}
+use Rattle.std.specs.Prelude.{ℕ, zero, suc, ◌+◌, ◌/◌, ◌%◌, ◌^◌, ◌≤◌, ◌<◌, ◌≡◌, true, false, cond, List, [], ◌∷◌, ◌++◌, ltb, length}
 use Rattle.numbers.specs.Quoted.{byte, bytes}
 use Rattle.units.specs.declared.Mark.TheVariants as Mark'
 use Rattle.packets.specs.declared.Spot.TheVariants.{OnDrum, OnUnit}
