@@ -1,8 +1,8 @@
 -- The array of a request's further cards has 14 of them, and that of its ID six bytes: what owning the request tells.
 -- Assumes nothing.
-use mathlib.Core.Path.{◌≡◌, sym, ◌∙◌}
+use mathlib.Core.Path.{◌≡◌}
 use mathlib.Core.List.{List}
-use lib.ListN.{length, length-map}
+use lib.ListN.{length}
 use mir.Val.{Val}
 use denote.Laws.{Is}
 use denote.Struct.Laws as LL
@@ -19,4 +19,4 @@ fourteen-in v vs g = fourteen v.further _ (LL.owed T.the_type T'.the_laws v vs g
 
 pub six-in : (v : FullRequest) (vs : List Val) → Is T.the_row v vs → length v.request.id ≡ 6
 six-in v vs g =
-    sym (length-map v.request.id _) ∙ (LL.owed R.the_type R'.the_laws v.request _ (LL.owed T.the_type T'.the_laws v vs g).0).0.1.0.1
+    (LL.owed R.the_type R'.the_laws v.request _ (LL.owed T.the_type T'.the_laws v vs g).0).0.1.0.1

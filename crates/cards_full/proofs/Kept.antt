@@ -25,7 +25,7 @@ use Rattle.cards_pty.specs.Pty.{rules, rule_at, sequence_text, letter_of, preced
 use Rattle.cards_pty.specs.Pty.{precedence_good, last_of_all, ranked, priority_of, field_error, fields_error, pty_error}
 use Rattle.cards_pty.proofs.PtyLaws.{right-at, good-field, right, fields-good}
 use Rattle.cards_pty.proofs.PriorityLaws.{rank-good}
-use Rattle.cards_fac.specs.Fac.{code_of, slot_of, most, number_text, nothing, form_error, entry_error, entered, entries_error}
+use Rattle.cards_fac.specs.Fac.{code_of, slot_of, number_text, nothing, form_error, entry_error, entered, entries_error}
 use Rattle.cards_fac.specs.Fac.{all_entered, core_error, facilities_of, asks_of, fac_error, entries_of, asked}
 use Rattle.cards_fac.proofs.EntryLaws.{good-number, number-below, small-number}
 use Rattle.cards_group.specs.Group.{mark, request_of}

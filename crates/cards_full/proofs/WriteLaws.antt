@@ -1,11 +1,11 @@
 -- What writing answers, and what the room then holds, by the tests that the code makes. Assumes nothing.
 use Prim.Native.Nat.{ℕ, zero, suc, ◌+◌, ◌*◌, ◌≤◌, ◌<◌}
-use mathlib.Core.Path.{◌≡◌, refl, sym, ap, ◌∙◌}
-use mathlib.Core.Bool.{Bool, true, false, ◌&&◌}
+use mathlib.Core.Path.{◌≡◌, refl, ap, ◌∙◌}
+use mathlib.Core.Bool.{true, false}
 use mathlib.Core.List.{List, [], ◌∷◌, ◌++◌}
 use native.Mathlib.Omega.{arith}
-use lib.Dec.{eqb, leb}
-use lib.ListN.{length, drop, take, replicate, length-append}
+use lib.Dec.{leb}
+use lib.ListN.{length, take, replicate, length-append}
 use borrow.Author.Tests.{le-leb, leb-true, lt-leb}
 use Rattle.numbers.proofs.Tests.{both}
 use Rattle.numbers.specs.declared.Refusal.TheVariants.{NoRoom, WrongRequest}

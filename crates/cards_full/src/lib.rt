@@ -1,5 +1,6 @@
 // A request with its further cards written into lent room.
 #![tactic(auto)]
+
 mod check;
 mod put;
 
