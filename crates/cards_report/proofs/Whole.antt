@@ -17,7 +17,7 @@ use Rattle.cards_report.specs.Cards.{group_text, groups_text, end_text, cards_by
 use Rattle.cards_report.specs.Cards.{begin, left, piece_by, over, next_by, after, turns}
 use Rattle.cards_report.proofs.Pieces.{to}
 use Rattle.cards_report.specs.declared.Coming.{Coming}
-use Rattle.cards_report.specs.declared.Coming.TheVariants.{Groups, Refused, Over}
+use Rattle.cards_report.specs.declared.Coming.TheVariants.{Groups, Over}
 use Rattle.cards_report.specs.declared.Printing.{Printing}
 
 -- what is to come behind so many pieces

@@ -1,6 +1,7 @@
 // What the cards program prints, piece by piece in lent room: a piece is the text of one group, so that a small room
 // holds each, however long the whole is.
 #![tactic(auto)]
+
 ghost use Rattle.std.specs.Prelude.{◌≡◌, ◌-◌, take, drop};
 ghost use Rattle.text.specs.Room.{Written};
 ghost use Rattle.cards_fields.specs.Deck.{cards_of};
