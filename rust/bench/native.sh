@@ -1,22 +1,18 @@
 #!/bin/sh
-# native.sh: compiles functions of the proved crates for this machine, for the bench to link:
-# rust/target/native/libluffgravel_native.a, and libluffgravel_cells.a, which has the calls on packets of the whole
-# cell. They are two, so that in each a call is made at one place only, as in the shift program: the compiler then sets
-# it in where it is made. A call that is made at several places is a function of its own, and copies. The crates must
-# be proved (target/rlib has them after `rt check`). The crates of rattle/ only give them plain names that Rust can call;
-# the compiler proves them too, and builds nothing that is not proved. On x86-64 the archive is the compiler's own.
-# Elsewhere its LLVM module is compiled for the machine at hand by the kit's own clang: that is a retargeting of ours
-# and not what the kit ships.
+# native.sh: compiles functions of the proved crates for the bench to link: rust/target/native/libluffgravel_native.a, and
+# libluffgravel_cells.a, which has the calls on packets of the whole cell. They are two, so that in each a call is made
+# at one place only, as in the shift program: the compiler then sets it in where it is made. A call that is made at
+# several places is a function of its own, and copies. The two crates of rattle/ only give the functions plain names that
+# Rust can call; the kit proves them too, in a copy of the repository and over what it kept of the crates below, and
+# builds nothing that is not proved.
 set -eu
 here=$(cd "$(dirname "$0")" && pwd -P)
 repo=$(cd "$here/../.." && pwd -P)
-kit=${RATTLE_HOME:-$(dirname "$(dirname "$(readlink -f "$(command -v rt)")")")}
-own=$kit/on/$(uname -m)
 out=$here/../target/native
 mkdir -p "$out"
-work=$(mktemp -d)
-trap 'rm -rf "$work"' EXIT
-mkdir "$work/luffgravel_native" "$work/luffgravel_cells"
+copy=$(mktemp -d)
+trap 'rm -rf "$copy"' EXIT
+tar -C "$repo" --exclude='crates/*/out' -cf - crates crates.txt | tar -C "$copy" -xf -
 
 # The Rattle text is in files of rattle/. They end in .rt.in and not in .rt: rt refuses a file of Rattle that no crate of
 # crates.txt has. A line that begins with @ is read as more:
@@ -45,47 +41,16 @@ text() {
         esac
     done < "$here/rattle/$1.rt.in"
 }
-text native > "$work/luffgravel_native/lib.rt"
-text cells > "$work/luffgravel_cells/lib.rt"
-
-tools=$own/toolchain
-if [ "$(uname -m)" != x86_64 ]; then
-    # A toolchain folder of our own whose clang keeps the module that it is handed.
-    tools=$work/toolchain
-    mkdir -p "$tools/bin"
-    ln -s "$own/toolchain/lib" "$tools/lib"
-    {
-        echo '#!/bin/sh'
-        echo "for a in \"\$@\"; do case \"\$a\" in *.ll|*.bc) cp \"\$a\" '$work/kept' ;; esac; done"
-        echo "exec '$own/toolchain/bin/clang' \"\$@\""
-    } > "$tools/bin/clang"
-    chmod +x "$tools/bin/clang"
-    for tool in "$own/toolchain/bin/"*; do
-        [ -e "$tools/bin/$(basename "$tool")" ] || ln -s "$tool" "$tools/bin/"
-    done
-fi
-# Builds one of the two: its archive, and what the prover says.
+# Builds one of the two, by its text's name and the crates that it stands on: its archive, and what the prover says.
 built() {
-    set -- "$1" --crate-name "$1" "$work/$1/lib.rt" --extern "std=$own/rlib/std.rlib"
-    for crate in $(sed -n 's/^\([a-z_]*\):.*/\1/p' "$repo/crates.txt"); do
-        [ ! -e "$repo/target/rlib/$crate.rlib" ] || set -- "$@" --extern "$crate=$repo/target/rlib/$crate.rlib"
-    done
-    name=$1
-    shift
-    "$own/bin/rattle" build "$@" -L "dependency=$repo/target/rlib" -L "dependency=$own/rlib" \
-        --antt-project "$kit/logic/antt-project.json" --logic-built "$own/logic-built" --crate-type staticlib \
-        --toolchain "$tools" -o "$out/lib$name.a" > "$work/log" 2>&1 || { grep -v "^library" "$work/log" >&2; exit 1; }
-    grep '^logic=' "$work/log"
-    [ "$(uname -m)" != x86_64 ] || return 0
-    clang=$own/toolchain/bin/clang
-    host=$(rustc -vV | sed -n 's/^host: //p')
-    layout=$(RUSTC_BOOTSTRAP=1 rustc --print target-spec-json -Z unstable-options --target "$host" | sed -n 's/.*"data-layout": "\(.*\)",/\1/p')
-    "$clang" --target=x86_64-unknown-linux-gnu -x ir "$work/kept" -S -emit-llvm -O0 -Xclang -disable-llvm-passes -o "$work/module.ll"
-    sed -e "s|^target datalayout = .*|target datalayout = \"$layout\"|" -e "s|^target triple = .*|target triple = \"$host\"|" \
-        -e 's/ "target-cpu"="x86-64"//' "$work/module.ll" > "$work/host.ll"
-    "$clang" --target="$host" -x ir "$work/host.ll" -c -O3 -fPIC -o "$work/$name.o"
-    rm -f "$out/lib$name.a"
-    ar crs "$out/lib$name.a" "$work/$name.o"
+    crate=luffgravel_$1
+    mkdir -p "$copy/crates/$crate/src"
+    text "$1" > "$copy/crates/$crate/src/lib.rt"
+    echo "$crate staticlib: $2" >> "$copy/crates.txt"
+    (cd "$copy/crates/$crate" && rt lib) > "$copy/log" 2>&1 || { grep -v '^library' "$copy/log" >&2; exit 1; }
+    grep '^logic=' "$copy/log" | tail -n 1
+    cp "$copy/crates/$crate/out/lib$crate.a" "$out"
 }
-built luffgravel_native
-built luffgravel_cells
+below='numbers channels units configuration cards_request schedule_entries schedule_list packets lists cell_selection cell'
+built native "$below configuration_listing schedule_deck"
+built cells "$below"

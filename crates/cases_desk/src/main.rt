@@ -1,6 +1,7 @@
 // Runs each case of data/ and compares: the arguments are the names of the inputs, each before what must come out. Each
 // input is played whole, and then once more in pieces of seven bytes, which end within lines and termination cards.
 #![tactic(auto)]
+
 ghost use Rattle.std.specs.Prelude.{◌≤◌, ◌<◌};
 
 use std::env::Env;

@@ -1,6 +1,7 @@
 // Two decks on the desk: reads the repair deck, the day's deck and then IDs on standard input, and prints for each ID the
 // request's own cards from the deck that has them, as soon as its line has come.
 #![tactic(auto)]
+
 use desk_hearing::Desk;
 
 // The desk after a piece, and whether its answers could be written.
