@@ -2,6 +2,7 @@
 // is handed the request lists and not the cell, so that the schedule is not copied for
 // it. The line of an answer is put here for all calls.
 #![tactic(auto)]
+
 ghost use Rattle.std.specs.Prelude.{◌≡◌};
 ghost use Rattle.text.specs.Room.{Written};
 ghost use Rattle.packets.specs.declared.Answer.TheVariants.{Done};
