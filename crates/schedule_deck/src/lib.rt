@@ -1,5 +1,6 @@
 // The report of a deck, as text in lent room: the errors in deck order, the schedule, and the last good ID.
 #![tactic(auto)]
+
 ghost use Rattle.std.specs.Prelude.{◌≡◌};
 ghost use Rattle.text.specs.Room.{Written};
 ghost use Rattle.cards_fields.specs.Deck.{cards_of, groups_of};
