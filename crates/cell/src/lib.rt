@@ -1,6 +1,7 @@
 // The cell: its schedule and its request lists in one value, and every call on it. The configuration is in the lists,
 // as their channels, their units' down marks and their codes that set interlock.
 #![tactic(auto)]
+
 ghost use Rattle.std.specs.Prelude.{◌≡◌};
 ghost use Rattle.units.specs.declared.Mark.TheVariants.{Down};
 ghost use Rattle.packets.specs.declared.Act.TheVariants.{Mark};

@@ -15,9 +15,7 @@ use Rattle.packets.specs.declared.Verdict.TheVariants.{Denied, Granted}
 use Rattle.lists.specs.Outcomes.{outcome, settled, state_of}
 use Rattle.cell.specs.Calls.{acted, cell_of, followed}
 use Rattle.cell.specs.declared.Answered.{Answered}
-use borrow.Author.Rules.{rules}
-use Rattle.cell.proofs.mark_down.Statement.{statement}
-use Rattle.cell.proofs.mark_down.Tie as tie
+use Rattle.cell.proofs.mark_down.Goals as goal
 
 -- a mark is answered as done, or refused: no schedule follows
 stays : (s : Schedule) (lists : Lists) (c : ChannelNumber) (u : UnitNumber) (m : UnitMark) (on : Bool)
@@ -33,21 +31,9 @@ stays s lists c u m on = by (refusal (state_of lists) (Do (Mark c u m on)))
 abbrev with : Schedule → Acted → Answered
 with s a = record { answer = a.answer; cell = cell_of s a.lists }
 
-mark-requires : tie.Need-mark-requires
-mark-requires c κs = search rules
-
-with-schedule-requires : tie.Need-with-schedule-requires
-with-schedule-requires c κs = search rules
-
-returns : tie.Need-returns
+pub returns : goal.returns
 unfolding acted
 returns c =
-    let args = c.before.before.before.before.args in
-    let s = args.cell.schedule in
-    let lists = args.cell.lists in
-    let o = outcome lists (Do (Mark args.channel args.unit Down args.on)) in
-    c.with-schedule.ensures ∙ ap (with s) c.before.mark.ensures
-    ∙ ap (λ (t : Schedule). with t o) (sym (stays s lists args.channel args.unit Down args.on))
-
-pub mark-down-spec : {M : Type 1} → statement M
-mark-down-spec = tie.close (tie.spec mark-requires with-schedule-requires returns)
+    let o = outcome c.args.cell.lists (Do (Mark c.args.channel c.args.unit Down c.args.on)) in
+    c.with_schedule.ensures ∙ ap (with c.args.cell.schedule) c.mark.ensures
+    ∙ ap (λ (t : Schedule). with t o) (sym (stays c.args.cell.schedule c.args.cell.lists c.args.channel c.args.unit Down c.args.on))
