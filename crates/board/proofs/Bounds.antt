@@ -40,7 +40,7 @@ use Rattle.answer_pieces.proofs.PieceLaws.{each-bound, of-bound}
 use Rattle.board_jobs.specs.Places.{id_in, job_text, place_text, places_text}
 use Rattle.board_jobs.specs.Blocks.{block_byte, blocks_text, core_text}
 use Rattle.board_units.specs.Units.{holder_text, is_locked, state_text, unit_line, channel_text, units_text}
-use Rattle.board_drum.specs.Areas.{holders, drum_text}
+use Rattle.board_drum.specs.Areas.{drum_text}
 use Rattle.board_lists.specs.Lines.{line_text, motion_text, idle, moves_text, entry_text, listed_line, listed_text, state_word, request_text}
 use Rattle.board_lists.specs.Lines.{requests_text}
 use Rattle.board.specs.Board.{queue_of, board_text, most}

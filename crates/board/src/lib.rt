@@ -1,5 +1,6 @@
 // The board: everything that stands in the cell, as text in lent room.
 #![tactic(auto)]
+
 ghost use Rattle.board.specs.Board.{Boarded};
 
 use packets::Lists;
