@@ -1,7 +1,7 @@
 -- A search that antt computes, start by start: it meets the contract of `lowest_start`. Assumes nothing.
 use Prim.Native.Nat.{ℕ, zero, suc, ◌+◌, ◌-◌, ◌≤◌}
-use mathlib.Core.Path.{◌≡◌, refl}
-use mathlib.Core.Bool.{Bool, true, cond, not, ◌&&◌}
+use mathlib.Core.Path.{◌≡◌, refl, sym, subst}
+use mathlib.Core.Bool.{Bool, true, false, cond, not, ◌&&◌}
 use mathlib.Core.List.{List, [], ◌∷◌}
 use native.Mathlib.Nat.{eq-zero-or-pos}
 use mathlib.Core.Logic.{⊎_elim}
@@ -69,8 +69,25 @@ abbrev pub found : Hit → Start
 found (hit s) = At s
 found none = Nothing
 
+-- the first number that passes, by cases, so that antt computes no further than to it; and that it is the one sought
+abbrev pub soon : (ℕ → Bool) → ℕ → ℕ → Hit
+soon f zero k = none
+soon f (suc n) k = elim (f k) [ true ↦ hit k | false ↦ soon f n (suc k) ]
+
+soon_step : (f : ℕ → Bool) (n k : ℕ) (v : Bool) → f k ≡ v → soon f n (suc k) ≡ seek f n (suc k)
+    → soon f (suc n) k ≡ cond v (hit k) (seek f n (suc k))
+soon_step f n k true e h = rw (e, soon) refl
+soon_step f n k false e h = rw (e, soon) h
+
+soon_is : (f : ℕ → Bool) (n k : ℕ) → soon f n k ≡ seek f n k
+soon_is f zero k = refl
+soon_is f (suc n) k = soon_step f n k (f k) refl (soon_is f n (suc k))
+
+soon_first : (f : ℕ → Bool) (n k : ℕ) → First f n k (soon f n k)
+soon_first f n k = subst (First f n k) (sym (soon_is f n k)) (first f n k)
+
 unfoldable pub start_of : List Area → ℕ → ℕ → Start
-start_of held size n = cond (eqb n 0) (At 0) (found (seek (area_b held size n) (size - lowest_address) lowest_address))
+start_of held size n = cond (eqb n 0) (At 0) (found (soon (area_b held size n) (size - lowest_address) lowest_address))
 
 found-answers : (held : List Area) (size n : ℕ) → 1 ≤ n → (h : Hit) → First (area_b held size n) (size - lowest_address) lowest_address h
     → LowestStart held size n (found h)
@@ -87,4 +104,5 @@ start-answers held size n =
     by_bool (eqb n 0)
     (λ t. rw t ((λ h. absurd (omega (arith, eqb-true n 0 t))), λ b h a. omega arith))
     (λ t. rw t (found-answers held size n (⊎_elim (λ e. absurd (eqb-false n 0 t e)) (λ p. p) (eq-zero-or-pos n))
-    (seek (area_b held size n) (size - lowest_address) lowest_address) (first (area_b held size n) (size - lowest_address) lowest_address)))
+    (soon (area_b held size n) (size - lowest_address) lowest_address)
+    (soon_first (area_b held size n) (size - lowest_address) lowest_address)))

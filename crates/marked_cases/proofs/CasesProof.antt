@@ -65,7 +65,7 @@ follows c (s ∷ ss) k = λ reply d h.
 
 -- ---- K1 and K3, from the cards' bytes
 
-k1 : Holds (Prints k1_deck (bytes "SP B7 ER 31\n_d4 01A05\n_a1 02A05\n_d4 SCH ACK\n"))
+k1 : Holds (Prints k1_deck (bytes "SP B7 ER 31\nD4 01A05\nA1 02A05\nD4 SCH ACK\n"))
 unfolding after apart asked_of card_byte clash_error code_error codes deck_end digits_text enter_error entry_of fac_error fac_of fields form_error
     group_text inserted is2 is_alnum is_digit is_letter is_name kind_of lower_sequence malformed number_of_text ordered_error pm_wrong precedes priority_of
     priority_text program_name pty_error ranked read_cards report_text rules same_key same_rank same_there schedule_of shown_by two_digits_of

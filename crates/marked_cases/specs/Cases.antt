@@ -221,14 +221,14 @@ k9_steps =
 abbrev pub k1_deck : List ℕ
 k1_deck =
     deck
-    (bytes "A1,PTY,2,,ECU,,T,PROG,P,02A5,P,3.\n_a1,FAC,IB/2,MT1/2.\n"
-    ++ (bytes "B7,PTY,2,,LABEL,,T,PROG,P,A5,C,1.\n_b7,FAC,IB/1.\n" ++ bytes "D4,PTY,2,,KEY,,T,PROG,P,01A5,C,1.\n_d4,FAC,IB/1.\n"))
+    (bytes "A1,PTY,2,,ECU,,T,PROG,P,02A5,P,3.\nA1,FAC,IB/2,MT1/2.\n"
+    ++ (bytes "B7,PTY,2,,LABEL,,T,PROG,P,A5,C,1.\nB7,FAC,IB/1.\n" ++ bytes "D4,PTY,2,,KEY,,T,PROG,P,01A5,C,1.\nD4,FAC,IB/1.\n"))
 
 -- whatever codes set interlock
 abbrev pub marked : ℕ → List Case
 marked codes =
     -- K1's priorities in order
-    Prints k1_deck (bytes "SP B7 ER 31\n_d4 01A05\n_a1 02A05\n_d4 SCH ACK\n")
+    Prints k1_deck (bytes "SP B7 ER 31\nD4 01A05\nA1 02A05\nD4 SCH ACK\n")
     -- K2 fresh core, IB/28 starts at 2
     ∷ Plays (with· codes no_channels) (alone (bytes "IB/28") (Given 0 2 0 0 0 0 0))
     -- K3 IB/14 with DB/15 gives card error 14
