@@ -1,5 +1,6 @@
 // Reads a deck on standard input and prints each request's cards as they are written, and its parameter table.
 #![tactic(auto)]
+
 use cards_report::Coming;
 
 // Whether nothing more is to be printed.

@@ -1,6 +1,7 @@
 // Runs each case of data/ and compares: the arguments are the names of the decks, each before what must come out. A deck
 // is printed piece by piece, and each piece is compared with what is left of the wanted text.
 #![tactic(auto)]
+
 use cards_report::Coming;
 use std::env::Env;
 use std::rt::Files;

@@ -1,5 +1,6 @@
 // Runs each case of data/ and compares: the arguments are the names of the inputs, each before what must come out.
 #![tactic(auto)]
+
 use std::env::Env;
 use std::rt::Files;
 

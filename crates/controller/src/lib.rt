@@ -2,6 +2,7 @@
 // the function that it calls. None has a state of its own or a `requires`. The crate controller_c exports them under
 // these names; what no contract can ask of a caller in another language is in docs/LINKING.md.
 #![tactic(auto)]
+
 ghost use Rattle.std.specs.Prelude.{◌≡◌};
 ghost use Rattle.configuration_listing.specs.Listing.{Listed};
 ghost use Rattle.schedule_deck.specs.Reading.{Reported};

@@ -1,6 +1,7 @@
 // What C links: the functions of the crate controller under the same names, with the same clauses. Each hands its
 // arguments on, and nothing else.
 #![tactic(auto)]
+
 ghost use Rattle.std.specs.Prelude.{◌≡◌};
 ghost use Rattle.configuration_listing.specs.Listing.{Listed};
 ghost use Rattle.schedule_deck.specs.Reading.{Reported};

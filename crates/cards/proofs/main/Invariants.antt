@@ -1,0 +1,5 @@
+-- `cards::main` ends: the turns that are left grow fewer.
+use Rattle.cards.proofs.main.Given as goal
+
+abbrev pub decreases-loop-left : goal.decreases-loop-left
+decreases-loop-left l = l.left
