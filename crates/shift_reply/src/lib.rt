@@ -1,5 +1,6 @@
 // What is answered to a line of the script, put into lent room, and the cell then.
 #![tactic(auto)]
+
 ghost use Rattle.std.specs.Prelude.{◌≡◌};
 ghost use Rattle.text.specs.Room.{Written};
 ghost use Rattle.board.specs.Board.{board_text};

@@ -1,6 +1,7 @@
 // A shift, line by line: first the configuration, then calls and decks. What is being gathered, a configuration or a
 // deck, stands in lent room.
 #![tactic(auto)]
+
 ghost use Rattle.std.specs.Prelude.{◌≡◌, ◌≤◌, length, take};
 ghost use Rattle.text.specs.Room.{Written};
 ghost use Rattle.cards_fields.specs.Deck.{is_termination};
