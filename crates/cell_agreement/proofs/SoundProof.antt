@@ -1,7 +1,7 @@
 -- THE SCHEDULE IS SOUND in every cell that a history leads to: a call on the cell is at most one call on the
 -- schedule, or a deck, and each keeps it sound. Assumes nothing.
 use Prim.Native.Nat.{ℕ}
-use mathlib.Core.Path.{◌≡◌, sym, subst}
+use mathlib.Core.Path.{sym, subst}
 use mathlib.Core.Bool.{Bool, true, false}
 use mathlib.Core.List.{List}
 use Rattle.schedule_list.specs.declared.Schedule.{Schedule}

@@ -1,6 +1,5 @@
 -- EVERY REACHED CELL has what the page Reached says. Each selection is a taking that fits, so what the request lists' own
 -- theorems say under that condition holds of every history of the cell. Assumes nothing.
-use Prim.Native.Nat.{ℕ}
 use mathlib.Core.Path.{◌≡◌, sym, ap, subst, ◌∙◌}
 use mathlib.Core.List.{List, [], ◌∷◌}
 use Rattle.numbers.proofs.Tests.{by_bool}
@@ -23,13 +22,13 @@ use Rattle.packets_given.proofs.GivenProof.{holds-what-it-was-given}
 use Rattle.cell_selection.specs.Selecting.{Selected, SelectsBy, is_job, taking_of}
 use Rattle.cell_selection.proofs.SelectingLaws.{is-selected}
 use Rattle.cell_selection.specs.declared.Selection.{Selection}
-use Rattle.cell.specs.Calls.{acted, outcome_of}
+use Rattle.cell.specs.Calls.{outcome_of}
 use Rattle.cell.specs.declared.Cell.{Cell}
 use Rattle.cell_history.proofs.MeantLaws.{Plain, by-meant}
 use Rattle.cell_history.proofs.Reaching.{fresh-inside, reached-lists}
 use Rattle.cell_history.proofs.ToldLaws.{does-told, job-done, none_done}
 use Rattle.cell_history.specs.Told.{done_as, inside, said, told, told_as, told_by, told_of}
-use Rattle.cell_history.specs.History.{Call, Deck, Delete, Do, Does, Event, Key, Leads, Release, Reply, Said, Select, Status}
+use Rattle.cell_history.specs.History.{Call, Deck, Delete, Do, Does, Event, Key, Leads, Release, Reply, Select, Status}
 use Rattle.cell_reached.proofs.Fitting.{area-fits, core-fits, units-fit}
 use Rattle.cell_reached.specs.Reached.{Invariants}
 

@@ -2,9 +2,9 @@
 -- as it is in its place just that; an empty place has nothing. Assumes nothing.
 use Prim.Native.Nat.{ℕ}
 use mathlib.Core.Path.{◌≡◌, refl, sym, ap, subst, ◌∙◌}
-use mathlib.Core.Bool.{true, false, cond}
+use mathlib.Core.Bool.{true, false}
 use mathlib.Core.List.{List, [], ◌∷◌, ◌++◌}
-use mathlib.Core.Option.{Option, none, some}
+use mathlib.Core.Option.{none, some}
 use Rattle.numbers.specs.declared.Outcome.TheVariants.{Done}
 use Rattle.units.specs.State.{unit_in}
 use Rattle.channels.specs.declared.Configuration.{Configuration}

@@ -2,22 +2,18 @@
 -- history of the cell by what the lists hear of it. Assumes nothing.
 use Prim.Native.Nat.{ℕ}
 use mathlib.Core.Path.{◌≡◌, refl, sym, ap, subst, ◌∙◌}
-use mathlib.Core.Bool.{Bool, true, false, ◌&&◌}
+use mathlib.Core.Bool.{Bool, true, ◌&&◌}
 use mathlib.Core.List.{List, [], ◌∷◌, ◌++◌, append_assoc}
-use mathlib.Core.Option.{Option, none, some}
 use native.Mathlib.Omega.{arith}
 use lib.Dec.{ltb}
 use Rattle.numbers.proofs.Tests.{by_bool}
-use Rattle.numbers.specs.declared.Outcome.TheVariants.{Done, Refused}
+use Rattle.numbers.specs.declared.Outcome.TheVariants.{Done}
 use Rattle.numbers.specs.declared.Refusal.{Refusal}
 use Rattle.numbers.specs.declared.Refusal.TheVariants.{OutOfRange}
 use Rattle.channels.specs.declared.Configuration.{Configuration}
-use Rattle.configuration_units.specs.Fresh.{fresh_units}
-use Rattle.configuration_units.proofs.FreshLaws.{fresh-free}
 use Rattle.configuration_form.proofs.Meaning.{meaning}
 use Rattle.configuration_form.proofs.Listed.{listed-exactly}
 use Rattle.configuration_form.proofs.Unique.{first-named, read_back}
-use Rattle.configuration_listing.specs.Listing.{counted}
 use Rattle.cards_report.proofs.Whole.{all-printed}
 use Rattle.cards_round.proofs.AllowingFull.{allowed-no-room, allowed-written, full-taken, others-refused}
 use Rattle.cards_round.proofs.Fits.{always-written, no_longer}
@@ -48,7 +44,7 @@ use Rattle.packets.specs.State.{State, is_still, packet_in}
 use Rattle.packets.specs.declared.Status.{Status}
 use Rattle.packets.specs.declared.Verdict.TheVariants.{Granted}
 use Rattle.assign.proofs.LackingLaws.{exists-exactly}
-use Rattle.cell_selection.specs.Selecting.{is_job, taking_of, left_by}
+use Rattle.cell_selection.specs.Selecting.{is_job, left_by}
 use Rattle.cell_selection.specs.declared.Selection.{Selection}
 use Rattle.cell.specs.Calls.{Enters, acted}
 use Rattle.cell.specs.declared.Cell.{Cell}
@@ -67,7 +63,6 @@ use Rattle.demands.proofs.Requests.{closes-so, completes-so, returns-so, starts-
 use Rattle.demands.proofs.Returning.{back-so, frees-so, until-so}
 use Rattle.demands.proofs.Typed.{faulty-so, mistyped-so, typed-so, unknown-so}
 use Rattle.demands.proofs.Texts.{counted-fresh, group-first, groups-alike, kept-room, listed, listed-bad, written-so}
-use Rattle.demands.specs.Refusing.{refusal_in}
 use Rattle.demands.proofs.Numbers.{numbers}
 use Rattle.demands.proofs.Standing.{deck-lent, stands}
 use Rattle.cell_history.proofs.Reaching.{chosen_is, done-job, reached-lists, selected-of}

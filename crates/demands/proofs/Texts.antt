@@ -2,13 +2,12 @@
 -- nothing.
 use Prim.Native.Nat.{ℕ, zero, suc, ◌≤◌}
 use mathlib.Core.Path.{◌≡◌, refl, sym, ap, ◌∙◌}
-use mathlib.Core.Bool.{false, Bool, true, ◌&&◌}
+use mathlib.Core.Bool.{Bool, true, ◌&&◌}
 use mathlib.Core.List.{List, [], ◌++◌}
 use native.Mathlib.Omega.{arith}
 use lib.ListN.{length, get_or, take, drop}
 use Rattle.numbers.proofs.Tests.{by_bool}
 use Rattle.numbers.specs.declared.ChannelNumber.{ChannelNumber}
-use Rattle.numbers.specs.declared.Outcome.TheVariants.{Refused}
 use Rattle.numbers.specs.declared.Refusal.{Refusal}
 use Rattle.units.specs.State.{assignable, unit_in}
 use Rattle.units.specs.declared.Unit.{Unit as UnitState}
