@@ -9,7 +9,7 @@ use native.Mathlib.Omega.{arith}
 use lib.ListN.{length, take, drop, take-append-drop, length-take, length-drop}
 use Rattle.text.specs.Room.{Written}
 use Rattle.text.proofs.RoomLaws.{written_one}
-use Rattle.shift_hearing.specs.Hearing.{Standing, enough, Hears, HearsSome, HearsPiece}
+use Rattle.shift_hearing.specs.Hearing.{Standing, Hears, HearsSome, HearsPiece}
 use Rattle.shift_hearing.proofs.HearingLaws.{joined, hears-one}
 
 module _ {s t : Standing} {piece out after : List ℕ} {taken at : ℕ} (h : HearsPiece s piece out t taken at after) where

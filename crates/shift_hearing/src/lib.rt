@@ -2,6 +2,7 @@
 // answers stand in lent room one behind the other. The schedule stands by itself meanwhile: most lines are calls on the
 // request lists alone, and it is not copied for these.
 #![tactic(auto)]
+
 ghost use Rattle.std.specs.Prelude.{◌≡◌, false, take};
 ghost use Rattle.cell.specs.Calls.{cell_of, followed};
 ghost use Rattle.schedule_list.specs.declared.Schedule.{Schedule};
