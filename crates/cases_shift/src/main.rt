@@ -1,5 +1,6 @@
 // Runs each case of data/ and compares: the arguments are the names of the inputs, each before what must come out.
 #![tactic(auto)]
+
 use numbers::limits;
 use shift_turns::Shift;
 use std::env::Env;

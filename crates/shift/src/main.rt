@@ -1,6 +1,7 @@
 // The whole cell as a program to talk to: reads a script on standard input and answers each line as soon as it has
 // come.
 #![tactic(auto)]
+
 use numbers::limits;
 use shift_turns::{Phase, Shift};
 
