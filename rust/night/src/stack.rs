@@ -1,7 +1,7 @@
 //! The stack that the proved programs need: one that is too small is refused at the start, and not met in the middle
 //! of a night.
 
-/// Kilobytes of stack that are asked for. The shift program takes 486 at most, and an environment, which stands there
+/// Kilobytes of stack that are asked for. The shift program takes 737 at most, and an environment, which stands there
 /// too, up to a quarter of the limit; rust/README.md has what was measured.
 pub const NEEDED: u64 = 1024;
 

@@ -103,7 +103,8 @@ fn bash_completes_every_command_and_option() {
 fn the_proved_programs_have_a_help_and_a_version_too() {
     for (name, _) in night::help::PROGRAMS {
         let program = folder(&format!("begin-{name}")).join(name);
-        std::fs::copy(env!("CARGO_BIN_EXE_begin"), &program).unwrap();
+        // No copy: a file that was just written cannot be started while another test's child still holds it open.
+        std::fs::hard_link(env!("CARGO_BIN_EXE_begin"), &program).unwrap();
         let run = |word: &str| Command::new(&program).arg(word).stdin(std::process::Stdio::null()).output().unwrap();
         for (word, start) in [("--help", format!("usage: {name} ")), ("--version", format!("{name} (Luffgravel) "))] {
             let output = run(word);
