@@ -14,6 +14,7 @@ fn is_over(coming: Coming) -> bool {
 
 // A deck has at most 16,384 bytes: of a longer one as much is read as shows that, since the buffer holds more. It is
 // printed group by group. A proved loop has to end: this one counts its turns down, from as many as print every deck.
+// Where a piece cannot be written, that is not told.
 fn main(rt: HostRuntime) {
     let mut deck = [0u8; 65536];
     let n = reading::fill(&mut rt.stdin(), &mut deck);

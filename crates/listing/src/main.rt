@@ -1,7 +1,7 @@
 // Reads a configuration on standard input and prints its listing.
 #![tactic(auto)]
 
-// The first 2,048 bytes decide, and the buffer holds more.
+// The first 2,048 bytes decide, and the buffer holds more. Where the listing cannot be written, that is not told.
 fn main(rt: HostRuntime) {
     let mut text = [0u8; 4096];
     let n = reading::fill(&mut rt.stdin(), &mut text);
