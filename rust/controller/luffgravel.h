@@ -1,5 +1,5 @@
 /*
- * The proved functions that a controller links: libcontroller.a for x86-64 Linux, which `rt lib` writes in crates/controller_c (as libcontroller_c.a) and
+ * The proved functions that a controller links: libcontroller.a for Linux on x86-64 of level v2 or later, which `rt lib` writes in crates/controller_c (as libcontroller_c.a) and
  * ./install puts under its name.
  *
  * Each function keeps its promise for every value that it is handed, provided that the caller keeps to this, which no proof can ask of C:
