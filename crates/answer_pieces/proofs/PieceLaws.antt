@@ -8,8 +8,9 @@ use native.Mathlib.Nat.{suc-mul}
 use native.Mathlib.Omega.{arith}
 use lib.ListN.{length, get_or, drop, drop_of_length-le, length-append}
 use lib.Seq.{drop-cons}
-use Rattle.text.specs.Room.{Written}
-use Rattle.text.proofs.RoomLaws.{Going, turn, end}
+use Rattle.text.specs.Room.{Written, Puts}
+use Rattle.text.specs.declared.room.Room.{Room}
+use Rattle.text.proofs.RoomLaws.{Going, turn, end, Goes, goes-turn, goes-end}
 use Rattle.answer_pieces.specs.Pieces.{each_from, each_of}
 
 each_turn : (piece : ℕ → List ℕ) (n k : ℕ) → k < n → each_from piece (n - k) k ≡ piece k ++ each_from piece (n - (k + 1)) (k + 1)
@@ -31,6 +32,14 @@ module _ (piece : ℕ → List ℕ) (n : ℕ) where
       → Written room₀ at₀ whole room at
   over {k = k} h g = end (rw (each-end piece n k h) at g)
 
+  pub puts-on : {first room next : Room} {whole : List ℕ} {k : ℕ} → k < n → Goes first whole room (each_from piece (n - k) k)
+      → Puts room (piece k) next → Goes first whole next (each_from piece (n - (k + 1)) (k + 1))
+  puts-on {k = k} h g p = goes-turn (rw (each_turn piece n k h) at g) p
+
+  pub puts-over : {first room : Room} {whole : List ℕ} {k : ℕ} → n ≤ k → Goes first whole room (each_from piece (n - k) k)
+      → Puts first whole room
+  puts-over {k = k} h g = goes-end (rw (each-end piece n k h) at g)
+
 -- for the things in a list: `k` of them are dealt with
 module _ {A : Type 0} (piece : A → List ℕ) (list : List A) where
   pub on_of : {room₀ whole room after : List ℕ} {at₀ at next k : ℕ} (d : A) → k < length list
@@ -45,6 +54,19 @@ module _ {A : Type 0} (piece : A → List ℕ) (list : List A) where
       → Written room₀ at₀ whole room at
   unfolding each_of
   over-of {k = k} h g = let e : each_of piece (drop k list) ≡ [] = rw (drop_of_length-le list h) in end (rw e at g)
+
+  pub puts-on_of : {first room next : Room} {whole : List ℕ} {k : ℕ} (d : A) → k < length list
+      → Goes first whole room (each_of piece (drop k list)) → Puts room (piece (get_or list k d)) next
+      → Goes first whole next (each_of piece (drop (k + 1) list))
+  unfolding each_of
+  puts-on_of {k = k} d h g p =
+      let e : each_of piece (drop k list) ≡ piece (get_or list k d) ++ each_of piece (drop (k + 1) list) = rw (add-one k, drop-cons list k d h) in
+      goes-turn (rw e at g) p
+
+  pub puts-over-of : {first room : Room} {whole : List ℕ} {k : ℕ} → length list ≤ k → Goes first whole room (each_of piece (drop k list))
+      → Puts first whole room
+  unfolding each_of
+  puts-over-of {k = k} h g = let e : each_of piece (drop k list) ≡ [] = rw (drop_of_length-le list h) in goes-end (rw e at g)
 
 -- so many pieces of so many bytes at most
 pub each-bound : (piece : ℕ → List ℕ) (most n k : ℕ) → ((i : ℕ) → k ≤ i → i < k + n → length (piece i) ≤ most)

@@ -1,22 +1,22 @@
 // What is configured: the channels of the cell, the units that are down, and the codes that set interlock.
 #![tactic(auto)]
 
-ghost use Rattle.std.specs.Prelude.{◌≡◌, get_or};
+ghost use Rattle.std.specs.Prelude.{◌≡◌};
 ghost use Rattle.channels.specs.Channels.{no_channel, no_channels, units_of, channel_in, has_unit, sets_interlock};
 
 use numbers::{ChannelNumber, Kind, UnitNumber};
 
-// What a channel has: nothing, or a kind with its n, units or for MD the drum's length in words.
+// What stands on a channel: a kind with its n, units or for MD the drum's length in words.
 #[derive(Clone, Copy)]
-pub enum Fitted {
-    Nothing,
-    With(Kind, u32),
+pub struct Fitted {
+    pub kind: Kind,
+    pub n: u32,
 }
 
-// A channel of the cell.
+// A channel of the cell, and what it has, where it has something.
 #[derive(Clone, Copy)]
 pub struct Channel {
-    pub has: Fitted,
+    pub has: Option<Fitted>,
 }
 
 // The channels by number, whether unit u of channel c is down, at c * 16 + u, and the codes that set interlock, bit k
@@ -32,9 +32,7 @@ pub struct Configuration {
 fn no_channel() -> Channel
     ensures { result ≡ no_channel }
 {
-    Channel {
-        has: Fitted::Nothing,
-    }
+    Channel { has: None }
 }
 
 // No channel has anything.
@@ -48,34 +46,17 @@ pub fn no_channels() -> [Channel; 16]
 pub fn channel_at(configuration: Configuration, channel: ChannelNumber) -> Channel
     ensures { result ≡ channel_in configuration channel }
 {
-    let channels = configuration.channels;
-    channel_of(channels, channel)
-}
-
-// The same of the channels alone.
-fn channel_of(channels: [Channel; 16], channel: ChannelNumber) -> Channel
-    ensures { result ≡ get_or channels channel.0 no_channel }
-{
-    let c = channel.0 as usize;
-    if c < 16 {
-        return channels[c];
-    }
-    no_channel()
+    let channel = configuration.channels.get(channel.0 as usize);
+    channel.copied().unwrap_or(no_channel())
 }
 
 // How many units a channel has; the drum has none.
 pub fn units_of(channel: Channel) -> u32
     ensures { result ≡ units_of channel }
 {
-    let has = channel.has;
-    match has {
-        Fitted::Nothing => 0,
-        Fitted::With(kind, n) => {
-            if numbers::is_drum(kind) {
-                return 0;
-            }
-            n
-        }
+    match channel.has {
+        Some(fitted) if !numbers::is_drum(fitted.kind) => fitted.n,
+        _ => 0,
     }
 }
 
@@ -83,19 +64,12 @@ pub fn units_of(channel: Channel) -> u32
 pub fn has_unit(configuration: Configuration, channel: ChannelNumber, unit: UnitNumber) -> bool
     ensures { result ≡ has_unit configuration channel unit }
 {
-    let n = units_of(channel_at(configuration, channel));
-    if 15 < unit.0 {
-        return false;
-    }
-    (unit.0 as u32) < n
+    unit.0 <= 15 && (unit.0 as u32) < units_of(channel_at(configuration, channel))
 }
 
 // Whether a failure's code is one of those that set interlock; a code over 77 octal has no bit.
 pub fn sets_interlock(codes: u64, code: u8) -> bool
     ensures { result ≡ sets_interlock codes code }
 {
-    if 0o77 < code {
-        return false;
-    }
-    (codes >> code) % 2 == 1
+    code <= 0o77 && (codes >> code) % 2 == 1
 }

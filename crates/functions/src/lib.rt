@@ -13,8 +13,5 @@ pub fn legal(kind: Kind, code: u8) -> bool
     ensures { result ≡ legal_of kind code }
 {
     let row = numbers::row_of(kind);
-    if code < 64 {
-        return table::LEGAL[row * 64 + code as usize];
-    }
-    false
+    code < 64 && table::LEGAL[row * 64 + code as usize]
 }

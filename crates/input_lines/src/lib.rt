@@ -39,8 +39,5 @@ pub fn take_up(line: &mut [u8], kept: usize, piece: &[u8]) -> Cut
 pub fn front(s: &[u8], n: usize) -> &[u8]
     ensures { result.now ≡ take n s.now }
 {
-    if n <= s.len() {
-        return &s[..n];
-    }
-    s
+    &s[..n.min(s.len())]
 }

@@ -1,22 +1,20 @@
 -- What the definitions of Kinds mean, proved: a kind's code is read as that kind and nothing else is, kinds have rows of
 -- their own, and those that have units places of their own in the written order. What holds of every kind is one test,
 -- computed over the list of them and carried to each (`all_kinds`). Assumes nothing.
-use Prim.Native.Nat.{ℕ, zero, suc, ◌+◌, ◌≤◌, ◌<◌}
+use Prim.Native.Nat.{ℕ, zero, suc, ◌<◌}
 use mathlib.Core.Path.{◌≡◌, refl, sym, ap, subst, ◌∙◌}
 use mathlib.Core.Bool.{Bool, true, false, cond, ◌&&◌, not}
 use mathlib.Core.List.{List, [], ◌∷◌, map}
-use native.Mathlib.Numerals.{add-one}
 use native.Mathlib.Omega.{arith}
 use lib.Dec.{eqb, ltb}
-use lib.ListN.{length, get_or, drop, drop_of_length-le, get_or-eq_default}
+use lib.ListN.{length, get_or, drop}
 use borrow.Author.Tests.{eqb-true, ltb-true}
 use Rattle.numbers.proofs.Tests.{by_bool, both, never}
 use Rattle.numbers.specs.Quoted.{is2}
-use Rattle.numbers.specs.Kinds.{code_of, by_row, kind_in, kind_of, kinds, row_of, is_drum, in_order, unit_kinds, kind_at, order_of}
+use Rattle.numbers.specs.Kinds.{code_of, by_row, kind_in, kind_of, kinds, row_of, is_drum, unit_kinds, kind_at, order_of}
 use Rattle.numbers.specs.declared.Kind.{Kind}
 use Rattle.numbers.specs.declared.Kind.TheVariants.{Ma, Mt, Pr, Md, Mc, Cr, Pt}
-use Rattle.numbers.specs.declared.Coded.{Coded}
-use Rattle.numbers.specs.declared.Coded.TheVariants.{Is, Unknown}
+use Rattle.std.specs.Prelude.{Option, Some, None}
 
 -- the kind in a row of the table is the kind whose row it is: no two kinds share one
 pub row-kind : (k : Kind) → get_or by_row (row_of k) Ma ≡ k
@@ -73,16 +71,6 @@ of-below f (suc n) t (suc i) h = of-below (λ i. f (suc i)) n (both (f zero) (be
 pub kind-order : (i : ℕ) → i < unit_kinds → order_of (kind_at i) ≡ i
 kind-order i h = eqb-true (order_of (kind_at i)) i (of-below (λ i. eqb (order_of (kind_at i)) i) unit_kinds refl i h)
 
--- the kind that a list of them has there, whatever stands behind it
-pub listed-kind : (i : ℕ) → i < unit_kinds → get_or in_order i Ma ≡ kind_at i
-listed-kind i h =
-    row_one (get_or in_order i Ma) (kind_at i)
-    (eqb-true (row_of (get_or in_order i Ma)) (row_of (kind_at i)) (of-below (λ i. eqb (row_of (get_or in_order i Ma)) (row_of (kind_at i))) unit_kinds refl i h))
-
--- behind the last, the drum
-pub past-kind : (i : ℕ) → unit_kinds ≤ i → Md ≡ kind_at i
-past-kind i h = sym (get_or-eq_default in_order Md {n = i} h)
-
 -- no drum stands at a place of the order
 pub kind-units : (i : ℕ) → i < unit_kinds → is_drum (kind_at i) ≡ false
 kind-units i h = undrum (is_drum (kind_at i)) (of-below (λ i. not (is_drum (kind_at i))) unit_kinds refl i h)
@@ -113,19 +101,19 @@ code-two k = two (code_of k) (code-long k)
     two (a ∷ b ∷ c ∷ s) e = absurd (omega arith)
 
 -- the code of a kind is read as the kind
-pub code_read : (k : Kind) → kind_of (get_or (code_of k) 0 0) (get_or (code_of k) 1 0) ≡ Is k
+pub code_read : (k : Kind) → kind_of (get_or (code_of k) 0 0) (get_or (code_of k) 1 0) ≡ Some k
 unfolding kind_of is2
 code_read k =
     is-it (kind_of (get_or (code_of k) 0 0) (get_or (code_of k) 1 0))
     (all_kinds (λ m. is_it m (kind_of (get_or (code_of m) 0 0) (get_or (code_of m) 1 0))) refl k)
   where
-    is_it : Kind → Coded → Bool
-    is_it m (Is n) = eqb (row_of n) (row_of m)
-    is_it m Unknown = false
+    is_it : Kind → Option Kind → Bool
+    is_it m (Some n) = eqb (row_of n) (row_of m)
+    is_it m None = false
 
-    is-it : (c : Coded) → is_it k c ≡ true → c ≡ Is k
-    is-it (Is n) t = ap (λ (m : Kind). Is m) (row_one n k (eqb-true (row_of n) (row_of k) t))
-    is-it Unknown t = never t refl
+    is-it : (c : Option Kind) → is_it k c ≡ true → c ≡ Some k
+    is-it (Some n) t = ap (λ (m : Kind). Some m) (row_one n k (eqb-true (row_of n) (row_of k) t))
+    is-it None t = never t refl
 
 -- the letters that a test found
 letters : (x y a b : ℕ) → is2 x y a b ≡ true → a ∷ b ∷ [] ≡ x ∷ y ∷ []
@@ -137,58 +125,21 @@ letters x y a b e =
     cc
 
 -- only the code of a kind is read as the kind
-found_in : (a b : ℕ) (k : Kind) (ks : List Kind) → kind_in ks a b ≡ Is k → a ∷ b ∷ [] ≡ code_of k
+found_in : (a b : ℕ) (k : Kind) (ks : List Kind) → kind_in ks a b ≡ Some k → a ∷ b ∷ [] ≡ code_of k
 found_in a b k [] e = let z : ◌≡◌ {A = ℕ} 0 1 = cc in absurd (omega arith)
 found_in a b k (m ∷ ks) e =
     by_bool (is2 (get_or (code_of m) 0 0) (get_or (code_of m) 1 0) a b)
-    (λ t. let i : Is m ≡ Is k = rw t at e in
+    (λ t. let i : Some m ≡ Some k = rw t at e in
     let h : m ≡ k = cc in
     letters (get_or (code_of m) 0 0) (get_or (code_of m) 1 0) a b t ∙ code-two m ∙ ap code_of h)
     (λ t. found_in a b k ks (rw t at e))
 
-pub read-code : (a b : ℕ) (k : Kind) → kind_of a b ≡ Is k → a ∷ b ∷ [] ≡ code_of k
+pub read-code : (a b : ℕ) (k : Kind) → kind_of a b ≡ Some k → a ∷ b ∷ [] ≡ code_of k
 unfolding kind_of
 read-code a b k e = found_in a b k by_row e
-
--- one row looked at: its kind, or the rows behind it
-next_row : (a b : ℕ) (ks : List Kind) (i : ℕ) → i < length ks
-    → kind_in (drop i ks) a b
-    ≡ cond (is2 (get_or (code_of (get_or ks i Ma)) 0 0) (get_or (code_of (get_or ks i Ma)) 1 0) a b) (Is (get_or ks i Ma)) (kind_in (drop (suc i) ks) a b)
-next_row a b [] i h = absurd (omega arith)
-next_row a b (k ∷ ks) zero h = refl
-next_row a b (k ∷ ks) (suc i) h = next_row a b ks i (omega arith)
-
--- the codes, each in its kind's row
-abbrev pub codes : List (List ℕ)
-codes = map code_of by_row
 
 -- a list made of some kinds has at a place what is made of the kind there
 pub map_at : {A : Type 0} (f : Kind → A) (d : A) (ks : List Kind) (m : Kind) (i : ℕ) → i < length ks → get_or (map f ks) i d ≡ f (get_or ks i m)
 map_at f d [] m i h = absurd (omega arith)
 map_at f d (k ∷ ks) m zero h = refl
 map_at f d (k ∷ ks) m (suc i) h = map_at f d ks m i (omega arith)
-
-pub row-code : (i : ℕ) → i < kinds → get_or codes i [] ≡ code_of (get_or by_row i Ma)
-row-code i h = map_at code_of [] by_row Ma i h
-
-module _ (a b i : ℕ) (low : i < kinds) (before : kind_in (drop i by_row) a b ≡ kind_of a b) {r : Bool}
-    (is : r ≡ is2 (get_or (get_or codes i []) 0 0) (get_or (get_or codes i []) 1 0) a b) where
-  abbrev kind : Kind
-  kind = get_or by_row i Ma
-
-  so : kind_of a b ≡ cond r (Is kind) (kind_in (drop (i + 1) by_row) a b)
-  so =
-      sym before ∙ next_row a b by_row i low
-      ∙ rw (add-one i, is, row-code i low)
-
-  -- a row's code is there: its kind is the answer
-  pub row-found : r ≡ true → Is kind ≡ kind_of a b
-  row-found t = sym (so ∙ rw t)
-
-  -- it is not: the rows behind it
-  pub row-passed : r ≡ false → kind_in (drop (i + 1) by_row) a b ≡ kind_of a b
-  row-passed f = sym (so ∙ rw f)
-
--- no row is left
-pub rows-over : (a b i : ℕ) → kinds ≤ i → kind_in (drop i by_row) a b ≡ kind_of a b → Unknown ≡ kind_of a b
-rows-over a b i h e = rw (drop_of_length-le by_row {i = i} h) at e

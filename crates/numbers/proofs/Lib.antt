@@ -7,3 +7,4 @@ pub mod Find
 pub mod ValuesLaws
 pub mod BitLaws
 pub mod RefusalLaws
+pub mod FromFn

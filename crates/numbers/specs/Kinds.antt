@@ -1,12 +1,10 @@
 -- The kinds of channel: MA (UNISERVO IIA), MT (UNISERVO IIIA), PR (printer), MD (drum), MC (UNISERVO IIIC), CR (card
 -- equipment) and PT (paper tape equipment). Each has its code, its row in the table of functions and its place in the
 -- written order.
-use Rattle.std.specs.Prelude.{ℕ, ◌-◌, ◌<◌, ◌≡◌, Bool, true, false, cond, List, [], ◌∷◌, get_or}
+use Rattle.std.specs.Prelude.{ℕ, ◌-◌, ◌<◌, ◌≡◌, Bool, true, false, cond, List, [], ◌∷◌, get_or, Option, Some, None}
 use Rattle.numbers.specs.Quoted.{bytes, is2}
 use Rattle.numbers.specs.declared.Kind.{Kind}
 use Rattle.numbers.specs.declared.Kind.TheVariants.{Ma, Mt, Pr, Md, Mc, Cr, Pt}
-use Rattle.numbers.specs.declared.Coded.{Coded}
-use Rattle.numbers.specs.declared.Coded.TheVariants.{Is, Unknown}
 
 -- a kind's code
 abbrev pub code_of : Kind → List ℕ
@@ -27,12 +25,12 @@ abbrev pub kinds : ℕ
 kinds = 7
 
 -- the first of some kinds whose code two bytes are
-abbrev pub kind_in : List Kind → ℕ → ℕ → Coded
-kind_in [] a b = Unknown
-kind_in (k ∷ ks) a b = cond (is2 (get_or (code_of k) 0 0) (get_or (code_of k) 1 0) a b) (Is k) (kind_in ks a b)
+abbrev pub kind_in : List Kind → ℕ → ℕ → Option Kind
+kind_in [] a b = None
+kind_in (k ∷ ks) a b = cond (is2 (get_or (code_of k) 0 0) (get_or (code_of k) 1 0) a b) (Some k) (kind_in ks a b)
 
 -- the kind whose code two bytes are
-unfoldable pub kind_of : ℕ → ℕ → Coded
+unfoldable pub kind_of : ℕ → ℕ → Option Kind
 kind_of a b = kind_in by_row a b
 
 -- a kind's row in the table of functions

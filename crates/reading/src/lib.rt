@@ -11,10 +11,7 @@ pub fn read<R: Read>(reader: &mut R, room: &mut [u8]) -> usize
     ensures within { result ≤ length room.new }
     ensures bytes { Consumes (R.remaining reader.old) (R.remaining reader.new) (take result room.new) }
 {
-    match reader.read(room) {
-        Ok(n) => n,
-        Err(_) => 0,
-    }
+    reader.read(room).unwrap_or(0)
 }
 
 // Reads until the room is full or the input ends, and answers how many bytes stand there.
@@ -23,6 +20,7 @@ pub fn fill<R: Read>(reader: &mut R, room: &mut [u8]) -> usize
     ensures bytes { Consumes (R.remaining reader.old) (R.remaining reader.new) (take result room.new) }
 {
     let mut done: usize = 0;
+    // Stays: a turn goes on by as many bytes as one read gives, and not by one.
     while done < room.len() {
         let n = read(reader, &mut room[done..]);
         if n == 0 {

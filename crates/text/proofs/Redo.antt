@@ -16,11 +16,15 @@ use Rattle.text.proofs.ClassLaws.{digit-bounds}
 use Rattle.text.specs.Reading.{two_digits_of, digits_from, decimal_of}
 use Rattle.text.specs.Writing.{two_text, decimal_text}
 use Rattle.text.proofs.Tens.{one-digit, more-digits}
-use Rattle.text.specs.declared.Number.TheVariants.{Is, Wrong}
+use Rattle.std.specs.Prelude.{Option, Some, None}
 
 -- a number that was read is not one that was not
-pub not-wrong {ℓ} : {P : Type ℓ} {n k : ℕ} → Wrong ≡ Is n k → P
+pub not-wrong {ℓ} : {P : Type ℓ} {r : ℕ × ℕ} → None ≡ Some r → P
 not-wrong e = let z : ◌≡◌ {A = ℕ} 0 1 = cc in absurd (omega arith)
+
+-- what was read is one number, in one length
+number_one : (r q : ℕ × ℕ) → Some r ≡ Some q → (r.0 ≡ q.0) × (r.1 ≡ q.1)
+number_one r q e = let h : r ≡ q = cc in (ap (λ (p : ℕ × ℕ). p.0) h, ap (λ (p : ℕ × ℕ). p.1) h)
 
 -- the byte of no text is no digit
 none-digit : (s : List ℕ) → is_digit (get_or s 0 0) ≡ true → s ≡ get_or s 0 0 ∷ drop 1 s
@@ -28,13 +32,13 @@ none-digit [] e = let b = digit-bounds 0 e in absurd (omega arith)
 none-digit (b ∷ s) e = refl
 
 -- two digits
-pub two-redone : (s : List ℕ) (n k : ℕ) → two_digits_of s ≡ Is n k → (k ≡ 2) × (n < 100) × (s ≡ two_text n ++ drop 2 s)
+pub two-redone : (s : List ℕ) (n k : ℕ) → two_digits_of s ≡ Some (n, k) → (k ≡ 2) × (n < 100) × (s ≡ two_text n ++ drop 2 s)
 unfolding two_digits_of
 two-redone s n k e =
     by_bool (is_digit (get_or s 0 0) && is_digit (get_or s 1 0))
     (λ t. let p = both (is_digit (get_or s 0 0)) (is_digit (get_or s 1 0)) t in
-    let i : Is ((get_or s 0 0 - 48) * 10 + (get_or s 1 0 - 48)) 2 ≡ Is n k = rw t at e in
-    two s p.0 p.1 (cc) (cc))
+    let i = number_one ((get_or s 0 0 - 48) * 10 + (get_or s 1 0 - 48), 2) (n, k) (rw t at e) in
+    two s p.0 p.1 i.0 i.1)
     (λ f. not-wrong (rw f at e))
   where
     two : (s : List ℕ) → is_digit (get_or s 0 0) ≡ true → is_digit (get_or s 1 0) ≡ true → (get_or s 0 0 - 48) * 10 + (get_or s 1 0 - 48) ≡ n → 2 ≡ k
@@ -61,14 +65,15 @@ record On (more value count : ℕ) (s : List ℕ) (n k : ℕ) : Type 0 where
   same : decimal_text value ++ s ≡ decimal_text n ++ drop (k - count) s
   long : length (decimal_text n) ≡ length (decimal_text value) + (k - count)
 
-ended : (more value count : ℕ) (s : List ℕ) (n k : ℕ) → Is value count ≡ Is n k → On more value count s n k
+ended : (more value count : ℕ) (s : List ℕ) (n k : ℕ) → ◌≡◌ {A = Option (ℕ × ℕ)} (Some (value, count)) (Some (n, k)) → On more value count s n k
 ended more value count s n k e =
-    let a : value ≡ n = cc in
-    let b : count ≡ k = cc in
+    let i = number_one (value, count) (n, k) e in
+    let a : value ≡ n = i.0 in
+    let b : count ≡ k = i.1 in
     let d : k - count ≡ 0 = omega arith in
     record { on = omega arith; few = omega arith; same = rw (d, a) refl; long = rw (d, a) (omega arith) }
 
-digits-on : (more value count : ℕ) (s : List ℕ) (n k : ℕ) → 0 < value → digits_from more value count s ≡ Is n k → On more value count s n k
+digits-on : (more value count : ℕ) (s : List ℕ) (n k : ℕ) → 0 < value → digits_from more value count s ≡ Some (n, k) → On more value count s n k
 unfolding digits_from
 digits-on more value count [] n k h e = ended more value count [] n k e
 digits-on more value count (b ∷ s) n k h e =
@@ -96,7 +101,7 @@ digits-on more value count (b ∷ s) n k h e =
         }
 
 -- the first digit, and those after it
-digits-redone : (s : List ℕ) (n k : ℕ) → is_digit (get_or s 0 0) ≡ true → (get_or s 0 0 ≡ 48 → ⊥) → digits_from 7 0 0 s ≡ Is n k → Decimal s n k
+digits-redone : (s : List ℕ) (n k : ℕ) → is_digit (get_or s 0 0) ≡ true → (get_or s 0 0 ≡ 48 → ⊥) → digits_from 7 0 0 s ≡ Some (n, k) → Decimal s n k
 unfolding digits_from
 digits-redone [] n k t z e = let b = digit-bounds 0 t in absurd (omega arith)
 digits-redone (b ∷ s) n k t z e =
@@ -114,7 +119,7 @@ digits-redone (b ∷ s) n k t z e =
     pos : (48 ≤ b) × (b ≤ 57) → (b ≡ 48 → ⊥) → 0 < b - 48
     pos d z = ⊎_elim (λ q. absurd (z (omega arith))) (λ q. q) (eq-zero-or-pos (b - 48))
 
-pub decimal-redone : (s : List ℕ) (n k : ℕ) → decimal_of s ≡ Is n k → Decimal s n k
+pub decimal-redone : (s : List ℕ) (n k : ℕ) → decimal_of s ≡ Some (n, k) → Decimal s n k
 unfolding decimal_of
 decimal-redone s n k e =
     by_bool (is_digit (get_or s 0 0))
@@ -122,9 +127,9 @@ decimal-redone s n k e =
     (λ u. by_bool (is_digit (get_or s 1 0))
     (λ v. not-wrong (rw (t, u, v) at e))
     (λ v. let f : get_or s 0 0 ≡ 48 = eqb-true (get_or s 0 0) 48 u in
-    let i : Is 0 1 ≡ Is n k = rw (t, u, v) at e in
-    let a : 0 ≡ n = cc in
-    let b : 1 ≡ k = cc in
+    let i = number_one (0, 1) (n, k) (rw (t, u, v) at e) in
+    let a : 0 ≡ n = i.0 in
+    let b : 1 ≡ k = i.1 in
     let o = one-digit 0 (omega arith) in
     let w : s ≡ 48 ∷ drop 1 s = none-digit s t ∙ cc in
     record { long = rw (← a, ← b, o) refl; few = omega arith; same = rw (← a, ← b, o) w }))

@@ -8,7 +8,8 @@ use native.Mathlib.Nat.{eq-zero-or-pos}
 use native.Mathlib.Omega.{arith}
 use lib.ListN.{length, take, drop, set, length-append}
 use lib.Seq.{sets, length-sets, sets-eq, set_out, length-take-le, take_at}
-use Rattle.text.specs.Room.{reach, Written, Whole}
+use Rattle.text.specs.declared.room.Room.{Room}
+use Rattle.text.specs.Room.{reach, Written, Puts, Whole}
 
 sets-sets : (s : List ℕ) (at : ℕ) (p q : List ℕ) → sets (sets s at p) (at + length p) q ≡ sets s at (p ++ q)
 sets-sets s at [] q = ap (λ (k : ℕ). sets s k q) (omega arith)
@@ -42,6 +43,28 @@ and_then {s} {t} {u} {p} {q} {a} {b} {c} v w =
       bytes = w.bytes ∙ e ∙ ap (λ (x : List ℕ). sets x (a + length p) q) v.bytes ∙ sets-sets s a p q;
       reached = omega (arith, length-append p q, w.reached, v.reached);
     }
+
+-- nothing is put
+pub puts-none : (r : Room) → Puts r [] r
+puts-none r = record { written = none r.bytes.now r.at; same = refl }
+
+-- a piece is put, and then another
+pub puts-then : {r s t : Room} {p q : List ℕ} → Puts r p s → Puts s q t → Puts r (p ++ q) t
+puts-then v w = record { written = and_then v.written w.written; same = w.same ∙ v.same }
+
+-- whoever puts `rest` into this room has then put `whole` into the first: what a loop keeps
+abbrev pub Goes : Room → List ℕ → Room → List ℕ → Type 0
+Goes first whole room rest = (after : Room) → Puts room rest after → Puts first whole after
+
+pub goes-start : (room : Room) (whole : List ℕ) → Goes room whole room whole
+goes-start room whole after p = p
+
+pub goes-turn : {first room next : Room} {whole piece rest : List ℕ} → Goes first whole room (piece ++ rest) → Puts room piece next
+    → Goes first whole next rest
+goes-turn g p after q = g after (puts-then p q)
+
+pub goes-end : {first room : Room} {whole : List ℕ} → Goes first whole room [] → Puts first whole room
+goes-end {room = room} g = g room (puts-none room)
 
 -- whoever writes `rest` from here on has then written `whole` from there on: what a loop keeps
 abbrev pub Going : List ℕ → ℕ → List ℕ → List ℕ → ℕ → List ℕ → Type 0

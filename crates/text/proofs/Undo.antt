@@ -14,10 +14,10 @@ use Rattle.text.proofs.ClassLaws.{is_digit_lem}
 use Rattle.text.specs.Reading.{two_digits_of, digits_from, decimal_of}
 use Rattle.text.specs.Writing.{two_text, decimal_text}
 use Rattle.text.proofs.Tens.{one-digit, more-digits}
-use Rattle.text.specs.declared.Number.TheVariants.{Is}
+use Rattle.std.specs.Prelude.{Some}
 
 -- two digits of a number below 100
-pub two-undone : (n : ℕ) (rest : List ℕ) → n < 100 → two_digits_of (two_text n ++ rest) ≡ Is n 2
+pub two-undone : (n : ℕ) (rest : List ℕ) → n < 100 → two_digits_of (two_text n ++ rest) ≡ Some (n, 2)
 unfolding two_digits_of
 two-undone n rest h =
     let e : (48 + n / 10 - 48) * 10 + (48 + n % 10 - 48) ≡ n = omega arith in
@@ -83,14 +83,14 @@ few-digits (suc k) n h =
     (eq-zero-or-pos (n - 9))
 
 -- no digit comes
-stopped : (more value count : ℕ) (rest : List ℕ) → is_digit (get_or rest 0 0) ≡ false → digits_from more value count rest ≡ Is value count
+stopped : (more value count : ℕ) (rest : List ℕ) → is_digit (get_or rest 0 0) ≡ false → digits_from more value count rest ≡ Some (value, count)
 unfolding digits_from
 stopped more value count [] h = refl
 stopped more value count (b ∷ bs) h = rw h
 
 -- a number of at most seven digits
 pub decimal-undone : (n : ℕ) (rest : List ℕ) → n < 10 ^ 7 → is_digit (get_or rest 0 0) ≡ false
-    → decimal_of (decimal_text n ++ rest) ≡ Is n (length (decimal_text n))
+    → decimal_of (decimal_text n ++ rest) ≡ Some (n, (length (decimal_text n)))
 unfolding decimal_of is_digit
 decimal-undone zero rest h e = rw (one-digit zero (omega arith)) (rw e)
 decimal-undone (suc m) rest h e =

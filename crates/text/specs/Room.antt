@@ -2,6 +2,7 @@
 -- defined for every room. A piece after a piece is the two pieces joined, whether they fit or not.
 use Rattle.std.specs.Prelude.{ℕ, ◌+◌, min, max, ◌≡◌, List, ◌++◌, length, drop}
 use Rattle.std.proofs.lemmas.List.Edits.{sets}
+use Rattle.text.specs.declared.room.Room.{Room}
 
 -- the index `count` bytes on from `at`, but not past the room's end
 abbrev pub reach : ℕ → ℕ → ℕ → ℕ
@@ -16,3 +17,8 @@ pub record Written (room : List ℕ) (at : ℕ) (piece after : List ℕ) (next :
 pub record Whole (text room after· : List ℕ) (r : ℕ) : Type 0 where
   pub ends : r ≡ length text
   pub bytes : after· ≡ text ++ drop r room
+
+-- a piece put into a room at its index, which then is the next; the room lends the same bytes
+pub record Puts (before : Room) (piece : List ℕ) (after· : Room) : Type 0 where
+  pub written : Written before.bytes.now before.at piece after·.bytes.now after·.at
+  pub same : after·.bytes.ghost_name ≡ before.bytes.ghost_name

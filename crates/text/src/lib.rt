@@ -1,34 +1,32 @@
 // Text as bytes: classes of bytes, numbers read, and pieces of text put into lent room.
 #![tactic(auto)]
 
+pub mod room;
+
 ghost use Rattle.std.specs.Prelude.{◌≡◌, [], ◌∷◌, get_or};
 ghost use Rattle.text.specs.Class.{is_digit, is_letter, is_alnum};
 ghost use Rattle.text.specs.Room.{Written};
 ghost use Rattle.text.specs.Reading.{two_digits_of, digits_from, decimal_of};
 ghost use Rattle.text.specs.Writing.{two_text, decimal_text};
 
-// What reading a number at the start of a text finds: the number and how many bytes it takes.
-#[derive(Clone, Copy)]
-pub enum Number {
-    Is(u32, usize),
-    Wrong,
-}
-
 // 0 to 9.
+#[tactic(auto, unfolding(crate::specs::Class::is_digit))]
 pub fn is_digit(b: u8) -> bool
     ensures { result ≡ is_digit b }
 {
-    b'0' <= b && b <= b'9'
+    b.is_ascii_digit()
 }
 
 // A to Z.
+#[tactic(auto, unfolding(crate::specs::Class::is_letter))]
 pub fn is_letter(b: u8) -> bool
     ensures { result ≡ is_letter b }
 {
-    b'A' <= b && b <= b'Z'
+    b.is_ascii_uppercase()
 }
 
 // A letter or a digit.
+#[tactic(auto, unfolding(crate::specs::Class::is_alnum))]
 pub fn is_alnum(b: u8) -> bool
     ensures { result ≡ is_alnum b }
 {
@@ -39,59 +37,54 @@ pub fn is_alnum(b: u8) -> bool
 pub fn byte_at(s: &[u8], at: usize) -> u8
     ensures { result ≡ get_or s.now at 0 }
 {
-    if s.len() <= at {
-        return 0;
-    }
-    s[at]
+    s.get(at).copied().unwrap_or(0)
 }
 
-// Exactly two digits.
-pub fn two_digits(s: &[u8]) -> Number
+// The number that exactly two digits write at the start of a text, and how many bytes they take.
+#[tactic(auto, unfolding(crate::specs::Reading::two_digits_of))]
+pub fn two_digits(s: &[u8]) -> Option<(u32, usize)>
     ensures { result ≡ two_digits_of s.now }
 {
     let tens = byte_at(s, 0);
     let ones = byte_at(s, 1);
-    if is_digit(tens) {
-        if is_digit(ones) {
-            return Number::Is((tens - b'0') as u32 * 10 + (ones - b'0') as u32, 2);
-        }
+    if is_digit(tens) && is_digit(ones) {
+        Some(((tens - b'0') as u32 * 10 + (ones - b'0') as u32, 2))
+    } else {
+        None
     }
-    Number::Wrong
 }
 
-// The number that a text's leading digits write, at most seven of them.
-fn digits(s: &[u8]) -> Number
+// The number that a text's leading digits write, at most seven of them, and how many they are.
+fn digits(s: &[u8]) -> Option<(u32, usize)>
     ensures { result ≡ digits_from 7 0 0 s.now }
 {
     let mut value: u32 = 0;
-    let mut i: usize = 0;
-    while i < s.len() {
-        let b = s[i];
-        if !is_digit(b) {
-            return Number::Is(value, i);
+    for (i, b) in s.iter().enumerate() {
+        if !is_digit(*b) {
+            return Some((value, i));
         }
         if i == 7 {
-            return Number::Wrong;
+            return None;
         }
-        value = value * 10 + (b - b'0') as u32;
-        i += 1;
+        value = value * 10 + (*b - b'0') as u32;
     }
-    Number::Is(value, i)
+    Some((value, s.len()))
 }
 
-// A decimal number without leading zero, of at most seven digits.
-pub fn decimal(s: &[u8]) -> Number
+// The number without leading zero, of at most seven digits, at the start of a text, and how many bytes it takes.
+#[tactic(auto, unfolding(crate::specs::Reading::decimal_of))]
+pub fn decimal(s: &[u8]) -> Option<(u32, usize)>
     ensures { result ≡ decimal_of s.now }
 {
     let first = byte_at(s, 0);
     if !is_digit(first) {
-        return Number::Wrong;
+        return None;
     }
     if first == b'0' {
         if is_digit(byte_at(s, 1)) {
-            return Number::Wrong;
+            return None;
         }
-        return Number::Is(0, 1);
+        return Some((0, 1));
     }
     digits(s)
 }
@@ -112,10 +105,8 @@ pub fn put_bytes(room: &mut [u8], at: usize, piece: &[u8]) -> usize
     ensures { Written room.old at piece.now room.new result }
 {
     let mut next = at;
-    let mut i: usize = 0;
-    while i < piece.len() {
-        next = put_byte(room, next, piece[i]);
-        i += 1;
+    for b in piece {
+        next = put_byte(room, next, *b);
     }
     next
 }

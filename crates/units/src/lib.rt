@@ -7,7 +7,7 @@ ghost use Rattle.units.specs.State.{GridOf, units_from, fresh_unit, none_held, u
 use numbers::{ChannelNumber, UnitNumber};
 
 // A unit is free or held by the job in one place; one that it holds may be being returned, and a free one is never.
-#[derive(Clone, Copy)]
+#[derive(Clone, Copy, PartialEq, Eq)]
 pub enum Holder {
     Free,
     Held(u8),
@@ -15,7 +15,7 @@ pub enum Holder {
 }
 
 // A unit: who holds it, its two marks, and its interlock.
-#[derive(Clone, Copy)]
+#[derive(Clone, Copy, PartialEq, Eq)]
 pub struct Unit {
     pub holder: Holder,
     pub down: bool,
@@ -24,7 +24,7 @@ pub struct Unit {
 }
 
 // The two marks of a unit.
-#[derive(Clone, Copy)]
+#[derive(Clone, Copy, PartialEq, Eq)]
 pub enum Mark {
     Down,
     Reserved,
@@ -74,15 +74,11 @@ pub fn unit_at(units: Units, channel: ChannelNumber, unit: UnitNumber) -> Unit
     ensures { result ≡ unit_in units.of channel.0 unit.0 }
 {
     let grid = grid_of(units);
-    let c = channel.0 as usize;
-    let u = unit.0 as usize;
-    if 15 < c {
-        return fresh_unit(false);
+    if channel.0 < 16 && unit.0 < 16 {
+        grid[channel.0 as usize][unit.0 as usize]
+    } else {
+        fresh_unit(false)
     }
-    if 15 < unit.0 {
-        return fresh_unit(false);
-    }
-    grid[c][u]
 }
 
 // The state with one unit changed: here alone a unit's state changes. Where the cell has no such unit
@@ -93,64 +89,45 @@ pub fn with_unit(units: Units, channel: ChannelNumber, unit: UnitNumber, state: 
     let mut next = grid_of(units);
     let c = channel.0 as usize;
     let u = unit.0 as usize;
-    if 15 < c {
-        return units;
+    if c < 16 && u < 16 {
+        next[c][u] = state;
+        units_from(next)
+    } else {
+        units
     }
-    if 15 < u {
-        return units;
-    }
-    next[c][u] = state;
-    units_from(next)
 }
 
 // Whether a unit is free.
 pub fn is_free(holder: Holder) -> bool
     ensures { result ≡ is_free holder }
 {
-    match holder {
-        Holder::Free => true,
-        Holder::Held(_) => false,
-        Holder::Returning(_) => false,
-    }
+    holder == Holder::Free
 }
 
 // Whether a unit is being returned.
 pub fn is_returning(holder: Holder) -> bool
     ensures { result ≡ is_returning holder }
 {
-    match holder {
-        Holder::Free => false,
-        Holder::Held(_) => false,
-        Holder::Returning(_) => true,
-    }
+    matches!(holder, Holder::Returning(_))
 }
 
 // Whether a unit is assignable: free and unmarked.
+#[tactic(auto, unfolding(crate::specs::State::assignable))]
 pub fn is_assignable(unit: Unit) -> bool
     ensures { result ≡ assignable unit }
 {
-    if unit.down {
-        return false;
-    }
-    if unit.reserved {
-        return false;
-    }
-    let holder = unit.holder;
-    is_free(holder)
+    !unit.down && !unit.reserved && is_free(unit.holder)
 }
 
 // A unit with one mark set or cleared.
 pub fn marked_unit(unit: Unit, mark: Mark, on: bool) -> Unit
     ensures { result ≡ marked_unit mark on unit }
 {
-    let mut next = unit;
     match mark {
-        Mark::Down => {
-            next.down = on;
-        }
-        Mark::Reserved => {
-            next.reserved = on;
-        }
+        Mark::Down => Unit { down: on, ..unit },
+        Mark::Reserved => Unit {
+            reserved: on,
+            ..unit
+        },
     }
-    next
 }

@@ -1,17 +1,19 @@
 -- A text from a position on, one byte further: what each test and the number then say; and texts that are the same.
 -- Assumes nothing.
 use Prim.Native.Nat.{ℕ, zero, suc, ◌+◌, ◌-◌, ◌*◌, ◌≤◌, ◌<◌}
-use mathlib.Core.Path.{◌≡◌, refl, sym, ap}
-use mathlib.Core.Bool.{Bool, true, false, cond, ◌&&◌}
+use mathlib.Core.Path.{◌≡◌, refl, sym, ap, ◌∙◌}
+use mathlib.Core.Bool.{Bool, true, false, cond, ◌&&◌, not}
 use mathlib.Core.List.{List, [], ◌∷◌, ◌++◌}
 use native.Mathlib.Nat.{lt_of_lt_of_le, add-zero, add-suc, le_refl}
 use native.Mathlib.Numerals.{add-one}
 use native.Mathlib.Omega.{arith}
 use lib.Dec.{eqb}
 use lib.ListN.{length, get_or, drop, take, drop_of_length-le}
-use lib.Seq.{drop-cons}
-use borrow.Author.Tests.{eqb-true, eq-eqb, ne_eqb, le-ltb, lt-ltb}
-use Rattle.numbers.proofs.Tests.{never, both}
+use lib.Seq.{drop-cons, length-take-le}
+use Rattle.std.specs.Prelude.{Option, unwrap_or, nat_lt}
+use Rattle.std.specs.List.{prefix_len, position, position_or_len}
+use borrow.Author.Tests.{eqb-true, eq-eqb, ne_eqb, le-ltb, lt-ltb, ltb-false}
+use Rattle.numbers.proofs.Tests.{never, both, by_bool}
 use Rattle.text.specs.Class.{is_digit}
 use Rattle.text.proofs.ClassLaws.{digit-bounds}
 use Rattle.words.specs.Words.{every, has, same, value, value_from, number_in, leading}
@@ -39,25 +41,11 @@ pub every_append : (p : ℕ → Bool) (s t : List ℕ) → every p s ≡ true �
 every_append p [] t h g = g
 every_append p (x ∷ s) t h g = let q = both (p x) (every p s) h in rw q.0 (every_append p s t q.1 g)
 
-module _ (l : List ℕ) (b i : ℕ) (h : i < length l) where
-  pub has_here : b ≡ get_or l i 0 → has (drop i l) b ≡ true
-  has_here e = rw (drop-step l i h, eq-eqb b (get_or l i 0) e)
-
-  pub has-later : (b ≡ get_or l i 0 → ⊥) → has (drop i l) b ≡ has (drop (i + 1) l) b
-  has-later e = rw (drop-step l i h, ne_eqb b (get_or l i 0) e)
+pub has-later : (l : List ℕ) (b i : ℕ) → i < length l → (b ≡ get_or l i 0 → ⊥) → has (drop i l) b ≡ has (drop (i + 1) l) b
+has-later l b i h e = rw (drop-step l i h, ne_eqb b (get_or l i 0) e)
 
 pub has_end : (l : List ℕ) (b i : ℕ) → length l ≤ i → has (drop i l) b ≡ false
 has_end l b i h = rw (drop_of_length-le l h)
-
-pub same-pass : (s t : List ℕ) (i : ℕ) → i < length s → i < length t → get_or s i 0 ≡ get_or t i 0
-    → same (drop i s) (drop i t) ≡ same (drop (i + 1) s) (drop (i + 1) t)
-same-pass s t i h g e = rw (drop-step s i h, drop-step t i g, eq-eqb (get_or s i 0) (get_or t i 0) e)
-
-pub same-fail : (s t : List ℕ) (i : ℕ) → i < length s → i < length t → (get_or s i 0 ≡ get_or t i 0 → ⊥) → same (drop i s) (drop i t) ≡ false
-same-fail s t i h g e = rw (drop-step s i h, drop-step t i g, ne_eqb (get_or s i 0) (get_or t i 0) e)
-
-pub same_end : (s t : List ℕ) (i : ℕ) → length s ≤ i → length t ≤ i → same (drop i s) (drop i t) ≡ true
-same_end s t i h g = rw (drop_of_length-le s h, drop_of_length-le t g)
 
 -- a text is the same as itself
 pub same_self : (s : List ℕ) → same s s ≡ true
@@ -103,17 +91,6 @@ value-step s i n h = rw (drop-step s i h)
 pub value-end : (s : List ℕ) (i n : ℕ) → length s ≤ i → value_from n (drop i s) ≡ n
 value-end s i n h = rw (drop_of_length-le s h)
 
--- the bytes in front that pass a test, from a position on
-module _ (p : ℕ → Bool) (t : List ℕ) (i : ℕ) where
-  pub leading-pass : i < length t → p (get_or t i 0) ≡ true → i + length (leading p (drop i t)) ≡ (i + 1) + length (leading p (drop (i + 1) t))
-  leading-pass h e = rw (drop-step t i h, e) (omega arith)
-
-  pub leading-stop : i < length t → p (get_or t i 0) ≡ false → i + length (leading p (drop i t)) ≡ i
-  leading-stop h e = rw (drop-step t i h, e) (omega arith)
-
-  pub leading_end : length t ≤ i → i + length (leading p (drop i t)) ≡ i
-  leading_end h = rw (drop_of_length-le t h) (omega arith)
-
 pub leading-front : (p : ℕ → Bool) (t : List ℕ) → take (length (leading p t)) t ≡ leading p t
 leading-front p [] = refl
 leading-front p (b ∷ t) = test (leading-front p t) (p b)
@@ -131,6 +108,31 @@ leading-most p (b ∷ t) = test (leading-most p t) (p b)
     test ih true = omega arith
     test ih false = omega arith
 
+-- how many lead: as many as std counts from the front, all of them within the text
+pub leading-prefix : (p : ℕ → Bool) (t : List ℕ) → prefix_len p t ≡ length (leading p t)
+leading-prefix p [] = refl
+leading-prefix p (b ∷ t) = test (leading-prefix p t) (p b)
+  where
+    test : prefix_len p t ≡ length (leading p t) → (x : Bool) → cond x (1 + prefix_len p t) 0 ≡ length (cond x (b ∷ leading p t) [])
+    test ih true = omega arith
+    test ih false = refl
+
+-- and as many as std takes
+pub leading-taken : (p : ℕ → Bool) (t : List ℕ) → length (take (prefix_len p t) t) ≡ length (leading p t)
+leading-taken p t =
+    let e = leading-prefix p t in
+    length-take-le (prefix_len p t) t (omega (arith, leading-most p t)) ∙ e
+
+-- the place of the first byte that passes, the text's length if none does
+pub place-or-end : (p : ℕ → Bool) (t : List ℕ) (r : Option ℕ) → r ≡ position p t → unwrap_or r (length t) ≡ length (leading (λ b. not (p b)) t)
+place-or-end p t r e =
+    let f : ℕ → Bool = λ b. not (p b) in
+    let n = leading-prefix (λ b. not (p b)) t in
+    by_bool (nat_lt (position_or_len p t) (length t))
+    (λ h. rw (e, h) n)
+    (λ h. let k : length t ≤ position_or_len p t = ltb-false (position_or_len p t) (length t) h in
+    rw (e, h) (omega (arith, leading-most (λ b. not (p b)) t)))
+
 -- a text of at most six digits, and a longer one
 pub number_short : (s : List ℕ) → length s ≤ 6 → number_in s ≡ value s
 unfolding number_in
@@ -139,25 +141,6 @@ number_short s h = rw (le-ltb 6 (length s) h)
 pub number-long : (s : List ℕ) → 6 < length s → number_in s ≡ 0
 unfolding number_in
 number-long s h = rw (lt-ltb 6 (length s) h)
-
--- every byte passes where as many as there are lead, and else not
-pub every-leads : (p : ℕ → Bool) (s : List ℕ) → length (leading p s) ≡ length s → every p s ≡ true
-every-leads p [] h = refl
-every-leads p (b ∷ s) h = test (p b) (every-leads p s) h
-  where
-    test : (x : Bool) → (length (leading p s) ≡ length s → every p s ≡ true) → length (cond x (b ∷ leading p s) []) ≡ suc (length s)
-        → x && every p s ≡ true
-    test true ih h = ih (omega arith)
-    test false ih h = absurd (omega arith)
-
-pub every-leads-not : (p : ℕ → Bool) (s : List ℕ) → (length (leading p s) ≡ length s → ⊥) → every p s ≡ false
-every-leads-not p [] h = absurd (h refl)
-every-leads-not p (b ∷ s) h = test (p b) (every-leads-not p s) h
-  where
-    test : (x : Bool) → ((length (leading p s) ≡ length s → ⊥) → every p s ≡ false)
-        → (length (cond x (b ∷ leading p s) []) ≡ suc (length s) → ⊥) → x && every p s ≡ false
-    test true ih h = ih (λ e. h (ap suc e))
-    test false ih h = refl
 
 -- digits write a number below ten to their count
 abbrev pub tens : ℕ → ℕ

@@ -1,5 +1,7 @@
 -- Tests over a whole text, and the number that its digits write.
-use Rattle.std.specs.Prelude.{ℕ, ◌+◌, ◌-◌, ◌*◌, Bool, true, false, cond, ◌&&◌, ◌||◌, not, List, [], ◌∷◌, eqb, ltb, length}
+use Rattle.std.specs.Prelude.{ℕ, ◌+◌, ◌-◌, ◌*◌, Bool, cond, ◌||◌, not, List, [], ◌∷◌, eqb, ltb, length}
+use Rattle.std.specs.List.{list_all, list_any}
+use Rattle.std.specs.Cmp.Lexicographic.{pointwise}
 use Rattle.numbers.specs.Quoted.{byte}
 use Rattle.text.specs.Class.{is_digit, is_letter, is_alnum}
 use Rattle.words.specs.declared.Class.{Class}
@@ -14,20 +16,15 @@ passes Hyphened b = is_alnum b || eqb b (byte "-")
 
 -- every byte of a text passes a test
 abbrev pub every : (ℕ → Bool) → List ℕ → Bool
-every p [] = true
-every p (b ∷ s) = p b && every p s
+every = list_all
 
 -- a byte stands in a text
 abbrev pub has : List ℕ → ℕ → Bool
-has [] b = false
-has (x ∷ s) b = eqb b x || has s b
+has s b = list_any (eqb b) s
 
 -- two texts are the same
 abbrev pub same : List ℕ → List ℕ → Bool
-same [] [] = true
-same [] (y ∷ t) = false
-same (x ∷ s) [] = false
-same (x ∷ s) (y ∷ t) = eqb x y && same s t
+same = pointwise eqb
 
 -- a byte is another than this one
 abbrev pub isnt : ℕ → ℕ → Bool

@@ -6,7 +6,7 @@ ghost use Rattle.numbers.specs.Quoted.{byte};
 ghost use Rattle.words.specs.Words.{passes, every, has, same, isnt, leading, value, number_in};
 
 // A class of bytes: digits, letters, both, or both and the hyphen.
-#[derive(Clone, Copy)]
+#[derive(Clone, Copy, PartialEq, Eq)]
 pub enum Class {
     Digit,
     Letter,
@@ -30,95 +30,42 @@ pub fn is_of(class: Class, b: u8) -> bool
 pub fn leading_of(class: Class, s: &[u8]) -> usize
     ensures { result ≡ length (leading (passes class) s.now) }
 {
-    let mut i: usize = 0;
-    while i < s.len() {
-        if is_of(class, s[i]) {
-            i += 1;
-        } else {
-            return i;
-        }
-    }
-    i
+    s.iter().take_while(|b| is_of(class, **b)).count()
 }
 
-// Whether each byte of a text is of a class: as many as there are begin it.
+// Whether each byte of a text is of a class.
 pub fn all_of(class: Class, s: &[u8]) -> bool
     ensures { result ≡ every (passes class) s.now }
 {
-    if leading_of(class, s) == s.len() {
-        return true;
-    }
-    false
+    s.iter().all(|b| is_of(class, *b))
 }
 
 // Whether a byte stands in a text.
 pub fn is_in(letters: &[u8], b: u8) -> bool
     ensures { result ≡ has letters.now b }
 {
-    let mut i: usize = 0;
-    while i < letters.len() {
-        if b == letters[i] {
-            return true;
-        }
-        i += 1;
-    }
-    false
+    letters.contains(&b)
 }
 
 // Whether each byte of a text is one of these letters.
 pub fn all_in(letters: &[u8], s: &[u8]) -> bool
     ensures { result ≡ every (has letters.now) s.now }
 {
-    let mut i: usize = 0;
-    while i < s.len() {
-        if is_in(letters, s[i]) {
-            i += 1;
-        } else {
-            return false;
-        }
-    }
-    true
+    s.iter().all(|b| is_in(letters, *b))
 }
 
 // Whether two texts are the same.
 pub fn is_same(s: &[u8], t: &[u8]) -> bool
     ensures { result ≡ same s.now t.now }
 {
-    if s.len() != t.len() {
-        return false;
-    }
-    let mut i: usize = 0;
-    while i < s.len() {
-        if s[i] != t[i] {
-            return false;
-        }
-        i += 1;
-    }
-    true
+    s == t
 }
 
 // Where a byte first stands, the text's length if it does not.
 pub fn until(s: &[u8], b: u8) -> usize
     ensures { result ≡ length (leading (isnt b) s.now) }
 {
-    let mut at: usize = 0;
-    while at < s.len() {
-        if s[at] == b {
-            return at;
-        }
-        at += 1;
-    }
-    at
-}
-
-// What a digit is worth.
-fn digit_value(b: u8) -> u32
-    ensures { result ≡ b - byte "0" }
-{
-    if b < b'0' {
-        return 0;
-    }
-    (b - b'0') as u32
+    s.iter().position(|x| *x == b).unwrap_or(s.len())
 }
 
 // The number that digits write: six of them, whatever bytes they are, stay within 32 bits.
@@ -127,20 +74,16 @@ fn value_of(s: &[u8]) -> u32
     ensures { result ≡ value s.now }
 {
     let mut n: u32 = 0;
-    let mut i: usize = 0;
-    while i < s.len() {
-        n = n * 10 + digit_value(s[i]);
-        i += 1;
+    for b in s {
+        n = n * 10 + b.saturating_sub(b'0') as u32;
     }
     n
 }
 
 // The number that at most six digits write; 0 for a longer text.
+#[tactic(auto, unfolding(crate::specs::Words::number_in))]
 pub fn number(s: &[u8]) -> u32
     ensures { result ≡ number_in s.now }
 {
-    if 6 < s.len() {
-        return 0;
-    }
-    value_of(s)
+    if 6 < s.len() { 0 } else { value_of(s) }
 }

@@ -1,7 +1,7 @@
 -- `answer_pieces::put_no` meets its contract: one piece after the other. Assumes nothing.
-use Rattle.text.proofs.RoomLaws.{and_then}
+use Rattle.text.proofs.RoomLaws.{puts-then}
 use Rattle.answer_pieces.proofs.put_no.Goals as goal
 
 pub returns : goal.returns
 returns c =
-    and_then c.put_bytes-word.ensures (rw c.number_of.ensures at c.put_decimal.ensures)
+    puts-then c.put_bytes.ensures (rw c.number_of.ensures at c.put_decimal.ensures)

@@ -1,7 +1,7 @@
 -- `answer_pieces::put_unit` meets its contract: number, slash, number. Assumes nothing.
-use Rattle.text.proofs.RoomLaws.{and_then}
+use Rattle.text.proofs.RoomLaws.{puts-then}
 use Rattle.answer_pieces.proofs.put_unit.Goals as goal
 
 pub returns : goal.returns
 returns c =
-    and_then c.put_two-number.ensures (and_then c.put_byte-slash.ensures c.put_two.ensures)
+    puts-then c.put_two.ensures (puts-then c.put_byte.ensures c.put_two-2.ensures)

@@ -1,25 +1,21 @@
--- `numbers::kind_of` meets its contract: one row after the other, by the laws of the list of kinds. Assumes nothing.
-use Prim.Native.Nat.{◌-◌}
-use mathlib.Core.Path.{refl}
-use native.Mathlib.Omega.{arith}
-use Rattle.numbers.proofs.KindLaws.{row-found, row-passed, rows-over}
-use Rattle.numbers.specs.Kinds.{kind_of}
+-- `numbers::kind_of` meets its contract: the search finds the first kind whose code is the list of the two bytes, and
+-- the definition compares that list byte by byte. Assumes nothing.
+use Rattle.std.proofs.Common.{rules, tests, Bool, true, false, ◌&&◌, ◌≡◌, refl, ◌∙◌, [], ◌∷◌, eqb}
+use Rattle.std.proofs.lemmas.Iterator.{YieldsList-from_slice}
+use Rattle.std.proofs.lemmas.Iterator.Search.{find_from_yields_List}
+use Rattle.std.specs.Cmp.Lexicographic.{pointwise}
+use Rattle.numbers.specs.Kinds.{by_row, kind_of, code_of}
+use Rattle.numbers.specs.Quoted.{is2}
 use Rattle.numbers.proofs.kind_of.Goals as goal
 
-pub loop-row-init : goal.loop-row-init
-unfolding kind_of
-loop-row-init c = (omega arith, refl)
-
-pub returns-then-is_code : goal.returns-then-is_code
-returns-then-is_code c =
-    row-found c.args.a c.args.b c.loop-row.row c.loop-row-test.true c.loop-row.invariant.1 c.is_code.ensures c.if-is_code.true
-
-pub loop-row-preserved : goal.loop-row-preserved
-loop-row-preserved c = (
-  omega (arith, c.loop-row-test.true),
-  row-passed c.args.a c.args.b c.loop-row.row c.loop-row-test.true c.loop-row.invariant.1 c.is_code.ensures c.if-is_code.false,
-)
+and-true : (b : Bool) → (b && true) ≡ b
+and-true true = refl
+and-true false = refl
 
 pub returns : goal.returns
+unfolding kind_of is2
 returns c =
-    rows-over c.args.a c.args.b c.loop-row.row c.loop-row-test.false c.loop-row.invariant.1
+    c.copied.ensures
+    ∙ find_from_yields_List (λ k. pointwise eqb (c.args.a ∷ c.args.b ∷ []) (code_of k)) _ _ _ c.find.ensures.ran
+    (YieldsList-from_slice by_row cc) (λ x b q k. search (rules, tests))
+    ∙ simp and-true

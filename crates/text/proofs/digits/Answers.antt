@@ -2,7 +2,7 @@
 -- is what is read of the whole. Assumes nothing.
 use lib.ListN.{get_or}
 use mathlib.Core.Path.{sym, ◌∙◌}
-use Rattle.text.proofs.Scan.{stop, full, next, ended, more-fits}
+use Rattle.text.proofs.Scan.{stop, full, next, ended}
 use Rattle.text.proofs.ClassLaws.{digit-bounds}
 use native.Mathlib.Omega.{arith}
 use Rattle.text.proofs.digits.Goals as goal
@@ -15,17 +15,9 @@ pub returns-then-i-eq7 : goal.returns-then-i-eq7
 returns-then-i-eq7 c =
     full c.loop-i.invariant c.loop-i-test.true (sym c.is_digit.ensures ∙ c.if-not-is_digit.false) c.if-i-eq7.true
 
-pub overflow_mul-value : goal.overflow_mul-value
-overflow_mul-value c = record { fits = omega (arith, more-fits c.loop-i.invariant (omega arith)) }
-
 pub overflow_sub-value : goal.overflow_sub-value
 overflow_sub-value c =
     (digit-bounds (get_or c.args.s.now c.loop-i.i 0) (sym c.is_digit.ensures ∙ c.if-not-is_digit.false)).0
-
-pub overflow_add-value : goal.overflow_add-value
-overflow_add-value c =
-    let b = digit-bounds (get_or c.args.s.now c.loop-i.i 0) (sym c.is_digit.ensures ∙ c.if-not-is_digit.false) in
-    record { fits = omega (arith, more-fits c.loop-i.invariant (omega arith)) }
 
 pub loop-i-preserved : goal.loop-i-preserved
 loop-i-preserved c =

@@ -1,23 +1,14 @@
--- `words::leading_of` meets its contract. The loop's invariant: the first i bytes are of the class, so how many lead
--- is i and those that lead from i on. Assumes nothing.
-use mathlib.Core.Path.{sym, ◌∙◌}
-use native.Mathlib.Omega.{arith}
+-- `words::leading_of` meets its contract: the bytes that are taken are those that lead. Assumes nothing.
+use Rattle.std.proofs.Common.{rules, tests, ◌∙◌}
+use Rattle.std.proofs.lemmas.Iterator.{YieldsList-from_slice}
+use Rattle.std.proofs.lemmas.Iterator.Consumers.{count_from_yields_List}
+use Rattle.std.proofs.lemmas.Iterator.Search.{YieldsList-from_take_while}
 use Rattle.words.specs.Words.{passes}
-use Rattle.words.proofs.WordLaws.{leading-pass, leading-stop, leading_end}
+use Rattle.words.proofs.WordLaws.{leading-taken}
 use Rattle.words.proofs.leading_of.Goals as goal
-
-pub loop-i-preserved : goal.loop-i-preserved
-loop-i-preserved c = (
-  omega arith,
-  sym (leading-pass (passes c.args.class) c.args.s.now c.loop-i.i c.loop-i-test.true (sym c.is_of.ensures ∙ c.if-is_of.true))
-      ∙ c.loop-i.invariant.1,
-)
-
-pub returns-else-is_of : goal.returns-else-is_of
-returns-else-is_of c =
-    sym (leading-stop (passes c.args.class) c.args.s.now c.loop-i.i c.loop-i-test.true (sym c.is_of.ensures ∙ c.if-is_of.false))
-    ∙ c.loop-i.invariant.1
 
 pub returns : goal.returns
 returns c =
-    sym (leading_end (passes c.args.class) c.args.s.now c.loop-i.i c.loop-i-test.false) ∙ c.loop-i.invariant.1
+    count_from_yields_List c.take_while.result _ c.count.ensures.ran
+    (YieldsList-from_take_while _ (passes c.args.class) (YieldsList-from_slice c.args.s.now cc) c.take_while.ensures.closure c.take_while.ensures.done (λ x b q k. search (rules, tests)))
+    ∙ leading-taken (passes c.args.class) c.args.s.now
