@@ -14,14 +14,11 @@ use Rattle.numbers.proofs.Tests.{by_bool, never}
 use Rattle.numbers.specs.Limits.{most_codes}
 use Rattle.channels.specs.declared.Channel.{Channel}
 use Rattle.channels.specs.Channels.{no_channels, no_down, no_codes}
-use Rattle.configuration.specs.declared.section.Channels.{Channels}
-use Rattle.configuration.specs.declared.section.Downs.{Downs}
-use Rattle.configuration.specs.declared.section.Codes.{Codes}
-use Rattle.configuration.specs.declared.TextVerdict.{TextVerdict}
-use Rattle.configuration.specs.declared.TextVerdict.TheVariants as Verdict'
-use Rattle.configuration.specs.declared.Answer.{Answer}
-use Rattle.configuration.specs.Sections.{bad_codes, channels_from, downs_from, codes_from}
-use Rattle.configuration.specs.Configured.{refused, good, and_no_more, third_section, with_codes, after_downs, after_channels, configuration_of}
+use Rattle.std.specs.Prelude.{Ok, Err}
+use Rattle.channels.specs.declared.Configuration.{Configuration}
+use Rattle.configuration.specs.declared.section.Section.{Section}
+use Rattle.configuration.specs.Sections.{Read, bad, channels_from, downs_from, codes_from}
+use Rattle.configuration.specs.Configured.{Answer, refused, good, and_no_more, third_section, with_codes, after_downs, after_channels, configuration_of}
 use Rattle.configuration.proofs.AnySection.{ChannelsAt, channel_section, DownsAt, down_section, CodesAt, code_section}
 use Rattle.configuration_form.specs.Form.{Item, Due, Right, InForm, FirstBad}
 use Rattle.configuration_form.specs.Means.{Said, Means}
@@ -31,20 +28,24 @@ use Rattle.configuration_form.proofs.ChannelLaws.{channels_due, channel-step}
 use Rattle.configuration_form.proofs.DownLaws.{downs_due, down_step}
 use Rattle.configuration_form.proofs.CodeLaws.{codes_due, code_step}
 
-abbrev is_good : TextVerdict → Bool
-is_good Verdict'.Good = true
-is_good (Verdict'.Bad line) = false
+-- what an answer configures, and the line that it names
+abbrev is_good : Answer → Bool
+is_good (Ok configured) = true
+is_good (Err line) = false
 
-abbrev line_of : TextVerdict → ℕ
-line_of Verdict'.Good = 0
-line_of (Verdict'.Bad line) = line
+abbrev line_of : Answer → ℕ
+line_of (Ok configured) = 0
+line_of (Err line) = line.0
+
+good-one : {a b : Configuration} → ◌≡◌ {A = Answer} (Ok a) (Ok b) → a ≡ b
+good-one e = cc
 
 means-bad : {s : List ℕ} {number : ℕ} → FirstBad s number → Means s (refused number)
 means-bad {s} {number} b =
     record {
       said = Said.bads number refl;
-      written = λ of marks word e. never (ap (λ (a : Answer). is_good a.verdict) e) refl;
-      first = λ n e. subst (FirstBad s) (ap (λ (a : Answer). line_of a.verdict) e) b;
+      written = λ of marks word e. never (ap is_good e) refl;
+      first = λ n e. subst (FirstBad s) (ap line_of e) b;
     }
 
 means-good : {s : List ℕ} {of : List Channel} {marks : List Bool} {word : ℕ} → InForm s of marks word → Means s (good of marks word)
@@ -52,11 +53,12 @@ means-good {s} {of} {marks} {word} w =
     record {
       said = Said.goods of marks word refl;
       written = λ o m x e.
-          let p : of ≡ o = ap (λ (a : Answer). a.configuration.channels) e in
-          let q : marks ≡ m = ap (λ (a : Answer). a.configuration.down) e in
-          let r : word ≡ x = ap (λ (a : Answer). a.configuration.codes) e in
+          let c = good-one e in
+          let p : of ≡ o = ap (λ (a : Configuration). a.channels) c in
+          let q : marks ≡ m = ap (λ (a : Configuration). a.down) c in
+          let r : word ≡ x = ap (λ (a : Configuration). a.codes) c in
           rw (← p, ← q, ← r) w;
-      first = λ n e. never refl (ap (λ (a : Answer). is_good a.verdict) e);
+      first = λ n e. never refl (ap is_good e);
     }
 
 -- nothing is right behind the last code line
@@ -89,12 +91,12 @@ module _ (s : List ℕ) where
       follows : to < length s → drop to s ≡ [] → ⊥
       follows h q = let l : length (drop to s) ≡ 0 = ap length q in omega (arith, length-drop to s)
 
-  after-codes : (of : List Channel) (marks : List Bool) (third : Codes) → Through code_section (codes_due of marks) (code_step of marks) s third
+  after-codes : (of : List Channel) (marks : List Bool) (third : Read (Section ℕ)) → Through code_section (codes_due of marks) (code_step of marks) s third
       → Means s (with_codes of marks (and_no_more s third))
   unfolding and_no_more
   after-codes of marks third (Through.good line to last e far) =
-      subst (λ (r : Codes). Means s (with_codes of marks (and_no_more s r))) (sym e) (no_more of marks line to last far)
-  after-codes of marks third (Through.bad number e b) = subst (λ (r : Codes). Means s (with_codes of marks (and_no_more s r))) (sym e) (means-bad b)
+      subst (λ (r : Read (Section ℕ)). Means s (with_codes of marks (and_no_more s r))) (sym e) (no_more of marks line to last far)
+  after-codes of marks third (Through.bad number e b) = subst (λ (r : Read (Section ℕ)). Means s (with_codes of marks (and_no_more s r))) (sym e) (means-bad b)
 
   -- the second section was read, and then the third follows
   with-third : (of : List Channel) (line to : ℕ) (last : DownsAt) → SoFar s line to (downs_due of 0 last)
@@ -104,18 +106,18 @@ module _ (s : List ℕ) where
       counted code_section (codes_due of last.of) (code_step of last.of) most_codes (omega arith) (downs_due of 0 last)
       (record { next = 0; of = no_codes })
       (λ n h. Right.code_count h) only (λ o m w c. c)
-      (λ (third : Codes). Means s (with_codes of last.of third)) (bad_codes line) (and_no_more s) s line to far means-bad
+      (λ (third : Read (Section ℕ)). Means s (with_codes of last.of third)) (bad line) (and_no_more s) s line to far means-bad
       (after-codes of last.of)
     where
       only : (item : Item) (next : Due) → Right (downs_due of 0 last) item next → (n : ℕ) × (n ≤ most_codes) × (item ≡ Item.count n)
       only item next (Right.code_count {n = n} l) = (n, l, refl)
 
-  after-downs : (of : List Channel) (second : Downs) → Through (down_section of) (downs_due of) (down_step of) s second
+  after-downs : (of : List Channel) (second : Read (Section (List Bool))) → Through (down_section of) (downs_due of) (down_step of) s second
       → Means s (after_downs s of second)
   unfolding after_downs
   after-downs of second (Through.good line to last e far) =
-      subst (λ (r : Downs). Means s (after_downs s of r)) (sym e) (with-third of line to last far)
-  after-downs of second (Through.bad number e b) = subst (λ (r : Downs). Means s (after_downs s of r)) (sym e) (means-bad b)
+      subst (λ (r : Read (Section (List Bool))). Means s (after_downs s of r)) (sym e) (with-third of line to last far)
+  after-downs of second (Through.bad number e b) = subst (λ (r : Read (Section (List Bool))). Means s (after_downs s of r)) (sym e) (means-bad b)
 
   -- the first section was read, and then the second follows
   with_second : (line to : ℕ) (last : ChannelsAt) → SoFar s line to (channels_due 0 last)
@@ -130,11 +132,11 @@ module _ (s : List ℕ) where
       only : (item : Item) (next : Due) → Right (channels_due 0 last) item next → (n : ℕ) × (n ≤ 256) × (item ≡ Item.count n)
       only item next (Right.down_count {m = m} l) = (m, l, refl)
 
-  after-channels : (first : Channels) → Through channel_section channels_due channel-step s first → Means s (after_channels s first)
+  after-channels : (first : Read (Section (List Channel))) → Through channel_section channels_due channel-step s first → Means s (after_channels s first)
   unfolding after_channels
   after-channels first (Through.good line to last e far) =
-      subst (λ (r : Channels). Means s (after_channels s r)) (sym e) (with_second line to last far)
-  after-channels first (Through.bad number e b) = subst (λ (r : Channels). Means s (after_channels s r)) (sym e) (means-bad b)
+      subst (λ (r : Read (Section (List Channel))). Means s (after_channels s r)) (sym e) (with_second line to last far)
+  after-channels first (Through.bad number e b) = subst (λ (r : Read (Section (List Channel))). Means s (after_channels s r)) (sym e) (means-bad b)
 
 -- what the reader answers
 pub meaning : (s : List ℕ) → Means s (configuration_of s)

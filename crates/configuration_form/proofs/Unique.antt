@@ -8,19 +8,16 @@ use mathlib.Core.List.{List, [], ◌∷◌, ◌++◌, append_assoc}
 use native.Mathlib.Omega.{arith}
 use lib.ListN.{length, drop}
 use lib.Seq.{drop-append_seam}
-use Rattle.numbers.specs.declared.ChannelNumber.{ChannelNumber}
-use Rattle.numbers.specs.declared.UnitNumber.{UnitNumber}
 use Rattle.numbers.specs.declared.Kind.{Kind}
 use Rattle.numbers.specs.Limits.{most_codes}
-use Rattle.text.specs.declared.Number.TheVariants as Number'
 use Rattle.channels.specs.declared.Channel.{Channel}
-use Rattle.configuration.specs.declared.line.ChannelLine.TheVariants as ChannelLine'
-use Rattle.configuration.specs.declared.line.DownLine.TheVariants as DownLine'
+use Rattle.configuration.specs.declared.line.ChannelLine.{ChannelLine}
+use Rattle.configuration.specs.declared.line.DownLine.{DownLine}
 use Rattle.configuration.specs.Lines.{least, most, last_number, channel_line, down_line, code_line}
 use Rattle.configuration.specs.Configured.{refused, good, configuration_of}
 use Rattle.configuration_form.specs.Form.{Item, line, written, Due, Right, AllRight, Complete, Reads, InForm, FirstBad}
-use Rattle.configuration_form.proofs.LineLaws.{last-undone, channel-undone, down-undone}
-use Rattle.configuration_form.proofs.CodeLaws.{Code, is_same, code-undone}
+use Rattle.configuration_form.proofs.LineLaws.{one_line, last-undone, channel-undone, down-undone}
+use Rattle.configuration_form.proofs.CodeLaws.{Code, code-undone}
 use Rattle.configuration_form.specs.Means.{Said}
 use Rattle.configuration_form.proofs.Meaning.{meaning, nothing-due}
 
@@ -29,32 +26,23 @@ same_count : (high m n : ℕ) (s t : List ℕ) → high < 10 ^ 7 → m ≤ high 
 same_count high m n s t h a b e =
     let p = last-undone 0 high m s (omega arith) a h in
     let q = last-undone 0 high n t (omega arith) b h in
-    let r : Number'.Is m (length (line (Item.count m))) ≡ Number'.Is n (length (line (Item.count n))) = sym p ∙ ap (last_number 0 high) e ∙ q in
-    cc
+    ap (λ (r : ℕ × ℕ). r.0) (one_line (sym p ∙ ap (last_number 0 high) e ∙ q))
 
 -- and two channels, two down units, two codes
 same-channel : (c d : ℕ) (k l : Kind) (m n : ℕ) (s t : List ℕ) → c ≤ 15 → least k ≤ m → m ≤ most k → d ≤ 15 → least l ≤ n → n ≤ most l
     → line (Item.channel c k m) ++ s ≡ line (Item.channel d l n) ++ t → (c ≡ d) × (k ≡ l) × (m ≡ n)
 same-channel c d k l m n s t c15 km mk d15 ln nl e =
-    let r = sym (channel-undone c k m s c15 km mk) ∙ ap channel_line e ∙ channel-undone d l n t d15 ln nl in
-    let z = number (record { 0 = c }) (record { 0 = d }) r in
-    (ap (λ (x : ChannelNumber). x.0) z, cc, cc)
-  where
-    number : (x y : ChannelNumber) {i j : ℕ} → ChannelLine'.Is x k m i ≡ ChannelLine'.Is y l n j → x ≡ y
-    number x y e = cc
+    let r = one_line (sym (channel-undone c k m s c15 km mk) ∙ ap channel_line e ∙ channel-undone d l n t d15 ln nl) in
+    (ap (λ (x : ChannelLine). x.channel.0) r, ap (λ (x : ChannelLine). x.has.kind) r, ap (λ (x : ChannelLine). x.has.n) r)
 
 same-down : (c d u v : ℕ) (s t : List ℕ) → c ≤ 15 → u ≤ 15 → d ≤ 15 → v ≤ 15 → line (Item.down c u) ++ s ≡ line (Item.down d v) ++ t
     → (c ≡ d) × (u ≡ v)
 same-down c d u v s t c15 u15 d15 v15 e =
-    let r = sym (down-undone c u s c15 u15) ∙ ap down_line e ∙ down-undone d v t d15 v15 in
-    let w = numbers (record { 0 = c }) (record { 0 = d }) (record { 0 = u }) (record { 0 = v }) r in
-    (ap (λ (x : ChannelNumber). x.0) w.0, ap (λ (x : UnitNumber). x.0) w.1)
-  where
-    numbers : (x y : ChannelNumber) (a b : UnitNumber) → DownLine'.Is x a ≡ DownLine'.Is y b → (x ≡ y) × (a ≡ b)
-    numbers x y a b e = (cc, cc)
+    let r = one_line (sym (down-undone c u s c15 u15) ∙ ap down_line e ∙ down-undone d v t d15 v15) in
+    (ap (λ (x : DownLine). x.channel.0) r, ap (λ (x : DownLine). x.unit.0) r)
 
 same_code : (j k : ℕ) (s t : List ℕ) → Code j → Code k → line (Item.code j) ++ s ≡ line (Item.code k) ++ t → j ≡ k
-same_code j k s t a b e = is_same (sym (code-undone j s a) ∙ ap code_line e ∙ code-undone k t b)
+same_code j k s t a b e = one_line (sym (code-undone j s a) ∙ ap code_line e ∙ code-undone k t b)
 
 -- where a line is due, one text starts with one right line
 one : {due next end : Due} {i j : Item} (s t : List ℕ) → Right due i next → Right due j end → line i ++ s ≡ line j ++ t → (i ≡ j) × (next ≡ end)

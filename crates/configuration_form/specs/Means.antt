@@ -2,8 +2,7 @@
 -- bad or missing line.
 use Rattle.std.specs.Prelude.{ℕ, ◌≡◌, Bool, List}
 use Rattle.channels.specs.declared.Channel.{Channel}
-use Rattle.configuration.specs.declared.Answer.{Answer}
-use Rattle.configuration.specs.Configured.{refused, good}
+use Rattle.configuration.specs.Configured.{Answer, refused, good}
 use Rattle.configuration_form.specs.Form.{InForm, FirstBad}
 
 -- an answer is a configuration, or a line's number

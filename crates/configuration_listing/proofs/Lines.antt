@@ -2,7 +2,7 @@
 use Prim.Native.Nat.{ℕ, suc, ◌+◌, ◌-◌, ◌≤◌, ◌<◌}
 use mathlib.Core.Path.{◌≡◌, sym, ap, ◌∙◌}
 use mathlib.Core.Bool.{Bool, true, false}
-use mathlib.Core.List.{List, [], ◌++◌}
+use mathlib.Core.List.{[], ◌++◌}
 use native.Mathlib.Omega.{arith}
 use Rattle.numbers.specs.Quoted.{bytes}
 use Rattle.numbers.specs.declared.ChannelNumber.{ChannelNumber}
@@ -10,10 +10,7 @@ use Rattle.text.specs.Writing.{two_text, decimal_text}
 use Rattle.channels.specs.declared.Channel.{Channel}
 use Rattle.channels.specs.declared.Configuration.{Configuration}
 use Rattle.channels.specs.Channels.{channel_in}
-use Rattle.configuration.specs.declared.TextVerdict.{TextVerdict}
-use Rattle.configuration.specs.declared.Answer.{Answer}
-use Rattle.configuration.specs.Configured.{configuration_of}
-use Rattle.configuration_listing.specs.Listing.{is_listed, fresh_count, channel_text, lines_from, listing_of, answer_text}
+use Rattle.configuration_listing.specs.Listing.{is_listed, fresh_count, channel_text, lines_from}
 
 module _ (configuration : Configuration) (channel : ChannelNumber) {on : Channel} {t : Bool} (a : on ≡ channel_in configuration channel)
     (b : t ≡ is_listed on) where
@@ -38,8 +35,3 @@ module _ (configuration : Configuration) (c : ℕ) where
   pub lines_end : 16 ≤ c → lines_from configuration (16 - c) c ≡ []
   unfolding lines_from
   lines_end h = let e : 16 - c ≡ 0 = omega arith in rw e
-
--- the answer's text is the listing
-pub answered : (s : List ℕ) {a : Answer} (v : TextVerdict) → a ≡ configuration_of s → a.verdict ≡ v → answer_text v a.configuration ≡ listing_of s
-answered s {a} v e f =
-    ap (λ (w : TextVerdict). answer_text w a.configuration) (sym f) ∙ ap (λ (b : Answer). answer_text b.verdict b.configuration) e

@@ -1,5 +1,5 @@
 -- What the listing program prints.
-use Rattle.std.specs.Prelude.{ℕ, zero, suc, ◌+◌, ◌≤◌, ◌≡◌, Bool, false, cond, not, ◌&&◌, List, [], ◌++◌, length, take, drop}
+use Rattle.std.specs.Prelude.{ℕ, zero, suc, ◌+◌, ◌≤◌, ◌≡◌, Bool, false, cond, not, ◌&&◌, Option, Some, None, Ok, Err, List, [], ◌++◌, length, take, drop}
 use Rattle.numbers.specs.Quoted.{bytes}
 use Rattle.numbers.specs.Kinds.{is_drum}
 use Rattle.numbers.specs.Refusals.{number_of}
@@ -9,13 +9,10 @@ use Rattle.numbers.specs.declared.UnitNumber.{UnitNumber}
 use Rattle.text.specs.Room as Room
 use Rattle.text.specs.Writing.{two_text, decimal_text}
 use Rattle.channels.specs.declared.Fitted.{Fitted}
-use Rattle.channels.specs.declared.Fitted.TheVariants.{Nothing, With}
 use Rattle.channels.specs.declared.Channel.{Channel}
 use Rattle.channels.specs.declared.Configuration.{Configuration}
 use Rattle.channels.specs.Channels.{channel_in, has_unit}
-use Rattle.configuration.specs.declared.TextVerdict.{TextVerdict}
-use Rattle.configuration.specs.declared.TextVerdict.TheVariants.{Good, Bad}
-use Rattle.configuration.specs.Configured.{configuration_of}
+use Rattle.configuration.specs.Configured.{Answer, configuration_of}
 use Rattle.units.specs.declared.Unit.{Unit}
 use Rattle.units.specs.State.{unit_in, assignable}
 use Rattle.configuration_units.specs.Fresh.{fresh_units}
@@ -25,9 +22,9 @@ abbrev pub error_text : ℕ → List ℕ
 error_text line = bytes "ER " ++ (decimal_text (number_of BadConfiguration) ++ (bytes " LINE " ++ (decimal_text line ++ bytes "\n")))
 
 -- each channel but the drum's
-abbrev pub is_listed_by : Fitted → Bool
-is_listed_by Nothing = false
-is_listed_by (With kind n) = not (is_drum kind)
+abbrev pub is_listed_by : Option Fitted → Bool
+is_listed_by None = false
+is_listed_by (Some on) = not (is_drum on.kind)
 
 abbrev pub is_listed : Channel → Bool
 is_listed channel = is_listed_by channel.has
@@ -59,13 +56,13 @@ lines_from configuration zero c = []
 lines_from configuration (suc left) c = channel_text configuration (record { 0 = c }) ++ lines_from configuration left (c + 1)
 
 -- the text of an answer
-abbrev pub answer_text : TextVerdict → Configuration → List ℕ
-answer_text Good configuration = lines_from configuration 16 0
-answer_text (Bad line) configuration = error_text line
+abbrev pub answer_text : Answer → List ℕ
+answer_text (Ok configuration) = lines_from configuration 16 0
+answer_text (Err line) = error_text line.0
 
 -- the listing of a text
 abbrev pub listing_of : List ℕ → List ℕ
-listing_of s = answer_text (configuration_of s).verdict (configuration_of s).configuration
+listing_of s = answer_text (configuration_of s)
 
 -- what the listing leaves in lent room: its text from the room's start on, cut at the room's end. All of it fits in 96
 -- bytes, and what is past it is kept

@@ -2,37 +2,35 @@
 #![tactic(auto)]
 
 ghost use Rattle.std.specs.Prelude.{◌≡◌, cond, ◌&&◌, [], ltb, get_or};
-ghost use Rattle.text.specs.Room.{Written};
+ghost use Rattle.text.specs.Room.{Puts};
 ghost use Rattle.units.specs.State.{assignable};
 ghost use Rattle.configuration_units.specs.Fresh.{fresh_units};
-ghost use Rattle.configuration_listing.specs.Listing.{is_listed, fresh_count, error_text, channel_text, lines_from, Listed};
+ghost use Rattle.configuration_listing.specs.Listing.{is_listed, fresh_count, error_text, channel_text, lines_from, answer_text, Listed};
 
-use channels::{Channel, Configuration, Fitted};
-use configuration::TextVerdict;
+use channels::{Channel, Configuration};
+use configuration::BadLine;
 use numbers::{ChannelNumber, Refusal, UnitNumber};
+use text::room::Room;
 use units::Unit;
 
 // Whether a channel is listed: every configured one but the drum's.
 fn is_listed(channel: Channel) -> bool
     ensures { result ≡ is_listed channel }
 {
-    let has = channel.has;
-    match has {
-        Fitted::Nothing => false,
-        Fitted::With(kind, _) => !numbers::is_drum(kind),
-    }
+    channel
+        .has
+        .is_some_and(|fitted| !numbers::is_drum(fitted.kind))
 }
 
 // What a unit counts for: 1 if it is one of the channel's n and assignable.
 fn count_unit(n: u32, unit: UnitNumber, state: Unit) -> u64
     ensures { result ≡ cond (ltb unit.0 n && assignable state) 1 0 }
 {
-    if (unit.0 as u32) < n {
-        if units::is_assignable(state) {
-            return 1;
-        }
+    if (unit.0 as u32) < n && units::is_assignable(state) {
+        1
+    } else {
+        0
     }
-    0
 }
 
 // How many units of a channel are assignable in the fresh cell, where they stand as in `row`: one channel's units are
@@ -43,60 +41,59 @@ fn count_channel(configuration: Configuration, channel: ChannelNumber, row: [Uni
 {
     let n = channels::units_of(channels::channel_at(configuration, channel));
     let mut found: u64 = 0;
-    let mut u: u8 = 0;
-    while u < 16 {
-        found += count_unit(n, UnitNumber(u), row[u as usize]);
-        u += 1;
+    for (u, unit) in row.iter().enumerate() {
+        found += count_unit(n, UnitNumber(u as u8), *unit);
     }
     found
 }
 
-// Puts the line of a bad configuration from the room's start on.
-pub fn put_error(out: &mut [u8], line: usize) -> usize
-    ensures { Written out.old 0 (error_text line) out.new result }
+// Puts the line of a bad configuration.
+pub fn put_error(room: &mut Room, bad: BadLine)
+    ensures { Puts room.old (error_text bad.0) room.new }
 {
-    let refusal = numbers::number_of(Refusal::BadConfiguration);
-    let er = text::put_bytes(out, 0, b"ER ");
-    let number = text::put_decimal(out, er, refusal as u64);
-    let word = text::put_bytes(out, number, b" LINE ");
-    let bad = text::put_decimal(out, word, line as u64);
-    text::put_byte(out, bad, b'\n')
+    room.put_bytes(b"ER ");
+    room.put_decimal(numbers::number_of(Refusal::BadConfiguration) as u64);
+    room.put_bytes(b" LINE ");
+    room.put_decimal(bad.0 as u64);
+    room.put_byte(b'\n');
 }
 
 // The line of a channel, by its units in the fresh cell.
 fn put_channel(
-    out: &mut [u8],
-    at: usize,
+    room: &mut Room,
     configuration: Configuration,
     channel: ChannelNumber,
     row: [Unit; 16],
-) -> usize
+)
     requires { row ≡ get_or (fresh_units configuration.down) channel.0 [] }
-    ensures { Written out.old at (channel_text configuration channel) out.new result }
+    ensures { Puts room.old (channel_text configuration channel) room.new }
 {
     if is_listed(channels::channel_at(configuration, channel)) {
-        let number = text::put_two(out, at, channel.0);
-        let space = text::put_byte(out, number, b' ');
-        let units = count_channel(configuration, channel, row);
-        let count = text::put_decimal(out, space, units);
-        return text::put_byte(out, count, b'\n');
+        room.put_two(channel.0);
+        room.put_byte(b' ');
+        room.put_decimal(count_channel(configuration, channel, row));
+        room.put_byte(b'\n');
     }
-    at
 }
 
 // The lines of all channels.
-fn put_lines(out: &mut [u8], configuration: Configuration) -> usize
-    ensures { Written out.old 0 (lines_from configuration 16 0) out.new result }
+fn put_lines(room: &mut Room, configuration: Configuration)
+    ensures { Puts room.old (lines_from configuration 16 0) room.new }
 {
     let grid = units::grid_of(configuration_units::fresh(configuration));
-    let mut at: usize = 0;
-    let mut c: u8 = 0;
-    while c < 16 {
-        let row = grid[c as usize];
-        at = put_channel(out, at, configuration, ChannelNumber(c), row);
-        c += 1;
+    for (c, row) in grid.iter().enumerate() {
+        put_channel(room, configuration, ChannelNumber(c as u8), *row);
     }
-    at
+}
+
+// What a text was read as: a configuration's lines, or the line of a bad one.
+fn put_answer(room: &mut Room, answer: Result<Configuration, BadLine>)
+    ensures { Puts room.old (answer_text answer) room.new }
+{
+    match answer {
+        Ok(configuration) => put_lines(room, configuration),
+        Err(bad) => put_error(room, bad),
+    }
 }
 
 // Puts the listing of a configuration into lent room and answers its length. 96 bytes are enough; a smaller room gets
@@ -104,11 +101,7 @@ fn put_lines(out: &mut [u8], configuration: Configuration) -> usize
 pub fn listing(config: &[u8], out: &mut [u8]) -> usize
     ensures { Listed config.now out.old out.new result }
 {
-    let answer = configuration::read(config);
-    let verdict = answer.verdict;
-    let configuration = answer.configuration;
-    match verdict {
-        TextVerdict::Good => put_lines(out, configuration),
-        TextVerdict::Bad(line) => put_error(out, line),
-    }
+    let mut room = Room { bytes: out, at: 0 };
+    put_answer(&mut room, configuration::read(config));
+    room.at
 }

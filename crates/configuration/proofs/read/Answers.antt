@@ -1,65 +1,58 @@
 -- `configuration::read` meets its contract. Each answer is a case of proofs/Whole.antt. Assumes nothing.
-use borrow.Author.Tests.{not-true, not-false}
-use mathlib.Core.Path.{◌∙◌}
-use lib.ListN.{drop, length-drop}
-use native.Mathlib.Omega.{arith}
-use Rattle.configuration.specs.Lines.{last_number}
-use Rattle.configuration.proofs.Told.{told, told-1, lent}
-use Rattle.configuration.proofs.Within.{last_within}
+use Rattle.std.proofs.Common.{◌≡◌, arith}
+use Rattle.std.proofs.lemmas.Result.{err_from_is_err_and}
+use Rattle.configuration.proofs.Told.{told}
+use Rattle.configuration.proofs.Within.{last_within, number-at, no-number-at, within-at}
 use Rattle.configuration.proofs.Whole.{no-count, bad-first, no-downs, bad-second, bad-third, all_read}
 use Rattle.configuration.proofs.read.Goals as goal
 
-pub returns-in_default : goal.returns-in_default
-returns-in_default c =
-    c.refuse.ensures ∙ no-count c.args.s.now (told c.last_number.ensures c.in_default.is)
+pub returns-in_err-n : goal.returns-in_err-n
+returns-in_err-n c =
+    let p = err_from_is_err_and c.from_residual.result c.from_residual.ensures.1 in
+    let bad : c.in_err-n.field-0.0 ≡ record { 0 = 1 } = grind arith in
+    rw (p.1, p.2, bad) (no-count c.args.s.now (told c.last_number.ensures c.in_err-n.ensures.ok_part))
 
-pub read_channels-first-requires : goal.read_channels-first-requires
-read_channels-first-requires c =
-    last_within 0 16 c.args.s.now (told c.last_number.ensures c.in-Is.is)
+pub read_channels-requires : goal.read_channels-requires
+read_channels-requires c = last_within 0 16 c.args.s.now (told c.last_number.ensures c.in_ok-n.ensures.ok_part)
 
-pub returns-then-not-first : goal.returns-then-not-first
-returns-then-not-first c =
-    c.refuse-then-not-first.ensures ∙ bad-first c.args.s.now (told c.last_number.ensures c.in-Is.is) c.read_channels-first.ensures.is
-    (not-true _ c.if-not-first.true)
+pub returns-in_err-first : goal.returns-in_err-first
+returns-in_err-first c =
+    let p = err_from_is_err_and c.from_residual-in_err-first.result c.from_residual-in_err-first.ensures.1 in
+    rw (p.1, p.2) (bad-first c.args.s.now (told c.last_number.ensures c.in_ok-n.ensures.ok_part) c.in_err-first.ensures.is)
 
-pub returns-in_default-last_number : goal.returns-in_default-last_number
-returns-in_default-last_number c =
-    c.refuse-in_default-last_number.ensures ∙ no-downs c.args.s.now (told c.last_number.ensures c.in-Is.is) c.read_channels-first.ensures.is
-    (not-false _ c.if-not-first.false)
-    (told-1 (last_number 0 256) c.last_number-2.ensures (lent c.args.s.now c.read_channels-first.result.at) c.in_default-last_number.is)
+pub returns-in_err-m : goal.returns-in_err-m
+returns-in_err-m c =
+    let p = err_from_is_err_and c.from_residual-in_err-m.result c.from_residual-in_err-m.ensures.1 in
+    let bad : c.in_err-m.field-0.0 ≡ record { 0 = c.in_ok-first.first.line } = grind arith in
+    rw (p.1, p.2, bad)
+    (no-downs c.args.s.now (told c.last_number.ensures c.in_ok-n.ensures.ok_part) c.in_ok-first.ensures.is
+    (no-number-at 0 256 c.args.s.now c.in_ok-first.first.at c.last_number-2.ensures c.in_err-m.ensures.ok_part))
 
 pub overflow_add-at : goal.overflow_add-at
 overflow_add-at c =
-    let rest = length-drop c.read_channels-first.result.at c.args.s.now in
-    record { fits = omega (arith, last_within 0 256 (drop c.read_channels-first.result.at c.args.s.now) (told-1 (last_number 0 256) c.last_number-2.ensures (lent c.args.s.now c.read_channels-first.result.at) c.in-Is-last_number.is), rest, c.read_channels-first.ensures.within, c.read_channels-first.ensures.few) }
+    record { fits = omega (arith, within-at 0 256 c.args.s.now c.in_ok-first.first.at c.last_number-2.ensures c.in_ok-m.ensures.ok_part c.in_ok-first.ensures.ends.0) }
 
-pub read_downs-second-requires : goal.read_downs-second-requires
-read_downs-second-requires c =
-    let rest = length-drop c.read_channels-first.result.at c.args.s.now in (
-      omega (arith, last_within 0 256 (drop c.read_channels-first.result.at c.args.s.now) (told-1 (last_number 0 256) c.last_number-2.ensures (lent c.args.s.now c.read_channels-first.result.at) c.in-Is-last_number.is), rest, c.read_channels-first.ensures.within, c.read_channels-first.ensures.few),
-      omega (arith, c.read_channels-first.ensures.few),
-    )
+pub read_downs-requires : goal.read_downs-requires
+read_downs-requires c = (
+  within-at 0 256 c.args.s.now c.in_ok-first.first.at c.last_number-2.ensures c.in_ok-m.ensures.ok_part c.in_ok-first.ensures.ends.0,
+  omega (arith, c.in_ok-first.ensures.ends.1),
+)
 
-pub returns-then-not-second : goal.returns-then-not-second
-returns-then-not-second c =
-    c.refuse-then-not-second.ensures ∙ bad-second c.args.s.now (told c.last_number.ensures c.in-Is.is) c.read_channels-first.ensures.is
-    (not-false _ c.if-not-first.false)
-    (told-1 (last_number 0 256) c.last_number-2.ensures (lent c.args.s.now c.read_channels-first.result.at) c.in-Is-last_number.is)
-    c.read_downs-second.ensures.is (not-true _ c.if-not-second.true)
+pub returns-in_err-second : goal.returns-in_err-second
+returns-in_err-second c =
+    let p = err_from_is_err_and c.from_residual-in_err-second.result c.from_residual-in_err-second.ensures.1 in
+    rw (p.1, p.2)
+    (bad-second c.args.s.now (told c.last_number.ensures c.in_ok-n.ensures.ok_part) c.in_ok-first.ensures.is
+    (number-at 0 256 c.args.s.now c.in_ok-first.first.at c.last_number-2.ensures c.in_ok-m.ensures.ok_part) c.in_err-second.ensures.is)
 
-pub read_third-third-requires : goal.read_third-third-requires
-read_third-third-requires c =
-    (c.read_downs-second.ensures.within, omega (arith, c.read_downs-second.ensures.few, c.read_channels-first.ensures.few, c))
-
-pub returns-then-not-third : goal.returns-then-not-third
-returns-then-not-third c =
-    c.refuse-then-not-third.ensures ∙ bad-third c.args.s.now (told c.last_number.ensures c.in-Is.is) c.read_channels-first.ensures.is
-    (not-false _ c.if-not-first.false)
-    (told-1 (last_number 0 256) c.last_number-2.ensures (lent c.args.s.now c.read_channels-first.result.at) c.in-Is-last_number.is)
-    c.read_downs-second.ensures.is (not-false _ c.if-not-second.false) c.read_third-third.ensures (not-true _ c.if-not-third.true)
+pub returns-in_err-third : goal.returns-in_err-third
+returns-in_err-third c =
+    let p = err_from_is_err_and c.from_residual-in_err-third.result c.from_residual-in_err-third.ensures.1 in
+    rw (p.1, p.2)
+    (bad-third c.args.s.now (told c.last_number.ensures c.in_ok-n.ensures.ok_part) c.in_ok-first.ensures.is
+    (number-at 0 256 c.args.s.now c.in_ok-first.first.at c.last_number-2.ensures c.in_ok-m.ensures.ok_part) c.in_ok-second.ensures.is c.in_err-third.ensures)
 
 pub returns : goal.returns
 returns c =
-    all_read c.args.s.now (told c.last_number.ensures c.in-Is.is) c.read_channels-first.ensures.is (not-false _ c.if-not-first.false)
-    (told-1 (last_number 0 256) c.last_number-2.ensures (lent c.args.s.now c.read_channels-first.result.at) c.in-Is-last_number.is)
-    c.read_downs-second.ensures.is (not-false _ c.if-not-second.false) c.read_third-third.ensures (not-false _ c.if-not-third.false)
+    all_read c.args.s.now (told c.last_number.ensures c.in_ok-n.ensures.ok_part) c.in_ok-first.ensures.is
+    (number-at 0 256 c.args.s.now c.in_ok-first.first.at c.last_number-2.ensures c.in_ok-m.ensures.ok_part) c.in_ok-second.ensures.is c.in_ok-third.ensures

@@ -8,10 +8,7 @@ use Rattle.configuration.proofs.AnySection.{channel_section}
 use Rattle.configuration.proofs.Turns.{At}
 use Rattle.configuration.proofs.section.read_channels.Given as goal
 
-abbrev pub invariant-loop-left : goal.invariant-loop-left
-invariant-loop-left l =
-    (length l.of ≡ 16) × At channel_section l.s l.count 2 l.start (record { next = 0; drum = false; of = no_channels }) l.left l.line l.at
+abbrev pub invariant-loop-line : goal.invariant-loop-line
+invariant-loop-line l =
+    (length l.of ≡ 16) × At channel_section l.s l.count 2 l.start (record { next = 0; drum = false; of = no_channels }) l.line l.at
     (record { next = l.next; drum = l.drum; of = l.of })
-
-abbrev pub decreases-loop-left : goal.decreases-loop-left
-decreases-loop-left l = l.left

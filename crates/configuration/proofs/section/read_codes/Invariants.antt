@@ -6,10 +6,7 @@ use Rattle.configuration.proofs.AnySection.{code_section}
 use Rattle.configuration.proofs.Turns.{At}
 use Rattle.configuration.proofs.section.read_codes.Given as goal
 
-abbrev pub invariant-loop-left : goal.invariant-loop-left
-invariant-loop-left l =
-    ((l.of < 2 ^ l.next) × (l.next ≤ 64)) × At code_section l.s l.count l.first l.start (record { next = 0; of = no_codes }) l.left l.line l.at
+abbrev pub invariant-loop-line : goal.invariant-loop-line
+invariant-loop-line l =
+    ((l.of < 2 ^ l.next) × (l.next ≤ 64)) × At code_section l.s l.count l.first l.start (record { next = 0; of = no_codes }) l.line l.at
     (record { next = l.next; of = l.of })
-
-abbrev pub decreases-loop-left : goal.decreases-loop-left
-decreases-loop-left l = l.left

@@ -7,10 +7,7 @@ use Rattle.configuration.proofs.AnySection.{down_section}
 use Rattle.configuration.proofs.Turns.{At}
 use Rattle.configuration.proofs.section.read_downs.Given as goal
 
-abbrev pub invariant-loop-left : goal.invariant-loop-left
-invariant-loop-left l =
-    (length l.of ≡ 256) × At (down_section l.channels) l.s l.count l.first l.start (record { next = 0; of = no_down }) l.left l.line l.at
+abbrev pub invariant-loop-line : goal.invariant-loop-line
+invariant-loop-line l =
+    (length l.of ≡ 256) × At (down_section l.channels) l.s l.count l.first l.start (record { next = 0; of = no_down }) l.line l.at
     (record { next = l.next; of = l.of })
-
-abbrev pub decreases-loop-left : goal.decreases-loop-left
-decreases-loop-left l = l.left
