@@ -1,5 +1,6 @@
 -- The FAC card: its entries, what they ask for, and the errors.
-use Rattle.std.specs.Prelude.{ℕ, suc, ◌+◌, ◌-◌, ◌*◌, ◌<◌, ◌≡◌, Bool, cond, ◌&&◌, not, List, [], ◌∷◌, map, eqb, ltb, leb, length, get_or, drop, set}
+use Rattle.std.specs.Prelude.{ℕ, suc, ◌+◌, ◌-◌, ◌*◌, ◌<◌, ◌≡◌, Bool, cond, ◌&&◌, not, List, [], ◌∷◌, map, eqb, ltb, leb, length, get_or, drop, set, Result, Ok, IfOk}
+use Rattle.std.specs.Result.{result_and}
 use Rattle.numbers.specs.Quoted.{byte, bytes}
 use Rattle.numbers.specs.Kinds.{code_of as kind_code, in_order, unit_kinds}
 use Rattle.numbers.specs.declared.Kind.TheVariants.{Md}
@@ -9,12 +10,11 @@ use Rattle.words.specs.Words.{every, same, value, leading, isnt}
 use Rattle.cards_fields.specs.Fields.{field, fields, malformed}
 use Rattle.cards_request.specs.Errors.{error_if, or_else, first_of}
 use Rattle.cards_request.specs.Requests.{counts, no_facilities}
+use Rattle.cards_request.specs.declared.CardError.{CardError}
 use Rattle.cards_request.specs.declared.CardError.TheVariants.{FacMalformed, LongCode, UnknownCode, WrongEntry, TooMuchCore, NoIb}
-use Rattle.cards_request.specs.declared.CardVerdict.{CardVerdict}
-use Rattle.cards_request.specs.declared.CardVerdict.TheVariants.{Good, Wrong}
+use Rattle.cards_request.specs.Errors.{CardVerdict}
 use Rattle.cards_fac.specs.declared.Entry.{Entry}
 use Rattle.cards_request.specs.declared.Facilities.{Facilities}
-use Rattle.cards_fac.specs.declared.Asked.{Asked}
 
 -- the codes in the order in which entries are written: IB, DB, MD, and the kinds that have units, in their order
 unfoldable pub codes : List (List ℕ)
@@ -107,7 +107,7 @@ entered asks t = set asks (slot_of t) (value (number_text t))
 
 -- "its entries left to right": the first error
 abbrev pub entries_error : List ℕ → List (List ℕ) → CardVerdict
-entries_error asks [] = Good
+entries_error asks [] = Ok tt
 entries_error asks (t ∷ ts) = or_else (entry_error asks t) (entries_error (entered asks t) ts)
 
 -- what all entries ask for
@@ -119,28 +119,30 @@ all_entered asks (t ∷ ts) = all_entered (entered asks t) ts
 abbrev pub core_error : List ℕ → CardVerdict
 core_error asks = or_else (error_if (ltb most_blocks (get_or asks 0 0 + get_or asks 1 0)) TooMuchCore) (error_if (eqb (get_or asks 0 0) 0) NoIb)
 
--- an entry as the code holds it: its error, or its slot and its number
-abbrev pub entry_answer : CardVerdict → ℕ → ℕ → Entry
-entry_answer Good k n = record { verdict = Good; slot = k; number = n }
-entry_answer (Wrong e) k n = record { verdict = Wrong e; slot = 0; number = 0 }
+-- a code as the code reads it: its error, or its index
+abbrev pub code_answer : List ℕ → Result ℕ CardError
+code_answer t = result_and (code_error t) (Ok (code_of t))
+
+-- an entry as the code reads it: its error, or its slot and its number
+abbrev pub entry_answer : CardVerdict → ℕ → ℕ → Result Entry CardError
+entry_answer v k n = result_and v (Ok (record { slot = k; number = n }))
 
 -- the entry that a text writes
-unfoldable pub entry_of : List ℕ → Entry
+unfoldable pub entry_of : List ℕ → Result Entry CardError
 entry_of t = entry_answer (form_error t) (slot_of t) (value (number_text t))
 
 -- what a caller learns of an entry
-pub record EntryRead (t : List ℕ) (r : Entry) : Type 0 where
+pub record EntryRead (t : List ℕ) (r : Result Entry CardError) : Type 0 where
   pub is : r ≡ entry_of t
-  pub low : r.slot < slots
-  pub small : (r.slot ≡ 2 → ⊥) → r.number < 100
+  pub low : IfOk r (λ e. e.slot < slots)
+  pub small : IfOk r (λ e. (e.slot ≡ 2 → ⊥) → e.number < 100)
 
--- all entries as the code holds them: the error, or what they ask for
-abbrev pub asked_answer : CardVerdict → List ℕ → Asked
-asked_answer Good asks = record { verdict = Good; facilities = facilities_of asks }
-asked_answer (Wrong e) asks = record { verdict = Wrong e; facilities = no_facilities }
+-- all entries as the code reads them: the error, or what they ask for
+abbrev pub asked_answer : CardVerdict → List ℕ → Result Facilities CardError
+asked_answer v asks = result_and v (Ok (facilities_of asks))
 
 -- what the entries of a card read as
-unfoldable pub asked_of : List ℕ → List (List ℕ) → Asked
+unfoldable pub asked_of : List ℕ → List (List ℕ) → Result Facilities CardError
 asked_of asks ts = asked_answer (entries_error asks ts) (all_entered asks ts)
 
 -- the card is FAC
@@ -164,6 +166,6 @@ fac_error fac =
     ∷ core_error (asked fac)
     ∷ [])
 
--- a FAC card as the code holds it: its error, or what it asks for
-unfoldable pub fac_of : List ℕ → Asked
+-- a FAC card as the code reads it: its error, or what it asks for
+unfoldable pub fac_of : List ℕ → Result Facilities CardError
 fac_of fac = asked_answer (fac_error fac) (asked fac)

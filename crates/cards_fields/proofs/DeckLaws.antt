@@ -16,7 +16,7 @@ use Rattle.words.proofs.LineLaws.{no_line, first-line}
 use Rattle.cards_fields.specs.Fields.{is_pty}
 use Rattle.cards_fields.proofs.FieldLaws.{rest-is}
 use Rattle.cards_fields.specs.Deck.{cards_of, is_termination, terminated, before, size, deck_end, opens, onto_group, groups_of, first_group}
-use Rattle.cards_fields.specs.declared.DeckEnd.TheVariants.{At, Refused}
+use Rattle.std.specs.Prelude.{Ok, Err}
 
 -- the card that starts at a position: it ends within the text, and is the first of those from there on, if an LF
 -- ends it
@@ -118,15 +118,15 @@ no-group s at e = rw e
 
 -- what a deck's end is
 module _ (s : List ℕ) where
-  pub deck-long : deck_bytes < length s → deck_end s ≡ Refused BadDeck
+  pub deck-long : deck_bytes < length s → deck_end s ≡ Err BadDeck
   unfolding deck_end
   deck-long h = rw (lt-leb (length s) deck_bytes h)
 
-  pub deck-open : length s ≤ deck_bytes → terminated (cards_of s) ≡ false → deck_end s ≡ Refused BadDeck
+  pub deck-open : length s ≤ deck_bytes → terminated (cards_of s) ≡ false → deck_end s ≡ Err BadDeck
   unfolding deck_end
   deck-open h t = rw (le-leb (length s) deck_bytes h, t)
 
-  pub deck-ends : (n : ℕ) → length s ≤ deck_bytes → terminated (cards_of s) ≡ true → n ≡ size (before (cards_of s)) → At n ≡ deck_end s
+  pub deck-ends : (n : ℕ) → length s ≤ deck_bytes → terminated (cards_of s) ≡ true → n ≡ size (before (cards_of s)) → Ok n ≡ deck_end s
   unfolding deck_end
   deck-ends n h t e = rw (le-leb (length s) deck_bytes h, t, e)
 

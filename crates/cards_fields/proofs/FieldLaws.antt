@@ -1,20 +1,20 @@
 -- A field gathered byte by byte is the field; and a card from a position on, one byte further: what its fields and
 -- its form then are. Assumes nothing.
 use Prim.Native.Nat.{ℕ, zero, suc, ◌+◌, ◌-◌, ◌≤◌, ◌<◌}
-use mathlib.Core.Path.{◌≡◌, refl, ap, ◌∙◌}
-use mathlib.Core.Bool.{Bool, true, false, cond, not}
+use mathlib.Core.Path.{◌≡◌, refl, sym, ap, ◌∙◌}
+use mathlib.Core.Bool.{Bool, true, false, cond, not, ◌&&◌, ◌||◌}
 use mathlib.Core.Logic.{◌⊎◌, inl, inr, ⊎_elim}
 use mathlib.Core.List.{List, [], ◌∷◌, ◌++◌, append_assoc, append-nil}
 use native.Mathlib.Nat.{eq-zero-or-pos, le_of_suc-le-suc}
 use native.Mathlib.Omega.{arith}
 use lib.Dec.{eqb, ltb}
-use lib.ListN.{length, get_or, drop, take, set, drop_of_length-le, length-drop, length-append}
+use lib.ListN.{length, get_or, drop, take, set, length-drop, length-append}
 use lib.Seq.{take_all}
-use borrow.Author.Tests.{eq-eqb, ne_eqb, eqb-true, eqb-false, le-ltb, lt-ltb, le-leb, lt-leb}
+use borrow.Author.Tests.{ltb-true, ltb-false, eq-eqb, ne_eqb, eqb-true, eqb-false, le-ltb, lt-ltb, le-leb, lt-leb}
 use Rattle.numbers.proofs.Tests.{by_bool}
 use Rattle.numbers.specs.Limits.{card_length}
-use Rattle.words.specs.Words.{same}
-use Rattle.words.proofs.WordLaws.{drop-step, and-false, same-long}
+use Rattle.words.specs.Words.{every, has, isnt, leading, same}
+use Rattle.words.proofs.WordLaws.{and-false, same-long}
 use Rattle.cards_fields.specs.Fields.{fields, field, field_is, field_of, pieces, spaceless, up_to_period, onto, padded, closed, card_byte, malformed}
 use Rattle.cards_fields.specs.declared.Field.{Field}
 use Rattle.cards_fields.specs.FieldBytes.{added, pushed}
@@ -112,68 +112,50 @@ space-or b = test (eqb b 32) refl
     test true e = inl (eqb-true b 32 e)
     test false e = inr (eqb-false b 32 e)
 
--- past the end there is no field left
-pub field_end : (s : List ℕ) (i k : ℕ) → length s ≤ i → field (drop i s) k ≡ []
-field_end s i k h = rw (drop_of_length-le s h, fields-end) (no_field k)
+-- a card's form: such characters alone, a period, and only spaces behind it
+closed-over : (s : List ℕ) → closed true s ≡ (every card_byte s && every (has (32 ∷ [])) s)
+closed-over [] = refl
+closed-over (b ∷ s) = test (card_byte b) (eqb b 32) (every card_byte s) (every (has (32 ∷ [])) s) (closed-over s)
+  where
+    test : (x y e f : Bool) {g : Bool} → g ≡ (e && f) → (x && (y && g)) ≡ ((x && e) && ((y || false) && f))
+    test true true e f h = h
+    test true false e f h = sym (and-false e)
+    test false y e f h = refl
 
-module _ (s : List ℕ) (i : ℕ) (h : i < length s) where
-  pub field-period : (k : ℕ) → get_or s i 0 ≡ 46 → field (drop i s) k ≡ []
-  field-period k e = rw (drop-step s i h, fields-period (drop (i + 1) s) e) (no_field k)
+ltb-suc : (a b : ℕ) → ltb (suc a) (suc b) ≡ ltb a b
+ltb-suc a b =
+    by_bool (ltb a b) (λ e. rw e (lt-ltb (suc a) (suc b) (omega (arith, ltb-true a b e))))
+    (λ e. rw e (le-ltb (suc a) (suc b) (omega (arith, ltb-false a b e))))
 
-  pub field-comma : (k : ℕ) → get_or s i 0 ≡ 44 → k ≡ 0 → field (drop i s) k ≡ []
-  field-comma k e z = rw (drop-step s i h, fields-comma (drop (i + 1) s) e, z)
+closed-form : (s : List ℕ) → closed false s
+    ≡ (every card_byte s && (ltb (length (leading (isnt 46) s)) (length s) && every (has (32 ∷ [])) (drop (suc (length (leading (isnt 46) s))) s)))
+closed-form [] = refl
+closed-form (b ∷ s) =
+    by_bool (eqb b 46) (λ e. rw (e, lt-ltb 0 (suc (length s)) (omega arith)) (ap (λ (x : Bool). card_byte b && x) (closed-over s) ∙ and_assoc (card_byte b) (every card_byte s) (every (has (32 ∷ [])) s)))
+    (λ e. rw (e, ltb-suc (length (leading (isnt 46) s)) (length s)) (ap (λ (x : Bool). card_byte b && x) (closed-form s) ∙ and_assoc (card_byte b) (every card_byte s) _))
+  where
+    and_assoc : (x y z : Bool) → (x && (y && z)) ≡ ((x && y) && z)
+    and_assoc true y z = refl
+    and_assoc false y z = refl
 
-  pub field_next : (k : ℕ) → get_or s i 0 ≡ 44 → (k ≡ 0 → ⊥) → field (drop i s) k ≡ field (drop (i + 1) s) (k - 1)
-  field_next zero e z = absurd (z refl)
-  field_next (suc k) e z = let p : suc k - 1 ≡ k = omega arith in rw (drop-step s i h, fields-comma (drop (i + 1) s) e, p)
+-- so a card of at most 80 characters is malformed by the tests that the code makes
+module _ (s : List ℕ) (n : ℕ) (is : n ≡ length (leading (isnt 46) s)) (h : length s ≤ card_length) where
+  pub no_period : n ≡ length s → malformed s ≡ true
+  unfolding malformed
+  no_period e = rw (le-ltb card_length (length s) h, closed-form s, le-ltb (length (leading (isnt 46) s)) (length s) (omega arith), and-false (every card_byte s))
 
-  pub field_skip : (k : ℕ) → (get_or s i 0 ≡ 46 → ⊥) → (get_or s i 0 ≡ 44 → ⊥) → (k ≡ 0 → ⊥) → field (drop i s) k ≡ field (drop (i + 1) s) k
-  field_skip zero p c z = absurd (z refl)
-  field_skip (suc k) p c z =
-      ⊎_elim (λ e. rw (drop-step s i h, fields-space (drop (i + 1) s) e))
-      (λ q. rw (drop-step s i h, fields-other (drop (i + 1) s) p c q) (onto-later (get_or s i 0) k (fields (drop (i + 1) s))))
-      (space-or (get_or s i 0))
+  pub by_parts : n < length s → malformed s ≡ (not (every card_byte s) || not (every (has (32 ∷ [])) (drop (n + 1) s)))
+  unfolding malformed
+  by_parts g =
+      rw (le-ltb card_length (length s) h, closed-form s, lt-ltb (length (leading (isnt 46) s)) (length s) (omega arith), ← is, one)
+      (test (every card_byte s) (every (has (32 ∷ [])) (drop (n + 1) s)))
+    where
+      one : suc n ≡ n + 1
+      one = omega arith
 
-  pub field-byte : (f : Field) (k : ℕ) → (get_or s i 0 ≡ 46 → ⊥) → (get_or s i 0 ≡ 44 → ⊥) → k ≡ 0
-      → added_all f (field (drop i s) k) ≡ added_all (pushed f (get_or s i 0)) (field (drop (i + 1) s) k)
-  field-byte f k p c z =
-      ⊎_elim (λ e. rw (z, drop-step s i h, fields-space (drop (i + 1) s) e, eq-eqb (get_or s i 0) 32 e))
-      (λ q. rw (z, drop-step s i h, fields-other (drop (i + 1) s) p c q, onto-first (get_or s i 0) (fields (drop (i + 1) s)), ne_eqb (get_or s i 0) 32 q))
-      (space-or (get_or s i 0))
-
-  pub count-period : get_or s i 0 ≡ 46 → length (fields (drop i s)) ≡ 1
-  count-period e = rw (drop-step s i h, fields-period (drop (i + 1) s) e)
-
-  pub count-comma : get_or s i 0 ≡ 44 → length (fields (drop i s)) ≡ length (fields (drop (i + 1) s)) + 1
-  count-comma e = rw (drop-step s i h, fields-comma (drop (i + 1) s) e) (omega arith)
-
-  pub count-other : (get_or s i 0 ≡ 46 → ⊥) → (get_or s i 0 ≡ 44 → ⊥) → length (fields (drop i s)) ≡ length (fields (drop (i + 1) s))
-  count-other p c =
-      ⊎_elim (λ e. rw (drop-step s i h, fields-space (drop (i + 1) s) e))
-      (λ q. rw (drop-step s i h, fields-other (drop (i + 1) s) p c q)
-      (onto-length (get_or s i 0) (fields (drop (i + 1) s)) (fields-some (drop (i + 1) s))))
-      (space-or (get_or s i 0))
-
-  pub closed-bad : (over : Bool) → card_byte (get_or s i 0) ≡ false → closed over (drop i s) ≡ false
-  closed-bad true e = rw (drop-step s i h, e)
-  closed-bad false e = rw (drop-step s i h, e)
-
-  pub closed-more : (over : Bool) → over ≡ true → (get_or s i 0 ≡ 32 → ⊥) → closed over (drop i s) ≡ false
-  closed-more over o q = rw (o, drop-step s i h, ne_eqb (get_or s i 0) 32 q) (and-false (card_byte (get_or s i 0)))
-
-  pub closed-blank : (over : Bool) → card_byte (get_or s i 0) ≡ true → over ≡ true → get_or s i 0 ≡ 32
-      → closed over (drop i s) ≡ closed over (drop (i + 1) s)
-  closed-blank over c o e = rw (o, drop-step s i h, c, eq-eqb (get_or s i 0) 32 e)
-
-  pub closed-next : (over : Bool) → card_byte (get_or s i 0) ≡ true → over ≡ false
-      → closed over (drop i s) ≡ closed (eqb (get_or s i 0) 46) (drop (i + 1) s)
-  closed-next over c o = rw (o, drop-step s i h, c)
-
-pub count-end : (s : List ℕ) (i : ℕ) → length s ≤ i → length (fields (drop i s)) ≡ 1
-count-end s i h = rw (drop_of_length-le s h, fields-end)
-
-pub closed-end : (s : List ℕ) (i : ℕ) (over : Bool) → length s ≤ i → closed over (drop i s) ≡ over
-closed-end s i over h = rw (drop_of_length-le s h)
+      test : (x y : Bool) → not (x && y) ≡ (not x || not y)
+      test true y = refl
+      test false y = refl
 
 -- a card of at most 80 characters goes by its form, a longer one is malformed
 pub by_form : (s : List ℕ) (t : Bool) → length s ≤ card_length → closed false s ≡ t → malformed s ≡ not t

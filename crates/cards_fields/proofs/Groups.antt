@@ -23,7 +23,7 @@ use Rattle.words.proofs.LineLaws.{NoLf, first_ended, no_line, first-line, line-s
 use Rattle.cards_fields.specs.Fields.{is_pty}
 use Rattle.cards_fields.specs.Deck.{cards_of, termination, is_termination, terminated, before, size, deck_end}
 use Rattle.cards_fields.specs.Deck.{opens, onto_group, groups_of, first_group, group_size}
-use Rattle.cards_fields.specs.declared.DeckEnd.TheVariants.{At, Refused}
+use Rattle.std.specs.Prelude.{Ok, Err}
 
 -- cards take no more bytes than the text has that they are read from
 pub size-cards : (s : List ℕ) → size (cards_of s) ≤ length s
@@ -169,26 +169,26 @@ pub record Ends (s : List ℕ) (n : ℕ) : Type 0 where
   pub within : n + (card_length + 1) ≤ length s
   pub most : length s ≤ deck_bytes
 
-pub ends : (s : List ℕ) (n : ℕ) → deck_end s ≡ At n → Ends s n
+pub ends : (s : List ℕ) (n : ℕ) → deck_end s ≡ Ok n → Ends s n
 unfolding deck_end
 ends s n e =
     by_bool (leb (length s) deck_bytes && terminated (cards_of s))
-    (λ t. let i : At (size (before (cards_of s))) ≡ At n = rw t at e in
+    (λ t. let i : Ok (size (before (cards_of s))) ≡ Ok n = rw t at e in
     let k : size (before (cards_of s)) ≡ n = cc in
     let p = both (leb (length s) deck_bytes) (terminated (cards_of s)) t in
     record { is = cc; within = omega (arith, size-before (cards_of s) p.1, size-cards s); most = leb-true (length s) deck_bytes p.0 })
-    (λ t. let i : Refused BadDeck ≡ At n = rw t at e in let z : ◌≡◌ {A = ℕ} 0 1 = cc in absurd (omega arith))
+    (λ t. let i : Err BadDeck ≡ Ok n = rw t at e in let z : ◌≡◌ {A = ℕ} 0 1 = cc in absurd (omega arith))
 
 -- and one that is not has one refusal
-pub refused-bad : (s : List ℕ) (refusal : Refusal) → deck_end s ≡ Refused refusal → refusal ≡ BadDeck
+pub refused-bad : (s : List ℕ) (refusal : Refusal) → deck_end s ≡ Err refusal → refusal ≡ BadDeck
 unfolding deck_end
 refused-bad s refusal e =
     by_bool (leb (length s) deck_bytes && terminated (cards_of s))
-    (λ t. let i : At (size (before (cards_of s))) ≡ Refused refusal = rw t at e in let z : ◌≡◌ {A = ℕ} 0 1 = cc in absurd (omega arith))
-    (λ t. let i : Refused BadDeck ≡ Refused refusal = rw t at e in cc)
+    (λ t. let i : Ok (size (before (cards_of s))) ≡ Err refusal = rw t at e in let z : ◌≡◌ {A = ℕ} 0 1 = cc in absurd (omega arith))
+    (λ t. let i : Err BadDeck ≡ Err refusal = rw t at e in cc)
 
 -- THE PART OF A DECK UP TO ITS TERMINATION CARD HAS THE CARDS BEFORE IT
-pub deck-cards : (s : List ℕ) (n : ℕ) → deck_end s ≡ At n → cards_of (take n s) ≡ before (cards_of s)
+pub deck-cards : (s : List ℕ) (n : ℕ) → deck_end s ≡ Ok n → cards_of (take n s) ≡ before (cards_of s)
 deck-cards s n e =
     rw (ends s n e).is (cut (before (cards_of s)) (drop (length (before (cards_of s))) (cards_of s)) s (before-front (cards_of s))).0
 

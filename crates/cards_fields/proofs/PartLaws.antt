@@ -1,23 +1,27 @@
 -- A text cut at a byte: its pieces, one after the other, and how many they are; a text gathered without its spaces.
 -- Assumes nothing.
-use Prim.Native.Nat.{ℕ, zero, suc, ◌+◌, ◌-◌, ◌≤◌, ◌<◌}
+use Prim.Native.Nat.{ℕ, suc, ◌+◌, ◌≤◌, ◌<◌}
 use mathlib.Core.Path.{◌≡◌, refl, sym, ap, ◌∙◌}
-use mathlib.Core.Bool.{false}
+use mathlib.Core.Bool.{Bool, false, ◌&&◌, ◌||◌}
 use mathlib.Core.List.{List, [], ◌∷◌}
 use native.Mathlib.Omega.{arith}
 use lib.Dec.{eqb}
-use lib.ListN.{length, get_or, drop, take, drop_of_length-le, length-drop}
+use lib.ListN.{length, get_or, drop, take, drop_of_length-le}
 use borrow.Author.Tests.{eq-eqb, ne_eqb, le-leb, lt-leb}
 use Rattle.numbers.proofs.Tests.{by_bool}
-use Rattle.text.specs.Class.{is_alnum}
+use Rattle.text.specs.Class.{is_alnum, is_digit}
 use Rattle.words.specs.Words.{every, isnt, leading, number_in}
-use lib.Seq.{drop-drop}
-use Rattle.words.proofs.WordLaws.{drop-step, leading-front, leading-most, number-long}
+use Rattle.words.proofs.WordLaws.{drop-step, leading-front, number-long}
+use denote.Ref.{Bor}
+use Rattle.std.specs.Prelude.{Option, Some, None, slice_get}
+use Rattle.std.specs.Option.{unwrap_or, option_map}
+use Rattle.std.specs.List.{count_by, slice_split, onto_first}
+use Rattle.std.proofs.lemmas.Option.{unwrap_or-slice_get}
+use Rattle.std.proofs.lemmas.List.Splits.{length-slice_split}
 use Rattle.cards_fields.specs.Fields.{pieces, onto, spaceless, up_to_period, is_name, field_of}
 use Rattle.cards_fields.specs.FieldBytes.{pushed}
 use Rattle.cards_fields.specs.declared.Field.{Field}
-use Rattle.cards_fields.proofs.DeckLaws.{no-card}
-use Rattle.cards_fields.proofs.FieldLaws.{added_all, onto-length, pieces-some, rest-is, whole}
+use Rattle.cards_fields.proofs.FieldLaws.{added_all, whole}
 
 -- a text that is cut, or is not
 pub pieces_more : (cut : ℕ) (s : List ℕ) → length (leading (isnt cut) s) < length s
@@ -38,54 +42,29 @@ pieces-last cut (b ∷ s) h =
     let g : suc (length s) ≤ suc (length (leading (isnt cut) s)) = rw e at h in
     rw e (ap (onto b) (pieces-last cut s (omega arith))))
 
--- from a position on, with the length that the code finds
-module _ (cut : ℕ) (s : List ℕ) (from : ℕ) (len : ℕ) (is : len ≡ length (leading (isnt cut) (take (length s - from) (drop from s)))) where
-  long : len ≡ length (leading (isnt cut) (drop from s))
-  long = is ∙ ap (λ (l : List ℕ). length (leading (isnt cut) l)) (rest-is s from)
+-- THE PIECES are those that std's split gives at the byte
+pub split-pieces : (cut : ℕ) (s : List ℕ) → slice_split (λ b. eqb b cut) s ≡ pieces cut s
+split-pieces cut [] = refl
+split-pieces cut (b ∷ s) =
+    by_bool (eqb b cut) (λ e. rw e (ap (λ (ps : List (List ℕ)). [] ∷ ps) (split-pieces cut s)))
+    (λ e. rw e (ap (onto_first b) (split-pieces cut s) ∙ onto-first (pieces cut s)))
+  where
+    onto-first : (ps : List (List ℕ)) → onto_first b ps ≡ onto b ps
+    onto-first [] = refl
+    onto-first (p ∷ ps) = refl
 
-  pub piece-within : from ≤ length s → from + len ≤ length s
-  piece-within h = omega (arith, long, leading-most (isnt cut) (drop from s), length-drop from s)
+pub cut-count : (cut : ℕ) (s : List ℕ) → count_by (λ b. eqb b cut) s + 1 ≡ length (pieces cut s)
+cut-count cut s = sym (length-slice_split (λ b. eqb b cut) s) ∙ ap (length {A = List ℕ}) (split-pieces cut s)
 
-  pub piece-none : (k : ℕ) → from ≤ length s → 0 < k → len ≡ length s - from → get_or (pieces cut (drop from s)) k [] ≡ []
-  piece-none zero f h e = absurd (omega arith)
-  piece-none (suc k) f h e = rw (pieces-last cut (drop from s) (omega (arith, long, length-drop from s))) (no-card k)
-
-  pub piece-next : (k : ℕ) → from ≤ length s → 0 < k → (len ≡ length s - from → ⊥)
-      → get_or (pieces cut (drop (from + len + 1) s)) (k - 1) [] ≡ get_or (pieces cut (drop from s)) k []
-  piece-next zero f h n = absurd (omega arith)
-  piece-next (suc k) f h n =
-      let m : length (leading (isnt cut) (drop from s)) < length (drop from s) = omega (arith, long, piece-within f, length-drop from s) in
-      let j : from + suc len ≡ from + len + 1 = omega arith in
-      let d : drop (suc (length (leading (isnt cut) (drop from s)))) (drop from s) ≡ drop (from + len + 1) s =
-      ap (λ (i : ℕ). drop (suc i) (drop from s)) (sym long) ∙ drop-drop (suc len) from s ∙ ap (λ (i : ℕ). drop i s) j in
-      let p : suc k - 1 ≡ k = omega arith in
-      rw (p, pieces_more cut (drop from s) m, d)
-
-  pub piece-here : (k : ℕ) → k ≤ 0 → take (from + len - from) (drop from s) ≡ get_or (pieces cut (drop from s)) k []
-  piece-here zero h =
-      let e : from + len - from ≡ len = omega arith in
-      rw (e, long) (leading-front (isnt cut) (drop from s) ∙ sym (first (drop from s)))
-    where
-      first : (t : List ℕ) → get_or (pieces cut t) 0 [] ≡ leading (isnt cut) t
-      first [] = refl
-      first (b ∷ t) = by_bool (eqb b cut) (λ e. rw e) (λ e. rw e (onto-first (pieces cut t) ∙ ap (λ (l : List ℕ). b ∷ l) (first t)))
-        where
-          onto-first : (fs : List (List ℕ)) → get_or (onto b fs) 0 [] ≡ b ∷ get_or fs 0 []
-          onto-first [] = refl
-          onto-first (f ∷ fs) = refl
-  piece-here (suc k) h = absurd (omega arith)
-
--- how many
-module _ (cut : ℕ) (s : List ℕ) (i : ℕ) where
-  pub cut-here : i < length s → get_or s i 0 ≡ cut → length (pieces cut (drop i s)) ≡ length (pieces cut (drop (i + 1) s)) + 1
-  cut-here h e = rw (drop-step s i h, eq-eqb (get_or s i 0) cut e) (omega arith)
-
-  pub cut_later : i < length s → (get_or s i 0 ≡ cut → ⊥) → length (pieces cut (drop i s)) ≡ length (pieces cut (drop (i + 1) s))
-  cut_later h n =
-      rw (drop-step s i h, ne_eqb (get_or s i 0) cut n) (onto-length (get_or s i 0) (pieces cut (drop (i + 1) s)) (pieces-some cut (drop (i + 1) s)))
-
-  pub cut-end : length s ≤ i → length (pieces cut (drop i s)) ≡ 1
-  cut-end h = rw (drop_of_length-le s h)
+-- one of them, as it is lent
+pub piece-lent : (cut : ℕ) (s : List ℕ) (k : ℕ) (o : Option (Bor (List ℕ))) (d : Bor (List ℕ))
+    → option_map (λ x. x.now) o ≡ slice_get (slice_split (λ b. eqb b cut) s) k → d.now ≡ [] → (unwrap_or o d).now ≡ get_or (pieces cut s) k []
+piece-lent cut s k o d e z =
+    now o ∙ rw (e, z) (unwrap_or-slice_get (slice_split (λ b. eqb b cut) s) k []) ∙ ap (λ (ps : List (List ℕ)). get_or ps k []) (split-pieces cut s)
+  where
+    now : (o : Option (Bor (List ℕ))) → (unwrap_or o d).now ≡ unwrap_or (option_map (λ x. x.now) o) d.now
+    now None = refl
+    now (Some x) = refl
 
 -- what stands before the first period
 pub up_to : (s : List ℕ) → up_to_period s ≡ leading (isnt 46) s
@@ -136,3 +115,8 @@ module _ (t : List ℕ) (f : Field) (is : f ≡ field_of t) where
 
   pub number-few : f.len ≤ 6 → number_in (take f.len f.bytes) ≡ number_in t
   number-few h = ap number_in (whole f t is (omega arith))
+
+-- digits, with spaces among them or without
+pub digits-spaceless : (s : List ℕ) → every (λ b. eqb b 32 || is_digit b) s ≡ every is_digit (spaceless s)
+digits-spaceless [] = refl
+digits-spaceless (b ∷ s) = by_bool (eqb b 32) (λ e. rw e (digits-spaceless s)) (λ e. rw e (ap (λ (x : Bool). is_digit b && x) (digits-spaceless s)))

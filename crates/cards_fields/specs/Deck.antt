@@ -1,14 +1,13 @@
 -- A deck: its cards, its termination card, and its groups.
-use Rattle.std.specs.Prelude.{ℕ, Bool, true, false, cond, ◌&&◌, List, [], ◌∷◌, ◌++◌, leb, length, get_or, replicate}
+use Rattle.std.specs.Prelude.{ℕ, Bool, true, false, cond, ◌&&◌, List, [], ◌∷◌, ◌++◌, leb, length, get_or, replicate, Result, Ok, Err}
 use Rattle.numbers.specs.Quoted.{byte}
+use Rattle.numbers.specs.declared.Refusal.{Refusal}
 use Rattle.numbers.specs.declared.Refusal.TheVariants.{BadDeck}
 use Rattle.numbers.specs.Limits.{deck_bytes}
 use Rattle.words.specs.Words.{same}
 use Rattle.words.specs.Lines.{lines_of}
 pub use Rattle.words.specs.Lines.{lf, onto_line, size}
 use Rattle.cards_fields.specs.Fields.{is_pty}
-use Rattle.cards_fields.specs.declared.DeckEnd.{DeckEnd}
-use Rattle.cards_fields.specs.declared.DeckEnd.TheVariants.{At, Refused}
 
 -- "cards are lines ended by LF"
 abbrev pub cards_of : List ℕ → List (List ℕ)
@@ -32,10 +31,14 @@ abbrev pub terminated : List (List ℕ) → Bool
 terminated [] = false
 terminated (c ∷ cs) = cond (is_termination c) true (terminated cs)
 
+-- where a deck's termination card starts, or why the deck is refused
+abbrev pub DeckEnd : Type 0
+DeckEnd = Result ℕ Refusal
+
 -- "Deck: at most 16,384 bytes in all": where the termination card starts, or the refusal of a deck too long or
 -- without one
 unfoldable pub deck_end : List ℕ → DeckEnd
-deck_end s = cond (leb (length s) deck_bytes && terminated (cards_of s)) (At (size (before (cards_of s)))) (Refused BadDeck)
+deck_end s = cond (leb (length s) deck_bytes && terminated (cards_of s)) (Ok (size (before (cards_of s)))) (Err BadDeck)
 
 -- the next card opens a group, or there is none
 abbrev pub opens : List (List ℕ) → Bool

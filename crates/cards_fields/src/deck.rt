@@ -3,7 +3,7 @@ ghost use Rattle.std.specs.Prelude.{◌≡◌, [], ◌≤◌, length, get_or, ta
 ghost use Rattle.words.specs.Lines.{line_of};
 ghost use Rattle.cards_fields.specs.Deck.{cards_of, is_termination, size, deck_end, opens, group_size};
 
-use crate::{DeckEnd, card};
+use crate::card;
 use numbers::{Refusal, limits};
 
 // The length of the first card of what is left of a deck, its LF not counted; the whole length where no LF is left.
@@ -19,6 +19,7 @@ pub fn card_count(text: &[u8]) -> usize
 {
     let mut n: usize = 0;
     let mut at: usize = 0;
+    // Stays: by document 01 the next card starts where the last ended, as the part `&text[at..]`.
     while at < text.len() {
         let len = card_len(&text[at..]);
         if len == text.len() - at {
@@ -36,6 +37,7 @@ pub fn card_at(text: &[u8], k: usize) -> &[u8]
 {
     let mut left = k;
     let mut at: usize = 0;
+    // Stays: by document 01 the next card starts where the last ended, as the part `&text[at..]`.
     while at < text.len() {
         let len = card_len(&text[at..]);
         let end = at + len;
@@ -57,6 +59,7 @@ pub fn behind(text: &[u8], k: usize) -> &[u8]
 {
     let mut left = k;
     let mut at: usize = 0;
+    // Stays: by document 01 the next card starts where the last ended, as the part `&text[at..]`.
     while at < text.len() {
         if left == 0 {
             return &text[at..];
@@ -82,26 +85,27 @@ pub fn is_termination(card: &[u8]) -> bool
     )
 }
 
-// Where the termination card of a deck starts.
-pub fn deck_end(deck: &[u8]) -> DeckEnd
+// Where the termination card of a deck starts, or why the deck is refused.
+pub fn deck_end(deck: &[u8]) -> Result<usize, Refusal>
     ensures { result ≡ deck_end deck.now }
 {
     if limits::DECK_BYTES < deck.len() {
-        return DeckEnd::Refused(Refusal::BadDeck);
+        return Err(Refusal::BadDeck);
     }
     let mut at: usize = 0;
+    // Stays: by document 01 the next card starts where the last ended, as the part `&deck[at..]`.
     while at < deck.len() {
         let len = card_len(&deck[at..]);
         let end = at + len;
         if end == deck.len() {
-            return DeckEnd::Refused(Refusal::BadDeck);
+            return Err(Refusal::BadDeck);
         }
         if is_termination(&deck[at..end]) {
-            return DeckEnd::At(at);
+            return Ok(at);
         }
         at = end + 1;
     }
-    DeckEnd::Refused(Refusal::BadDeck)
+    Err(Refusal::BadDeck)
 }
 
 // Whether the first card of what is left opens a group, or there is none.
@@ -109,10 +113,7 @@ fn opens_group(rest: &[u8]) -> bool
     ensures { result ≡ opens (cards_of rest.now) }
 {
     let len = card_len(rest);
-    if len == rest.len() {
-        return true;
-    }
-    card::field_is(&rest[..len], 1, b"PTY")
+    len == rest.len() || card::field_is(&rest[..len], 1, b"PTY")
 }
 
 // How many bytes the first group of what is left of a deck takes.
@@ -120,6 +121,7 @@ fn group_len(rest: &[u8]) -> usize
     ensures { (result ≡ group_size rest.now) × (result ≤ length rest.now) }
 {
     let mut at: usize = 0;
+    // Stays: by document 01 the next card starts where the last ended, as the part `&rest[at..]`.
     while at < rest.len() {
         let len = card_len(&rest[at..]);
         let end = at + len;
@@ -138,6 +140,5 @@ fn group_len(rest: &[u8]) -> usize
 pub fn first_group(rest: &[u8]) -> &[u8]
     ensures { result.now ≡ take (group_size rest.now) rest.now }
 {
-    let len = group_len(rest);
-    &rest[..len]
+    &rest[..group_len(rest)]
 }

@@ -5,18 +5,9 @@ pub mod card;
 pub mod deck;
 pub mod parts;
 
-use numbers::Refusal;
-
 // A field of a card, spaces dropped: its first twelve bytes, blanks behind them, and how long it is.
 #[derive(Clone, Copy)]
 pub struct Field {
     pub bytes: [u8; 12],
     pub len: usize,
-}
-
-// Where a deck's termination card starts, or why the deck is refused.
-#[derive(Clone, Copy)]
-pub enum DeckEnd {
-    At(usize),
-    Refused(Refusal),
 }

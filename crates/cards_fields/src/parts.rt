@@ -1,53 +1,41 @@
 // A text cut into pieces, each looked at as a part of the text; a piece gathered without its spaces, or put.
-ghost use Rattle.std.specs.Prelude.{◌≡◌, [], ◌+◌, length, get_or};
-ghost use Rattle.text.specs.Room.{Written};
-ghost use Rattle.words.specs.Words.{number_in};
-ghost use Rattle.cards_fields.specs.Fields.{pieces, spaceless, is_name, field_of, raw_field};
+ghost use Rattle.std.specs.Prelude.{◌≡◌, [], ◌+◌, ◌||◌, eqb, length, get_or};
+ghost use Rattle.text.specs.Class.{is_digit};
+ghost use Rattle.text.specs.Room.{Puts};
+ghost use Rattle.words.specs.Words.{every, number_in};
+ghost use Rattle.cards_fields.specs.Fields.{digits, pieces, spaceless, is_name, field_of, raw_field, up_to_period};
 
 use crate::{Field, card};
+use text::room::Room;
 use words::Class;
+
+// What stands before a card's first period, as a part of it; all of one that has none.
+pub(crate) fn body(card: &[u8]) -> &[u8]
+    ensures { result.now ≡ up_to_period card.now }
+{
+    &card[..words::until(card, b'.')]
+}
 
 // The piece at an index of a text that is cut at each of a byte, the first at 0, as a part of it; empty where there is
 // none.
 pub fn piece_at(s: &[u8], cut: u8, k: usize) -> &[u8]
     ensures { result.now ≡ get_or (pieces cut s.now) k [] }
 {
-    let mut left = k;
-    let mut from: usize = 0;
-    while 0 < left {
-        let len = words::until(&s[from..], cut);
-        if len == s.len() - from {
-            return &s[0..0];
-        }
-        from = from + len + 1;
-        left -= 1;
-    }
-    let last = words::until(&s[from..], cut);
-    &s[from..from + last]
+    s.split(|b| *b == cut).nth(k).unwrap_or(&s[..0])
 }
 
 // How often a text is cut: as often as it has the byte, once less than it has pieces.
 pub fn cuts(s: &[u8], cut: u8) -> usize
     ensures { result + 1 ≡ length (pieces cut s.now) }
 {
-    let mut n: usize = 0;
-    let mut i: usize = 0;
-    while i < s.len() {
-        let b = s[i];
-        i += 1;
-        if b == cut {
-            n += 1;
-        }
-    }
-    n
+    s.iter().filter(|b| **b == cut).count()
 }
 
 // The field at an index of a card as it stands there, its spaces in it, as a part of the card.
 pub fn raw_field(card: &[u8], k: usize) -> &[u8]
     ensures { result.now ≡ raw_field card.now k }
 {
-    let end = words::until(card, b'.');
-    piece_at(&card[..end], b',', k)
+    piece_at(body(card), b',', k)
 }
 
 // A text gathered without its spaces.
@@ -58,10 +46,8 @@ pub fn gathered(s: &[u8]) -> Field
         bytes: [b' '; 12],
         len: 0,
     };
-    let mut i: usize = 0;
-    while i < s.len() {
-        f = card::with_byte(f, s[i]);
-        i += 1;
+    for b in s {
+        f = card::with_byte(f, *b);
     }
     f
 }
@@ -71,15 +57,28 @@ pub fn is_name(s: &[u8]) -> bool
     ensures { result ≡ is_name (spaceless s.now) }
 {
     let f = gathered(s);
-    let n = f.len;
-    if n < 1 {
-        return false;
-    }
-    if 6 < n {
-        return false;
-    }
-    let bytes = f.bytes;
-    words::all_of(Class::Alnum, &bytes[..n])
+    1 <= f.len && f.len <= 6 && words::all_of(Class::Alnum, &f.bytes[..f.len])
+}
+
+// Whether a byte may stand in a number.
+fn is_in_number(b: u8) -> bool
+    ensures { result ≡ (eqb b 32 || is_digit b) }
+{
+    b == b' ' || text::is_digit(b)
+}
+
+// Whether each byte of a text may.
+fn are_in_number(s: &[u8]) -> bool
+    ensures { result ≡ every (λ b. eqb b 32 || is_digit b) s.now }
+{
+    s.iter().all(|b| is_in_number(*b))
+}
+
+// Whether a text is a number, its spaces dropped: digits, and at least one.
+pub fn is_number(s: &[u8]) -> bool
+    ensures { result ≡ digits (spaceless s.now) }
+{
+    0 < gathered(s).len && are_in_number(s)
 }
 
 // The number that a text writes, its spaces dropped; 0 for one of over six characters.
@@ -87,26 +86,19 @@ pub fn number_of(s: &[u8]) -> u32
     ensures { result ≡ number_in (spaceless s.now) }
 {
     let f = gathered(s);
-    let n = f.len;
-    if 6 < n {
+    if 6 < f.len {
         return 0;
     }
-    let bytes = f.bytes;
-    words::number(&bytes[..n])
+    words::number(&f.bytes[..f.len])
 }
 
 // Puts a name without its blanks.
-pub fn put_name(room: &mut [u8], at: usize, name: &[u8]) -> usize
-    ensures { Written room.old at (spaceless name.now) room.new result }
+pub fn put_name(room: &mut Room, name: &[u8])
+    ensures { Puts room.old (spaceless name.now) room.new }
 {
-    let mut next = at;
-    let mut i: usize = 0;
-    while i < name.len() {
-        let b = name[i];
-        i += 1;
-        if b != b' ' {
-            next = text::put_byte(room, next, b);
+    for b in name {
+        if *b != b' ' {
+            room.put_byte(*b);
         }
     }
-    next
 }

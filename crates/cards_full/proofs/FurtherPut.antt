@@ -12,8 +12,9 @@ use borrow.Author.Tests.{eq-eqb, ne_eqb, eqb-true, le-leb, lt-leb}
 use Rattle.numbers.proofs.Tests.{both, by_bool}
 use Rattle.numbers.specs.Quoted.{byte}
 use Rattle.numbers.specs.Limits.{card_length, most_further, text_length}
-use Rattle.text.specs.Room.{Written}
-use Rattle.text.proofs.RoomLaws.{Going, and_then, same-room, turn}
+use Rattle.text.specs.Room.{Written, Puts}
+use Rattle.text.specs.declared.room.Room.{Room}
+use Rattle.text.proofs.RoomLaws.{Goes, goes-turn, puts-then, same-room}
 use Rattle.words.specs.Words.{same}
 use Rattle.words.specs.Lines.{line_text, lines_text}
 use Rattle.cards_fields.specs.Fields.{spaceless, field_of}
@@ -39,11 +40,11 @@ module _ (id : List ℕ) (cards : List FurtherCard) (n : ℕ) (w : n ≤ length 
   abbrev pub lines_left : ℕ → List ℕ
   lines_left k = lines_text (behind_id id (texts_in (drop k (take n cards))))
 
-  pub lines-turn : i < n → {room₀ whole room out : List ℕ} {at₀ at next : ℕ}
-      → Going room₀ at₀ whole room at (lines_text (behind_id id (texts_in (drop i (take n cards)))))
-      → Written room at (card_line id (get_or cards i past)) out next
-      → Going room₀ at₀ whole out next (lines_text (behind_id id (texts_in (drop (i + 1) (take n cards)))))
-  lines-turn h g p = turn (rw (cards-step cards n w i past h) at g) p
+  pub lines-turn : i < n → {first room next : Room} {whole : List ℕ}
+      → Goes first whole room (lines_text (behind_id id (texts_in (drop i (take n cards)))))
+      → Puts room (card_line id (get_or cards i past)) next
+      → Goes first whole next (lines_text (behind_id id (texts_in (drop (i + 1) (take n cards)))))
+  lines-turn h g p = goes-turn (rw (cards-step cards n w i past h) at g) p
 
   pub lines_end : n ≤ i → lines_text (behind_id id (texts_in (drop i (take n cards)))) ≡ []
   lines_end h = rw (cards-end cards n i h)
@@ -101,12 +102,12 @@ pub same-done : (cs ds : List FurtherCard) (i : ℕ) → length cs ≤ i → len
 same-done cs ds i h g = rw (drop_of_length-le cs h, drop_of_length-le ds g)
 
 -- a card's line, piece by piece
-pub line-put : (c : FurtherCard) (n : ℕ) → take n c.text ≡ text_of c → {room a b d after id : List ℕ} {at i j k next : ℕ}
-    → Written room at id a i → Written a i (44 ∷ []) b j → Written b j (take n c.text) d k → Written d k (10 ∷ []) after next
-    → Written room at (card_line id c) after next
-line-put c n e {room} {after = after} {id = id} {at = at} {next = next} w₁ w₂ w₃ w₄ =
-    let w = and_then w₁ (and_then w₂ (and_then w₃ w₄)) in
-    subst (λ (x : List ℕ). Written room at x after next)
+pub line-put : (c : FurtherCard) (n : ℕ) → take n c.text ≡ text_of c → {room a b d next : Room} {id : List ℕ}
+    → Puts room id a → Puts a (44 ∷ []) b → Puts b (take n c.text) d → Puts d (10 ∷ []) next
+    → Puts room (card_line id c) next
+line-put c n e {room} {next = next} {id = id} w₁ w₂ w₃ w₄ =
+    let w = puts-then w₁ (puts-then w₂ (puts-then w₃ w₄)) in
+    subst (λ (x : List ℕ). Puts room x next)
     (ap (λ (x : List ℕ). id ++ (44 ∷ (x ++ (10 ∷ [])))) e ∙ sym (append_assoc id (44 ∷ text_of c) (10 ∷ []))) w
 
 -- the further cards without an ID, as they stand in their room of 1,120 bytes

@@ -22,7 +22,7 @@ use Rattle.cards_fields.proofs.FieldLaws.{padded-length}
 use Rattle.cards_request.specs.Errors.{good, error_if, or_else}
 use Rattle.cards_request.proofs.ErrorLaws.{or_else_none}
 use Rattle.cards_pty.specs.Pty.{rules, rule_at, sequence_text, letter_of, precedence_text, sequence_good, precedence}
-use Rattle.cards_pty.specs.Pty.{precedence_good, last_of_all, ranked, priority_of, field_error, fields_error, pty_error}
+use Rattle.cards_pty.specs.Pty.{precedence_good, last_of_all, ranked, priority_of, priority_good, held_priority, field_error, fields_error, pty_error}
 use Rattle.cards_pty.proofs.PtyLaws.{right-at, good-field, right, fields-good}
 use Rattle.cards_pty.proofs.PriorityLaws.{rank-good}
 use Rattle.cards_fac.specs.Fac.{code_of, slot_of, number_text, nothing, form_error, entry_error, entered, entries_error}
@@ -32,8 +32,8 @@ use Rattle.cards_group.specs.Group.{mark, request_of}
 use Rattle.cards_request.specs.declared.CardError.TheVariants.{WrongEntry, FacMalformed}
 use Rattle.cards_pty.specs.declared.Priority.{Priority}
 use Rattle.cards_request.specs.declared.Request.{Request}
-use Rattle.cards_request.specs.declared.CardVerdict.{CardVerdict}
-use Rattle.cards_request.specs.declared.CardVerdict.TheVariants.{Good}
+use Rattle.cards_request.specs.Errors.{CardVerdict}
+use Rattle.std.specs.Prelude.{Option, Ok, is_some}
 use Rattle.cards_writing.specs.Writing.{priority_text, mark_text, pty_fields, formed_from, formed, limit, numbers_fit, takes}
 use Rattle.cards_writing.proofs.PutLaws.{number-some}
 use Rattle.cards_fields.proofs.CardLaws.{plain, clean, alnum-plain, number_digits}
@@ -91,7 +91,7 @@ not-then : (b : Bool) → not b ≡ true → b ≡ false
 not-then true h = never h refl
 not-then false h = refl
 
-pub good-priority : (t : List ℕ) → (priority_of t).good ≡ true → Ranked (priority_of t)
+pub good-priority : (t : List ℕ) → priority_good t ≡ true → Ranked (held_priority t)
 unfolding priority_of ranked
 good-priority t g =
     by_bool (sequence_good t)
@@ -121,7 +121,7 @@ fit-set j (suc k) n (m ∷ ns) f h =
     let q = both (ltb m (limit j)) (numbers_fit (suc j) ns) f in
     rw q.0 (fit-set (suc j) k n ns q.1 (rw e at h))
 
-entry-limit : (t : List ℕ) → form_error t ≡ Good → value (number_text t) < limit (slot_of t)
+entry-limit : (t : List ℕ) → form_error t ≡ Ok tt → value (number_text t) < limit (slot_of t)
 entry-limit t e =
     by_bool (eqb (slot_of t) 2)
     (λ i. rw i (drum (eqb (code_of t) 2) (number-below (code_of t) (number_text t) (good-number t e))))
@@ -134,7 +134,7 @@ entry-limit t e =
     drum true h = h
     drum false h = omega arith
 
-pub fit_all : (asks : List ℕ) (ts : List (List ℕ)) → numbers_fit 0 asks ≡ true → entries_error asks ts ≡ Good → numbers_fit 0 (all_entered asks ts) ≡ true
+pub fit_all : (asks : List ℕ) (ts : List (List ℕ)) → numbers_fit 0 asks ≡ true → entries_error asks ts ≡ Ok tt → numbers_fit 0 (all_entered asks ts) ≡ true
 fit_all asks [] f e = f
 fit_all asks (t ∷ ts) f e =
     let x = or_else_none (entry_error asks t) (entries_error (entered asks t) ts) e in
@@ -150,46 +150,46 @@ asks-held (a ∷ b ∷ []) f = never (both (ltb b 100) false (both (ltb a 100) (
 asks-held (a ∷ b ∷ c ∷ ns) f = refl
 
 -- one field more
-pub more : {v w : CardVerdict} → v ≡ Good → w ≡ Good → or_else v w ≡ Good
+pub more : {v w : CardVerdict} → v ≡ Ok tt → w ≡ Ok tt → or_else v w ≡ Ok tt
 more e g = rw e g
 
 -- the text of a good priority is a good field
 pub priority-text : (q l p : ℕ) → q < 64 → p < 64 → is_letter l ≡ true → last_of_all l p ≡ false
-    → field_error 9 (rule_at 9) (cond (eqb q 0) [] (two_text q) ++ (l ∷ two_text p)) ≡ Good
+    → field_error 9 (rule_at 9) (cond (eqb q 0) [] (two_text q) ++ (l ∷ two_text p)) ≡ Ok tt
 unfolding rules
 priority-text q l p hq hp hl z =
     right 9 (rule_at 9) (cond (eqb q 0) [] (two_text q) ++ (l ∷ two_text p)) sizes.0 sizes.1
-    (ap (λ (x : Priority). x.good) (priority-ranked q l p hq hp hl
+    (ap (λ (x : Option Priority). is_some x) (priority-ranked q l p hq hp hl
     ∙ rank-good q l (two_text p) hl (omega arith) (two_digits p (omega arith)) p (sym (two_back p)) (omega arith) z))
   where
     sizes : (1 ≤ length (cond (eqb q 0) [] (two_text q) ++ (l ∷ two_text p))) × (length (cond (eqb q 0) [] (two_text q) ++ (l ∷ two_text p)) ≤ 5)
     sizes = by_bool (eqb q 0) (λ e. rw e (omega arith, omega arith)) (λ e. rw e (omega arith, omega arith))
 
 -- a number of at most four digits
-pub minutes-text : (n : ℕ) → n < 10000 → field_error 11 (rule_at 11) (decimal_text n) ≡ Good
+pub minutes-text : (n : ℕ) → n < 10000 → field_error 11 (rule_at 11) (decimal_text n) ≡ Ok tt
 unfolding rules
 minutes-text n h = right 11 (rule_at 11) (decimal_text n) (omega (arith, number-some n)) (few-digits 3 n h) (number_digits n)
 
 -- a count of at most two digits
-pub count-text : (n : ℕ) → n ≤ 99 → field_error 2 (rule_at 2) (decimal_text n) ≡ Good
+pub count-text : (n : ℕ) → n ≤ 99 → field_error 2 (rule_at 2) (decimal_text n) ≡ Ok tt
 unfolding rules
 count-text n h = right 2 (rule_at 2) (decimal_text n) (omega (arith, number-some n)) (few-digits 1 n (omega arith)) (number_digits n)
 
-module _ (n : ℕ) (few : n ≤ 99) (pty asks : List ℕ) (e : fields_error (fields pty) ≡ Good) (f : numbers_fit 0 asks ≡ true)
-    (c : core_error asks ≡ Good) where
+module _ (n : ℕ) (few : n ≤ 99) (pty asks : List ℕ) (e : fields_error (fields pty) ≡ Ok tt) (f : numbers_fit 0 asks ≡ true)
+    (c : core_error asks ≡ Ok tt) where
   -- what its rule says of each field
   rule-of : (k : ℕ) → k < 14 → ((rule_at k).least ≤ length (field pty k))
       × ((length (field pty k) ≤ (rule_at k).most) × ((rule_at k).content (field pty k) ≡ true))
   rule-of k h = good-field k (rule_at k) (field pty k) (right-at (fields pty) e k h)
 
   -- a text that is the field again is right again
-  again : (k : ℕ) → k < 14 → (t : List ℕ) → t ≡ field pty k → field_error k (rule_at k) t ≡ Good
+  again : (k : ℕ) → k < 14 → (t : List ℕ) → t ≡ field pty k → field_error k (rule_at k) t ≡ Ok tt
   again k h t i = ap (field_error k (rule_at k)) i ∙ right-at (fields pty) e k h
 
   abbrev r : Request
   r = request_of pty asks
 
-  rank : Ranked (priority_of (field pty 9))
+  rank : Ranked (held_priority (field pty 9))
   unfolding rules
   rank = good-priority (field pty 9) (rule-of 9 (omega arith)).1.1
 
@@ -213,7 +213,7 @@ module _ (n : ℕ) (few : n ≤ 99) (pty asks : List ℕ) (e : fields_error (fie
   unfolding rules
   library-plain = every-weaker is_alnum plain alnum-plain (field pty 13) (rule-of 13 (omega arith)).1.1
 
-  fields-again : fields_error (pty_fields n r) ≡ Good
+  fields-again : fields_error (pty_fields n r) ≡ Ok tt
   unfolding pty_fields rules priority_text is_alnum is_letter is_digit
   fields-again =
       more (again 0 (omega arith) (spaceless (padded 6 (field pty 0))) (unpadded 6 (field pty 0) id-plain (rule-of 0 (omega arith)).1.0))
@@ -260,11 +260,11 @@ module _ (n : ℕ) (few : n ≤ 99) (pty asks : List ℕ) (e : fields_error (fie
       (ap (λ (x : Bool). x && good (core_error (asks_of r.facilities))) g ∙ d)
 
 -- EVERY REQUEST READ FROM CARDS IS ONE THAT THE WRITER TAKES, whatever the number of its cards
-pub read_taken : (n : ℕ) → n ≤ 99 → (pty fac : List ℕ) → pty_error pty ≡ Good → fac_error fac ≡ Good → takes n (request_of pty (asked fac)) ≡ true
+pub read_taken : (n : ℕ) → n ≤ 99 → (pty fac : List ℕ) → pty_error pty ≡ Ok tt → fac_error fac ≡ Ok tt → takes n (request_of pty (asked fac)) ≡ true
 unfolding fac_error
 read_taken n few pty fac p f =
     let m = (or_else_none (error_if (malformed fac) FacMalformed)
-    (or_else (entries_error nothing (entries_of fac)) (or_else (core_error (asked fac)) Good)) f).1 in
-    let s = or_else_none (entries_error nothing (entries_of fac)) (or_else (core_error (asked fac)) Good) m in
-    let c = (or_else_none (core_error (asked fac)) Good s.1).0 in
+    (or_else (entries_error nothing (entries_of fac)) (or_else (core_error (asked fac)) (Ok tt))) f).1 in
+    let s = or_else_none (entries_error nothing (entries_of fac)) (or_else (core_error (asked fac)) (Ok tt)) m in
+    let c = (or_else_none (core_error (asked fac)) (Ok tt) s.1).0 in
     request-taken n few pty (asked fac) (fields-good pty p) (fit_all nothing (entries_of fac) refl s.0) c

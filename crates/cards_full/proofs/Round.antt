@@ -20,13 +20,15 @@ use Rattle.cards_fields.specs.Fields.{card_text, field, fields, spaceless, padde
 use Rattle.words.proofs.LineLaws.{NoLf}
 use Rattle.cards_request.specs.Errors.{good}
 use Rattle.cards_request.proofs.ErrorLaws.{good-is}
-use Rattle.cards_pty.specs.Pty.{rules, rule_at, fields_error, priority_of, pty_error}
+use Rattle.std.specs.Prelude.{Option}
+use Rattle.std.specs.Option.{unwrap_or}
+use Rattle.cards_pty.specs.Pty.{rules, rule_at, fields_error, held_priority, no_priority, pty_error}
 use Rattle.cards_pty.proofs.PtyLaws.{right-at, good-field, pty-fields}
 use Rattle.cards_fac.specs.Fac.{nothing, entries_error, all_entered, core_error, facilities_of, asks_of, is_fac, fac_error, asked, entries_of}
 use Rattle.cards_group.specs.Group.{mark, request_of}
 use Rattle.cards_pty.specs.declared.Priority.{Priority}
 use Rattle.cards_request.specs.declared.Request.{Request}
-use Rattle.cards_request.specs.declared.CardVerdict.TheVariants.{Good}
+use Rattle.std.specs.Prelude.{Ok}
 use Rattle.cards_writing.specs.Writing.{priority_text, mark_text, pty_fields, trimmed, fac_fields, pty_text, fac_text}
 use Rattle.cards_writing.specs.Writing.{formed, numbers_fit, names_formed, ranges_good, takes}
 use Rattle.cards_writing.proofs.PutLaws.{trimmed-at, some_written}
@@ -47,9 +49,9 @@ pub record Taken (n : ℕ) (r : Request) : Type 0 where
   pub letter : is_letter r.letter ≡ true
   pub sequence : r.sequence < 64
   pub precedence : r.precedence < 64
-  pub fields : fields_error (pty_fields n r) ≡ Good
+  pub fields : fields_error (pty_fields n r) ≡ Ok tt
   pub numbers : numbers_fit 0 (asks_of r.facilities) ≡ true
-  pub core : core_error (asks_of r.facilities) ≡ Good
+  pub core : core_error (asks_of r.facilities) ≡ Ok tt
 
 pub taken : (n : ℕ) (r : Request) → takes n r ≡ true → Taken n r
 unfolding takes
@@ -170,7 +172,7 @@ module _ (n : ℕ) (r : Request) (t : Taken n r) where
   is-pty = ap (λ (f : List ℕ). same f (bytes "PTY")) (at 1)
 
   -- it has no error
-  pub pty-right : length (pty_text n r) ≤ card_length → pty_error (pty_text n r) ≡ Good
+  pub pty-right : length (pty_text n r) ≤ card_length → pty_error (pty_text n r) ≡ Ok tt
   unfolding pty_text
   pty-right h =
       pty-fields (pty_text n r) is-pty (card-form kept some-kept (trimmed-plain (pty_fields n r) pty-plain) h)
@@ -198,12 +200,12 @@ module _ (n : ℕ) (r : Request) (t : Taken n r) where
   pub asked-back : asked (fac_text r) ≡ asks
   asked-back = ap (λ (es : List (List ℕ)). all_entered nothing es) entries-are ∙ (entries-back asks t.numbers).sum
 
-  pub fac-right : length (fac_text r) ≤ card_length → fac_error (fac_text r) ≡ Good
+  pub fac-right : length (fac_text r) ≤ card_length → fac_error (fac_text r) ≡ Ok tt
   unfolding fac_error fac_text
   fac-right h =
       let m = card-form (fac_fields r) (omega arith) fac-plain h in
-      let e : entries_error nothing (entries_of (fac_text r)) ≡ Good = ap (entries_error nothing) entries-are ∙ (entries-back asks t.numbers).right in
-      let c : core_error (asked (fac_text r)) ≡ Good = ap core_error asked-back ∙ t.core in
+      let e : entries_error nothing (entries_of (fac_text r)) ≡ (Ok tt) = ap (entries_error nothing) entries-are ∙ (entries-back asks t.numbers).right in
+      let c : core_error (asked (fac_text r)) ≡ (Ok tt) = ap core_error asked-back ∙ t.core in
       rw (m, e, c)
 
   pub same-ids : same (field (fac_text r) 0) (field (pty_text n r) 0) ≡ true
@@ -220,8 +222,9 @@ module _ (n : ℕ) (r : Request) (t : Taken n r) where
   pub request-back : request_of (pty_text n r) (asked (fac_text r)) ≡ r
   unfolding pty_fields priority_text rules
   request-back =
-      let p = ap priority_of (at 9) ∙ priority-back r.sequence r.letter r.precedence t.sequence t.precedence t.letter
-      (content 9 (omega arith)) in
+      let p = ap held_priority (at 9)
+      ∙ ap (λ (x : Option Priority). unwrap_or x no_priority)
+      (priority-back r.sequence r.letter r.precedence t.sequence t.precedence t.letter (content 9 (omega arith))) in
       let a₀ = ap (padded 6) (at 0) ∙ name_back 6 r.id t.id in
       let a₃ = ap mark (at 3) ∙ mark-back r.rush in
       let a₄ = ap (padded 12) (at 4) ∙ name_back 12 r.program t.program in

@@ -20,7 +20,7 @@ use Rattle.cards_request.specs.declared.FullRequest.{FullRequest}
 use Rattle.cards_writing.specs.Writing.{pty_text, fac_text, takes}
 use Rattle.cards_writing.proofs.PutLaws.{put-reached, put_whole}
 use Rattle.cards_full.specs.Full.{card_count, behind_id, cards_in, text_of, short, takes_full, takes_further, fits, write_answer, written}
-use Rattle.cards_full.specs.declared.Wrote.TheVariants.{Cards, Refused}
+use Rattle.std.specs.Prelude.{Ok, Err}
 
 -- cards of at most 80 characters, each with its LF
 pub lines-few : (cs : List (List ℕ)) → short cs ≡ true → length (lines_text cs) ≤ (card_length + 1) * length cs
@@ -44,7 +44,7 @@ unfolding takes_full
 further-taken v t = (both (takes_further v.further) (takes (card_count v) v.request) t).0
 
 module _ (v : FullRequest) (room : List ℕ) where
-  pub not_taken : takes_full v ≡ false → (Refused WrongRequest ≡ write_answer v (length room)) × (room ≡ written v room)
+  pub not_taken : takes_full v ≡ false → (Err WrongRequest ≡ write_answer v (length room)) × (room ≡ written v room)
   unfolding write_answer written
   not_taken e = (rw e, rw e)
 
@@ -55,12 +55,12 @@ module _ (v : FullRequest) (room : List ℕ) where
     abbrev further : List (List ℕ)
     further = behind_id (spaceless v.request.id) (texts v.further)
 
-    not-fit : fits v (length room) ≡ false → (Refused NoRoom ≡ write_answer v (length room)) × (room ≡ written v room)
+    not-fit : fits v (length room) ≡ false → (Err NoRoom ≡ write_answer v (length room)) × (room ≡ written v room)
     unfolding write_answer written
     not-fit e = (rw (t, e), rw (t, e))
 
     module _ {pty : List ℕ} {p : ℕ} (wp : Written (replicate (card_length + 1) 0) 0 (pty_text n v.request) pty p) where
-      pub pty-long : card_length < p → (Refused NoRoom ≡ write_answer v (length room)) × (room ≡ written v room)
+      pub pty-long : card_length < p → (Err NoRoom ≡ write_answer v (length room)) × (room ≡ written v room)
       unfolding fits cards_in
       pty-long h = let e = put-reached (card_length + 1) wp in not-fit (rw (lt-leb (length (pty_text n v.request)) card_length (omega arith)))
 
@@ -68,7 +68,7 @@ module _ (v : FullRequest) (room : List ℕ) where
         pty-is : length (pty_text n v.request) ≤ card_length
         pty-is = let e = put-reached (card_length + 1) wp in omega arith
 
-        pub fac-long : card_length < f → (Refused NoRoom ≡ write_answer v (length room)) × (room ≡ written v room)
+        pub fac-long : card_length < f → (Err NoRoom ≡ write_answer v (length room)) × (room ≡ written v room)
         unfolding fits cards_in
         fac-long h =
             let e = put-reached (card_length + 1) wf in
@@ -81,7 +81,7 @@ module _ (v : FullRequest) (room : List ℕ) where
           fac-is : length (fac_text v.request) ≤ card_length
           fac-is = let e = put-reached (card_length + 1) wf in omega arith
 
-          pub card-long : short further ≡ false → (Refused NoRoom ≡ write_answer v (length room)) × (room ≡ written v room)
+          pub card-long : short further ≡ false → (Err NoRoom ≡ write_answer v (length room)) × (room ≡ written v room)
           unfolding fits cards_in
           card-long h =
               not-fit (rw (
@@ -119,7 +119,7 @@ module _ (v : FullRequest) (room : List ℕ) where
                   length-append (fac_text v.request) (lf ∷ []),
                 )
 
-            pub room-short : length room < p + f + 2 + k → (Refused NoRoom ≡ write_answer v (length room)) × (room ≡ written v room)
+            pub room-short : length room < p + f + 2 + k → (Err NoRoom ≡ write_answer v (length room)) × (room ≡ written v room)
             unfolding fits
             room-short h = not-fit (rw (all_short, lt-leb (length (text_of v)) (length room) (omega (arith, text-long))))
 
@@ -127,7 +127,7 @@ module _ (v : FullRequest) (room : List ℕ) where
             pub all-put : p + f + 2 + k ≤ length room → {a b c d after : List ℕ} {i j l m end : ℕ}
                 → Written room 0 (take p pty) a i → Written a i (lf ∷ []) b j → Written b j (take f fac) c l → Written c l (lf ∷ []) d m
                 → Written d m (take k lines) after end
-                → (Cards end ≡ write_answer v (length room)) × (after ≡ written v room)
+                → (Ok end ≡ write_answer v (length room)) × (after ≡ written v room)
             unfolding write_answer written fits cards_in
             all-put h {after = after} {end = end} w₁ w₂ w₃ w₄ w₅ =
                 let x = (put_whole (card_length + 1) wp (omega (arith, pty-is))).1 in
@@ -138,6 +138,6 @@ module _ (v : FullRequest) (room : List ℕ) where
                 let e : end ≡ length (text_of v) = omega (arith, g.0) in
                 let o : 0 + length (text_of v) ≡ length (text_of v) = omega arith in
                 let s = le-leb (length (text_of v)) (length room) (omega (arith, text-long)) in (
-                  rw (t, all_short, s) (ap Cards e),
+                  rw (t, all_short, s) (ap Ok e),
                   g.1 ∙ rw (o, t, all_short, s) refl,
                 )

@@ -1,6 +1,7 @@
 -- A request with its further cards as it is written, and the requests that the writer takes.
-use Rattle.std.specs.Prelude.{ℕ, ◌+◌, Bool, true, false, cond, ◌&&◌, List, [], ◌∷◌, ◌++◌, eqb, leb, length, drop}
+use Rattle.std.specs.Prelude.{ℕ, ◌+◌, Bool, true, false, cond, ◌&&◌, Result, Ok, Err, List, [], ◌∷◌, ◌++◌, eqb, leb, length, drop}
 use Rattle.numbers.specs.Quoted.{byte}
+use Rattle.numbers.specs.declared.Refusal.{Refusal}
 use Rattle.numbers.specs.declared.Refusal.TheVariants.{NoRoom, WrongRequest}
 use Rattle.numbers.specs.Limits.{card_length}
 use Rattle.words.specs.Words.{same}
@@ -14,9 +15,7 @@ use Rattle.cards_writing.specs.Writing.{pty_text, fac_text, takes}
 use Rattle.cards_request.specs.declared.FurtherCard.{FurtherCard}
 use Rattle.cards_request.specs.declared.Further.{Further}
 use Rattle.cards_request.specs.declared.FullRequest.{FullRequest}
-use Rattle.cards_request.specs.declared.CardVerdict.{CardVerdict}
-use Rattle.cards_full.specs.declared.Wrote.{Wrote}
-use Rattle.cards_full.specs.declared.Wrote.TheVariants.{Cards, Refused}
+use Rattle.cards_request.specs.Errors.{CardVerdict}
 
 -- how many cards a request has: PTY, FAC and the further ones
 abbrev pub card_count : FullRequest → ℕ
@@ -70,8 +69,8 @@ unfoldable pub fits : FullRequest → ℕ → Bool
 fits v room = short (cards_in v) && leb (length (text_of v)) room
 
 -- WHAT WRITING ANSWERS: 13 before 12, else how many bytes the cards take
-unfoldable pub write_answer : FullRequest → ℕ → Wrote
-write_answer v room = cond (takes_full v) (cond (fits v room) (Cards (length (text_of v))) (Refused NoRoom)) (Refused WrongRequest)
+unfoldable pub write_answer : FullRequest → ℕ → Result ℕ Refusal
+write_answer v room = cond (takes_full v) (cond (fits v room) (Ok (length (text_of v))) (Err NoRoom)) (Err WrongRequest)
 
 -- and what the lent room then holds: the cards, and behind them what was there; all of what was there on refusal
 unfoldable pub written : FullRequest → List ℕ → List ℕ

@@ -5,21 +5,15 @@ ghost use Rattle.cards_fields.specs.Deck.{cards_of};
 ghost use Rattle.cards_full.specs.Full.{further_error, same_cards, takes_further, takes_full};
 
 use crate::put;
-use cards_request::{CardVerdict, FullRequest, Further, FurtherCard};
+use cards_request::{CardError, FullRequest, Further, FurtherCard};
 use numbers::limits;
 
 // The errors that further cards have by themselves.
-fn further_error(cards: &[u8]) -> CardVerdict
+fn further_error(cards: &[u8]) -> Result<(), CardError>
     ensures { result ≡ further_error (cards_of cards.now) }
 {
-    let types = cards_further::types_error(cards);
-    if !cards_request::is_good(types) {
-        return types;
-    }
-    let together = cards_further::together_error(cards);
-    if !cards_request::is_good(together) {
-        return together;
-    }
+    cards_further::types_error(cards)?;
+    cards_further::together_error(cards)?;
     cards_further::contents_error(cards)
 }
 
@@ -41,12 +35,10 @@ fn are_same_cards(f: Further, g: Further) -> bool
 {
     let c = f.cards;
     let d = g.cards;
-    let mut k: usize = 0;
-    while k < limits::MOST_FURTHER {
+    for k in 0..limits::MOST_FURTHER {
         if !is_same_card(c[k], d[k]) {
             return false;
         }
-        k += 1;
     }
     true
 }
@@ -57,7 +49,7 @@ fn is_taken_further(further: Further) -> bool
 {
     // so many cards of a comma, a text and LF
     let mut lines = [0u8; limits::MOST_FURTHER * (limits::TEXT_LENGTH + 2)];
-    let n = put::put_further(&mut lines, 0, b"", further);
+    let n = put::further_in(&mut lines, b"", further);
     let cards = &lines[..n];
     if !cards_request::is_good(further_error(cards)) {
         return false;

@@ -3,7 +3,7 @@ ghost use Rattle.std.specs.Prelude.{◌≡◌, ℕ, ◌+◌, ◌≤◌, List, �
 ghost use Rattle.numbers.specs.Quoted.{byte};
 ghost use Rattle.numbers.specs.Limits.{card_length};
 ghost use Rattle.words.specs.Lines.{line_text, lines_text};
-ghost use Rattle.text.specs.Room.{Written};
+ghost use Rattle.text.specs.Room.{Puts, Written};
 ghost use Rattle.cards_fields.specs.Fields.{spaceless};
 ghost use Rattle.cards_request.specs.Requests.{texts};
 ghost use Rattle.cards_full.specs.Full.{behind_id, short};
@@ -11,33 +11,38 @@ ghost use Rattle.cards_full.specs.Full.{behind_id, short};
 use cards_fields::parts;
 use cards_request::{Further, FurtherCard};
 use numbers::limits;
+use text::room::Room;
 
 // Puts a card behind an ID: a comma, its text from the type on, and LF.
-fn put_card(room: &mut [u8], at: usize, id: &[u8], card: FurtherCard) -> usize
-    ensures { Written room.old at (line_text (spaceless id.now ++ (byte "," ∷ take card.len card.text)))
-        room.new result }
+fn put_card(room: &mut Room, id: &[u8], card: FurtherCard)
+    ensures { Puts room.old (line_text (spaceless id.now ++ (byte "," ∷ take card.len card.text))) room.new }
 {
-    let name = parts::put_name(room, at, id);
-    let comma = text::put_byte(room, name, b',');
+    parts::put_name(room, id);
+    room.put_byte(b',');
     let n = cards_further::len_of(card);
     let bytes = card.text;
-    let end = text::put_bytes(room, comma, &bytes[..n]);
-    text::put_byte(room, end, b'\n')
+    room.put_bytes(&bytes[..n]);
+    room.put_byte(b'\n');
 }
 
 // Puts the further cards, each behind an ID.
-pub(crate) fn put_further(room: &mut [u8], at: usize, id: &[u8], further: Further) -> usize
-    ensures { Written room.old at (lines_text (behind_id (spaceless id.now) (texts further))) room.new result }
+pub(crate) fn put_further(room: &mut Room, id: &[u8], further: Further)
+    ensures { Puts room.old (lines_text (behind_id (spaceless id.now) (texts further))) room.new }
 {
     let n = cards_further::count_of(further);
     let cards = further.cards;
-    let mut next = at;
-    let mut i: usize = 0;
-    while i < n {
-        next = put_card(room, next, id, cards[i]);
-        i += 1;
+    for i in 0..n {
+        put_card(room, id, cards[i]);
     }
-    next
+}
+
+// Puts them at the start of lent bytes.
+pub(crate) fn further_in(bytes: &mut [u8], id: &[u8], further: Further) -> usize
+    ensures { Written bytes.old 0 (lines_text (behind_id (spaceless id.now) (texts further))) bytes.new result }
+{
+    let mut room = Room { bytes, at: 0 };
+    put_further(&mut room, id, further);
+    room.at
 }
 
 // Whether no further card is too long, with so many before its type: an ID and a comma.
@@ -47,12 +52,10 @@ pub(crate) fn are_short(before: usize, further: Further) -> bool
 {
     let n = cards_further::count_of(further);
     let cards = further.cards;
-    let mut i: usize = 0;
-    while i < n {
+    for i in 0..n {
         if limits::CARD_LENGTH - before < cards_further::len_of(cards[i]) {
             return false;
         }
-        i += 1;
     }
     true
 }

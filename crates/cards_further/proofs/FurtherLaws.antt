@@ -20,12 +20,12 @@ use Rattle.words.specs.Lines.{line_of, lines_of}
 use Rattle.words.proofs.WordLaws.{leading-most}
 use Rattle.words.proofs.LineLaws.{no_line, first-line}
 use Rattle.cards_fields.specs.Deck.{cards_of}
-use Rattle.cards_request.specs.Errors.{good}
-use Rattle.cards_request.proofs.ErrorLaws.{good-is, or_else_some}
+use Rattle.std.specs.Prelude.{Ok, Err}
+use Rattle.cards_request.specs.declared.CardError.{CardError}
 use Rattle.cards_request.specs.Requests.{no_card}
 use Rattle.cards_pm.specs.Pm.{is_pm, digit_of, rising}
 use Rattle.cards_trn.specs.Trn.{is_trn, has_count}
-use Rattle.cards_request.specs.declared.CardVerdict.{CardVerdict}
+use Rattle.cards_request.specs.Errors.{CardVerdict}
 use Rattle.cards_request.specs.declared.FurtherCard.{FurtherCard}
 use Rattle.cards_request.specs.declared.Further.{Further}
 use Rattle.cards_further.specs.Together.{past}
@@ -83,12 +83,12 @@ module _ (least : ℕ) (c : List ℕ) (cs : List (List ℕ)) where
       (λ t. rw t)
 
 -- the content errors
-module _ (counted : Bool) (c : List ℕ) (cs : List (List ℕ)) (e : CardVerdict) (is : e ≡ content_error counted c) where
-  pub content-wrong : good e ≡ false → contents_error counted (c ∷ cs) ≡ e
-  content-wrong h = rw (← is) (or_else_some e _ h)
+module _ (counted : Bool) (c : List ℕ) (cs : List (List ℕ)) (v : CardVerdict) (is : v ≡ content_error counted c) where
+  pub content-wrong : (e : CardError) → v ≡ Err e → contents_error counted (c ∷ cs) ≡ Err e
+  content-wrong e h = rw (← is, h)
 
-  pub content-on : good e ≡ true → contents_error counted (c ∷ cs) ≡ contents_error (counted || (is_trn c && has_count c)) cs
-  content-on h = rw (← is, good-is e h)
+  pub content-on : (u : Unit {0}) → v ≡ Ok u → contents_error counted (c ∷ cs) ≡ contents_error (counted || (is_trn c && has_count c)) cs
+  content-on u h = rw (← is, h)
 
 -- what is held of cards, one more
 length-held : (n : ℕ) (ts : List (List ℕ)) → length (held_in n ts) ≡ n

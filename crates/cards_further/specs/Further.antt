@@ -10,17 +10,19 @@ use Rattle.cards_pm.specs.Pm.{is_pm, numbered, pm_fault, pm_text, rising}
 use Rattle.cards_request.specs.Errors.{error_if, or_else, first_of}
 use Rattle.cards_request.specs.Requests.{no_card}
 use Rattle.cards_request.specs.declared.CardError.TheVariants.{LaterFac, UnknownCard, PmNumber, PmWrong, TalApart, TrnApart}
-use Rattle.cards_request.specs.declared.CardVerdict.{CardVerdict}
-use Rattle.cards_request.specs.declared.CardVerdict.TheVariants.{Good}
+use Rattle.cards_request.specs.Errors.{CardVerdict}
+use Rattle.std.specs.Prelude.{Ok}
 use Rattle.cards_request.specs.declared.FurtherCard.{FurtherCard}
 use Rattle.cards_request.specs.declared.Further.{Further}
 use Rattle.cards_further.specs.Together.{apart}
-use Rattle.cards_further.specs.declared.Question.{Question}
-use Rattle.cards_further.specs.declared.Question.TheVariants as Asks
 
 -- "FAC; TAL; TRN; PM, when the type begins with `PM`; unknown otherwise"
 abbrev pub unknown : List ℕ → Bool
 unknown c = not (is_fac c || (is_tal c || (is_trn c || is_pm c)))
+
+-- a card has another ID than this one
+abbrev pub other_than : List ℕ → List ℕ → Bool
+other_than id c = not (field_is c 0 id)
 
 -- "a PM card without a one-digit number"
 abbrev pub unnumbered : List ℕ → Bool
@@ -51,11 +53,11 @@ together_error cs =
 
 -- the content errors of a card: TAL's, or TRN's; of a PM card "nothing is left to find"
 abbrev pub content_error : Bool → List ℕ → CardVerdict
-content_error counted c = cond (is_tal c) (tal_error c) (cond (is_trn c) (trn_error counted c) Good)
+content_error counted c = cond (is_tal c) (tal_error c) (cond (is_trn c) (trn_error counted c) (Ok tt))
 
 -- "which are looked for card by card": the first; `counted`: an earlier TRN card has a count
 abbrev pub contents_error : Bool → List (List ℕ) → CardVerdict
-contents_error counted [] = Good
+contents_error counted [] = Ok tt
 contents_error counted (c ∷ cs) = or_else (content_error counted c) (contents_error (counted || (is_trn c && has_count c)) cs)
 
 -- A CARD IN CANONICAL FORM, from the type on
@@ -80,14 +82,3 @@ held_in (suc n) (t ∷ ts) = held_card t ∷ held_in n ts
 -- "its further cards in the order read, at most 14", blank cards behind them, and how many they are
 unfoldable pub held : List (List ℕ) → Further
 held ts = record { cards = held_in most_further ts; count = min (length ts) most_further }
-
--- what the code asks of a card; `id` is the PTY card's
-abbrev pub answer : Question → List ℕ → List ℕ → Bool
-answer Asks.Fac id c = is_fac c
-answer Asks.Unknown id c = unknown c
-answer Asks.OtherId id c = not (field_is c 0 id)
-answer Asks.Unnumbered id c = unnumbered c
-answer Asks.Faulty id c = faulty c
-answer Asks.Pm id c = is_pm c
-answer Asks.Tal id c = is_tal c
-answer Asks.Trn id c = is_trn c

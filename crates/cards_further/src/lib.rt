@@ -2,79 +2,68 @@
 // as a part of the deck, each card as the part that starts where the last one ended.
 #![tactic(auto)]
 
-ghost use Rattle.std.specs.Prelude.{◌≡◌, false, cond, ◌&&◌, ◌||◌, [], ◌+◌, ◌≤◌, ltb, length, take, drop};
+ghost use Rattle.std.specs.Prelude.{◌≡◌, ℕ, Bool, List, false, cond, ◌&&◌, ◌||◌, [], ◌+◌, ◌≤◌, ltb, length, take, drop};
+ghost use Rattle.std.specs.Borrow.{Bor};
 ghost use Rattle.numbers.specs.Elements.{any};
-ghost use Rattle.text.specs.Room.{Written};
+ghost use Rattle.text.specs.Room.{Written, Puts};
 ghost use Rattle.cards_fields.specs.Deck.{cards_of};
 ghost use Rattle.cards_request.specs.Requests.{texts};
+ghost use Rattle.cards_fac.specs.Fac.{is_fac};
 ghost use Rattle.cards_pm.specs.Pm.{is_pm, digit_of, rising};
 ghost use Rattle.cards_trn.specs.Trn.{is_trn, has_count};
 ghost use Rattle.cards_further.specs.Together.{past, apart};
-ghost use Rattle.cards_further.specs.Further.{answer, unknown, types_error, pm_wrong, together_error};
+ghost use Rattle.cards_further.specs.Further.{other_than, unknown, unnumbered, faulty, types_error, pm_wrong, together_error};
 ghost use Rattle.cards_further.specs.Further.{content_error, contents_error, canonical, canonicals, held_card, held};
 
 use cards_fields::{card, deck};
-use cards_request::{CardError, CardVerdict, Further, FurtherCard};
+use cards_request::{CardError, Further, FurtherCard};
 use numbers::limits;
+use text::room::Room;
 
-// What is asked of a card.
-#[derive(Clone, Copy)]
-pub enum Question {
-    Fac,
-    Unknown,
-    OtherId,
-    Unnumbered,
-    Faulty,
-    Pm,
-    Tal,
-    Trn,
+// Whether a card is a FAC card.
+fn is_fac(card: &[u8]) -> bool
+    ensures { result ≡ is_fac card.now }
+{
+    card::field_is(card, 1, b"FAC")
 }
 
 // Whether a card is of no known type.
 fn is_unknown(card: &[u8]) -> bool
     ensures { result ≡ unknown card.now }
 {
-    if card::field_is(card, 1, b"FAC") {
-        return false;
-    }
-    if cards_tal::is_tal(card) {
-        return false;
-    }
-    if cards_trn::is_trn(card) {
-        return false;
-    }
-    !cards_pm::is_pm(card)
+    !(is_fac(card) || cards_tal::is_tal(card) || cards_trn::is_trn(card) || cards_pm::is_pm(card))
 }
 
-// What a card answers to a question; the ID is the PTY card's, for the question of another one.
-fn answers(question: Question, id: &[u8], card: &[u8]) -> bool
-    ensures { result ≡ answer question id.now card.now }
+// Whether a card is a PM card without a one-digit number.
+fn is_unnumbered(card: &[u8]) -> bool
+    ensures { result ≡ unnumbered card.now }
 {
-    match question {
-        Question::Fac => card::field_is(card, 1, b"FAC"),
-        Question::Unknown => is_unknown(card),
-        Question::OtherId => !card::field_is(card, 0, id),
-        Question::Unnumbered => cards_pm::is_pm(card) && !cards_pm::is_numbered(card),
-        Question::Faulty => cards_pm::is_pm(card) && cards_pm::is_fault(card),
-        Question::Pm => cards_pm::is_pm(card),
-        Question::Tal => cards_tal::is_tal(card),
-        Question::Trn => cards_trn::is_trn(card),
-    }
+    cards_pm::is_pm(card) && !cards_pm::is_numbered(card)
 }
 
-// How much is taken by the cards in front that all give the same answer to a question.
-fn skip(rest: &[u8], id: &[u8], question: Question, want: bool) -> usize
+// Whether a card is a PM card that is malformed or too long.
+fn is_faulty(card: &[u8]) -> bool
+    ensures { result ≡ faulty card.now }
+{
+    cards_pm::is_pm(card) && cards_pm::is_fault(card)
+}
+
+// How much is taken by the cards in front that all give the same answer to a test.
+fn skip<F: Fn(&[u8]) -> bool>(rest: &[u8], test: &F, want: bool) -> usize
+    requires { F.IsAlwaysCallable test.now }
     ensures within { result ≤ length rest.now }
-    ensures left { cards_of (drop result rest.now) ≡ past want (answer question id.now) (cards_of rest.now) }
+    ensures left { (p : List ℕ → Bool) → ((card : Bor (List ℕ)) (answer : Bool) → F.post test.now card answer → answer ≡ p card.now)
+        → cards_of (drop result rest.now) ≡ past want p (cards_of rest.now) }
 {
     let mut at: usize = 0;
+    // Stays: a card starts where the last one ended, as docs/ARCHITECTURE.md binds it, and the step is a card's length.
     while at < rest.len() {
         let len = deck::card_len(&rest[at..]);
         let end = at + len;
         if end == rest.len() {
             return at;
         }
-        if answers(question, id, &rest[at..end]) != want {
+        if test(&rest[at..end]) != want {
             return at;
         }
         at = end + 1;
@@ -82,33 +71,34 @@ fn skip(rest: &[u8], id: &[u8], question: Question, want: bool) -> usize
     at
 }
 
-// Whether a card gives a yes to a question.
-fn is_any(rest: &[u8], id: &[u8], question: Question) -> bool
-    ensures { result ≡ any (answer question id.now) (cards_of rest.now) }
+// Whether a card passes a test.
+fn is_any<F: Fn(&[u8]) -> bool>(rest: &[u8], test: F) -> bool
+    requires { F.IsAlwaysCallable test }
+    ensures { (p : List ℕ → Bool) → ((card : Bor (List ℕ)) (answer : Bool) → F.post test card answer → answer ≡ p card.now)
+        → result ≡ any p (cards_of rest.now) }
 {
-    let at = skip(rest, id, question, false);
+    let at = skip(rest, &test, false);
     let len = deck::card_len(&rest[at..]);
     len != rest.len() - at
 }
 
-// Whether the cards of a kind stand apart: one more behind the first run of them.
-fn is_apart(rest: &[u8], kind: Question) -> bool
-    ensures { result ≡ apart (answer kind []) (cards_of rest.now) }
+// Whether the cards of a kind, told by a test, stand apart: one more behind the first run of them.
+fn is_apart<F: Fn(&[u8]) -> bool>(rest: &[u8], test: F) -> bool
+    requires { F.IsAlwaysCallable test }
+    ensures { (p : List ℕ → Bool) → ((card : Bor (List ℕ)) (answer : Bool) → F.post test card answer → answer ≡ p card.now)
+        → result ≡ apart p (cards_of rest.now) }
 {
-    let from = skip(rest, b"", kind, false);
+    let from = skip(rest, &test, false);
     let run = &rest[from..];
-    let past = skip(run, b"", kind, true);
-    is_any(&run[past..], b"", kind)
+    let past = skip(run, &test, true);
+    is_any(&run[past..], test)
 }
 
 // Whether a card is a PM card whose digit is less than it may be.
 fn is_low(card: &[u8], least: usize) -> bool
     ensures { result ≡ (is_pm card.now && ltb (digit_of card.now) least) }
 {
-    if cards_pm::is_pm(card) {
-        return (cards_pm::digit_of(card) as usize) < least;
-    }
-    false
+    cards_pm::is_pm(card) && (cards_pm::digit_of(card) as usize) < least
 }
 
 // What the next digit may be at least behind a card.
@@ -127,6 +117,7 @@ fn is_rising(rest: &[u8]) -> bool
 {
     let mut least: usize = 0;
     let mut at: usize = 0;
+    // Stays: as in `skip`, the step is a card's length.
     while at < rest.len() {
         let len = deck::card_len(&rest[at..]);
         let end = at + len;
@@ -145,58 +136,52 @@ fn is_rising(rest: &[u8]) -> bool
 
 // Whether a card has another ID than the PTY card's, which has at most twelve bytes.
 pub fn is_other_id(rest: &[u8], id: &[u8]) -> bool
-    ensures { result ≡ any (answer Question.OtherId id.now) (cards_of rest.now) }
+    ensures { result ≡ any (other_than id.now) (cards_of rest.now) }
 {
-    is_any(rest, id, Question::OtherId)
+    is_any(rest, |card| !card::field_is(card, 0, id))
 }
 
 // The errors of the cards' types: a FAC card, then one of unknown type.
-pub fn types_error(rest: &[u8]) -> CardVerdict
+pub fn types_error(rest: &[u8]) -> Result<(), CardError>
     ensures { result ≡ types_error (cards_of rest.now) }
 {
-    if is_any(rest, b"", Question::Fac) {
-        return CardVerdict::Wrong(CardError::LaterFac);
+    if is_any(rest, is_fac) {
+        return Err(CardError::LaterFac);
     }
-    if is_any(rest, b"", Question::Unknown) {
-        return CardVerdict::Wrong(CardError::UnknownCard);
+    if is_any(rest, is_unknown) {
+        return Err(CardError::UnknownCard);
     }
-    CardVerdict::Good
+    Ok(())
 }
 
 // Whether the PM cards stand apart, one is malformed or too long, or their digits do not rise.
 fn is_pm_wrong(rest: &[u8]) -> bool
     ensures { result ≡ pm_wrong (cards_of rest.now) }
 {
-    if is_apart(rest, Question::Pm) {
-        return true;
-    }
-    if is_any(rest, b"", Question::Faulty) {
-        return true;
-    }
-    !is_rising(rest)
+    is_apart(rest, cards_pm::is_pm) || is_any(rest, is_faulty) || !is_rising(rest)
 }
 
 // The errors of the cards as they stand together: 30, 4, 23, 24.
-pub fn together_error(rest: &[u8]) -> CardVerdict
+pub fn together_error(rest: &[u8]) -> Result<(), CardError>
     ensures { result ≡ together_error (cards_of rest.now) }
 {
-    if is_any(rest, b"", Question::Unnumbered) {
-        return CardVerdict::Wrong(CardError::PmNumber);
+    if is_any(rest, is_unnumbered) {
+        return Err(CardError::PmNumber);
     }
     if is_pm_wrong(rest) {
-        return CardVerdict::Wrong(CardError::PmWrong);
+        return Err(CardError::PmWrong);
     }
-    if is_apart(rest, Question::Tal) {
-        return CardVerdict::Wrong(CardError::TalApart);
+    if is_apart(rest, cards_tal::is_tal) {
+        return Err(CardError::TalApart);
     }
-    if is_apart(rest, Question::Trn) {
-        return CardVerdict::Wrong(CardError::TrnApart);
+    if is_apart(rest, cards_trn::is_trn) {
+        return Err(CardError::TrnApart);
     }
-    CardVerdict::Good
+    Ok(())
 }
 
 // The content error of a card; `counted`: an earlier TRN card has a count.
-fn content_error(card: &[u8], counted: bool) -> CardVerdict
+fn content_error(card: &[u8], counted: bool) -> Result<(), CardError>
     ensures { result ≡ content_error counted card.now }
 {
     if cards_tal::is_tal(card) {
@@ -205,56 +190,57 @@ fn content_error(card: &[u8], counted: bool) -> CardVerdict
     if cards_trn::is_trn(card) {
         return cards_trn::trn_error(card, counted);
     }
-    CardVerdict::Good
+    Ok(())
 }
 
 // Whether a TRN card has a count, up to this card.
 fn is_counted(card: &[u8], counted: bool) -> bool
     ensures { result ≡ (counted || (is_trn card.now && has_count card.now)) }
 {
-    if counted {
-        return true;
-    }
-    if cards_trn::is_trn(card) {
-        return cards_trn::has_count(card);
-    }
-    false
+    counted || (cards_trn::is_trn(card) && cards_trn::has_count(card))
 }
 
 // The first content error, card by card.
-pub fn contents_error(rest: &[u8]) -> CardVerdict
+pub fn contents_error(rest: &[u8]) -> Result<(), CardError>
     ensures { result ≡ contents_error false (cards_of rest.now) }
 {
     let mut counted = false;
     let mut at: usize = 0;
+    // Stays: as in `skip`, the step is a card's length.
     while at < rest.len() {
         let len = deck::card_len(&rest[at..]);
         let end = at + len;
         if end == rest.len() {
-            return CardVerdict::Good;
+            return Ok(());
         }
         let card = &rest[at..end];
-        let e = content_error(card, counted);
-        if !cards_request::is_good(e) {
-            return e;
-        }
+        content_error(card, counted)?;
         counted = is_counted(card, counted);
         at = end + 1;
     }
-    CardVerdict::Good
+    Ok(())
 }
 
 // Puts a card from its type on.
-fn put_canonical(room: &mut [u8], at: usize, card: &[u8]) -> usize
-    ensures { Written room.old at (canonical card.now) room.new result }
+fn put_canonical(room: &mut Room, card: &[u8])
+    ensures { Puts room.old (canonical card.now) room.new }
 {
     if cards_tal::is_tal(card) {
-        return cards_tal::put_tal(room, at, card);
+        cards_tal::put_tal(room, card);
+    } else if cards_trn::is_trn(card) {
+        cards_trn::put_trn(room, card);
+    } else {
+        cards_pm::put_pm(room, card);
     }
-    if cards_trn::is_trn(card) {
-        return cards_trn::put_trn(room, at, card);
-    }
-    cards_pm::put_pm(room, at, card)
+}
+
+// Puts it at the start of lent bytes.
+fn canonical_in(bytes: &mut [u8], card: &[u8]) -> usize
+    ensures { Written bytes.old 0 (canonical card.now) bytes.new result }
+{
+    let mut room = Room { bytes, at: 0 };
+    put_canonical(&mut room, card);
+    room.at
 }
 
 // A card as it is held.
@@ -262,7 +248,7 @@ fn held_card(card: &[u8]) -> FurtherCard
     ensures { result ≡ held_card (canonical card.now) }
 {
     let mut text = [b' '; limits::TEXT_LENGTH];
-    let len = put_canonical(&mut text, 0, card);
+    let len = canonical_in(&mut text, card);
     FurtherCard { text, len }
 }
 
@@ -274,6 +260,7 @@ pub fn held(rest: &[u8]) -> Further
     let mut cards = none.cards;
     let mut count: usize = 0;
     let mut at: usize = 0;
+    // Stays: as in `skip`, the step is a card's length.
     while at < rest.len() {
         let len = deck::card_len(&rest[at..]);
         let end = at + len;
@@ -294,20 +281,12 @@ pub fn held(rest: &[u8]) -> Further
 pub fn count_of(further: Further) -> usize
     ensures { result ≡ length (texts further) }
 {
-    let n = further.count;
-    if limits::MOST_FURTHER < n {
-        return limits::MOST_FURTHER;
-    }
-    n
+    further.count.min(limits::MOST_FURTHER)
 }
 
 // How long a card's text is: one that says more than it has room for has 78 bytes.
 pub fn len_of(card: FurtherCard) -> usize
     ensures { result ≡ length (take card.len card.text) }
 {
-    let n = card.len;
-    if limits::TEXT_LENGTH < n {
-        return limits::TEXT_LENGTH;
-    }
-    n
+    card.len.min(limits::TEXT_LENGTH)
 }

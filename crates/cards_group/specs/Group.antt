@@ -7,7 +7,7 @@ use Rattle.words.specs.Words.{same, value}
 use Rattle.cards_fields.specs.Fields.{field, padded}
 use Rattle.cards_request.specs.Errors.{error_if, first_of}
 use Rattle.cards_request.specs.Requests.{no_request, no_full_request}
-use Rattle.cards_pty.specs.Pty.{priority_of, pty_error}
+use Rattle.cards_pty.specs.Pty.{held_priority, pty_error}
 use Rattle.cards_fac.specs.Fac.{facilities_of, is_fac, asked, fac_error}
 use Rattle.cards_tal.specs.Tal.{is_tal}
 use Rattle.cards_trn.specs.Trn.{is_trn}
@@ -24,8 +24,8 @@ use Rattle.cards_request.specs.declared.CardError.TheVariants.{
   TalApart,
   TrnApart,
 }
-use Rattle.cards_request.specs.declared.CardVerdict.{CardVerdict}
-use Rattle.cards_request.specs.declared.CardVerdict.TheVariants.{Good, Wrong}
+use Rattle.cards_request.specs.Errors.{CardVerdict}
+use Rattle.std.specs.Prelude.{Ok, Err}
 use Rattle.cards_request.specs.declared.Request.{Request}
 use Rattle.cards_request.specs.declared.Further.{Further}
 use Rattle.cards_group.specs.declared.Reading.{Reading}
@@ -86,9 +86,9 @@ request_of pty asks = record {
   device = mark (field pty 6);
   medium = padded 6 (field pty 7);
   mode = mark (field pty 8);
-  sequence = (priority_of (field pty 9)).sequence;
-  letter = (priority_of (field pty 9)).letter;
-  precedence = (priority_of (field pty 9)).precedence;
+  sequence = (held_priority (field pty 9)).sequence;
+  letter = (held_priority (field pty 9)).letter;
+  precedence = (held_priority (field pty 9)).precedence;
   mix = mark (field pty 10);
   minutes = value (field pty 11);
   store = mark (field pty 12);
@@ -98,13 +98,13 @@ request_of pty asks = record {
 
 -- an error alone, or the request
 abbrev pub answer : CardVerdict → Request → Reading
-answer Good r = record { verdict = Good; request = r }
-answer (Wrong e) r = record { verdict = Wrong e; request = no_request }
+answer (Ok tt) r = record { verdict = Ok tt; request = r }
+answer (Err e) r = record { verdict = Err e; request = no_request }
 
 -- an error alone, or the request with its further cards
 abbrev pub full_answer : CardVerdict → Request → Further → FullReading
-full_answer Good r f = record { verdict = Good; full = record { request = r; further = f } }
-full_answer (Wrong e) r f = record { verdict = Wrong e; full = no_full_request }
+full_answer (Ok tt) r f = record { verdict = Ok tt; full = record { request = r; further = f } }
+full_answer (Err e) r f = record { verdict = Err e; full = no_full_request }
 
 -- what n cards read as
 unfoldable pub read_cards : ℕ → List ℕ → List ℕ → List (List ℕ) → Reading

@@ -1,34 +1,33 @@
 // A group of cards: what it asks for, or its first error.
 #![tactic(auto)]
 
-ghost use Rattle.std.specs.Prelude.{◌≡◌, false, ◌||◌, ◌≤◌, length};
+ghost use Rattle.std.specs.Prelude.{◌≡◌, Ok, ◌||◌, ◌≤◌, length};
 ghost use Rattle.numbers.specs.Elements.{any};
 ghost use Rattle.words.specs.Words.{same, value};
 ghost use Rattle.cards_fields.specs.Fields.{field, fields, padded};
 ghost use Rattle.cards_fields.specs.Deck.{cards_of};
-ghost use Rattle.cards_request.specs.Errors.{good};
-ghost use Rattle.cards_request.specs.Requests.{no_request};
-ghost use Rattle.cards_pty.specs.Pty.{priority_of, fields_error};
+ghost use Rattle.cards_pty.specs.Pty.{held_priority, fields_error};
 ghost use Rattle.cards_fac.specs.Fac.{asks_of};
-ghost use Rattle.cards_group.specs.Steps.{front_error, order_error};
+ghost use Rattle.cards_group.specs.Steps.{front_error, order_error, reading_of};
 ghost use Rattle.cards_group.specs.Group.{other_id, mark, request_of, answer, read_cards, read_group, read_full};
 
 use cards_fields::{card, deck};
 use cards_pty::Priority;
-use cards_request::{CardError, CardVerdict, Facilities, FullRequest, Request};
+use cards_request::{CardError, Facilities, FullRequest, Request};
 use numbers::limits;
 
 // What reading a group answers: the request, or blanks beside an error.
+// Stays: `read_group` and `read_full` of specs/Group promise the blanks, and demands' theorems name the two parts.
 #[derive(Clone, Copy)]
 pub struct Reading {
-    pub verdict: CardVerdict,
+    pub verdict: Result<(), CardError>,
     pub request: Request,
 }
 
 // The same with the further cards.
 #[derive(Clone, Copy)]
 pub struct FullReading {
-    pub verdict: CardVerdict,
+    pub verdict: Result<(), CardError>,
     pub full: FullRequest,
 }
 
@@ -72,17 +71,17 @@ fn number_at(card: &[u8], k: usize) -> u32
 // The priority on a card, in its tenth field.
 fn priority_at(card: &[u8]) -> Priority
     requires { length (field card.now 9) ≤ 12 }
-    ensures { result ≡ priority_of (field card.now 9) }
+    ensures { result ≡ held_priority (field card.now 9) }
 {
     let f = card::field_at(card, 9);
     let n = f.len;
     let bytes = f.bytes;
-    cards_pty::priority_of(&bytes[..n])
+    cards_pty::priority_of(&bytes[..n]).unwrap_or(cards_pty::NO_PRIORITY)
 }
 
 // The request of a good PTY card and of what is asked for.
 fn request(card: &[u8], facilities: Facilities) -> Request
-    requires { fields_error (fields card.now) ≡ CardVerdict.Good }
+    requires { fields_error (fields card.now) ≡ Ok tt }
     ensures { result ≡ request_of card.now (asks_of facilities) }
 {
     let p = priority_at(card);
@@ -121,76 +120,43 @@ fn is_other_id(pty: &[u8], fac: &[u8], rest: &[u8]) -> bool
 }
 
 // The errors of a group of n cards up to its second card's type.
-fn front_error(n: usize, pty: &[u8], fac: &[u8]) -> CardVerdict
+fn front_error(n: usize, pty: &[u8], fac: &[u8]) -> Result<(), CardError>
     ensures { result ≡ front_error n pty.now fac.now }
 {
-    let e = cards_pty::pty_error(pty);
-    if !cards_request::is_good(e) {
-        return e;
-    }
+    cards_pty::pty_error(pty)?;
     if limits::MOST_CARDS < n {
-        return CardVerdict::Wrong(CardError::WrongCount);
+        return Err(CardError::WrongCount);
     }
     if number_at(pty, 2) as usize != n {
-        return CardVerdict::Wrong(CardError::WrongCount);
+        return Err(CardError::WrongCount);
     }
     if card::field_is(fac, 1, b"FAC") {
-        return CardVerdict::Good;
+        return Ok(());
     }
-    CardVerdict::Wrong(CardError::NoFac)
+    Err(CardError::NoFac)
 }
 
 // The errors behind them that go by number over the whole group.
-fn order_error(pty: &[u8], fac: &[u8], rest: &[u8]) -> CardVerdict
+fn order_error(pty: &[u8], fac: &[u8], rest: &[u8]) -> Result<(), CardError>
     requires { length (field pty.now 0) ≤ 12 }
     ensures { result ≡ order_error pty.now fac.now (cards_of rest.now) }
 {
-    let e = cards_further::types_error(rest);
-    if !cards_request::is_good(e) {
-        return e;
-    }
+    cards_further::types_error(rest)?;
     if is_other_id(pty, fac, rest) {
-        return CardVerdict::Wrong(CardError::OtherId);
+        return Err(CardError::OtherId);
     }
     cards_further::together_error(rest)
 }
 
-// An error alone.
-fn no_reading(verdict: CardVerdict) -> Reading
-    requires { good verdict ≡ false }
-    ensures { result ≡ answer verdict no_request }
-{
-    let request = cards_request::no_request();
-    Reading { verdict, request }
-}
-
 // What a group of n cards asks for, or its first error: PTY, FAC and the rest; a card that is absent is empty.
-fn read_cards(n: usize, pty: &[u8], fac: &[u8], rest: &[u8]) -> Reading
-    ensures { result ≡ read_cards n pty.now fac.now (cards_of rest.now) }
+fn read_cards(n: usize, pty: &[u8], fac: &[u8], rest: &[u8]) -> Result<Request, CardError>
+    ensures { reading_of result ≡ read_cards n pty.now fac.now (cards_of rest.now) }
 {
-    let front = front_error(n, pty, fac);
-    if !cards_request::is_good(front) {
-        return no_reading(front);
-    }
-    let order = order_error(pty, fac, rest);
-    if !cards_request::is_good(order) {
-        return no_reading(order);
-    }
-    let f = cards_fac::read_fac(fac);
-    let verdict = f.verdict;
-    if !cards_request::is_good(verdict) {
-        return no_reading(verdict);
-    }
-    let contents = cards_further::contents_error(rest);
-    if !cards_request::is_good(contents) {
-        return no_reading(contents);
-    }
-    let facilities = f.facilities;
-    let request = request(pty, facilities);
-    Reading {
-        verdict: CardVerdict::Good,
-        request,
-    }
+    front_error(n, pty, fac)?;
+    order_error(pty, fac, rest)?;
+    let facilities = cards_fac::read_fac(fac)?;
+    cards_further::contents_error(rest)?;
+    Ok(request(pty, facilities))
 }
 
 // What a group of cards, as a part of its deck, asks for, or its first error. The further cards are looked at and not
@@ -202,7 +168,16 @@ pub fn read_group(group: &[u8]) -> Reading
     let pty = deck::card_at(group, 0);
     let fac = deck::card_at(group, 1);
     let rest = deck::behind(group, 2);
-    read_cards(n, pty, fac, rest)
+    match read_cards(n, pty, fac, rest) {
+        Ok(request) => Reading {
+            verdict: Ok(()),
+            request,
+        },
+        Err(error) => Reading {
+            verdict: Err(error),
+            request: cards_request::no_request(),
+        },
+    }
 }
 
 // The same with its further cards.

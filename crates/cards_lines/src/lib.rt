@@ -3,12 +3,13 @@
 #![tactic(auto)]
 
 ghost use Rattle.std.specs.Prelude.{◌≡◌};
-ghost use Rattle.text.specs.Room.{Written};
+ghost use Rattle.text.specs.Room.{Puts};
 ghost use Rattle.cards_lines.specs.Shown.{shown_by, error_line, refused_text};
 
 use cards_fields::{card, parts};
 use cards_request::CardError;
 use numbers::Refusal;
+use text::room::Room;
 use words::Class;
 
 // The ID of a group's PTY card if it is well formed, else the one before.
@@ -34,21 +35,21 @@ pub fn shown_by(card: &[u8], shown: [u8; 6]) -> [u8; 6]
 }
 
 // Puts the line of an error.
-pub fn put_error(out: &mut [u8], at: usize, id: [u8; 6], error: CardError) -> usize
-    ensures { Written out.old at (error_line id error) out.new result }
+pub fn put_error(out: &mut Room, id: [u8; 6], error: CardError)
+    ensures { Puts out.old (error_line id error) out.new }
 {
-    let a = text::put_bytes(out, at, b"SP ");
-    let b = parts::put_name(out, a, &id);
-    let c = text::put_bytes(out, b, b" ER ");
-    let d = text::put_decimal(out, c, cards_request::number_of(error) as u64);
-    text::put_byte(out, d, b'\n')
+    out.put_bytes(b"SP ");
+    parts::put_name(out, &id);
+    out.put_bytes(b" ER ");
+    out.put_decimal(cards_request::number_of(error) as u64);
+    out.put_byte(b'\n');
 }
 
 // The line of a refused deck.
-pub fn put_refused(out: &mut [u8], at: usize, refusal: Refusal) -> usize
-    ensures { Written out.old at (refused_text refusal) out.new result }
+pub fn put_refused(out: &mut Room, refusal: Refusal)
+    ensures { Puts out.old (refused_text refusal) out.new }
 {
-    let words = text::put_bytes(out, at, b"SCH ER ");
-    let number = text::put_decimal(out, words, numbers::number_of(refusal) as u64);
-    text::put_byte(out, number, b'\n')
+    out.put_bytes(b"SCH ER ");
+    out.put_decimal(numbers::number_of(refusal) as u64);
+    out.put_byte(b'\n');
 }

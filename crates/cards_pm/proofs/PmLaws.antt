@@ -15,8 +15,9 @@ use Rattle.numbers.specs.Quoted.{byte, bytes}
 use Rattle.numbers.proofs.Tests.{by_bool, never, or-true}
 use Rattle.numbers.specs.Limits.{card_length, pm_length}
 use Rattle.text.specs.Class.{is_digit}
-use Rattle.text.specs.Room.{Written}
-use Rattle.text.proofs.RoomLaws.{and_then}
+use Rattle.text.specs.Room.{Puts}
+use Rattle.text.specs.declared.room.Room.{Room}
+use Rattle.text.proofs.RoomLaws.{puts-then}
 use Rattle.words.specs.Words.{every, has, same, isnt, leading}
 use Rattle.words.proofs.WordLaws.{and-false, leading-most, has-later}
 use Rattle.cards_fields.specs.Fields.{field, field_of, padded, card_byte}
@@ -200,11 +201,10 @@ module _ (card : List ℕ) where
 
 -- ---- the card put, piece after piece
 
-pub pm-put : (card : List ℕ) {digit : ℕ} {text s t u v w x : List ℕ} {a b c d e f : ℕ}
-    → digit ≡ digit_of card → text ≡ letters card
-    → Written s a (bytes "PM") t b → Written t b (digit ∷ []) u c → Written u c (44 ∷ []) v d → Written v d text w e → Written w e (46 ∷ []) x f
-    → Written s a (pm_text card) x f
+pub pm-put : (card : List ℕ) {digit : ℕ} {text : List ℕ} {s t u v w x : Room} → digit ≡ digit_of card → text ≡ letters card
+    → Puts s (bytes "PM") t → Puts t (digit ∷ []) u → Puts u (44 ∷ []) v → Puts v text w → Puts w (46 ∷ []) x
+    → Puts s (pm_text card) x
 unfolding pm_text
-pm-put card {digit} {text} {s} {x = x} {a = a} {f = f} i j g h k l m =
-    let z : Written s a (bytes "PM" ++ (digit ∷ 44 ∷ (text ++ (46 ∷ [])))) x f = and_then g (and_then h (and_then k (and_then l m))) in
+pm-put card {digit} {text} {s} {x = x} i j g h k l m =
+    let z : Puts s (bytes "PM" ++ (digit ∷ 44 ∷ (text ++ (46 ∷ [])))) x = puts-then g (puts-then h (puts-then k (puts-then l m))) in
     rw (i, j) at z

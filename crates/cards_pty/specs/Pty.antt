@@ -1,5 +1,6 @@
 -- The PTY card: each field's length and content, the errors, and the priority.
-use Rattle.std.specs.Prelude.{ℕ, suc, ◌+◌, Bool, true, false, cond, ◌&&◌, ◌||◌, not, List, [], ◌∷◌, eqb, ltb, leb, length, get_or, take, drop}
+use Rattle.std.specs.Prelude.{ℕ, suc, ◌+◌, Bool, true, cond, ◌&&◌, ◌||◌, not, List, [], ◌∷◌, eqb, ltb, leb, length, get_or, take, drop, Option, Some, None, Ok, Err, is_some}
+use Rattle.std.specs.Option.{unwrap_or}
 use Rattle.numbers.specs.Quoted.{byte, bytes}
 use Rattle.numbers.specs.Limits.{last_sequence, last_precedence}
 use Rattle.text.specs.Class.{is_digit, is_letter, is_alnum}
@@ -9,8 +10,7 @@ use Rattle.cards_fields.specs.Fields.{fields, is_pty, malformed}
 use Rattle.cards_request.specs.Errors.{error_if, or_else, first_of}
 use Rattle.cards_request.specs.declared.CardError.{CardError}
 use Rattle.cards_request.specs.declared.CardError.TheVariants.{NotPty, PtyMalformed, IdLength, WrongRush, WrongLength, WrongContent}
-use Rattle.cards_request.specs.declared.CardVerdict.{CardVerdict}
-use Rattle.cards_request.specs.declared.CardVerdict.TheVariants.{Good, Wrong}
+use Rattle.cards_request.specs.Errors.{CardVerdict}
 use Rattle.cards_pty.specs.declared.Priority.{Priority}
 
 -- "letters, digits or hyphens, no hyphen first"
@@ -56,24 +56,28 @@ precedence_good p = leb (length p) 2 && (every is_digit p && leb (precedence p) 
 abbrev pub last_of_all : ℕ → ℕ → Bool
 last_of_all l p = eqb l (byte "Z") && eqb p last_precedence
 
--- a priority of wrong content is all zeros
-abbrev pub no_priority : Priority
-no_priority = record { good = false; sequence = 0; letter = 0; precedence = 0 }
-
--- the letter and the precedence behind a sequence
-unfoldable pub ranked : ℕ → ℕ → List ℕ → Priority
+-- the letter and the precedence behind a sequence, if they are right
+unfoldable pub ranked : ℕ → ℕ → List ℕ → Option Priority
 ranked q l p =
     cond (is_letter l && (precedence_good p && not (last_of_all l (precedence p))))
-    (record { good = true; sequence = q; letter = l; precedence = precedence p })
-    no_priority
+    (Some (record { sequence = q; letter = l; precedence = precedence p }))
+    None
 
--- a priority: sequence, letter, precedence
-unfoldable pub priority_of : List ℕ → Priority
-priority_of t = cond (sequence_good t) (ranked (value (sequence_text t)) (letter_of t) (precedence_text t)) no_priority
+-- a priority: sequence, letter, precedence; none of wrong content
+unfoldable pub priority_of : List ℕ → Option Priority
+priority_of t = cond (sequence_good t) (ranked (value (sequence_text t)) (letter_of t) (precedence_text t)) None
 
 -- a priority of right content
 abbrev pub priority_good : List ℕ → Bool
-priority_good t = (priority_of t).good
+priority_good t = is_some (priority_of t)
+
+-- a priority of wrong content is all zeros
+abbrev pub no_priority : Priority
+no_priority = record { sequence = 0; letter = 0; precedence = 0 }
+
+-- what a request holds of a text's priority
+abbrev pub held_priority : List ℕ → Priority
+held_priority t = unwrap_or (priority_of t) no_priority
 
 -- what a field may be: its length and its content
 pub record Rule : Type 0 where
@@ -124,12 +128,12 @@ content_error k = cond (eqb k 3) WrongRush WrongContent
 abbrev pub field_error : ℕ → Rule → List ℕ → CardVerdict
 field_error k r t =
     cond (ltb (length t) r.least || ltb r.most (length t))
-    (Wrong (length_error k))
-    (cond (r.content t) Good (Wrong (content_error k)))
+    (Err (length_error k))
+    (cond (r.content t) (Ok tt) (Err (content_error k)))
 
 -- "its fields left to right": the first error of those from index k on; a missing field is empty
 abbrev pub fields_from : ℕ → List Rule → List (List ℕ) → CardVerdict
-fields_from k [] fs = Good
+fields_from k [] fs = Ok tt
 fields_from k (r ∷ rs) [] = or_else (field_error k r []) (fields_from (suc k) rs [])
 fields_from k (r ∷ rs) (f ∷ fs) = or_else (field_error k r f) (fields_from (suc k) rs fs)
 

@@ -3,27 +3,39 @@
 
 ghost use Rattle.std.specs.Prelude.{◌≡◌, ◌≤◌, ◌<◌, length};
 ghost use Rattle.cards_fields.specs.Fields.{field, fields};
-ghost use Rattle.cards_pty.specs.Pty.{program_name, no_priority, precedence, last_of_all, ranked, priority_of, rule_at};
+ghost use Rattle.cards_pty.specs.Pty.{program_name, precedence, last_of_all, ranked, priority_of, rule_at};
 ghost use Rattle.cards_pty.specs.Pty.{length_error, content_error, field_error, fields_error, pty_error};
 
 use cards_fields::card;
-use cards_request::{CardError, CardVerdict};
+use cards_request::CardError;
 use numbers::limits;
 use words::Class;
 
-// A job's priority; all zeros where its text has wrong content.
-#[derive(Clone, Copy)]
+// A job's priority.
+#[derive(Clone, Copy, Debug, PartialEq, Eq)]
 pub struct Priority {
-    pub good: bool,
     pub sequence: u8,
     pub letter: u8,
     pub precedence: u8,
 }
 
 // The table's numbers: for each field its least and most length.
-const LEAST: [usize; 14] = [1, 3, 1, 0, 1, 0, 0, 1, 1, 1, 1, 1, 0, 0];
-
-const MOST: [usize; 14] = [6, 3, 2, 1, 12, 1, 1, 6, 1, 5, 1, 4, 1, 6];
+const LENGTHS: [(usize, usize); 14] = [
+    (1, 6),
+    (3, 3),
+    (1, 2),
+    (0, 1),
+    (1, 12),
+    (0, 1),
+    (0, 1),
+    (1, 6),
+    (1, 1),
+    (1, 5),
+    (1, 1),
+    (1, 4),
+    (0, 1),
+    (0, 6),
+];
 
 // Whether a text is a program's name: letters, digits or hyphens, no hyphen first.
 fn is_program_name(t: &[u8]) -> bool
@@ -35,17 +47,12 @@ fn is_program_name(t: &[u8]) -> bool
     words::all_of(Class::Hyphened, t)
 }
 
-// What a priority of wrong content is.
-fn no_priority() -> Priority
-    ensures { result ≡ no_priority }
-{
-    Priority {
-        good: false,
-        sequence: 0,
-        letter: 0,
-        precedence: 0,
-    }
-}
+// A priority of wrong content, where one has to be held.
+pub const NO_PRIORITY: Priority = Priority {
+    sequence: 0,
+    letter: 0,
+    precedence: 0,
+};
 
 // The last sequence.
 const LAST_SEQUENCE: u32 = limits::LAST_SEQUENCE as u32;
@@ -72,62 +79,43 @@ fn is_last(letter: u8, n: u32) -> bool
 }
 
 // The priority of a letter and a precedence behind a sequence.
-fn rank(sequence: u8, letter: u8, p: &[u8]) -> Priority
+fn rank(sequence: u8, letter: u8, p: &[u8]) -> Option<Priority>
     ensures { result ≡ ranked sequence letter p.now }
 {
-    if !text::is_letter(letter) {
-        return no_priority();
-    }
-    if 2 < p.len() {
-        return no_priority();
-    }
-    if !words::all_of(Class::Digit, p) {
-        return no_priority();
+    if !text::is_letter(letter) || 2 < p.len() || !words::all_of(Class::Digit, p) {
+        return None;
     }
     let n = precedence_of(p);
-    if LAST_PRECEDENCE < n {
-        return no_priority();
+    if LAST_PRECEDENCE < n || is_last(letter, n) {
+        return None;
     }
-    if is_last(letter, n) {
-        return no_priority();
-    }
-    Priority {
-        good: true,
+    Some(Priority {
         sequence,
         letter,
         precedence: n as u8,
-    }
+    })
 }
 
 // A priority: an optional sequence of two digits, a letter, an optional precedence.
-pub fn priority_of(t: &[u8]) -> Priority
+pub fn priority_of(t: &[u8]) -> Option<Priority>
     ensures { result ≡ priority_of t.now }
 {
-    if t.len() == 0 {
-        return no_priority();
-    }
-    let first = t[0];
+    let first = text::byte_at(t, 0);
     if text::is_letter(first) {
         return rank(0, first, &t[1..]);
     }
-    if t.len() < 3 {
-        return no_priority();
+    if t.len() < 3 || !words::all_of(Class::Digit, &t[..2]) {
+        return None;
     }
-    let s = &t[..2];
-    if !words::all_of(Class::Digit, s) {
-        return no_priority();
-    }
-    let sequence = words::number(s);
-    if sequence < 1 {
-        return no_priority();
-    }
-    if LAST_SEQUENCE < sequence {
-        return no_priority();
+    let sequence = words::number(&t[..2]);
+    if sequence < 1 || LAST_SEQUENCE < sequence {
+        return None;
     }
     rank(sequence as u8, t[2], &t[3..])
 }
 
 // Whether a field's content is right.
+#[tactic(auto, unfolding(crate::specs::Pty::rules))]
 fn is_right(k: usize, t: &[u8]) -> bool
     requires { k < 14 }
     ensures { result ≡ (rule_at k).content t.now }
@@ -142,7 +130,7 @@ fn is_right(k: usize, t: &[u8]) -> bool
         6 => words::all_in(b"TAC", t),
         7 => words::all_of(Class::Alnum, t),
         8 => words::all_in(b"SP", t),
-        9 => priority_of(t).good,
+        9 => priority_of(t).is_some(),
         10 => words::all_in(b"PC", t),
         11 => words::all_of(Class::Digit, t),
         12 => words::all_in(b"TACZ", t),
@@ -154,13 +142,11 @@ fn is_right(k: usize, t: &[u8]) -> bool
 fn length_error(k: usize) -> CardError
     ensures { result ≡ length_error k }
 {
-    if k == 0 {
-        return CardError::IdLength;
+    match k {
+        0 => CardError::IdLength,
+        3 => CardError::WrongRush,
+        _ => CardError::WrongLength,
     }
-    if k == 3 {
-        return CardError::WrongRush;
-    }
-    CardError::WrongLength
 }
 
 // The error of wrong content.
@@ -168,76 +154,66 @@ fn content_error(k: usize) -> CardError
     ensures { result ≡ content_error k }
 {
     if k == 3 {
-        return CardError::WrongRush;
+        CardError::WrongRush
+    } else {
+        CardError::WrongContent
     }
-    CardError::WrongContent
 }
 
 // What is wrong with the text of a field: its length first, then its content. Past the fourteenth a field has to be
 // empty.
-pub fn field_error(k: usize, t: &[u8]) -> CardVerdict
+pub fn field_error(k: usize, t: &[u8]) -> Result<(), CardError>
     ensures { result ≡ field_error k (rule_at k) t.now }
 {
-    let n = t.len();
     if 13 < k {
-        if n == 0 {
-            return CardVerdict::Good;
+        if t.len() == 0 {
+            return Ok(());
         }
-        return CardVerdict::Wrong(length_error(k));
+        return Err(length_error(k));
     }
-    if n < LEAST[k] {
-        return CardVerdict::Wrong(length_error(k));
-    }
-    if MOST[k] < n {
-        return CardVerdict::Wrong(length_error(k));
+    let (least, most) = LENGTHS[k];
+    if t.len() < least || most < t.len() {
+        return Err(length_error(k));
     }
     if is_right(k, t) {
-        return CardVerdict::Good;
+        return Ok(());
     }
-    CardVerdict::Wrong(content_error(k))
+    Err(content_error(k))
 }
 
 // The same of a card's field; one that was not gathered whole is longer than any may be.
-fn error_at(card: &[u8], k: usize) -> CardVerdict
+fn error_at(card: &[u8], k: usize) -> Result<(), CardError>
     requires { k < 14 }
     ensures { result ≡ field_error k (rule_at k) (field card.now k) }
 {
     let f = card::field_at(card, k);
     let n = f.len;
     if 12 < n {
-        return CardVerdict::Wrong(length_error(k));
+        return Err(length_error(k));
     }
     let bytes = f.bytes;
     field_error(k, &bytes[..n])
 }
 
 // The first error of a card's fields, left to right.
-fn fields_error(card: &[u8]) -> CardVerdict
+fn fields_error(card: &[u8]) -> Result<(), CardError>
     ensures { result ≡ fields_error (fields card.now) }
 {
-    let mut k: usize = 0;
-    while k < 14 {
-        let e = error_at(card, k);
-        if !cards_request::is_good(e) {
-            return e;
-        }
-        k += 1;
+    for k in 0..14 {
+        error_at(card, k)?;
     }
-    CardVerdict::Good
+    Ok(())
 }
 
 // The errors of the PTY card by itself.
-pub fn pty_error(card: &[u8]) -> CardVerdict
+pub fn pty_error(card: &[u8]) -> Result<(), CardError>
     ensures { result ≡ pty_error card.now }
 {
     if !card::field_is(card, 1, b"PTY") {
-        return CardVerdict::Wrong(CardError::NotPty);
+        return Err(CardError::NotPty);
     }
-    if card::is_malformed(card) {
-        return CardVerdict::Wrong(CardError::PtyMalformed);
-    }
-    if 13 < card::last_field(card) {
-        return CardVerdict::Wrong(CardError::PtyMalformed);
+    if card::is_malformed(card) || 13 < card::last_field(card) {
+        return Err(CardError::PtyMalformed);
     }
     fields_error(card)
 }

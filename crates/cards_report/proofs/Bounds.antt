@@ -17,21 +17,21 @@ use Rattle.numbers.specs.declared.Refusal.{Refusal}
 use Rattle.numbers.specs.declared.Refusal.TheVariants.{NoRoom, WrongRequest}
 use Rattle.numbers.specs.Limits.{cards_room}
 use Rattle.text.specs.Writing.{decimal_text}
-use Rattle.text.specs.Room.{Written}
-use Rattle.text.proofs.RoomLaws.{and_then}
+use Rattle.text.specs.Room.{Puts}
+use Rattle.text.specs.declared.room.Room.{Room}
+use Rattle.text.proofs.RoomLaws.{puts-then}
 use Rattle.text.proofs.Undo.{few-digits}
 use Rattle.cards_fields.specs.Fields.{spaceless}
 use Rattle.cards_fields.proofs.FieldLaws.{spaceless-short}
 use Rattle.cards_lines.specs.Shown.{refused_text}
 use Rattle.cards_lines.proofs.ShownLaws.{error-short}
 use Rattle.cards_request.specs.declared.FullRequest.{FullRequest}
-use Rattle.cards_request.specs.declared.CardVerdict.{CardVerdict}
-use Rattle.cards_request.specs.declared.CardVerdict.TheVariants.{Good, Wrong}
+use Rattle.cards_request.specs.Errors.{CardVerdict}
+use Rattle.std.specs.Prelude.{Ok, Err}
 use Rattle.cards_group.specs.Group.{read_full}
 use Rattle.cards_group.specs.declared.FullReading.{FullReading}
 use Rattle.cards_full.specs.Full.{text_of, fits, short, cards_in, takes_full, write_answer, written}
-use Rattle.cards_full.specs.declared.Wrote.{Wrote}
-use Rattle.cards_full.specs.declared.Wrote.TheVariants.{Cards, Refused}
+use Rattle.std.specs.Prelude.{Result, Ok, Err}
 use Rattle.cards_report.specs.Cards.{table_text, refusal_line, good_text, text_by}
 use Rattle.cards_report.proofs.TableLines.{table-short}
 
@@ -54,25 +54,25 @@ pub record Stands (v : FullRequest) (n : ℕ) (room : List ℕ) : Type 0 where
   pub within : n ≤ length room
   pub now : written v room ≡ text_of v ++ drop n room
 
-wrote : (v : FullRequest) (n : ℕ) (room : List ℕ) → write_answer v (length room) ≡ Cards n → Stands v n room
+wrote : (v : FullRequest) (n : ℕ) (room : List ℕ) → write_answer v (length room) ≡ Ok n → Stands v n room
 unfolding write_answer written fits
 wrote v n room e =
     by_bool (takes_full v)
     (λ t. by_bool (short (cards_in v) && leb (length (text_of v)) (length room))
     (λ u.
-    let q : Cards (length (text_of v)) ≡ Cards n = rw (t, u) at e in
+    let q : Ok (length (text_of v)) ≡ Ok n = rw (t, u) at e in
     let k : length (text_of v) ≡ n = cc in
     record {
       is = sym k;
       within = omega (arith, k, leb-true (length (text_of v)) (length room) (both (short (cards_in v)) (leb (length (text_of v)) (length room)) u).1);
       now = rw (t, u) (ap (λ (m : ℕ). text_of v ++ drop m room) k);
     })
-    (λ u. let q : Refused NoRoom ≡ Cards n = rw (t, u) at e in let z : ◌≡◌ {A = ℕ} 0 1 = cc in absurd (omega arith)))
-    (λ t. let q : Refused WrongRequest ≡ Cards n = rw t at e in let z : ◌≡◌ {A = ℕ} 0 1 = cc in absurd (omega arith))
+    (λ u. let q : Err NoRoom ≡ Ok n = rw (t, u) at e in let z : ◌≡◌ {A = ℕ} 0 1 = cc in absurd (omega arith)))
+    (λ t. let q : Err WrongRequest ≡ Ok n = rw t at e in let z : ◌≡◌ {A = ℕ} 0 1 = cc in absurd (omega arith))
 
-module _ (v : FullRequest) (room : List ℕ) {w : Wrote} {after· : List ℕ} (a : w ≡ write_answer v (length room)) (h : after· ≡ written v room)
+module _ (v : FullRequest) (room : List ℕ) {w : Result ℕ Refusal} {after· : List ℕ} (a : w ≡ write_answer v (length room)) (h : after· ≡ written v room)
     (l : length room ≡ cards_room) where
-  module _ (n : ℕ) (e : w ≡ Cards n) where
+  module _ (n : ℕ) (e : w ≡ Ok n) where
     so : Stands v n room
     so = wrote v n room (sym a ∙ e)
 
@@ -85,36 +85,36 @@ module _ (v : FullRequest) (room : List ℕ) {w : Wrote} {after· : List ℕ} (a
     pub cards-within : n ≤ length after·
     cards-within = omega (arith, ap length (h ∙ so.now), length-append (text_of v) (drop n room), so.is)
 
-    pub cards-put : (shown : List ℕ) {out b c : List ℕ} {at i r : ℕ} → Written out at (take n after·) b i
-        → Written b i (table_text v.further) c r → Written out at (text_by Good v shown) c r
-    cards-put shown {out} {b} {c} {at} {i} {r} x y =
-        let p : Written out at (text_of v) b i = rw front at x in
-        let q : Cards n ≡ write_answer v cards_room = sym e ∙ a ∙ ap (write_answer v) l in
-        subst (λ (u : Wrote). Written out at (good_text u v shown) c r) q (and_then p y)
+    pub cards-put : (shown : List ℕ) {out b c : Room} → Puts out (take n after·) b
+        → Puts b (table_text v.further) c → Puts out (text_by (Ok tt) v shown) c
+    cards-put shown {out} {b} {c} x y =
+        let p : Puts out (text_of v) b = rw front at x in
+        let q : Ok n ≡ write_answer v cards_room = sym e ∙ a ∙ ap (write_answer v) l in
+        subst (λ (u : Result ℕ Refusal). Puts out (good_text u v shown) c) q (puts-then p y)
 
-  pub not-put : (refusal : Refusal) → w ≡ Refused refusal → (shown : List ℕ) {out b : List ℕ} {at r : ℕ}
-      → Written out at (refusal_line shown refusal) b r → Written out at (text_by Good v shown) b r
-  not-put refusal e shown {out} {b} {at} {r} x =
-      let q : Refused refusal ≡ write_answer v cards_room = sym e ∙ a ∙ ap (write_answer v) l in
-      subst (λ (u : Wrote). Written out at (good_text u v shown) b r) q x
+  pub not-put : (refusal : Refusal) → w ≡ Err refusal → (shown : List ℕ) {out b : Room}
+      → Puts out (refusal_line shown refusal) b → Puts out (text_by (Ok tt) v shown) b
+  not-put refusal e shown {out} {b} x =
+      let q : Err refusal ≡ write_answer v cards_room = sym e ∙ a ∙ ap (write_answer v) l in
+      subst (λ (u : Result ℕ Refusal). Puts out (good_text u v shown) b) q x
 
 -- EACH TEXT OF A GROUP HAS AT MOST 2,048 BYTES
-good-short : (v : FullRequest) (shown room : List ℕ) (w : Wrote) → length room ≡ cards_room → write_answer v (length room) ≡ w → length shown ≤ 6
+good-short : (v : FullRequest) (shown room : List ℕ) (w : Result ℕ Refusal) → length room ≡ cards_room → write_answer v (length room) ≡ w → length shown ≤ 6
     → length (good_text w v shown) ≤ 2048
-good-short v shown room (Cards n) l e h =
+good-short v shown room (Ok n) l e h =
     let q = wrote v n room e in
     omega (arith, length-append (text_of v) (table_text v.further), table-short v.further, q.is, q.within, l)
-good-short v shown room (Refused refusal) l e h = omega (arith, refusal-short shown refusal h)
+good-short v shown room (Err refusal) l e h = omega (arith, refusal-short shown refusal h)
 
 pub text-short : (verdict : CardVerdict) (v : FullRequest) (shown : List ℕ) → length shown ≤ 6 → length (text_by verdict v shown) ≤ 2048
-text-short Good v shown h = good-short v shown (replicate cards_room 0) (write_answer v cards_room) refl refl h
-text-short (Wrong e) v shown h = omega (arith, error-short shown e h)
+text-short (Ok tt) v shown h = good-short v shown (replicate cards_room 0) (write_answer v cards_room) refl refl h
+text-short (Err e) v shown h = omega (arith, error-short shown e h)
 
 -- what was read of a group, by its verdict
 pub group-by : (cards : List (List ℕ)) (shown : List ℕ) {reading : FullReading} → reading ≡ read_full cards → {v : CardVerdict}
     → reading.verdict ≡ v
-    → {out b : List ℕ} {at r : ℕ} → Written out at (text_by v reading.full shown) b r
-    → Written out at (text_by (read_full cards).verdict (read_full cards).full shown) b r
-group-by cards shown {reading} e {v} q {out} {b} {at} {r} w =
-    subst (λ (x : FullReading). Written out at (text_by x.verdict x.full shown) b r) e
-    (subst (λ (x : CardVerdict). Written out at (text_by x reading.full shown) b r) (sym q) w)
+    → {out b : Room} → Puts out (text_by v reading.full shown) b
+    → Puts out (text_by (read_full cards).verdict (read_full cards).full shown) b
+group-by cards shown {reading} e {v} q {out} {b} w =
+    subst (λ (x : FullReading). Puts out (text_by x.verdict x.full shown) b) e
+    (subst (λ (x : CardVerdict). Puts out (text_by x reading.full shown) b) (sym q) w)

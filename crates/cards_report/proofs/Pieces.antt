@@ -10,7 +10,7 @@ use Rattle.text.specs.Room.{Written, Whole}
 use Rattle.text.proofs.RoomLaws.{none, entire}
 use Rattle.cards_fields.specs.Deck.{cards_of, size, groups_of, group_size, deck_end}
 use Rattle.cards_fields.proofs.Groups.{First, no-groups, first_group_lem}
-use Rattle.cards_fields.specs.declared.DeckEnd.{DeckEnd}
+use Rattle.cards_fields.specs.Deck.{DeckEnd}
 use Rattle.cards_lines.specs.Shown.{shown_by, refused_text}
 use Rattle.cards_group.specs.Group.{read_full}
 use Rattle.cards_report.specs.Cards.{text_by, group_text, end_text, begin_by, begin, left, piece_by, piece, over, next_by, after, Prints}

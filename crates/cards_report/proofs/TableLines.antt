@@ -11,9 +11,10 @@ use borrow.Author.Tests.{eq-eqb, ne_eqb}
 use Rattle.numbers.specs.Quoted.{byte, bytes}
 use Rattle.numbers.proofs.Tests.{by_bool}
 use Rattle.numbers.specs.Limits.{pm_length, table_length}
-use Rattle.text.specs.Room.{Written}
+use Rattle.text.specs.Room.{Puts}
+use Rattle.text.specs.declared.room.Room.{Room}
 use Rattle.text.specs.Writing.{decimal_text}
-use Rattle.text.proofs.RoomLaws.{Going, none, and_then, turn, end}
+use Rattle.text.proofs.RoomLaws.{Goes, goes-turn, goes-end, puts-none, puts-then}
 use Rattle.text.proofs.Undo.{few-digits}
 use Rattle.words.specs.Lines.{lf, line_text}
 use Rattle.cards_fields.proofs.DeckLaws.{part-is}
@@ -34,22 +35,22 @@ unfolding table_size
 size_is f n e = (omega (arith, e), omega (arith, e, rows-most (texts f)))
 
 -- a line is put
-pub line-turn : {room₀ whole room a b c : List ℕ} {at₀ at i j k : ℕ} (table : List ℕ) (n from : ℕ) → n % pm_length ≡ 0 → from % pm_length ≡ 0 → from < n
-    → Going room₀ at₀ whole room at (lines_from table from ((n - from) / pm_length))
-    → Written room at (byte "=" ∷ []) a i → Written a i (take (from + pm_length - from) (drop from table)) b j → Written b j (lf ∷ []) c k
-    → Going room₀ at₀ whole c k (lines_from table (from + pm_length) ((n - (from + pm_length)) / pm_length))
-line-turn {room₀} {whole} {room} {a} {b} {c} {at₀} {at} {i} {j} {k} table n from m z h g v w x =
+pub line-turn : {first room a b c : Room} {whole : List ℕ} (table : List ℕ) (n from : ℕ) → n % pm_length ≡ 0 → from % pm_length ≡ 0 → from < n
+    → Goes first whole room (lines_from table from ((n - from) / pm_length))
+    → Puts room (byte "=" ∷ []) a → Puts a (take (from + pm_length - from) (drop from table)) b → Puts b (lf ∷ []) c
+    → Goes first whole c (lines_from table (from + pm_length) ((n - (from + pm_length)) / pm_length))
+line-turn {first} {room} {a} {b} {c} {whole} table n from m z h g v w x =
     let e : (n - from) / pm_length ≡ suc ((n - (from + pm_length)) / pm_length) = omega arith in
-    let y : Written a i (take pm_length (drop from table)) b j = rw (part-is table from pm_length) at w in
-    let p : Written room at (line_text (byte "=" ∷ take pm_length (drop from table))) c k = and_then v (and_then y x) in
-    let q : Going room₀ at₀ whole room at
+    let y : Puts a (take pm_length (drop from table)) b = rw (part-is table from pm_length) at w in
+    let p : Puts room (line_text (byte "=" ∷ take pm_length (drop from table))) c = puts-then v (puts-then y x) in
+    let q : Goes first whole room
     (line_text (byte "=" ∷ take pm_length (drop from table)) ++ lines_from table (from + pm_length) ((n - (from + pm_length)) / pm_length)) =
     rw e at g in
-    turn q p
+    goes-turn q p
 
-pub lines_end : {room₀ whole room : List ℕ} {at₀ at : ℕ} (table : List ℕ) (n from : ℕ) → n ≤ from
-    → Going room₀ at₀ whole room at (lines_from table from ((n - from) / pm_length)) → Written room₀ at₀ whole room at
-lines_end table n from h g = let e : (n - from) / pm_length ≡ 0 = omega arith in end (rw e at g)
+pub lines_end : {first room : Room} {whole : List ℕ} (table : List ℕ) (n from : ℕ) → n ≤ from
+    → Goes first whole room (lines_from table from ((n - from) / pm_length)) → Puts first whole room
+lines_end table n from h g = let e : (n - from) / pm_length ≡ 0 = omega arith in goes-end (rw e at g)
 
 -- by place
 module _ (f : Further) {room table : List ℕ} {n : ℕ} (t : Table f room table n) (l : length room ≡ table_length) where
@@ -77,19 +78,19 @@ module _ (f : Further) {room table : List ℕ} {n : ℕ} (t : Table f room table
   table-lines = lines_are (n / pm_length) 0 (omega arith) ∙ ap (λ (m : ℕ). row_lines f 0 (m / pm_length)) t.size
 
   -- no table, and all of one
-  pub no_table : n ≡ 0 → {out : List ℕ} (at : ℕ) → Written out at (table_text f) out at
+  pub no_table : n ≡ 0 → (out : Room) → Puts out (table_text f) out
   unfolding table_text
-  no_table e {out} at = rw (eq-eqb (table_size f) 0 (sym t.size ∙ e)) (none out at)
+  no_table e out = rw (eq-eqb (table_size f) 0 (sym t.size ∙ e)) (puts-none out)
 
-  pub all-table : (n ≡ 0 → ⊥) → {out a b c r : List ℕ} {at i j k o : ℕ} → Written out at (bytes "PMT ") a i → Written a i (decimal_text n) b j
-      → Written b j (lf ∷ []) c k
-      → Written c k (lines_from table 0 ((n - 0) / pm_length)) r o → Written out at (table_text f) r o
+  pub all-table : (n ≡ 0 → ⊥) → {out a b c r : Room} → Puts out (bytes "PMT ") a → Puts a (decimal_text n) b
+      → Puts b (lf ∷ []) c
+      → Puts c (lines_from table 0 ((n - 0) / pm_length)) r → Puts out (table_text f) r
   unfolding table_text
-  all-table z {out} {a} {b} {c} {r} {at} {i} {j} {k} {o} u v x y =
+  all-table z {out} {a} {b} {c} {r} u v x y =
       let same : n - 0 ≡ n = omega arith in
-      let d : Written a i (decimal_text (table_size f)) b j = rw t.size at v in
-      let e : Written c k (row_lines f 0 (table_size f / pm_length)) r o = rw (same, table-lines) at y in
-      rw (ne_eqb (table_size f) 0 (λ (q : table_size f ≡ 0). z (t.size ∙ q))) (and_then u (and_then d (and_then x e)))
+      let d : Puts a (decimal_text (table_size f)) b = rw t.size at v in
+      let e : Puts c (row_lines f 0 (table_size f / pm_length)) r = rw (same, table-lines) at y in
+      rw (ne_eqb (table_size f) 0 (λ (q : table_size f ≡ 0). z (t.size ∙ q))) (puts-then u (puts-then d (puts-then x e)))
 
 -- how long
 places-length : (f : Further) (i k : ℕ) → length (places_from f i k) ≡ k

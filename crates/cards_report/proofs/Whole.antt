@@ -10,8 +10,8 @@ use lib.Seq.{drop-drop}
 use Rattle.numbers.specs.Quoted.{bytes}
 use Rattle.cards_fields.specs.Deck.{cards_of, size, opens, onto_group, groups_of, group_size, deck_end, deck_groups}
 use Rattle.cards_fields.proofs.Groups.{size-cards, deck-cards, Either, empty, full, either}
-use Rattle.cards_fields.specs.declared.DeckEnd.{DeckEnd}
-use Rattle.cards_fields.specs.declared.DeckEnd.TheVariants as Ends
+use Rattle.cards_fields.specs.Deck.{DeckEnd}
+use Rattle.std.specs.Prelude.{Ok, Err}
 use Rattle.cards_lines.specs.Shown.{shown_by, refused_text}
 use Rattle.cards_report.specs.Cards.{group_text, groups_text, end_text, cards_by, cards_text, begin_by}
 use Rattle.cards_report.specs.Cards.{begin, left, piece_by, over, next_by, after, turns}
@@ -114,16 +114,16 @@ pub all-printed : (s : List ℕ) (n : ℕ) → length s < n → All n s (begin s
 all-printed s n h = by (deck_end s) refl
   where
     by : (x : DeckEnd) → deck_end s ≡ x → All n s (begin_by x) (cards_by x s)
-    by (Ends.At m) e =
+    by (Ok m) e =
         let z : m - 0 ≡ m = omega arith in
         let d : groups_of (cards_of (take (m - 0) (drop 0 s))) ≡ deck_groups s =
         ap (λ (k : ℕ). groups_of (cards_of (take k s))) z ∙ ap groups_of (deck-cards s m e) in
         let l : length (deck_groups s) < n =
         omega (arith, ap length (sym d), groups-few (cards_of (take (m - 0) s)), size-cards (take (m - 0) s), length-take (m - 0) s, h) in
         in-groups n s 0 m (bytes "------") (deck_groups s) d l
-    by (Ends.Refused refusal) e = refused n h
+    by (Err refusal) e = refused n h
       where
-        refused : (n : ℕ) → length s < n → All n s (begin_by (Ends.Refused refusal)) (refused_text refusal)
+        refused : (n : ℕ) → length s < n → All n s (begin_by (Err refusal)) (refused_text refusal)
         refused zero k = absurd (omega arith)
         refused (suc n) k =
             let ih = nothing n s (record { coming = Over; from = 0; end = 0; shown = bytes "------" }) refl in

@@ -1,5 +1,5 @@
 -- What the cards program prints: for each group its cards as they are written, with its parameter table, or its error.
-use Rattle.std.specs.Prelude.{ℕ, zero, suc, ◌+◌, ◌-◌, ◌*◌, ◌/◌, ◌≡◌, cond, List, [], ◌∷◌, ◌++◌, eqb, get_or, take, drop}
+use Rattle.std.specs.Prelude.{ℕ, zero, suc, ◌+◌, ◌-◌, ◌*◌, ◌/◌, ◌≡◌, cond, Result, Ok, Err, List, [], ◌∷◌, ◌++◌, eqb, get_or, take, drop}
 use Rattle.numbers.specs.Quoted.{byte, bytes}
 use Rattle.numbers.specs.Refusals.{number_of}
 use Rattle.numbers.specs.declared.Refusal.{Refusal}
@@ -9,16 +9,14 @@ use Rattle.text.specs.Writing.{decimal_text}
 use Rattle.words.specs.Lines.{line_text, size}
 use Rattle.cards_fields.specs.Fields.{spaceless}
 use Rattle.cards_fields.specs.Deck.{cards_of, deck_end, groups_of, deck_groups}
-use Rattle.cards_fields.specs.declared.DeckEnd.{DeckEnd}
-use Rattle.cards_fields.specs.declared.DeckEnd.TheVariants as Ends
+use Rattle.cards_fields.specs.Deck.{DeckEnd}
+use Rattle.std.specs.Prelude.{Ok, Err}
 use Rattle.cards_lines.specs.Shown.{shown_by, error_line, refused_text}
 use Rattle.cards_group.specs.Group.{read_full}
 use Rattle.cards_table.specs.Table.{place, table_size}
 use Rattle.cards_full.specs.Full.{text_of, write_answer}
-use Rattle.cards_full.specs.declared.Wrote.{Wrote}
-use Rattle.cards_full.specs.declared.Wrote.TheVariants as Written
-use Rattle.cards_request.specs.declared.CardVerdict.{CardVerdict}
-use Rattle.cards_request.specs.declared.CardVerdict.TheVariants.{Good, Wrong}
+use Rattle.cards_request.specs.Errors.{CardVerdict}
+use Rattle.std.specs.Prelude.{Ok, Err}
 use Rattle.cards_request.specs.declared.Further.{Further}
 use Rattle.cards_request.specs.declared.FullRequest.{FullRequest}
 use Rattle.cards_report.specs.declared.Coming.{Coming}
@@ -48,14 +46,14 @@ abbrev pub refusal_line : List ℕ → Refusal → List ℕ
 refusal_line id refusal = bytes "SP " ++ (spaceless id ++ (bytes " NO " ++ (decimal_text (number_of refusal) ++ bytes "\n")))
 
 -- a good group: "its written cards .., one a line: PTY, FAC and the further cards in the order read"
-abbrev pub good_text : Wrote → FullRequest → List ℕ → List ℕ
-good_text (Written.Cards n) v shown = text_of v ++ table_text v.further
-good_text (Written.Refused refusal) v shown = refusal_line shown refusal
+abbrev pub good_text : Result ℕ Refusal → FullRequest → List ℕ → List ℕ
+good_text (Ok n) v shown = text_of v ++ table_text v.further
+good_text (Err refusal) v shown = refusal_line shown refusal
 
 -- "with a card error: `SP id ER n`, as the deck program prints it"
 abbrev pub text_by : CardVerdict → FullRequest → List ℕ → List ℕ
-text_by Good v shown = good_text (write_answer v cards_room) v shown
-text_by (Wrong e) v shown = error_line shown e
+text_by (Ok tt) v shown = good_text (write_answer v cards_room) v shown
+text_by (Err e) v shown = error_line shown e
 
 -- ONE GROUP, after the ID that was shown before it
 unfoldable pub group_text : List ℕ → List (List ℕ) → List ℕ
@@ -71,8 +69,8 @@ groups_text shown [] = end_text
 groups_text shown (g ∷ gs) = group_text shown g ++ groups_text (shown_by (get_or g 0 []) shown) gs
 
 abbrev pub cards_by : DeckEnd → List ℕ → List ℕ
-cards_by (Ends.At n) s = groups_text (bytes "------") (deck_groups s)
-cards_by (Ends.Refused refusal) s = refused_text refusal
+cards_by (Ok n) s = groups_text (bytes "------") (deck_groups s)
+cards_by (Err refusal) s = refused_text refusal
 
 -- WHAT THE CARDS PROGRAM PRINTS
 abbrev pub cards_text : List ℕ → List ℕ
@@ -80,8 +78,8 @@ cards_text s = cards_by (deck_end s) s
 
 -- PIECE BY PIECE: before the first, the whole deck is to come
 abbrev pub begin_by : DeckEnd → Printing
-begin_by (Ends.At n) = record { coming = Groups; from = 0; end = n; shown = bytes "------" }
-begin_by (Ends.Refused refusal) = record { coming = Refused refusal; from = 0; end = 0; shown = bytes "------" }
+begin_by (Ok n) = record { coming = Groups; from = 0; end = n; shown = bytes "------" }
+begin_by (Err refusal) = record { coming = Refused refusal; from = 0; end = 0; shown = bytes "------" }
 
 abbrev pub begin : List ℕ → Printing
 begin s = begin_by (deck_end s)

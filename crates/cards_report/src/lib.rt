@@ -2,16 +2,16 @@
 // holds each, however long the whole is.
 #![tactic(auto)]
 
-ghost use Rattle.std.specs.Prelude.{◌≡◌, ◌-◌, take, drop};
-ghost use Rattle.text.specs.Room.{Written};
+ghost use Rattle.std.specs.Prelude.{◌≡◌, Ok, ◌-◌, take, drop};
+ghost use Rattle.text.specs.Room.{Puts};
 ghost use Rattle.cards_fields.specs.Deck.{cards_of};
 ghost use Rattle.cards_group.specs.Group.{read_full};
 ghost use Rattle.cards_report.specs.Cards.{table_text, refusal_line, text_by, over, begin, Prints};
 
-use cards_fields::{DeckEnd, deck, parts};
-use cards_full::Wrote;
-use cards_request::{CardVerdict, FullRequest, Further};
+use cards_fields::{deck, parts};
+use cards_request::{FullRequest, Further};
 use numbers::{Refusal, limits};
+use text::room::Room;
 
 // How many turns print whatever a buffer of 65,536 bytes holds: a group has a byte at least, and one turn more ends it.
 pub const TURNS: usize = 65537;
@@ -45,63 +45,63 @@ pub struct Printed {
 }
 
 // Puts the lines of the parameter table, nothing where there is none.
-fn put_table(out: &mut [u8], at: usize, further: Further) -> usize
-    ensures { Written out.old at (table_text further) out.new result }
+fn put_table(out: &mut Room, further: Further)
+    ensures { Puts out.old (table_text further) out.new }
 {
     let mut table = [b' '; limits::TABLE_LENGTH];
     let n = cards_table::put_table(&mut table, further);
     if n == 0 {
-        return at;
+        return;
     }
-    let word = text::put_bytes(out, at, b"PMT ");
-    let number = text::put_decimal(out, word, n as u64);
-    let mut next = text::put_byte(out, number, b'\n');
+    out.put_bytes(b"PMT ");
+    out.put_decimal(n as u64);
+    out.put_byte(b'\n');
     let mut from: usize = 0;
+    // Stays: the step is a row's 66 characters, and of `step_by` the check leaves the measure open.
     while from < n {
-        let mark = text::put_byte(out, next, b'=');
-        let row = text::put_bytes(out, mark, &table[from..from + limits::PM_LENGTH]);
-        next = text::put_byte(out, row, b'\n');
+        out.put_byte(b'=');
+        out.put_bytes(&table[from..from + limits::PM_LENGTH]);
+        out.put_byte(b'\n');
         from += limits::PM_LENGTH;
     }
-    next
 }
 
 // Puts the line of a request that is not to be written.
-fn put_refusal(out: &mut [u8], at: usize, id: [u8; 6], refusal: Refusal) -> usize
-    ensures { Written out.old at (refusal_line id refusal) out.new result }
+fn put_refusal(out: &mut Room, id: [u8; 6], refusal: Refusal)
+    ensures { Puts out.old (refusal_line id refusal) out.new }
 {
-    let a = text::put_bytes(out, at, b"SP ");
-    let b = parts::put_name(out, a, &id);
-    let c = text::put_bytes(out, b, b" NO ");
-    let d = text::put_decimal(out, c, numbers::number_of(refusal) as u64);
-    text::put_byte(out, d, b'\n')
+    out.put_bytes(b"SP ");
+    parts::put_name(out, &id);
+    out.put_bytes(b" NO ");
+    out.put_decimal(numbers::number_of(refusal) as u64);
+    out.put_byte(b'\n');
 }
 
 // Puts a request's cards and its table.
-fn put_good(out: &mut [u8], at: usize, shown: [u8; 6], full: FullRequest) -> usize
-    ensures { Written out.old at (text_by CardVerdict.Good full shown) out.new result }
+fn put_good(out: &mut Room, shown: [u8; 6], full: FullRequest)
+    ensures { Puts out.old (text_by (Ok tt) full shown) out.new }
 {
     let mut room = [0u8; limits::CARDS_ROOM];
     match cards_full::write(&mut room, full) {
-        Wrote::Cards(n) => {
-            let next = text::put_bytes(out, at, &room[..n]);
-            put_table(out, next, full.further)
+        Ok(n) => {
+            out.put_bytes(&room[..n]);
+            put_table(out, full.further);
         }
-        Wrote::Refused(refusal) => put_refusal(out, at, shown, refusal),
+        Err(refusal) => put_refusal(out, shown, refusal),
     }
 }
 
 // Puts what is printed of a group; the ID is the one that an error line shows.
-fn put_group(out: &mut [u8], at: usize, shown: [u8; 6], group: &[u8]) -> usize
-    ensures { Written out.old at
+fn put_group(out: &mut Room, shown: [u8; 6], group: &[u8])
+    ensures { Puts out.old
         (text_by (read_full (cards_of group.now)).verdict (read_full (cards_of group.now)).full shown)
-        out.new result }
+        out.new }
 {
     let reading = cards_group::read_full(group);
     let verdict = reading.verdict;
     match verdict {
-        CardVerdict::Good => put_good(out, at, shown, reading.full),
-        CardVerdict::Wrong(e) => cards_lines::put_error(out, at, shown, e),
+        Ok(()) => put_good(out, shown, reading.full),
+        Err(e) => cards_lines::put_error(out, shown, e),
     }
 }
 
@@ -124,13 +124,13 @@ pub fn begin(deck: &[u8]) -> Printing
 {
     let end = deck::deck_end(deck);
     match end {
-        DeckEnd::At(n) => Printing {
+        Ok(n) => Printing {
             coming: Coming::Groups,
             from: 0,
             end: n,
             shown: *b"------",
         },
-        DeckEnd::Refused(refusal) => Printing {
+        Err(refusal) => Printing {
             coming: Coming::Refused(refusal),
             from: 0,
             end: 0,
@@ -164,21 +164,28 @@ fn put_next(out: &mut [u8; ROOM], deck: &[u8], p: Printing) -> Printed
 {
     let group = deck::first_group(rest(deck, p));
     let n = group.len();
+    let mut room = Room { bytes: out, at: 0 };
     if n == 0 {
-        let at = text::put_bytes(out, 0, b"END OF CARDS\n");
+        room.put_bytes(b"END OF CARDS\n");
         let printing = over(p);
-        return Printed { at, printing };
+        return Printed {
+            at: room.at,
+            printing,
+        };
     }
     let before = p.shown;
     let shown = cards_lines::shown_by(deck::card_at(group, 0), before);
-    let at = put_group(out, 0, shown, group);
+    put_group(&mut room, shown, group);
     let printing = Printing {
         coming: Coming::Groups,
         from: p.from + n,
         end: p.end,
         shown,
     };
-    Printed { at, printing }
+    Printed {
+        at: room.at,
+        printing,
+    }
 }
 
 // Puts the next piece into lent room, which holds each, and answers how long it is and what is to come behind it.
@@ -189,9 +196,13 @@ pub fn next(deck: &[u8], printing: Printing, out: &mut [u8; ROOM]) -> Printed
     match coming {
         Coming::Groups => put_next(out, deck, printing),
         Coming::Refused(refusal) => {
-            let at = cards_lines::put_refused(out, 0, refusal);
+            let mut room = Room { bytes: out, at: 0 };
+            cards_lines::put_refused(&mut room, refusal);
             let last = over(printing);
-            Printed { at, printing: last }
+            Printed {
+                at: room.at,
+                printing: last,
+            }
         }
         Coming::Over => {
             let last = over(printing);

@@ -1,5 +1,5 @@
 -- The card errors, of document 01 and of the bulletin: the number of each, and the first of several.
-use Rattle.std.specs.Prelude.{ℕ, Bool, true, false, cond, List, [], ◌∷◌}
+use Rattle.std.specs.Prelude.{ℕ, Bool, true, false, cond, List, [], ◌∷◌, Result, Ok, Err}
 use Rattle.cards_request.specs.declared.CardError.{CardError}
 use Rattle.cards_request.specs.declared.CardError.TheVariants.{
   NotPty,
@@ -32,8 +32,6 @@ use Rattle.cards_request.specs.declared.CardError.TheVariants.{
   SameSequence,
   ScheduleFull,
 }
-use Rattle.cards_request.specs.declared.CardVerdict.{CardVerdict}
-use Rattle.cards_request.specs.declared.CardVerdict.TheVariants.{Good, Wrong}
 
 abbrev pub error_number : CardError → ℕ
 -- the group's first card isn't PTY
@@ -95,21 +93,25 @@ error_number SameSequence = 90
 -- schedule full
 error_number ScheduleFull = 91
 
+-- nothing wrong, or what is
+abbrev pub CardVerdict : Type 0
+CardVerdict = Result (Unit {0}) CardError
+
 -- nothing is wrong
 abbrev pub good : CardVerdict → Bool
-good Good = true
-good (Wrong e) = false
+good (Ok u) = true
+good (Err e) = false
 
 -- an error where a test holds
 abbrev pub error_if : Bool → CardError → CardVerdict
-error_if b e = cond b (Wrong e) Good
+error_if b e = cond b (Err e) (Ok tt)
 
 -- "the first answering" of two
 abbrev pub or_else : CardVerdict → CardVerdict → CardVerdict
-or_else Good v = v
-or_else (Wrong e) v = Wrong e
+or_else (Ok u) v = v
+or_else (Err e) v = Err e
 
 -- "the first answering" of a list
 abbrev pub first_of : List CardVerdict → CardVerdict
-first_of [] = Good
+first_of [] = Ok tt
 first_of (v ∷ vs) = or_else v (first_of vs)

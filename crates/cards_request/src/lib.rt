@@ -9,7 +9,7 @@ use numbers::limits;
 
 // What is wrong with a group of cards, in the order in which errors are looked for; the last four are the schedule's to
 // find.
-#[derive(Clone, Copy)]
+#[derive(Clone, Copy, Debug, PartialEq, Eq)]
 pub enum CardError {
     NotPty,
     PtyMalformed,
@@ -40,13 +40,6 @@ pub enum CardError {
     SamePriority,
     SameSequence,
     ScheduleFull,
-}
-
-// Nothing wrong, or what is.
-#[derive(Clone, Copy)]
-pub enum CardVerdict {
-    Good,
-    Wrong(CardError),
 }
 
 // How many counts of units a request has: one for each of the 16 logical channels of each kind but the drum.
@@ -144,13 +137,10 @@ pub fn number_of(error: CardError) -> u8
 }
 
 // Whether nothing is wrong.
-pub fn is_good(verdict: CardVerdict) -> bool
+pub fn is_good(verdict: Result<(), CardError>) -> bool
     ensures { result ≡ good verdict }
 {
-    match verdict {
-        CardVerdict::Good => true,
-        CardVerdict::Wrong(_) => false,
-    }
+    verdict.is_ok()
 }
 
 // What asks for nothing.

@@ -21,8 +21,9 @@ use Rattle.cards_request.specs.Errors.{error_if, good}
 use Rattle.cards_request.proofs.ErrorLaws.{not-error, or_else_none}
 use Rattle.cards_request.specs.declared.CardError.TheVariants.{NoIb, TooMuchCore}
 use Rattle.cards_request.specs.declared.Request.{Request}
-use Rattle.cards_request.specs.declared.CardVerdict.TheVariants.{Good}
-use Rattle.cards_pty.specs.Pty.{field_error, fields_error, last_of_all, one_of, program_name, rule_at, rules}
+use Rattle.std.specs.Prelude.{Option, Ok}
+use Rattle.std.specs.Option.{unwrap_or}
+use Rattle.cards_pty.specs.Pty.{no_priority, field_error, fields_error, last_of_all, one_of, program_name, rule_at, rules}
 use Rattle.cards_pty.specs.declared.Priority.{Priority}
 use Rattle.cards_pty.proofs.PtyLaws.{good-field, right, right-at}
 use Rattle.cards_fac.specs.Fac.{asks_of, core_error, slots}
@@ -91,7 +92,7 @@ units-fit k (n ∷ ns) h f (suc i) = units-fit (suc k) ns (omega arith) (both (l
 module _ (n : ℕ) (few : n ≤ 99) (r : Request) (a : Allowed r) where
   -- a field that is this text
   is_right : (k : ℕ) (t s : List ℕ) → s ≡ t → (rule_at k).least ≤ length t → length t ≤ (rule_at k).most → (rule_at k).content t ≡ true
-      → field_error k (rule_at k) s ≡ Good
+      → field_error k (rule_at k) s ≡ Ok tt
   is_right k t s e l m c = ap (field_error k (rule_at k)) e ∙ right k (rule_at k) t l m c
 
   not_last : last_of_all r.letter r.precedence ≡ false
@@ -111,7 +112,7 @@ module _ (n : ℕ) (few : n ≤ 99) (r : Request) (a : Allowed r) where
   unfolding program_name
   program-right = rw (ne_eqb (get_or a.program.text 0 0) 45 (λ e. a.first (sym text-first ∙ e))) a.program.each
 
-  fields-right : fields_error (pty_fields n r) ≡ Good
+  fields-right : fields_error (pty_fields n r) ≡ Ok tt
   unfolding pty_fields rules priority_text is_alnum is_letter is_digit
   fields-right =
       let rush = mark-listed (bytes "S") r.rush a.rush in
@@ -146,7 +147,7 @@ module _ (n : ℕ) (few : n ≤ 99) (r : Request) (a : Allowed r) where
   unfolding takes
   allowed-taken =
       let f = r.facilities in
-      let core : core_error (asks_of f) ≡ Good =
+      let core : core_error (asks_of f) ≡ (Ok tt) =
       rw (le-ltb most_blocks (f.ib + f.db) a.core, ne_eqb f.ib 0 (λ e. omega (arith, a.ib))) in
       let m : numbers_fit 0 (asks_of f) ≡ true =
       rw (
@@ -199,7 +200,7 @@ module _ (n : ℕ) (r : Request) (t : Taken n r) where
   last_of =
       let g = (rule-of 9 (omega arith)).1.1 in
       subst (λ (x : Priority). last_of_all x.letter x.precedence ≡ false)
-      (priority-back r.sequence r.letter r.precedence t.sequence t.precedence t.letter g)
+      (ap (λ (x : Option Priority). unwrap_or x no_priority) (priority-back r.sequence r.letter r.precedence t.sequence t.precedence t.letter g))
       (good-priority (priority_text r) g).last
 
   minutes-of : r.minutes < 10000

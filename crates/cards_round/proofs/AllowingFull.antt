@@ -13,7 +13,7 @@ use Rattle.cards_request.specs.declared.FullRequest.{FullRequest}
 use Rattle.cards_further.specs.Further.{held}
 use Rattle.cards_writing.specs.Writing.{takes}
 use Rattle.cards_full.specs.Full.{card_count, text_of, takes_further, takes_full, fits, write_answer}
-use Rattle.cards_full.specs.declared.Wrote.TheVariants.{Cards, Refused}
+use Rattle.std.specs.Prelude.{Ok, Err}
 use Rattle.cards_round.specs.AllowedFurther.{texts_of, AllowedFurther, AllowedFull}
 use Rattle.cards_round.proofs.Taking.{further-allowed, further-taken}
 use Rattle.cards_round.proofs.Allowing.{allowed-taken, taken-allowed}
@@ -38,14 +38,14 @@ full-allowed v t =
     record { request = taken-allowed (card_count v) v.request q.1; further = further-allowed v.further q.0 }
 
 -- WHAT WRITING ANSWERS
-pub allowed-written : (v : FullRequest) (room : ℕ) → AllowedFull v → fits v room ≡ true → write_answer v room ≡ Cards (length (text_of v))
+pub allowed-written : (v : FullRequest) (room : ℕ) → AllowedFull v → fits v room ≡ true → write_answer v room ≡ Ok (length (text_of v))
 unfolding write_answer
 allowed-written v room a f = rw (full-taken v a, f)
 
-pub allowed-no-room : (v : FullRequest) (room : ℕ) → AllowedFull v → fits v room ≡ false → write_answer v room ≡ Refused NoRoom
+pub allowed-no-room : (v : FullRequest) (room : ℕ) → AllowedFull v → fits v room ≡ false → write_answer v room ≡ Err NoRoom
 unfolding write_answer
 allowed-no-room v room a f = rw (full-taken v a, f)
 
-pub others-refused : (v : FullRequest) (room : ℕ) → (AllowedFull v → ⊥) → write_answer v room ≡ Refused WrongRequest
+pub others-refused : (v : FullRequest) (room : ℕ) → (AllowedFull v → ⊥) → write_answer v room ≡ Err WrongRequest
 unfolding write_answer
 others-refused v room n = by_bool (takes_full v) (λ t. absurd (n (full-allowed v t))) (λ t. rw t)

@@ -24,8 +24,8 @@ use Rattle.cards_request.specs.declared.CardError.TheVariants.{FacMalformed, NoF
 use Rattle.cards_request.specs.declared.Request.{Request}
 use Rattle.cards_request.specs.declared.Further.{Further}
 use Rattle.cards_request.specs.declared.FullRequest.{FullRequest}
-use Rattle.cards_request.specs.declared.CardVerdict.{CardVerdict}
-use Rattle.cards_request.specs.declared.CardVerdict.TheVariants.{Good}
+use Rattle.cards_request.specs.Errors.{CardVerdict}
+use Rattle.std.specs.Prelude.{Ok, Err}
 use Rattle.cards_pty.specs.Pty.{rules, rule_at, pty_error}
 use Rattle.cards_pty.proofs.PtyLaws.{right-at, good-field, fields-good}
 use Rattle.cards_fac.specs.Fac.{nothing, entries_error, core_error, is_fac, entries_of, asked, fac_error}
@@ -35,7 +35,6 @@ use Rattle.cards_group.specs.declared.FullReading.{FullReading}
 use Rattle.cards_group.proofs.GroupLaws.{front_error, order_error, in-steps}
 use Rattle.cards_writing.specs.Writing.{fac_text, pty_text, takes, entry_texts}
 use Rattle.cards_full.specs.Full.{card_count, behind_id, cards_in, text_of, short, takes_further, takes_full, fits, write_answer, written}
-use Rattle.cards_full.specs.declared.Wrote.TheVariants.{Cards}
 use Rattle.cards_full.proofs.Kept.{fit_all, asks-held, read_taken}
 use Rattle.cards_full.proofs.WriteLaws.{behind-many, lines-few}
 use Rattle.cards_round.specs.AllowedFurther.{AllowedFurther}
@@ -87,39 +86,39 @@ taken-request : (v : FullRequest) → takes_full v ≡ true → takes (card_coun
 unfolding takes_full
 taken-request v t = (both (takes_further v.further) (takes (card_count v) v.request) t).1
 
-module _ (n : ℕ) (pty fac : List ℕ) (further : List (List ℕ)) (e : ordered_error n pty fac further ≡ Good) where
-  pub steps : (front_error n pty fac ≡ Good) × ((order_error pty fac further ≡ Good) × ((fac_error fac ≡ Good) × (contents_error false further ≡ Good)))
+module _ (n : ℕ) (pty fac : List ℕ) (further : List (List ℕ)) (e : ordered_error n pty fac further ≡ Ok tt) where
+  pub steps : (front_error n pty fac ≡ Ok tt) × ((order_error pty fac further ≡ Ok tt) × ((fac_error fac ≡ Ok tt) × (contents_error false further ≡ Ok tt)))
   steps =
       let a = or_else_none (front_error n pty fac) (or_else (order_error pty fac further) (or_else (fac_error fac) (contents_error false further)))
       (sym (in-steps n pty fac further) ∙ e) in
       let b = or_else_none (order_error pty fac further) (or_else (fac_error fac) (contents_error false further)) a.1 in
       (a.0, (b.0, or_else_none (fac_error fac) (contents_error false further) b.1))
 
-  front-tests : (pty_error pty ≡ Good) × ((n ≤ most_cards) × (is_fac fac ≡ true))
+  front-tests : (pty_error pty ≡ Ok tt) × ((n ≤ most_cards) × (is_fac fac ≡ true))
   front-tests =
-      let last = or_else (error_if (not (is_fac fac)) NoFac) Good in
+      let last = or_else (error_if (not (is_fac fac)) NoFac) (Ok tt) in
       let a = or_else_none (pty_error pty) (or_else (error_if (wrong_count n pty) WrongCount) last) steps.0 in
       let b = or_else_none (error_if (wrong_count n pty) WrongCount) last a.1 in
-      let c = or_else_none (error_if (not (is_fac fac)) NoFac) Good b.1 in
+      let c = or_else_none (error_if (not (is_fac fac)) NoFac) (Ok tt) b.1 in
       let w = neither (ltb most_cards n) (not (eqb (value (field pty 2)) n)) (not-error (wrong_count n pty) WrongCount b.0) in
       (a.0, (ltb-false most_cards n w.0, not-false (is_fac fac) (not-error (not (is_fac fac)) NoFac c.0)))
 
-  order-tests : (types_error further ≡ Good) × ((other_id pty fac ≡ false) × ((any (other_id pty) further ≡ false) × (together_error further ≡ Good)))
+  order-tests : (types_error further ≡ Ok tt) × ((other_id pty fac ≡ false) × ((any (other_id pty) further ≡ false) × (together_error further ≡ Ok tt)))
   order-tests =
       let ids = other_id pty fac || any (other_id pty) further in
-      let a = or_else_none (types_error further) (or_else (error_if ids OtherId) (or_else (together_error further) Good)) steps.1.0 in
-      let b = or_else_none (error_if ids OtherId) (or_else (together_error further) Good) a.1 in
-      let c = or_else_none (together_error further) Good b.1 in
+      let a = or_else_none (types_error further) (or_else (error_if ids OtherId) (or_else (together_error further) (Ok tt))) steps.1.0 in
+      let b = or_else_none (error_if ids OtherId) (or_else (together_error further) (Ok tt)) a.1 in
+      let c = or_else_none (together_error further) (Ok tt) b.1 in
       let w = neither (other_id pty fac) (any (other_id pty) further) (not-error ids OtherId b.0) in
       (a.0, (w.0, (w.1, c.0)))
 
-  pub entries-good : (malformed fac ≡ false) × (entries_error nothing (entries_of fac) ≡ Good)
+  pub entries-good : (malformed fac ≡ false) × (entries_error nothing (entries_of fac) ≡ Ok tt)
   unfolding fac_error
   entries-good =
       let a = or_else_none (error_if (malformed fac) FacMalformed)
-      (or_else (entries_error nothing (entries_of fac)) (or_else (core_error (asked fac)) Good)) steps.1.1.0 in (
+      (or_else (entries_error nothing (entries_of fac)) (or_else (core_error (asked fac)) (Ok tt))) steps.1.1.0 in (
         not-error (malformed fac) FacMalformed a.0,
-        (or_else_none (entries_error nothing (entries_of fac)) (or_else (core_error (asked fac)) Good) a.1).0,
+        (or_else_none (entries_error nothing (entries_of fac)) (or_else (core_error (asked fac)) (Ok tt)) a.1).0,
       )
 
   meant : FurtherMeant further
@@ -194,14 +193,14 @@ module _ (n : ℕ) (pty fac : List ℕ) (further : List (List ℕ)) (e : ordered
 -- ---- what was read
 
 full-answered : (w : CardVerdict) (q : Request) (f : Further) (v : FullRequest)
-    → full_answer (answer w q).verdict (answer w q).request f ≡ record { verdict = Good; full = v }
-    → (w ≡ Good) × ◌≡◌ {A = FullRequest} (record { request = q; further = f }) v
-full-answered Good q f v e = (refl, ap (λ (x : FullReading). x.full) e)
-full-answered (CardVerdict.Wrong x) q f v e = not_good (ap (λ (y : FullReading). y.verdict) e)
+    → full_answer (answer w q).verdict (answer w q).request f ≡ record { verdict = Ok tt; full = v }
+    → (w ≡ Ok tt) × ◌≡◌ {A = FullRequest} (record { request = q; further = f }) v
+full-answered (Ok tt) q f v e = (refl, ap (λ (x : FullReading). x.full) e)
+full-answered (Err x) q f v e = not_good (ap (λ (y : FullReading). y.verdict) e)
 
 -- a group that reads as a request has no error, and the request is what its cards say
-pub answered : (group : List (List ℕ)) (v : FullRequest) → read_full group ≡ record { verdict = Good; full = v }
-    → (ordered_error (length group) (get_or group 0 []) (get_or group 1 []) (drop 2 group) ≡ Good)
+pub answered : (group : List (List ℕ)) (v : FullRequest) → read_full group ≡ record { verdict = Ok tt; full = v }
+    → (ordered_error (length group) (get_or group 0 []) (get_or group 1 []) (drop 2 group) ≡ Ok tt)
     × ◌≡◌ {A = FullRequest} (record { request = request_of (get_or group 0 []) (asked (get_or group 1 [])); further = held (canonicals (drop 2 group)) }) v
 unfolding read_full read_cards
 answered group v e =
@@ -212,7 +211,7 @@ no-fac : is_fac [] ≡ false
 unfolding fields
 no-fac = refl
 
-again : (group : List (List ℕ)) (v : FullRequest) → read_full group ≡ record { verdict = Good; full = v } → Again group v
+again : (group : List (List ℕ)) (v : FullRequest) → read_full group ≡ record { verdict = Ok tt; full = v } → Again group v
 again [] v e = never (front-tests 0 [] [] [] (answered [] v e).0).1.1 no-fac
 again (c ∷ []) v e = never (front-tests 1 c [] [] (answered (c ∷ []) v e).0).1.1 no-fac
 again (pty ∷ fac ∷ further) v e =
@@ -221,11 +220,11 @@ again (pty ∷ fac ∷ further) v e =
     subst (Again (pty ∷ fac ∷ further)) a.1 (read_again (length (pty ∷ fac ∷ further)) pty fac further a.0 (omega arith))
 
 -- 13 NEVER ARISES
-pub read-takes : (group : List (List ℕ)) (v : FullRequest) → read_full group ≡ record { verdict = Good; full = v } → takes_full v ≡ true
+pub read-takes : (group : List (List ℕ)) (v : FullRequest) → read_full group ≡ record { verdict = Ok tt; full = v } → takes_full v ≡ true
 read-takes group v e = (again group v e).takes
 
 -- NOR 12 where the room has 1,296 bytes
-pub read_fits : (group : List (List ℕ)) (v : FullRequest) (room : ℕ) → read_full group ≡ record { verdict = Good; full = v } → cards_room ≤ room
+pub read_fits : (group : List (List ℕ)) (v : FullRequest) (room : ℕ) → read_full group ≡ record { verdict = Ok tt; full = v } → cards_room ≤ room
     → fits v room ≡ true
 unfolding fits
 read_fits group v room e h =
@@ -233,15 +232,15 @@ read_fits group v room e h =
     rw (a.small, le-leb (length (text_of v)) room (omega (arith, lines-few (cards_in v) a.small, a.many)))
 
 -- EVERY REQUEST READ FROM CARDS IS WRITTEN, and read back as itself
-pub always-written : (group : List (List ℕ)) (v : FullRequest) (room : List ℕ) → read_full group ≡ record { verdict = Good; full = v }
+pub always-written : (group : List (List ℕ)) (v : FullRequest) (room : List ℕ) → read_full group ≡ record { verdict = Ok tt; full = v }
     → cards_room ≤ length room
-    → (write_answer v (length room) ≡ Cards (length (text_of v)))
-    × (read_full (cards_of (take (length (text_of v)) (written v room))) ≡ record { verdict = Good; full = v })
+    → (write_answer v (length room) ≡ Ok (length (text_of v)))
+    × (read_full (cards_of (take (length (text_of v)) (written v room))) ≡ record { verdict = Ok tt; full = v })
 always-written group v room e h = room-read v room (read-takes group v e) (read_fits group v (length room) e h)
 
 -- AND IN NO MORE CHARACTERS: its PTY card has at most 64, each other card at most as many as the one that was read; and
 -- each further card is what the one that was read is in canonical form
-pub no_longer : (group : List (List ℕ)) (v : FullRequest) → read_full group ≡ record { verdict = Good; full = v }
+pub no_longer : (group : List (List ℕ)) (v : FullRequest) → read_full group ≡ record { verdict = Ok tt; full = v }
     → (drop 2 (cards_in v) ≡ behind_id (spaceless v.request.id) (canonicals (drop 2 group)))
     × ((length (get_or (cards_in v) 0 []) ≤ 64) × NoLonger (drop 1 (cards_in v)) (drop 1 group))
 no_longer group v e = let a = again group v e in (a.divided, (a.first, a.others))

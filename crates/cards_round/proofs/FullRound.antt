@@ -19,7 +19,7 @@ use Rattle.cards_request.specs.Requests.{texts}
 use Rattle.cards_request.specs.declared.Request.{Request}
 use Rattle.cards_request.specs.declared.Further.{Further}
 use Rattle.cards_request.specs.declared.FullRequest.{FullRequest}
-use Rattle.cards_request.specs.declared.CardVerdict.TheVariants.{Good}
+use Rattle.std.specs.Prelude.{Ok}
 use Rattle.cards_fac.specs.Fac.{asked}
 use Rattle.cards_further.specs.Further.{canonicals, held}
 use Rattle.cards_group.specs.Group.{other_id, ordered_error, request_of, read_cards, read_full}
@@ -27,7 +27,7 @@ use Rattle.cards_group.proofs.GroupLaws.{front_error, order_error, in-steps}
 use Rattle.cards_writing.specs.Writing.{pty_fields, pty_text, fac_text, takes}
 use Rattle.words.specs.Lines.{lines_text}
 use Rattle.cards_full.specs.Full.{card_count, behind_id, cards_in, text_of, short, takes_further, takes_full, fits, write_answer, written}
-use Rattle.cards_full.specs.declared.Wrote.TheVariants.{Cards}
+use Rattle.std.specs.Prelude.{Ok}
 use Rattle.cards_full.proofs.Round.{Taken, taken, at, pty-right, is-fac, fac-right, same-ids, count-is, request-back, pty-line, fac-line, id-plain}
 use Rattle.cards_full.proofs.WriteLaws.{behind-many}
 use Rattle.cards_round.specs.AllowedFurther.{Card, texts_of, AllowedFurther}
@@ -37,9 +37,9 @@ use Rattle.cards_round.proofs.HeldLaws.{kept-texts, texts-many}
 use Rattle.cards_round.proofs.Taking.{further-allowed}
 
 -- what a group without error reads as
-pub read_as : (pty fac : List ℕ) (further : List (List ℕ)) → ordered_error (length (pty ∷ fac ∷ further)) pty fac further ≡ Good
+pub read_as : (pty fac : List ℕ) (further : List (List ℕ)) → ordered_error (length (pty ∷ fac ∷ further)) pty fac further ≡ Ok tt
     → read_full (pty ∷ fac ∷ further)
-    ≡ record { verdict = Good; full = record { request = request_of pty (asked fac); further = held (canonicals further) } }
+    ≡ record { verdict = Ok tt; full = record { request = request_of pty (asked fac); further = held (canonicals further) } }
 unfolding read_full read_cards
 read_as pty fac further e = rw e
 
@@ -104,7 +104,7 @@ module _ (v : FullRequest) (t : takes_full v ≡ true) where
         let b = both (leb (length (fac_text r)) card_length) (short further) a.1 in
         (leb-true (length (pty_text n r)) card_length a.0, (leb-true (length (fac_text r)) card_length b.0, b.1))
 
-    front-right : front_error many (pty_text n r) (fac_text r) ≡ Good
+    front-right : front_error many (pty_text n r) (fac_text r) ≡ Ok tt
     front-right =
         let c = behind-many id (texts_of ms) in
         let e : value (field (pty_text n r) 2) ≡ many = count-is n r request-taken ∙ omega (arith, count_of, c) in
@@ -119,14 +119,14 @@ module _ (v : FullRequest) (t : takes_full v ≡ true) where
     unfolding pty_fields
     first_field = at n r request-taken 0
 
-    order-right : order_error (pty_text n r) (fac_text r) further ≡ Good
+    order-right : order_error (pty_text n r) (fac_text r) further ≡ Ok tt
     order-right =
         let d = id-plain n r request-taken in
         let h = sizes.1.1 in
         let i : any (other_id (pty_text n r)) further ≡ false = written-ids id d (pty_text n r) first_field ms allowed.kept.each in
         rw (written-types id d ms allowed.kept h, same-ids n r request-taken, i, written-together id d ms allowed.kept h)
 
-    no-error : ordered_error many (pty_text n r) (fac_text r) further ≡ Good
+    no-error : ordered_error many (pty_text n r) (fac_text r) further ≡ Ok tt
     no-error =
         in-steps many (pty_text n r) (fac_text r) further
         ∙ rw (
@@ -136,25 +136,25 @@ module _ (v : FullRequest) (t : takes_full v ≡ true) where
           written-content-all id (id-plain n r request-taken) ms allowed.kept sizes.1.1,
         )
 
-    pub read_back : read_full (cards_of (text_of v)) ≡ record { verdict = Good; full = v }
+    pub read_back : read_full (cards_of (text_of v)) ≡ record { verdict = Ok tt; full = v }
     read_back =
         let again : held (canonicals further) ≡ v.further =
         ap held (written-again id (id-plain n r request-taken) ms allowed.kept sizes.1.1) ∙ sym allowed.is in
         ap read_full (cut ∙ cards-are)
         ∙ read_as (pty_text n r) (fac_text r) further no-error
-        ∙ ap (λ (x : FullRequest). record { verdict = Good; full = x })
+        ∙ ap (λ (x : FullRequest). record { verdict = Ok tt; full = x })
         (full-of v (request_of (pty_text n r) (asked (fac_text r))) (held (canonicals further)) (request-back n r request-taken) again)
 
 -- EVERY REQUEST THAT THE WRITER TAKES AND WHOSE CARDS FIT IS READ BACK FROM THEM
 pub round_trip : (v : FullRequest) (room : ℕ) → takes_full v ≡ true → fits v room ≡ true
-    → read_full (cards_of (text_of v)) ≡ record { verdict = Good; full = v }
+    → read_full (cards_of (text_of v)) ≡ record { verdict = Ok tt; full = v }
 unfolding fits
 round_trip v room t f = read_back v t (both (short (cards_in v)) (leb (length (text_of v)) room) f).0
 
 -- AND SO FROM THE ROOM: the bytes that writing says it wrote are read as the request
 pub room-read : (v : FullRequest) (room : List ℕ) → takes_full v ≡ true → fits v (length room) ≡ true
-    → (write_answer v (length room) ≡ Cards (length (text_of v)))
-    × (read_full (cards_of (take (length (text_of v)) (written v room))) ≡ record { verdict = Good; full = v })
+    → (write_answer v (length room) ≡ Ok (length (text_of v)))
+    × (read_full (cards_of (take (length (text_of v)) (written v room))) ≡ record { verdict = Ok tt; full = v })
 unfolding write_answer written
 room-read v room t f = (
   rw (t, f),

@@ -23,7 +23,7 @@ use Rattle.cards_fields.proofs.CardLaws.{plain}
 use Rattle.cards_request.specs.Errors.{error_if, or_else}
 use Rattle.cards_request.proofs.ErrorLaws.{or_else_none, not-error}
 use Rattle.cards_request.specs.declared.CardError.TheVariants.{LaterFac, UnknownCard, PmNumber, PmWrong, TalApart, TrnApart}
-use Rattle.cards_request.specs.declared.CardVerdict.TheVariants.{Good}
+use Rattle.std.specs.Prelude.{Ok}
 use Rattle.cards_fac.specs.Fac.{is_fac}
 use Rattle.cards_tal.specs.Tal.{is_tal}
 use Rattle.cards_trn.specs.Trn.{is_trn, has_count}
@@ -78,7 +78,7 @@ canonicals-as (m ∷ ms) [] s = absurd s
 canonicals-as (m ∷ ms) (c ∷ cs) s = rw (s.0.text, canonicals-as ms cs s.1)
 
 module _ (ms : List Card) (k : Kept ms) (cs : List (List ℕ)) (s : AllStand ms cs) where
-  pub types-right : types_error cs ≡ Good
+  pub types-right : types_error cs ≡ Ok tt
   unfolding types_error
   types-right = rw (none_of is_fac (λ m c x. x.fac) ms cs s, none_of unknown known ms cs s)
 
@@ -86,7 +86,7 @@ module _ (ms : List Card) (k : Kept ms) (cs : List (List ℕ)) (s : AllStand ms 
   unfolding pm_wrong
   pms-right = rw (pms-as ms cs s ∙ k.pms, none_of faulty (λ m c x. x.form) ms cs s, rises-as ms cs s ∙ k.digits)
 
-  pub together-right : together_error cs ≡ Good
+  pub together-right : together_error cs ≡ Ok tt
   unfolding together_error
   together-right = rw (none_of unnumbered (λ m c x. x.number) ms cs s, pms-right, tals-as ms cs s ∙ k.tals, trns-as ms cs s ∙ k.trns)
 
@@ -111,7 +111,7 @@ module _ (id : List ℕ) (d : every plain id ≡ true) where
       (written_stands id d m p.0.0 (leb-true (length (id ++ (44 ∷ text_in m))) card_length q.0), written-stand ms p.1 q.1)
 
   pub written-contents : (already : Bool) (ms : List Card) → AllProper ms → short (behind ms) ≡ true → (already ≡ true → counts ms ≡ 0)
-      → counts ms ≤ 1 → contents_error already (behind ms) ≡ Good
+      → counts ms ≤ 1 → contents_error already (behind ms) ≡ Ok tt
   written-contents already [] p h f n = refl
   written-contents already (m ∷ ms) p h f n =
       let c = id ++ (44 ∷ text_in m) in
@@ -137,13 +137,13 @@ module _ (id : List ℕ) (d : every plain id ≡ true) where
 
   -- IT HAS NO ERROR, and is held as it was written
   module _ (ms : List Card) (k : Kept ms) (h : short (behind ms) ≡ true) where
-    pub written-types : types_error (behind ms) ≡ Good
+    pub written-types : types_error (behind ms) ≡ Ok tt
     written-types = types-right ms k (behind ms) (written-stand ms k.each h)
 
-    pub written-together : together_error (behind ms) ≡ Good
+    pub written-together : together_error (behind ms) ≡ Ok tt
     written-together = together-right ms k (behind ms) (written-stand ms k.each h)
 
-    pub written-content-all : contents_error false (behind ms) ≡ Good
+    pub written-content-all : contents_error false (behind ms) ≡ Ok tt
     written-content-all = written-contents false ms k.each h (λ e. never e refl) k.count
 
     pub written-again : canonicals (behind ms) ≡ texts_of ms
@@ -169,7 +169,7 @@ record AllMeant (already : Bool) (cs : List (List ℕ)) : Type 0 where
   pub room : AllRoom cs
 
 all-meant : (already : Bool) (cs : List (List ℕ)) → any is_fac cs ≡ false → any unknown cs ≡ false → any unnumbered cs ≡ false
-    → any faulty cs ≡ false → contents_error already cs ≡ Good → AllMeant already cs
+    → any faulty cs ≡ false → contents_error already cs ≡ Ok tt → AllMeant already cs
 all-meant already [] a b c d e = record { cards = []; stand = tt; each = tt; many = omega arith; first = λ x. refl; room = tt }
 all-meant already (x ∷ xs) a b c d e =
     let a₁ = neither (is_fac x) (any is_fac xs) a in
@@ -178,7 +178,7 @@ all-meant already (x ∷ xs) a b c d e =
     let d₁ = neither (faulty x) (any faulty xs) d in
     let e₁ = or_else_none (content_error already x) (contents_error (already || (is_trn x && has_count x)) xs) e in
     let here = meant already x a₁.0 b₁.0 c₁.0 d₁.0 e₁.0 in
-    let f : contents_error (already || counted here.card) xs ≡ Good = rw here.stands.count at e₁.1 in
+    let f : contents_error (already || counted here.card) xs ≡ (Ok tt) = rw here.stands.count at e₁.1 in
     joined here (all-meant (already || counted here.card) xs a₁.1 b₁.1 c₁.1 d₁.1 f)
   where
     joined : (here : Meant already x) → AllMeant (already || counted here.card) xs → AllMeant already (x ∷ xs)
@@ -222,7 +222,7 @@ all-proper : (ms : List Card) → EachProper ms → AllFew (texts_of ms) → All
 all-proper [] p f = tt
 all-proper (m ∷ ms) p f = ((p.0, f.0), all-proper ms p.1 f.1)
 
-module _ (cs : List (List ℕ)) (types : types_error cs ≡ Good) (together : together_error cs ≡ Good) (contents : contents_error false cs ≡ Good) where
+module _ (cs : List (List ℕ)) (types : types_error cs ≡ Ok tt) (together : together_error cs ≡ Ok tt) (contents : contents_error false cs ≡ Ok tt) where
   types-tests : (any is_fac cs ≡ false) × (any unknown cs ≡ false)
   unfolding types_error
   types-tests =
@@ -232,12 +232,12 @@ module _ (cs : List (List ℕ)) (types : types_error cs ≡ Good) (together : to
   together-tests : (any unnumbered cs ≡ false) × ((pm_wrong cs ≡ false) × ((apart is_tal cs ≡ false) × (apart is_trn cs ≡ false)))
   unfolding together_error
   together-tests =
-      let last = or_else (error_if (apart is_trn cs) TrnApart) Good in
+      let last = or_else (error_if (apart is_trn cs) TrnApart) (Ok tt) in
       let a = or_else_none (error_if (any unnumbered cs) PmNumber)
       (or_else (error_if (pm_wrong cs) PmWrong) (or_else (error_if (apart is_tal cs) TalApart) last)) together in
       let b = or_else_none (error_if (pm_wrong cs) PmWrong) (or_else (error_if (apart is_tal cs) TalApart) last) a.1 in
       let c = or_else_none (error_if (apart is_tal cs) TalApart) last b.1 in
-      let d = or_else_none (error_if (apart is_trn cs) TrnApart) Good c.1 in (
+      let d = or_else_none (error_if (apart is_trn cs) TrnApart) (Ok tt) c.1 in (
         not-error (any unnumbered cs) PmNumber a.0,
         (not-error (pm_wrong cs) PmWrong b.0, (not-error (apart is_tal cs) TalApart c.0, not-error (apart is_trn cs) TrnApart d.0)),
       )

@@ -13,7 +13,7 @@ use Rattle.words.proofs.WordLaws.{same-equal}
 use Rattle.cards_fields.specs.Fields.{field, fields, spaceless, padded, malformed, tail_text, card_text}
 use Rattle.cards_fields.proofs.RoundLaws.{total, tail-total, total-two, fields-total}
 use Rattle.cards_request.specs.declared.Request.{Request}
-use Rattle.cards_request.specs.declared.CardVerdict.TheVariants.{Good}
+use Rattle.std.specs.Prelude.{Ok}
 use Rattle.cards_pty.specs.Pty.{rules, fields_error}
 use Rattle.cards_pty.proofs.PtyLaws.{not-longer}
 use Rattle.cards_fac.specs.Fac.{nothing, entries_error, is_fac, entries_of, asked}
@@ -46,7 +46,7 @@ trimmed-short f fs = fronted f (trimmed fs) (trimmed-total fs)
 
 -- ---- the PTY card
 
-pty-total : (n : ℕ) (r : Request) → fields_error (pty_fields n r) ≡ Good → total (pty_fields n r) ≤ 64
+pty-total : (n : ℕ) (r : Request) → fields_error (pty_fields n r) ≡ Ok tt → total (pty_fields n r) ≤ 64
 unfolding pty_fields rules
 pty-total n r e =
     let a = not-longer (pty_fields n r) e 0 (omega arith) in
@@ -73,7 +73,7 @@ pty-short n r t = omega (arith, trimmed-short (spaceless r.id) (drop 1 (pty_fiel
 
 -- the card with this ID that is written for what a good FAC card asks for
 pub fac-short : (id fac : List ℕ) → malformed fac ≡ false → is_fac fac ≡ true → length id ≤ length (field fac 0)
-    → entries_error nothing (entries_of fac) ≡ Good
+    → entries_error nothing (entries_of fac) ≡ Ok tt
     → length (card_text (id ∷ bytes "FAC" ∷ entry_texts 0 (asked fac))) ≤ length fac
 fac-short id fac m i l e =
     let three : length (field fac 1) ≡ 3 = ap length (same-equal (field fac 1) (bytes "FAC") i) in

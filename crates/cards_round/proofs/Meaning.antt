@@ -22,7 +22,7 @@ use Rattle.cards_fields.proofs.FieldLaws.{too_long}
 use Rattle.cards_request.specs.Errors.{error_if}
 use Rattle.cards_request.proofs.ErrorLaws.{or_else_none, not-error}
 use Rattle.cards_request.specs.declared.CardError.TheVariants.{TalWrong, TrnWrong}
-use Rattle.cards_request.specs.declared.CardVerdict.TheVariants.{Good}
+use Rattle.std.specs.Prelude.{Ok}
 use Rattle.cards_fac.specs.Fac.{is_fac}
 use Rattle.cards_tal.specs.Tal.{is_tal, tal_error}
 use Rattle.cards_tal.proofs.TalRound.{tal-written, tal-text, tal-proper, tal-short, meant_increments}
@@ -169,7 +169,7 @@ module _ (id : List ℕ) (d : every plain id ≡ true) where
       }
 
   pub written-content : (m : Card) → Proper m → length (behind m) ≤ card_length → (already : Bool) → (counted m ≡ true → already ≡ false)
-      → content_error already (behind m) ≡ Good
+      → content_error already (behind m) ≡ Ok tt
   written-content (tal is) p l already h = let w = tal-written id is d p in rw w.tal (w.good l)
   written-content (trn c ts) p l already h = let w = trn-written id c ts d p in rw (w.other, w.trn) (w.good already h l)
   written-content (pm s) p l already h =
@@ -201,12 +201,12 @@ short-card c m =
     by_bool (ltb card_length (length c)) (λ e. never (too_long c (ltb-true card_length (length c) e)) m) (λ e. ltb-false card_length (length c) e)
 
 module _ (already : Bool) (c : List ℕ) (fac : is_fac c ≡ false) (known : unknown c ≡ false) (number : unnumbered c ≡ false)
-    (form : faulty c ≡ false) (good : content_error already c ≡ Good) where
+    (form : faulty c ≡ false) (good : content_error already c ≡ Ok tt) where
   of-tal : is_tal c ≡ true → Meant already c
   unfolding is_pm tal_error
   of-tal t =
       let w : field c 1 ≡ bytes "TAL" = same-equal (field c 1) (bytes "TAL") t in
-      let g : tal_error c ≡ Good = rw t at good in
+      let g : tal_error c ≡ (Ok tt) = rw t at good in
       let r : is_trn c ≡ false = ap (λ (f : List ℕ). same f (bytes "TRN")) w in
       record {
         card = tal (meant_increments c);
@@ -231,7 +231,7 @@ module _ (already : Bool) (c : List ℕ) (fac : is_fac c ≡ false) (known : unk
   unfolding is_pm trn_error
   of-trn a t =
       let w : field c 1 ≡ bytes "TRN" = same-equal (field c 1) (bytes "TRN") t in
-      let g : trn_error already c ≡ Good = rw (a, t) at good in
+      let g : trn_error already c ≡ (Ok tt) = rw (a, t) at good in
       record {
         card = trn (meant_count c) (meant_transfers c);
         stands = record {

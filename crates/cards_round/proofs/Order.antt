@@ -24,7 +24,7 @@ use Rattle.cards_group.specs.Group.{ordered_error, request_of, read_full}
 use Rattle.cards_group.proofs.GroupLaws.{front_error, order_error, in-steps}
 use Rattle.cards_request.specs.declared.CardError.TheVariants.{FacMalformed, WrongEntry}
 use Rattle.cards_request.specs.declared.FullRequest.{FullRequest}
-use Rattle.cards_request.specs.declared.CardVerdict.TheVariants.{Good}
+use Rattle.std.specs.Prelude.{Ok}
 use Rattle.cards_round.specs.Permuted.{Permuted}
 use Rattle.cards_round.proofs.Short.{channelled, known}
 use Rattle.cards_round.proofs.FullRound.{read_as}
@@ -39,30 +39,30 @@ set-swap (x ∷ l) (suc i) zero a b n = refl
 set-swap (x ∷ l) (suc i) (suc j) a b n = ap (λ (m : List ℕ). x ∷ m) (set-swap l i j a b (λ e. n (ap suc e)))
 
 -- a good entry has a slot, and asks for something
-slot-low : (t : List ℕ) → form_error t ≡ Good → slot_of t < slots
+slot-low : (t : List ℕ) → form_error t ≡ Ok tt → slot_of t < slots
 slot-low t e =
     let c = code-low t (known t e) in
     let h = channel-low (code_of t) (channel_text t) (channelled t e) in
     by_bool (ltb (code_of t) 3) (λ b. rw b (omega arith)) (λ b. rw b (omega (arith, ltb-false (code_of t) 3 b)))
 
-number-some : (t : List ℕ) → form_error t ≡ Good → 1 ≤ value (number_text t)
+number-some : (t : List ℕ) → form_error t ≡ Ok tt → 1 ≤ value (number_text t)
 number-some t e =
     let s = number_text t in
     let p = (both (leb (length s) (most (code_of t))) (every is_digit s && leb 1 (value s)) (good-number t e)).1 in
     leb-true 1 (value s) (both (every is_digit s) (leb 1 (value s)) p).1
 
 -- an entry that is right here: good by itself, and its slot is empty
-right : (asks t : List ℕ) → entry_error asks t ≡ Good → (form_error t ≡ Good) × (get_or asks (slot_of t) 0 ≤ 0)
+right : (asks t : List ℕ) → entry_error asks t ≡ Ok tt → (form_error t ≡ Ok tt) × (get_or asks (slot_of t) 0 ≤ 0)
 right asks t e =
     let y = or_else_none (form_error t) (error_if (ltb 0 (get_or asks (slot_of t) 0)) WrongEntry) e in
     (y.0, ltb-false 0 (get_or asks (slot_of t) 0) (not-error (ltb 0 (get_or asks (slot_of t) 0)) WrongEntry y.1))
 
-is_right : (asks t : List ℕ) → form_error t ≡ Good → get_or asks (slot_of t) 0 ≤ 0 → entry_error asks t ≡ Good
+is_right : (asks t : List ℕ) → form_error t ≡ Ok tt → get_or asks (slot_of t) 0 ≤ 0 → entry_error asks t ≡ Ok tt
 is_right asks t e h = rw (e, le-ltb 0 (get_or asks (slot_of t) 0) h)
 
 -- ORDER DOES NOT MATTER
-pub permuted : {ts us : List (List ℕ)} → Permuted ts us → (asks : List ℕ) → length asks ≡ slots → entries_error asks ts ≡ Good
-    → (entries_error asks us ≡ Good) × (all_entered asks ts ≡ all_entered asks us)
+pub permuted : {ts us : List (List ℕ)} → Permuted ts us → (asks : List ℕ) → length asks ≡ slots → entries_error asks ts ≡ Ok tt
+    → (entries_error asks us ≡ Ok tt) × (all_entered asks ts ≡ all_entered asks us)
 permuted Permuted.none asks l e = (refl, refl)
 permuted (Permuted.more {t} {ts} {us} p) asks l e =
     let x = or_else_none (entry_error asks t) (entries_error (entered asks t) ts) e in
@@ -79,11 +79,11 @@ permuted (Permuted.swap {t} {u} {ts}) asks l e =
     let o : get_or (entered asks t) (slot_of u) 0 ≡ get_or asks (slot_of u) 0 =
     get_or-set_other asks (slot_of t) (slot_of u) (value (number_text t)) 0 (λ i. n (sym i)) in
     let m : get_or (entered asks u) (slot_of t) 0 ≡ get_or asks (slot_of t) 0 = get_or-set_other asks (slot_of u) (slot_of t) (value (number_text u)) 0 n in
-    let f : entry_error asks u ≡ Good = is_right asks u b.0 (omega (arith, o, b.1)) in
-    let g : entry_error (entered asks u) t ≡ Good = is_right (entered asks u) t a.0 (omega (arith, m, a.1)) in
-    (rw (f, g) (subst (λ (z : List ℕ). entries_error z ts ≡ Good) c y.1), ap (λ (z : List ℕ). all_entered z ts) c)
+    let f : entry_error asks u ≡ (Ok tt) = is_right asks u b.0 (omega (arith, o, b.1)) in
+    let g : entry_error (entered asks u) t ≡ (Ok tt) = is_right (entered asks u) t a.0 (omega (arith, m, a.1)) in
+    (rw (f, g) (subst (λ (z : List ℕ). entries_error z ts ≡ Ok tt) c y.1), ap (λ (z : List ℕ). all_entered z ts) c)
   where
-    apart : (v w : List ℕ) → (form_error v ≡ Good) × (get_or asks (slot_of v) 0 ≤ 0) → get_or (entered asks v) (slot_of w) 0 ≤ 0 → slot_of v ≡ slot_of w → ⊥
+    apart : (v w : List ℕ) → (form_error v ≡ Ok tt) × (get_or asks (slot_of v) 0 ≤ 0) → get_or (entered asks v) (slot_of w) 0 ≤ 0 → slot_of v ≡ slot_of w → ⊥
     apart v w a h i =
         let s : get_or (entered asks v) (slot_of v) 0 ≡ value (number_text v) =
         get_or-set_same asks (slot_of v) (value (number_text v)) 0 (omega (arith, slot-low v a.0)) in
@@ -116,26 +116,26 @@ module _ (pty fac other : List ℕ) (further : List (List ℕ)) (well : malforme
   order-as : order_error pty other further ≡ order_error pty fac further
   order-as = rw (field-as 0 (omega arith)) refl
 
-  fac-as : fac_error fac ≡ Good → entries_error nothing (entries_of fac) ≡ Good → fac_error other ≡ Good
+  fac-as : fac_error fac ≡ Ok tt → entries_error nothing (entries_of fac) ≡ Ok tt → fac_error other ≡ Ok tt
   unfolding fac_error
   fac-as g e =
       let q = permuted p nothing refl e in
-      let core : core_error (asked fac) ≡ Good =
-      (or_else_none (core_error (asked fac)) Good (or_else_none (entries_error nothing (entries_of fac)) (or_else (core_error (asked fac)) Good)
+      let core : core_error (asked fac) ≡ (Ok tt) =
+      (or_else_none (core_error (asked fac)) (Ok tt) (or_else_none (entries_error nothing (entries_of fac)) (or_else (core_error (asked fac)) (Ok tt))
       (or_else_none (error_if (malformed fac) FacMalformed)
-      (or_else (entries_error nothing (entries_of fac)) (or_else (core_error (asked fac)) Good)) g).1).1).0 in
+      (or_else (entries_error nothing (entries_of fac)) (or_else (core_error (asked fac)) (Ok tt))) g).1).1).0 in
       rw (well, q.0, ← q.1, core)
 
-  pub same-request : (v : FullRequest) → read_full (pty ∷ fac ∷ further) ≡ record { verdict = Good; full = v }
-      → read_full (pty ∷ other ∷ further) ≡ record { verdict = Good; full = v }
+  pub same-request : (v : FullRequest) → read_full (pty ∷ fac ∷ further) ≡ record { verdict = Ok tt; full = v }
+      → read_full (pty ∷ other ∷ further) ≡ record { verdict = Ok tt; full = v }
   same-request v e =
       let n = length (pty ∷ fac ∷ further) in
       let a = answered (pty ∷ fac ∷ further) v e in
       let s = steps n pty fac further a.0 in
       let g = (entries-good n pty fac further a.0).1 in
-      let w : ordered_error n pty other further ≡ Good =
+      let w : ordered_error n pty other further ≡ (Ok tt) =
       in-steps n pty other further ∙ rw (front-as n, s.0, order-as, s.1.0, fac-as s.1.1.0 g) s.1.1.1 in
       let q : asked other ≡ asked fac = sym (permuted p nothing refl g).1 in
       read_as pty other further w
-      ∙ ap (λ (x : FullRequest). record { verdict = Good; full = x })
+      ∙ ap (λ (x : FullRequest). record { verdict = Ok tt; full = x })
       (ap (λ (l : List ℕ). record { request = request_of pty l; further = held (canonicals further) }) q ∙ a.1)

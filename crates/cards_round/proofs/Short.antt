@@ -20,7 +20,7 @@ use Rattle.cards_fac.specs.Fac.{index_in, last_code}
 use Rattle.cards_request.specs.Errors.{error_if}
 use Rattle.cards_request.proofs.ErrorLaws.{or_else_none, not_good}
 use Rattle.cards_request.specs.declared.CardError.TheVariants.{WrongEntry}
-use Rattle.cards_request.specs.declared.CardVerdict.TheVariants.{Good}
+use Rattle.std.specs.Prelude.{Ok}
 use Rattle.cards_fac.proofs.EntryLaws.{code-low, channel-low}
 use Rattle.cards_writing.specs.Writing.{code_at, channel_at, entry_text, entry_texts}
 
@@ -74,8 +74,8 @@ channel-few code s g =
     some (x ∷ t) h e = digits-few (x ∷ t) (digits (x ∷ t) h) (omega arith)
 
 -- A GOOD ENTRY IS NO LONGER WHEN IT IS WRITTEN AGAIN
-module _ (t : List ℕ) (e : form_error t ≡ Good) where
-  pub known : code_error t ≡ Good
+module _ (t : List ℕ) (e : form_error t ≡ Ok tt) where
+  pub known : code_error t ≡ Ok tt
   unfolding form_error
   known = (or_else_none (code_error t) (error_if (not (entry_good (code_of t) t)) WrongEntry) e).0
 
@@ -156,7 +156,7 @@ weight-set k (suc i) v (n ∷ ns) =
     let e : k + suc i ≡ suc k + i = omega arith in
     rw e (omega (arith, weight-set (suc k) i v ns))
 
-all_short : (asks : List ℕ) (ts : List (List ℕ)) → entries_error asks ts ≡ Good → weight 0 (all_entered asks ts) ≤ weight 0 asks + total ts
+all_short : (asks : List ℕ) (ts : List (List ℕ)) → entries_error asks ts ≡ Ok tt → weight 0 (all_entered asks ts) ≤ weight 0 asks + total ts
 all_short asks [] e = omega arith
 all_short asks (t ∷ ts) e =
     let x = or_else_none (entry_error asks t) (entries_error (entered asks t) ts) e in
@@ -166,5 +166,5 @@ all_short asks (t ∷ ts) e =
     omega (arith, all_short (entered asks t) ts x.1, rw z at w, entry-short t y.0)
 
 -- THE WRITTEN ENTRIES ARE NO LONGER than those that were read
-pub entries-short : (ts : List (List ℕ)) → entries_error nothing ts ≡ Good → total (entry_texts 0 (all_entered nothing ts)) ≤ total ts
+pub entries-short : (ts : List (List ℕ)) → entries_error nothing ts ≡ Ok tt → total (entry_texts 0 (all_entered nothing ts)) ≤ total ts
 entries-short ts e = let z : weight 0 nothing ≡ 0 = refl in omega (arith, weighed 0 (all_entered nothing ts), all_short nothing ts e, z)

@@ -20,7 +20,7 @@ use Rattle.cards_request.specs.Requests.{texts_in, texts}
 use Rattle.cards_request.proofs.ErrorLaws.{good-is, or_else_none}
 use Rattle.cards_request.specs.declared.FurtherCard.{FurtherCard}
 use Rattle.cards_request.specs.declared.Further.{Further}
-use Rattle.cards_request.specs.declared.CardVerdict.TheVariants.{Good}
+use Rattle.std.specs.Prelude.{Ok}
 use Rattle.cards_further.specs.Further.{types_error, together_error, contents_error, canonicals, held_in, held}
 use Rattle.words.specs.Lines.{lines_text}
 use Rattle.cards_full.specs.Full.{behind_id, short, further_error, bare, same_cards, takes_further}
@@ -105,7 +105,7 @@ module _ (f : Further) (t : takes_further f ≡ true) where
   abbrev ds : List (List ℕ)
   ds = canonicals cs
 
-  tests : (further_error cs ≡ Good) × (held ds ≡ f)
+  tests : (further_error cs ≡ Ok tt) × (held ds ≡ f)
   unfolding takes_further
   tests =
       let a = both (good (further_error cs)) (eqb (held ds).count f.count && same_cards (held ds).cards f.cards) t in
@@ -117,9 +117,9 @@ module _ (f : Further) (t : takes_further f ≡ true) where
   meant : FurtherMeant cs
   unfolding further_error
   meant =
-      let a = or_else_none (types_error cs) (or_else (together_error cs) (or_else (contents_error false cs) Good)) tests.0 in
-      let b = or_else_none (together_error cs) (or_else (contents_error false cs) Good) a.1 in
-      let c = or_else_none (contents_error false cs) Good b.1 in
+      let a = or_else_none (types_error cs) (or_else (together_error cs) (or_else (contents_error false cs) (Ok tt))) tests.0 in
+      let b = or_else_none (together_error cs) (or_else (contents_error false cs) (Ok tt)) a.1 in
+      let c = or_else_none (contents_error false cs) (Ok tt) b.1 in
       further-meant cs a.0 b.0 c.0
 
   of-texts : texts f ≡ texts (held ds)
@@ -163,7 +163,7 @@ module _ (ms : List Card) (k : Kept ms) where
   small : short (behind_id [] (texts_of ms)) ≡ true
   small = bare-short (texts_of ms) (kept-few ms k.each)
 
-  no-error : further_error (bare (held (texts_of ms))) ≡ Good
+  no-error : further_error (bare (held (texts_of ms))) ≡ Ok tt
   unfolding further_error
   no-error = rw (bare-is, written-types [] refl ms k small, written-together [] refl ms k small, written-content-all [] refl ms k small)
 

@@ -16,8 +16,9 @@ use Rattle.numbers.proofs.Tests.{by_bool, both}
 use Rattle.numbers.specs.Limits.{pm_length, table_length}
 use Rattle.text.specs.Class.{is_digit}
 use Rattle.text.proofs.ClassLaws.{digit-bounds}
-use Rattle.text.specs.Room.{Written}
-use Rattle.text.proofs.RoomLaws.{Going, turn, end, same-room, entire}
+use Rattle.text.specs.Room.{Written, Puts}
+use Rattle.text.specs.declared.room.Room.{Room}
+use Rattle.text.proofs.RoomLaws.{Goes, goes-turn, goes-end, same-room, entire}
 use Rattle.words.specs.Words.{same}
 use Rattle.words.proofs.WordLaws.{and-false}
 use Rattle.cards_fields.specs.Fields.{padded}
@@ -76,17 +77,12 @@ module _ (s : List ℕ) (n : ℕ) where
 
 -- ---- the cards, one after the other
 
--- the most rows so far, and those of the cards that are left
-module _ (cards : List FurtherCard) (n : ℕ) (w : n ≤ length cards) (i : ℕ) (d : FurtherCard) (h : i < n) (most row all : ℕ)
-    (is : row ≡ row_of (text_of (get_or cards i d))) (inv : max most (rows (texts_in (drop i (take n cards)))) ≡ all) where
-  one-off : rows (texts_in (drop i (take n cards))) ≡ max row (rows (texts_in (drop (i + 1) (take n cards))))
-  one-off = ap rows (cards-step cards n w i d h) ∙ ap (λ (k : ℕ). max k (rows (texts_in (drop (i + 1) (take n cards))))) (sym is)
-
-  pub rows_more : most < row → max row (rows (texts_in (drop (i + 1) (take n cards)))) ≡ all
-  rows_more g = omega (arith, one-off, inv)
-
-  pub rows-less : row ≤ most → max most (rows (texts_in (drop (i + 1) (take n cards)))) ≡ all
-  rows-less g = omega (arith, one-off, inv)
+-- the rows of the cards that are left, by the first of them
+pub rows-step : (cards : List FurtherCard) (n : ℕ) → n ≤ length cards → (i : ℕ) (d : FurtherCard) → i < n → (row : ℕ)
+    → row ≡ row_of (text_of (get_or cards i d))
+    → rows (texts_in (drop i (take n cards))) ≡ max row (rows (texts_in (drop (i + 1) (take n cards))))
+rows-step cards n w i d h row is =
+    ap rows (cards-step cards n w i d h) ∙ ap (λ (k : ℕ). max k (rows (texts_in (drop (i + 1) (take n cards))))) (sym is)
 
 pub rows_end : (cards : List FurtherCard) (n i most all : ℕ) → n ≤ i → max most (rows (texts_in (drop i (take n cards)))) ≡ all → most ≡ all
 rows_end cards n i most all h inv = omega (arith, ap rows (cards-end cards n i h), inv)
@@ -160,16 +156,16 @@ module _ (s : List ℕ) (n : ℕ) (w : n ≤ length s) (k : ℕ) where
       get_or-eq_default (letters_in (take n s)) 32 {n = k} (omega (arith, length-take (length (take n s) - 5) (drop 4 (take n s))))
 
 -- one more character of a row is put
-pub row-turn : {room₀ whole room after : List ℕ} {at₀ at next b : ℕ} (s : List ℕ) (k : ℕ) → k < pm_length → b ≡ get_or s k (byte " ")
-    → Going room₀ at₀ whole room at (padded (pm_length - k) (drop k s)) → Written room at (b ∷ []) after next
-    → Going room₀ at₀ whole after next (padded (pm_length - (k + 1)) (drop (k + 1) s))
-row-turn {room₀} {whole} {room} {at₀ = at₀} {at = at} {b = b} s k h e g w =
-    let z : Going room₀ at₀ whole room at (b ∷ padded (pm_length - (k + 1)) (drop (k + 1) s)) = rw e (rw (padded-step pm_length s k h) at g) in
-    turn z w
+pub row-turn : {first room next : Room} {whole : List ℕ} {b : ℕ} (s : List ℕ) (k : ℕ) → k < pm_length → b ≡ get_or s k (byte " ")
+    → Goes first whole room (padded (pm_length - k) (drop k s)) → Puts room (b ∷ []) next
+    → Goes first whole next (padded (pm_length - (k + 1)) (drop (k + 1) s))
+row-turn {first} {room} {whole = whole} {b = b} s k h e g p =
+    let z : Goes first whole room (b ∷ padded (pm_length - (k + 1)) (drop (k + 1) s)) = rw e (rw (padded-step pm_length s k h) at g) in
+    goes-turn z p
 
-pub row-end : {room₀ whole room : List ℕ} {at₀ at : ℕ} (s : List ℕ) (k : ℕ) → pm_length ≤ k
-    → Going room₀ at₀ whole room at (padded (pm_length - k) (drop k s)) → Written room₀ at₀ whole room at
-row-end s k h g = end (rw (padded-end pm_length s k h) at g)
+pub row-end : {first room : Room} {whole : List ℕ} (s : List ℕ) (k : ℕ) → pm_length ≤ k
+    → Goes first whole room (padded (pm_length - k) (drop k s)) → Puts first whole room
+row-end s k h g = goes-end (rw (padded-end pm_length s k h) at g)
 
 -- ---- the rows, one after the other
 
@@ -184,21 +180,21 @@ rows-length (suc n) d ts =
     )
 
 -- no row is put, and one more
-pub table-start : (f : Further) (room : List ℕ) (n : ℕ) → n ≡ rows (texts f) → Going room 0 (table_text f) room 0 (rows_from (n - 0) 0 (texts f))
-table-start f room n e after next w = let k : n - 0 ≡ rows (texts f) = omega (arith, e) in rw k at w
+pub table-start : (f : Further) (room : Room) (n : ℕ) → n ≡ rows (texts f) → Goes room (table_text f) room (rows_from (n - 0) 0 (texts f))
+table-start f room n e after p = let k : n - 0 ≡ rows (texts f) = omega (arith, e) in rw k at p
 
-pub table-turn : {room₀ whole room after : List ℕ} {at₀ at next : ℕ} (n d : ℕ) (ts : List (List ℕ)) (s : List ℕ) → d < n → s ≡ card_at d ts
-    → Going room₀ at₀ whole room at (rows_from (n - d) d ts) → Written room at (padded pm_length s) after next
-    → Going room₀ at₀ whole after next (rows_from (n - (d + 1)) (d + 1) ts)
-table-turn {room₀} {whole} {room} {at₀ = at₀} {at = at} n d ts s h e g w =
+pub table-turn : {first room next : Room} {whole : List ℕ} (n d : ℕ) (ts : List (List ℕ)) (s : List ℕ) → d < n → s ≡ card_at d ts
+    → Goes first whole room (rows_from (n - d) d ts) → Puts room (padded pm_length s) next
+    → Goes first whole next (rows_from (n - (d + 1)) (d + 1) ts)
+table-turn {first} {room} {whole = whole} n d ts s h e g p =
     let k : n - d ≡ suc (n - (d + 1)) = omega arith in
     let j : suc d ≡ d + 1 = omega arith in
-    let z : Going room₀ at₀ whole room at (padded pm_length (card_at d ts) ++ rows_from (n - (d + 1)) (suc d) ts) = rw k at g in
-    turn (rw (← e, j) at z) w
+    let z : Goes first whole room (padded pm_length (card_at d ts) ++ rows_from (n - (d + 1)) (suc d) ts) = rw k at g in
+    goes-turn (rw (← e, j) at z) p
 
-pub table-end : {room₀ whole room : List ℕ} {at₀ at : ℕ} (n d : ℕ) (ts : List (List ℕ)) → n ≤ d
-    → Going room₀ at₀ whole room at (rows_from (n - d) d ts) → Written room₀ at₀ whole room at
-table-end n d ts h g = let k : n - d ≡ 0 = omega arith in end (rw k at g)
+pub table-end : {first room : Room} {whole : List ℕ} (n d : ℕ) (ts : List (List ℕ)) → n ≤ d
+    → Goes first whole room (rows_from (n - d) d ts) → Puts first whole room
+table-end n d ts h g = let k : n - d ≡ 0 = omega arith in goes-end (rw k at g)
 
 -- at most ten rows
 pub rows-most : (ts : List (List ℕ)) → rows ts ≤ 10

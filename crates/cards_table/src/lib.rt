@@ -3,7 +3,7 @@
 
 ghost use Rattle.std.specs.Prelude.{◌≡◌, cond, ◌+◌, ◌<◌, take};
 ghost use Rattle.numbers.specs.Limits.{pm_length};
-ghost use Rattle.text.specs.Room.{Written};
+ghost use Rattle.text.specs.Room.{Puts};
 ghost use Rattle.cards_fields.specs.Fields.{padded};
 ghost use Rattle.cards_request.specs.Requests.{texts};
 ghost use Rattle.cards_table.specs.Table.{is_pm_text, digit_in, letters_in, rows, card_at, Table};
@@ -11,6 +11,7 @@ ghost use Rattle.cards_table.specs.TableText.{table_text};
 
 use cards_request::{Further, FurtherCard};
 use numbers::limits;
+use text::room::Room;
 
 // The row of the table that a card fills, the first being 1: its digit and one more. A card that is not PM fills none,
 // which is 0.
@@ -40,13 +41,8 @@ fn row_count(further: Further) -> usize
     let n = cards_further::count_of(further);
     let cards = further.cards;
     let mut most: usize = 0;
-    let mut i: usize = 0;
-    while i < n {
-        let row = row_of(cards[i]);
-        i += 1;
-        if most < row {
-            most = row;
-        }
+    for i in 0..n {
+        most = most.max(row_of(cards[i]));
     }
     most
 }
@@ -58,10 +54,8 @@ fn card_of(further: Further, digit: usize) -> FurtherCard
 {
     let n = cards_further::count_of(further);
     let cards = further.cards;
-    let mut i: usize = 0;
-    while i < n {
+    for i in 0..n {
         let card = cards[i];
-        i += 1;
         if row_of(card) == digit + 1 {
             return card;
         }
@@ -70,41 +64,35 @@ fn card_of(further: Further, digit: usize) -> FurtherCard
 }
 
 // Puts a card's row: the characters behind `PMn,` but for the period at the end, and blanks up to 66.
-fn put_row(room: &mut [u8], at: usize, card: FurtherCard) -> usize
-    ensures { Written room.old at (padded pm_length (letters_in (take card.len card.text))) room.new result }
+fn put_row(out: &mut Room, card: FurtherCard)
+    ensures { Puts out.old (padded pm_length (letters_in (take card.len card.text))) out.new }
 {
     let n = cards_further::len_of(card);
     let text = card.text;
-    let mut next = at;
-    let mut k: usize = 0;
-    while k < limits::PM_LENGTH {
+    for k in 0..limits::PM_LENGTH {
         let mut b = b' ';
         if k + 5 < n {
             b = text[k + 4];
         }
-        next = text::put_byte(room, next, b);
-        k += 1;
+        out.put_byte(b);
     }
-    next
 }
 
-// Puts the rows from the room's start on, one for each digit up to the highest.
-fn put_rows(room: &mut [u8], further: Further) -> usize
-    ensures { Written room.old 0 (table_text further) room.new result }
+// Puts the rows, one for each digit up to the highest.
+fn put_rows(out: &mut Room, further: Further)
+    ensures { Puts out.old (table_text further) out.new }
 {
     let n = row_count(further);
-    let mut next: usize = 0;
-    let mut digit: usize = 0;
-    while digit < n {
-        next = put_row(room, next, card_of(further, digit));
-        digit += 1;
+    for digit in 0..n {
+        put_row(out, card_of(further, digit));
     }
-    next
 }
 
 // Puts the parameter table at the start of the room and answers how long it is: nothing for a request without PM cards.
 pub fn put_table(room: &mut [u8; limits::TABLE_LENGTH], further: Further) -> usize
     ensures { Table further room.old room.new result }
 {
-    put_rows(room, further)
+    let mut out = Room { bytes: room, at: 0 };
+    put_rows(&mut out, further);
+    out.at
 }

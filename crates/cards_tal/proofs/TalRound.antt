@@ -24,7 +24,7 @@ use Rattle.cards_fields.proofs.RoundLaws.{has-not, leading-join, Named, named, d
 use Rattle.cards_request.specs.Errors.{error_if, first_of}
 use Rattle.cards_request.proofs.ErrorLaws.{or_else_none, or-else-good, not-error}
 use Rattle.cards_request.specs.declared.CardError.TheVariants.{TalWrong, TalLong}
-use Rattle.cards_request.specs.declared.CardVerdict.TheVariants.{Good}
+use Rattle.std.specs.Prelude.{Ok}
 use Rattle.cards_tal.specs.Tal.{is_tal, name_of, number_of, slashed, number_error, entry_error, entries_error}
 use Rattle.cards_tal.specs.Tal.{entries_of, tal_error, entry_text, entry_texts, tal_text}
 use Rattle.cards_tal.specs.Increments.{Increment, ProperIncrement, EachIncrement, ProperIncrements, increment_text, increment_texts, tal_of}
@@ -78,7 +78,7 @@ module _ (i : Increment) (p : ProperIncrement i) where
   increment-slashed =
       rw name_back (lt-ltb (length i.name) (length (increment_text i)) (omega (arith, length-append i.name (47 ∷ decimal_text i.number))))
 
-  pub increment-good : entry_error (increment_text i) ≡ Good
+  pub increment-good : entry_error (increment_text i) ≡ Ok tt
   unfolding entry_error number_error
   increment-good =
       rw (
@@ -111,7 +111,7 @@ all_plain : (is : List Increment) → EachIncrement is → AllPlain (increment_t
 all_plain [] p = tt
 all_plain (i ∷ is) p = (increment-plain i p.0, all_plain is p.1)
 
-all-good : (is : List Increment) → EachIncrement is → entries_error (increment_texts is) ≡ Good
+all-good : (is : List Increment) → EachIncrement is → entries_error (increment_texts is) ≡ Ok tt
 all-good [] p = refl
 all-good (i ∷ is) p = rw (increment-good i p.0) (all-good is p.1)
 
@@ -135,7 +135,7 @@ pub record TalWritten (id : List ℕ) (is : List Increment) (card : List ℕ) : 
   -- it is not TRN
   pub other : same (field card 1) (bytes "TRN") ≡ false
   pub line : NoLf card
-  pub good : length card ≤ card_length → tal_error card ≡ Good
+  pub good : length card ≤ card_length → tal_error card ≡ Ok tt
   pub text : tal_text card ≡ tal_of is
   pub back : meant_increments card ≡ is
 
@@ -160,7 +160,7 @@ module _ (id : List ℕ) (is : List Increment) (d : every plain id ≡ true) (p 
   apart : fields card ≡ id ∷ texts
   apart = ap fields card-is ∙ fields_back id texts all
 
-  good : length card ≤ card_length → tal_error card ≡ Good
+  good : length card ≤ card_length → tal_error card ≡ Ok tt
   unfolding tal_error
   good l =
       let m : malformed card ≡ false = ap malformed card-is ∙ card-good id texts all (rw card-is at l) in
@@ -186,8 +186,8 @@ module _ (id : List ℕ) (is : List Increment) (d : every plain id ≡ true) (p 
 -- ---- a card that was read
 
 -- an entry without error
-module _ (t : List ℕ) (h : entry_error t ≡ Good) where
-  parts : (slashed t && is_name (name_of t) ≡ true) × (number_error (number_of t) ≡ Good)
+module _ (t : List ℕ) (h : entry_error t ≡ Ok tt) where
+  parts : (slashed t && is_name (name_of t) ≡ true) × (number_error (number_of t) ≡ Ok tt)
   unfolding entry_error
   parts =
       let q = or_else_none (error_if (not (slashed t && is_name (name_of t))) TalWrong) (number_error (number_of t)) h in
@@ -243,11 +243,11 @@ meant-count : (ts : List (List ℕ)) → length (increments_of ts) ≡ length ts
 meant-count [] = refl
 meant-count (t ∷ ts) = omega (arith, meant-count ts)
 
-meant-each : (ts : List (List ℕ)) → entries_error ts ≡ Good → EachIncrement (increments_of ts)
+meant-each : (ts : List (List ℕ)) → entries_error ts ≡ Ok tt → EachIncrement (increments_of ts)
 meant-each [] h = tt
 meant-each (t ∷ ts) h = let q = or_else_none (entry_error t) (entries_error ts) h in (entry-proper t q.0, meant-each ts q.1)
 
-all_short : (ts : List (List ℕ)) → entries_error ts ≡ Good → total (entry_texts ts) ≤ total ts
+all_short : (ts : List (List ℕ)) → entries_error ts ≡ Ok tt → total (entry_texts ts) ≤ total ts
 all_short [] h = omega arith
 all_short (t ∷ ts) h = let q = or_else_none (entry_error t) (entries_error ts) h in omega (arith, entry-short t q.0, all_short ts q.1)
 
@@ -256,8 +256,8 @@ pub tal-text : (card : List ℕ) → tal_text card ≡ tal_of (meant_increments 
 unfolding tal_text tal_of
 tal-text card = rw (meant-texts (entries_of card))
 
-module _ (card : List ℕ) (h : tal_error card ≡ Good) where
-  tests : (malformed card ≡ false) × ((3 ≤ length (fields card)) × (entries_error (entries_of card) ≡ Good))
+module _ (card : List ℕ) (h : tal_error card ≡ Ok tt) where
+  tests : (malformed card ≡ false) × ((3 ≤ length (fields card)) × (entries_error (entries_of card) ≡ Ok tt))
   unfolding tal_error
   tests =
       let p = or_else_none (error_if (malformed card) TalWrong)

@@ -6,8 +6,8 @@ use Rattle.words.specs.Words.{same, isnt, leading, number_in}
 use Rattle.cards_fields.specs.Fields.{digits, field, fields, is_name, malformed, tail_text}
 use Rattle.cards_request.specs.Errors.{error_if, or_else, first_of}
 use Rattle.cards_request.specs.declared.CardError.TheVariants.{TalWrong, TalLong}
-use Rattle.cards_request.specs.declared.CardVerdict.{CardVerdict}
-use Rattle.cards_request.specs.declared.CardVerdict.TheVariants.{Good}
+use Rattle.cards_request.specs.Errors.{CardVerdict}
+use Rattle.std.specs.Prelude.{Ok}
 
 -- the card is TAL
 abbrev pub is_tal : List ℕ → Bool
@@ -35,7 +35,7 @@ entry_error t = or_else (error_if (not (slashed t && is_name (name_of t))) TalWr
 
 -- "then each entry from left to right": the first error
 abbrev pub entries_error : List (List ℕ) → CardVerdict
-entries_error [] = Good
+entries_error [] = Ok tt
 entries_error (t ∷ ts) = or_else (entry_error t) (entries_error ts)
 
 -- "fields from the third on are entries"

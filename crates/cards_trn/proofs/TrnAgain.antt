@@ -20,7 +20,7 @@ use Rattle.cards_fields.proofs.RoundLaws.{joined, joined-pieces, named, digits-f
 use Rattle.cards_request.specs.Errors.{error_if, first_of}
 use Rattle.cards_request.proofs.ErrorLaws.{or_else_none, or-else-good, not-error}
 use Rattle.cards_request.specs.declared.CardError.TheVariants.{TrnWrong, TrnLong}
-use Rattle.cards_request.specs.declared.CardVerdict.TheVariants.{Good}
+use Rattle.std.specs.Prelude.{Ok}
 use Rattle.cards_trn.specs.Trn.{is_trn, is_count, has_count, count_error, parts_of, part}
 use Rattle.cards_trn.specs.Trn.{most_at, right_at, part_error, parts_error, transfer_error, third_error}
 use Rattle.cards_trn.specs.Trn.{transfers_error, trn_error, third_text, field_texts, trn_text}
@@ -28,7 +28,7 @@ use Rattle.cards_trn.specs.Transfers.{ProperTransfer, EachTransfer, is_there, tr
 use Rattle.cards_trn.proofs.TrnMeant.{transfer_of, transfers_of, count_in, transfers_in, meant_count, meant_transfers}
 
 -- a part without error is right
-part_right : (t : List ℕ) (k : ℕ) → part_error t k ≡ Good → right_at k (part t k) ≡ true
+part_right : (t : List ℕ) (k : ℕ) → part_error t k ≡ Ok tt → right_at k (part t k) ≡ true
 unfolding part_error
 part_right t k h =
     let q = or_else_none (error_if (ltb (most_at k) (length (part t k))) TrnLong) (error_if (not (right_at k (part t k))) TrnWrong) h in
@@ -44,8 +44,8 @@ four (a ∷ b ∷ c ∷ d ∷ []) l h = refl
 four (a ∷ b ∷ c ∷ d ∷ e ∷ ps) l h = absurd (omega arith)
 
 -- a transfer without error
-module _ (t : List ℕ) (h : transfer_error t ≡ Good) where
-  tests : (parts_error t ≡ Good) × (length (parts_of t) ≤ 4)
+module _ (t : List ℕ) (h : transfer_error t ≡ Ok tt) where
+  tests : (parts_error t ≡ Ok tt) × (length (parts_of t) ≤ 4)
   unfolding transfer_error
   tests =
       let q = or_else_none (parts_error t) (error_if (ltb 4 (length (parts_of t))) TrnWrong) h in
@@ -57,18 +57,18 @@ module _ (t : List ℕ) (h : transfer_error t ≡ Good) where
       let a = or_else_none (part_error t 0) (first_of (part_error t 1 ∷ part_error t 2 ∷ part_error t 3 ∷ [])) tests.0 in
       let b = or_else_none (part_error t 1) (first_of (part_error t 2 ∷ part_error t 3 ∷ [])) a.1 in
       let c = or_else_none (part_error t 2) (first_of (part_error t 3 ∷ [])) b.1 in
-      let d = or_else_none (part_error t 3) Good c.1 in
+      let d = or_else_none (part_error t 3) (Ok tt) c.1 in
       record { from = part_right t 0 a.0; typed = part_right t 1 b.0; next = part_right t 2 c.0; to = part_right t 3 d.0 }
 
   pub transfer-again : transfer_text (transfer_of t) ≡ t
   unfolding transfer_of transfer_text
   transfer-again = ap (joined 47) (four (parts_of t) tests.1 (named (part t 3) transfer-proper.to).some) ∙ joined-pieces 47 t
 
-read-each : (ts : List (List ℕ)) → transfers_error ts ≡ Good → EachTransfer (transfers_of ts)
+read-each : (ts : List (List ℕ)) → transfers_error ts ≡ Ok tt → EachTransfer (transfers_of ts)
 read-each [] h = tt
 read-each (t ∷ ts) h = let q = or_else_none (transfer_error t) (transfers_error ts) h in (transfer-proper t q.0, read-each ts q.1)
 
-read_all : (ts : List (List ℕ)) → transfers_error ts ≡ Good → transfer_texts (transfers_of ts) ≡ ts
+read_all : (ts : List (List ℕ)) → transfers_error ts ≡ Ok tt → transfer_texts (transfers_of ts) ≡ ts
 read_all [] h = refl
 read_all (t ∷ ts) h = let q = or_else_none (transfer_error t) (transfers_error ts) h in rw (transfer-again t q.0, read_all ts q.1)
 
@@ -79,7 +79,7 @@ record Counted (counted : Bool) (t : List ℕ) : Type 0 where
   least : 1 ≤ length t
   digits : every is_digit t ≡ true
 
-count-read : (counted : Bool) (t : List ℕ) → count_error counted t ≡ Good → Counted counted t
+count-read : (counted : Bool) (t : List ℕ) → count_error counted t ≡ Ok tt → Counted counted t
 unfolding count_error
 count-read counted t h =
     let p = or_else_none (error_if (ltb 2 (length t)) TrnLong) (error_if (counted || not (leb 1 (length t) && every is_digit t)) TrnWrong) h in
@@ -103,7 +103,7 @@ pub record FieldsMean (counted : Bool) (fs : List (List ℕ)) : Type 0 where
   pub short : total (field_texts fs) ≤ total fs
   pub first : is_there (count_in fs) ≡ true → counted ≡ false
 
-fields-mean : (counted : Bool) (f : List ℕ) (fs : List (List ℕ)) → third_error counted f ≡ Good → transfers_error fs ≡ Good
+fields-mean : (counted : Bool) (f : List ℕ) (fs : List (List ℕ)) → third_error counted f ≡ Ok tt → transfers_error fs ≡ Ok tt
     → FieldsMean counted (f ∷ fs)
 unfolding third_text
 fields-mean counted f fs h g =
@@ -119,7 +119,7 @@ fields-mean counted f fs h g =
       first = λ z. c.first;
     })
     (λ e.
-    let q : transfer_error f ≡ Good = rw e at h in
+    let q : transfer_error f ≡ (Ok tt) = rw e at h in
     record {
       proper = record { count = rw e tt; each = rw e (transfer-proper f q, read-each fs g); not_empty = rw e (omega arith) };
       texts = rw (e, transfer-again f q, read_all fs g);
@@ -127,9 +127,9 @@ fields-mean counted f fs h g =
       first = λ z. never (rw e at z) refl;
     })
 
-module _ (counted : Bool) (card : List ℕ) (h : trn_error counted card ≡ Good) where
+module _ (counted : Bool) (card : List ℕ) (h : trn_error counted card ≡ Ok tt) where
   card-tests : (malformed card ≡ false)
-      × ((2 < length (fields card)) × ((third_error counted (field card 2) ≡ Good) × (transfers_error (drop 3 (fields card)) ≡ Good)))
+      × ((2 < length (fields card)) × ((third_error counted (field card 2) ≡ Ok tt) × (transfers_error (drop 3 (fields card)) ≡ Ok tt)))
   unfolding trn_error
   card-tests =
       let p = or_else_none (error_if (malformed card) TrnWrong)

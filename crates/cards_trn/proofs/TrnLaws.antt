@@ -5,27 +5,27 @@ use mathlib.Core.Path.{◌≡◌, refl, sym, ap, subst, ◌∙◌}
 use mathlib.Core.Bool.{Bool, true, false, not}
 use mathlib.Core.List.{List, [], ◌∷◌}
 use native.Mathlib.Omega.{arith}
-use lib.Dec.{ltb}
 use lib.ListN.{length, get_or, take, drop, drop_of_length-le}
 use lib.Seq.{drop-cons}
 use borrow.Author.Tests.{le-ltb, lt-ltb, le-leb, lt-leb}
 use Rattle.numbers.specs.Quoted.{bytes}
-use Rattle.text.specs.Class.{is_digit}
-use Rattle.text.specs.Room.{Written}
+use Rattle.text.specs.Room.{Puts}
+use Rattle.text.specs.declared.room.Room.{Room}
 use Rattle.text.specs.Writing.{decimal_text}
-use Rattle.text.proofs.RoomLaws.{Going, and_then, turn}
-use Rattle.words.specs.Words.{every, has, same, number_in}
+use Rattle.text.proofs.RoomLaws.{Goes, puts-then, goes-turn}
+use Rattle.words.specs.Words.{has, same, number_in}
 use Rattle.words.proofs.WordLaws.{same-long}
 use Rattle.cards_fields.specs.Fields.{field, fields, pieces, spaceless, is_name, malformed, tail_text, field_of, raw_field}
 use Rattle.cards_fields.specs.declared.Field.{Field}
 use Rattle.cards_fields.proofs.FieldLaws.{whole}
 use Rattle.cards_fields.proofs.SpaceLaws.{has-spaceless, piece-spaceless, raw-spaceless, count-spaceless, fields-step}
-use Rattle.cards_request.specs.Errors.{good, error_if, first_of}
-use Rattle.cards_request.proofs.ErrorLaws.{good-is, or_else_some, or-else-good}
+use Rattle.cards_request.specs.Errors.{error_if, first_of}
+use Rattle.cards_request.proofs.ErrorLaws.{or-else-good}
+use Rattle.cards_request.specs.declared.CardError.{CardError}
 use Rattle.cards_request.specs.declared.CardError.TheVariants.{TrnWrong, TrnLong}
-use Rattle.cards_request.specs.declared.CardVerdict.{CardVerdict}
-use Rattle.cards_request.specs.declared.CardVerdict.TheVariants.{Good, Wrong}
-use Rattle.cards_trn.specs.Trn.{is_count, has_count, count_error, is_type, is_successor, parts_of, part, most_at, right_at, part_error}
+use Rattle.cards_request.specs.Errors.{CardVerdict}
+use Rattle.std.specs.Prelude.{Ok, Err}
+use Rattle.cards_trn.specs.Trn.{is_count, has_count, count_error, is_type, is_executive, is_successor, parts_of, part, most_at, right_at, part_error}
 use Rattle.cards_trn.specs.Trn.{parts_error, transfer_error, third_error, transfers_error, trn_error, third_text, trn_text}
 
 -- a count has no slash, with its spaces or without
@@ -36,26 +36,6 @@ count-is t x e = rw e (ap not (sym (has-spaceless 47 refl t)))
 module _ (t : List ℕ) (f : Field) (is : f ≡ field_of t) where
   size : f.len ≡ length t
   size = ap (λ (x : Field). x.len) is
-
-  module _ (counted : Bool) where
-    pub count_long : 2 < f.len → count_error counted t ≡ Wrong TrnLong
-    unfolding count_error
-    count_long h = rw (lt-ltb 2 (length t) (omega (arith, size)))
-
-    module _ (h : f.len ≤ 2) where
-      pub count-second : counted ≡ true → count_error counted t ≡ Wrong TrnWrong
-      unfolding count_error
-      count-second e = rw (le-ltb 2 (length t) (omega (arith, size)), e)
-
-      module _ (e : counted ≡ false) where
-        pub count_none : f.len < 1 → count_error counted t ≡ Wrong TrnWrong
-        unfolding count_error
-        count_none g = rw (le-ltb 2 (length t) (omega (arith, size)), e, lt-leb 1 (length t) (omega (arith, size)))
-
-        pub count-digits : 1 ≤ f.len → (x : Bool) → x ≡ every is_digit (take f.len f.bytes) → count_error counted t ≡ error_if (not x) TrnWrong
-        unfolding count_error
-        count-digits g x i =
-            rw (le-ltb 2 (length t) (omega (arith, size)), e, le-leb 1 (length t) (omega (arith, size)), i, whole f t is (omega arith))
 
   pub type-long : 2 < f.len → is_type t ≡ false
   type-long h =
@@ -73,22 +53,14 @@ module _ (t : List ℕ) (f : Field) (is : f ≡ field_of t) where
   pub type-short : f.len ≤ 2 → is_type (take f.len f.bytes) ≡ is_type t
   type-short h = ap is_type (whole f t is (omega arith))
 
-  module _ (n : is_name t ≡ false) where
-    pub successor-long : 6 < f.len → is_successor t ≡ false
-    successor-long h = rw (n, other (bytes "*REQ") (omega arith), other (bytes "*PLB") (omega arith))
-      where
-        other : (w : List ℕ) → length w ≤ 6 → same t w ≡ false
-        other w g = same-long t w (λ e. omega (arith, size))
+  pub successor-long : 6 < f.len → is_executive t ≡ false
+  successor-long h = rw (other (bytes "*REQ") (omega arith), other (bytes "*PLB") (omega arith))
+    where
+      other : (w : List ℕ) → length w ≤ 6 → same t w ≡ false
+      other w g = same-long t w (λ e. omega (arith, size))
 
-    module _ (h : f.len ≤ 6) where
-      pub successor-first : same (take f.len f.bytes) (bytes "*REQ") ≡ true → is_successor t ≡ true
-      successor-first e = rw (n, ← whole f t is (omega arith), e)
-
-      pub successor-second : same (take f.len f.bytes) (bytes "*REQ") ≡ false → same (take f.len f.bytes) (bytes "*PLB") ≡ is_successor t
-      successor-second e = rw (n, ← whole f t is (omega arith), e)
-
-pub successor-name : (t : List ℕ) → is_name t ≡ true → is_successor t ≡ true
-successor-name t e = rw e
+  pub successor-short : f.len ≤ 6 → is_executive (take f.len f.bytes) ≡ is_executive t
+  successor-short h = ap is_executive (whole f t is (omega arith))
 
 -- the test of a part, by its index
 module _ (k : ℕ) (t : List ℕ) where
@@ -114,7 +86,7 @@ module _ (t : List ℕ) (k : ℕ) (p : List ℕ) (at : p ≡ get_or (pieces 47 t
     long : f.len ≡ length (part (spaceless t) k)
     long = ap (λ (x : Field). x.len) is ∙ ap length part-is
 
-    pub part-long : most_at k < f.len → part_error (spaceless t) k ≡ Wrong TrnLong
+    pub part-long : most_at k < f.len → part_error (spaceless t) k ≡ Err TrnLong
     unfolding part_error
     part-long h = rw (lt-ltb (most_at k) (length (part (spaceless t) k)) (rw (long) at h))
 
@@ -140,32 +112,32 @@ module _ (t : List ℕ) where
 
   module _ (k : ℕ) where
     module _ (h : k < 4) (v : CardVerdict) (is : v ≡ part_error t k) where
-      pub part-wrong : good v ≡ false → first_of (drop k (part_errors t)) ≡ v
-      part-wrong n = rw (part_step k h, ← is) (or_else_some v (first_of (drop (k + 1) (part_errors t))) n)
+      pub part-wrong : (x : CardError) → v ≡ Err x → first_of (drop k (part_errors t)) ≡ Err x
+      part-wrong x e = rw (part_step k h, ← is, e)
 
-      pub part-next : good v ≡ true → first_of (drop k (part_errors t)) ≡ first_of (drop (k + 1) (part_errors t))
-      part-next z = rw (part_step k h, ← is, good-is v z)
+      pub part-next : {u : Unit {0}} → v ≡ Ok u → first_of (drop k (part_errors t)) ≡ first_of (drop (k + 1) (part_errors t))
+      part-next z = rw (part_step k h, ← is, z)
 
-    pub parts-done : 4 ≤ k → first_of (drop k (part_errors t)) ≡ Good
+    pub parts-done : 4 ≤ k → first_of (drop k (part_errors t)) ≡ Ok tt
     parts-done h = rw (drop_of_length-le (part_errors t) {i = k} h)
 
 -- a transfer
-module _ (t : List ℕ) (v : CardVerdict) (is : v ≡ parts_error (spaceless t)) where
-  pub transfer-wrong : good v ≡ false → transfer_error (spaceless t) ≡ v
+module _ (t : List ℕ) where
+  pub transfer-wrong : (x : CardError) → parts_error (spaceless t) ≡ Err x → transfer_error (spaceless t) ≡ Err x
   unfolding transfer_error
-  transfer-wrong n = rw (← is) (or_else_some v (error_if (ltb 4 (length (parts_of (spaceless t)))) TrnWrong) n)
+  transfer-wrong x e = rw e
 
-  module _ (z : good v ≡ true) (n : ℕ) (cuts : n + 1 ≡ length (pieces 47 t)) where
+  module _ {u : Unit {0}} (z : parts_error (spaceless t) ≡ Ok u) (n : ℕ) (cuts : n + 1 ≡ length (pieces 47 t)) where
     count : length (parts_of (spaceless t)) ≡ n + 1
     count = count-spaceless 47 refl t ∙ sym cuts
 
-    pub transfer-fifth : 3 < n → transfer_error (spaceless t) ≡ Wrong TrnWrong
+    pub transfer-fifth : 3 < n → transfer_error (spaceless t) ≡ Err TrnWrong
     unfolding transfer_error
-    transfer-fifth h = rw (← is, good-is v z, lt-ltb 4 (length (parts_of (spaceless t))) (omega (arith, count)))
+    transfer-fifth h = rw (z, lt-ltb 4 (length (parts_of (spaceless t))) (omega (arith, count)))
 
-    pub transfer-good : n ≤ 3 → transfer_error (spaceless t) ≡ Good
+    pub transfer-good : n ≤ 3 → transfer_error (spaceless t) ≡ Ok tt
     unfolding transfer_error
-    transfer-good h = rw (← is, good-is v z, le-ltb 4 (length (parts_of (spaceless t))) (omega (arith, count)))
+    transfer-good h = rw (z, le-ltb 4 (length (parts_of (spaceless t))) (omega (arith, count)))
 
 -- a third field
 module _ (counted : Bool) (t : List ℕ) where
@@ -175,48 +147,40 @@ module _ (counted : Bool) (t : List ℕ) where
   pub third-transfer : is_count t ≡ false → transfer_error t ≡ third_error counted t
   third-transfer e = rw e
 
-module _ (t : List ℕ) {room after : List ℕ} {from next : ℕ} where
-  pub put_count : is_count t ≡ true → (n : ℕ) → n ≡ number_in t → Written room from (decimal_text n) after next
-      → Written room from (third_text t) after next
+module _ (t : List ℕ) {room after : Room} where
+  pub put_count : is_count t ≡ true → (n : ℕ) → n ≡ number_in t → Puts room (decimal_text n) after → Puts room (third_text t) after
   unfolding third_text
   put_count e n i w =
       let d : decimal_text n ≡ third_text t = rw (e, i) in
       rw d at w
 
-  pub put-transfer : is_count t ≡ false → Written room from t after next → Written room from (third_text t) after next
+  pub put-transfer : is_count t ≡ false → Puts room t after → Puts room (third_text t) after
   unfolding third_text
   put-transfer e w =
       let d : t ≡ third_text t = rw e in
-      subst (λ (x : List ℕ). Written room from x after next) d w
+      subst (λ (x : List ℕ). Puts room x after) d w
 
 -- the fields from one on
 module _ (card : List ℕ) (k : ℕ) where
-  abbrev left : List (List ℕ)
-  left = drop (k + 1) (fields card)
+  module _ (h : k < length (fields card)) where
+    module _ (v : CardVerdict) (is : v ≡ transfer_error (spaceless (raw_field card k))) where
+      pub transfers-wrong : (x : CardError) → v ≡ Err x → transfers_error (drop k (fields card)) ≡ Err x
+      transfers-wrong x e = rw (fields-step card k h, ← is, e)
 
-  module _ (h : k + 1 < length (fields card)) where
-    at : left ≡ spaceless (raw_field card (k + 1)) ∷ drop (k + 1 + 1) (fields card)
-    at = fields-step card (k + 1) h
+      pub transfers-next : {u : Unit {0}} → v ≡ Ok u → transfers_error (drop k (fields card)) ≡ transfers_error (drop (k + 1) (fields card))
+      transfers-next z = rw (fields-step card k h, ← is, z)
 
-    module _ (v : CardVerdict) (is : v ≡ transfer_error (spaceless (raw_field card (k + 1)))) where
-      pub transfers-wrong : good v ≡ false → transfers_error left ≡ v
-      transfers-wrong n = rw (at, ← is) (or_else_some v (transfers_error (drop (k + 1 + 1) (fields card))) n)
+    pub transfer-turn : {first room comma after : Room} {whole : List ℕ} → Goes first whole room (tail_text (drop k (fields card)))
+        → Puts room (44 ∷ []) comma → Puts comma (spaceless (raw_field card k)) after → Goes first whole after (tail_text (drop (k + 1) (fields card)))
+    transfer-turn {whole = whole} g v w = goes-turn {whole = whole} (goes-turn {whole = whole} (rw (fields-step card k h) at g) v) w
 
-      pub transfers-next : good v ≡ true → transfers_error left ≡ transfers_error (drop (k + 1 + 1) (fields card))
-      transfers-next z = rw (at, ← is, good-is v z)
+  module _ (h : length (fields card) ≤ k) where
+    pub transfers-done : transfers_error (drop k (fields card)) ≡ Ok tt
+    transfers-done = rw (drop_of_length-le (fields card) {i = k} h)
 
-    pub transfer-turn : {room₀ whole room comma after : List ℕ} {at₀ from c next : ℕ} → Going room₀ at₀ whole room from (tail_text left)
-        → Written room from (44 ∷ []) comma c → Written comma c (spaceless (raw_field card (k + 1))) after next
-        → Going room₀ at₀ whole after next (tail_text (drop (k + 1 + 1) (fields card)))
-    transfer-turn {whole = whole} g v w = turn {whole = whole} (turn {whole = whole} (rw at at g) v) w
-
-  module _ (h : length (fields card) ≤ k + 1) where
-    pub transfers-done : transfers_error left ≡ Good
-    transfers-done = rw (drop_of_length-le (fields card) {i = k + 1} h)
-
-    pub transfers-end : {room₀ whole room after : List ℕ} {at₀ from next : ℕ} → Going room₀ at₀ whole room from (tail_text left)
-        → Written room from (46 ∷ []) after next → Written room₀ at₀ whole after next
-    transfers-end {after = after} {next = next} g w = (rw (drop_of_length-le (fields card) {i = k + 1} h) at g) after next w
+    pub transfers-end : {first room after : Room} {whole : List ℕ} → Goes first whole room (tail_text (drop k (fields card)))
+        → Puts room (46 ∷ []) after → Puts first whole after
+    transfers-end {after = after} g w = (rw (drop_of_length-le (fields card) {i = k} h) at g) after w
 
 -- the card
 module _ (card : List ℕ) where
@@ -229,12 +193,12 @@ module _ (card : List ℕ) where
   count-there h = rw (lt-ltb 2 (length (fields card)) h, raw-spaceless card 2)
 
   module _ (counted : Bool) where
-    pub trn-malformed : malformed card ≡ true → trn_error counted card ≡ Wrong TrnWrong
+    pub trn-malformed : malformed card ≡ true → trn_error counted card ≡ Err TrnWrong
     unfolding trn_error
     trn-malformed m = rw m
 
     module _ (m : malformed card ≡ false) where
-      pub trn-none : length (fields card) ≤ 2 → trn_error counted card ≡ Wrong TrnWrong
+      pub trn-none : length (fields card) ≤ 2 → trn_error counted card ≡ Err TrnWrong
       unfolding trn_error
       trn-none h = rw (m, le-leb (length (fields card)) 2 h)
 
@@ -242,26 +206,25 @@ module _ (card : List ℕ) where
         third-is : third_error counted (field card 2) ≡ v
         third-is = ap (third_error counted) (sym (raw-spaceless card 2)) ∙ sym is
 
-        pub trn-third : good v ≡ false → trn_error counted card ≡ v
+        pub trn-third : (x : CardError) → v ≡ Err x → trn_error counted card ≡ Err x
         unfolding trn_error
-        trn-third n = rw (m, lt-leb (length (fields card)) 2 h, third-is) (or_else_some v (first_of (transfers_error (drop 3 (fields card)) ∷ [])) n)
+        trn-third x e = rw (m, lt-leb (length (fields card)) 2 h, third-is, e)
 
-        pub trn-rest : good v ≡ true → transfers_error (drop 3 (fields card)) ≡ trn_error counted card
+        pub trn-rest : {u : Unit {0}} → v ≡ Ok u → transfers_error (drop 3 (fields card)) ≡ trn_error counted card
         unfolding trn_error
-        trn-rest z = rw (m, lt-leb (length (fields card)) 2 h, third-is, good-is v z) (sym (or-else-good (transfers_error (drop 3 (fields card)))))
+        trn-rest z = rw (m, lt-leb (length (fields card)) 2 h, third-is, z) (sym (or-else-good (transfers_error (drop 3 (fields card)))))
 
   -- its word, the third field and those behind it
-  module _ {room word : List ℕ} {from a : ℕ} (v : Written room from (84 ∷ 82 ∷ 78 ∷ []) word a) where
-    pub trn-empty : length (fields card) ≤ 2 → {after : List ℕ} {next : ℕ} → Written word a (46 ∷ []) after next
-        → Written room from (trn_text card) after next
+  module _ {room word : Room} (v : Puts room (84 ∷ 82 ∷ 78 ∷ []) word) where
+    pub trn-empty : length (fields card) ≤ 2 → {after : Room} → Puts word (46 ∷ []) after → Puts room (trn_text card) after
     unfolding trn_text
-    trn-empty h w = rw (drop_of_length-le (fields card) {i = 2} h) (and_then v w)
+    trn-empty h w = rw (drop_of_length-le (fields card) {i = 2} h) (puts-then v w)
 
-    pub trn-put : 2 < length (fields card) → {comma third after : List ℕ} {b c next : ℕ} → Written word a (44 ∷ []) comma b
-        → Written comma b (third_text (spaceless (raw_field card 2))) third c
-        → Written third c (tail_text (drop 3 (fields card))) after next → Written room from (trn_text card) after next
+    pub trn-put : 2 < length (fields card) → {comma third after : Room} → Puts word (44 ∷ []) comma
+        → Puts comma (third_text (spaceless (raw_field card 2))) third → Puts third (tail_text (drop 3 (fields card))) after
+        → Puts room (trn_text card) after
     unfolding trn_text
     trn-put h w x y =
         let e : drop 2 (fields card) ≡ spaceless (raw_field card 2) ∷ drop 3 (fields card) =
         drop-cons (fields card) 2 [] h ∙ ap (λ (t : List ℕ). t ∷ drop 3 (fields card)) (sym (raw-spaceless card 2)) in
-        rw e (and_then v (and_then w (and_then x y)))
+        rw e (puts-then v (puts-then w (puts-then x y)))

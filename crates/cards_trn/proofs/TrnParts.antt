@@ -19,7 +19,7 @@ use Rattle.words.proofs.WordLaws.{every_append, every-weaker, number_short, same
 use Rattle.cards_fields.specs.Fields.{is_name}
 use Rattle.cards_fields.proofs.CardLaws.{plain, AllPlain, alnum-plain, digit-plain, number-back, number_digits}
 use Rattle.cards_fields.proofs.RoundLaws.{has-not, pieces-join, pieces-one, named, number-some}
-use Rattle.cards_request.specs.declared.CardVerdict.TheVariants.{Good}
+use Rattle.std.specs.Prelude.{Ok}
 use Rattle.cards_trn.specs.Trn.{is_count, count_error, is_type, is_successor, parts_of, part_error, parts_error, transfer_error, third_error}
 use Rattle.cards_trn.specs.Trn.{transfers_error, third_text, field_texts}
 use Rattle.cards_trn.specs.Transfers.{Transfer, ProperTransfer, EachTransfer, is_there, transfer_text, transfer_texts, trn_fields, ProperTrn}
@@ -105,7 +105,7 @@ module _ (t : Transfer) (p : ProperTransfer t) where
       ∙ ap (λ (ps : List (List ℕ)). t.kind ∷ ps) (pieces-join 47 t.successor _ (slashless t.successor third)
       ∙ ap (λ (ps : List (List ℕ)). t.successor ∷ ps) (pieces-one 47 t.name2 (slashless t.name2 fourth))))
 
-  transfer-good : transfer_error (transfer_text t) ≡ Good
+  transfer-good : transfer_error (transfer_text t) ≡ Ok tt
   unfolding transfer_error parts_error part_error
   transfer-good =
       rw (
@@ -141,7 +141,7 @@ transfers-plain : (ts : List Transfer) → EachTransfer ts → AllPlain (transfe
 transfers-plain [] p = tt
 transfers-plain (t ∷ ts) p = (transfer-plain t p.0, transfers-plain ts p.1)
 
-transfers-good : (ts : List Transfer) → EachTransfer ts → transfers_error (transfer_texts ts) ≡ Good
+transfers-good : (ts : List Transfer) → EachTransfer ts → transfers_error (transfer_texts ts) ≡ Ok tt
 transfers-good [] p = refl
 transfers-good (t ∷ ts) p = rw (transfer-good t p.0) (transfers-good ts p.1)
 
@@ -164,7 +164,7 @@ module _ (n : ℕ) (h : n ≤ 99) where
   count-back : number_in (decimal_text n) ≡ n
   count-back = number_short (decimal_text n) (omega (arith, count-few)) ∙ number-back n
 
-  count-good : (counted : Bool) → counted ≡ false → count_error counted (decimal_text n) ≡ Good
+  count-good : (counted : Bool) → counted ≡ false → count_error counted (decimal_text n) ≡ Ok tt
   unfolding count_error
   count-good counted e = rw (le-ltb 2 (length (decimal_text n)) count-few, e, le-leb 1 (length (decimal_text n)) (number-some n), number_digits n)
 
@@ -178,7 +178,7 @@ fields-plain none ts p = transfers-plain ts p
 fields-plain (some n) ts p = (every-weaker is_digit plain digit-plain (decimal_text n) (number_digits n), transfers-plain ts p)
 
 pub fields-good : (counted : Bool) (c : Option ℕ) (ts : List Transfer) → ProperTrn c ts → (is_there c ≡ true → counted ≡ false)
-    → (third_error counted (get_or (trn_fields c ts) 0 []) ≡ Good) × (transfers_error (drop 1 (trn_fields c ts)) ≡ Good)
+    → (third_error counted (get_or (trn_fields c ts) 0 []) ≡ Ok tt) × (transfers_error (drop 1 (trn_fields c ts)) ≡ Ok tt)
 fields-good counted none [] p e = absurd (omega (arith, p.not_empty))
 fields-good counted none (t ∷ ts) p e = (rw (transfer-slashed t p.each.0, transfer-good t p.each.0), transfers-good ts p.each.1)
 fields-good counted (some n) ts p e = (rw (count-slashless n, count-good n p.count counted (e refl)), transfers-good ts p.each)

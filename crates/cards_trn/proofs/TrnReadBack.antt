@@ -15,7 +15,7 @@ use Rattle.words.specs.Words.{every, same}
 use Rattle.words.proofs.LineLaws.{NoLf}
 use Rattle.cards_fields.specs.Fields.{field, fields, malformed, card_text}
 use Rattle.cards_fields.proofs.CardLaws.{plain, AllPlain, fields_back, card-good, card-line}
-use Rattle.cards_request.specs.declared.CardVerdict.TheVariants.{Good}
+use Rattle.std.specs.Prelude.{Ok}
 use Rattle.cards_trn.specs.Trn.{is_trn, has_count, trn_error, trn_text}
 use Rattle.cards_trn.specs.Transfers.{Transfer, is_there, trn_fields, ProperTrn, trn_of}
 use Rattle.cards_trn.proofs.TrnMeant.{count_in, transfers_in, meant_count, meant_transfers}
@@ -30,7 +30,7 @@ pub record TrnWritten (id : List ℕ) (c : Option ℕ) (ts : List Transfer) (car
   pub other : same (field card 1) (bytes "TAL") ≡ false
   pub line : NoLf card
   pub counts : has_count card ≡ is_there c
-  pub good : (counted : Bool) → (is_there c ≡ true → counted ≡ false) → length card ≤ card_length → trn_error counted card ≡ Good
+  pub good : (counted : Bool) → (is_there c ≡ true → counted ≡ false) → length card ≤ card_length → trn_error counted card ≡ Ok tt
   pub text : trn_text card ≡ trn_of c ts
   pub count_back : meant_count card ≡ c
   pub transfers_back : meant_transfers card ≡ ts
@@ -63,7 +63,7 @@ module _ (id : List ℕ) (c : Option ℕ) (ts : List Transfer) (d : every plain 
   unfolding has_count
   counts = rw (apart, lt-ltb 2 (length (id ∷ texts)) three) (fields-counted c ts p)
 
-  good : (counted : Bool) → (is_there c ≡ true → counted ≡ false) → length card ≤ card_length → trn_error counted card ≡ Good
+  good : (counted : Bool) → (is_there c ≡ true → counted ≡ false) → length card ≤ card_length → trn_error counted card ≡ Ok tt
   unfolding trn_error
   good counted e l =
       let m : malformed card ≡ false = ap malformed card-is ∙ card-good id texts all (rw card-is at l) in

@@ -6,8 +6,8 @@ use Rattle.words.specs.Words.{has, same, number_in}
 use Rattle.cards_fields.specs.Fields.{digits, field, fields, pieces, is_name, malformed, tail_text}
 use Rattle.cards_request.specs.Errors.{error_if, or_else, first_of}
 use Rattle.cards_request.specs.declared.CardError.TheVariants.{TrnWrong, TrnLong}
-use Rattle.cards_request.specs.declared.CardVerdict.{CardVerdict}
-use Rattle.cards_request.specs.declared.CardVerdict.TheVariants.{Good}
+use Rattle.cards_request.specs.Errors.{CardVerdict}
+use Rattle.std.specs.Prelude.{Ok}
 
 -- the card is TRN
 abbrev pub is_trn : List ℕ → Bool
@@ -31,9 +31,13 @@ count_error counted t =
 abbrev pub is_type : List ℕ → Bool
 is_type t = same t (bytes "D") || (same t (bytes "T") || (same t (bytes "N") || (same t (bytes "*T") || same t (bytes "*N"))))
 
+-- the executive: "`*REQ` or `*PLB`"
+abbrev pub is_executive : List ℕ → Bool
+is_executive t = same t (bytes "*REQ") || same t (bytes "*PLB")
+
 -- "Successor: as a name, or `*REQ` or `*PLB`"
 abbrev pub is_successor : List ℕ → Bool
-is_successor t = is_name t || (same t (bytes "*REQ") || same t (bytes "*PLB"))
+is_successor t = is_name t || is_executive t
 
 -- "every other field is a transfer, cut at its slashes, parts name 1, type, successor, name 2"
 abbrev pub parts_of : List ℕ → List (List ℕ)
@@ -69,7 +73,7 @@ third_error counted t = cond (is_count t) (count_error counted t) (transfer_erro
 
 -- the fields behind it
 abbrev pub transfers_error : List (List ℕ) → CardVerdict
-transfers_error [] = Good
+transfers_error [] = Ok tt
 transfers_error (t ∷ ts) = or_else (transfer_error t) (transfers_error ts)
 
 -- "malformed: 7; no third field: 7; then the fields from the third on, left to right". `counted`: an earlier TRN card

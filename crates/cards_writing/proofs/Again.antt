@@ -21,7 +21,7 @@ use Rattle.words.proofs.WordLaws.{every_append, every-weaker}
 use Rattle.cards_fac.specs.Fac.{codes, last_code, index_in, code_text, channel_text, slash_at, number_text, channel_good, most}
 use Rattle.cards_fac.specs.Fac.{number_good, slot, slots, code_of, slot_of, form_error, entries_error, all_entered, nothing}
 use Rattle.cards_fac.proofs.EntryLaws.{code-known, code-size}
-use Rattle.cards_request.specs.declared.CardVerdict.TheVariants.{Good}
+use Rattle.std.specs.Prelude.{Ok}
 use Rattle.cards_writing.specs.Writing.{code_at, channel_at, entry_text, entry_texts, limit, numbers_fit}
 use Rattle.cards_fields.proofs.CardLaws.{plain, AllPlain, digit-plain, letter-plain, digit-no-letter, number-back, number_digits}
 
@@ -70,7 +70,7 @@ module _ (code ch d : List ℕ) (l : every is_letter code ≡ true) (h : every i
     code-of : code_of (entry code ch d) ≡ c
     code-of = ap (index_in codes) (code-back code ch d l h) ∙ is
 
-    form-back : form_error (entry code ch d) ≡ Good
+    form-back : form_error (entry code ch d) ≡ Ok tt
     unfolding form_error
     form-back =
         rw (
@@ -156,7 +156,7 @@ slash-plain = refl
 
 -- A WRITTEN ENTRY HAS NO ERROR, AND ASKS FOR WHAT WAS WRITTEN, at its slot
 pub record Entered (k n : ℕ) : Type 0 where
-  pub form : form_error (entry_text k n) ≡ Good
+  pub form : form_error (entry_text k n) ≡ Ok tt
   pub at : slot_of (entry_text k n) ≡ k
   pub number : value (number_text (entry_text k n)) ≡ n
   pub bytes : every plain (entry_text k n) ≡ true
@@ -182,7 +182,7 @@ entered-back k n h p l =
 
 -- all entries
 pub record AllEntered (asks ns : List ℕ) (k : ℕ) (whole : List ℕ) : Type 0 where
-  pub right : entries_error asks (entry_texts k ns) ≡ Good
+  pub right : entries_error asks (entry_texts k ns) ≡ Ok tt
   pub sum : all_entered asks (entry_texts k ns) ≡ whole
   pub bytes : AllPlain (entry_texts k ns)
 

@@ -1,5 +1,6 @@
 -- Written text read back, form by form: fields left off at the end, names, numbers of two digits and the priority.
 -- Assumes nothing.
+use Rattle.std.specs.Prelude.{Option, Some, is_some}
 use Prim.Native.Nat.{ℕ, suc, ◌+◌, ◌/◌, ◌%◌, ◌≤◌, ◌<◌}
 use mathlib.Core.Path.{◌≡◌, refl, sym, ap, ◌∙◌}
 use mathlib.Core.Bool.{true, false, cond, not}
@@ -20,7 +21,7 @@ use Rattle.words.proofs.WordLaws.{every_append, every-weaker}
 use Rattle.cards_fields.specs.Fields.{spaceless, padded}
 use Rattle.cards_fields.proofs.CardLaws.{plain, AllPlain, listed_plain, hyphened-plain, letter-plain, digit-plain, digit-no-letter}
 use Rattle.cards_request.specs.Errors.{or_else}
-use Rattle.cards_pty.specs.Pty.{Rule, one_of, program_name, field_error, fields_from, priority_of, ranked, last_of_all}
+use Rattle.cards_pty.specs.Pty.{Rule, one_of, program_name, field_error, fields_from, priority_of, priority_good, ranked, last_of_all}
 use Rattle.cards_pty.proofs.PriorityLaws.{lettered, sequenced, rank-good, rank-last}
 use Rattle.cards_pty.specs.declared.Priority.{Priority}
 use Rattle.cards_writing.specs.Writing.{front, trimmed, formed_from, formed}
@@ -103,11 +104,11 @@ module _ (q l p : ℕ) (hq : q < 64) (hp : p < 64) (hl : is_letter l ≡ true) w
       (sym (two_back q)) n (omega arith)))
       (eq-zero-or-pos q)
 
-  pub priority-back : (priority_of text).good ≡ true → priority_of text ≡ record { good = true; sequence = q; letter = l; precedence = p }
+  pub priority-back : priority_good text ≡ true → priority_of text ≡ Some (record { sequence = q; letter = l; precedence = p })
   priority-back g =
       priority-ranked
       ∙ by_bool (last_of_all l p)
-      (λ z. never g (ap (λ (x : Priority). x.good)
+      (λ z. never g (ap (λ (x : Option Priority). is_some x)
       (priority-ranked ∙ rank-last q l (two_text p) hl (omega arith) (two_digits p (omega arith)) p (sym (two_back p)) (omega arith) z)))
       (λ z. rank-good q l (two_text p) hl (omega arith) (two_digits p (omega arith)) p (sym (two_back p)) (omega arith) z)
 

@@ -7,10 +7,10 @@ use mathlib.Core.Logic.{⊎_elim}
 use native.Mathlib.Nat.{eq-zero-or-pos}
 use native.Mathlib.Numerals.{add-one}
 use native.Mathlib.Omega.{arith}
-use lib.Dec.{eqb, ltb}
+use lib.Dec.{ltb}
 use lib.ListN.{length, get_or, take, drop, drop_of_length-le, replicate, length-replicate}
 use lib.Seq.{length-take-le}
-use borrow.Author.Tests.{eq-eqb, ne_eqb, lt-ltb, le-ltb}
+use borrow.Author.Tests.{lt-ltb, le-ltb}
 use Rattle.text.specs.Room.{Written}
 use Rattle.text.proofs.RoomLaws.{same-room}
 use Rattle.words.proofs.WordLaws.{drop-step}
@@ -18,25 +18,8 @@ use Rattle.cards_request.specs.Errors.{good}
 use Rattle.cards_fac.specs.Fac.{slots}
 use Rattle.cards_pty.specs.Pty.{rule_at, field_error}
 use Rattle.cards_pty.proofs.PtyLaws.{from_index, field-wrong, field-right, most-small, much-too-long}
-use Rattle.cards_writing.specs.Writing.{formed_from, formed, limit, numbers_fit}
+use Rattle.cards_writing.specs.Writing.{limit, numbers_fit}
 use Rattle.cards_writing.proofs.PutLaws.{put-reached, put_whole}
-
--- a name from a position on, one byte further
-module _ (s : List ℕ) (i : ℕ) (h : i < length s) where
-  pub formed-bad : (over : Bool) → over ≡ true → (get_or s i 0 ≡ 32 → ⊥) → formed_from over (drop i s) ≡ false
-  formed-bad over o n = rw (o, drop-step s i h, ne_eqb (get_or s i 0) 32 n)
-
-  pub formed-blank : (over : Bool) → over ≡ true → get_or s i 0 ≡ 32 → formed_from over (drop i s) ≡ formed_from over (drop (i + 1) s)
-  formed-blank over o e = rw (o, drop-step s i h, eq-eqb (get_or s i 0) 32 e)
-
-  pub formed-next : (over : Bool) → over ≡ false → formed_from over (drop i s) ≡ formed_from (eqb (get_or s i 0) 32) (drop (i + 1) s)
-  formed-next over o = rw (o, drop-step s i h)
-
-pub formed-end : (s : List ℕ) (i : ℕ) (over : Bool) → length s ≤ i → formed_from over (drop i s) ≡ true
-formed-end s i over h = rw (drop_of_length-le s h)
-
-pub formed-is : (w : ℕ) (s : List ℕ) (b : Bool) → length s ≡ w → b ≡ formed_from false s → formed w s ≡ b
-formed-is w s b l e = rw (eq-eqb (length s) w l) (sym e)
 
 -- the numbers, one further
 module _ (asks : List ℕ) (k n m : ℕ) (h : k < length asks) (is : n ≡ get_or asks k 0) (lim : m ≡ limit k) where

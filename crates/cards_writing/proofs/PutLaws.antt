@@ -12,8 +12,9 @@ use lib.ListN.{length, get_or, take, drop, drop_of_length-le, length-append, len
 use lib.Seq.{drop-cons, take-append_seam}
 use borrow.Author.Tests.{eq-eqb, ne_eqb}
 use Rattle.numbers.proofs.Tests.{by_bool}
-use Rattle.text.specs.Room.{reach, Written}
-use Rattle.text.proofs.RoomLaws.{Going, turn, fitted}
+use Rattle.text.specs.Room.{reach, Written, Puts}
+use Rattle.text.specs.declared.room.Room.{Room}
+use Rattle.text.proofs.RoomLaws.{Goes, goes-turn, fitted}
 use Rattle.text.specs.Writing.{decimal_text}
 use Rattle.text.proofs.Tens.{one-digit, more-digits}
 use Rattle.cards_fields.specs.Fields.{card_text, tail_text}
@@ -112,46 +113,45 @@ module _ (n : ℕ) (r : Request) where
       cards-first [] h = absurd (omega arith)
       cards-first (f ∷ fs) h = refl
 
-  module _ {room₀ whole : List ℕ} {at₀ : ℕ} where
-    pub pty-turn : {room comma after : List ℕ} {at c next : ℕ} (k : ℕ) → k < length (trimmed (pty_fields n r))
-        → Going room₀ at₀ whole room at (tail_text (drop k (trimmed (pty_fields n r))))
-        → Written room at (44 ∷ []) comma c → Written comma c (get_or (pty_fields n r) k []) after next
-        → Going room₀ at₀ whole after next (tail_text (drop (k + 1) (trimmed (pty_fields n r))))
+  module _ {first : Room} {whole : List ℕ} where
+    pub pty-turn : {room comma next : Room} (k : ℕ) → k < length (trimmed (pty_fields n r))
+        → Goes first whole room (tail_text (drop k (trimmed (pty_fields n r))))
+        → Puts room (44 ∷ []) comma → Puts comma (get_or (pty_fields n r) k []) next
+        → Goes first whole next (tail_text (drop (k + 1) (trimmed (pty_fields n r))))
     pty-turn k h g v w =
         let e : drop k (trimmed (pty_fields n r)) ≡ get_or (pty_fields n r) k [] ∷ drop (k + 1) (trimmed (pty_fields n r)) =
         rw (add-one k) (drop-cons (trimmed (pty_fields n r)) k [] h)
         ∙ ap (λ (f : List ℕ). f ∷ drop (k + 1) (trimmed (pty_fields n r))) (trimmed-at (pty_fields n r) k) in
-        turn {whole = whole} (turn {whole = whole} (rw e at g) v) w
+        goes-turn {whole = whole} (goes-turn {whole = whole} (rw e at g) v) w
 
-    pub pty-end : {room after : List ℕ} {at next : ℕ} (k : ℕ) → length (trimmed (pty_fields n r)) ≤ k
-        → Going room₀ at₀ whole room at (tail_text (drop k (trimmed (pty_fields n r))))
-        → Written room at (46 ∷ []) after next → Written room₀ at₀ whole after next
-    pty-end {after = after} {next = next} k h g w = (rw (drop_of_length-le (trimmed (pty_fields n r)) {i = k} h) at g) after next w
+    pub pty-end : {room next : Room} (k : ℕ) → length (trimmed (pty_fields n r)) ≤ k
+        → Goes first whole room (tail_text (drop k (trimmed (pty_fields n r))))
+        → Puts room (46 ∷ []) next → Puts first whole next
+    pty-end {next = next} k h g w = (rw (drop_of_length-le (trimmed (pty_fields n r)) {i = k} h) at g) next w
 
 -- the entries of a FAC card, one slot further
 module _ (asks : List ℕ) where
   abbrev from : ℕ → List ℕ
   from k = tail_text (entry_texts k (drop k asks))
 
-  module _ {room₀ : List ℕ} {at₀ : ℕ} where
-    pub entry-skip : {room : List ℕ} {at : ℕ} (k n : ℕ) → k < length asks → n ≡ get_or asks k 0 → n ≡ 0
-        → Going room₀ at₀ (from 0) room at (from k) → Going room₀ at₀ (from 0) room at (from (k + 1))
+  module _ {first : Room} where
+    pub entry-skip : {room : Room} (k n : ℕ) → k < length asks → n ≡ get_or asks k 0 → n ≡ 0
+        → Goes first (from 0) room (from k) → Goes first (from 0) room (from (k + 1))
     entry-skip k n h e z g =
         let d : entry_texts k (drop k asks) ≡ entry_texts (k + 1) (drop (k + 1) asks) = rw (add-one k, drop-cons asks k 0 h, ← e, eq-eqb n 0 z) in
         rw d at g
 
-    pub entry-turn : {room comma after : List ℕ} {at c next : ℕ} (k n : ℕ) → k < length asks → n ≡ get_or asks k 0 → (n ≡ 0 → ⊥)
-        → Going room₀ at₀ (from 0) room at (from k)
-        → Written room at (44 ∷ []) comma c → Written comma c (entry_text k n) after next
-        → Going room₀ at₀ (from 0) after next (from (k + 1))
+    pub entry-turn : {room comma next : Room} (k n : ℕ) → k < length asks → n ≡ get_or asks k 0 → (n ≡ 0 → ⊥)
+        → Goes first (from 0) room (from k) → Puts room (44 ∷ []) comma → Puts comma (entry_text k n) next
+        → Goes first (from 0) next (from (k + 1))
     entry-turn k n h e z g v w =
         let d : entry_texts k (drop k asks) ≡ entry_text k n ∷ entry_texts (k + 1) (drop (k + 1) asks) =
         rw (add-one k, drop-cons asks k 0 h, ← e, ne_eqb n 0 z) in
-        turn {whole = from 0} (turn {whole = from 0} (rw d at g) v) w
+        goes-turn {whole = from 0} (goes-turn {whole = from 0} (rw d at g) v) w
 
-    pub entry-end : {room after : List ℕ} {at next : ℕ} (k : ℕ) → length asks ≤ k
-        → Going room₀ at₀ (from 0) room at (from k) → Written room at (46 ∷ []) after next → Written room₀ at₀ (from 0) after next
-    entry-end {after = after} {next = next} k h g w = (rw (drop_of_length-le asks {i = k} h) at g) after next w
+    pub entry-end : {room next : Room} (k : ℕ) → length asks ≤ k → Goes first (from 0) room (from k) → Puts room (46 ∷ []) next
+        → Puts first (from 0) next
+    entry-end {next = next} k h g w = (rw (drop_of_length-le asks {i = k} h) at g) next w
 
 -- what was put into an array of m bytes, by whether it shows as longer than a card or a field may be
 module _ (m : ℕ) {p after : List ℕ} {next : ℕ} (w : Written (replicate m 0) 0 p after next) where

@@ -8,23 +8,18 @@ ghost use Rattle.cards_writing.specs.Writing.{pty_fields, formed_from, limit, nu
 use crate::put;
 use cards_request::{Facilities, Request};
 use numbers::limits;
+use text::room::Room;
 
 // Whether a name has blanks only behind it.
 fn is_formed(name: &[u8]) -> bool
     ensures { result ≡ formed_from false name.now }
 {
     let mut over = false;
-    let mut i: usize = 0;
-    while i < name.len() {
-        let b = name[i];
-        i += 1;
-        if over {
-            if b != b' ' {
-                return false;
-            }
-        } else {
-            over = b == b' ';
+    for b in name {
+        if over && *b != b' ' {
+            return false;
         }
+        over = *b == b' ';
     }
     true
 }
@@ -33,20 +28,7 @@ fn is_formed(name: &[u8]) -> bool
 fn are_formed(r: Request) -> bool
     ensures { result ≡ names_formed r }
 {
-    let id = r.id;
-    if !is_formed(&id) {
-        return false;
-    }
-    let program = r.program;
-    if !is_formed(&program) {
-        return false;
-    }
-    let medium = r.medium;
-    if !is_formed(&medium) {
-        return false;
-    }
-    let library = r.library;
-    is_formed(&library)
+    is_formed(&r.id) && is_formed(&r.program) && is_formed(&r.medium) && is_formed(&r.library)
 }
 
 // Whether the text of a field is right; it is put into an array one byte longer than any may be, so that a longer one
@@ -55,20 +37,23 @@ fn is_field(r: Request, n: usize, k: usize) -> bool
     ensures { result ≡ good (field_error k (rule_at k) (get_or (pty_fields n r) k [])) }
 {
     let mut text = [0u8; 13];
-    let len = put::put_field(&mut text, 0, r, n, k);
-    cards_request::is_good(cards_pty::field_error(k, &text[..len]))
+    let mut room = Room {
+        bytes: &mut text,
+        at: 0,
+    };
+    put::put_field(&mut room, r, n, k);
+    let len = room.at;
+    cards_request::is_good(cards_pty::field_error(k, &room.bytes[..len]))
 }
 
 // Whether the text of each field is right.
 fn are_fields(r: Request, n: usize) -> bool
     ensures { result ≡ good (fields_error (pty_fields n r)) }
 {
-    let mut k: usize = 0;
-    while k < 14 {
+    for k in 0..14 {
         if !is_field(r, n, k) {
             return false;
         }
-        k += 1;
     }
     true
 }
@@ -87,12 +72,10 @@ fn limit_at(k: usize) -> u32
 fn are_numbers(f: Facilities) -> bool
     ensures { result ≡ numbers_fit 0 (asks_of f) }
 {
-    let mut k: usize = 0;
-    while k < cards_fac::SLOTS {
+    for k in 0..cards_fac::SLOTS {
         if limit_at(k) <= cards_fac::number_at(f, k) {
             return false;
         }
-        k += 1;
     }
     true
 }
@@ -101,34 +84,21 @@ fn are_numbers(f: Facilities) -> bool
 fn are_ranges(r: Request) -> bool
     ensures { result ≡ ranges_good r }
 {
-    if !text::is_letter(r.letter) {
-        return false;
-    }
-    if limits::LAST_SEQUENCE < r.sequence {
-        return false;
-    }
-    if limits::LAST_PRECEDENCE < r.precedence {
-        return false;
-    }
-    r.minutes < 10000
+    text::is_letter(r.letter)
+        && r.sequence <= limits::LAST_SEQUENCE
+        && r.precedence <= limits::LAST_PRECEDENCE
+        && r.minutes < 10000
 }
 
 // Whether the writer takes a request of n cards.
+#[tactic(auto, unfolding(crate::specs::Writing::takes))]
 pub fn is_taken(r: Request, n: usize) -> bool
     ensures { result ≡ takes n r }
 {
-    if !are_formed(r) {
-        return false;
-    }
-    if !are_ranges(r) {
-        return false;
-    }
-    if !are_fields(r, n) {
-        return false;
-    }
     let f = r.facilities;
-    if !are_numbers(f) {
-        return false;
-    }
-    cards_request::is_good(cards_fac::core_error(f))
+    are_formed(r)
+        && are_ranges(r)
+        && are_fields(r, n)
+        && are_numbers(f)
+        && cards_request::is_good(cards_fac::core_error(f))
 }

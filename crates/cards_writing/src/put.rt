@@ -1,6 +1,6 @@
 // The pieces of the PTY and the FAC card, each put behind the one before it.
 ghost use Rattle.std.specs.Prelude.{◌≡◌, [], ◌∷◌, eqb, length, get_or, drop};
-ghost use Rattle.text.specs.Room.{Written};
+ghost use Rattle.text.specs.Room.{Puts};
 ghost use Rattle.cards_fields.specs.Fields.{tail_text};
 ghost use Rattle.cards_fac.specs.Fac.{codes, asks_of};
 ghost use Rattle.cards_writing.specs.Writing.{priority_text, mark_text, pty_fields, trimmed, pty_text};
@@ -8,55 +8,53 @@ ghost use Rattle.cards_writing.specs.Writing.{code_at, channel_at, entry_text, e
 
 use cards_fields::parts;
 use cards_request::{Facilities, Request};
+use text::room::Room;
 
 // Puts a mark, nothing for a blank.
-fn put_mark(room: &mut [u8], at: usize, mark: u8) -> usize
-    ensures { Written room.old at (mark_text mark) room.new result }
+fn put_mark(room: &mut Room, mark: u8)
+    ensures { Puts room.old (mark_text mark) room.new }
 {
-    if mark == b' ' {
-        return at;
+    if mark != b' ' {
+        room.put_byte(mark);
     }
-    text::put_byte(room, at, mark)
 }
 
 // Puts the sequence, where there is one, the letter and the precedence.
-pub fn put_priority(room: &mut [u8], at: usize, r: Request) -> usize
-    ensures { Written room.old at (priority_text r) room.new result }
+pub fn put_priority(room: &mut Room, r: Request)
+    ensures { Puts room.old (priority_text r) room.new }
 {
     let sequence = r.sequence;
-    if sequence == 0 {
-        let next = text::put_byte(room, at, r.letter);
-        return text::put_two(room, next, r.precedence);
+    if sequence != 0 {
+        room.put_two(sequence);
     }
-    let second = text::put_two(room, at, sequence);
-    let third = text::put_byte(room, second, r.letter);
-    text::put_two(room, third, r.precedence)
+    room.put_byte(r.letter);
+    room.put_two(r.precedence);
 }
 
 // Puts the field at an index of the PTY card of a request of n cards, nothing past the last.
-pub(crate) fn put_field(room: &mut [u8], at: usize, r: Request, n: usize, k: usize) -> usize
-    ensures { Written room.old at (get_or (pty_fields n r) k []) room.new result }
+pub(crate) fn put_field(room: &mut Room, r: Request, n: usize, k: usize)
+    ensures { Puts room.old (get_or (pty_fields n r) k []) room.new }
 {
     let id = r.id;
     let program = r.program;
     let medium = r.medium;
     let library = r.library;
     match k {
-        0 => parts::put_name(room, at, &id),
-        1 => text::put_bytes(room, at, b"PTY"),
-        2 => text::put_decimal(room, at, n as u64),
-        3 => put_mark(room, at, r.rush),
-        4 => parts::put_name(room, at, &program),
-        5 => put_mark(room, at, r.immediate),
-        6 => put_mark(room, at, r.device),
-        7 => parts::put_name(room, at, &medium),
-        8 => put_mark(room, at, r.mode),
-        9 => put_priority(room, at, r),
-        10 => put_mark(room, at, r.mix),
-        11 => text::put_decimal(room, at, r.minutes as u64),
-        12 => put_mark(room, at, r.store),
-        13 => parts::put_name(room, at, &library),
-        _ => at,
+        0 => parts::put_name(room, &id),
+        1 => room.put_bytes(b"PTY"),
+        2 => room.put_decimal(n as u64),
+        3 => put_mark(room, r.rush),
+        4 => parts::put_name(room, &program),
+        5 => put_mark(room, r.immediate),
+        6 => put_mark(room, r.device),
+        7 => parts::put_name(room, &medium),
+        8 => put_mark(room, r.mode),
+        9 => put_priority(room, r),
+        10 => put_mark(room, r.mix),
+        11 => room.put_decimal(r.minutes as u64),
+        12 => put_mark(room, r.store),
+        13 => parts::put_name(room, &library),
+        _ => {}
     }
 }
 
@@ -65,7 +63,12 @@ fn is_empty(r: Request, n: usize, k: usize) -> bool
     ensures { result ≡ eqb (length (get_or (pty_fields n r) k [])) 0 }
 {
     let mut text = [0u8; 1];
-    put_field(&mut text, 0, r, n, k) == 0
+    let mut room = Room {
+        bytes: &mut text,
+        at: 0,
+    };
+    put_field(&mut room, r, n, k);
+    room.at == 0
 }
 
 // How many fields are written: all but the empty ones behind the estimated minutes, which are never empty.
@@ -82,37 +85,32 @@ fn field_count(r: Request, n: usize) -> usize
 }
 
 // Puts what follows the PTY card's first field.
-fn put_fields(room: &mut [u8], at: usize, r: Request, n: usize) -> usize
-    ensures { Written room.old at (tail_text (drop 1 (trimmed (pty_fields n r)))) room.new result }
+fn put_fields(room: &mut Room, r: Request, n: usize)
+    ensures { Puts room.old (tail_text (drop 1 (trimmed (pty_fields n r)))) room.new }
 {
     let count = field_count(r, n);
-    let mut next = at;
-    let mut k: usize = 1;
-    while k < count {
-        let comma = text::put_byte(room, next, b',');
-        next = put_field(room, comma, r, n, k);
-        k += 1;
+    for k in 1..count {
+        room.put_byte(b',');
+        put_field(room, r, n, k);
     }
-    text::put_byte(room, next, b'.')
+    room.put_byte(b'.');
 }
 
 // Puts the PTY card of a request of n cards.
-pub fn put_pty(room: &mut [u8], at: usize, r: Request, n: usize) -> usize
-    ensures { Written room.old at (pty_text n r) room.new result }
+pub fn put_pty(room: &mut Room, r: Request, n: usize)
+    ensures { Puts room.old (pty_text n r) room.new }
 {
-    let id = put_field(room, at, r, n, 0);
-    put_fields(room, id, r, n)
+    put_field(room, r, n, 0);
+    put_fields(room, r, n);
 }
 
 // Puts the code with an index, nothing past the last.
-fn put_code(room: &mut [u8], at: usize, code: usize) -> usize
-    ensures { Written room.old at (get_or codes code []) room.new result }
+fn put_code(room: &mut Room, code: usize)
+    ensures { Puts room.old (get_or codes code []) room.new }
 {
-    if cards_fac::LAST_CODE < code {
-        return at;
+    if code <= cards_fac::LAST_CODE {
+        room.put_bytes(&cards_fac::CODES[code]);
     }
-    let text = cards_fac::CODES[code];
-    text::put_bytes(room, at, &text)
 }
 
 // The index of a slot's code.
@@ -136,44 +134,38 @@ fn channel_at(k: usize) -> usize
 }
 
 // Puts an entry: code, logical channel unless it is 0, slash, number.
-fn put_entry(room: &mut [u8], at: usize, k: usize, n: u32) -> usize
-    ensures { Written room.old at (entry_text k n) room.new result }
+fn put_entry(room: &mut Room, k: usize, n: u32)
+    ensures { Puts room.old (entry_text k n) room.new }
 {
-    let next = put_code(room, at, code_at(k));
+    put_code(room, code_at(k));
     let channel = channel_at(k);
-    if channel == 0 {
-        let slash = text::put_byte(room, next, b'/');
-        return text::put_decimal(room, slash, n as u64);
+    if channel != 0 {
+        room.put_decimal(channel as u64);
     }
-    let before = text::put_decimal(room, next, channel as u64);
-    let slash = text::put_byte(room, before, b'/');
-    text::put_decimal(room, slash, n as u64)
+    room.put_byte(b'/');
+    room.put_decimal(n as u64);
 }
 
 // Puts what follows the word FAC.
-fn put_entries(room: &mut [u8], at: usize, f: Facilities) -> usize
-    ensures { Written room.old at (tail_text (entry_texts 0 (asks_of f))) room.new result }
+fn put_entries(room: &mut Room, f: Facilities)
+    ensures { Puts room.old (tail_text (entry_texts 0 (asks_of f))) room.new }
 {
-    let mut next = at;
-    let mut k: usize = 0;
-    while k < cards_fac::SLOTS {
-        let slot = k;
+    for slot in 0..cards_fac::SLOTS {
         let n = cards_fac::number_at(f, slot);
-        k += 1;
         if n != 0 {
-            let comma = text::put_byte(room, next, b',');
-            next = put_entry(room, comma, slot, n);
+            room.put_byte(b',');
+            put_entry(room, slot, n);
         }
     }
-    text::put_byte(room, next, b'.')
+    room.put_byte(b'.');
 }
 
 // Puts the FAC card.
-pub fn put_fac(room: &mut [u8], at: usize, r: Request) -> usize
-    ensures { Written room.old at (fac_text r) room.new result }
+pub fn put_fac(room: &mut Room, r: Request)
+    ensures { Puts room.old (fac_text r) room.new }
 {
     let id = r.id;
-    let next = parts::put_name(room, at, &id);
-    let word = text::put_bytes(room, next, b",FAC");
-    put_entries(room, word, r.facilities)
+    parts::put_name(room, &id);
+    room.put_bytes(b",FAC");
+    put_entries(room, r.facilities);
 }

@@ -1,20 +1,18 @@
 -- `cards_further::contents_error` meets its contract. The loop's invariant: the first error is that of the cards from `at`
 -- on. Assumes nothing.
-use mathlib.Core.Path.{refl, sym, ap, ◌∙◌}
+use mathlib.Core.Path.{sym, ap, ◌∙◌}
 use Prim.Native.Nat.{ℕ, ◌+◌}
 use mathlib.Core.List.{List}
 use native.Mathlib.Omega.{arith}
 use lib.ListN.{take, drop}
+use Rattle.std.proofs.lemmas.Result.{err_from_is_err_and}
 use Rattle.cards_fields.specs.Deck.{cards_of}
-use Rattle.cards_fields.proofs.DeckLaws.{found, part-is, lines-done}
+use Rattle.cards_fields.proofs.DeckLaws.{found, part-is}
 use mathlib.Core.Bool.{Bool, ◌&&◌, ◌||◌}
 use Rattle.cards_trn.specs.Trn.{is_trn, has_count}
 use Rattle.cards_further.specs.Further.{content_error, contents_error}
 use Rattle.cards_further.proofs.FurtherLaws.{content-wrong, content-on}
 use Rattle.cards_further.proofs.contents_error.Goals as goal
-
-pub loop-at-init : goal.loop-at-init
-loop-at-init c = (omega arith, refl)
 
 pub overflow_add-end : goal.overflow_add-end
 overflow_add-end c =
@@ -31,25 +29,16 @@ slice_bounds-card-end c =
     let f = found c.args.rest.now c.loop-at.at c.loop-at-test.true c.card_len-len.result c.card_len-len.ensures in
     omega arith
 
-pub returns-then-not-is_good : goal.returns-then-not-is_good
-returns-then-not-is_good c =
+pub returns-in_err-content_error : goal.returns-in_err-content_error
+returns-in_err-content_error c =
     let f = found c.args.rest.now c.loop-at.at c.loop-at-test.true c.card_len-len.result c.card_len-len.ensures in
-    sym (ap (contents_error c.loop-at.counted) (f.goes (omega arith))
+    let p = err_from_is_err_and c.from_residual.result c.from_residual.ensures.1 in
+    rw (p.1, p.2) (sym (ap (contents_error c.loop-at.counted) (f.goes (omega arith))
     ∙ content-wrong c.loop-at.counted (take c.card_len-len.result (drop c.loop-at.at c.args.rest.now))
-    (cards_of (drop (c.loop-at.at + c.card_len-len.result + 1) c.args.rest.now)) c.content_error-e.result
-    (c.content_error-e.ensures ∙ ap (content_error c.loop-at.counted) (part-is c.args.rest.now c.loop-at.at c.card_len-len.result))
-    (sym c.is_good.ensures ∙ c.if-not-is_good.true))
-    ∙ c.loop-at.invariant.1
-
-pub overflow_add-at : goal.overflow_add-at
-overflow_add-at c =
-    let f = found c.args.rest.now c.loop-at.at c.loop-at-test.true c.card_len-len.result c.card_len-len.ensures in
-    omega arith
-
-pub loop-at-smaller : goal.loop-at-smaller
-loop-at-smaller c =
-    let f = found c.args.rest.now c.loop-at.at c.loop-at-test.true c.card_len-len.result c.card_len-len.ensures in
-    omega arith
+    (cards_of (drop (c.loop-at.at + c.card_len-len.result + 1) c.args.rest.now)) c.content_error.result
+    (c.content_error.ensures ∙ ap (content_error c.loop-at.counted) (part-is c.args.rest.now c.loop-at.at c.card_len-len.result))
+    _ c.in_err-content_error.was)
+    ∙ c.loop-at.invariant.1)
 
 pub loop-at-preserved : goal.loop-at-preserved
 loop-at-preserved c =
@@ -60,12 +49,8 @@ loop-at-preserved c =
           (part-is c.args.rest.now c.loop-at.at c.card_len-len.result))
           ∙ sym (ap (contents_error c.loop-at.counted) (f.goes (omega arith))
           ∙ content-on c.loop-at.counted (take c.card_len-len.result (drop c.loop-at.at c.args.rest.now))
-          (cards_of (drop (c.loop-at.at + c.card_len-len.result + 1) c.args.rest.now)) c.content_error-e.result
-          (c.content_error-e.ensures ∙ ap (content_error c.loop-at.counted) (part-is c.args.rest.now c.loop-at.at c.card_len-len.result))
-          (sym c.is_good.ensures ∙ c.if-not-is_good.false))
+          (cards_of (drop (c.loop-at.at + c.card_len-len.result + 1) c.args.rest.now)) c.content_error.result
+          (c.content_error.ensures ∙ ap (content_error c.loop-at.counted) (part-is c.args.rest.now c.loop-at.at c.card_len-len.result))
+          _ c.in_ok-content_error.was)
           ∙ c.loop-at.invariant.1,
     )
-
-pub returns : goal.returns
-returns c =
-    sym (ap (contents_error c.loop-at.counted) (lines-done c.args.rest.now c.loop-at.at c.loop-at-test.false)) ∙ c.loop-at.invariant.1

@@ -41,25 +41,6 @@ slice_bounds-held_card-end c =
     let f = found c.args.rest.now c.loop-at.at c.loop-at-test.true c.card_len-len.result c.card_len-len.ensures in
     omega arith
 
-pub offset_bounds-cards-count : goal.offset_bounds-cards-count
-offset_bounds-cards-count c = omega (arith, c.loop-at.invariant.0.1)
-
-pub bounds-cards-count : goal.bounds-cards-count
-bounds-cards-count c = omega (arith, c.loop-at.invariant.0.1, c.if-count-eq-MOST_FURTHER.false)
-
-pub overflow_add-count : goal.overflow_add-count
-overflow_add-count c = omega (arith, c.loop-at.invariant.0.1)
-
-pub overflow_add-at : goal.overflow_add-at
-overflow_add-at c =
-    let f = found c.args.rest.now c.loop-at.at c.loop-at-test.true c.card_len-len.result c.card_len-len.ensures in
-    omega arith
-
-pub loop-at-smaller : goal.loop-at-smaller
-loop-at-smaller c =
-    let f = found c.args.rest.now c.loop-at.at c.loop-at-test.true c.card_len-len.result c.card_len-len.ensures in
-    omega arith
-
 pub loop-at-preserved : goal.loop-at-preserved
 loop-at-preserved c =
     let f = found c.args.rest.now c.loop-at.at c.loop-at-test.true c.card_len-len.result c.card_len-len.ensures in (

@@ -3,4 +3,4 @@ use Rattle.cards_further.proofs.FurtherLaws.{card-held}
 use Rattle.cards_further.proofs.held_card.Goals as goal
 
 pub returns : goal.returns
-returns c = card-held c.put_canonical-len.ensures
+returns c = card-held c.canonical_in-len.ensures

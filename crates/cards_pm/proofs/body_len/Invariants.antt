@@ -8,6 +8,3 @@ use Rattle.cards_pm.proofs.body_len.Given as goal
 
 abbrev pub invariant-loop-n : goal.invariant-loop-n
 invariant-loop-n l = (l.n ≤ length l.card) × (has (drop l.n l.card) 46 ≡ false)
-
-abbrev pub decreases-loop-n : goal.decreases-loop-n
-decreases-loop-n l = l.n

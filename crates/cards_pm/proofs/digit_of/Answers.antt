@@ -3,4 +3,4 @@ use Rattle.cards_pm.proofs.PmLaws.{digit-is}
 use Rattle.cards_pm.proofs.digit_of.Goals as goal
 
 pub returns : goal.returns
-returns c = digit-is c.args.card.now c.field_at-f.result c.field_at-f.ensures
+returns c = digit-is c.args.card.now c.field_at.result c.field_at.ensures

@@ -4,5 +4,5 @@ use Rattle.cards_pm.proofs.put_pm.Goals as goal
 
 pub returns : goal.returns
 returns c =
-    pm-put c.args.card.now c.digit_of.ensures c.letters.ensures c.put_bytes-word.ensures c.put_byte-digit.ensures c.put_byte-comma.ensures
-    c.put_bytes-end.ensures c.put_byte.ensures
+    pm-put c.args.card.now c.digit_of.ensures c.letters.ensures c.put_bytes.ensures c.put_byte.ensures c.put_byte-2.ensures
+    c.put_bytes-2.ensures c.put_byte-3.ensures

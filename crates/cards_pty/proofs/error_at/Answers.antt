@@ -9,12 +9,12 @@ use Rattle.cards_fields.specs.declared.Field.{Field}
 use Rattle.cards_pty.specs.Pty.{rule_at, field_error}
 use Rattle.cards_pty.proofs.PtyLaws.{most-small, much-too-long}
 use Rattle.cards_request.specs.declared.CardError.{CardError}
-use Rattle.cards_request.specs.declared.CardVerdict.TheVariants.{Wrong}
+use Rattle.std.specs.Prelude.{Err}
 use Rattle.cards_pty.proofs.error_at.Goals as goal
 
 pub returns-then-n-gt12 : goal.returns-then-n-gt12
 returns-then-n-gt12 c =
-    ap (λ (e : CardError). Wrong e) c.length_error.ensures
+    ap (λ (e : CardError). Err e) c.length_error.ensures
     ∙ sym (much-too-long c.args.k (rule_at c.args.k) (field c.args.card.now c.args.k) (most-small c.args.k)
     (omega (arith, ap (λ (f : Field). f.len) c.field_at-f.ensures)))
 

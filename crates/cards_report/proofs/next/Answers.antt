@@ -5,7 +5,7 @@ use Rattle.cards_report.proofs.next.Goals as goal
 
 pub returns-in-Refused : goal.returns-in-Refused
 returns-in-Refused c =
-    refused-prints c.args.deck.now c.args.printing (search rules) c.in-Refused.refusal c.in-Refused.is c.put_refused-at.ensures
+    refused-prints c.args.deck.now c.args.printing (search rules) c.in-Refused.refusal c.in-Refused.is c.put_refused.ensures.written
     c.over-last.ensures
 
 pub returns-in-Over : goal.returns-in-Over

@@ -8,18 +8,18 @@ use Rattle.cards_report.proofs.put_good.Goals as goal
 
 pub slice_bounds-room-end : goal.slice_bounds-room-end
 slice_bounds-room-end c =
-    cards-within c.args.full (replicate cards_room 0) c.write.ensures.answers c.write.ensures.holds refl c.in-Cards.n c.in-Cards.is
+    cards-within c.args.full (replicate cards_room 0) c.write.ensures.answers c.write.ensures.holds refl c.in-Ok.n c.in-Ok.is
 
 pub slice_bounds-put_bytes-end : goal.slice_bounds-put_bytes-end
 slice_bounds-put_bytes-end c =
-    cards-long c.args.full (replicate cards_room 0) c.write.ensures.answers c.write.ensures.holds refl c.in-Cards.n c.in-Cards.is
+    cards-long c.args.full (replicate cards_room 0) c.write.ensures.answers c.write.ensures.holds refl c.in-Ok.n c.in-Ok.is
 
-pub returns-in-Cards : goal.returns-in-Cards
-returns-in-Cards c =
-    cards-put c.args.full (replicate cards_room 0) c.write.ensures.answers c.write.ensures.holds refl c.in-Cards.n c.in-Cards.is c.args.shown
-    c.put_bytes-next.ensures c.put_table.ensures
+pub returns-in-Ok : goal.returns-in-Ok
+returns-in-Ok c =
+    cards-put c.args.full (replicate cards_room 0) c.write.ensures.answers c.write.ensures.holds refl c.in-Ok.n c.in-Ok.is c.args.shown
+    c.put_bytes.ensures c.put_table.ensures
 
-pub returns-in-Refused : goal.returns-in-Refused
-returns-in-Refused c =
-    not-put c.args.full (replicate cards_room 0) c.write.ensures.answers c.write.ensures.holds refl c.in-Refused.refusal c.in-Refused.is
+pub returns-in-Err : goal.returns-in-Err
+returns-in-Err c =
+    not-put c.args.full (replicate cards_room 0) c.write.ensures.answers c.write.ensures.holds refl c.in-Err.refusal c.in-Err.is
     c.args.shown c.put_refusal.ensures

@@ -7,7 +7,7 @@ use Rattle.cards_report.proofs.put_next.Goals as goal
 pub returns-then-n-eq0 : goal.returns-then-n-eq0
 returns-then-n-eq0 c =
     end-prints c.args.deck.now c.args.p c.rest.ensures c.first_group-group.ensures c.requires c.if-n-eq0.true (search rules)
-    c.put_bytes-at.ensures c.over-printing.ensures
+    c.put_bytes.ensures.written c.over-printing.ensures
 
 pub overflow_add-printing : goal.overflow_add-printing
 overflow_add-printing c =
@@ -16,4 +16,4 @@ overflow_add-printing c =
 pub returns : goal.returns
 returns c =
     group-prints c.args.deck.now c.args.p c.rest.ensures c.first_group-group.ensures c.if-n-eq0.false c.requires (search rules) c.card_at.ensures
-    c.shown_by-shown.ensures (search rules) c.put_group-at.ensures
+    c.shown_by-shown.ensures (search rules) c.put_group.ensures.written

@@ -24,19 +24,17 @@ returns-then-row_of-digit c =
     card-here c.args.further.cards c.count_of-n.result
     (within-cards c.args.further c.count_of-n.result c.count_of-n.ensures)
     c.loop-i.i past c.loop-i-test.true c.args.digit c.row_of.result c.row_of.ensures c.if-row_of-digit.true
-    ∙ c.loop-i.invariant.1 ∙ ap (card_at c.args.digit) (the-texts c.args.further c.count_of-n.result c.count_of-n.ensures)
+    ∙ c.loop-i.invariant ∙ ap (card_at c.args.digit) (the-texts c.args.further c.count_of-n.result c.count_of-n.ensures)
 
 pub loop-i-preserved : goal.loop-i-preserved
-loop-i-preserved c = (
-  omega arith,
-  card-later c.args.further.cards c.count_of-n.result
-      (within-cards c.args.further c.count_of-n.result c.count_of-n.ensures)
-      c.loop-i.i past c.loop-i-test.true c.args.digit c.row_of.result c.row_of.ensures c.if-row_of-digit.false
-      ∙ c.loop-i.invariant.1,
-)
+loop-i-preserved c =
+    card-later c.args.further.cards c.count_of-n.result
+    (within-cards c.args.further c.count_of-n.result c.count_of-n.ensures)
+    c.loop-i.i past c.loop-i-test.true c.args.digit c.row_of.result c.row_of.ensures c.if-row_of-digit.false
+    ∙ c.loop-i.invariant
 
 pub returns : goal.returns
 returns c =
     ap (λ (c : FurtherCard). letters_in (text_of c)) c.no_card.ensures
-    ∙ card-none c.args.further.cards c.count_of-n.result c.loop-i.i c.args.digit c.loop-i-test.false ∙ c.loop-i.invariant.1
+    ∙ card-none c.args.further.cards c.count_of-n.result c.loop-i.i c.args.digit (omega arith) ∙ c.loop-i.invariant
     ∙ ap (card_at c.args.digit) (the-texts c.args.further c.count_of-n.result c.count_of-n.ensures)

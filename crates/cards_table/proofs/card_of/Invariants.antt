@@ -1,6 +1,5 @@
 -- `cards_table::card_of` meets its contract. The loop's invariant: the card of the digit is that among the cards from
 -- i on. Assumes nothing.
-use Prim.Native.Nat.{◌-◌, ◌≤◌}
 use mathlib.Core.Path.{◌≡◌}
 use lib.ListN.{take, drop}
 use Rattle.cards_request.specs.Requests.{texts_in}
@@ -8,7 +7,4 @@ use Rattle.cards_table.specs.Table.{card_at}
 use Rattle.cards_table.proofs.card_of.Given as goal
 
 abbrev pub invariant-loop-i : goal.invariant-loop-i
-invariant-loop-i l = (l.i ≤ l.n) × (card_at l.digit (texts_in (drop l.i (take l.n l.cards))) ≡ card_at l.digit (texts_in (take l.n l.cards)))
-
-abbrev pub decreases-loop-i : goal.decreases-loop-i
-decreases-loop-i l = l.n - l.i
+invariant-loop-i l = card_at l.digit (texts_in (drop l.i (take l.n l.cards))) ≡ card_at l.digit (texts_in (take l.n l.cards))

@@ -5,4 +5,4 @@ use Rattle.cards_table.proofs.TableLaws.{table-put}
 use Rattle.cards_table.proofs.put_table.Goals as goal
 
 pub returns : goal.returns
-returns c = table-put c.args.further (omega arith) c.put_rows.ensures
+returns c = table-put c.args.further (omega arith) c.put_rows.ensures.written

@@ -1,7 +1,7 @@
 -- `cards_table::row_count` meets its contract. The loop's invariant: the most rows so far, and those of the cards from
 -- i on, are the table's. Assumes nothing.
 use Rattle.cards_further.proofs.Fourteen.{fourteen, past, within-cards, the-texts}
-use Rattle.cards_table.proofs.TableLaws.{rows_more, rows-less, rows_end}
+use Rattle.cards_table.proofs.TableLaws.{rows-step, rows_end}
 use mathlib.Core.Path.{ap, ◌∙◌}
 use native.Mathlib.Omega.{arith}
 use lib.ListN.{take}
@@ -19,26 +19,15 @@ bounds-cards-i c =
     let l = fourteen c.args.further _ c.well_formed.0 in
     omega (arith, l, within-cards c.args.further c.count_of-n.result c.count_of-n.ensures, c.loop-i-test.true)
 
-pub loop-i-preserved-then-most-row : goal.loop-i-preserved-then-most-row
-loop-i-preserved-then-most-row c = (
-  omega arith,
-  rows_more c.args.further.cards c.count_of-n.result
-      (within-cards c.args.further c.count_of-n.result c.count_of-n.ensures)
-      c.loop-i.i past c.loop-i-test.true c.loop-i.most c.row_of-row.result (rows (texts_in (take c.count_of-n.result c.args.further.cards)))
-      c.row_of-row.ensures c.loop-i.invariant.1 c.if-most-row.true,
-)
-
 pub loop-i-preserved : goal.loop-i-preserved
-loop-i-preserved c = (
-  omega arith,
-  rows-less c.args.further.cards c.count_of-n.result
-      (within-cards c.args.further c.count_of-n.result c.count_of-n.ensures)
-      c.loop-i.i past c.loop-i-test.true c.loop-i.most c.row_of-row.result (rows (texts_in (take c.count_of-n.result c.args.further.cards)))
-      c.row_of-row.ensures c.loop-i.invariant.1 c.if-most-row.false,
-)
+loop-i-preserved c =
+    let e = rows-step c.args.further.cards c.count_of-n.result
+    (within-cards c.args.further c.count_of-n.result c.count_of-n.ensures)
+    c.loop-i.i past c.loop-i-test.true c.row_of.result c.row_of.ensures in
+    omega (arith, e, c.loop-i.invariant)
 
 pub returns : goal.returns
 returns c =
     rows_end c.args.further.cards c.count_of-n.result c.loop-i.i c.loop-i.most (rows (texts_in (take c.count_of-n.result c.args.further.cards)))
-    c.loop-i-test.false c.loop-i.invariant.1
+    (omega arith) c.loop-i.invariant
     ∙ ap rows (the-texts c.args.further c.count_of-n.result c.count_of-n.ensures)

@@ -1,15 +1,10 @@
--- `cards_tal::entries_error` meets its contract. The loop's invariant: the entries up to index k are good, so the error
--- of those after it is the error of all. Assumes nothing.
-use Prim.Native.Nat.{◌+◌, ◌-◌, ◌≤◌}
+-- `cards_tal::entries_error` meets its contract. The loop's invariant: no entry before index k is wrong. Assumes nothing.
+use Prim.Native.Nat.{◌≤◌}
 use mathlib.Core.Path.{◌≡◌}
-use lib.ListN.{length, drop}
+use lib.ListN.{drop}
 use Rattle.cards_fields.specs.Fields.{fields}
 use Rattle.cards_tal.specs.Tal.{entries_error}
 use Rattle.cards_tal.proofs.entries_error.Given as goal
 
 abbrev pub invariant-loop-k : goal.invariant-loop-k
-invariant-loop-k l =
-    ((1 ≤ l.k) × (l.last + 1 ≡ length (fields l.card))) × (entries_error (drop (l.k + 1) (fields l.card)) ≡ entries_error (drop 2 (fields l.card)))
-
-abbrev pub decreases-loop-k : goal.decreases-loop-k
-decreases-loop-k l = l.last - l.k
+invariant-loop-k l = (2 ≤ l.k) × (entries_error (drop l.k (fields l.card)) ≡ entries_error (drop 2 (fields l.card)))

@@ -1,4 +1,4 @@
--- `cards_trn::put_third` meets its contract: a count is put as a number, a transfer as it stands. Assumes nothing.
+-- `cards_trn::put_third` meets its contract: a count in decimal, a transfer as it is. Assumes nothing.
 use mathlib.Core.Path.{sym, ◌∙◌}
 use Rattle.cards_fields.specs.Fields.{spaceless}
 use Rattle.cards_trn.proofs.TrnLaws.{put_count, put-transfer}

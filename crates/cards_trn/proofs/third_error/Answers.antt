@@ -9,7 +9,7 @@ returns-then-is_count c =
     c.count_error.ensures ∙ third-count c.args.counted (spaceless c.args.t.now)
     (sym c.is_count.ensures ∙ c.if-is_count.true)
 
-pub returns : goal.returns
-returns c =
+pub returns-else-is_count : goal.returns-else-is_count
+returns-else-is_count c =
     c.transfer_error.ensures ∙ third-transfer c.args.counted (spaceless c.args.t.now)
     (sym c.is_count.ensures ∙ c.if-is_count.false)

@@ -1,5 +1,4 @@
--- `cards_fields::parts::gathered` meets its contract. The loop's invariant: what was gathered, with the rest of the text
--- without its spaces, is the whole. Assumes nothing.
+-- `cards_fields::parts::gathered` meets its contract. Assumes nothing.
 use mathlib.Core.Path.{sym, ◌∙◌}
 use native.Mathlib.Omega.{arith}
 use lib.ListN.{get_or}
@@ -8,12 +7,12 @@ use Rattle.cards_fields.proofs.FieldLaws.{pushed-len, gathered}
 use Rattle.cards_fields.proofs.PartLaws.{gather-step, gather-end}
 use Rattle.cards_fields.proofs.parts.gathered.Goals as goal
 
-pub loop-i-preserved : goal.loop-i-preserved
-loop-i-preserved c = (
-  (omega arith, rw c.with_byte-f.ensures (omega (arith, pushed-len c.loop-i.f (get_or c.args.s.now c.loop-i.i 0)))),
-  rw c.with_byte-f.ensures (gather-step c.args.s.now c.loop-i.i c.loop-i.f c.loop-i-test.true) ∙ c.loop-i.invariant.1,
+pub loop-b-preserved : goal.loop-b-preserved
+loop-b-preserved c = (
+  rw c.with_byte-f.ensures (omega (arith, pushed-len c.loop-b.f (get_or c.args.s.now c.loop-b.b-index 0))),
+  rw c.with_byte-f.ensures (gather-step c.args.s.now c.loop-b.b-index c.loop-b.f c.loop-b-test.true) ∙ c.loop-b.invariant.1,
 )
 
 pub returns : goal.returns
 returns c =
-    sym (gather-end c.args.s.now c.loop-i.i c.loop-i.f c.loop-i-test.false) ∙ c.loop-i.invariant.1 ∙ gathered (spaceless c.args.s.now)
+    sym (gather-end c.args.s.now c.loop-b.b-index c.loop-b.f c.loop-b-test.false) ∙ c.loop-b.invariant.1 ∙ gathered (spaceless c.args.s.now)

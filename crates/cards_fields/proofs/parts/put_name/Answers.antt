@@ -1,26 +1,21 @@
--- `cards_fields::parts::put_name` meets its contract. The loop's invariant is `Going`: whoever puts the rest of the
--- name without blanks has put the whole. Assumes nothing.
-use native.Mathlib.Omega.{arith}
-use Rattle.text.proofs.RoomLaws.{same-room, turn, end}
+-- `cards_fields::parts::put_name` meets its contract: a byte of the name is put unless it is a blank. Assumes nothing.
+use Rattle.text.proofs.RoomLaws.{goes-start, goes-turn, goes-end}
 use Rattle.cards_fields.proofs.PartLaws.{name-byte, name-blank, name-end}
+use Rattle.cards_fields.proofs.parts.put_name.Goals.{then-b-ne32, else-b-ne32}
 use Rattle.cards_fields.proofs.parts.put_name.Goals as goal
 
-pub loop-i-init : goal.loop-i-init
-loop-i-init c = (omega arith, λ after next w. w)
+pub loop-b-init : goal.loop-b-init
+loop-b-init c = goes-start _ _
 
-pub loop-i-preserved-then-b-ne32 : goal.loop-i-preserved-then-b-ne32
-loop-i-preserved-then-b-ne32 c = (
-  omega arith,
-  turn (rw (name-byte c.args.name.now c.loop-i.i c.loop-i-test.true c.if-b-ne32.true) at c.loop-i.invariant.1) c.put_byte-next.ensures,
-)
-
-pub loop-i-preserved : goal.loop-i-preserved
-loop-i-preserved c =
-    (omega arith, rw (name-blank c.args.name.now c.loop-i.i c.loop-i-test.true c.if-b-ne32.false) at c.loop-i.invariant.1)
+pub loop-b-preserved : goal.loop-b-preserved
+loop-b-preserved c = elim c.if-b-ne32.branch [
+  | then-b-ne32 w ↦ rw w.room-is (
+      goes-turn (rw (name-byte c.args.name.now c.loop-b.b-index c.loop-b-test.true w.if-b-ne32.true) at c.loop-b.invariant) w.put_byte.ensures
+      )
+  | else-b-ne32 w ↦ rw w.room-is (
+      rw (name-blank c.args.name.now c.loop-b.b-index c.loop-b-test.true w.if-b-ne32.false) at c.loop-b.invariant
+      )
+]
 
 pub returns : goal.returns
-returns c =
-    end (rw (name-end c.args.name.now c.loop-i.i c.loop-i-test.false) at c.loop-i.invariant.1)
-
-pub shape_of-room : goal.shape_of-room
-shape_of-room c = same-room (returns c)
+returns c = goes-end (rw (name-end c.args.name.now c.loop-b.b-index c.loop-b-test.false) at c.loop-b.invariant)

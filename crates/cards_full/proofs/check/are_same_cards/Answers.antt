@@ -7,7 +7,7 @@ use Rattle.cards_full.proofs.FurtherPut.{same-other, same-on, same-done}
 use Rattle.cards_full.proofs.check.are_same_cards.Goals as goal
 
 pub loop-k-init : goal.loop-k-init
-loop-k-init c = (omega arith, refl)
+loop-k-init c = refl
 
 pub returns-then-not-is_same_card : goal.returns-then-not-is_same_card
 returns-then-not-is_same_card c =
@@ -15,24 +15,19 @@ returns-then-not-is_same_card c =
     let b = fourteen c.args.g _ c.well_formed.1.0 in
     sym (same-other c.args.f.cards c.args.g.cards c.loop-k.k (omega (arith, c.loop-k-test.true)) (omega (arith, c.loop-k-test.true))
     c.is_same_card.result c.is_same_card.ensures (c.if-not-is_same_card.true))
-    ∙ c.loop-k.invariant.1
-
-pub loop-k-smaller : goal.loop-k-smaller
-loop-k-smaller c = omega (arith, c.loop-k-test.true)
+    ∙ c.loop-k.invariant
 
 pub loop-k-preserved : goal.loop-k-preserved
 loop-k-preserved c =
     let a = fourteen c.args.f _ c.well_formed.0 in
-    let b = fourteen c.args.g _ c.well_formed.1.0 in (
-      omega (arith, c.loop-k-test.true),
-      sym (same-on c.args.f.cards c.args.g.cards c.loop-k.k (omega (arith, c.loop-k-test.true)) (omega (arith, c.loop-k-test.true))
-          c.is_same_card.result c.is_same_card.ensures (c.if-not-is_same_card.false))
-          ∙ c.loop-k.invariant.1,
-    )
+    let b = fourteen c.args.g _ c.well_formed.1.0 in
+    sym (same-on c.args.f.cards c.args.g.cards c.loop-k.k (omega (arith, c.loop-k-test.true)) (omega (arith, c.loop-k-test.true))
+    c.is_same_card.result c.is_same_card.ensures (c.if-not-is_same_card.false))
+    ∙ c.loop-k.invariant
 
 pub returns : goal.returns
 returns c =
     let a = fourteen c.args.f _ c.well_formed.0 in
     let b = fourteen c.args.g _ c.well_formed.1.0 in
-    sym (same-done c.args.f.cards c.args.g.cards c.loop-k.k (omega (arith, c.loop-k-test.false)) (omega (arith, c.loop-k-test.false)))
-    ∙ c.loop-k.invariant.1
+    sym (same-done c.args.f.cards c.args.g.cards c.loop-k.k (omega arith) (omega arith))
+    ∙ c.loop-k.invariant

@@ -1,6 +1,6 @@
 -- `cards_full::put::are_short` meets its contract. The loop's invariant: all are short exactly if those from i on are.
 -- Assumes nothing.
-use Prim.Native.Nat.{ℕ, ◌+◌, ◌-◌, ◌≤◌}
+use Prim.Native.Nat.{ℕ, ◌+◌}
 use mathlib.Core.Path.{◌≡◌}
 use mathlib.Core.List.{List}
 use lib.ListN.{length, take, drop}
@@ -10,8 +10,5 @@ use Rattle.cards_full.proofs.put.are_short.Given as goal
 
 abbrev pub invariant-loop-i : goal.invariant-loop-i
 invariant-loop-i l =
-    (l.i ≤ l.n) × ((id : List ℕ) → length id + 1 ≡ l.before
-    → short (behind_id id (texts_in (drop l.i (take l.n l.cards)))) ≡ short (behind_id id (texts_in (take l.n l.cards))))
-
-abbrev pub decreases-loop-i : goal.decreases-loop-i
-decreases-loop-i l = l.n - l.i
+    (id : List ℕ) → length id + 1 ≡ l.before
+    → short (behind_id id (texts_in (drop l.i (take l.n l.cards)))) ≡ short (behind_id id (texts_in (take l.n l.cards)))

@@ -17,4 +17,4 @@ slice_bounds-put_bytes-end c =
 pub returns : goal.returns
 returns c =
     line-put c.args.card c.len_of-n.result (take_counted c.args.card.len c.args.card.text c.len_of-n.result c.len_of-n.ensures)
-    c.put_name-name.ensures c.put_byte-comma.ensures c.put_bytes-end.ensures c.put_byte.ensures
+    c.put_name.ensures c.put_byte.ensures c.put_bytes.ensures c.put_byte-2.ensures

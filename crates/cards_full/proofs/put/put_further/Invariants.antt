@@ -1,8 +1,7 @@
--- `cards_full::put::put_further` meets its contract. The loop's invariant is `Going`: whoever puts the cards from i on has
+-- `cards_full::put::put_further` meets its contract. The loop's invariant is `Goes`: whoever puts the cards from i on has
 -- put all. Assumes nothing.
-use Prim.Native.Nat.{◌-◌, ◌≤◌}
 use lib.ListN.{take, drop}
-use Rattle.text.proofs.RoomLaws.{Going}
+use Rattle.text.proofs.RoomLaws.{Goes}
 use Rattle.cards_fields.specs.Fields.{spaceless}
 use Rattle.cards_request.specs.Requests.{texts_in}
 use Rattle.words.specs.Lines.{lines_text}
@@ -11,8 +10,5 @@ use Rattle.cards_full.proofs.put.put_further.Given as goal
 
 abbrev pub invariant-loop-i : goal.invariant-loop-i
 invariant-loop-i l =
-    (l.i ≤ l.n) × Going l.initial.room l.at (lines_text (behind_id (spaceless l.id) (texts_in (take l.n l.cards)))) l.room l.next
+    Goes l.initial.room (lines_text (behind_id (spaceless l.id) (texts_in (take l.n l.cards)))) l.room
     (lines_text (behind_id (spaceless l.id) (texts_in (drop l.i (take l.n l.cards)))))
-
-abbrev pub decreases-loop-i : goal.decreases-loop-i
-decreases-loop-i l = l.n - l.i

@@ -1,6 +1,5 @@
 -- `cards_writing::check::are_fields` meets its contract. The loop's invariant: the fields before index k are right,
 -- so whether all are is said by those from there on. Assumes nothing.
-use Prim.Native.Nat.{◌-◌, ◌≤◌}
 use mathlib.Core.Path.{◌≡◌}
 use Rattle.cards_request.specs.Errors.{good}
 use Rattle.cards_pty.specs.Pty.{fields_error}
@@ -9,7 +8,4 @@ use Rattle.cards_writing.specs.Writing.{pty_fields}
 use Rattle.cards_writing.proofs.check.are_fields.Given as goal
 
 abbrev pub invariant-loop-k : goal.invariant-loop-k
-invariant-loop-k l = (l.k ≤ 14) × (good (from_index l.k (pty_fields l.n l.r)) ≡ good (fields_error (pty_fields l.n l.r)))
-
-abbrev pub decreases-loop-k : goal.decreases-loop-k
-decreases-loop-k l = 14 - l.k
+invariant-loop-k l = good (from_index l.k (pty_fields l.n l.r)) ≡ good (fields_error (pty_fields l.n l.r))

@@ -3,4 +3,4 @@ use Rattle.cards_writing.proofs.PutLaws.{put-empty}
 use Rattle.cards_writing.proofs.put.is_empty.Goals as goal
 
 pub returns : goal.returns
-returns c = put-empty c.put_field.ensures
+returns c = put-empty c.put_field.ensures.written

@@ -1,5 +1,5 @@
 -- `cards_writing::put::put_field` meets its contract: the field of each arm. Assumes nothing.
-use Rattle.text.proofs.RoomLaws.{none}
+use Rattle.text.proofs.RoomLaws.{puts-none}
 use Rattle.cards_writing.specs.Writing.{pty_fields}
 use Rattle.cards_writing.proofs.PutLaws.{no_field}
 use Rattle.std.proofs.Common.{arith}
@@ -63,4 +63,4 @@ returns-in-13 c = rw c.in-13.is c.put_name-in-13.ensures
 
 pub returns-in_default : goal.returns-in_default
 returns-in_default c =
-    rw (no_field c.args.n c.args.r c.args.k (omega arith)) (none c.args.room.now c.args.at)
+    rw (no_field c.args.n c.args.r c.args.k (omega arith)) (puts-none c.args.room.now)
