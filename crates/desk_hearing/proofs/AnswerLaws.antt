@@ -5,6 +5,7 @@ use mathlib.Core.Path.{◌≡◌, refl, ap, ◌∙◌}
 use mathlib.Core.List.{List, [], ◌++◌}
 use native.Mathlib.Omega.{arith}
 use lib.ListN.{length, take, drop, length-append, length-take, length-drop}
+use Rattle.std.specs.Prelude.{Result, Ok, Err}
 use Rattle.numbers.specs.Quoted.{bytes}
 use Rattle.numbers.specs.Refusals.{number_of}
 use Rattle.numbers.specs.declared.Refusal.{Refusal}
@@ -20,7 +21,7 @@ use Rattle.answer_pieces.specs.Pieces.{no_text, no_line}
 use Rattle.desk_show.specs.Showing.{IsRead, ShowsFrom, bad, of_repair, of_day, nobody, part_in, Shows}
 use Rattle.desk_show.specs.declared.Extent.{Extent}
 use Rattle.desk_show.specs.declared.Which.{Which}
-use Rattle.desk_show.specs.declared.Which.TheVariants.{Repair, Day, Refused}
+use Rattle.desk_show.specs.declared.Which.TheVariants.{Repair, Day}
 use Rattle.desk_hearing.specs.Printing.{closing}
 use Rattle.desk_hearing.specs.Putting.{Answered}
 
@@ -33,26 +34,26 @@ refused-few refusal =
       few-digits 1 (number_of refusal) (two_digits refusal),
     )
 
-closing-few : (which : Which) → length (closing which) ≤ 12
-closing-few Repair = omega arith
-closing-few Day = omega arith
-closing-few (Refused refusal) = omega (arith, refused-few refusal)
+closing-few : (which : Result Which Refusal) → length (closing which) ≤ 12
+closing-few (Ok Repair) = omega arith
+closing-few (Ok Day) = omega arith
+closing-few (Err refusal) = omega (arith, refused-few refusal)
 
 -- a part of a deck that is read
 part-few : (deck : List ℕ) (from len : ℕ) → IsRead deck → length (take len (drop from deck)) ≤ deck_bytes
 part-few deck from len r = omega (arith, (ends deck r.0 r.1).most, length-take len (drop from deck), length-drop from deck)
 
 module _ {id repair day : List ℕ} {r : Extent} {part : List ℕ} (w : Shows id repair day r part) where
-  there-by : (which : Which) → r.which ≡ which → part ≡ part_in which r.from r.len repair day
-  there-by which e = w.there ∙ ap (λ (x : Which). part_in x r.from r.len repair day) e
+  there-by : (which : Result Which Refusal) → r.which ≡ which → part ≡ part_in which r.from r.len repair day
+  there-by which e = w.there ∙ ap (λ (x : Result Which Refusal). part_in x r.from r.len repair day) e
 
   few : length part ≤ deck_bytes
   few = by w.answers
     where
       by : ShowsFrom id repair day r.which r.from part → length part ≤ deck_bytes
       by (bad e b z n) = omega (arith, ap length n)
-      by (of_repair e d f) = omega (arith, ap length (there-by Repair e), part-few repair r.from r.len d.0)
-      by (of_day e d n f) = omega (arith, ap length (there-by Day e), part-few day r.from r.len d.1)
+      by (of_repair e d f) = omega (arith, ap length (there-by (Ok Repair) e), part-few repair r.from r.len d.0)
+      by (of_day e d n f) = omega (arith, ap length (there-by (Ok Day) e), part-few day r.from r.len d.1)
       by (nobody e d n z p) = omega (arith, ap length p)
 
   -- the part is put, and then the line behind it

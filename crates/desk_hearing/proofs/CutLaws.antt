@@ -19,7 +19,7 @@ use Rattle.cards_fields.proofs.Groups.{ends}
 use Rattle.desk_show.specs.Showing.{opens_for, has_id, NoneHas, FirstOf, IsBad, IsRead, ShowsFrom, bad, of_repair, of_day, nobody, part_in, Shows}
 use Rattle.desk_show.proofs.IdLaws.{id-long, opens-no-id}
 use Rattle.desk_show.specs.declared.Which.{Which}
-use Rattle.desk_show.specs.declared.Which.TheVariants.{Refused}
+use Rattle.std.specs.Prelude.{Result, Err}
 use Rattle.desk_show.specs.declared.Extent.{Extent}
 use Rattle.desk_hearing.specs.Printing.{Says}
 
@@ -50,7 +50,7 @@ module _ (a b : List ℕ) (e : (card : List ℕ) → opens_for a card ≡ opens_
     bytes = f.bytes;
   }
 
-  answers-same : {repair day : List ℕ} {which : Which} {from : ℕ} {part : List ℕ} → ShowsFrom a repair day which from part
+  answers-same : {repair day : List ℕ} {which : Result Which Refusal} {from : ℕ} {part : List ℕ} → ShowsFrom a repair day which from part
       → ShowsFrom b repair day which from part
   answers-same (bad w h f p) = bad w h f p
   answers-same (of_repair w r h) = of_repair w r (first-same h)
@@ -58,7 +58,7 @@ module _ (a b : List ℕ) (e : (card : List ℕ) → opens_for a card ≡ opens_
   answers-same {repair} {day} (nobody w r n f p) = nobody w r (none-same (deck_groups repair) n.0, none-same (deck_groups day) n.1) f p
 
 -- nothing is shown where there is a refusal, of whatever decks
-refused-part : (w : Which) (refusal : Refusal) → w ≡ Refused refusal → (from len : ℕ) (a b c d : List ℕ)
+refused-part : (w : Result Which Refusal) (refusal : Refusal) → w ≡ Err refusal → (from len : ℕ) (a b c d : List ℕ)
     → part_in w from len a b ≡ part_in w from len c d
 refused-part w refusal e from len a b c d = rw e
 

@@ -1,7 +1,8 @@
 -- What the desk program prints. It "reads from standard input, in this order: the repair deck, the day's deck, and then
 -- one line for each ID asked for". A reader has to believe this page.
-use Rattle.std.specs.Prelude.{ℕ, ◌+◌, ◌≡◌, Bool, true, false, ◌&&◌, List, [], ◌∷◌, ◌++◌, length, take, drop}
+use Rattle.std.specs.Prelude.{ℕ, ◌+◌, ◌≡◌, Bool, true, false, ◌&&◌, Result, Ok, Err, List, [], ◌∷◌, ◌++◌, length, take, drop}
 use Rattle.numbers.specs.Quoted.{bytes}
+use Rattle.numbers.specs.declared.Refusal.{Refusal}
 use Rattle.numbers.specs.declared.Refusal.TheVariants.{BadDeck}
 use Rattle.words.specs.Lines.{lines_of, line_text}
 use Rattle.cards_fields.specs.Deck.{before, cards_of, size, terminated, termination}
@@ -9,7 +10,7 @@ use Rattle.answer_pieces.specs.Pieces.{no_line}
 use Rattle.desk_show.specs.Showing.{Shows}
 use Rattle.desk_show.specs.declared.Extent.{Extent}
 use Rattle.desk_show.specs.declared.Which.{Which}
-use Rattle.desk_show.specs.declared.Which.TheVariants.{Repair, Day, Refused}
+use Rattle.desk_show.specs.declared.Which.TheVariants.{Repair, Day}
 
 -- "A deck is the bytes through the LF of its first termination card, however many they are": whether it has come,
 abbrev pub has_deck : List ℕ → Bool
@@ -36,10 +37,10 @@ abbrev pub asked : List ℕ → List (List ℕ)
 asked s = lines_of s ++ last_line (drop (size (lines_of s)) s)
 
 -- the line behind the part: "`NO 11`", "`NO 22`", "the line `FROM REPAIR`" or "the line `FROM DAY`"
-abbrev pub closing : Which → List ℕ
-closing Repair = bytes "FROM REPAIR\n"
-closing Day = bytes "FROM DAY\n"
-closing (Refused refusal) = no_line refusal
+abbrev pub closing : Result Which Refusal → List ℕ
+closing (Ok Repair) = bytes "FROM REPAIR\n"
+closing (Ok Day) = bytes "FROM DAY\n"
+closing (Err refusal) = no_line refusal
 
 -- what is printed for one ID: "the part's bytes as they are, then the line"
 pub record Says (id repair day text : List ℕ) : Type 0 where

@@ -3,8 +3,9 @@
 #![tactic(auto)]
 
 ghost use Rattle.std.specs.Prelude.{◌≡◌, cond, take};
-ghost use Rattle.text.specs.Room.{Written, Whole};
+ghost use Rattle.text.specs.Room.{Written, Puts};
 ghost use Rattle.words.specs.Lines.{line_text};
+ghost use Rattle.answer_pieces.specs.Pieces.{no_line};
 ghost use Rattle.cards_fields.specs.Deck.{is_termination};
 ghost use Rattle.desk_hearing.specs.Printing.{closing};
 ghost use Rattle.desk_hearing.specs.Hearing.{desk_of, fresh, standing, Heard, Ended};
@@ -13,6 +14,7 @@ ghost use Rattle.desk_hearing.specs.Putting.{Answered};
 use cards_fields::deck;
 use desk_show::Which;
 use numbers::{Refusal, limits};
+use text::room::Room;
 
 // How many bytes are kept of a deck, and of a line: one more than a deck may have.
 pub const KEPT: usize = limits::DECK_BYTES + 1;
@@ -92,14 +94,23 @@ fn behind_card(card: &[u8], gathers: Stage, next: Stage) -> Stage
 }
 
 // Puts the line behind the cards: which deck has them, or the refusal.
-fn put_closing(out: &mut [u8], at: usize, which: Which) -> usize
-    ensures { Written out.old at (closing which) out.new result }
+fn put_closing(out: &mut Room, which: Result<Which, Refusal>)
+    ensures { Puts out.old (closing which) out.new }
 {
     match which {
-        Which::Repair => text::put_bytes(out, at, b"FROM REPAIR\n"),
-        Which::Day => text::put_bytes(out, at, b"FROM DAY\n"),
-        Which::Refused(refusal) => answer_pieces::put_refused(out, at, refusal),
+        Ok(Which::Repair) => out.put_bytes(b"FROM REPAIR\n"),
+        Ok(Which::Day) => out.put_bytes(b"FROM DAY\n"),
+        Err(refusal) => answer_pieces::put_refused(out, refusal),
     }
+}
+
+// Puts the line of a refusal at the start of lent room.
+fn put_refused(out: &mut [u8], refusal: Refusal) -> usize
+    ensures { Written out.old 0 (no_line refusal) out.new result }
+{
+    let mut room = Room { bytes: out, at: 0 };
+    answer_pieces::put_refused(&mut room, refusal);
+    room.at
 }
 
 // Puts the answer to an ID that is asked for into lent room, which holds each: at most the 16,384 bytes of a deck, and the
@@ -108,9 +119,10 @@ fn put_answer<'a>(out: &mut [u8; ROOM], id: &[u8], repair: &'a [u8], day: &'a [u
     ensures { Answered id.now repair.now day.now out.old out.new result }
 {
     let found = desk_show::find(id, repair, day);
-    let which = found.which;
-    let end = text::put_bytes(out, 0, desk_show::part_of(found, repair, day));
-    put_closing(out, end, which)
+    let mut room = Room { bytes: out, at: 0 };
+    room.put_bytes(desk_show::part_of(found, repair, day));
+    put_closing(&mut room, found.which);
+    room.at
 }
 
 // Hears the first line of a piece of the input, or what the piece has of it: `desk.line` bytes of it came before. When
@@ -169,8 +181,8 @@ pub fn finish<'a>(
 {
     let stage = desk.stage;
     match stage {
-        Stage::GathersRepair => answer_pieces::put_refused(out, 0, Refusal::BadDeck),
-        Stage::GathersDay => answer_pieces::put_refused(out, 0, Refusal::BadDeck),
+        Stage::GathersRepair => put_refused(out, Refusal::BadDeck),
+        Stage::GathersDay => put_refused(out, Refusal::BadDeck),
         Stage::Asks => {
             if desk.line == 0 {
                 return 0;

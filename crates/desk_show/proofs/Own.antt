@@ -8,6 +8,7 @@ use mathlib.Core.List.{List, [], ◌∷◌, ◌++◌}
 use mathlib.Core.Logic.{◌⊎◌}
 use native.Mathlib.Omega.{arith}
 use lib.ListN.{length, length-append}
+use Rattle.std.specs.Prelude.{Result, Ok, Err}
 use Rattle.numbers.proofs.Tests.{never}
 use Rattle.numbers.specs.declared.Refusal.{Refusal}
 use Rattle.numbers.specs.declared.Refusal.TheVariants.{BadDeck, NoGroup}
@@ -17,7 +18,7 @@ use Rattle.cards_fields.specs.Fields.{is_name}
 use Rattle.cards_fields.specs.Deck.{cards_of, is_termination, before, opens, onto_group, groups_of, deck_groups}
 use Rattle.desk_show.specs.Showing.{has_id, NoneHas, FirstOf, IsBad, IsRead, ShowsFrom, bad, of_repair, of_day, nobody, Shows}
 use Rattle.desk_show.specs.declared.Which.{Which}
-use Rattle.desk_show.specs.declared.Which.TheVariants.{Repair, Day, Refused}
+use Rattle.desk_show.specs.declared.Which.TheVariants.{Repair, Day}
 use Rattle.desk_show.specs.declared.Extent.{Extent}
 use Rattle.desk_show.proofs.IdLaws.{opens-no-id}
 use Rattle.desk_show.proofs.Unique.{not-both, first-none}
@@ -73,20 +74,20 @@ none_has id f (g ∷ gs) = (not-its g, none_has id f gs)
     not-its (card ∷ cards) = sym (opens-no-id id card f)
 
 -- ---- each answer, exactly
-clash-repair : {n : Refusal} {w : Which} → w ≡ Repair → w ≡ Refused n → ⊥
-clash-repair {n} e f = let i : Repair ≡ Refused n = sym e ∙ f in let z : ◌≡◌ {A = ℕ} 0 1 = cc in absurd (omega arith)
+clash-repair : {n : Refusal} {w : Result Which Refusal} → w ≡ Ok Repair → w ≡ Err n → ⊥
+clash-repair {n} e f = let i : Ok Repair ≡ Err n = sym e ∙ f in let z : ◌≡◌ {A = ℕ} 0 1 = cc in absurd (omega arith)
 
-clash-day : {n : Refusal} {w : Which} → w ≡ Day → w ≡ Refused n → ⊥
-clash-day {n} e f = let i : Day ≡ Refused n = sym e ∙ f in let z : ◌≡◌ {A = ℕ} 0 1 = cc in absurd (omega arith)
+clash-day : {n : Refusal} {w : Result Which Refusal} → w ≡ Ok Day → w ≡ Err n → ⊥
+clash-day {n} e f = let i : Ok Day ≡ Err n = sym e ∙ f in let z : ◌≡◌ {A = ℕ} 0 1 = cc in absurd (omega arith)
 
-clash-decks : {w : Which} → w ≡ Repair → w ≡ Day → ⊥
-clash-decks e f = let i : Repair ≡ Day = sym e ∙ f in let z : ◌≡◌ {A = ℕ} 0 1 = cc in absurd (omega arith)
+clash-decks : {w : Result Which Refusal} → w ≡ Ok Repair → w ≡ Ok Day → ⊥
+clash-decks e f = let i : Ok Repair ≡ Ok Day = sym e ∙ f in let z : ◌≡◌ {A = ℕ} 0 1 = cc in absurd (omega arith)
 
-clash-numbers : {w : Which} → w ≡ Refused NoGroup → w ≡ Refused BadDeck → ⊥
-clash-numbers e f = let i : Refused NoGroup ≡ Refused BadDeck = sym e ∙ f in let z : ◌≡◌ {A = ℕ} 0 1 = cc in absurd (omega arith)
+clash-numbers : {w : Result Which Refusal} → w ≡ Err NoGroup → w ≡ Err BadDeck → ⊥
+clash-numbers e f = let i : Err NoGroup ≡ Err BadDeck = sym e ∙ f in let z : ◌≡◌ {A = ℕ} 0 1 = cc in absurd (omega arith)
 
 module _ (id repair day : List ℕ) {r : Extent} {part : List ℕ} (w : Shows id repair day r part) where
-  pub bad-if : r.which ≡ Refused BadDeck → IsBad repair ⊎ IsBad day
+  pub bad-if : r.which ≡ Err BadDeck → IsBad repair ⊎ IsBad day
   bad-if e = by w.answers
     where
       by : ShowsFrom id repair day r.which r.from part → IsBad repair ⊎ IsBad day
@@ -95,16 +96,16 @@ module _ (id repair day : List ℕ) {r : Extent} {part : List ℕ} (w : Shows id
       by (of_day f d m v) = absurd (clash-day f e)
       by (nobody f d m z n) = absurd (clash-numbers f e)
 
-  pub bad-then : IsBad repair ⊎ IsBad day → r.which ≡ Refused BadDeck
+  pub bad-then : IsBad repair ⊎ IsBad day → r.which ≡ Err BadDeck
   bad-then b = by w.answers
     where
-      by : ShowsFrom id repair day r.which r.from part → r.which ≡ Refused BadDeck
+      by : ShowsFrom id repair day r.which r.from part → r.which ≡ Err BadDeck
       by (bad f c z n) = f
       by (of_repair f d v) = absurd (not-both repair day b d)
       by (of_day f d m v) = absurd (not-both repair day b d)
       by (nobody f d m z n) = absurd (not-both repair day b d)
 
-  pub nobody-if : r.which ≡ Refused NoGroup → (IsRead repair × IsRead day) × (NoneHas id (deck_groups repair) × NoneHas id (deck_groups day))
+  pub nobody-if : r.which ≡ Err NoGroup → (IsRead repair × IsRead day) × (NoneHas id (deck_groups repair) × NoneHas id (deck_groups day))
   nobody-if e = by w.answers
     where
       by : ShowsFrom id repair day r.which r.from part
@@ -114,20 +115,20 @@ module _ (id repair day : List ℕ) {r : Extent} {part : List ℕ} (w : Shows id
       by (of_day f d m v) = absurd (clash-day f e)
       by (nobody f d m z n) = (d, m)
 
-  pub nobody-then : (IsRead repair × IsRead day) × (NoneHas id (deck_groups repair) × NoneHas id (deck_groups day)) → r.which ≡ Refused NoGroup
+  pub nobody-then : (IsRead repair × IsRead day) × (NoneHas id (deck_groups repair) × NoneHas id (deck_groups day)) → r.which ≡ Err NoGroup
   nobody-then h = by w.answers
     where
-      by : ShowsFrom id repair day r.which r.from part → r.which ≡ Refused NoGroup
+      by : ShowsFrom id repair day r.which r.from part → r.which ≡ Err NoGroup
       by (bad f b z n) = absurd (not-both repair day b h.0)
       by (of_repair f d v) = absurd (first-none h.1.0 v)
       by (of_day f d m v) = absurd (first-none h.1.1 v)
       by (nobody f d m z n) = f
 
   -- what is no ID is nobody's
-  pub no-id : is_name id ≡ false → IsRead repair × IsRead day → r.which ≡ Refused NoGroup
+  pub no-id : is_name id ≡ false → IsRead repair × IsRead day → r.which ≡ Err NoGroup
   no-id f d = nobody-then (d, (none_has id f (deck_groups repair), none_has id f (deck_groups day)))
 
-  pub repair-if : r.which ≡ Repair → (IsRead repair × IsRead day) × (NoneHas id (deck_groups repair) → ⊥)
+  pub repair-if : r.which ≡ Ok Repair → (IsRead repair × IsRead day) × (NoneHas id (deck_groups repair) → ⊥)
   repair-if e = by w.answers
     where
       by : ShowsFrom id repair day r.which r.from part → (IsRead repair × IsRead day) × (NoneHas id (deck_groups repair) → ⊥)
@@ -136,16 +137,16 @@ module _ (id repair day : List ℕ) {r : Extent} {part : List ℕ} (w : Shows id
       by (of_day f d m v) = absurd (clash-decks e f)
       by (nobody f d m z n) = absurd (clash-repair e f)
 
-  pub repair-then : (IsRead repair × IsRead day) × (NoneHas id (deck_groups repair) → ⊥) → r.which ≡ Repair
+  pub repair-then : (IsRead repair × IsRead day) × (NoneHas id (deck_groups repair) → ⊥) → r.which ≡ Ok Repair
   repair-then h = by w.answers
     where
-      by : ShowsFrom id repair day r.which r.from part → r.which ≡ Repair
+      by : ShowsFrom id repair day r.which r.from part → r.which ≡ Ok Repair
       by (bad f b z n) = absurd (not-both repair day b h.0)
       by (of_repair f d v) = f
       by (of_day f d m v) = absurd (h.1 m)
       by (nobody f d m z n) = absurd (h.1 m.0)
 
-  pub day-if : r.which ≡ Day → (IsRead repair × IsRead day) × (NoneHas id (deck_groups repair) × (NoneHas id (deck_groups day) → ⊥))
+  pub day-if : r.which ≡ Ok Day → (IsRead repair × IsRead day) × (NoneHas id (deck_groups repair) × (NoneHas id (deck_groups day) → ⊥))
   day-if e = by w.answers
     where
       by : ShowsFrom id repair day r.which r.from part
@@ -155,25 +156,25 @@ module _ (id repair day : List ℕ) {r : Extent} {part : List ℕ} (w : Shows id
       by (of_day f d m v) = (d, (m, λ k. first-none k v))
       by (nobody f d m z n) = absurd (clash-day e f)
 
-  pub day-then : (IsRead repair × IsRead day) × (NoneHas id (deck_groups repair) × (NoneHas id (deck_groups day) → ⊥)) → r.which ≡ Day
+  pub day-then : (IsRead repair × IsRead day) × (NoneHas id (deck_groups repair) × (NoneHas id (deck_groups day) → ⊥)) → r.which ≡ Ok Day
   day-then h = by w.answers
     where
-      by : ShowsFrom id repair day r.which r.from part → r.which ≡ Day
+      by : ShowsFrom id repair day r.which r.from part → r.which ≡ Ok Day
       by (bad f b z n) = absurd (not-both repair day b h.0)
       by (of_repair f d v) = absurd (first-none h.1.0 v)
       by (of_day f d m v) = f
       by (nobody f d m z n) = absurd (h.1.1 m.1)
 
-  pub empty-if : part ≡ [] → (n : Refusal) × (r.which ≡ Refused n)
+  pub empty-if : part ≡ [] → (n : Refusal) × (r.which ≡ Err n)
   empty-if e = by w.answers
     where
-      by : ShowsFrom id repair day r.which r.from part → (n : Refusal) × (r.which ≡ Refused n)
+      by : ShowsFrom id repair day r.which r.from part → (n : Refusal) × (r.which ≡ Err n)
       by (bad f b z n) = (BadDeck, f)
       by (of_repair f d v) = absurd (not-empty v e)
       by (of_day f d m v) = absurd (not-empty v e)
       by (nobody f d m z n) = (NoGroup, f)
 
-  pub empty-then : (n : Refusal) × (r.which ≡ Refused n) → part ≡ []
+  pub empty-then : (n : Refusal) × (r.which ≡ Err n) → part ≡ []
   empty-then h = by w.answers
     where
       by : ShowsFrom id repair day r.which r.from part → part ≡ []
@@ -183,7 +184,7 @@ module _ (id repair day : List ℕ) {r : Extent} {part : List ℕ} (w : Shows id
       by (nobody f d m z n) = n
 
   -- ---- and the deck that has it
-  pub repair-cards : r.which ≡ Repair → (v : FirstOf id (deck_groups repair) r.from part) × (cards_of part ≡ v.own)
+  pub repair-cards : r.which ≡ Ok Repair → (v : FirstOf id (deck_groups repair) r.from part) × (cards_of part ≡ v.own)
   repair-cards e = by w.answers
     where
       by : ShowsFrom id repair day r.which r.from part → (v : FirstOf id (deck_groups repair) r.from part) × (cards_of part ≡ v.own)
@@ -192,7 +193,7 @@ module _ (id repair day : List ℕ) {r : Extent} {part : List ℕ} (w : Shows id
       by (of_day f d m v) = absurd (clash-decks e f)
       by (nobody f d m z n) = absurd (clash-repair e f)
 
-  pub day-cards : r.which ≡ Day → NoneHas id (deck_groups repair) × ((v : FirstOf id (deck_groups day) r.from part) × (cards_of part ≡ v.own))
+  pub day-cards : r.which ≡ Ok Day → NoneHas id (deck_groups repair) × ((v : FirstOf id (deck_groups day) r.from part) × (cards_of part ≡ v.own))
   day-cards e = by w.answers
     where
       by : ShowsFrom id repair day r.which r.from part

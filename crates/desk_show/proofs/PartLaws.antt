@@ -2,7 +2,6 @@
 -- bytes. And the bytes of a deck from one to another, clipped at its end, are the part. Assumes nothing.
 use Prim.Native.Nat.{ℕ, zero, suc, ◌+◌, ◌-◌, ◌≤◌, min}
 use mathlib.Core.Path.{◌≡◌, refl, sym, ap, subst, ◌∙◌}
-use mathlib.Core.Bool.{Bool, true, false}
 use mathlib.Core.List.{List, [], ◌∷◌}
 use mathlib.Core.Logic.{◌⊎◌, ⊎_elim}
 use native.Mathlib.Nat.{eq-zero-or-pos}
@@ -11,14 +10,13 @@ use lib.ListN.{length, take, drop, length-take, length-drop, drop_of_length-le}
 use lib.Seq.{length-take-le, take_all, take-nil, take-take}
 use Rattle.numbers.specs.declared.Refusal.{Refusal}
 use Rattle.numbers.specs.declared.Refusal.TheVariants.{BadDeck}
-use Rattle.numbers.proofs.Tests.{never}
 use Rattle.cards_fields.specs.Deck.{groups_of, deck_end, deck_groups}
 use Rattle.cards_fields.proofs.Groups.{ends, refused-bad, deck-cards}
-use Rattle.cards_fields.specs.declared.DeckEnd.TheVariants as Ends
+use Rattle.std.specs.Prelude.{Result, Ok, Err}
 use Rattle.desk_show.specs.Showing.{NoneHas, FirstOf, IsBad, bad, of_repair, of_day, nobody, part_in, part_of, Shows}
 use Rattle.desk_show.specs.Seeking.{groups_in, StandsAt, refused_for, FindsBy, FindsIn, span_by, span_of}
 use Rattle.desk_show.specs.declared.Which.{Which}
-use Rattle.desk_show.specs.declared.Which.TheVariants.{Repair, Day, Refused}
+use Rattle.desk_show.specs.declared.Which.TheVariants.{Repair, Day}
 use Rattle.desk_show.specs.declared.Extent.{Extent}
 use Rattle.desk_show.specs.declared.Span.{Span}
 
@@ -31,7 +29,7 @@ part-front (b ∷ s) (suc from) len zero h = absurd (omega arith)
 part-front (b ∷ s) (suc from) len (suc n) h = part-front s from len n (omega arith)
 
 -- ---- the cards of a deck, up to its termination card
-module _ (id s : List ℕ) (n : ℕ) (e : deck_end s ≡ Ends.At n) where
+module _ (id s : List ℕ) (n : ℕ) (e : deck_end s ≡ Ok n) where
   groups-are : groups_in (take n s) ≡ deck_groups s
   groups-are = ap groups_of (deck-cards s n e)
 
@@ -50,21 +48,21 @@ module _ (id s : List ℕ) (n : ℕ) (e : deck_end s ≡ Ends.At n) where
 
 -- ---- what is found
 module _ (id repair day : List ℕ) where
-  module _ {n m : ℕ} (e : deck_end repair ≡ Ends.At n) (f : deck_end day ≡ Ends.At m) where
-    shows-by : (w : Which) (from len : ℕ) → FindsBy id (take n repair) (take m day) w from len
+  module _ {n m : ℕ} (e : deck_end repair ≡ Ok n) (f : deck_end day ≡ Ok m) where
+    shows-by : (w : Result Which Refusal) (from len : ℕ) → FindsBy id (take n repair) (take m day) w from len
         → Shows id repair day (record { which = w; from = from; len = len }) (part_in w from len repair day)
-    shows-by Repair from len h = record {
+    shows-by (Ok Repair) from len h = record {
       answers = of_repair refl ((n, e), (m, f)) (first-in id repair n e h);
       long = long-in id repair n e h;
       there = refl;
     }
-    shows-by Day from len h = record {
+    shows-by (Ok Day) from len h = record {
       answers = of_day refl ((n, e), (m, f)) (none_in id repair n e h.0) (first-in id day m f h.1);
       long = long-in id day m f h.1;
       there = refl;
     }
-    shows-by (Refused refusal) from len h = record {
-      answers = nobody (ap Refused h.0) ((n, e), (m, f)) (none_in id repair n e h.1.0.0, none_in id day m f h.1.0.1) h.1.1.0 refl;
+    shows-by (Err refusal) from len h = record {
+      answers = nobody (ap Err h.0) ((n, e), (m, f)) (none_in id repair n e h.1.0.0, none_in id day m f h.1.0.1) h.1.1.0 refl;
       long = h.1.1.1;
       there = refl;
     }
@@ -81,11 +79,11 @@ module _ (id repair day : List ℕ) where
       subst (λ (x : Extent). Shows id repair day x (part_of x repair day)) (sym (e ∙ ap refused_for h.0)) (refused-by h.1)
 
 -- a deck that is read ends within its bytes, and one that is refused gets 11
-pub read-long : (s : List ℕ) (n : ℕ) → deck_end s ≡ Ends.At n → n ≡ length (take n s)
+pub read-long : (s : List ℕ) (n : ℕ) → deck_end s ≡ Ok n → n ≡ length (take n s)
 read-long s n e = sym (length-take-le n s (omega (arith, (ends s n e).within)))
 
-pub is-bad : (s : List ℕ) (refusal : Refusal) → deck_end s ≡ Ends.Refused refusal → (refusal ≡ BadDeck) × IsBad s
-is-bad s refusal e = let k = refused-bad s refusal e in (k, e ∙ ap Ends.Refused k)
+pub is-bad : (s : List ℕ) (refusal : Refusal) → deck_end s ≡ Err refusal → (refusal ≡ BadDeck) × IsBad s
+is-bad s refusal e = let k = refused-bad s refusal e in (k, e ∙ ap Err k)
 
 -- ---- the bytes from one to another
 clipped-part : (s : List ℕ) (from len : ℕ)
@@ -109,22 +107,22 @@ clipped-part s from len =
     (eq-zero-or-pos (length s - from))
 
 -- a span that is of this deck lies within it, and is the part
-abbrev Lies : Bool → Span → List ℕ → List ℕ → Type 0
-Lies b span deck part = span.repair ≡ b
+abbrev Lies : Which → Span → List ℕ → List ℕ → Type 0
+Lies b span deck part = span.which ≡ b
     → (span.from ≤ span.end) × (span.end ≤ length deck) × (take (span.end - span.from) (drop span.from deck) ≡ part)
 
 module _ (repair day : List ℕ) where
-  lies : (w : Which) (from len : ℕ) → Lies true (span_by w from len (length repair) (length day)) repair (part_in w from len repair day)
-      × Lies false (span_by w from len (length repair) (length day)) day (part_in w from len repair day)
-  lies Repair from len = (λ e. (omega arith, omega arith, clipped-part repair from len), λ e. never refl e)
-  lies Day from len = (λ e. never e refl, λ e. (omega arith, omega arith, clipped-part day from len))
-  lies (Refused refusal) from len = (λ e. never e refl, λ e. (omega arith, omega arith, clipped-part day 0 0))
+  lies : (w : Result Which Refusal) (from len : ℕ) → Lies Repair (span_by w from len (length repair) (length day)) repair (part_in w from len repair day)
+      × Lies Day (span_by w from len (length repair) (length day)) day (part_in w from len repair day)
+  lies (Ok Repair) from len = (λ e. (omega arith, omega arith, clipped-part repair from len), λ e. absurd cc)
+  lies (Ok Day) from len = (λ e. absurd cc, λ e. (omega arith, omega arith, clipped-part day from len))
+  lies (Err refusal) from len = (λ e. absurd cc, λ e. (omega arith, omega arith, clipped-part day 0 0))
 
   module _ (found : Extent) {span : Span} (is : span ≡ span_of found (length repair) (length day)) where
-    pub in-repair : Lies true span repair (part_of found repair day)
+    pub in-repair : Lies Repair span repair (part_of found repair day)
     in-repair =
-        subst (λ (x : Span). Lies true x repair (part_of found repair day)) (sym is) (lies found.which found.from found.len).0
+        subst (λ (x : Span). Lies Repair x repair (part_of found repair day)) (sym is) (lies found.which found.from found.len).0
 
-    pub in-day : Lies false span day (part_of found repair day)
+    pub in-day : Lies Day span day (part_of found repair day)
     in-day =
-        subst (λ (x : Span). Lies false x day (part_of found repair day)) (sym is) (lies found.which found.from found.len).1
+        subst (λ (x : Span). Lies Day x day (part_of found repair day)) (sym is) (lies found.which found.from found.len).1

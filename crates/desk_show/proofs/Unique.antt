@@ -8,9 +8,10 @@ use mathlib.Core.Logic.{◌⊎◌, ⊎_elim}
 use native.Mathlib.Omega.{arith}
 use lib.ListN.{length}
 use Rattle.numbers.proofs.Tests.{never}
+use Rattle.numbers.specs.declared.Refusal.{Refusal}
 use Rattle.numbers.specs.declared.Refusal.TheVariants.{BadDeck}
 use Rattle.words.specs.Lines.{lines_text}
-use Rattle.cards_fields.specs.declared.DeckEnd.TheVariants as Ends
+use Rattle.std.specs.Prelude.{Result, Ok, Err}
 use Rattle.desk_show.specs.Showing.{has_id, NoneHas, groups_text, FirstOf, IsBad, IsRead, ShowsFrom, bad}
 use Rattle.desk_show.specs.Showing.{of_repair, of_day, nobody, part_of, Shows, Shown}
 use Rattle.desk_show.specs.declared.Which.{Which}
@@ -51,18 +52,18 @@ first-none {id} {gs} n v = has-none id v.earlier v.own v.later gs v.among v.its 
 
 -- ---- a deck is not both refused and read
 clash : (s : List ℕ) → IsBad s → IsRead s → ⊥
-clash s b r = let i : Ends.Refused BadDeck ≡ Ends.At r.0 = sym b ∙ r.1 in let z : ◌≡◌ {A = ℕ} 0 1 = cc in absurd (omega arith)
+clash s b r = let i : Err BadDeck ≡ Ok r.0 = sym b ∙ r.1 in let z : ◌≡◌ {A = ℕ} 0 1 = cc in absurd (omega arith)
 
 pub not-both : (repair day : List ℕ) → IsBad repair ⊎ IsBad day → IsRead repair × IsRead day → ⊥
 not-both repair day b r = ⊎_elim (λ x. clash repair x r.0) (λ x. clash day x r.1) b
 
 -- ---- the four answers exclude each other
-record Same (which which' : Which) (from from' : ℕ) (part part' : List ℕ) : Type 0 where
+record Same (which which' : Result Which Refusal) (from from' : ℕ) (part part' : List ℕ) : Type 0 where
   which· : which ≡ which'
   from· : from ≡ from'
   part· : part ≡ part'
 
-answers_one : {id repair day : List ℕ} {w w' : Which} {f f' : ℕ} {p p' : List ℕ} → ShowsFrom id repair day w f p → ShowsFrom id repair day w' f' p'
+answers_one : {id repair day : List ℕ} {w w' : Result Which Refusal} {f f' : ℕ} {p p' : List ℕ} → ShowsFrom id repair day w f p → ShowsFrom id repair day w' f' p'
     → Same w w' f f' p p'
 answers_one {repair = repair} {day = day} (bad e b z n) (bad e' b' z' n') = record { which· = e ∙ sym e'; from· = z ∙ sym z'; part· = n ∙ sym n' }
 answers_one {repair = repair} {day = day} (bad e b z n) (of_repair e' d v) = absurd (not-both repair day b d)
@@ -87,7 +88,7 @@ answers_one {repair = repair} {day = day} (nobody e d m z n) (nobody e' d' m' z'
   part· = n ∙ sym n';
 }
 
-found-is : (w w' : Which) (f f' l l' : ℕ) → w ≡ w' → f ≡ f' → l ≡ l'
+found-is : (w w' : Result Which Refusal) (f f' l l' : ℕ) → w ≡ w' → f ≡ f' → l ≡ l'
     → ◌≡◌ {A = Extent} (record { which = w; from = f; len = l }) (record { which = w'; from = f'; len = l' })
 found-is w w' f f' l l' a b c = cc
 

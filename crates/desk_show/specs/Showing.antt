@@ -1,15 +1,15 @@
 -- Two decks on the desk. "For an ID the reader shall show us the request's own cards from the repair deck if they are
 -- there, else from the day's deck, as the text itself in the deck that has it and without a copy". "Nothing enters the
 -- schedule": all that is asked for is bytes, and nothing is checked or changed. A reader has to believe this page.
-use Rattle.std.specs.Prelude.{ℕ, ◌≡◌, Bool, true, false, ◌&&◌, List, [], ◌∷◌, ◌++◌, ◌⊎◌, length, take, drop}
+use Rattle.std.specs.Prelude.{ℕ, ◌≡◌, Bool, true, false, ◌&&◌, Result, Ok, Err, List, [], ◌∷◌, ◌++◌, ◌⊎◌, length, take, drop}
+use Rattle.numbers.specs.declared.Refusal.{Refusal}
 use Rattle.numbers.specs.declared.Refusal.TheVariants.{BadDeck, NoGroup}
 use Rattle.words.specs.Words.{same}
 use Rattle.words.specs.Lines.{lines_text}
 use Rattle.cards_fields.specs.Fields.{field, is_name, is_pty}
 use Rattle.cards_fields.specs.Deck.{deck_end, deck_groups}
-use Rattle.cards_fields.specs.declared.DeckEnd.TheVariants as Ends
 use Rattle.desk_show.specs.declared.Which.{Which}
-use Rattle.desk_show.specs.declared.Which.TheVariants.{Repair, Day, Refused}
+use Rattle.desk_show.specs.declared.Which.TheVariants.{Repair, Day}
 use Rattle.desk_show.specs.declared.Extent.{Extent}
 
 -- a card opens a group with this ID: its second field is PTY, and its first, read loosely, is the ID and well formed.
@@ -46,30 +46,30 @@ pub record FirstOf (id : List ℕ) (groups : List (List (List ℕ))) (from : ℕ
 
 -- a deck is refused, "deck too long or without termination card", or it is read
 abbrev pub IsBad : List ℕ → Type 0
-IsBad deck = deck_end deck ≡ Ends.Refused BadDeck
+IsBad deck = deck_end deck ≡ Err BadDeck
 
 abbrev pub IsRead : List ℕ → Type 0
-IsRead deck = (end : ℕ) × (deck_end deck ≡ Ends.At end)
+IsRead deck = (end : ℕ) × (deck_end deck ≡ Ok end)
 
 -- THE FOUR ANSWERS, which exclude each other: which deck has the group, or the refusal; from which of the deck's bytes
 -- on; and the part
-pub data ShowsFrom (id repair day : List ℕ) (which : Which) (from : ℕ) (part : List ℕ) : Type 0 where
+pub data ShowsFrom (id repair day : List ℕ) (which : Result Which Refusal) (from : ℕ) (part : List ℕ) : Type 0 where
   -- "11 first": for either deck. "Which of two bad decks was met first can't be seen"
-  bad : which ≡ Refused BadDeck → IsBad repair ⊎ IsBad day → from ≡ 0 → part ≡ [] → ShowsFrom id repair day which from part
+  bad : which ≡ Err BadDeck → IsBad repair ⊎ IsBad day → from ≡ 0 → part ≡ [] → ShowsFrom id repair day which from part
   -- "from the repair deck if they are there",
-  of_repair : which ≡ Repair → IsRead repair × IsRead day → FirstOf id (deck_groups repair) from part → ShowsFrom id repair day which from part
+  of_repair : which ≡ Ok Repair → IsRead repair × IsRead day → FirstOf id (deck_groups repair) from part → ShowsFrom id repair day which from part
   -- "else from the day's deck";
-  of_day : which ≡ Day → IsRead repair × IsRead day → NoneHas id (deck_groups repair) → FirstOf id (deck_groups day) from part
+  of_day : which ≡ Ok Day → IsRead repair × IsRead day → NoneHas id (deck_groups repair) → FirstOf id (deck_groups day) from part
       → ShowsFrom id repair day which from part
   -- "22 no group with that ID in either deck"
-  nobody : which ≡ Refused NoGroup → IsRead repair × IsRead day → NoneHas id (deck_groups repair) × NoneHas id (deck_groups day) → from ≡ 0
+  nobody : which ≡ Err NoGroup → IsRead repair × IsRead day → NoneHas id (deck_groups repair) × NoneHas id (deck_groups day) → from ≡ 0
       → part ≡ [] → ShowsFrom id repair day which from part
 
 -- what stands in the deck that has it, from a byte on, so many bytes; nothing where there is a refusal
-abbrev pub part_in : Which → ℕ → ℕ → List ℕ → List ℕ → List ℕ
-part_in Repair from len repair day = take len (drop from repair)
-part_in Day from len repair day = take len (drop from day)
-part_in (Refused refusal) from len repair day = []
+abbrev pub part_in : Result Which Refusal → ℕ → ℕ → List ℕ → List ℕ → List ℕ
+part_in (Ok Repair) from len repair day = take len (drop from repair)
+part_in (Ok Day) from len repair day = take len (drop from day)
+part_in (Err refusal) from len repair day = []
 
 abbrev pub part_of : Extent → List ℕ → List ℕ → List ℕ
 part_of r repair day = part_in r.which r.from r.len repair day

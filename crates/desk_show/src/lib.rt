@@ -7,38 +7,30 @@ ghost use Rattle.cards_fields.specs.Fields.{is_name};
 ghost use Rattle.desk_show.specs.Showing.{opens_for, part_of, Shows, Shown};
 ghost use Rattle.desk_show.specs.Seeking.{refused_for, Seeks, FindsIn, clipped_to, span_of};
 
-use cards_fields::{DeckEnd, card, deck};
+use cards_fields::{card, deck};
 use numbers::Refusal;
 use words::Class;
 
-// Which deck has the group, or why no cards are shown.
-#[derive(Clone, Copy)]
+// One of the two decks.
+#[derive(Clone, Copy, PartialEq, Eq)]
 pub enum Which {
     Repair,
     Day,
-    Refused(Refusal),
 }
 
 // Which deck has the group, or the refusal; and where the group's cards stand in that deck, from a byte on, so many
 // bytes. Both are 0 where there is a refusal.
 #[derive(Clone, Copy)]
 pub struct Extent {
-    pub which: Which,
+    pub which: Result<Which, Refusal>,
     pub from: usize,
     pub len: usize,
 }
 
-// Where a group stands among the cards of one deck.
-#[derive(Clone, Copy)]
-enum Sought {
-    At(usize, usize),
-    Nowhere,
-}
-
-// The bytes of a deck, the repair deck or the day's, from one to before another.
+// The bytes of a deck from one to before another.
 #[derive(Clone, Copy)]
 struct Span {
-    repair: bool,
+    which: Which,
     from: usize,
     end: usize,
 }
@@ -69,25 +61,26 @@ fn opens_for(id: &[u8], card: &[u8]) -> bool
     card::field_is(card, 0, id)
 }
 
-// Where the first group of an ID stands among the cards of a deck, each group looked at as the part that starts where
-// the last one ended.
-fn seek(id: &[u8], cards: &[u8]) -> Sought
+// Where the first group of an ID stands among the cards of a deck, from a byte on, so many bytes. Each group is looked at
+// as the part that starts where the last one ended.
+fn seek(id: &[u8], cards: &[u8]) -> Option<(usize, usize)>
     ensures { Seeks id.now cards.now result }
 {
     let mut from: usize = 0;
+    // Stays: the next group starts where the last one ended, as docs/ARCHITECTURE.md binds it: the step is its length.
     while from < cards.len() {
         let group = deck::first_group(&cards[from..]);
         let n = group.len();
         // Bytes behind the last LF are no card: without this they would be looked at for ever.
         if n == 0 {
-            return Sought::Nowhere;
+            return None;
         }
         if opens_for(id, deck::card_at(group, 0)) {
-            return Sought::At(from, n);
+            return Some((from, n));
         }
         from += n;
     }
-    Sought::Nowhere
+    None
 }
 
 // No cards are shown.
@@ -95,7 +88,7 @@ fn refused(refusal: Refusal) -> Extent
     ensures { result ≡ refused_for refusal }
 {
     Extent {
-        which: Which::Refused(refusal),
+        which: Err(refusal),
         from: 0,
         len: 0,
     }
@@ -106,18 +99,18 @@ fn find_in(id: &[u8], repair: &[u8], day: &[u8]) -> Extent
     ensures { FindsIn id.now repair.now day.now result }
 {
     match seek(id, repair) {
-        Sought::At(from, len) => Extent {
-            which: Which::Repair,
+        Some((from, len)) => Extent {
+            which: Ok(Which::Repair),
             from,
             len,
         },
-        Sought::Nowhere => match seek(id, day) {
-            Sought::At(from, len) => Extent {
-                which: Which::Day,
+        None => match seek(id, day) {
+            Some((from, len)) => Extent {
+                which: Ok(Which::Day),
                 from,
                 len,
             },
-            Sought::Nowhere => refused(Refusal::NoGroup),
+            None => refused(Refusal::NoGroup),
         },
     }
 }
@@ -128,35 +121,35 @@ pub fn find(id: &[u8], repair: &[u8], day: &[u8]) -> Extent
     ensures { Shows id.now repair.now day.now result (part_of result repair.now day.now) }
 {
     match deck::deck_end(repair) {
-        DeckEnd::At(n) => match deck::deck_end(day) {
-            DeckEnd::At(m) => find_in(id, &repair[..n], &day[..m]),
-            DeckEnd::Refused(refusal) => refused(refusal),
+        Ok(n) => match deck::deck_end(day) {
+            Ok(m) => find_in(id, &repair[..n], &day[..m]),
+            Err(refusal) => refused(refusal),
         },
-        DeckEnd::Refused(refusal) => refused(refusal),
+        Err(refusal) => refused(refusal),
     }
 }
 
 // From a byte on so many bytes of a text of this size, but none past its end: `part_of` answers for every extent, also one
 // that no search gives.
-fn clipped(repair: bool, from: usize, len: usize, size: usize) -> Span
-    ensures { result ≡ clipped_to repair from len size }
+fn clipped(which: Which, from: usize, len: usize, size: usize) -> Span
+    ensures { result ≡ clipped_to which from len size }
 {
     if size <= from {
         return Span {
-            repair,
+            which,
             from: size,
             end: size,
         };
     }
     if size - from < len {
         return Span {
-            repair,
+            which,
             from,
             end: size,
         };
     }
     Span {
-        repair,
+        which,
         from,
         end: from + len,
     }
@@ -168,9 +161,9 @@ fn span_of(found: Extent, repair: usize, day: usize) -> Span
 {
     let which = found.which;
     match which {
-        Which::Repair => clipped(true, found.from, found.len, repair),
-        Which::Day => clipped(false, found.from, found.len, day),
-        Which::Refused(_) => clipped(false, 0, 0, day),
+        Ok(Which::Repair) => clipped(Which::Repair, found.from, found.len, repair),
+        Ok(Which::Day) => clipped(Which::Day, found.from, found.len, day),
+        Err(_) => clipped(Which::Day, 0, 0, day),
     }
 }
 
@@ -181,7 +174,7 @@ pub fn part_of<'a>(found: Extent, repair: &'a [u8], day: &'a [u8]) -> &'a [u8]
     let span = span_of(found, repair.len(), day.len());
     let from = span.from;
     let end = span.end;
-    if span.repair {
+    if span.which == Which::Repair {
         return &repair[from..end];
     }
     &day[from..end]

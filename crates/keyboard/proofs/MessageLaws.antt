@@ -18,7 +18,7 @@ use Rattle.line_words.specs.Forms as Forms
 use Rattle.line_words.proofs.SplitLaws.{Word}
 use Rattle.cards_fields.proofs.FieldLaws.{rest-is}
 use Rattle.keyboard.specs.Messages.{filled, is_message, number_field, message_words}
-use Rattle.keyboard.specs.declared.Counted.TheVariants.{Is, Wrong}
+use Rattle.std.specs.Prelude.{Ok, Err}
 use Rattle.keyboard.specs.declared.Fault.{Fault}
 use Rattle.keyboard.specs.declared.Fault.TheVariants.{NoLength, NotADigit}
 
@@ -114,12 +114,12 @@ abbrev behind : List ℕ → List ℕ
 behind field = take (length field - 1) (drop 1 field)
 
 module _ (letter : ℕ) (large : Fault) (field : List ℕ) where
-  pub field-short : length field ≤ 1 → Wrong NoLength ≡ number_field letter large field
+  pub field-short : length field ≤ 1 → Err NoLength ≡ number_field letter large field
   unfolding number_field
   field-short h = rw (le-leb (length field) 1 h)
 
   module _ (h : 1 < length field) (first : ℕ) (is : first ≡ get_or field 0 0) where
-    pub field-other : (first ≡ letter → ⊥) → Wrong NoLength ≡ number_field letter large field
+    pub field-other : (first ≡ letter → ⊥) → Err NoLength ≡ number_field letter large field
     unfolding number_field
     field-other n = rw (lt-leb (length field) 1 h, ← is, ne_eqb first letter n)
 
@@ -127,7 +127,7 @@ module _ (letter : ℕ) (large : Fault) (field : List ℕ) where
       digits_are : (b : Bool) → every is_digit (behind field) ≡ b → every is_digit (drop 1 field) ≡ b
       digits_are b k = ap (every is_digit) (sym (rest-is field 1)) ∙ k
 
-      pub field-nondigit : every is_digit (behind field) ≡ false → Wrong NotADigit ≡ number_field letter large field
+      pub field-nondigit : every is_digit (behind field) ≡ false → Err NotADigit ≡ number_field letter large field
       unfolding number_field
       field-nondigit k = rw (lt-leb (length field) 1 h, ← is, eq-eqb first letter e, digits_are false k)
 
@@ -135,7 +135,7 @@ module _ (letter : ℕ) (large : Fault) (field : List ℕ) where
         small : n ≡ min (value (drop 1 field)) 16
         small = m ∙ ap (λ (s : List ℕ). min (value s) 16) (rest-is field 1)
 
-        pub field-large : 15 < n → Wrong large ≡ number_field letter large field
+        pub field-large : 15 < n → Err large ≡ number_field letter large field
         unfolding number_field
         field-large l =
             rw (
@@ -146,8 +146,8 @@ module _ (letter : ℕ) (large : Fault) (field : List ℕ) where
               lt-ltb 15 (value (drop 1 field)) (omega (arith, small)),
             )
 
-        pub field_is : n ≤ 15 → Is n ≡ number_field letter large field
+        pub field_is : n ≤ 15 → Ok n ≡ number_field letter large field
         unfolding number_field
         field_is l =
             let v : n ≡ value (drop 1 field) = omega (arith, small) in
-            rw (lt-leb (length field) 1 h, ← is, eq-eqb first letter e, digits_are true k, le-ltb 15 (value (drop 1 field)) (omega arith)) (ap Is v)
+            rw (lt-leb (length field) 1 h, ← is, eq-eqb first letter e, digits_are true k, le-ltb 15 (value (drop 1 field)) (omega arith)) (ap (λ (m : ℕ). Ok m) v)

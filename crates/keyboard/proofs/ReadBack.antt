@@ -21,8 +21,7 @@ use Rattle.keyboard.specs.Messages.{channel_then, is_message, message_of, number
 use Rattle.keyboard.specs.Typed.{FirstOfAll, ReadBack, fields_of, known, unit_text, within}
 use Rattle.keyboard.specs.declared.Asked.{Asked}
 use Rattle.keyboard.specs.declared.Asked.TheVariants.{Unknown, Wrong, Mark, Release, Delete}
-use Rattle.keyboard.specs.declared.Counted.{Counted}
-use Rattle.keyboard.specs.declared.Counted.TheVariants as Counted'
+use Rattle.std.specs.Prelude.{Result, Ok, Err}
 use Rattle.keyboard.specs.declared.Fault.{Fault}
 use Rattle.keyboard.specs.declared.Word.{Word as MessageWord}
 use Rattle.keyboard.specs.declared.Word.TheVariants.{Dwn, Avl, Sel, Del}
@@ -73,7 +72,7 @@ module _ (n : ℕ) (h : n ≤ 15) where
   two-value : value (two_text n) ≡ n
   two-value = omega arith
 
-  field_back : (letter : ℕ) (large : Fault) → number_field letter large (letter ∷ two_text n) ≡ Counted'.Is n
+  field_back : (letter : ℕ) (large : Fault) → number_field letter large (letter ∷ two_text n) ≡ Ok n
   unfolding number_field
   field_back letter large =
       rw (eq-eqb letter letter refl, (digit (n / 10) tens).0, (digit (n % 10) ones).0, two-value, le-ltb 15 n h)
@@ -132,10 +131,10 @@ known-unit : (word : MessageWord) (on : Bool) (words : List (List ℕ)) → is_k
 unfolding on_unit
 known-unit word on words = by (number_field 67 Fault.ChannelTooLarge (get_or words 1 [])) (number_field 85 Fault.UnitTooLarge (get_or words 2 []))
   where
-    by : (a b : Counted) → is_known (channel_then word on a b) ≡ true
-    by (Counted'.Is c) (Counted'.Is u) = refl
-    by (Counted'.Is c) (Counted'.Wrong fault) = refl
-    by (Counted'.Wrong fault) b = refl
+    by : (a b : Result ℕ Fault) → is_known (channel_then word on a b) ≡ true
+    by (Ok c) (Ok u) = refl
+    by (Ok c) (Err fault) = refl
+    by (Err fault) b = refl
 
 known-request : (word : MessageWord) (call : Asked) (words : List (List ℕ)) → is_known call ≡ true → is_known (on_request word call words) ≡ true
 unfolding on_request

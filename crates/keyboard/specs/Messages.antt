@@ -1,6 +1,6 @@
 -- KEYBOARD MESSAGES (02, request 1). What the operator types, `DWN Ccc Uuu`, `AVL Ccc Uuu`, `SEL jrid` or `DEL jrid`,
 -- and what it asks for, by words and fields. Any bytes are a message. A reader has to believe this page.
-use Rattle.std.specs.Prelude.{ℕ, Bool, true, false, cond, not, ◌&&◌, ◌||◌, List, [], ◌∷◌, eqb, ltb, leb, length, get_or, drop}
+use Rattle.std.specs.Prelude.{ℕ, Bool, true, false, cond, not, ◌&&◌, ◌||◌, List, [], ◌∷◌, eqb, ltb, leb, length, get_or, drop, Result, Ok, Err}
 use Rattle.numbers.specs.Quoted.{byte, bytes}
 use Rattle.text.specs.Class.{is_digit}
 use Rattle.words.specs.Words.{every, same, value}
@@ -10,8 +10,6 @@ use Rattle.keyboard.specs.declared.Word.{Word}
 use Rattle.keyboard.specs.declared.Word.TheVariants.{Dwn, Avl, Sel, Del}
 use Rattle.keyboard.specs.declared.Fault.{Fault}
 use Rattle.keyboard.specs.declared.Fault.TheVariants.{NoLength, UnitTooLarge, NotADigit, ChannelTooLarge}
-use Rattle.keyboard.specs.declared.Counted.{Counted}
-use Rattle.keyboard.specs.declared.Counted.TheVariants as Counted'
 use Rattle.keyboard.specs.declared.Asked.{Asked}
 use Rattle.keyboard.specs.declared.Asked.TheVariants.{Unknown, Wrong, Mark, Release, Delete}
 use Rattle.keyboard.specs.declared.Message.{Message}
@@ -47,27 +45,27 @@ fault_number NotADigit = 10
 fault_number ChannelTooLarge = 12
 
 -- a channel or unit number over 15 is too large, "since our cell ends at 15" and so do the units of a channel
-abbrev pub up_to15 : ℕ → Fault → Counted
-up_to15 n too_large = cond (ltb 15 n) (Counted'.Wrong too_large) (Counted'.Is n)
+abbrev pub up_to15 : ℕ → Fault → Result ℕ Fault
+up_to15 n too_large = cond (ltb 15 n) (Err too_large) (Ok n)
 
 -- a field `Ccc` or `Uuu`, its letter and what is wrong with a number over 15. "one missing or without its C or U as of
 -- no length", and so is one with nothing after it. Then "10 before 5 and 12". The number is the value of the digits,
 -- however many there are
-unfoldable pub number_field : ℕ → Fault → List ℕ → Counted
+unfoldable pub number_field : ℕ → Fault → List ℕ → Result ℕ Fault
 number_field letter too_large field =
-    cond (leb (length field) 1 || not (eqb (get_or field 0 0) letter)) (Counted'.Wrong NoLength)
-    (cond (not (every is_digit (drop 1 field))) (Counted'.Wrong NotADigit)
+    cond (leb (length field) 1 || not (eqb (get_or field 0 0) letter)) (Err NoLength)
+    (cond (not (every is_digit (drop 1 field))) (Err NotADigit)
     (up_to15 (value (drop 1 field)) too_large))
 
 -- the unit field, where nothing is wrong with the channel field
-abbrev pub after_channel : Word → Bool → ℕ → Counted → Asked
-after_channel word on channel (Counted'.Is unit) = Mark (record { 0 = channel }) (record { 0 = unit }) on
-after_channel word on channel (Counted'.Wrong fault) = Wrong word fault
+abbrev pub after_channel : Word → Bool → ℕ → Result ℕ Fault → Asked
+after_channel word on channel (Ok unit) = Mark (record { 0 = channel }) (record { 0 = unit }) on
+after_channel word on channel (Err fault) = Wrong word fault
 
 -- "Fields are looked at left to right": the channel field, and only where nothing is wrong with it the unit field
-abbrev pub channel_then : Word → Bool → Counted → Counted → Asked
-channel_then word on (Counted'.Is channel) unit = after_channel word on channel unit
-channel_then word on (Counted'.Wrong fault) unit = Wrong word fault
+abbrev pub channel_then : Word → Bool → Result ℕ Fault → Result ℕ Fault → Asked
+channel_then word on (Ok channel) unit = after_channel word on channel unit
+channel_then word on (Err fault) unit = Wrong word fault
 
 -- "`Ccc Uuu` naming a unit"; a word that is missing is empty
 unfoldable pub on_unit : Word → Bool → List (List ℕ) → Asked

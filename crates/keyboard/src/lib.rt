@@ -14,7 +14,7 @@ use numbers::{ChannelNumber, UnitNumber};
 use words::Class;
 
 // The four message words.
-#[derive(Clone, Copy)]
+#[derive(Clone, Copy, PartialEq, Eq)]
 pub enum Word {
     Dwn,
     Avl,
@@ -24,18 +24,18 @@ pub enum Word {
 
 // What can be wrong with a field: it is missing, without its letter, or has nothing behind that; a unit or channel
 // number over 15; a nondigit in a number.
-#[derive(Clone, Copy)]
+#[derive(Clone, Copy, PartialEq, Eq)]
 pub enum Fault {
-    NoLength,
-    UnitTooLarge,
-    NotADigit,
-    ChannelTooLarge,
+    NoLength = 1,
+    UnitTooLarge = 5,
+    NotADigit = 10,
+    ChannelTooLarge = 12,
 }
 
 // What a message asks for. Unknown: it has no message word of ours, or text after its last field. Wrong: its word, and
 // the first fault of its fields. Mark: DWN sets the down mark of the unit, AVL clears it. The ID of a release, SEL, or
 // a deletion, DEL, stands beside.
-#[derive(Clone, Copy)]
+#[derive(Clone, Copy, PartialEq, Eq)]
 pub enum Asked {
     Unknown,
     Wrong(Word, Fault),
@@ -45,29 +45,17 @@ pub enum Asked {
 }
 
 // A message: what it asks for, with the ID that it names, blanks where it names none.
-#[derive(Clone, Copy)]
+#[derive(Clone, Copy, PartialEq, Eq)]
 pub struct Message {
     pub asks: Asked,
     pub id: [u8; 6],
-}
-
-// What a field with a number says: the number, 0 to 15, or its first fault.
-#[derive(Clone, Copy)]
-enum Counted {
-    Is(u8),
-    Wrong(Fault),
 }
 
 // A fault's number.
 pub fn number_of(fault: Fault) -> u8
     ensures { result ≡ fault_number fault }
 {
-    match fault {
-        Fault::NoLength => 1,
-        Fault::UnitTooLarge => 5,
-        Fault::NotADigit => 10,
-        Fault::ChannelTooLarge => 12,
-    }
+    fault as u8
 }
 
 // The word at an index of a message, the first at 0; empty where there is none. Spaces before, behind and between words
@@ -77,6 +65,7 @@ fn word_at(message: &[u8], k: usize) -> &[u8]
 {
     let mut left = k;
     let mut at: usize = 0;
+    // Stays: a turn goes on by a word and its space, and not by one.
     loop {
         let len = words::until(&message[at..], b' ');
         let end = at + len;
@@ -97,10 +86,7 @@ fn word_at(message: &[u8], k: usize) -> &[u8]
 fn is_message(message: &[u8], mc: &[u8], most: usize) -> bool
     ensures { result ≡ is_message mc.now most (message_words message.now) }
 {
-    if !words::is_same(word_at(message, 0), mc) {
-        return false;
-    }
-    word_at(message, most).len() == 0
+    word_at(message, 0) == mc && word_at(message, most).is_empty()
 }
 
 // The number that digits write, or 16 if it is larger: once it is past 15 it stays so, however many digits follow.
@@ -109,46 +95,40 @@ fn small_value(digits: &[u8]) -> u8
     ensures { result ≡ min (value digits.now) 16 }
 {
     let mut n: u8 = 0;
-    let mut i: usize = 0;
-    while i < digits.len() {
-        n = n * 10 + (digits[i] - b'0');
+    for b in digits {
+        n = n * 10 + (*b - b'0');
         if 15 < n {
             return 16;
         }
-        i += 1;
     }
     n
 }
 
-// What a field with a number says: its letter, and digits behind it.
-fn number_field(letter: u8, large: Fault, field: &[u8]) -> Counted
+// What a field with a number says: its letter, and digits behind it that write the number, 0 to 15; or its first fault.
+fn number_field(letter: u8, large: Fault, field: &[u8]) -> Result<u8, Fault>
     ensures { result ≡ number_field letter large field.now }
 {
     if field.len() <= 1 {
-        return Counted::Wrong(Fault::NoLength);
+        return Err(Fault::NoLength);
     }
-    if text::byte_at(field, 0) != letter {
-        return Counted::Wrong(Fault::NoLength);
+    if field[0] != letter {
+        return Err(Fault::NoLength);
     }
     let digits = &field[1..];
     if !words::all_of(Class::Digit, digits) {
-        return Counted::Wrong(Fault::NotADigit);
+        return Err(Fault::NotADigit);
     }
     let number = small_value(digits);
-    if 15 < number {
-        return Counted::Wrong(large);
-    }
-    Counted::Is(number)
+    if 15 < number { Err(large) } else { Ok(number) }
 }
 
 // The unit field, behind a channel.
 fn after_channel(word: Word, on: bool, channel: u8, field: &[u8]) -> Asked
     ensures { result ≡ after_channel word on channel (number_field (byte "U") UnitTooLarge field.now) }
 {
-    let unit = number_field(b'U', Fault::UnitTooLarge, field);
-    match unit {
-        Counted::Is(u) => Asked::Mark(ChannelNumber(channel), UnitNumber(u), on),
-        Counted::Wrong(fault) => Asked::Wrong(word, fault),
+    match number_field(b'U', Fault::UnitTooLarge, field) {
+        Ok(unit) => Asked::Mark(ChannelNumber(channel), UnitNumber(unit), on),
+        Err(fault) => Asked::Wrong(word, fault),
     }
 }
 
@@ -156,18 +136,18 @@ fn after_channel(word: Word, on: bool, channel: u8, field: &[u8]) -> Asked
 fn on_unit(word: Word, on: bool, message: &[u8]) -> Asked
     ensures { result ≡ on_unit word on (message_words message.now) }
 {
-    let channel = number_field(b'C', Fault::ChannelTooLarge, word_at(message, 1));
-    match channel {
-        Counted::Is(c) => after_channel(word, on, c, word_at(message, 2)),
-        Counted::Wrong(fault) => Asked::Wrong(word, fault),
+    match number_field(b'C', Fault::ChannelTooLarge, word_at(message, 1)) {
+        Ok(channel) => after_channel(word, on, channel, word_at(message, 2)),
+        Err(fault) => Asked::Wrong(word, fault),
     }
 }
 
 // A message on a request: the ID.
+#[tactic(auto, unfolding(crate::specs::Messages::on_request))]
 fn on_request(word: Word, call: Asked, message: &[u8]) -> Asked
     ensures { result ≡ on_request word call (message_words message.now) }
 {
-    if word_at(message, 1).len() == 0 {
+    if word_at(message, 1).is_empty() {
         return Asked::Wrong(word, Fault::NoLength);
     }
     call

@@ -1,12 +1,11 @@
 -- An answer has at most twelve characters, whatever was asked for and told: three for mc, and a number of two digits at
 -- most. Assumes nothing.
 use Prim.Native.Nat.{ℕ, ◌≤◌, ◌<◌}
-use mathlib.Core.Path.{◌≡◌, sym, ◌∙◌}
+use mathlib.Core.Path.{◌≡◌}
 use mathlib.Core.List.{List, ◌++◌}
 use native.Mathlib.Omega.{arith}
 use lib.Dec.{eqb}
 use lib.ListN.{length, length-append}
-use borrow.Author.Tests.{eq-eqb, ne_eqb}
 use Rattle.numbers.proofs.Tests.{by_bool}
 use Rattle.numbers.proofs.RefusalLaws.{two_digits}
 use Rattle.numbers.specs.Quoted.{bytes}
@@ -25,20 +24,8 @@ use Rattle.keyboard.specs.declared.Fault.{Fault}
 use Rattle.keyboard.specs.declared.Fault.TheVariants.{NoLength, UnitTooLarge, NotADigit, ChannelTooLarge}
 use Rattle.keyboard.specs.declared.Word.{Word}
 use Rattle.keyboard.specs.declared.Word.TheVariants.{Dwn, Avl, Sel, Del}
-use Rattle.keyboard_answers.specs.MessageAnswers.{word_text, mark_word, mc_of, shown_number, error_text, said_text, told_text, answer_text}
-use Rattle.keyboard_answers.specs.declared.Told.{Told}
-use Rattle.keyboard_answers.specs.declared.Told.TheVariants.{Said, Mistyped}
-
--- ---- refusal 1, and any other
-
-module _ (refusal : Refusal) (n : ℕ) (is : n ≡ number_of refusal) where
-  pub shown-31 : n ≡ 1 → 31 ≡ shown_number refusal
-  unfolding shown_number
-  shown-31 e = rw (eq-eqb (number_of refusal) 1 (sym is ∙ e))
-
-  pub shown-own : (n ≡ 1 → ⊥) → n ≡ shown_number refusal
-  unfolding shown_number
-  shown-own e = rw (ne_eqb (number_of refusal) 1 (λ q. e (is ∙ q))) is
+use Rattle.keyboard_answers.specs.MessageAnswers.{word_text, mark_word, mc_of, shown_number, error_text, said_text, told_text, answer_text, Told}
+use Rattle.std.specs.Prelude.{Ok, Err}
 
 -- ---- lengths
 
@@ -65,8 +52,8 @@ said-short (Answer'.Closed place leaving) = omega arith
 said-short (Answer'.Refused refusal) = error-short (shown_number refusal) (shown-few refusal)
 
 told-short : (told : Told) → length (told_text told) ≤ 9
-told-short (Said answer) = said-short answer
-told-short (Mistyped fault) = error-short (fault_number fault) (fault-few fault)
+told-short (Ok answer) = said-short answer
+told-short (Err fault) = error-short (fault_number fault) (fault-few fault)
 
 word-short : (word : Word) → length (word_text word) ≤ 3
 word-short Dwn = omega arith

@@ -1,19 +1,18 @@
 -- WHAT IS ANSWERED TO A KEYBOARD MESSAGE (02, request 1), to the byte. It "answers `mc ACK`, or `mc ee IN ER` with the
 -- error or refusal number". A reader has to believe this page.
-use Rattle.std.specs.Prelude.{ℕ, Bool, true, false, cond, List, ◌++◌, eqb}
+use Rattle.std.specs.Prelude.{ℕ, Bool, true, false, cond, List, ◌++◌, eqb, Result, Ok, Err}
 use Rattle.numbers.specs.Quoted.{bytes}
 use Rattle.numbers.specs.Refusals.{number_of}
 use Rattle.numbers.specs.declared.Refusal.{Refusal}
 use Rattle.text.specs.Writing.{decimal_text}
 use Rattle.packets.specs.declared.Answer.{Answer}
 use Rattle.packets.specs.declared.Answer.TheVariants as Answer'
+use Rattle.keyboard.specs.declared.Fault.{Fault}
 use Rattle.keyboard.specs.Messages.{fault_number}
 use Rattle.keyboard.specs.declared.Asked.{Asked}
 use Rattle.keyboard.specs.declared.Asked.TheVariants as Asked'
 use Rattle.keyboard.specs.declared.Word.{Word}
 use Rattle.keyboard.specs.declared.Word.TheVariants.{Dwn, Avl, Sel, Del}
-use Rattle.keyboard_answers.specs.declared.Told.{Told}
-use Rattle.keyboard_answers.specs.declared.Told.TheVariants.{Said, Mistyped}
 
 -- a message word, in the bulletin's spelling
 abbrev pub word_text : Word → List ℕ
@@ -55,11 +54,15 @@ said_text (Answer'.Completed place packet leaving) = done_text
 said_text (Answer'.Closed place leaving) = done_text
 said_text (Answer'.Refused refusal) = error_text (shown_number refusal)
 
+-- what is told: what the call answered, or the first fault of a message in error
+abbrev pub Told : Type 0
+Told = Result Answer Fault
+
 -- what was told: what the call answered, or of a message in error its first fault. An unknown message, which is no
 -- call, is told as one that was refused
 abbrev pub told_text : Told → List ℕ
-told_text (Said answer) = said_text answer
-told_text (Mistyped fault) = error_text (fault_number fault)
+told_text (Ok answer) = said_text answer
+told_text (Err fault) = error_text (fault_number fault)
 
 -- THE ANSWER to a message that asks for this and was told that
 abbrev pub answer_text : Asked → Told → List ℕ

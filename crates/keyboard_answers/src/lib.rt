@@ -2,30 +2,27 @@
 #![tactic(auto)]
 
 ghost use Rattle.std.specs.Prelude.{◌≡◌};
-ghost use Rattle.text.specs.Room.{Whole, Written};
+ghost use Rattle.text.specs.Room.{Whole, Puts};
 ghost use Rattle.keyboard_answers.specs.MessageAnswers.{word_text, mark_word, mc_of, shown_number, error_text, said_text, told_text, answer_text};
 
 use keyboard::{Asked, Fault, Word};
 use numbers::Refusal;
 use packets::Answer;
+use text::room::Room;
 
 // What the operator is told: what the call answered that the message is, or its first fault. An unknown message is told
 // as a call that was refused.
-#[derive(Clone, Copy)]
-pub enum Told {
-    Said(Answer),
-    Mistyped(Fault),
-}
+pub type Told = Result<Answer, Fault>;
 
 // Puts a message word.
-fn put_word(out: &mut [u8], word: Word) -> usize
-    ensures { Written out.old 0 (word_text word) out.new result }
+fn put_word(out: &mut Room, word: Word)
+    ensures { Puts out.old (word_text word) out.new }
 {
     match word {
-        Word::Dwn => text::put_bytes(out, 0, b"DWN"),
-        Word::Avl => text::put_bytes(out, 0, b"AVL"),
-        Word::Sel => text::put_bytes(out, 0, b"SEL"),
-        Word::Del => text::put_bytes(out, 0, b"DEL"),
+        Word::Dwn => out.put_bytes(b"DWN"),
+        Word::Avl => out.put_bytes(b"AVL"),
+        Word::Sel => out.put_bytes(b"SEL"),
+        Word::Del => out.put_bytes(b"DEL"),
     }
 }
 
@@ -33,18 +30,15 @@ fn put_word(out: &mut [u8], word: Word) -> usize
 fn mark_word(on: bool) -> Word
     ensures { result ≡ mark_word on }
 {
-    if on {
-        return Word::Dwn;
-    }
-    Word::Avl
+    if on { Word::Dwn } else { Word::Avl }
 }
 
 // Puts what stands for mc.
-fn put_mc(out: &mut [u8], asks: Asked) -> usize
-    ensures { Written out.old 0 (mc_of asks) out.new result }
+fn put_mc(out: &mut Room, asks: Asked)
+    ensures { Puts out.old (mc_of asks) out.new }
 {
     match asks {
-        Asked::Unknown => text::put_bytes(out, 0, b"---"),
+        Asked::Unknown => out.put_bytes(b"---"),
         Asked::Wrong(word, _) => put_word(out, word),
         Asked::Mark(_, _, on) => put_word(out, mark_word(on)),
         Asked::Release => put_word(out, Word::Sel),
@@ -53,45 +47,42 @@ fn put_mc(out: &mut [u8], asks: Asked) -> usize
 }
 
 // The number that a refusal shows as.
+#[tactic(auto, unfolding(crate::specs::MessageAnswers::shown_number))]
 fn shown_number(refusal: Refusal) -> u8
     ensures { result ≡ shown_number refusal }
 {
     let n = numbers::number_of(refusal);
-    if n == 1 {
-        return 31;
-    }
-    n
+    if n == 1 { 31 } else { n }
 }
 
 // Puts ` ee IN ER`.
-fn put_error(out: &mut [u8], at: usize, n: u8) -> usize
-    ensures { Written out.old at (error_text n) out.new result }
+fn put_error(out: &mut Room, n: u8)
+    ensures { Puts out.old (error_text n) out.new }
 {
-    let space = text::put_byte(out, at, b' ');
-    let number = text::put_decimal(out, space, n as u64);
-    text::put_bytes(out, number, b" IN ER")
+    out.put_byte(b' ');
+    out.put_decimal(n as u64);
+    out.put_bytes(b" IN ER");
 }
 
 // Puts what the call answered.
-fn put_said(out: &mut [u8], at: usize, answer: Answer) -> usize
-    ensures { Written out.old at (said_text answer) out.new result }
+fn put_said(out: &mut Room, answer: Answer)
+    ensures { Puts out.old (said_text answer) out.new }
 {
     match answer {
-        Answer::Done => text::put_bytes(out, at, b" ACK"),
-        Answer::Started(_) => text::put_bytes(out, at, b" ACK"),
-        Answer::Completed(_, _, _) => text::put_bytes(out, at, b" ACK"),
-        Answer::Closed(_, _) => text::put_bytes(out, at, b" ACK"),
-        Answer::Refused(refusal) => put_error(out, at, shown_number(refusal)),
+        Answer::Done | Answer::Started(_) | Answer::Completed(_, _, _) | Answer::Closed(_, _) => {
+            out.put_bytes(b" ACK")
+        }
+        Answer::Refused(refusal) => put_error(out, shown_number(refusal)),
     }
 }
 
 // Puts what was told.
-fn put_told(out: &mut [u8], at: usize, told: Told) -> usize
-    ensures { Written out.old at (told_text told) out.new result }
+fn put_told(out: &mut Room, told: Told)
+    ensures { Puts out.old (told_text told) out.new }
 {
     match told {
-        Told::Said(answer) => put_said(out, at, answer),
-        Told::Mistyped(fault) => put_error(out, at, keyboard::number_of(fault)),
+        Ok(answer) => put_said(out, answer),
+        Err(fault) => put_error(out, keyboard::number_of(fault)),
     }
 }
 
@@ -100,6 +91,8 @@ fn put_told(out: &mut [u8], at: usize, told: Told) -> usize
 pub fn put(out: &mut [u8; 12], asks: Asked, told: Told) -> usize
     ensures { Whole (answer_text asks told) out.old out.new result }
 {
-    let end = put_mc(out, asks);
-    put_told(out, end, told)
+    let mut room = Room { bytes: out, at: 0 };
+    put_mc(&mut room, asks);
+    put_told(&mut room, told);
+    room.at
 }

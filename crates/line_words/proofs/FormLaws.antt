@@ -71,6 +71,11 @@ pub number-value : (base : Base) (s : List ℕ) → is_number base s ≡ true �
 unfolding number_in
 number-value base s e = rw e
 
+-- no base has more than ten digits
+pub base-small : (base : Base) → base_of base ≤ 10
+base-small Decimal = omega arith
+base-small Octal = omega arith
+
 -- one digit further
 pub digit_at : (s : List ℕ) (i : ℕ) → every is_digit s ≡ true → i < length s → (48 ≤ get_or s i 0) × (get_or s i 0 ≤ 57)
 digit_at [] i e h = absurd (omega arith)

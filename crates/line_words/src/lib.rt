@@ -4,13 +4,13 @@
 ghost use Rattle.std.specs.Prelude.{◌≡◌, true, [], ◌≤◌, length, get_or};
 ghost use Rattle.words.specs.Words.{every};
 ghost use Rattle.text.specs.Class.{is_digit};
-ghost use Rattle.line_words.specs.Forms.{words_of, is_number, value_in, number_in, word_fits, fitting, id_of};
+ghost use Rattle.line_words.specs.Forms.{words_of, is_number, value_in, number_in, base_of, word_fits, fitting, id_of};
 
 // How a word writes a number: in decimal, or, where the script says `ff`, in octal.
-#[derive(Clone, Copy)]
+#[derive(Clone, Copy, PartialEq, Eq)]
 pub enum Base {
-    Decimal,
-    Octal,
+    Decimal = 10,
+    Octal = 8,
 }
 
 // The word at an index of a line, the first at 0; empty where there is none.
@@ -19,6 +19,7 @@ fn word_at(line: &[u8], k: usize) -> &[u8]
 {
     let mut left = k;
     let mut at: usize = 0;
+    // Stays: a turn goes on by a word and its space, and not by one.
     loop {
         let len = words::until(&line[at..], b' ');
         let end = at + len;
@@ -49,16 +50,21 @@ fn is_number(base: Base, word: &[u8]) -> bool
     }
 }
 
+// How many digits a base has.
+fn base_of(base: Base) -> u32
+    ensures { result ≡ base_of base }
+{
+    base as u32
+}
+
 // The number that digits write: nine of them stay within 32 bits.
 fn value_of(base: u32, word: &[u8]) -> u32
     requires { (base ≤ 10) × ((length word.now ≤ 9) × (every is_digit word.now ≡ true)) }
     ensures { result ≡ value_in base 0 word.now }
 {
     let mut n: u32 = 0;
-    let mut i: usize = 0;
-    while i < word.len() {
-        n = n * base + (word[i] - b'0') as u32;
-        i += 1;
+    for b in word {
+        n = n * base + (*b - b'0') as u32;
     }
     n
 }
@@ -71,10 +77,7 @@ pub fn number_at(base: Base, line: &[u8], k: usize) -> u32
     if !is_number(base, word) {
         return 0;
     }
-    match base {
-        Base::Decimal => value_of(10, word),
-        Base::Octal => value_of(8, word),
-    }
+    value_of(base_of(base), word)
 }
 
 // Whether a word of a line is what a word of a form asks for.
@@ -99,6 +102,7 @@ pub fn fits(line: &[u8], form: &[u8]) -> bool
 {
     let mut at: usize = 0;
     let mut on: usize = 0;
+    // Stays: a turn goes on by a word of the line and one of the form, and not by one.
     loop {
         let len = words::until(&line[at..], b' ');
         let end = at + len;
@@ -126,10 +130,8 @@ pub fn id_of(word: &[u8]) -> [u8; 6]
     if 6 < word.len() {
         return id;
     }
-    let mut i: usize = 0;
-    while i < word.len() {
-        id[i] = word[i];
-        i += 1;
+    for (i, b) in word.iter().enumerate() {
+        id[i] = *b;
     }
     id
 }

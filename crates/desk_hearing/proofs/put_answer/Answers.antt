@@ -11,4 +11,4 @@ pub returns : goal.returns
 returns c =
     answered (subst (λ (part : List ℕ). Shows c.args.id.now c.args.repair.now c.args.day.now c.find-found.result part) (sym c.part_of.ensures)
     c.find-found.ensures)
-    (search rules) c.put_bytes-end.ensures c.put_closing.ensures
+    (search rules) c.put_bytes.ensures.written c.put_closing.ensures.written

@@ -1,11 +1,7 @@
 -- `desk_show::opens_for` meets its contract: by its two fields. Assumes nothing.
 use Rattle.desk_show.proofs.opens_for.Goals as goal
 use mathlib.Core.Path.{sym, ◌∙◌}
-use Rattle.desk_show.proofs.IdLaws.{opens_not, opens-no-id, opens-is}
-
-pub returns-then-not-field_is : goal.returns-then-not-field_is
-returns-then-not-field_is c =
-    opens_not c.args.id.now c.args.card.now (sym c.field_is.ensures ∙ c.if-not-field_is.true)
+use Rattle.desk_show.proofs.IdLaws.{opens-no-id, opens-is}
 
 pub returns-then-not-is_id : goal.returns-then-not-is_id
 returns-then-not-is_id c =

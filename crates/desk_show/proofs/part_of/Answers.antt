@@ -1,19 +1,26 @@
 -- `desk_show::part_of` meets its contract: the span lies in the deck that it is of. Assumes nothing.
+use mathlib.Core.Path.{◌≡◌}
+use borrow.Author.Rules.{rules}
+use Rattle.desk_show.specs.declared.Which.TheVariants.{Repair, Day}
 use Rattle.desk_show.proofs.PartLaws.{in-repair, in-day}
 use Rattle.desk_show.proofs.part_of.Goals as goal
 
 pub slice_bounds-result-count : goal.slice_bounds-result-count
 slice_bounds-result-count c =
-    (in-repair c.args.repair.now c.args.day.now c.args.found c.span_of-span.ensures c.if-span.true).0
+    let w : c.span_of-span.result.which ≡ Repair = search rules in
+    (in-repair c.args.repair.now c.args.day.now c.args.found c.span_of-span.ensures w).0
 
-pub returns-then-span : goal.returns-then-span
-returns-then-span c =
-    (in-repair c.args.repair.now c.args.day.now c.args.found c.span_of-span.ensures c.if-span.true).2
+pub returns-then-eq : goal.returns-then-eq
+returns-then-eq c =
+    let w : c.span_of-span.result.which ≡ Repair = search rules in
+    (in-repair c.args.repair.now c.args.day.now c.args.found c.span_of-span.ensures w).2
 
 pub slice_bounds-result-count-2 : goal.slice_bounds-result-count-2
 slice_bounds-result-count-2 c =
-    (in-day c.args.repair.now c.args.day.now c.args.found c.span_of-span.ensures c.if-span.false).0
+    let w : c.span_of-span.result.which ≡ Day = search rules in
+    (in-day c.args.repair.now c.args.day.now c.args.found c.span_of-span.ensures w).0
 
 pub returns : goal.returns
 returns c =
-    (in-day c.args.repair.now c.args.day.now c.args.found c.span_of-span.ensures c.if-span.false).2
+    let w : c.span_of-span.result.which ≡ Day = search rules in
+    (in-day c.args.repair.now c.args.day.now c.args.found c.span_of-span.ensures w).2

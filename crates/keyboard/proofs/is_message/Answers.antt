@@ -3,12 +3,14 @@ use mathlib.Core.Path.{sym, ◌∙◌}
 use Rattle.keyboard.proofs.MessageLaws.{other_word, this-word}
 use Rattle.keyboard.proofs.is_message.Goals as goal
 
-pub returns-then-not-is_same : goal.returns-then-not-is_same
-returns-then-not-is_same c =
-    other_word c.args.message.now c.args.mc.now c.word_at.result.now c.args.most c.word_at.ensures
-    (sym c.is_same.ensures ∙ c.if-not-is_same.true)
+pub returns-then-eq : goal.returns-then-eq
+returns-then-eq c =
+    c.is_empty.ensures
+    ∙ this-word c.args.message.now c.args.mc.now c.word_at.result.now c.args.most c.word_at.ensures
+    (sym c.eq.ensures ∙ c.if-eq.true) c.word_at-then-eq.result.now c.word_at-then-eq.ensures
 
-pub returns : goal.returns
-returns c =
-    this-word c.args.message.now c.args.mc.now c.word_at.result.now c.args.most c.word_at.ensures
-    (sym c.is_same.ensures ∙ c.if-not-is_same.false) c.word_at-2.result.now c.word_at-2.ensures
+pub returns-else-eq : goal.returns-else-eq
+returns-else-eq c =
+    c.if-eq.false
+    ∙ other_word c.args.message.now c.args.mc.now c.word_at.result.now c.args.most c.word_at.ensures
+    (sym c.eq.ensures ∙ c.if-eq.false)

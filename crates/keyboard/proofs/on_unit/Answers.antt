@@ -3,12 +3,12 @@ use mathlib.Core.Path.{◌∙◌}
 use Rattle.keyboard.specs.Messages.{on_unit}
 use Rattle.keyboard.proofs.on_unit.Goals as goal
 
-pub returns-in-Is : goal.returns-in-Is
+pub returns-in-Ok : goal.returns-in-Ok
 unfolding on_unit
-returns-in-Is c =
-    c.after_channel.ensures ∙ rw (c.word_at-in-Is.ensures, ← c.word_at.ensures, ← c.number_field-channel.ensures, c.in-Is.is)
+returns-in-Ok c =
+    c.after_channel.ensures ∙ rw (c.word_at-in-Ok.ensures, ← c.word_at.ensures, ← c.number_field.ensures, c.in-Ok.is)
 
-pub returns-in-Wrong : goal.returns-in-Wrong
+pub returns-in-Err : goal.returns-in-Err
 unfolding on_unit
-returns-in-Wrong c =
-    rw (← c.word_at.ensures, ← c.number_field-channel.ensures, c.in-Wrong.is)
+returns-in-Err c =
+    rw (← c.word_at.ensures, ← c.number_field.ensures, c.in-Err.is)

@@ -1,7 +1,6 @@
 -- `line_words::id_of` meets its contract. The loop's invariant: the first i bytes of the word, and blanks. Assumes
 -- nothing.
 use mathlib.Core.Path.{sym, ap, ◌∙◌}
-use native.Mathlib.Omega.{arith}
 use lib.Seq.{take_all}
 use Rattle.cards_fields.specs.Fields.{padded}
 use Rattle.line_words.proofs.FormLaws.{id-long, id-short, id-step}
@@ -12,9 +11,9 @@ returns-then-word-gt6 c = sym (id-long c.args.word.now c.if-word-gt6.true)
 
 pub loop-i-preserved : goal.loop-i-preserved
 loop-i-preserved c =
-    ((omega arith, omega arith), rw c.loop-i.invariant.1 (id-step c.args.word.now c.loop-i.i c.loop-i-test.true))
+    rw c.loop-i.invariant (id-step c.args.word.now c.loop-i.i c.loop-i-test.true)
 
 pub returns : goal.returns
 returns c =
-    c.loop-i.invariant.1 ∙ ap (padded 6) (take_all c.loop-i.i c.args.word.now c.loop-i-test.false)
+    c.loop-i.invariant ∙ ap (padded 6) (take_all c.loop-i.i c.args.word.now c.loop-i-test.false)
     ∙ sym (id-short c.args.word.now c.if-word-gt6.false)
