@@ -1,6 +1,6 @@
 -- What the calls answer, by the tests that led there. Assumes nothing.
 use Prim.Native.Nat.{ℕ, ◌≤◌, ◌<◌}
-use mathlib.Core.Path.{◌≡◌, sym, ap, ◌∙◌}
+use mathlib.Core.Path.{◌≡◌, refl, sym, ap, ◌∙◌}
 use mathlib.Core.Bool.{Bool, true, false}
 use mathlib.Core.List.{List}
 use native.Mathlib.Omega.{arith}
@@ -8,41 +8,32 @@ use lib.ListN.{length, get_or}
 use borrow.Author.Tests.{lt-ltb, le-ltb, le-leb, lt-leb}
 use Rattle.numbers.specs.declared.Refusal.TheVariants.{NoSuchRequest, JobRuns}
 use Rattle.schedule_entries.specs.Entries.{suspended, active, blank}
-use Rattle.schedule_entries.specs.Questions.{answers}
 use Rattle.schedule_entries.specs.declared.State.{State}
 use Rattle.schedule_entries.specs.declared.State.TheVariants.{Waiting, Suspended, Closing}
 use Rattle.schedule_entries.specs.declared.Entry.{Entry}
-use Rattle.schedule_entries.specs.declared.Query.{Query}
 use Rattle.schedule_list.specs.InSchedule.{in_schedule, schedule_of, there, with_state, changed_at}
-use Rattle.schedule_list.specs.Queries.{first, without, of_id, of_place}
-use Rattle.schedule_list.proofs.IndexLaws.{first_by}
+use Rattle.schedule_list.specs.Queries.{without}
+use Rattle.schedule_list.proofs.InScheduleLaws.{at-any}
 use Rattle.schedule_list.specs.declared.Schedule.{Schedule}
 use Rattle.schedule.specs.Calls.{refused, done}
 use Rattle.schedule.specs.Calls.{released, deleted, closing, returned}
 use Rattle.schedule.specs.ByIndex.{of_name, of_job, released_at, deleted_at, returned_at}
 use Rattle.schedule.proofs.ByIndexLaws.{released-at, deleted-at, closing_at, returned-at}
 
--- the index that was looked for
-pub named-index : (hs : List Entry) (id : List ℕ) {q : Query} {k : ℕ} → q ≡ of_id id → k ≡ first (answers q.question q) hs → k ≡ of_name id hs
-named-index hs id = first_by hs (of_id id)
-
-job-index : (hs : List Entry) (place : ℕ) {q : Query} {k : ℕ} → q ≡ of_place place → k ≡ first (answers q.question q) hs → k ≡ of_job place hs
-job-index hs place = first_by hs (of_place place)
-
--- the calls at that index
-module _ (s : Schedule) (id : List ℕ) {q : Query} {k : ℕ} (e : q ≡ of_id id) (f : k ≡ first (answers q.question q) (in_schedule s)) where
+-- the calls at the index that was found
+module _ (s : Schedule) (id : List ℕ) {k : ℕ} (f : k ≡ of_name id (in_schedule s)) where
   pub released-by : released_at k s ≡ released s id
-  released-by = ap (λ (n : ℕ). released_at n s) (named-index (in_schedule s) id e f) ∙ released-at s id
+  released-by = ap (λ (n : ℕ). released_at n s) f ∙ released-at s id
 
   pub deleted-by : deleted_at k s ≡ deleted s id
-  deleted-by = ap (λ (n : ℕ). deleted_at n s) (named-index (in_schedule s) id e f) ∙ deleted-at s id
+  deleted-by = ap (λ (n : ℕ). deleted_at n s) f ∙ deleted-at s id
 
-module _ (s : Schedule) (place : ℕ) {q : Query} {k : ℕ} (e : q ≡ of_place place) (f : k ≡ first (answers q.question q) (in_schedule s)) where
+module _ (s : Schedule) (place : ℕ) {k : ℕ} (f : k ≡ of_job place (in_schedule s)) where
   pub closing-by : changed_at k (Closing place) s ≡ closing s place
-  closing-by = ap (λ (n : ℕ). changed_at n (Closing place) s) (job-index (in_schedule s) place e f) ∙ closing_at s place
+  closing-by = ap (λ (n : ℕ). changed_at n (Closing place) s) f ∙ closing_at s place
 
   pub returned-by : (x : Bool) → returned_at k s x ≡ returned s place x
-  returned-by x = ap (λ (n : ℕ). returned_at n s x) (job-index (in_schedule s) place e f) ∙ returned-at s place x
+  returned-by x = ap (λ (n : ℕ). returned_at n s x) f ∙ returned-at s place x
 
 -- whether there is a request at an index
 module _ (hs : List Entry) (k : ℕ) {n : ℕ} (size : n ≡ length hs) where
@@ -110,3 +101,26 @@ module _ (s : Schedule) (k : ℕ) {n : ℕ} (size : n ≡ length (in_schedule s)
     unfolding returned_at
     return-removes x p q =
         rw (here (in_schedule s) k size h, p, lt-leb 1 (get_or (in_schedule s) k blank).request.sequence (omega (arith, sequence-is)))
+
+  -- what stands at an index of the requests
+  pub stands : {l : List Entry} (d : Entry) → l ≡ in_schedule s → k < n → get_or l k d ≡ get_or (in_schedule s) k blank
+  stands d e h = ap (λ (l : List Entry). get_or l k d) e ∙ at-any (in_schedule s) k d blank (omega arith)
+
+-- none was found
+module _ (s : Schedule) (id : List ℕ) (h : length (in_schedule s) ≤ of_name id (in_schedule s)) where
+  pub released-none : refused NoSuchRequest s ≡ released s id
+  released-none = release-none s (of_name id (in_schedule s)) refl h ∙ released-at s id
+
+  pub deleted-none : refused NoSuchRequest s ≡ deleted s id
+  deleted-none = delete-none s (of_name id (in_schedule s)) refl h ∙ deleted-at s id
+
+module _ (s : Schedule) (place : ℕ) (h : length (in_schedule s) ≤ of_job place (in_schedule s)) where
+  unchanged : s ≡ changed_at (of_job place (in_schedule s)) (Closing place) s
+  unfolding changed_at
+  unchanged = rw (gone (in_schedule s) (of_job place (in_schedule s)) refl h)
+
+  pub closing-none : s ≡ closing s place
+  closing-none = unchanged ∙ closing_at s place
+
+  pub returned-none : (x : Bool) → s ≡ returned s place x
+  returned-none x = return-none s (of_job place (in_schedule s)) refl x h ∙ returned-at s place x

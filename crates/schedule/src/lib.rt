@@ -4,14 +4,16 @@
 ghost use Rattle.std.specs.Prelude.{◌≡◌};
 ghost use Rattle.schedule.specs.Calls.{released, deleted, taken, closing, returned, refused, done};
 
-use numbers::{Outcome, Refusal};
+use numbers::Refusal;
 use schedule_entries::State;
 use schedule_list::Schedule;
 
 // What release and delete answer: a refusal and the schedule as it was, or the schedule that follows.
+// Stays: the clause of a refusal (Calls: refused) speaks of the schedule, and `after` of schedule_orderly and the cell's
+// theorems read it there.
 #[derive(Clone, Copy)]
 pub struct Changed {
-    pub outcome: Outcome,
+    pub outcome: Result<(), Refusal>,
     pub schedule: Schedule,
 }
 
@@ -20,7 +22,7 @@ fn refused(schedule: Schedule, refusal: Refusal) -> Changed
     ensures { result ≡ refused refusal schedule }
 {
     Changed {
-        outcome: Outcome::Refused(refusal),
+        outcome: Err(refusal),
         schedule,
     }
 }
@@ -30,7 +32,7 @@ fn done(schedule: Schedule) -> Changed
     ensures { result ≡ done schedule }
 {
     Changed {
-        outcome: Outcome::Done,
+        outcome: Ok(()),
         schedule,
     }
 }
@@ -39,13 +41,10 @@ fn done(schedule: Schedule) -> Changed
 pub fn release(schedule: Schedule, id: [u8; 6]) -> Changed
     ensures { result ≡ released schedule id }
 {
-    let k = schedule_list::first_of(schedule, schedule_list::of_id(id));
-    if schedule_list::size(schedule) <= k {
+    let Some(k) = schedule.of_id(id) else {
         return refused(schedule, Refusal::NoSuchRequest);
-    }
-    let entry = schedule_list::entry_at(schedule, k);
-    let state = entry.state;
-    if schedule_entries::is_suspended(state) {
+    };
+    if schedule_entries::is_suspended(schedule.requests()[k].state) {
         return done(schedule_list::changed_at(schedule, k, State::Waiting));
     }
     refused(schedule, Refusal::NoSuchRequest)
@@ -55,13 +54,10 @@ pub fn release(schedule: Schedule, id: [u8; 6]) -> Changed
 pub fn delete(schedule: Schedule, id: [u8; 6]) -> Changed
     ensures { result ≡ deleted schedule id }
 {
-    let k = schedule_list::first_of(schedule, schedule_list::of_id(id));
-    if schedule_list::size(schedule) <= k {
+    let Some(k) = schedule.of_id(id) else {
         return refused(schedule, Refusal::NoSuchRequest);
-    }
-    let entry = schedule_list::entry_at(schedule, k);
-    let state = entry.state;
-    if schedule_entries::is_active(state) {
+    };
+    if schedule_entries::is_active(schedule.requests()[k].state) {
         return refused(schedule, Refusal::JobRuns);
     }
     done(schedule_list::without(schedule, k))
@@ -78,24 +74,20 @@ pub fn taken(schedule: Schedule, k: usize, place: u8) -> Schedule
 pub fn closing(schedule: Schedule, place: u8) -> Schedule
     ensures { result ≡ closing schedule place }
 {
-    let k = schedule_list::first_of(schedule, schedule_list::of_place(place));
-    schedule_list::changed_at(schedule, k, State::Closing(place))
+    match schedule.of_place(place) {
+        Some(k) => schedule_list::changed_at(schedule, k, State::Closing(place)),
+        None => schedule,
+    }
 }
 
 // The job in a place has returned: its request goes, unless the job ended in error and has a sequence.
 pub fn returned(schedule: Schedule, place: u8, in_error: bool) -> Schedule
     ensures { result ≡ returned schedule place in_error }
 {
-    let k = schedule_list::first_of(schedule, schedule_list::of_place(place));
-    if schedule_list::size(schedule) <= k {
+    let Some(k) = schedule.of_place(place) else {
         return schedule;
-    }
-    let entry = schedule_list::entry_at(schedule, k);
-    let request = entry.request;
-    if !in_error {
-        return schedule_list::without(schedule, k);
-    }
-    if 1 <= request.sequence {
+    };
+    if in_error && 1 <= schedule.requests()[k].request.sequence {
         return schedule_list::changed_at(schedule, k, State::Suspended);
     }
     schedule_list::without(schedule, k)

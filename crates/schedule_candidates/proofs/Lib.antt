@@ -1,3 +1,2 @@
 pub mod CandidateLaws
-pub mod Cases
 pub mod MarkingLaws

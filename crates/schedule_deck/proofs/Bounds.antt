@@ -17,12 +17,12 @@ use Rattle.cards_fields.specs.Fields.{field, spaceless}
 use Rattle.cards_fields.proofs.FieldLaws.{padded-length}
 use Rattle.cards_fields.specs.Deck.{deck_end, deck_groups}
 use Rattle.cards_fields.proofs.Groups.{refused-bad}
-use Rattle.cards_fields.specs.declared.DeckEnd.{DeckEnd}
-use Rattle.cards_fields.specs.declared.DeckEnd.TheVariants.{At, Refused}
+use Rattle.cards_fields.specs.Deck.{DeckEnd}
+use Rattle.std.specs.Prelude.{Ok, Err}
 use Rattle.cards_fac.specs.Fac.{asked}
 use Rattle.cards_group.specs.Group.{read_group, read_cards, ordered_error, request_of, answer}
-use Rattle.cards_request.specs.declared.CardVerdict.{CardVerdict}
-use Rattle.cards_request.specs.declared.CardVerdict.TheVariants.{Good, Wrong}
+use Rattle.cards_request.specs.Errors.{CardVerdict}
+use Rattle.std.specs.Prelude.{Ok, Err}
 use Rattle.cards_request.specs.declared.Request.{Request}
 use Rattle.cards_writing.specs.Writing.{priority_text}
 use Rattle.schedule_entries.specs.declared.Entry.{Entry}
@@ -74,8 +74,8 @@ unfolding read_cards
 read_short g = by (ordered_error (length g) (get_or g 0 []) (get_or g 1 []) (drop 2 g))
   where
     by : (v : CardVerdict) → Short (answer v (request_of (get_or g 0 []) (asked (get_or g 1 [])))).request
-    by Good = omega (arith, padded-length 6 (field (get_or g 0 []) 0))
-    by (Wrong e) = omega arith
+    by (Ok tt) = omega (arith, padded-length 6 (field (get_or g 0 []) 0))
+    by (Err e) = omega arith
 
 record Ids (p : Progress) : Type 0 where
   shown : length p.shown ≤ 6
@@ -86,8 +86,8 @@ unfolding after
 ids-after p g i = record { shown = shown-few (get_or g 0 []) p.shown i.shown; last = by (tried_at p g).verdict }
   where
     by : (v : CardVerdict) → length (last_by v p.last (read_group g).request.id) ≤ 6
-    by Good = read_short g
-    by (Wrong e) = i.last
+    by (Ok tt) = read_short g
+    by (Err e) = i.last
 
 ids-end : (p : Progress) (gs : List (List (List ℕ))) → Ids p → Ids (end_from p gs)
 ids-end p [] i = i
@@ -101,8 +101,8 @@ unfolding group_text
 group-short p g i = by (tried_at p g).verdict
   where
     by : (v : CardVerdict) → length (line_by v (shown_at p g)) ≤ 16
-    by Good = omega arith
-    by (Wrong e) = error-short (shown_at p g) e (shown-few (get_or g 0 []) p.shown i.shown)
+    by (Ok tt) = omega arith
+    by (Err e) = error-short (shown_at p g) e (shown-few (get_or g 0 []) p.shown i.shown)
 
 errors-short : (p : Progress) (gs : List (List (List ℕ))) → Ids p → length (errors_from p gs) ≤ 16 * length gs
 errors-short p [] i = omega arith
@@ -141,7 +141,7 @@ report-short gs h =
       last-short q.last (ids-end p gs (ids-begin (schedule_of []))).last,
     )
 
-refused-short : (s : List ℕ) (refusal : Refusal) → deck_end s ≡ Refused refusal → length (refused_text refusal) ≤ deck_room
+refused-short : (s : List ℕ) (refusal : Refusal) → deck_end s ≡ Err refusal → length (refused_text refusal) ≤ deck_room
 refused-short s refusal e =
     subst (λ (x : Refusal). length (refused_text x) ≤ deck_room) (sym (refused-bad s refusal e))
     (omega (arith, length-append (decimal_text 11) (bytes "\n"), few-digits 1 11 (omega arith)))
@@ -150,15 +150,15 @@ text-short : (s : List ℕ) → length (deck_text s) ≤ deck_room
 text-short s = by (deck_end s) refl
   where
     by : (end : DeckEnd) → deck_end s ≡ end → length (text_by end s) ≤ deck_room
-    by (At n) e = report-short (deck_groups s) (deck-few s n e)
-    by (Refused refusal) e = refused-short s refusal e
+    by (Ok n) e = report-short (deck_groups s) (deck-few s n e)
+    by (Err refusal) e = refused-short s refusal e
 
 deck-notes-short : (schedule : Schedule) (s : List ℕ) → length (deck_notes schedule s) < deck_room
 deck-notes-short schedule s = by (deck_end s) refl
   where
     by : (end : DeckEnd) → deck_end s ≡ end → length (notes_by end schedule s) < deck_room
-    by (At n) e = notes-short schedule (deck_groups s) (deck-few s n e)
-    by (Refused refusal) e = omega arith
+    by (Ok n) e = notes-short schedule (deck_groups s) (deck-few s n e)
+    by (Err refusal) e = omega arith
 
 module _ {room after· : List ℕ} {r : ℕ} (l : length room ≡ deck_room) where
   pub reported : (s : List ℕ) → Written room 0 (deck_text s) after· r → Reported s room after· r

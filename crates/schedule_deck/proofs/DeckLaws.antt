@@ -6,11 +6,11 @@ use Prim.Native.Nat.{ℕ}
 use mathlib.Core.Path.{◌≡◌, refl}
 use mathlib.Core.List.{List, [], ◌∷◌}
 use Rattle.cards_fields.specs.Deck.{deck_end, deck_groups}
-use Rattle.cards_fields.specs.declared.DeckEnd.{DeckEnd}
-use Rattle.cards_fields.specs.declared.DeckEnd.TheVariants.{At, Refused}
+use Rattle.cards_fields.specs.Deck.{DeckEnd}
+use Rattle.std.specs.Prelude.{Ok, Err}
 use Rattle.cards_group.specs.Group.{read_group}
-use Rattle.cards_request.specs.declared.CardVerdict.{CardVerdict}
-use Rattle.cards_request.specs.declared.CardVerdict.TheVariants.{Good, Wrong}
+use Rattle.cards_request.specs.Errors.{CardVerdict}
+use Rattle.std.specs.Prelude.{Ok, Err}
 use Rattle.cards_request.specs.declared.Request.{Request}
 use Rattle.schedule_list.specs.InSchedule.{in_schedule}
 use Rattle.schedule_list.specs.declared.Schedule.{Schedule}
@@ -20,8 +20,8 @@ use Rattle.schedule_deck.specs.Report.{begin, tried_by, after, end_from, schedul
 use Rattle.schedule_deck.specs.declared.Progress.{Progress}
 
 sound-tried : (v : CardVerdict) (s : Schedule) (r : Request) → Sound s → Sound (tried_by v s r).schedule
-sound-tried Good s r d = sound-enter s d r
-sound-tried (Wrong e) s r d = d
+sound-tried (Ok tt) s r d = sound-enter s d r
+sound-tried (Err e) s r d = d
 
 sound-group : (p : Progress) (g : List (List ℕ)) → Sound p.schedule → Sound (after p g).schedule
 unfolding after
@@ -33,12 +33,12 @@ sound-groups p (g ∷ gs) d = sound-groups (after p g) gs (sound-group p g d)
 
 -- what holds of each request
 module _ (P : Request → Type 0) where
-  each-tried : (v : CardVerdict) (s : Schedule) (r : Request) → Sound s → (v ≡ Good → P r) → Each P (requests (in_schedule s))
+  each-tried : (v : CardVerdict) (s : Schedule) (r : Request) → Sound s → (v ≡ Ok tt → P r) → Each P (requests (in_schedule s))
       → Each P (requests (in_schedule (tried_by v s r).schedule))
-  each-tried Good s r d p h = each-enter s d P r (p refl) h
-  each-tried (Wrong e) s r d p h = h
+  each-tried (Ok tt) s r d p h = each-enter s d P r (p refl) h
+  each-tried (Err e) s r d p h = h
 
-  module _ (read : (g : List (List ℕ)) → (read_group g).verdict ≡ Good → P (read_group g).request) where
+  module _ (read : (g : List (List ℕ)) → (read_group g).verdict ≡ Ok tt → P (read_group g).request) where
     each-group : (p : Progress) (g : List (List ℕ)) → Sound p.schedule → Each P (requests (in_schedule p.schedule))
         → Each P (requests (in_schedule (after p g).schedule))
     unfolding after
@@ -53,13 +53,13 @@ module _ (P : Request → Type 0) where
     each-deck s deck d h = by (deck_end deck)
       where
         by : (end : DeckEnd) → Each P (requests (in_schedule (schedule_by end s deck)))
-        by (At n) = each-groups (begin s) (deck_groups deck) d h
-        by (Refused refusal) = h
+        by (Ok n) = each-groups (begin s) (deck_groups deck) d h
+        by (Err refusal) = h
 
 -- AFTER A DECK
 pub sound-deck : (s : Schedule) (deck : List ℕ) → Sound s → Sound (deck_schedule s deck)
 sound-deck s deck d = by (deck_end deck)
   where
     by : (end : DeckEnd) → Sound (schedule_by end s deck)
-    by (At n) = sound-groups (begin s) (deck_groups deck) d
-    by (Refused refusal) = d
+    by (Ok n) = sound-groups (begin s) (deck_groups deck) d
+    by (Err refusal) = d

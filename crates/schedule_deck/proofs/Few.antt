@@ -13,7 +13,7 @@ use Rattle.cards_fields.specs.Fields.{up_to_period, spaceless, onto, split, fiel
 use Rattle.cards_fields.specs.Deck.{cards_of, before, size, onto_group, groups_of, deck_end, deck_groups}
 use Rattle.cards_fields.proofs.Groups.{ends}
 use Rattle.cards_fields.proofs.FieldLaws.{spaceless-short}
-use Rattle.cards_fields.specs.declared.DeckEnd.TheVariants.{At}
+use Rattle.std.specs.Prelude.{Ok}
 use Rattle.words.proofs.WordLaws.{same-equal}
 
 -- A CARD THAT OPENS A GROUP has a comma and three letters at least
@@ -73,5 +73,5 @@ groups-few (c ∷ cs) = omega (arith, few c cs, five (is_pty c))
     five false = omega arith
 
 -- HOW MANY GROUPS A DECK HAS that is read
-pub deck-few : (s : List ℕ) (n : ℕ) → deck_end s ≡ At n → length (deck_groups s) ≤ 3261
+pub deck-few : (s : List ℕ) (n : ℕ) → deck_end s ≡ Ok n → length (deck_groups s) ≤ 3261
 deck-few s n e = let z = ends s n e in omega (arith, groups-few (before (cards_of s)))

@@ -1,16 +1,13 @@
 -- What the deck program prints, and what entering a deck into a schedule makes of the schedule and answers.
-use Rattle.std.specs.Prelude.{ℕ, List, [], ◌∷◌, ◌++◌, get_or}
+use Rattle.std.specs.Prelude.{ℕ, List, [], ◌∷◌, ◌++◌, get_or, Result, Ok, Err}
 use Rattle.numbers.specs.Quoted.{bytes}
-use Rattle.numbers.specs.declared.Outcome.{Outcome}
-use Rattle.numbers.specs.declared.Outcome.TheVariants as Outcomes
+use Rattle.numbers.specs.declared.Refusal.{Refusal}
 use Rattle.cards_fields.specs.Fields.{spaceless}
 use Rattle.cards_fields.specs.Deck.{deck_end, deck_groups}
-use Rattle.cards_fields.specs.declared.DeckEnd.{DeckEnd}
-use Rattle.cards_fields.specs.declared.DeckEnd.TheVariants.{At, Refused}
+use Rattle.cards_fields.specs.Deck.{DeckEnd}
 use Rattle.cards_lines.specs.Shown.{shown_by, error_line, refused_text}
 use Rattle.cards_group.specs.Group.{read_group}
-use Rattle.cards_request.specs.declared.CardVerdict.{CardVerdict}
-use Rattle.cards_request.specs.declared.CardVerdict.TheVariants.{Good, Wrong}
+use Rattle.cards_request.specs.Errors.{CardVerdict}
 use Rattle.cards_request.specs.declared.Request.{Request}
 use Rattle.cards_group.specs.declared.Reading.{Reading}
 use Rattle.cards_writing.specs.Writing.{priority_text}
@@ -39,21 +36,21 @@ begin s = record { schedule = s; shown = bytes "------"; last = bytes "------" }
 
 -- a group's own error, or what entering its request answers
 abbrev pub tried_by : CardVerdict → Schedule → Request → Entering
-tried_by Good s r = entering s r
-tried_by (Wrong e) s r = record { verdict = Wrong e; schedule = s }
+tried_by (Ok tt) s r = entering s r
+tried_by (Err e) s r = record { verdict = Err e; schedule = s }
 
 abbrev pub tried : Schedule → Reading → Entering
 tried s reading = tried_by reading.verdict s reading.request
 
 -- an error has its line
 abbrev pub line_by : CardVerdict → List ℕ → List ℕ
-line_by Good shown = []
-line_by (Wrong e) shown = error_line shown e
+line_by (Ok tt) shown = []
+line_by (Err e) shown = error_line shown e
 
 -- the request of a group without error is the last good one
 abbrev pub last_by : CardVerdict → List ℕ → List ℕ → List ℕ
-last_by Good last id = id
-last_by (Wrong e) last id = last
+last_by (Ok tt) last id = id
+last_by (Err e) last id = last
 
 -- ONE GROUP: the ID shown, what trying it answers, its line, and what has been read then
 abbrev pub shown_at : Progress → List (List ℕ) → List ℕ
@@ -90,8 +87,8 @@ unfoldable pub report_text : List (List (List ℕ)) → List ℕ
 report_text gs = errors_from (begin (schedule_of [])) gs ++ closing_text (end_from (begin (schedule_of [])) gs)
 
 abbrev pub text_by : DeckEnd → List ℕ → List ℕ
-text_by (At n) s = report_text (deck_groups s)
-text_by (Refused refusal) s = refused_text refusal
+text_by (Ok n) s = report_text (deck_groups s)
+text_by (Err refusal) s = refused_text refusal
 
 -- WHAT THE DECK PROGRAM PRINTS
 abbrev pub deck_text : List ℕ → List ℕ
@@ -104,16 +101,16 @@ unfoldable pub notes_text : Schedule → List (List (List ℕ)) → List ℕ
 notes_text schedule gs = errors_from (begin schedule) gs ++ last_line (end_from (begin schedule) gs).last
 
 abbrev pub notes_by : DeckEnd → Schedule → List ℕ → List ℕ
-notes_by (At n) schedule s = notes_text schedule (deck_groups s)
-notes_by (Refused refusal) schedule s = []
+notes_by (Ok n) schedule s = notes_text schedule (deck_groups s)
+notes_by (Err refusal) schedule s = []
 
 abbrev pub schedule_by : DeckEnd → Schedule → List ℕ → Schedule
-schedule_by (At n) schedule s = (end_from (begin schedule) (deck_groups s)).schedule
-schedule_by (Refused refusal) schedule s = schedule
+schedule_by (Ok n) schedule s = (end_from (begin schedule) (deck_groups s)).schedule
+schedule_by (Err refusal) schedule s = schedule
 
-abbrev pub outcome_by : DeckEnd → Outcome
-outcome_by (At n) = Outcomes.Done
-outcome_by (Refused refusal) = Outcomes.Refused refusal
+abbrev pub outcome_by : DeckEnd → Result (Unit {0}) Refusal
+outcome_by (Ok n) = Ok tt
+outcome_by (Err refusal) = Err refusal
 
 abbrev pub deck_notes : Schedule → List ℕ → List ℕ
 deck_notes schedule s = notes_by (deck_end s) schedule s
@@ -121,5 +118,5 @@ deck_notes schedule s = notes_by (deck_end s) schedule s
 abbrev pub deck_schedule : Schedule → List ℕ → Schedule
 deck_schedule schedule s = schedule_by (deck_end s) schedule s
 
-abbrev pub deck_outcome : List ℕ → Outcome
+abbrev pub deck_outcome : List ℕ → Result (Unit {0}) Refusal
 deck_outcome s = outcome_by (deck_end s)

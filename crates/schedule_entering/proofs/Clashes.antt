@@ -1,29 +1,23 @@
 -- What bars a request: the one of its ID, the first that has its priority, the first that has its whole key, and that
 -- there is no room. Assumes nothing.
 use Prim.Native.Nat.{ℕ}
-use mathlib.Core.Path.{◌≡◌, refl, ap, ◌∙◌}
+use mathlib.Core.Path.{◌≡◌, refl, ◌∙◌}
 use mathlib.Core.Bool.{Bool, true, false, ◌&&◌}
 use mathlib.Core.List.{List}
-use lib.Dec.{eqb, leb, ltb}
+use lib.Dec.{eqb, leb}
 use lib.ListN.{length}
 use borrow.Author.Tests.{ltb-true, ltb-false, ne_eqb}
 use Rattle.numbers.proofs.Tests.{by_bool}
 use Rattle.numbers.specs.Elements.{any, find}
 use Rattle.numbers.specs.Limits.{most_requests}
-use Rattle.cards_request.specs.Errors.{error_if, or_else}
+use Rattle.cards_request.specs.Errors.{CardVerdict, error_if, or_else}
 use Rattle.cards_request.proofs.ErrorLaws.{not_good}
 use Rattle.cards_request.specs.declared.CardError.TheVariants.{SamePriority, SameSequence, ScheduleFull}
-use Rattle.cards_request.specs.declared.CardVerdict.{CardVerdict}
-use Rattle.cards_request.specs.declared.CardVerdict.TheVariants.{Good}
+use Rattle.std.specs.Prelude.{Ok}
 use Rattle.cards_request.specs.declared.Request.{Request}
-use Rattle.schedule_entries.specs.Entries.{key_of, same_key, is_named}
-use Rattle.schedule_entries.specs.Questions.{answers}
+use Rattle.schedule_entries.specs.Entries.{key_of, same_rank, same_key, is_named}
 use Rattle.schedule_entries.specs.declared.Entry.{Entry}
-use Rattle.schedule_entries.specs.declared.Question.TheVariants.{Ranked, Keyed}
-use Rattle.schedule_entries.specs.declared.Query.{Query}
 use Rattle.schedule_list.specs.InSchedule.{there}
-use Rattle.schedule_list.specs.Queries.{first, of_key}
-use Rattle.schedule_list.proofs.InScheduleLaws.{any-first}
 use Rattle.schedule_list.proofs.IndexLaws.{find-here, find_none}
 use Rattle.schedule.specs.ByIndex.{of_name}
 use Rattle.schedule_entering.specs.Entering.{barred, same_there, clash_error}
@@ -49,26 +43,24 @@ without-rank n e = rw e (by (eqb n 0))
     by true = refl
     by false = refl
 
-module _ (es : List Entry) (r : Request) {n : ℕ} (long : n ≡ length es) where
-  -- one answers where the first that does has an index
-  asked : (q : Query) {x : ℕ} → x ≡ first (answers q.question q) es → ltb x n ≡ any (answers q.question q) es
-  asked q {x} e = ap (λ (m : ℕ). ltb m n) e ∙ ap (ltb (first (answers q.question q) es)) long ∙ any-first (answers q.question q) es
-
-  met : clash_by (any (answers Ranked (of_key Ranked r)) es) (any (answers Keyed (of_key Keyed r)) es) r.sequence (length es) ≡ clash_error es r
+module _ (es : List Entry) (r : Request) where
+  met : clash_by (any (λ e. same_rank (key_of e.request) (key_of r)) es) (any (λ e. same_key (key_of e.request) (key_of r)) es) r.sequence (length es)
+      ≡ clash_error es r
   unfolding clash_by clash_error same_there
   met = refl
 
-  pub clash-found : {x y : ℕ} → x ≡ first (answers Ranked (of_key Ranked r)) es → y ≡ first (answers Keyed (of_key Keyed r)) es
-      → {v : CardVerdict} → v ≡ clash_by (ltb x n) (ltb y n) r.sequence n → v ≡ clash_error es r
-  clash-found e f g = g ∙ rw (asked (of_key Ranked r) e, asked (of_key Keyed r) f, long) met
+  pub clash-found : {ranked keyed : Bool} {n : ℕ} → ranked ≡ any (λ e. same_rank (key_of e.request) (key_of r)) es
+      → keyed ≡ any (λ e. same_key (key_of e.request) (key_of r)) es → n ≡ length es
+      → {v : CardVerdict} → v ≡ clash_by ranked keyed r.sequence n → v ≡ clash_error es r
+  clash-found a c l e = e ∙ rw (a, c, l) met
 
 -- where no error answers, each of the others has another key, and they leave room
-pub clash-clear : (es : List Entry) (r : Request) → clash_error es r ≡ Good
+pub clash-clear : (es : List Entry) (r : Request) → clash_error es r ≡ Ok tt
     → (any (λ e. same_key (key_of e.request) (key_of r)) es ≡ false) × (leb most_requests (length es) ≡ false)
 unfolding clash_error
 clash-clear es r e = by (same_there es r) (any (λ e. same_key (key_of e.request) (key_of r)) es) (leb most_requests (length es)) e
   where
-    by : (a b c : Bool) → or_else (error_if a SamePriority) (or_else (error_if b SameSequence) (or_else (error_if c ScheduleFull) Good)) ≡ Good
+    by : (a b c : Bool) → or_else (error_if a SamePriority) (or_else (error_if b SameSequence) (or_else (error_if c ScheduleFull) (Ok tt))) ≡ Ok tt
         → (b ≡ false) × (c ≡ false)
     by true b c e = not_good e
     by false true c e = not_good e

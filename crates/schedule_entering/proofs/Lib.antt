@@ -1,8 +1,5 @@
 pub mod Clashes
-pub mod Full
-pub mod OtherLaws
-pub mod OutlineLaws
+pub mod Headings
 pub mod Judging
-pub mod Growing
 pub mod Placing
 pub mod OneOutcome

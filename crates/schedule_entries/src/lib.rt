@@ -1,15 +1,15 @@
-// A request as it stands in the schedule: its state, its key, and what can be asked of it.
+// A request as it stands in the schedule: its state, its key, and the selection order.
 #![tactic(auto)]
 
 ghost use Rattle.std.specs.Prelude.{◌≡◌};
 ghost use Rattle.schedule_entries.specs.Entries.{key_of, same_rank, same_key, lower_sequence, precedes};
 ghost use Rattle.schedule_entries.specs.Entries.{waiting, suspended, active, in_place, serial, blank, first_state};
-ghost use Rattle.schedule_entries.specs.Questions.{heading_of, told, answers};
+ghost use Rattle.schedule_entries.specs.Questions.{heading_of};
 
 use cards_request::Request;
 
 // Where a request stands: it waits, is suspended, or its job runs or closes in a place.
-#[derive(Clone, Copy)]
+#[derive(Clone, Copy, PartialEq, Eq)]
 pub enum State {
     Waiting,
     Suspended,
@@ -24,15 +24,15 @@ pub struct Entry {
     pub state: State,
 }
 
-// What the selection order goes by.
-#[derive(Clone, Copy)]
+// What the selection order goes by, the first field first.
+#[derive(Clone, Copy, PartialEq, Eq, PartialOrd, Ord)]
 pub struct Key {
     pub letter: u8,
     pub precedence: u8,
     pub sequence: u8,
 }
 
-// What an entry can be asked about: its ID, its key and its state.
+// What an entry is judged by: its ID, its key and its state.
 #[derive(Clone, Copy)]
 pub struct Heading {
     pub id: [u8; 6],
@@ -40,29 +40,9 @@ pub struct Heading {
     pub state: State,
 }
 
-// What can be asked of an entry: whether it has an ID; a key's letter and precedence; the whole key; whether it does
-// not precede a key; whether its job runs or closes in a place.
-#[derive(Clone, Copy)]
-pub enum Question {
-    Named,
-    Ranked,
-    Keyed,
-    Behind,
-    InPlace,
-}
-
-// A question with what it is about; what it is not about is not looked at.
-#[derive(Clone, Copy)]
-pub struct Query {
-    pub question: Question,
-    pub id: [u8; 6],
-    pub key: Key,
-    pub place: u8,
-}
-
 // A request's key.
-pub fn key_of(request: Request) -> Key
-    ensures { result ≡ key_of request }
+pub fn key_of(request: &Request) -> Key
+    ensures { result ≡ key_of request.now }
 {
     Key {
         letter: request.letter,
@@ -72,20 +52,23 @@ pub fn key_of(request: Request) -> Key
 }
 
 // Whether two keys have the same letter and precedence.
-fn same_rank(a: Key, b: Key) -> bool
+#[tactic(auto, unfolding(crate::specs::Entries::same_rank))]
+pub fn same_rank(a: Key, b: Key) -> bool
     ensures { result ≡ same_rank a b }
 {
     a.letter == b.letter && a.precedence == b.precedence
 }
 
 // Whether two keys are the same.
-fn same_key(a: Key, b: Key) -> bool
+#[tactic(auto, unfolding(crate::specs::Entries::same_key, crate::specs::Entries::same_rank))]
+pub fn same_key(a: Key, b: Key) -> bool
     ensures { result ≡ same_key a b }
 {
-    same_rank(a, b) && a.sequence == b.sequence
+    a == b
 }
 
 // Whether a key has another's letter and precedence and a lower sequence.
+#[tactic(auto, unfolding(crate::specs::Entries::lower_sequence))]
 pub fn is_lower(a: Key, b: Key) -> bool
     ensures { result ≡ lower_sequence a b }
 {
@@ -93,117 +76,65 @@ pub fn is_lower(a: Key, b: Key) -> bool
 }
 
 // Whether a key comes before another in the selection order.
-fn precedes(a: Key, b: Key) -> bool
+#[tactic(auto, unfolding(crate::specs::Entries::precedes))]
+pub fn precedes(a: Key, b: Key) -> bool
     ensures { result ≡ precedes a b }
 {
-    if a.letter == b.letter {
-        if a.precedence == b.precedence {
-            return a.sequence < b.sequence;
-        }
-        return a.precedence < b.precedence;
-    }
-    a.letter < b.letter
+    a < b
 }
 
 // Whether a request waits.
 pub fn is_waiting(state: State) -> bool
     ensures { result ≡ waiting state }
 {
-    match state {
-        State::Waiting => true,
-        State::Suspended => false,
-        State::Running(_) => false,
-        State::Closing(_) => false,
-    }
+    matches!(state, State::Waiting)
 }
 
 // Whether a request is suspended.
 pub fn is_suspended(state: State) -> bool
     ensures { result ≡ suspended state }
 {
-    match state {
-        State::Waiting => false,
-        State::Suspended => true,
-        State::Running(_) => false,
-        State::Closing(_) => false,
-    }
+    matches!(state, State::Suspended)
 }
 
 // Whether a request's job runs or closes.
 pub fn is_active(state: State) -> bool
     ensures { result ≡ active state }
 {
-    match state {
-        State::Waiting => false,
-        State::Suspended => false,
-        State::Running(_) => true,
-        State::Closing(_) => true,
-    }
+    matches!(state, State::Running(_) | State::Closing(_))
 }
 
 // Whether a request's job runs or closes in a place.
 pub fn is_in_place(state: State, place: u8) -> bool
     ensures { result ≡ in_place place state }
 {
-    match state {
-        State::Waiting => false,
-        State::Suspended => false,
-        State::Running(p) => p == place,
-        State::Closing(p) => p == place,
-    }
+    matches!(state, State::Running(p) | State::Closing(p) if p == place)
 }
 
 // Whether a request is for an S-type job.
-pub fn is_serial(request: Request) -> bool
-    ensures { result ≡ serial request }
+pub fn is_serial(request: &Request) -> bool
+    ensures { result ≡ serial request.now }
 {
     request.mode == b'S'
 }
 
 // An entry's heading.
-pub fn heading_of(entry: Entry) -> Heading
-    ensures { result ≡ heading_of entry }
+pub fn heading_of(entry: &Entry) -> Heading
+    ensures { result ≡ heading_of entry.now }
 {
-    let request = entry.request;
-    let state = entry.state;
-    let id = request.id;
-    let key = key_of(request);
-    Heading { id, key, state }
-}
-
-// What an entry of a heading answers to a question.
-pub fn told_by(heading: Heading, query: Query) -> bool
-    ensures { result ≡ told query.question query heading }
-{
-    let question = query.question;
-    let state = heading.state;
-    let key = heading.key;
-    let own = heading.id;
-    let wanted = query.key;
-    let id = query.id;
-    match question {
-        Question::Named => words::is_same(&own, &id),
-        Question::Ranked => same_rank(key, wanted),
-        Question::Keyed => same_key(key, wanted),
-        Question::Behind => !precedes(key, wanted),
-        Question::InPlace => is_in_place(state, query.place),
+    Heading {
+        id: entry.request.id,
+        key: key_of(&entry.request),
+        state: entry.state,
     }
-}
-
-// What an entry answers to a question.
-pub fn answer_to(query: Query, entry: Entry) -> bool
-    ensures { result ≡ answers query.question query entry }
-{
-    told_by(heading_of(entry), query)
 }
 
 // What fills the schedule behind its last request.
 pub fn blank() -> Entry
     ensures { result ≡ blank }
 {
-    let request = cards_request::no_request();
     Entry {
-        request,
+        request: cards_request::no_request(),
         state: State::Waiting,
     }
 }
@@ -212,14 +143,10 @@ pub fn blank() -> Entry
 pub fn new_entry(request: Request) -> Entry
     ensures { result ≡ record { request = request; state = first_state request } }
 {
-    if request.rush == b'S' {
-        return Entry {
-            request,
-            state: State::Suspended,
-        };
-    }
-    Entry {
-        request,
-        state: State::Waiting,
-    }
+    let state = if request.rush == b'S' {
+        State::Suspended
+    } else {
+        State::Waiting
+    };
+    Entry { request, state }
 }

@@ -1,5 +1,5 @@
 pub mod InScheduleLaws
 pub mod IndexLaws
 pub mod Full
-pub mod Appending
-pub mod Splicing
+pub mod Building
+pub mod Growing

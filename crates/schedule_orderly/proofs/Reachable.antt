@@ -16,8 +16,8 @@ use Rattle.numbers.specs.Limits.{most_requests}
 use Rattle.cards_request.specs.Errors.{error_if}
 use Rattle.cards_request.proofs.ErrorLaws.{or_else_none}
 use Rattle.cards_request.specs.declared.CardError.TheVariants.{InSchedule}
-use Rattle.cards_request.specs.declared.CardVerdict.{CardVerdict}
-use Rattle.cards_request.specs.declared.CardVerdict.TheVariants.{Good, Wrong}
+use Rattle.cards_request.specs.Errors.{CardVerdict}
+use Rattle.std.specs.Prelude.{Ok, Err}
 use Rattle.cards_request.specs.declared.Request.{Request}
 use Rattle.schedule_entries.specs.Entries.{is_named, suspended, active, first_state}
 use Rattle.schedule_entries.specs.declared.State.{State}
@@ -74,7 +74,7 @@ module _ (s : Schedule) (d : Sound s) where
   sound-deleted (some e) id = by_bool (active e.state) (λ t. rw t d) (λ t. rw t (sound-out (is_named id)))
 
   -- a request that nothing bars
-  orderly-entered : (r : Request) → enter_error (in_schedule s) r ≡ Good → Orderly (entered (in_schedule s) r)
+  orderly-entered : (r : Request) → enter_error (in_schedule s) r ≡ Ok tt → Orderly (entered (in_schedule s) r)
   unfolding enter_error
   orderly-entered r e =
       let others = removed (is_named r.id) (in_schedule s) in
@@ -85,8 +85,8 @@ module _ (s : Schedule) (d : Sound s) where
       (leb-false most_requests (length others) c.1) (orderly-removed (is_named r.id) (in_schedule s) d.orderly)
 
   sound-entering : (r : Request) (v : CardVerdict) → enter_error (in_schedule s) r ≡ v → Sound (entering_by v s r).schedule
-  sound-entering r Good e = sound-of _ (orderly-entered r e)
-  sound-entering r (Wrong x) e = d
+  sound-entering r (Ok tt) e = sound-of _ (orderly-entered r e)
+  sound-entering r (Err x) e = d
 
   pub sound-enter : (r : Request) → Sound (entering s r).schedule
   sound-enter r = sound-entering r (enter_error (in_schedule s) r) refl
@@ -97,11 +97,11 @@ module _ (s : Schedule) (d : Sound s) where
   each-enter P r p h = by (enter_error (in_schedule s) r)
     where
       by : (v : CardVerdict) → Each P (requests (in_schedule (entering_by v s r).schedule))
-      by Good =
+      by (Ok tt) =
           subst (λ (l : List Entry). Each P (requests l)) (sym (in-of (entered (in_schedule s) r)))
           (each-inserted P (record { request = r; state = first_state r }) (removed (is_named r.id) (in_schedule s)) p
           (each-removed P (is_named r.id) (in_schedule s) h))
-      by (Wrong x) = h
+      by (Err x) = h
 
   -- after each call
   pub sound-after : (c : Call) → Sound (after s c)

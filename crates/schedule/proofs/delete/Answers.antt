@@ -1,23 +1,29 @@
 -- `schedule::delete` meets its contract: by the tests that led there. Assumes nothing.
-use mathlib.Core.Path.{ap, ◌∙◌}
+use mathlib.Core.Path.{refl, sym, ap, ◌∙◌}
+use Rattle.schedule_entries.specs.Entries.{is_named}
+use Rattle.schedule_list.specs.InSchedule.{in_schedule}
+use Rattle.schedule_list.proofs.IndexLaws.{found-at, found-in, found-none}
 use Rattle.schedule.specs.Calls.{done}
-use Rattle.schedule.proofs.Cases.{deleted-by, delete-none, delete-runs, delete-yes}
+use Rattle.schedule.proofs.Cases.{deleted-by, deleted-none, delete-runs, delete-yes, stands}
 use Rattle.schedule.proofs.delete.Goals as goal
 
-pub returns-then-size-k : goal.returns-then-size-k
-returns-then-size-k c =
-    c.refused.ensures ∙ delete-none c.args.schedule c.first_of-k.result c.size.ensures c.if-size-k.true
-    ∙ deleted-by c.args.schedule c.args.id c.of_id.ensures c.first_of-k.ensures
+pub returns-in_default : goal.returns-in_default
+returns-in_default c =
+    c.refused.ensures ∙ deleted-none c.args.schedule c.args.id
+    (found-none (is_named c.args.id) (in_schedule c.args.schedule) (sym c.in_default.is ∙ c.of_id.ensures))
 
 pub returns-then-is_active : goal.returns-then-is_active
 returns-then-is_active c =
-    c.refused-then-is_active.ensures ∙ delete-runs c.args.schedule c.first_of-k.result c.size.ensures c.if-size-k.false c.entry_at-entry.ensures
+    c.refused-then-is_active.ensures
+    ∙ delete-runs c.args.schedule c.in-Some.k refl (found-in (is_named c.args.id) (in_schedule c.args.schedule) c.in-Some.ensures)
+    (stands c.args.schedule c.in-Some.k refl _ c.requests.ensures.same (found-in (is_named c.args.id) (in_schedule c.args.schedule) c.in-Some.ensures))
     c.is_active.ensures c.if-is_active.true
-    ∙ deleted-by c.args.schedule c.args.id c.of_id.ensures c.first_of-k.ensures
+    ∙ deleted-by c.args.schedule c.args.id (found-at (is_named c.args.id) (in_schedule c.args.schedule) c.in-Some.ensures)
 
 pub returns : goal.returns
 returns c =
     c.done.ensures ∙ ap done c.without.ensures
-    ∙ delete-yes c.args.schedule c.first_of-k.result c.size.ensures c.if-size-k.false c.entry_at-entry.ensures c.is_active.ensures
-    c.if-is_active.false
-    ∙ deleted-by c.args.schedule c.args.id c.of_id.ensures c.first_of-k.ensures
+    ∙ delete-yes c.args.schedule c.in-Some.k refl (found-in (is_named c.args.id) (in_schedule c.args.schedule) c.in-Some.ensures)
+    (stands c.args.schedule c.in-Some.k refl _ c.requests.ensures.same (found-in (is_named c.args.id) (in_schedule c.args.schedule) c.in-Some.ensures))
+    c.is_active.ensures c.if-is_active.false
+    ∙ deleted-by c.args.schedule c.args.id (found-at (is_named c.args.id) (in_schedule c.args.schedule) c.in-Some.ensures)

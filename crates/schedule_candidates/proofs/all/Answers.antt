@@ -1,36 +1,25 @@
--- `schedule_candidates::all` meets its contract: the loop keeps the marks of the requests so far, and none behind
--- them. Assumes nothing.
-use native.Mathlib.Omega.{arith}
-use Rattle.schedule_list.proofs.Full.{full}
-use Rattle.schedule_candidates.proofs.MarkingLaws.{few, marks-start, marks-turn, marks-end}
+-- `schedule_candidates::all` meets its contract: each turn marks the request at its index. Assumes nothing.
+use Rattle.std.proofs.Common.{arith, ap, subst, ◌∙◌, List, get_or}
+use Rattle.std.specs.List.{list_any}
+use Rattle.schedule_entries.specs.Entries.{key_of, lower_sequence, blank}
+use Rattle.schedule_entries.specs.declared.Entry.{Entry}
+use Rattle.schedule_entries.specs.declared.Key.{Key}
+use Rattle.schedule_list.proofs.InScheduleLaws.{at-any}
+use Rattle.schedule_candidates.specs.Candidates.{candidate, Marks}
+use Rattle.schedule_candidates.proofs.MarkingLaws.{marks-start, marks-more, marks-done, candidate-told}
 use Rattle.schedule_candidates.proofs.all.Goals as goal
 
 pub loop-k-init : goal.loop-k-init
 loop-k-init c = marks-start _
 
-pub offset_bounds-keys-k : goal.offset_bounds-keys-k
-offset_bounds-keys-k c = omega (arith, few c.args.schedule (full c.args.schedule _ c.well_formed.0) c.size-n.ensures)
-
-pub bounds-keys-k : goal.bounds-keys-k
-bounds-keys-k c = omega (arith, few c.args.schedule (full c.args.schedule _ c.well_formed.0) c.size-n.ensures)
-
-pub lower_stands-lower-requires : goal.lower_stands-lower-requires
-lower_stands-lower-requires c = few c.args.schedule (full c.args.schedule _ c.well_formed.0) c.size-n.ensures
-
-pub offset_bounds-list-k : goal.offset_bounds-list-k
-offset_bounds-list-k c = omega (arith, few c.args.schedule (full c.args.schedule _ c.well_formed.0) c.size-n.ensures)
-
-pub bounds-list-k : goal.bounds-list-k
-bounds-list-k c = omega (arith, few c.args.schedule (full c.args.schedule _ c.well_formed.0) c.size-n.ensures)
-
-pub bounds-marks-k : goal.bounds-marks-k
-bounds-marks-k c = omega (arith, few c.args.schedule (full c.args.schedule _ c.well_formed.0) c.size-n.ensures)
-
 pub loop-k-preserved : goal.loop-k-preserved
 loop-k-preserved c =
-    marks-turn c.args.schedule (full c.args.schedule _ c.well_formed.0) c.size-n.ensures _ c.loop-k.invariant (omega arith) c.outline_of-outline.ensures
-    c.lower_stands-lower.ensures c.is_candidate.ensures
+    let es = c.requests-requests.result.now in
+    let told = candidate-told es (get_or es c.loop-k.k _) (c.lower_stands-lower.ensures ∙ ap (λ (key : Key). list_any (λ f. lower_sequence (key_of f.request) key) es) c.key_of.ensures)
+    c.is_running_alone-alone.ensures c.is_running-runs.ensures in
+    marks-more c.requests-requests.ensures.few c.loop-k.invariant c.loop-k-test.true
+    (c.is_candidate.ensures ∙ told ∙ ap (candidate es) (at-any es c.loop-k.k _ blank c.loop-k-test.true))
 
 pub returns : goal.returns
 returns c =
-    marks-end c.args.schedule (full c.args.schedule _ c.well_formed.0) c.size-n.ensures c.loop-k.invariant (omega arith)
+    subst (λ (es : List Entry). Marks es c.loop-k.marks) c.requests-requests.ensures.same (marks-done c.loop-k.invariant (omega arith))

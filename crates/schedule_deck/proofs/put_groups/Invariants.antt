@@ -9,7 +9,7 @@ use Rattle.schedule_deck.proofs.put_groups.Given as goal
 abbrev pub invariant-loop-from : goal.invariant-loop-from
 invariant-loop-from l =
     AtGroups l.part l.initial.out (record { schedule = l.initial.schedule; shown = l.initial.shown; last = l.initial.last }) l.out
-    (record { schedule = l.schedule; shown = l.shown; last = l.last }) l.at l.from
+    (record { schedule = l.schedule; shown = l.shown; last = l.last }) l.from
     × Outlines (in_schedule l.schedule) l.outline
 
 abbrev pub decreases-loop-from : goal.decreases-loop-from

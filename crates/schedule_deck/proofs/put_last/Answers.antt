@@ -1,6 +1,6 @@
 -- `schedule_deck::put_last` meets its contract. Assumes nothing.
-use Rattle.text.proofs.RoomLaws.{and_then}
+use Rattle.text.proofs.RoomLaws.{puts-then}
 use Rattle.schedule_deck.proofs.put_last.Goals as goal
 
 pub returns : goal.returns
-returns c = and_then c.put_name-a.ensures c.put_bytes.ensures
+returns c = puts-then c.put_name.ensures c.put_bytes.ensures

@@ -5,5 +5,6 @@ use Rattle.schedule_deck.proofs.put_report.Goals as goal
 
 pub returns : goal.returns
 returns c =
-    report-put (groups_of (cards_of c.args.part.now)) c.empty.ensures c.begin.ensures c.put_groups-step.ensures c.put_schedule-next.ensures
-    c.put_last.ensures
+    let w = report-put (groups_of (cards_of c.args.part.now)) c.empty.ensures c.begin.ensures c.put_groups-progress.ensures c.put_schedule.ensures
+    c.put_last.ensures in
+    w.written

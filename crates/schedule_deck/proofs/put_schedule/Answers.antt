@@ -1,55 +1,17 @@
--- `schedule_deck::put_schedule` meets its contract. Assumes nothing.
-use mathlib.Core.Path.{sym, ap, ◌∙◌}
-use native.Mathlib.Omega.{arith}
-use lib.ListN.{length, take}
-use Rattle.text.proofs.RoomLaws.{start, end, same-room}
-use Rattle.schedule_list.proofs.Full.{full}
-use Rattle.schedule_list.proofs.InScheduleLaws.{schedule-at, schedule-few, schedule-sized}
+-- `schedule_deck::put_schedule` meets its contract: each turn puts a line. Assumes nothing.
+use Rattle.std.proofs.Common.{arith}
+use Rattle.text.proofs.RoomLaws.{goes-start, goes-end}
 use Rattle.schedule_deck.proofs.Pieces.{lines-on, lines_end}
 use Rattle.schedule_deck.proofs.put_schedule.Goals as goal
 
-pub loop-i-init : goal.loop-i-init
-loop-i-init c =
-    (c.size-n.ensures ∙ ap length (sym (schedule-sized c.args.schedule c.size-n.ensures)), (omega arith, start _ _ _))
+pub loop-entry-init : goal.loop-entry-init
+loop-entry-init c = goes-start _ _
 
-pub offset_bounds-list-i : goal.offset_bounds-list-i
-offset_bounds-list-i c =
-    omega (arith, c.size-n.ensures, c.loop-i-test.true, schedule-few c.args.schedule (full c.args.schedule _ c.well_formed.1.1.0))
-
-pub bounds-list-i : goal.bounds-list-i
-bounds-list-i c =
-    omega (
-      arith,
-      c.size-n.ensures,
-      c.loop-i-test.true,
-      schedule-few c.args.schedule (full c.args.schedule _ c.well_formed.1.1.0),
-      full c.args.schedule _ c.well_formed.1.1.0,
-    )
-
-pub overflow_add-i : goal.overflow_add-i
-overflow_add-i c =
-    omega (arith, c.size-n.ensures, c.loop-i-test.true, schedule-few c.args.schedule (full c.args.schedule _ c.well_formed.1.1.0))
-
-pub loop-i-smaller : goal.loop-i-smaller
-loop-i-smaller c = omega arith
-
-pub loop-i-preserved : goal.loop-i-preserved
-loop-i-preserved c = (
-  c.loop-i.invariant.0,
-  (
-    omega arith,
-    lines-on (take c.size-n.result c.args.schedule.entries) c.loop-i.i (omega (arith, c.loop-i.invariant.0, c.loop-i-test.true))
-        (schedule-at (record { entries = c.args.schedule.entries; count = c.size-n.result }) c.loop-i.i _
-        (omega (arith, c.loop-i.invariant.0, c.loop-i-test.true)))
-        c.loop-i.invariant.1.1 c.put_request-next.ensures,
-  ),
-)
+pub loop-entry-preserved : goal.loop-entry-preserved
+loop-entry-preserved c =
+    lines-on c.requests-requests.result.now c.loop-entry.entry-index _ (omega arith) c.loop-entry.invariant c.put_request.ensures
 
 pub returns : goal.returns
 returns c =
-    rw (schedule-sized c.args.schedule c.size-n.ensures) at
-    (end (rw (lines_end (take c.size-n.result c.args.schedule.entries) c.loop-i.i (omega (arith, c.loop-i.invariant.0, c.loop-i-test.false))) at
-    c.loop-i.invariant.1.1))
-
-pub shape_of-out : goal.shape_of-out
-shape_of-out c = same-room (returns c)
+    rw (← c.requests-requests.ensures.same)
+    (goes-end (rw (lines_end c.requests-requests.result.now c.loop-entry.entry-index (omega arith)) at c.loop-entry.invariant))

@@ -1,10 +1,9 @@
 -- `schedule_deck::put_verdict` meets its contract. Assumes nothing.
-use Rattle.text.proofs.RoomLaws.{none}
+use Rattle.text.proofs.RoomLaws.{puts-none}
 use Rattle.schedule_deck.proofs.put_verdict.Goals as goal
 
-pub returns-in-Good : goal.returns-in-Good
-returns-in-Good c =
-    rw c.in-Good.is (none c.args.out.now c.args.at)
+pub returns-in-Ok : goal.returns-in-Ok
+returns-in-Ok c = rw c.in-Ok.is (puts-none _)
 
-pub returns-in-Wrong : goal.returns-in-Wrong
-returns-in-Wrong c = rw c.in-Wrong.is c.put_error.ensures
+pub returns-in-Err : goal.returns-in-Err
+returns-in-Err c = rw c.in-Err.is c.put_error.ensures

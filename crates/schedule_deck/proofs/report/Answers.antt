@@ -4,16 +4,16 @@ use Rattle.schedule_deck.proofs.Bounds.{reported}
 use borrow.Author.Rules.{rules}
 use Rattle.schedule_deck.proofs.report.Goals as goal
 
-pub slice_bounds-put_report-end-in-At : goal.slice_bounds-put_report-end-in-At
-slice_bounds-put_report-end-in-At c =
-    part-long c.args.deck.now c.deck_end-end.ensures c.in-At.n c.in-At.is
+pub slice_bounds-put_report-end : goal.slice_bounds-put_report-end
+slice_bounds-put_report-end c =
+    part-long c.args.deck.now c.deck_end.ensures c.in-Ok.n c.in-Ok.is
 
-pub returns-in-At : goal.returns-in-At
-returns-in-At c =
+pub returns-in-Ok : goal.returns-in-Ok
+returns-in-Ok c =
     reported (search rules) c.args.deck.now
-    (rw (good-text c.args.deck.now c.deck_end-end.ensures c.in-At.n c.in-At.is) at c.put_report.ensures)
+    (rw (good-text c.args.deck.now c.deck_end.ensures c.in-Ok.n c.in-Ok.is) at c.put_report.ensures)
 
-pub returns-in-Refused : goal.returns-in-Refused
-returns-in-Refused c =
+pub returns-in-Err : goal.returns-in-Err
+returns-in-Err c =
     reported (search rules) c.args.deck.now
-    (rw (refused-text c.args.deck.now c.deck_end-end.ensures c.in-Refused.refusal c.in-Refused.is) at c.put_refused.ensures)
+    (rw (refused-text c.args.deck.now c.deck_end.ensures c.in-Err.refusal c.in-Err.is) at c.put_refused.ensures.written)
