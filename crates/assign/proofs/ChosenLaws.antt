@@ -1,4 +1,6 @@
 -- What the parts answer makes what the assigner answers; and the promise leaves one answer. Assumes nothing.
+use Rattle.std.specs.Prelude.{Option, Some, None}
+use Rattle.numbers.specs.declared.LogicalChannel.{LogicalChannel}
 use Prim.Native.Nat.{ℕ, zero, suc, ◌<◌}
 use mathlib.Core.Path.{◌≡◌, refl, sym, ap, ◌∙◌, subst}
 use mathlib.Core.Bool.{Bool, true, false, cond}
@@ -16,17 +18,12 @@ use Rattle.numbers.specs.Values.{values}
 use Rattle.numbers.proofs.ValuesLaws.{values-at}
 use Rattle.numbers.specs.declared.ChannelNumber.{ChannelNumber}
 use Rattle.assign_core.specs.declared.Pair.{Pair}
-use Rattle.assign_core.specs.declared.Found.TheVariants as C
 use Rattle.assign_core.specs.Core as Core
 use Rattle.assign_core.proofs.CoreLaws.{three}
 use Rattle.assign_drum.specs.declared.Area.{Area}
-use Rattle.assign_drum.specs.declared.Start.{Start}
-use Rattle.assign_drum.specs.declared.Start.TheVariants as D
 use Rattle.assign_drum.specs.Drum as Drum
 use Rattle.assign_channels.specs.Choice.{channel, want, on}
 use Rattle.assign_channels.proofs.ChoiceLaws.{lex-both}
-use Rattle.assign_heads.specs.declared.Given.{Given}
-use Rattle.assign_heads.specs.declared.Given.TheVariants.{Nothing, To}
 use Rattle.assign_heads.specs.declared.Head.{Head}
 use Rattle.assign_heads.specs.Heads.{is_given, Served}
 use Rattle.assign_heads.proofs.HeadsOne.{units-one}
@@ -35,7 +32,6 @@ use Rattle.cards_request.specs.declared.Facilities.{Facilities}
 use Rattle.assign.specs.declared.KindChannels.{KindChannels}
 use Rattle.assign.specs.declared.Kinds.{Kinds}
 use Rattle.assign.specs.declared.Assigned.{Assigned}
-use Rattle.assign.specs.declared.Lacking.{Lacking}
 use Rattle.assign.specs.declared.Part.{Part}
 use Rattle.assign.specs.declared.Provision.{Provision}
 use Rattle.assign.specs.Parts.{parts, FirstLacking, Has, HasCore, HasKind}
@@ -48,7 +44,7 @@ use Rattle.assign.proofs.FirstLaws.{first_one, not-nothing, first_kind, every-ki
 abbrev pub listed : (ℕ → ℕ) → List ChannelNumber
 listed its = values 16 (λ l. channel (its l))
 
-module _ (free : ℕ → Bool) (wants : ℕ → ℕ) (its : ℕ → ℕ) (to : ℕ → Given) (s : Served free wants its to) where
+module _ (free : ℕ → Bool) (wants : ℕ → ℕ) (its : ℕ → ℕ) (to : ℕ → Option LogicalChannel) (s : Served free wants its to) where
   same : (l : ℕ) → l < 16 → on (listed its) l ≡ its l
   same l h = ap (λ (c : ChannelNumber). c.0) (values-at 16 (λ l. channel (its l)) l (channel 0) h)
 
@@ -83,22 +79,22 @@ module _ (supply : Supply) (wanted : Facilities) where
   possible-kind order p = record { on = on p.0; to = p.1.to; served = p.1.served }
 
   -- ---- a part that is lacking
-  lacks : (part : Part) → FirstLacking supply wanted (Lacking.First part) → {r : Provision} → r ≡ without part → Assigns supply wanted r
+  lacks : (part : Part) → FirstLacking supply wanted (Some part) → {r : Provision} → r ≡ without part → Assigns supply wanted r
   lacks part f e = subst (Assigns supply wanted) (sym e) (f, refl)
 
-  pub no-core : Core.LeastPair supply.occupancy wanted.ib wanted.db C.Nothing → {r : Provision} → r ≡ without Part.Core
+  pub no-core : Core.LeastPair supply.occupancy wanted.ib wanted.db None → {r : Provision} → r ≡ without Part.Core
       → Assigns supply wanted r
   no-core c = lacks Part.Core (inl (λ h. c h.ib h.db h.fits, refl))
 
-  module _ {p : Pair} (c : Core.LeastPair supply.occupancy wanted.ib wanted.db (C.At p)) where
+  module _ {p : Pair} (c : Core.LeastPair supply.occupancy wanted.ib wanted.db (Some p)) where
     has-core : HasCore supply.occupancy wanted
     has-core = record { ib = p.0; db = p.1; fits = c.0 }
 
-    pub no-drum : Drum.LowestStart supply.areas (drum_length supply.channels) wanted.md D.Nothing → {r : Provision}
+    pub no-drum : Drum.LowestStart supply.areas (drum_length supply.channels) wanted.md None → {r : Provision}
         → r ≡ without Part.Drum → Assigns supply wanted r
     no-drum d = lacks Part.Drum (inr (has-core, inl (λ h. d h.start h.fits, refl)))
 
-    pub no_kind : {s : ℕ} → Drum.LowestStart supply.areas (drum_length supply.channels) wanted.md (D.At s)
+    pub no_kind : {s : ℕ} → Drum.LowestStart supply.areas (drum_length supply.channels) wanted.md (Some s)
         → {order : ℕ} → KindLacking (free_of supply) wanted order → {r : Provision} → r ≡ without (Part.Units (kind_at order)) → Assigns supply wanted r
     no_kind {s} d {order} k =
         lacks (Part.Units (kind_at order))
@@ -113,8 +109,8 @@ module _ (supply : Supply) (wanted : Facilities) where
 
   -- ---- all parts
   module _ (p : Pair) (s : ℕ) (named : List KindChannels) (heads : List Head)
-      (c : Core.LeastPair supply.occupancy wanted.ib wanted.db (C.At p))
-      (d : Drum.LowestStart supply.areas (drum_length supply.channels) wanted.md (D.At s))
+      (c : Core.LeastPair supply.occupancy wanted.ib wanted.db (Some p))
+      (d : Drum.LowestStart supply.areas (drum_length supply.channels) wanted.md (Some s))
       (k : KindsDone (free_of supply) wanted named heads unit_kinds) where
     abbrev all : Assigned
     all = record { ib = p.0; db = p.1; drum = s; channels = named; heads = heads }
@@ -167,15 +163,15 @@ module _ (supply : Supply) (wanted : Facilities) where
         (λ g. inr (λ kind h. one_more (λ (x : ℕ). free_of supply x i ≡ false) n g f kind (omega arith))) (of-kind n i))
 
     of-free : (x : Assigned) (kind i : ℕ) → free_of supply kind i ≡ true → given_of supply kind x i ≡ given x i
-    of-free x kind i t = ap (λ (z : Bool). cond z (given x i) Nothing) t
+    of-free x kind i t = ap (λ (z : Bool). cond z (given x i) None) t
 
     not-given : (x : Assigned) → IsAssignment supply wanted x → (i : ℕ) → ((kind : ℕ) → kind < unit_kinds → free_of supply kind i ≡ false)
-        → given x i ≡ Nothing
+        → given x i ≡ None
     not-given x e i none = nothing-else (given x i) (λ t. let r = e.only i t in never r.free (none r.kind r.is-kind))
       where
-        nothing-else : (g : Given) → (is_given g ≡ true → ⊥) → g ≡ Nothing
-        nothing-else Nothing h = refl
-        nothing-else (To l) h = absurd (h refl)
+        nothing-else : (g : Option LogicalChannel) → (is_given g ≡ true → ⊥) → g ≡ None
+        nothing-else None h = refl
+        nothing-else (Some l) h = absurd (h refl)
 
     given-one : (i : ℕ) → i < 256 → given a i ≡ given b i
     given-one i h =
@@ -207,7 +203,7 @@ module _ (supply : Supply) (wanted : Facilities) where
     kind-of : (order : ℕ) → order < unit_kinds → HasKind supply wanted order
     kind-of order h = possible-kind order (channels_of b order, possible h i)
 
-    pub all_there : FirstLacking supply wanted Lacking.Nothing
+    pub all_there : FirstLacking supply wanted None
     all_there =
         inr (
           record { ib = b.ib; db = b.db; fits = i.core },
@@ -217,15 +213,15 @@ module _ (supply : Supply) (wanted : Facilities) where
           ),
         )
 
-    pub none-lacking : {part : Part} → FirstLacking supply wanted (Lacking.First part) → ⊥
-    none-lacking {part} f = not-nothing (first_one (Has supply wanted) parts Lacking.Nothing (Lacking.First part) all_there f)
+    pub none-lacking : {part : Part} → FirstLacking supply wanted (Some part) → ⊥
+    none-lacking {part} f = not-nothing (first_one (Has supply wanted) parts None (Some part) all_there f)
 
-  one_of : (f g : Lacking) (a b : Assigned) → Answer f supply wanted a → Answer g supply wanted b → (f ≡ g) × (a ≡ b)
-  one_of Lacking.Nothing Lacking.Nothing a b p q = (refl, chosen-one a b p q)
-  one_of Lacking.Nothing (Lacking.First x) a b p q = absurd (none-lacking a p.is q.0)
-  one_of (Lacking.First x) Lacking.Nothing a b p q = absurd (none-lacking b q.is p.0)
-  one_of (Lacking.First x) (Lacking.First y) a b p q =
-      (first_one (Has supply wanted) parts (Lacking.First x) (Lacking.First y) p.0 q.0, p.1 ∙ sym q.1)
+  one_of : (f g : Option Part) (a b : Assigned) → Answer f supply wanted a → Answer g supply wanted b → (f ≡ g) × (a ≡ b)
+  one_of None None a b p q = (refl, chosen-one a b p q)
+  one_of None (Some x) a b p q = absurd (none-lacking a p.is q.0)
+  one_of (Some x) None a b p q = absurd (none-lacking b q.is p.0)
+  one_of (Some x) (Some y) a b p q =
+      (first_one (Has supply wanted) parts (Some x) (Some y) p.0 q.0, p.1 ∙ sym q.1)
 
   -- two answers are one
   pub assigns-one : (r s : Provision) → Assigns supply wanted r → Assigns supply wanted s → r ≡ s
@@ -243,6 +239,6 @@ pub kinds-lacking : {free : ℕ → ℕ → Bool} {asked : Facilities} (r : Kind
 kinds-lacking {free} {asked} r e s = subst (λ (b : Bool). KindsAnswer b free asked r) e s
 
 -- the drum's answer for the length that was worked out
-pub for-length : (areas : List Area) (words : ℕ) {n m : ℕ} {r s : Start} → n ≡ m → r ≡ s → Drum.LowestStart areas n words r
+pub for-length : (areas : List Area) (words : ℕ) {n m : ℕ} {r s : Option ℕ} → n ≡ m → r ≡ s → Drum.LowestStart areas n words r
     → Drum.LowestStart areas m words s
 for-length areas words {n} {m} {r} {s} e f a = subst (λ (x : ℕ). Drum.LowestStart areas x words s) e (subst (Drum.LowestStart areas n words) f a)

@@ -1,5 +1,7 @@
 -- An assigner that antt computes: it meets the contract of `assign`, so what `assign` answers is what it computes.
 -- Assumes nothing.
+use Rattle.std.specs.Prelude.{Option, Some, None}
+use Rattle.assign.specs.declared.Part.{Part}
 use Prim.Native.Nat.{ℕ, zero, suc, ◌+◌, ◌<◌}
 use mathlib.Core.Path.{◌≡◌, refl}
 use mathlib.Core.Bool.{Bool, true, false, cond}
@@ -14,12 +16,8 @@ use Rattle.numbers.specs.Kinds.{unit_kinds, kind_at}
 use Rattle.units.specs.declared.Unit.{Unit}
 use Rattle.channels.specs.declared.Channel.{Channel}
 use Rattle.assign_core.specs.declared.Pair.{Pair}
-use Rattle.assign_core.specs.declared.Found.{Found}
-use Rattle.assign_core.specs.declared.Found.TheVariants as C
 use Rattle.assign_core.specs.Core as Core
 use Rattle.assign_core.proofs.Computed.{search_of, search-answers}
-use Rattle.assign_drum.specs.declared.Start.{Start}
-use Rattle.assign_drum.specs.declared.Start.TheVariants as D
 use Rattle.assign_drum.specs.Drum as Drum
 use Rattle.assign_drum.proofs.Computed.{start_of, start-answers}
 use Rattle.assign_heads.specs.declared.Head.{Head}
@@ -34,8 +32,6 @@ use Rattle.cards_request.specs.Requests.{counts}
 use Rattle.cards_request.specs.declared.Facilities.{Facilities}
 use Rattle.assign.specs.declared.KindChannels.{KindChannels}
 use Rattle.assign.specs.declared.Kinds.{Kinds}
-use Rattle.assign.specs.declared.Lacking.TheVariants as Lacking
-use Rattle.assign.specs.declared.Part.TheVariants as Part
 use Rattle.assign.specs.declared.Provision.{Provision}
 use Rattle.assign.specs.Assignment.{Supply, drum_length, wants_of, no_channels, free_of}
 use Rattle.assign.specs.Kinds.{KindsDone, KindsAnswer, ServesKinds}
@@ -106,40 +102,40 @@ module _ (units : List (List Unit)) (channels : List Channel) (asked : Facilitie
 abbrev pub with_kinds : Pair → ℕ → Kinds → Provision
 with_kinds p s k =
     cond k.ok (record {
-      lacking = Lacking.Nothing;
+      lacking = None;
       assigned = record { ib = p.0; db = p.1; drum = s; channels = k.channels; heads = k.heads };
     }) (without (Part.Units (kind_at k.order)))
 
-abbrev pub with_drum : Supply → Facilities → Pair → Start → Provision
-with_drum supply wanted p (D.At s) = with_kinds p s (kinds_of supply.units supply.channels wanted)
-with_drum supply wanted p D.Nothing = without Part.Drum
+abbrev pub with_drum : Supply → Facilities → Pair → Option ℕ → Provision
+with_drum supply wanted p (Some s) = with_kinds p s (kinds_of supply.units supply.channels wanted)
+with_drum supply wanted p None = without Part.Drum
 
-abbrev pub with_core : Supply → Facilities → Found → Provision
-with_core supply wanted (C.At p) = with_drum supply wanted p (start_of supply.areas (drum_length supply.channels) wanted.md)
-with_core supply wanted C.Nothing = without Part.Core
+abbrev pub with_core : Supply → Facilities → Option Pair → Provision
+with_core supply wanted (Some p) = with_drum supply wanted p (start_of supply.areas (drum_length supply.channels) wanted.md)
+with_core supply wanted None = without Part.Core
 
 unfoldable pub assign_of : Supply → Facilities → Provision
 assign_of supply wanted = with_core supply wanted (search_of supply.occupancy wanted.ib wanted.db)
 
 module _ (supply : Supply) (wanted : Facilities) (size : length supply.channels ≡ 16) (full : length wanted.units ≡ counts) where
-  with-kinds : (p : Pair) (s : ℕ) → Core.LeastPair supply.occupancy wanted.ib wanted.db (C.At p)
-      → Drum.LowestStart supply.areas (drum_length supply.channels) wanted.md (D.At s)
+  with-kinds : (p : Pair) (s : ℕ) → Core.LeastPair supply.occupancy wanted.ib wanted.db (Some p)
+      → Drum.LowestStart supply.areas (drum_length supply.channels) wanted.md (Some s)
       → (k : Kinds) (b : Bool) → k.ok ≡ b → KindsAnswer b (free_of supply) wanted k → Assigns supply wanted (with_kinds p s k)
   with-kinds p s c d k true e a = rw e (assigned supply wanted p s k.channels k.heads c d a)
   with-kinds p s c d k false e a = rw e (no_kind supply wanted c d a refl)
 
-  with-drum : (p : Pair) → Core.LeastPair supply.occupancy wanted.ib wanted.db (C.At p) → (r : Start)
+  with-drum : (p : Pair) → Core.LeastPair supply.occupancy wanted.ib wanted.db (Some p) → (r : Option ℕ)
       → Drum.LowestStart supply.areas (drum_length supply.channels) wanted.md r → Assigns supply wanted (with_drum supply wanted p r)
-  with-drum p c (D.At s) d =
+  with-drum p c (Some s) d =
       let k = kinds_of supply.units supply.channels wanted in
       with-kinds p s c d k k.ok refl (kinds-answer supply.units supply.channels wanted size full)
-  with-drum p c D.Nothing d = no-drum supply wanted c d refl
+  with-drum p c None d = no-drum supply wanted c d refl
 
-  with-core : (r : Found) → Core.LeastPair supply.occupancy wanted.ib wanted.db r → Assigns supply wanted (with_core supply wanted r)
-  with-core (C.At p) c =
+  with-core : (r : Option Pair) → Core.LeastPair supply.occupancy wanted.ib wanted.db r → Assigns supply wanted (with_core supply wanted r)
+  with-core (Some p) c =
       with-drum p c (start_of supply.areas (drum_length supply.channels) wanted.md)
       (start-answers supply.areas (drum_length supply.channels) wanted.md)
-  with-core C.Nothing c = no-core supply wanted c refl
+  with-core None c = no-core supply wanted c refl
 
   -- there is always an answer, and it is the computed one
   pub assign-answers : Assigns supply wanted (assign_of supply wanted)

@@ -1,5 +1,7 @@
 -- One more kind served keeps what is known of the kinds before: no unit is of two kinds. One of which nothing is asked
 -- for is served where it gets nothing. Assumes nothing.
+use Rattle.std.specs.Prelude.{Option, Some, None}
+use Rattle.numbers.specs.declared.LogicalChannel.{LogicalChannel}
 use Prim.Native.Nat.{ℕ, zero, suc, ◌+◌, ◌≤◌, ◌<◌}
 use mathlib.Core.Path.{◌≡◌, refl, sym, ap, ◌∙◌, subst}
 use mathlib.Core.Bool.{Bool, true, false, cond}
@@ -21,8 +23,6 @@ use Rattle.channels.specs.declared.Channel.{Channel}
 use Rattle.assign_channels.specs.declared.ByLogical.{ByLogical}
 use Rattle.assign_channels.specs.Choice.{channel, total, want, on, LexLe}
 use Rattle.assign_channels.proofs.GreedyLaws.{total-none}
-use Rattle.assign_heads.specs.declared.Given.{Given}
-use Rattle.assign_heads.specs.declared.Given.TheVariants.{Nothing, To}
 use Rattle.assign_heads.specs.declared.Head.{Head}
 use Rattle.assign_heads.specs.Heads.{is_given, Served, Lowest}
 use Rattle.assign_heads.specs.Whose.{free_at, blank}
@@ -89,17 +89,17 @@ module _ (units : List (List Unit)) (channels : List Channel) (asked : Facilitie
     now-done = record {
       long = c.long;
       served = subst (λ (w : ByLogical). Served (free_of order) (want w) (on mine) (to_of free_of order heads)) are
-          (subst (λ (f : ℕ → Bool). Served f (want wants) (on mine) (λ i. cond (f i) (get_or heads i blank).to Nothing)) marks-are c.served);
+          (subst (λ (f : ℕ → Bool). Served f (want wants) (on mine) (λ i. cond (f i) (get_or heads i blank).to None)) marks-are c.served);
       least = λ others p. c.least others (possible p);
-      lowest = subst (λ (f : ℕ → Bool). Lowest f (λ i. cond (f i) (get_or heads i blank).to Nothing)) marks-are c.lowest;
+      lowest = subst (λ (f : ℕ → Bool). Lowest f (λ i. cond (f i) (get_or heads i blank).to None)) marks-are c.lowest;
     }
 
     -- a kind before
     kept : (kind : ℕ) → kind < order → to_of free_of kind before ≡ to_of free_of kind heads
     kept kind h = same-function λ i.
         by_bool (free_of kind i)
-        (λ t. ap (λ (x : Head). cond (free_of kind i) x.to Nothing) (sym (c.kept i (other i t))))
-        (λ t. ap (λ (b : Bool). cond b (get_or before i blank).to Nothing) t ∙ sym (ap (λ (b : Bool). cond b (get_or heads i blank).to Nothing) t))
+        (λ t. ap (λ (x : Head). cond (free_of kind i) x.to None) (sym (c.kept i (other i t))))
+        (λ t. ap (λ (b : Bool). cond b (get_or before i blank).to None) t ∙ sym (ap (λ (b : Bool). cond b (get_or heads i blank).to None) t))
       where
         other : (i : ℕ) → free_of kind i ≡ true → free_at free i ≡ false
         other i t = by_bool (free_at free i) (λ u. absurd (omega (arith, one-kind units channels kind order i t (sym (marked i) ∙ u)))) (λ u. u)
@@ -136,9 +136,9 @@ lex-zeros (suc n) [] e = absurd (omega arith)
 lex-zeros (suc n) (c ∷ others) e =
     ⊎_elim (λ z. inr (sym z, lex-zeros n others (omega arith))) (λ p. inl p) (eq-zero-or-pos c.0)
 
-not-given : (g : Given) → is_given g ≡ false → g ≡ Nothing
-not-given Nothing e = refl
-not-given (To l) e = never refl e
+not-given : (g : Option LogicalChannel) → is_given g ≡ false → g ≡ None
+not-given None e = refl
+not-given (Some l) e = never refl e
 
 module _ (units : List (List Unit)) (channels : List Channel) (asked : Facilities) (order : ℕ) (more : order < unit_kinds)
     (none : total (wants_of asked order).0 ≡ 0)
@@ -147,7 +147,7 @@ module _ (units : List (List Unit)) (channels : List Channel) (asked : Facilitie
   free = is_free_of units channels order
 
   -- none of its units is given
-  unit_left : (i : ℕ) → Nothing ≡ to_of (is_free_of units channels) order heads i
+  unit_left : (i : ℕ) → None ≡ to_of (is_free_of units channels) order heads i
   unit_left i =
       by_bool (free i)
       (λ t. by_bool (is_given (get_or heads i blank).to)
@@ -158,7 +158,7 @@ module _ (units : List (List Unit)) (channels : List Channel) (asked : Facilitie
   no-want : (l : ℕ) → want (wants_of asked order) l ≡ 0
   no-want l = total-none (wants_of asked order).0 none l
 
-  untouched : Served free (want (wants_of asked order)) (on (replicate 16 (channel 0))) (λ i. Nothing)
+  untouched : Served free (want (wants_of asked order)) (on (replicate 16 (channel 0))) (λ i. None)
   untouched = record {
     only = λ i t. never t refl;
     all = λ l h. sum-zero 256 ∙ sym (no-want l);

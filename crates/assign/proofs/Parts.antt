@@ -1,4 +1,5 @@
--- The loops of `drum_length` and `wants_of`: what a turn does, and what is there at the end. Assumes nothing.
+-- The loop of `drum_length`, and the tables of `wants_of`: what a turn does, and what is there at the end. Assumes nothing.
+use Rattle.std.specs.Prelude.{Option, Some, None}
 use Prim.Native.Nat.{ℕ, ◌+◌, ◌*◌, ◌≤◌, ◌<◌}
 use mathlib.Core.Path.{◌≡◌, refl, sym, ap, ◌∙◌}
 use mathlib.Core.Bool.{Bool, true, false, cond}
@@ -9,10 +10,8 @@ use lib.ListN.{length, get_or, drop, replicate, drop_of_length-le, get_or-replic
 use lib.Seq.{drop-cons, ext_get_or}
 use Rattle.numbers.specs.Values.{values}
 use Rattle.numbers.proofs.ValuesLaws.{values-at}
-use Rattle.numbers.specs.declared.Kind.{Kind}
 use Rattle.numbers.specs.Kinds.{is_drum, unit_kinds}
 use Rattle.channels.specs.declared.Fitted.{Fitted}
-use Rattle.channels.specs.declared.Fitted.TheVariants as F
 use Rattle.channels.specs.declared.Channel.{Channel}
 use Rattle.channels.specs.Channels.{no_channel}
 use Rattle.assign_channels.specs.Choice.{by_logical}
@@ -21,25 +20,25 @@ use Rattle.cards_request.specs.declared.Facilities.{Facilities}
 use Rattle.assign.specs.Assignment.{length_in, drum_length, wants_of}
 
 module _ (channels : List Channel) (c : ℕ) (h : c < length channels) where
-  abbrev here : Fitted
+  abbrev here : Option Fitted
   here = (get_or channels c no_channel).has
 
   at : drum_length (drop c channels) ≡ length_in here (drum_length (drop (c + 1) channels))
   unfolding drum_length
   at = ap drum_length (drop-cons channels c no_channel h) ∙ ap (λ (n : ℕ). length_in here (drum_length (drop n channels))) (sym (add-one c))
 
-  pub drum-none : here ≡ F.Nothing → drum_length (drop (c + 1) channels) ≡ drum_length (drop c channels)
-  drum-none e = sym (at ∙ ap (λ (f : Fitted). length_in f (drum_length (drop (c + 1) channels))) e)
+  pub drum-none : here ≡ None → drum_length (drop (c + 1) channels) ≡ drum_length (drop c channels)
+  drum-none e = sym (at ∙ ap (λ (f : Option Fitted). length_in f (drum_length (drop (c + 1) channels))) e)
 
-  module _ {kind : Kind} {n : ℕ} (e : here ≡ F.With kind n) where
-    with-kind : drum_length (drop c channels) ≡ cond (is_drum kind) n (drum_length (drop (c + 1) channels))
-    with-kind = at ∙ ap (λ (f : Fitted). length_in f (drum_length (drop (c + 1) channels))) e
+  module _ {its : Fitted} (e : here ≡ Some its) where
+    with-kind : drum_length (drop c channels) ≡ cond (is_drum its.kind) its.n (drum_length (drop (c + 1) channels))
+    with-kind = at ∙ ap (λ (f : Option Fitted). length_in f (drum_length (drop (c + 1) channels))) e
 
-    pub drum-other : is_drum kind ≡ false → drum_length (drop (c + 1) channels) ≡ drum_length (drop c channels)
-    drum-other d = sym (with-kind ∙ ap (λ (b : Bool). cond b n (drum_length (drop (c + 1) channels))) d)
+    pub drum-other : is_drum its.kind ≡ false → drum_length (drop (c + 1) channels) ≡ drum_length (drop c channels)
+    drum-other d = sym (with-kind ∙ ap (λ (b : Bool). cond b its.n (drum_length (drop (c + 1) channels))) d)
 
-    pub drum-here : is_drum kind ≡ true → drum_length (drop c channels) ≡ n
-    drum-here d = with-kind ∙ ap (λ (b : Bool). cond b n (drum_length (drop (c + 1) channels))) d
+    pub drum-here : is_drum its.kind ≡ true → drum_length (drop c channels) ≡ its.n
+    drum-here d = with-kind ∙ ap (λ (b : Bool). cond b its.n (drum_length (drop (c + 1) channels))) d
 
 pub drum-end : (channels : List Channel) (c : ℕ) → length channels ≤ c → drum_length (drop c channels) ≡ 0
 unfolding drum_length

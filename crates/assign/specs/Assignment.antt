@@ -1,19 +1,17 @@
 -- What an assignment is, whichever it is. A reader has to believe this page.
-use Rattle.std.specs.Prelude.{ℕ, ◌+◌, ◌*◌, ◌<◌, ◌≡◌, Bool, true, cond, List, [], ◌∷◌, length, get_or, replicate}
+use Rattle.std.specs.Prelude.{ℕ, ◌+◌, ◌*◌, ◌<◌, ◌≡◌, Bool, true, cond, List, [], ◌∷◌, length, get_or, replicate, Option, None, Some}
+use Rattle.numbers.specs.declared.LogicalChannel.{LogicalChannel}
 use Rattle.numbers.specs.declared.ChannelNumber.{ChannelNumber}
 use Rattle.numbers.specs.Kinds.{is_drum, unit_kinds}
 use Rattle.numbers.specs.Values.{values}
 use Rattle.units.specs.declared.Unit.{Unit}
 use Rattle.channels.specs.declared.Fitted.{Fitted}
-use Rattle.channels.specs.declared.Fitted.TheVariants as F
 use Rattle.channels.specs.declared.Channel.{Channel}
 use Rattle.assign_core.specs.Core as Core
 use Rattle.assign_drum.specs.declared.Area.{Area}
 use Rattle.assign_drum.specs.Drum as Drum
 use Rattle.assign_channels.specs.declared.ByLogical.{ByLogical}
 use Rattle.assign_channels.specs.Choice.{channel, by_logical, want, on}
-use Rattle.assign_heads.specs.declared.Given.{Given}
-use Rattle.assign_heads.specs.declared.Given.TheVariants.{Nothing}
 use Rattle.assign_heads.specs.Heads.{is_given, Served}
 use Rattle.assign_heads.specs.Whose.{blank}
 use Rattle.assign_free.specs.Assignable.{is_free_of}
@@ -34,9 +32,9 @@ abbrev pub supply_of : List (List Unit) → ℕ → List Area → List Channel �
 supply_of units occupancy areas channels = record { units = units; occupancy = occupancy; areas = areas; channels = channels }
 
 -- the drum's length, where a channel is the drum's
-abbrev pub length_in : Fitted → ℕ → ℕ
-length_in F.Nothing other = other
-length_in (F.With kind n) other = cond (is_drum kind) n other
+abbrev pub length_in : Option Fitted → ℕ → ℕ
+length_in None other = other
+length_in (Some its) other = cond (is_drum its.kind) its.n other
 
 -- the drum's length, of the one drum channel; 0 without
 unfoldable pub drum_length : List Channel → ℕ
@@ -60,12 +58,12 @@ abbrev pub free_of : Supply → ℕ → ℕ → Bool
 free_of supply kind i = is_free_of supply.units supply.channels kind i
 
 -- to which entry unit i is given
-abbrev pub given : Assigned → ℕ → Given
+abbrev pub given : Assigned → ℕ → Option LogicalChannel
 given a i = (get_or a.heads i blank).to
 
 -- to which entry of the kind unit i is given, nothing where it is of another kind
-abbrev pub given_of : Supply → ℕ → Assigned → ℕ → Given
-given_of supply kind a i = cond (free_of supply kind i) (given a i) Nothing
+abbrev pub given_of : Supply → ℕ → Assigned → ℕ → Option LogicalChannel
+given_of supply kind a i = cond (free_of supply kind i) (given a i) None
 
 -- a unit is of one of the kinds, and assignable
 pub record Assignable (supply : Supply) (i : ℕ) : Type 0 where

@@ -1,5 +1,5 @@
 -- Which assignment is chosen, and what the assigner answers. A reader has to believe this page.
-use Rattle.std.specs.Prelude.{ℕ, ◌<◌, ◌≡◌, length, replicate}
+use Rattle.std.specs.Prelude.{ℕ, ◌<◌, ◌≡◌, length, replicate, Option, Some, None}
 use Rattle.numbers.specs.Kinds.{unit_kinds}
 use Rattle.assign_core.specs.Core.{Before}
 use Rattle.assign_channels.specs.Choice.{LexLe}
@@ -8,8 +8,6 @@ use Rattle.assign_heads.specs.Whose.{blank}
 use Rattle.cards_request.specs.Requests.{counts}
 use Rattle.cards_request.specs.declared.Facilities.{Facilities}
 use Rattle.assign.specs.declared.Assigned.{Assigned}
-use Rattle.assign.specs.declared.Lacking.{Lacking}
-use Rattle.assign.specs.declared.Lacking.TheVariants.{Nothing, First}
 use Rattle.assign.specs.declared.Part.{Part}
 use Rattle.assign.specs.declared.Provision.{Provision}
 use Rattle.assign.specs.Assignment.{Supply, no_channels, channels_of, free_of, given_of, IsAssignment}
@@ -35,12 +33,12 @@ nothing = record { ib = 0; db = 0; drum = 0; channels = replicate unit_kinds no_
 
 -- a part is lacking, and nothing is given
 abbrev pub without : Part → Provision
-without part = record { lacking = First part; assigned = nothing }
+without part = record { lacking = Some part; assigned = nothing }
 
 -- what is answered: the chosen assignment, where nothing is lacking; or the first part that is, and no facility
-abbrev pub Answer : Lacking → Supply → Facilities → Assigned → Type 0
-Answer Nothing supply wanted a = Chosen supply wanted a
-Answer (First part) supply wanted a = FirstLacking supply wanted (First part) × (a ≡ nothing)
+abbrev pub Answer : Option Part → Supply → Facilities → Assigned → Type 0
+Answer None supply wanted a = Chosen supply wanted a
+Answer (Some part) supply wanted a = FirstLacking supply wanted (Some part) × (a ≡ nothing)
 
 -- THE ASSIGNER: the chosen assignment, or the first part that is lacking
 abbrev pub Assigns : Supply → Facilities → Provision → Type 0
@@ -49,6 +47,6 @@ Assigns supply wanted r = Answer r.lacking supply wanted r.assigned
 -- AN ASSIGNMENT EXISTS EXACTLY WHEN NOTHING IS LACKING, for 16 channels and a number for each logical channel of each
 -- kind, which their types have
 pub record ExistsExactly : Type 0 where
-  pub only : (supply : Supply) (wanted : Facilities) (b : Assigned) → IsAssignment supply wanted b → FirstLacking supply wanted Nothing
+  pub only : (supply : Supply) (wanted : Facilities) (b : Assigned) → IsAssignment supply wanted b → FirstLacking supply wanted None
   pub when : (supply : Supply) (wanted : Facilities) → length supply.channels ≡ 16 → length wanted.units ≡ counts
-      → FirstLacking supply wanted Nothing → (b : Assigned) × IsAssignment supply wanted b
+      → FirstLacking supply wanted None → (b : Assigned) × IsAssignment supply wanted b

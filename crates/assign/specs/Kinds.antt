@@ -1,11 +1,10 @@
 -- What is known of the kinds that have been served, one after the other; `free` says which units are of a kind and
 -- assignable. Nothing here has to be believed: a private function cites it, and Chosen says what comes out.
-use Rattle.std.specs.Prelude.{ℕ, ◌≤◌, ◌<◌, ◌≡◌, Bool, true, false, cond, List, length, get_or}
+use Rattle.std.specs.Prelude.{ℕ, ◌≤◌, ◌<◌, ◌≡◌, Bool, true, false, cond, List, length, get_or, Option, None}
+use Rattle.numbers.specs.declared.LogicalChannel.{LogicalChannel}
 use Rattle.numbers.specs.declared.ChannelNumber.{ChannelNumber}
 use Rattle.numbers.specs.Kinds.{unit_kinds}
 use Rattle.assign_channels.specs.Choice.{want, on, LexLe}
-use Rattle.assign_heads.specs.declared.Given.{Given}
-use Rattle.assign_heads.specs.declared.Given.TheVariants.{Nothing}
 use Rattle.assign_heads.specs.declared.Head.{Head}
 use Rattle.assign_heads.specs.Heads.{is_given, Served, Lowest}
 use Rattle.assign_heads.specs.Whose.{blank}
@@ -17,19 +16,19 @@ use Rattle.assign.specs.Assignment.{wants_of, no_channels}
 -- some assignment has these channels for a kind's entries
 pub record Possible (free : ℕ → ℕ → Bool) (asked : Facilities) (kind : ℕ) (channels : List ChannelNumber) : Type 0 where
   pub long : length channels ≡ 16
-  pub to : ℕ → Given
+  pub to : ℕ → Option LogicalChannel
   pub served : Served (free kind) (want (wants_of asked kind)) (on channels) to
 
 -- a kind is served: the least list of channels, the lowest units
-pub record KindDone (free : ℕ → ℕ → Bool) (asked : Facilities) (kind : ℕ) (channels : List ChannelNumber) (to : ℕ → Given) : Type 0 where
+pub record KindDone (free : ℕ → ℕ → Bool) (asked : Facilities) (kind : ℕ) (channels : List ChannelNumber) (to : ℕ → Option LogicalChannel) : Type 0 where
   pub long : length channels ≡ 16
   pub served : Served (free kind) (want (wants_of asked kind)) (on channels) to
   pub least : (others : List ChannelNumber) → Possible free asked kind others → LexLe channels others
   pub lowest : Lowest (free kind) to
 
 -- to which entry of the kind unit i is given
-abbrev pub to_of : (ℕ → ℕ → Bool) → ℕ → List Head → ℕ → Given
-to_of free kind heads i = cond (free kind i) (get_or heads i blank).to Nothing
+abbrev pub to_of : (ℕ → ℕ → Bool) → ℕ → List Head → ℕ → Option LogicalChannel
+to_of free kind heads i = cond (free kind i) (get_or heads i blank).to None
 
 -- the kinds before one are served, no unit of another is given, and no entry of another has a channel
 pub record KindsDone (free : ℕ → ℕ → Bool) (asked : Facilities) (channels : List KindChannels) (heads : List Head) (order : ℕ) : Type 0 where

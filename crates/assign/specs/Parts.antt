@@ -1,15 +1,13 @@
 -- The parts of an assignment, each alone, and the first that is lacking. A reader has to believe this page.
-use Rattle.std.specs.Prelude.{ℕ, ◌≡◌, List, [], ◌∷◌, map, ◌⊎◌}
+use Rattle.std.specs.Prelude.{ℕ, ◌≡◌, List, [], ◌∷◌, map, ◌⊎◌, Option, Some, None}
+use Rattle.numbers.specs.declared.LogicalChannel.{LogicalChannel}
 use Rattle.numbers.specs.Kinds.{in_order, order_of}
 use Rattle.assign_core.specs.Core as Cores
 use Rattle.assign_drum.specs.Drum as Drums
 use Rattle.assign_drum.specs.declared.Area.{Area}
 use Rattle.assign_channels.specs.Choice.{want}
-use Rattle.assign_heads.specs.declared.Given.{Given}
 use Rattle.assign_heads.specs.Heads.{Served}
 use Rattle.cards_request.specs.declared.Facilities.{Facilities}
-use Rattle.assign.specs.declared.Lacking.{Lacking}
-use Rattle.assign.specs.declared.Lacking.TheVariants.{Nothing, First}
 use Rattle.assign.specs.declared.Part.{Part}
 use Rattle.assign.specs.declared.Part.TheVariants.{Core, Drum, Units}
 use Rattle.assign.specs.Assignment.{Supply, drum_length, wants_of, free_of}
@@ -28,7 +26,7 @@ pub record HasDrum (areas : List Area) (length : ℕ) (wanted : Facilities) : Ty
 -- a kind: its entries are served in some way, whatever the other kinds
 pub record HasKind (supply : Supply) (wanted : Facilities) (order : ℕ) : Type 0 where
   pub on : ℕ → ℕ
-  pub to : ℕ → Given
+  pub to : ℕ → Option LogicalChannel
   pub served : Served (free_of supply order) (want (wants_of wanted order)) on to
 
 -- a part alone has a solution in this supply; it is lacking where it has none
@@ -46,10 +44,10 @@ abbrev pub parts : List Part
 parts = Core ∷ Drum ∷ kinds
 
 -- the first of some parts that is not there; nothing is lacking where all are
-abbrev pub FirstOf : (Part → Type 0) → List Part → Lacking → Type 0
-FirstOf has [] r = r ≡ Nothing
-FirstOf has (p ∷ ps) r = ((has p → ⊥) × (r ≡ First p)) ⊎ (has p × FirstOf has ps r)
+abbrev pub FirstOf : (Part → Type 0) → List Part → Option Part → Type 0
+FirstOf has [] r = r ≡ None
+FirstOf has (p ∷ ps) r = ((has p → ⊥) × (r ≡ Some p)) ⊎ (has p × FirstOf has ps r)
 
 -- what is lacking first in this supply for what a job asks for
-abbrev pub FirstLacking : Supply → Facilities → Lacking → Type 0
+abbrev pub FirstLacking : Supply → Facilities → Option Part → Type 0
 FirstLacking supply wanted r = FirstOf (Has supply wanted) parts r

@@ -8,11 +8,10 @@ ghost use Rattle.assign.specs.Kinds.{ServesKinds};
 ghost use Rattle.assign.specs.Chosen.{nothing, without, Assigns};
 
 use assign_channels::ByLogical;
-use assign_core::Found;
-use assign_drum::{Area, Start};
-use assign_heads::{Given, Head};
+use assign_drum::Area;
+use assign_heads::Head;
 use cards_request::{Facilities, Request};
-use channels::{Channel, Fitted};
+use channels::Channel;
 use numbers::{ChannelNumber, Kind};
 use units::Units;
 
@@ -41,17 +40,11 @@ pub enum Part {
     Units(Kind),
 }
 
-// What is lacking for an assignment: nothing, or the first part that alone has no solution.
-#[derive(Clone, Copy)]
-pub enum Lacking {
-    Nothing,
-    First(Part),
-}
-
-// What the assigner answers: what is lacking, and what the job gets where nothing is.
+// What the assigner answers: what is lacking for an assignment, the first part that alone has no solution; and what the
+// job gets where nothing is.
 #[derive(Clone, Copy)]
 pub struct Provision {
-    pub lacking: Lacking,
+    pub lacking: Option<Part>,
     pub assigned: Assigned,
 }
 
@@ -74,7 +67,7 @@ pub fn nothing() -> Assigned
         db: 0,
         drum: 0,
         channels: [KindChannels { on: none }; numbers::UNIT_KINDS],
-        heads: [Head { to: Given::Nothing }; 256],
+        heads: [Head { to: None }; 256],
     }
 }
 
@@ -82,16 +75,12 @@ pub fn nothing() -> Assigned
 pub fn drum_length(channels: [Channel; 16]) -> u32
     ensures { result ≡ drum_length channels }
 {
-    let mut c: usize = 0;
-    while c < 16 {
-        let channel = channels[c];
-        let has = channel.has;
-        if let Fitted::With(kind, n) = has {
-            if numbers::is_drum(kind) {
-                return n;
+    for channel in &channels {
+        if let Some(its) = channel.has {
+            if numbers::is_drum(its.kind) {
+                return its.n;
             }
         }
-        c += 1;
     }
     0
 }
@@ -103,11 +92,7 @@ pub fn wants_of(wanted: Facilities, order: usize) -> ByLogical
     let units = wanted.units;
     let mut wants = [0u8; 16];
     if order < numbers::UNIT_KINDS {
-        let mut l: usize = 0;
-        while l < 16 {
-            wants[l] = units[order * 16 + l];
-            l += 1;
-        }
+        wants.copy_from_slice(&units[order * 16..order * 16 + 16]);
     }
     ByLogical(wants)
 }
@@ -119,9 +104,8 @@ fn serve_kinds(units: Units, channels: [Channel; 16], wanted: Facilities) -> Kin
 {
     let none = [ChannelNumber(0); 16];
     let mut chosen = [KindChannels { on: none }; numbers::UNIT_KINDS];
-    let mut heads = [Head { to: Given::Nothing }; 256];
-    let mut order: usize = 0;
-    while order < numbers::UNIT_KINDS {
+    let mut heads = [Head { to: None }; 256];
+    for order in 0..numbers::UNIT_KINDS {
         let wants = wants_of(wanted, order);
         let asked = wants.0;
         if 0 < assign_channels::sum(asked) {
@@ -140,11 +124,10 @@ fn serve_kinds(units: Units, channels: [Channel; 16], wanted: Facilities) -> Kin
             chosen[order] = KindChannels { on };
             heads = next;
         }
-        order += 1;
     }
     Kinds {
         ok: true,
-        order,
+        order: numbers::UNIT_KINDS,
         channels: chosen,
         heads,
     }
@@ -155,7 +138,7 @@ fn without(part: Part) -> Provision
     ensures { result ≡ without part }
 {
     Provision {
-        lacking: Lacking::First(part),
+        lacking: Some(part),
         assigned: nothing(),
     }
 }
@@ -171,10 +154,10 @@ fn find(
 ) -> Provision
     ensures { Assigns (supply_of units.of occupancy areas channels) wanted result }
 {
-    let Found::At(pair) = assign_core::search(occupancy, wanted.ib as u32, wanted.db as u32) else {
+    let Some(pair) = assign_core::search(occupancy, wanted.ib as u32, wanted.db as u32) else {
         return without(Part::Core);
     };
-    let Start::At(start) = assign_drum::lowest_start(areas, drum_length(channels), wanted.md) else {
+    let Some(start) = assign_drum::lowest_start(areas, drum_length(channels), wanted.md) else {
         return without(Part::Drum);
     };
     let kinds = serve_kinds(units, channels, wanted);
@@ -184,7 +167,7 @@ fn find(
     let named = kinds.channels;
     let heads = kinds.heads;
     Provision {
-        lacking: Lacking::Nothing,
+        lacking: None,
         assigned: Assigned {
             ib: pair.0,
             db: pair.1,

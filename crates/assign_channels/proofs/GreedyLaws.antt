@@ -8,9 +8,7 @@ use mathlib.Core.List.{List, [], ◌∷◌}
 use native.Mathlib.Nat.{eq-or-lt_of_le}
 use native.Mathlib.Omega.{arith}
 use lib.Dec.{leb}
-use native.Mathlib.Numerals.{add-one}
-use lib.ListN.{length, get_or, set, drop, length-set, drop_of_length-le}
-use lib.Seq.{drop-cons}
+use lib.ListN.{length, get_or, set, length-set}
 use borrow.Author.Tests.{leb-true, leb-false}
 use Rattle.numbers.proofs.Order.{le-or-lt}
 use Rattle.numbers.proofs.Tests.{by_bool, never}
@@ -117,13 +115,6 @@ picks-least (suc n ∷ ns) counts q h (d ∷ ds) c =
 -- a picked channel is one of the 16
 pub lowest-below : (counts : List ℕ) (n : ℕ) (rest : List ℕ) → 1 ≤ n → length counts ≤ 16 → Hall counts (n ∷ rest) → lowest_of counts n rest < 16
 lowest-below counts n rest p q h = omega (arith, channel-below counts (lowest_of counts n rest) n p (lowest-at counts n rest p q h).fits)
-
--- ---- one more of a list, for the loops
-pub total-drop : (xs : List ℕ) (i : ℕ) → i < length xs → total (drop i xs) ≡ get_or xs i 0 + total (drop (i + 1) xs)
-total-drop xs i h = rw (add-one, drop-cons xs i 0)
-
-pub total-end : (xs : List ℕ) (i : ℕ) → length xs ≤ i → total (drop i xs) ≡ 0
-total-end xs i h = rw (drop_of_length-le xs h)
 
 -- where all numbers together are none, each is
 pub total-none : (xs : List ℕ) → total xs ≡ 0 → (i : ℕ) → get_or xs i 0 ≡ 0

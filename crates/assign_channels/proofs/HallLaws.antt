@@ -7,10 +7,8 @@ use mathlib.Core.Logic.{◌⊎◌, inl, inr, ⊎_elim}
 use mathlib.Core.List.{List, [], ◌∷◌}
 use native.Mathlib.Nat.{eq-zero-or-pos}
 use native.Mathlib.Omega.{arith}
-use native.Mathlib.Numerals.{add-one}
 use lib.Dec.{leb, eqb}
-use lib.ListN.{length, get_or, set, drop, drop_of_length-le}
-use lib.Seq.{drop-cons}
+use lib.ListN.{length, get_or, set}
 use borrow.Author.Tests.{le-leb, lt-leb, leb-true, ne_eqb, eq-eqb}
 use Rattle.numbers.proofs.Order.{le-or-lt}
 use Rattle.numbers.proofs.Tests.{both}
@@ -33,13 +31,6 @@ pub cnt-set : (t : ℕ) → 1 ≤ t → (xs : List ℕ) (c : ℕ) → cnt t (set
 cnt-set t p [] c = omega (arith, ge-no {t = t} {x = 0} p)
 cnt-set t p (x ∷ xs) zero = omega (arith, ge-no {t = t} {x = 0} p)
 cnt-set t p (x ∷ xs) (suc c) = omega (arith, cnt-set t p xs c)
-
--- one more of a list
-pub cnt-drop : (t : ℕ) (xs : List ℕ) (i : ℕ) → i < length xs → cnt t (drop i xs) ≡ ge t (get_or xs i 0) + cnt t (drop (i + 1) xs)
-cnt-drop t xs i h = rw (add-one, drop-cons xs i 0)
-
-pub cnt-end : (t : ℕ) (xs : List ℕ) (i : ℕ) → length xs ≤ i → cnt t (drop i xs) ≡ 0
-cnt-end t xs i h = rw (drop_of_length-le xs h)
 
 -- a channel with n units is counted
 cnt-some : (n : ℕ) → 1 ≤ n → (xs : List ℕ) (k : ℕ) → n ≤ get_or xs k 0 → 1 ≤ cnt n xs

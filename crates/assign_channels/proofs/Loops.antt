@@ -1,20 +1,22 @@
--- The loops of `can_serve`, `lowest` and `choose`: what a turn does to the computation that remains, and what that
--- is at the end. Assumes nothing.
-use Prim.Native.Nat.{ℕ, zero, suc, ◌+◌, ◌-◌, ◌≤◌, ◌<◌}
+-- The part that `can_serve` reads; and the loops of `lowest` and `choose`: what a turn does to the computation that
+-- remains, and what that is at the end. Assumes nothing.
+use Prim.Native.Nat.{ℕ, zero, suc, ◌+◌, ◌-◌, ◌≤◌, ◌<◌, min}
 use mathlib.Core.Path.{◌≡◌, refl, sym, ap, ◌∙◌, subst}
 use mathlib.Core.Bool.{true, false}
+use mathlib.Core.Logic.{⊎_elim}
+use Rattle.numbers.proofs.Order.{le-or-lt}
 use mathlib.Core.List.{List, [], ◌∷◌, ◌++◌, append_assoc, append-nil}
 use native.Mathlib.Omega.{arith}
 use native.Mathlib.Numerals.{add-one}
 use lib.ListN.{length, get_or, set, take, drop, replicate, length-set, length-drop, drop_of_length-le, get_or-replicate}
 use lib.Seq.{drop-cons, take_all, take-suc, take-suc-set, get_or-set_other}
-use borrow.Author.Tests.{le-leb, lt-leb, eq-eqb, ne_eqb}
+use borrow.Author.Tests.{le-leb, lt-leb}
 use Rattle.numbers.specs.declared.ChannelNumber.{ChannelNumber}
 use Rattle.assign_channels.specs.declared.ByChannel.{ByChannel}
 use Rattle.assign_channels.specs.declared.ByLogical.{ByLogical}
 use Rattle.assign_channels.specs.declared.Picks.{Picks}
 use Rattle.assign_channels.specs.Choice.{channel, total, LeastList}
-use Rattle.assign_channels.specs.Greedy.{cnt, Hall, tests_b, hall_b, lowest_from, lowest_of, picks, choose_of}
+use Rattle.assign_channels.specs.Greedy.{Hall, hall_b, lowest_from, lowest_of, picks, choose_of}
 use Rattle.assign_channels.proofs.HallLaws.{hall-zero, hall-sound}
 use Rattle.assign_channels.proofs.ChoiceLaws.{chosen}
 use Rattle.assign_channels.proofs.GreedyLaws.{lowest-at, lowest-below}
@@ -23,30 +25,13 @@ use Rattle.assign_channels.proofs.GreedyLaws.{lowest-at, lowest-below}
 pub next : (ns : List ℕ) (i : ℕ) → i < length ns → drop i ns ≡ get_or ns i 0 ∷ drop (i + 1) ns
 next ns i h = rw (add-one, drop-cons ns i 0)
 
--- ---- the threshold test, of `all` entries, of which those from i on in ns are left
-module _ (counts all ns : List ℕ) (i : ℕ) where
-  abbrev n : ℕ
-  n = get_or ns i 0
-
-  pub tests-zero : i < length ns → n ≡ 0 → tests_b counts all (drop (i + 1) ns) ≡ tests_b counts all (drop i ns)
-  unfolding tests_b
-  tests-zero h e = sym (rw (next ns i h, eq-eqb n 0 e) refl)
-
-  pub tests-pass : i < length ns → cnt n all ≤ cnt n counts → 0 < n → tests_b counts all (drop (i + 1) ns) ≡ tests_b counts all (drop i ns)
-  unfolding tests_b
-  tests-pass h l p = sym (rw (next ns i h, ne_eqb n 0 (λ z. omega arith), le-leb (cnt n all) (cnt n counts) l) refl)
-
-  pub tests-fail : i < length ns → cnt n counts < cnt n all → 0 < n → tests_b counts all (drop i ns) ≡ false
-  unfolding tests_b
-  tests-fail h l p = rw (next ns i h, ne_eqb n 0 (λ z. omega arith), lt-leb (cnt n all) (cnt n counts) l) refl
-
-  pub tests-end : length ns ≤ i → tests_b counts all (drop i ns) ≡ true
-  unfolding tests_b
-  tests-end h = rw (drop_of_length-le ns h) refl
-
 -- the entries from a logical channel on, as the part of the table that is lent
-pub lent_is : (wants : List ℕ) (from : ℕ) → length wants ≡ 16 → take (16 - from) (drop from wants) ≡ drop from wants
-lent_is wants from size = take_all (16 - from) (drop from wants) (simp length-drop (omega arith))
+pub lent_is : (wants : List ℕ) (from start : ℕ) → length wants ≡ 16 → start ≡ min from 16
+    → take (length wants - start) (drop start wants) ≡ drop from wants
+lent_is wants from start size e =
+    take_all (length wants - start) (drop start wants) (simp length-drop (omega arith))
+    ∙ ⊎_elim (λ h. drop_of_length-le wants {i = start} (omega arith) ∙ sym (drop_of_length-le wants {i = from} (omega arith)))
+    (λ h. ap (λ (n : ℕ). drop n wants) (omega arith)) (le-or-lt 16 from)
 
 -- ---- the lowest channel
 module _ (counts : List ℕ) (n : ℕ) (rest : List ℕ) (c : ℕ) (below : c < 16) where

@@ -8,6 +8,7 @@ ghost use Rattle.assign_channels.specs.Greedy.{cnt, hall_b, lowest_of};
 use numbers::{ChannelNumber, LogicalChannel};
 
 // Numbers of units by channel.
+// Stays: no count may be passed for another (document 01), and two names are plainer than one table generic in its index.
 #[derive(Clone, Copy)]
 pub struct ByChannel(pub [u8; 16]);
 
@@ -26,15 +27,7 @@ pub struct Picks {
 fn count_ge(xs: &[u8], t: u8) -> usize
     ensures { result ≡ cnt t xs.now }
 {
-    let mut n: usize = 0;
-    let mut i: usize = 0;
-    while i < xs.len() {
-        if t <= xs[i] {
-            n += 1;
-        }
-        i += 1;
-    }
-    n
+    xs.iter().filter(|x| t <= **x).count()
 }
 
 // The threshold test: whether each entry from a logical channel on can have a channel of its own.
@@ -42,21 +35,11 @@ pub fn can_serve(counts: ByChannel, wants: ByLogical, from: LogicalChannel) -> b
     ensures { result ≡ hall_b counts.0 (drop from.0 wants.0) }
 {
     let there = counts.0;
-    let asked = wants.0;
-    let start = from.0 as usize;
-    let mut i = start;
-    while i < 16 {
-        let t = asked[i];
-        if 0 < t {
-            let entries = count_ge(&asked[start..], t);
-            let channels = count_ge(&there, t);
-            if channels < entries {
-                return false;
-            }
-        }
-        i += 1;
-    }
-    true
+    let start = (from.0 as usize).min(16);
+    let asked = &wants.0[start..];
+    asked
+        .iter()
+        .all(|t| *t == 0 || count_ge(asked, *t) <= count_ge(&there, *t))
 }
 
 // The lowest channel with n units after which the entries from a logical channel on can still be served; 16 where there
@@ -65,8 +48,7 @@ fn lowest(counts: ByChannel, n: u8, wants: ByLogical, from: LogicalChannel) -> C
     ensures { result.0 ≡ lowest_of counts.0 n (drop from.0 wants.0) }
 {
     let there = counts.0;
-    let mut c: usize = 0;
-    while c < 16 {
+    for c in 0..16 {
         if n <= there[c] {
             let mut tried = counts;
             tried.0[c] = 0;
@@ -74,29 +56,15 @@ fn lowest(counts: ByChannel, n: u8, wants: ByLogical, from: LogicalChannel) -> C
                 return ChannelNumber(c as u8);
             }
         }
-        c += 1;
     }
     ChannelNumber(16)
-}
-
-// A byte as a count.
-fn wide(x: u8) -> u16
-    ensures { (result ≡ x) × (result < 256) }
-{
-    x as u16
 }
 
 // All numbers of a list together: at most 16 * 255, so that 16 bits hold them; the compiler can then add eight at a time.
 pub fn sum(xs: [u8; 16]) -> u16
     ensures { result ≡ total xs }
 {
-    let mut n: u16 = 0;
-    let mut i: usize = 0;
-    while i < 16 {
-        n += wide(xs[i]);
-        i += 1;
-    }
-    n
+    xs.iter().map(|x| *x as u16).sum()
 }
 
 // The least list of channels, one for each entry with logical channel 1 to 15, that leaves the entry with logical
@@ -114,8 +82,7 @@ pub fn choose(counts: ByChannel, wants: ByLogical) -> Picks
         return Picks { ok: false, on };
     }
     let mut left = counts;
-    let mut l: usize = 1;
-    while l < 16 {
+    for l in 1..16 {
         let n = asked[l];
         if 0 < n {
             let rest = LogicalChannel((l + 1) as u8);
@@ -124,7 +91,6 @@ pub fn choose(counts: ByChannel, wants: ByLogical) -> Picks
             left.0[c] = 0;
             on[l] = channel;
         }
-        l += 1;
     }
     Picks { ok: true, on }
 }

@@ -1,5 +1,7 @@
 -- A search that antt computes: it meets the search's contract, so by `answers_one` it is what the search answers.
 -- Assumes nothing.
+use Rattle.std.specs.Prelude.{Option, Some, None}
+use Rattle.assign_core.specs.declared.Pair.{Pair}
 use Prim.Native.Nat.{ℕ, zero, suc, ◌+◌, ◌*◌, ◌≤◌, ◌<◌, ◌/◌, ◌%◌}
 use mathlib.Core.Path.{◌≡◌, refl, ap, ◌∙◌, subst}
 use mathlib.Core.Logic.{◌⊎◌, inl, inr, ⊎_elim}
@@ -10,8 +12,6 @@ use lib.Dec.{leb, eqb}
 use borrow.Author.Tests.{eq-eqb, eqb-true, eqb-false, le-leb, leb-true}
 use Rattle.numbers.proofs.Find.{Hit, hit, none, seek, First, first}
 use Rattle.numbers.proofs.Tests.{by_bool, both, or-true}
-use Rattle.assign_core.specs.declared.Found.{Found}
-use Rattle.assign_core.specs.declared.Found.TheVariants.{At, Nothing}
 use Rattle.numbers.specs.Bits.{bit}
 use Rattle.numbers.specs.Limits.{first_block, last_block}
 use Rattle.assign_core.specs.Core.{Run, Beside, Fits, LeastPair}
@@ -89,14 +89,14 @@ module _ (w ib db i j : ℕ) where
       positive z = ⊎_elim (λ e. absurd (eqb-false db 0 z e)) (λ p. p) (eq-zero-or-pos db)
 
 -- ---- the search: the first pair, as one number
-abbrev pub found : Hit → Found
-found (hit m) = At (record { 0 = m / 32; 1 = m % 32 })
-found none = Nothing
+abbrev pub found : Hit → Option Pair
+found (hit m) = Some (record { 0 = m / 32; 1 = m % 32 })
+found none = None
 
 abbrev pub test : ℕ → ℕ → ℕ → ℕ → Bool
 test w ib db p = fits_b w ib db (p / 32) (p % 32)
 
-unfoldable pub search_of : ℕ → ℕ → ℕ → Found
+unfoldable pub search_of : ℕ → ℕ → ℕ → Option Pair
 search_of w ib db = found (seek (test w ib db) 1024 0)
 
 -- a pair that fits has one that is tried and comes no later
@@ -136,7 +136,7 @@ answers_of w ib db none p = λ a b f.
     let t = tried w ib db a b f in
     p (a * 32 + t.at) (omega arith) (omega (arith, f.instructions, t)) (passes w ib db a t.at t.small t.fits)
 
-pub computed : (w ib db : ℕ) (r : Found) → LeastPair w ib db r → r ≡ search_of w ib db
+pub computed : (w ib db : ℕ) (r : Option Pair) → LeastPair w ib db r → r ≡ search_of w ib db
 unfolding search_of
 computed w ib db r p =
     answers_one w ib db r (found (seek (test w ib db) 1024 0)) p (answers_of w ib db (seek (test w ib db) 1024 0) (first (test w ib db) 1024 0))

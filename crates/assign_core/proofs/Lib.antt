@@ -1,2 +1,3 @@
 pub mod CoreLaws
 pub mod Computed
+pub mod Ranges

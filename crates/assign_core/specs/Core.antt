@@ -1,10 +1,9 @@
 -- Core: 32 blocks of 2,048 words; 2 to 29 are assignable, the rest the executive's. What a job's core is, and which
 -- is chosen. A reader has to believe this page.
-use Rattle.std.specs.Prelude.{ℕ, ◌+◌, ◌≤◌, ◌<◌, ◌≡◌, ◌⊎◌}
+use Rattle.std.specs.Prelude.{ℕ, ◌+◌, ◌≤◌, ◌<◌, ◌≡◌, ◌⊎◌, Option, Some, None}
+use Rattle.assign_core.specs.declared.Pair.{Pair}
 use Rattle.numbers.specs.Bits.{bit}
 use Rattle.numbers.specs.Limits.{first_block, last_block}
-use Rattle.assign_core.specs.declared.Found.{Found}
-use Rattle.assign_core.specs.declared.Found.TheVariants.{At, Nothing}
 
 -- a run of n blocks from i of the occupancy word w: assignable blocks, and all free. Bit b of w is 1 where block b is
 -- taken
@@ -29,6 +28,6 @@ Before a b i j = (a < i) ⊎ ((a ≡ i) × (b < j))
 
 -- the pair that is found fits and none before it does (so a DB that is not asked for starts at 0). Nothing is found
 -- where none fits
-abbrev pub LeastPair : ℕ → ℕ → ℕ → Found → Type 0
-LeastPair w ib db (At p) = Fits w ib db p.0 p.1 × ((a b : ℕ) → Fits w ib db a b → Before a b p.0 p.1 → ⊥)
-LeastPair w ib db Nothing = (a b : ℕ) → Fits w ib db a b → ⊥
+abbrev pub LeastPair : ℕ → ℕ → ℕ → Option Pair → Type 0
+LeastPair w ib db (Some p) = Fits w ib db p.0 p.1 × ((a b : ℕ) → Fits w ib db a b → Before a b p.0 p.1 → ⊥)
+LeastPair w ib db None = (a b : ℕ) → Fits w ib db a b → ⊥

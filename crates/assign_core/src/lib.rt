@@ -18,34 +18,14 @@ const END: u32 = limits::LAST_BLOCK as u32 + 1;
 #[derive(Clone, Copy)]
 pub struct Pair(pub u32, pub u32);
 
-#[derive(Clone, Copy)]
-pub enum Found {
-    At(Pair),
-    Nothing,
-}
-
 // Whether n blocks from a start are a run: assignable blocks, all free. A set bit of the word is a taken block.
 pub fn is_run(word: u32, n: u32, from: u32) -> bool
     ensures { Decides (Run word n from) result }
 {
-    if from < FIRST {
+    if from < FIRST || END < from || END - from < n {
         return false;
     }
-    if END < from {
-        return false;
-    }
-    if END - from < n {
-        return false;
-    }
-    let end = from + n;
-    let mut b = from;
-    while b < end {
-        if (word >> b) % 2 == 1 {
-            return false;
-        }
-        b += 1;
-    }
-    true
+    (from..from + n).all(|b| (word >> b) % 2 == 0)
 }
 
 // Whether db blocks from j are a run that shares no block with the ib blocks from i.
@@ -53,35 +33,24 @@ fn is_beside(word: u32, i: u32, ib: u32, db: u32, j: u32) -> bool
     requires { i + ib ≤ last_block + 1 }
     ensures { Decides (Beside word i ib db j) result }
 {
-    if !is_run(word, db, j) {
-        return false;
-    }
-    if j + db <= i {
-        return true;
-    }
-    i + ib <= j
+    is_run(word, db, j) && (j + db <= i || i + ib <= j)
 }
 
 // The least pair of starts at which ib blocks and db blocks are free and apart.
-pub fn search(word: u32, ib: u32, db: u32) -> Found
+pub fn search(word: u32, ib: u32, db: u32) -> Option<Pair>
     ensures { LeastPair word ib db result }
 {
-    let mut i: u32 = FIRST;
-    let found = 'search: loop {
-        if END < i {
-            break Found::Nothing;
-        }
-        if is_run(word, ib, i) {
-            let mut j: u32 = 0;
-            while j <= END {
-                // A DB that is not asked for fits anywhere.
-                if db == 0 || is_beside(word, i, ib, db, j) {
-                    break 'search Found::At(Pair(i, j));
+    'search: {
+        for i in FIRST..=END {
+            if is_run(word, ib, i) {
+                for j in 0..=END {
+                    // A DB that is not asked for fits anywhere.
+                    if db == 0 || is_beside(word, i, ib, db, j) {
+                        break 'search Some(Pair(i, j));
+                    }
                 }
-                j += 1;
             }
         }
-        i += 1;
-    };
-    found
+        None
+    }
 }

@@ -1,8 +1,8 @@
 -- The loops of `assignable_on` and `count`: one more unit looked at, one more channel counted; and the counts are
 -- one list. Assumes nothing.
-use Prim.Native.Nat.{ℕ, ◌+◌, ◌*◌, ◌≤◌, ◌<◌, ◌/◌, ◌%◌}
+use Prim.Native.Nat.{ℕ, zero, suc, ◌+◌, ◌*◌, ◌≤◌, ◌<◌, ◌/◌, ◌%◌}
 use mathlib.Core.Path.{◌≡◌, refl, sym, ap, ◌∙◌, subst}
-use mathlib.Core.Bool.{Bool, false, cond, ◌&&◌}
+use mathlib.Core.Bool.{Bool, cond, ◌&&◌}
 use mathlib.Core.List.{List, []}
 use mathlib.Core.Logic.{⊎_elim}
 use native.Mathlib.Nat.{eq-or-lt_of_le}
@@ -10,20 +10,21 @@ use native.Mathlib.Omega.{arith}
 use lib.Dec.{eqb, ltb}
 use lib.ListN.{length, get_or, set, replicate, length-set, get_or-replicate}
 use lib.Seq.{ext_get_or, get_or-set_same, get_or-set_other}
-use borrow.Author.Tests.{eq-eqb, ne_eqb, eqb-true, eqb-false, lt-ltb, le-ltb}
+use borrow.Author.Tests.{eq-eqb, ne_eqb, eqb-true, eqb-false, le-ltb}
 use Rattle.numbers.proofs.Tests.{by_bool}
 use Rattle.numbers.specs.Kinds.{unit_kinds}
 use Rattle.units.specs.declared.Unit.{Unit}
 use Rattle.units.specs.State.{unit_in, assignable}
 use Rattle.channels.specs.declared.Fitted.{Fitted}
-use Rattle.channels.specs.declared.Fitted.TheVariants.{Nothing, With}
 use Rattle.channels.specs.declared.Channel.{Channel}
 use Rattle.channels.specs.Channels.{no_channel, units_of}
 use Rattle.assign_channels.specs.declared.ByChannel.{ByChannel}
 use Rattle.assign_channels.specs.Choice.{by_channel, count_at}
 use Rattle.assign_heads.specs.Sums.{one, how_many}
-use Rattle.assign_heads.proofs.SumsLaws.{sum_same, sum-zero}
-use Rattle.assign_heads.proofs.Turns.{count-more}
+use Rattle.assign_heads.proofs.SumsLaws.{sum_same, sum-zero, sum-none, sum-front}
+use Rattle.std.specs.Prelude.{Option, Some, None}
+use Rattle.std.specs.List.{filter, range_with_len}
+use Rattle.std.proofs.lemmas.List.Sums.{length-filter, count_by-le-length}
 use Rattle.assign_free.specs.Assignable.{is_fitted, units_of_kind, is_free_of}
 use Rattle.assign_counts.specs.declared.Counts.{Counts}
 use Rattle.assign_counts.specs.Assignable.{count_on, counts_of, Counted, order_in, AssignableOn}
@@ -33,24 +34,30 @@ use Rattle.assign_counts.specs.Assignable.{count_on, counts_of, Counted, order_i
 abbrev pub counts : List (List Unit) → ℕ → ℕ → ℕ → Bool
 counts grid c n u = ltb u n && assignable (unit_in grid c u)
 
-module _ (grid : List (List Unit)) (c n u : ℕ) {count next : ℕ} (so_far : count ≡ how_many u (counts grid c n)) where
-  -- a unit of the channel counts where it is assignable
-  pub unit-seen : {b : Bool} → u < n → b ≡ assignable (unit_in grid c u) → next ≡ one b + count → next ≡ how_many (u + 1) (counts grid c n)
-  unit-seen {b} h e m = count-more (counts grid c n) u count next b (rw (lt-ltb u n h) (sym e)) so_far m
+-- what passes of the k numbers from a on
+passing : (test : ℕ → Bool) (a k : ℕ) → length (filter test (range_with_len a k)) ≡ how_many k (λ u. test (a + u))
+passing test a zero = sym (sum-none (λ u. one (test (a + u))))
+passing test a (suc k) =
+    let e = sum-front k (λ u. one (test (a + u))) in
+    let z : a + 0 ≡ a = omega arith in
+    let f : how_many k (λ u. test (a + 1 + u)) ≡ how_many k (λ u. test (a + suc u)) =
+    sum_same k (λ u. one (test (a + 1 + u))) (λ u. one (test (a + suc u))) (λ u h. ap (λ (x : ℕ). one (test x)) (omega arith)) in
+    by_bool (test a)
+    (λ t. let o : one (test (a + 0)) ≡ 1 = ap (λ (x : ℕ). one (test x)) z ∙ ap one t in simp t (omega (arith, passing test (a + 1) k, e, f, o)))
+    (λ t. let o : one (test (a + 0)) ≡ 0 = ap (λ (x : ℕ). one (test x)) z ∙ ap one t in simp t (omega (arith, passing test (a + 1) k, e, f, o)))
 
-  -- one that the channel has not does not
-  pub unit-past : n ≤ u → next ≡ count → next ≡ how_many (u + 1) (counts grid c n)
-  unit-past h m = count-more (counts grid c n) u count next false (rw (le-ltb u n h) refl) so_far (omega arith)
-
-pub all_seen : (grid : List (List Unit)) (c n u : ℕ) {count : ℕ} → u ≤ 16 → 16 ≤ u → count ≤ u → count ≡ how_many u (counts grid c n)
-    → AssignableOn grid c n count
-all_seen grid c n u h k l e = let s : u ≡ 16 = omega arith in record { is = e ∙ ap (λ (x : ℕ). how_many x (counts grid c n)) s; few = omega arith }
+pub all_seen : (grid : List (List Unit)) (c n : ℕ) {count : ℕ} → count ≡ length (filter (counts grid c n) (range_with_len 0 16)) → AssignableOn grid c n count
+all_seen grid c n e = record {
+  is = e ∙ passing (counts grid c n) 0 16
+      ∙ sum_same 16 (λ u. one (counts grid c n (0 + u))) (λ u. one (counts grid c n u)) (λ u h. ap (λ (x : ℕ). one (counts grid c n x)) (omega arith));
+  few = omega (arith, e, length-filter (counts grid c n) (range_with_len 0 16), count_by-le-length (counts grid c n) (range_with_len 0 16));
+}
 
 -- ---- the channels
 -- a channel is of the kind at a place exactly if that is the place of its kind
-fitted-order : (f : Fitted) (order : ℕ) → order < unit_kinds → is_fitted order f ≡ eqb (order_in f) order
-fitted-order Nothing order h = sym (ne_eqb unit_kinds order (λ e. omega arith))
-fitted-order (With kind n) order h = refl
+fitted-order : (f : Option Fitted) (order : ℕ) → order < unit_kinds → is_fitted order f ≡ eqb (order_in f) order
+fitted-order None order h = sym (ne_eqb unit_kinds order (λ e. omega arith))
+fitted-order (Some its) order h = refl
 
 module _ (units : List (List Unit)) (channels : List Channel) (c : ℕ) where
   abbrev channel : Channel

@@ -1,10 +1,9 @@
 -- The assignable units counted: how many of a kind each channel has.
-use Rattle.std.specs.Prelude.{ℕ, ◌+◌, ◌*◌, ◌<◌, ◌≡◌, ◌&&◌, List, [], ltb, length, get_or}
+use Rattle.std.specs.Prelude.{ℕ, ◌+◌, ◌*◌, ◌<◌, ◌≡◌, ◌&&◌, List, [], ltb, length, get_or, Option, Some, None}
 use Rattle.numbers.specs.Kinds.{order_of, unit_kinds}
 use Rattle.units.specs.declared.Unit.{Unit}
 use Rattle.units.specs.State.{unit_in, assignable}
 use Rattle.channels.specs.declared.Fitted.{Fitted}
-use Rattle.channels.specs.declared.Fitted.TheVariants.{Nothing, With}
 use Rattle.channels.specs.declared.Channel.{Channel}
 use Rattle.assign_channels.specs.declared.ByChannel.{ByChannel}
 use Rattle.assign_channels.specs.Choice.{by_channel, count_at}
@@ -27,9 +26,9 @@ pub record Counted (units : List (List Unit)) (channels : List Channel) (counts 
   pub each : (order c : ℕ) → order < unit_kinds → c < 16 → count_at (counts_of counts order) c ≡ count_on units channels order c
 
 -- the place in the order of the kind that a channel has; behind the last, the drum's, where it has nothing
-abbrev pub order_in : Fitted → ℕ
-order_in Nothing = unit_kinds
-order_in (With kind n) = order_of kind
+abbrev pub order_in : Option Fitted → ℕ
+order_in None = unit_kinds
+order_in (Some its) = order_of its.kind
 
 -- how many of the first n units of channel c are assignable
 pub record AssignableOn (grid : List (List Unit)) (c n r : ℕ) : Type 0 where

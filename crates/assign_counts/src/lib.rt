@@ -6,7 +6,7 @@ ghost use Rattle.units.specs.State.{Square};
 ghost use Rattle.assign_counts.specs.Assignable.{order_in, AssignableOn, Counted};
 
 use assign_channels::ByChannel;
-use channels::{Channel, Fitted};
+use channels::Channel;
 use numbers::ChannelNumber;
 use units::{Unit, Units};
 
@@ -18,10 +18,9 @@ pub struct Counts(pub [ByChannel; numbers::UNIT_KINDS]);
 fn order_on(channel: Channel) -> usize
     ensures { result ≡ order_in channel.has }
 {
-    let has = channel.has;
-    match has {
-        Fitted::Nothing => numbers::UNIT_KINDS,
-        Fitted::With(kind, _) => numbers::order_of(kind),
+    match channel.has {
+        Some(its) => numbers::order_of(its.kind),
+        None => numbers::UNIT_KINDS,
     }
 }
 
@@ -30,19 +29,10 @@ fn assignable_on(grid: [[Unit; 16]; 16], channel: ChannelNumber, n: u32) -> u8
     requires { (channel.0 < 16) × Square grid }
     ensures { AssignableOn grid channel.0 n result }
 {
-    let c = channel.0 as usize;
-    let mut count: u8 = 0;
-    let mut u: usize = 0;
-    while u < 16 {
-        if (u as u32) < n {
-            let unit = grid[c][u];
-            if units::is_assignable(unit) {
-                count += 1;
-            }
-        }
-        u += 1;
-    }
-    count
+    let row = grid[channel.0 as usize];
+    (0..16)
+        .filter(|u| *u < n && units::is_assignable(row[*u as usize]))
+        .count() as u8
 }
 
 // The number of assignable units of every kind on every channel. A channel has units of one kind only.
@@ -52,16 +42,13 @@ pub fn count(units: Units, channels: [Channel; 16]) -> Counts
     let grid = units::grid_of(units);
     let none = ByChannel([0u8; 16]);
     let mut of = [none; numbers::UNIT_KINDS];
-    let mut c: usize = 0;
-    while c < 16 {
+    for c in 0..16 {
         let channel = channels[c];
         let order = order_on(channel);
         if order < numbers::UNIT_KINDS {
-            let mut row = of[order];
-            row.0[c] = assignable_on(grid, ChannelNumber(c as u8), channels::units_of(channel));
-            of[order] = row;
+            let n = channels::units_of(channel);
+            of[order].0[c] = assignable_on(grid, ChannelNumber(c as u8), n);
         }
-        c += 1;
     }
     Counts(of)
 }

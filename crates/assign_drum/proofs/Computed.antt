@@ -1,4 +1,5 @@
 -- A search that antt computes, start by start: it meets the contract of `lowest_start`. Assumes nothing.
+use Rattle.std.specs.Prelude.{Option, Some, None}
 use Prim.Native.Nat.{ℕ, zero, suc, ◌+◌, ◌-◌, ◌≤◌}
 use mathlib.Core.Path.{◌≡◌, refl, sym, subst}
 use mathlib.Core.Bool.{Bool, true, false, cond, not, ◌&&◌}
@@ -13,8 +14,6 @@ use Rattle.numbers.proofs.Find.{Hit, hit, none, seek, First, first}
 use Rattle.numbers.proofs.Tests.{by_bool, never, both}
 use Rattle.numbers.specs.Limits.{lowest_address}
 use Rattle.assign_drum.specs.declared.Area.{Area}
-use Rattle.assign_drum.specs.declared.Start.{Start}
-use Rattle.assign_drum.specs.declared.Start.TheVariants.{At, Nothing}
 use Rattle.assign_drum.specs.Drum.{no_area, IsArea, LowestStart}
 use Rattle.assign_drum.specs.Blocks.{end_of, Meets}
 use Rattle.assign_drum.proofs.BlocksLaws.{shared, clear-free}
@@ -65,9 +64,9 @@ module _ (held : List Area) (size n : ℕ) (some : 1 ≤ n) where
       (clear-complete held s n (λ k m. let x = shared (get_or held k no_area) s n some m in a.free x.0 x.1.0 x.1.1.0 k x.1.1.1))
 
 -- ---- the first start that passes
-abbrev pub found : Hit → Start
-found (hit s) = At s
-found none = Nothing
+abbrev pub found : Hit → Option ℕ
+found (hit s) = Some s
+found none = None
 
 -- the first number that passes, by cases, so that antt computes no further than to it; and that it is the one sought
 abbrev pub soon : (ℕ → Bool) → ℕ → ℕ → Hit
@@ -86,8 +85,8 @@ soon_is f (suc n) k = soon_step f n k (f k) refl (soon_is f n (suc k))
 soon_first : (f : ℕ → Bool) (n k : ℕ) → First f n k (soon f n k)
 soon_first f n k = subst (First f n k) (sym (soon_is f n k)) (first f n k)
 
-unfoldable pub start_of : List Area → ℕ → ℕ → Start
-start_of held size n = cond (eqb n 0) (At 0) (found (soon (area_b held size n) (size - lowest_address) lowest_address))
+unfoldable pub start_of : List Area → ℕ → ℕ → Option ℕ
+start_of held size n = cond (eqb n 0) (Some 0) (found (soon (area_b held size n) (size - lowest_address) lowest_address))
 
 found-answers : (held : List Area) (size n : ℕ) → 1 ≤ n → (h : Hit) → First (area_b held size n) (size - lowest_address) lowest_address h
     → LowestStart held size n (found h)

@@ -1,9 +1,7 @@
 -- What the search learns of one start. It is clear, or an area is in the way of it and of every later start up to that
 -- area's end. Nothing here has to be believed: private functions cite it, and Drum says what comes out.
-use Rattle.std.specs.Prelude.{ℕ, ◌+◌, ◌<◌, ◌^◌, ◌≡◌, List, get_or}
+use Rattle.std.specs.Prelude.{ℕ, ◌+◌, ◌<◌, ◌^◌, ◌≡◌, List, get_or, Option, Some, None}
 use Rattle.assign_drum.specs.declared.Area.{Area}
-use Rattle.assign_drum.specs.declared.Way.{Way}
-use Rattle.assign_drum.specs.declared.Way.TheVariants.{Until, Clear}
 use Rattle.assign_drum.specs.Drum.{no_area}
 
 -- the address after an area's last
@@ -29,6 +27,6 @@ pub record InTheWay (held : List Area) (s n e : ℕ) : Type 0 where
   pub small : e < 2 ^ 33
 
 -- such an area's end, where there is one
-abbrev pub Seen : List Area → ℕ → ℕ → Way → Type 0
-Seen held s n (Until e) = InTheWay held s n e
-Seen held s n Clear = (k : ℕ) → Meets (get_or held k no_area) s n → ⊥
+abbrev pub Seen : List Area → ℕ → ℕ → Option ℕ → Type 0
+Seen held s n (Some e) = InTheWay held s n e
+Seen held s n None = (k : ℕ) → Meets (get_or held k no_area) s n → ⊥

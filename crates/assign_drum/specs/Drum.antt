@@ -1,10 +1,8 @@
 -- The drum: the lowest assignable address is 35,329 (105001o). Areas are contiguous. What a job's area is, and which
 -- is chosen. A reader has to believe this page.
-use Rattle.std.specs.Prelude.{ℕ, ◌+◌, ◌≤◌, ◌<◌, List, get_or}
+use Rattle.std.specs.Prelude.{ℕ, ◌+◌, ◌≤◌, ◌<◌, List, get_or, Option, Some, None}
 use Rattle.numbers.specs.Limits.{lowest_address}
 use Rattle.assign_drum.specs.declared.Area.{Area}
-use Rattle.assign_drum.specs.declared.Start.{Start}
-use Rattle.assign_drum.specs.declared.Start.TheVariants.{At, Nothing}
 
 -- an area that has no words: the one of a place that holds none
 abbrev pub no_area : Area
@@ -30,6 +28,6 @@ abbrev pub Fits : List Area → ℕ → ℕ → ℕ → Type 0
 Fits held size n s = 1 ≤ n → IsArea held size n s
 
 -- the lowest start (so an area that is not asked for starts at 0); nothing is found where none fits
-abbrev pub LowestStart : List Area → ℕ → ℕ → Start → Type 0
-LowestStart held size n (At s) = Fits held size n s × ((b : ℕ) → b < s → Fits held size n b → ⊥)
-LowestStart held size n Nothing = (b : ℕ) → Fits held size n b → ⊥
+abbrev pub LowestStart : List Area → ℕ → ℕ → Option ℕ → Type 0
+LowestStart held size n (Some s) = Fits held size n s × ((b : ℕ) → b < s → Fits held size n b → ⊥)
+LowestStart held size n None = (b : ℕ) → Fits held size n b → ⊥

@@ -15,19 +15,6 @@ pub struct Area {
     pub words: u32,
 }
 
-#[derive(Clone, Copy)]
-pub enum Start {
-    At(u32),
-    Nothing,
-}
-
-// The end of a held area that is in the way.
-#[derive(Clone, Copy)]
-enum Way {
-    Until(u64),
-    Clear,
-}
-
 // The lowest assignable address.
 const LOWEST: u64 = limits::LOWEST_ADDRESS as u64;
 
@@ -45,51 +32,35 @@ fn meets(a: Area, s: u64, n: u64) -> bool
 {
     let from = a.start as u64;
     let end = end_of(a);
-    if s + n <= from {
-        return false;
-    }
-    if end <= s {
-        return false;
-    }
-    from < end
+    from < s + n && s < end && from < end
 }
 
-// Whether a held area has one of the n words from s, and where the first such area ends.
-fn in_the_way(held: [Area; 16], s: u64, n: u64) -> Way
+// Where the first held area ends that has one of the n words from s.
+fn in_the_way(held: [Area; 16], s: u64, n: u64) -> Option<u64>
     requires { s + n ≤ 4294967295 }
     ensures { Seen held s n result }
 {
-    let mut k: usize = 0;
-    while k < 16 {
-        let a = held[k];
-        if meets(a, s, n) {
-            return Way::Until(end_of(a));
-        }
-        k += 1;
-    }
-    Way::Clear
+    let first = held.iter().find(|a| meets(**a, s, n))?;
+    Some(end_of(*first))
 }
 
 // The lowest start of n free words on a drum of the size given. An area that is in the way of one start is in the way
 // of every start up to its end, so the search goes on there.
-pub fn lowest_start(held: [Area; 16], size: u32, n: u32) -> Start
+pub fn lowest_start(held: [Area; 16], size: u32, n: u32) -> Option<u32>
     ensures { LowestStart held size n result }
 {
     if n == 0 {
-        return Start::At(0);
+        return Some(0);
     }
     let limit = size as u64;
     let words = n as u64;
     let mut s = LOWEST;
+    // Stays: the step leads to the end of an area and is not one, and no iterator of std goes by ends.
     while s + words <= limit {
-        match in_the_way(held, s, words) {
-            Way::Until(end) => {
-                s = end;
-            }
-            Way::Clear => {
-                return Start::At(s as u32);
-            }
-        }
+        let Some(end) = in_the_way(held, s, words) else {
+            return Some(s as u32);
+        };
+        s = end;
     }
-    Start::Nothing
+    None
 }

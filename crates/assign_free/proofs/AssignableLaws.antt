@@ -1,5 +1,6 @@
 -- What the definitions of Assignable mean: a channel of another kind has no unit of the kind, no unit is of two
 -- kinds, none stands past the last, and the marks are one list. Assumes nothing.
+use Rattle.std.specs.Prelude.{Option, Some, None}
 use Prim.Native.Nat.{ℕ, ◌≤◌, ◌/◌, ◌%◌}
 use mathlib.Core.Path.{◌≡◌, refl, sym, ap, ◌∙◌}
 use mathlib.Core.Bool.{Bool, true, false, cond}
@@ -8,36 +9,20 @@ use native.Mathlib.Omega.{arith}
 use lib.Dec.{ltb}
 use lib.ListN.{length, get_or, get_or-eq_default}
 use lib.Seq.{ext_get_or}
-use borrow.Author.Tests.{eqb-true, ne_eqb, eq-eqb, ltb-true, ltb-false, le-ltb}
+use borrow.Author.Tests.{eqb-true, ltb-true, ltb-false, le-ltb}
 use Rattle.numbers.specs.Kinds.{order_of}
 use Rattle.numbers.proofs.Tests.{by_bool, never, both}
-use Rattle.numbers.specs.declared.Kind.{Kind}
 use Rattle.units.specs.declared.Unit.{Unit}
 use Rattle.units.specs.State.{unit_in, assignable}
 use Rattle.channels.specs.declared.Fitted.{Fitted}
-use Rattle.channels.specs.declared.Fitted.TheVariants.{Nothing, With}
 use Rattle.channels.specs.declared.Channel.{Channel}
 use Rattle.channels.specs.Channels.{no_channel, units_of}
 use Rattle.assign_free.specs.Assignable.{is_fitted, units_of_kind, is_free_of, FreeUnits}
 
-module _ {channel : Channel} {kind : Kind} {n : ℕ} (order : ℕ) (e : channel.has ≡ With kind n) where
-  pub other-kind : (order_of kind ≡ order → ⊥) → units_of_kind order channel ≡ 0
-  other-kind d =
-      let f : is_fitted order channel.has ≡ false = ap (is_fitted order) e ∙ ne_eqb (order_of kind) order d in
-      ap (λ (b : Bool). cond b (units_of channel) 0) f
-
-  pub same_kind : order_of kind ≡ order → units_of_kind order channel ≡ units_of channel
-  same_kind d =
-      let f : is_fitted order channel.has ≡ true = ap (is_fitted order) e ∙ eq-eqb (order_of kind) order d in
-      ap (λ (b : Bool). cond b (units_of channel) 0) f
-
-pub nothing-there : {channel : Channel} (order : ℕ) → channel.has ≡ Nothing → units_of_kind order channel ≡ 0
-nothing-there {channel} order e = ap (λ (b : Bool). cond b (units_of channel) 0) (ap (is_fitted order) e)
-
 -- a channel of one kind is of no other
-fitted-one : (f : Fitted) (a b : ℕ) → is_fitted a f ≡ true → is_fitted b f ≡ true → a ≡ b
-fitted-one Nothing a b p q = never p refl
-fitted-one (With kind n) a b p q = sym (eqb-true (order_of kind) a p) ∙ eqb-true (order_of kind) b q
+fitted-one : (f : Option Fitted) (a b : ℕ) → is_fitted a f ≡ true → is_fitted b f ≡ true → a ≡ b
+fitted-one None a b p q = never p refl
+fitted-one (Some its) a b p q = sym (eqb-true (order_of its.kind) a p) ∙ eqb-true (order_of its.kind) b q
 
 has_some : (order u : ℕ) (channel : Channel) → ltb u (units_of_kind order channel) ≡ true → is_fitted order channel.has ≡ true
 has_some order u channel t =

@@ -1,3 +1,2 @@
 pub mod AssignableLaws
 pub mod Computed
-pub mod Marking

@@ -1,18 +1,17 @@
 -- The assignable units of a kind: configured, free and unmarked. A kind is told by its place in the written order; unit
 -- u of channel c stands at c * 16 + u. A reader has to believe this page.
-use Rattle.std.specs.Prelude.{ℕ, ◌<◌, ◌/◌, ◌%◌, ◌≡◌, Bool, false, cond, ◌&&◌, List, eqb, ltb, length, get_or}
+use Rattle.std.specs.Prelude.{ℕ, ◌<◌, ◌/◌, ◌%◌, ◌≡◌, Bool, false, cond, ◌&&◌, List, eqb, ltb, length, get_or, Option, Some, None}
 use Rattle.numbers.specs.Kinds.{order_of}
 use Rattle.units.specs.declared.Unit.{Unit}
 use Rattle.units.specs.State.{unit_in, assignable}
 use Rattle.channels.specs.declared.Fitted.{Fitted}
-use Rattle.channels.specs.declared.Fitted.TheVariants.{Nothing, With}
 use Rattle.channels.specs.declared.Channel.{Channel}
 use Rattle.channels.specs.Channels.{no_channel, units_of}
 
 -- a channel has the kind at this place of the order
-abbrev pub is_fitted : ℕ → Fitted → Bool
-is_fitted order Nothing = false
-is_fitted order (With kind n) = eqb (order_of kind) order
+abbrev pub is_fitted : ℕ → Option Fitted → Bool
+is_fitted order None = false
+is_fitted order (Some its) = eqb (order_of its.kind) order
 
 -- a channel's units of a kind: as many as it has, the drum none; none on a channel of another kind
 abbrev pub units_of_kind : ℕ → Channel → ℕ

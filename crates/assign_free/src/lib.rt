@@ -5,7 +5,8 @@ ghost use Rattle.std.specs.Prelude.{◌≡◌};
 ghost use Rattle.assign_free.specs.Assignable.{units_of_kind, FreeUnits};
 ghost use Rattle.assign_free.specs.Counts.{CountsOf};
 
-use channels::{Channel, Fitted};
+use channels::Channel;
+use std::array;
 use units::Units;
 
 // Numbers of configured units by channel.
@@ -16,15 +17,9 @@ struct Configured([u32; 16]);
 fn units_of_kind(channel: Channel, order: usize) -> u32
     ensures { result ≡ units_of_kind order channel }
 {
-    let has = channel.has;
-    match has {
-        Fitted::Nothing => 0,
-        Fitted::With(kind, _) => {
-            if numbers::order_of(kind) != order {
-                return 0;
-            }
-            channels::units_of(channel)
-        }
+    match channel.has {
+        Some(its) if numbers::order_of(its.kind) == order => channels::units_of(channel),
+        _ => 0,
     }
 }
 
@@ -32,14 +27,7 @@ fn units_of_kind(channel: Channel, order: usize) -> u32
 fn counts_of(channels: [Channel; 16], order: usize) -> Configured
     ensures { CountsOf channels order result }
 {
-    let mut counts = [0u32; 16];
-    let mut c: usize = 0;
-    while c < 16 {
-        let channel = channels[c];
-        counts[c] = units_of_kind(channel, order);
-        c += 1;
-    }
-    Configured(counts)
+    Configured(array::from_fn(|c| units_of_kind(channels[c], order)))
 }
 
 // Which units are of a kind, told by its place in the written order, and assignable.
@@ -49,16 +37,9 @@ pub fn free_units(units: Units, channels: [Channel; 16], order: usize) -> [bool;
     let grid = units::grid_of(units);
     let configured = counts_of(channels, order);
     let counts = configured.0;
-    let mut free = [false; 256];
-    let mut i: usize = 0;
-    while i < 256 {
+    array::from_fn(|i| {
         let c = i / 16;
         let u = i % 16;
-        if (u as u32) < counts[c] {
-            let unit = grid[c][u];
-            free[i] = units::is_assignable(unit);
-        }
-        i += 1;
-    }
-    free
+        (u as u32) < counts[c] && units::is_assignable(grid[c][u])
+    })
 }

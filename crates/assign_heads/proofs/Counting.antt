@@ -1,5 +1,7 @@
 -- Units counted by channel and by entry: as many are assignable as the channels have counts for, and each is given
 -- at most once. Assumes nothing.
+use Rattle.std.specs.Prelude.{Option, Some, None}
+use Rattle.numbers.specs.declared.LogicalChannel.{LogicalChannel}
 use Prim.Native.Nat.{ℕ, zero, suc, ◌+◌, ◌*◌, ◌≤◌, ◌<◌, ◌/◌, suc-le-suc}
 use mathlib.Core.Path.{◌≡◌, refl, sym, ap, ◌∙◌}
 use mathlib.Core.Bool.{Bool, true}
@@ -14,8 +16,6 @@ use Rattle.numbers.proofs.Tests.{by_bool, never}
 use Rattle.assign_channels.specs.declared.ByChannel.{ByChannel}
 use Rattle.assign_channels.specs.declared.ByLogical.{ByLogical}
 use Rattle.assign_channels.specs.Choice.{count_at, want, total}
-use Rattle.assign_heads.specs.declared.Given.{Given}
-use Rattle.assign_heads.specs.declared.Given.TheVariants.{Nothing, To}
 use Rattle.assign_heads.specs.Sums.{sum_to, one, how_many}
 use Rattle.assign_heads.proofs.SumsLaws.{sum-zero, sum_same, sum-at, sum-only, sum_rows, sum-swap, total-sum}
 use Rattle.assign_heads.specs.Heads.{is_to, is_given}
@@ -39,23 +39,23 @@ pub wants-total : (wants : ByLogical) → length wants.0 ≡ 16 → total wants.
 wants-total wants e = total-sum wants.0 ∙ ap (λ (n : ℕ). sum_to n (want wants)) e
 
 -- a unit that is given is given to one entry
-pub given-once : (g : Given) → ((l : ℕ) → 16 ≤ l → is_to l g ≡ true → ⊥) → one (is_given g) ≤ sum_to 16 (λ l. one (is_to l g))
-given-once Nothing k = omega arith
-given-once (To m) k =
+pub given-once : (g : Option LogicalChannel) → ((l : ℕ) → 16 ≤ l → is_to l g ≡ true → ⊥) → one (is_given g) ≤ sum_to 16 (λ l. one (is_to l g))
+given-once None k = omega arith
+given-once (Some m) k =
     ⊎_elim (λ h. absurd (k m.0 h (eq-eqb m.0 m.0 refl)))
     (λ h. omega (arith, sum-at 16 m.0 (λ l. one (eqb m.0 l)) h, ap one (eq-eqb m.0 m.0 refl)))
     (le-or-lt 16 m.0)
 
-pub given-most : (g : Given) → sum_to 16 (λ l. one (is_to l g)) ≤ one (is_given g)
-given-most Nothing = omega (arith, sum-zero 16)
-given-most (To m) =
+pub given-most : (g : Option LogicalChannel) → sum_to 16 (λ l. one (is_to l g)) ≤ one (is_given g)
+given-most None = omega (arith, sum-zero 16)
+given-most (Some m) =
     omega (
       arith,
       sum-only 16 m.0 (λ l. one (eqb m.0 l)) (λ l h n. ap one (ne_eqb m.0 l (λ e. n (sym e)))),
       ap one (eq-eqb m.0 m.0 refl),
     )
 
-module _ (to : ℕ → Given) where
+module _ (to : ℕ → Option LogicalChannel) where
   -- entry by entry, or unit by unit
   pub by-entry : sum_to 256 (λ i. sum_to 16 (λ l. one (is_to l (to i)))) ≡ sum_to 16 (λ l. how_many 256 (λ i. is_to l (to i)))
   by-entry = sum-swap 256 16 (λ i l. one (is_to l (to i)))

@@ -1,4 +1,5 @@
 -- One unit given: what the entry that takes it means for every entry. Assumes nothing.
+use Rattle.std.specs.Prelude.{Option, Some, None}
 use Prim.Native.Nat.{ℕ, ◌+◌, ◌-◌, ◌≤◌, ◌<◌}
 use mathlib.Core.Path.{◌≡◌, refl, sym, ap, subst}
 use mathlib.Core.Bool.{Bool, true, false}
@@ -11,24 +12,22 @@ use borrow.Author.Tests.{ltb-true, ltb-false, eqb-true, eqb-false, eq-eqb}
 use Rattle.numbers.proofs.Tests.{by_bool, never}
 use Rattle.numbers.specs.declared.LogicalChannel.{LogicalChannel}
 use Rattle.assign_channels.specs.declared.ByLogical.{ByLogical}
-use Rattle.assign_heads.specs.declared.Given.{Given}
-use Rattle.assign_heads.specs.declared.Given.TheVariants.{Nothing, To}
 use Rattle.assign_heads.specs.Sums.{one}
 use Rattle.assign_heads.specs.Heads.{is_to, is_given}
 use Rattle.assign_heads.specs.Whose.{logical}
 use Rattle.assign_heads.specs.Giving.{taker_of, less_of}
 
 -- a unit goes to one entry only
-pub to_one : (g : Given) (l m : ℕ) → is_to l g ≡ true → is_to m g ≡ true → l ≡ m
-to_one Nothing l m p q = never p refl
-to_one (To k) l m p q = omega (arith, eqb-true k.0 l p, eqb-true k.0 m q)
+pub to_one : (g : Option LogicalChannel) (l m : ℕ) → is_to l g ≡ true → is_to m g ≡ true → l ≡ m
+to_one None l m p q = never p refl
+to_one (Some k) l m p q = omega (arith, eqb-true k.0 l p, eqb-true k.0 m q)
 
-pub to-given : (g : Given) (l : ℕ) → is_to l g ≡ true → is_given g ≡ true
-to-given Nothing l p = never p refl
-to-given (To k) l p = refl
+pub to-given : (g : Option LogicalChannel) (l : ℕ) → is_to l g ≡ true → is_given g ≡ true
+to-given None l p = never p refl
+to-given (Some k) l p = refl
 
 -- what the taker of a unit that is free or not means: `left` before, `after` then
-pub record Took (free : Bool) (left : ByLogical) (o : ℕ) (g : Given) (after : ByLogical) : Type 0 where
+pub record Took (free : Bool) (left : ByLogical) (o : ℕ) (g : Option LogicalChannel) (after : ByLogical) : Type 0 where
   -- it lacks one less
   pub less : (l : ℕ) → l < 16 → one (is_to l g) + get_or after.0 l 0 ≡ get_or left.0 l 0
   pub fewer : (l : ℕ) → get_or after.0 l 0 ≤ get_or left.0 l 0
@@ -44,14 +43,14 @@ pub record Took (free : Bool) (left : ByLogical) (o : ℕ) (g : Given) (after : 
 module _ (left : ByLogical) (long : length left.0 ≡ 16) where
   -- taken by an entry that lacks a unit
   less-at : (m : LogicalChannel) → m.0 < 16 → 1 ≤ get_or left.0 m.0 0 → (l : ℕ) → l < 16
-      → one (is_to l (To m)) + get_or (less_of left (To m)).0 l 0 ≡ get_or left.0 l 0
+      → one (is_to l (Some m)) + get_or (less_of left (Some m)).0 l 0 ≡ get_or left.0 l 0
   less-at m b p l h =
       by_bool (eqb m.0 l)
       (λ t.
       let e : m.0 ≡ l = eqb-true m.0 l t in
-      let s : get_or (less_of left (To m)).0 m.0 0 ≡ get_or left.0 m.0 0 - 1 =
+      let s : get_or (less_of left (Some m)).0 m.0 0 ≡ get_or left.0 m.0 0 - 1 =
       get_or-set_same left.0 m.0 (get_or left.0 m.0 0 - 1) 0 (omega arith) in
-      let a : get_or (less_of left (To m)).0 m.0 0 ≡ get_or (less_of left (To m)).0 l 0 = ap (λ (x : ℕ). get_or (less_of left (To m)).0 x 0) e in
+      let a : get_or (less_of left (Some m)).0 m.0 0 ≡ get_or (less_of left (Some m)).0 l 0 = ap (λ (x : ℕ). get_or (less_of left (Some m)).0 x 0) e in
       let d : get_or left.0 m.0 0 ≡ get_or left.0 l 0 = ap (λ (x : ℕ). get_or left.0 x 0) e in
       let o : one (eqb m.0 l) ≡ 1 = ap one t in
       omega arith)
@@ -59,24 +58,24 @@ module _ (left : ByLogical) (long : length left.0 ≡ 16) where
       let o : one (eqb m.0 l) ≡ 0 = ap one t in
       omega (arith, get_or-set_other left.0 m.0 l (get_or left.0 m.0 0 - 1) 0 (λ e. eqb-false m.0 l t (sym e))))
 
-  fewer-at : (m : LogicalChannel) (l : ℕ) → m.0 < 16 → get_or (less_of left (To m)).0 l 0 ≤ get_or left.0 l 0
+  fewer-at : (m : LogicalChannel) (l : ℕ) → m.0 < 16 → get_or (less_of left (Some m)).0 l 0 ≤ get_or left.0 l 0
   fewer-at m l b =
       by_bool (eqb m.0 l)
       (λ t.
       let e : m.0 ≡ l = eqb-true m.0 l t in
-      let s : get_or (less_of left (To m)).0 m.0 0 ≡ get_or left.0 m.0 0 - 1 =
+      let s : get_or (less_of left (Some m)).0 m.0 0 ≡ get_or left.0 m.0 0 - 1 =
       get_or-set_same left.0 m.0 (get_or left.0 m.0 0 - 1) 0 (omega arith) in
-      let a : get_or (less_of left (To m)).0 m.0 0 ≡ get_or (less_of left (To m)).0 l 0 = ap (λ (x : ℕ). get_or (less_of left (To m)).0 x 0) e in
+      let a : get_or (less_of left (Some m)).0 m.0 0 ≡ get_or (less_of left (Some m)).0 l 0 = ap (λ (x : ℕ). get_or (less_of left (Some m)).0 x 0) e in
       let d : get_or left.0 m.0 0 ≡ get_or left.0 l 0 = ap (λ (x : ℕ). get_or left.0 x 0) e in
       omega arith)
       (λ t. omega (arith, get_or-set_other left.0 m.0 l (get_or left.0 m.0 0 - 1) 0 (λ e. eqb-false m.0 l t (sym e))))
 
-  lacked-at : (m : LogicalChannel) (l : ℕ) → 1 ≤ get_or left.0 m.0 0 → is_to l (To m) ≡ true → 1 ≤ get_or left.0 l 0
+  lacked-at : (m : LogicalChannel) (l : ℕ) → 1 ≤ get_or left.0 m.0 0 → is_to l (Some m) ≡ true → 1 ≤ get_or left.0 l 0
   lacked-at m l p t = subst (λ (x : ℕ). 1 ≤ get_or left.0 x 0) (eqb-true m.0 l t) p
 
   -- taken by none: it is not free, or none that may have it lacks a unit
   by-none : (o : ℕ) (free : Bool) → (free ≡ true → 1 ≤ get_or left.0 o 0 → ⊥) → (free ≡ true → 1 ≤ get_or left.0 0 0 → ⊥)
-      → Took free left o Nothing left
+      → Took free left o None left
   by-none o free z y = record {
     less = λ l h. omega arith;
     fewer = λ l. omega arith;
@@ -86,7 +85,7 @@ module _ (left : ByLogical) (long : length left.0 ≡ 16) where
     some = λ f q. absurd (y f q);
   }
 
-  pub not_free : (o : ℕ) (free : Bool) → free ≡ false → Took free left o Nothing left
+  pub not_free : (o : ℕ) (free : Bool) → free ≡ false → Took free left o None left
   not_free o free e = by-none o free (λ f q. never f e) (λ f q. never f e)
 
   pub took : (own : LogicalChannel) → own.0 < 16 → Took true left own.0 (taker_of left own) (less_of left (taker_of left own))
@@ -98,7 +97,7 @@ module _ (left : ByLogical) (long : length left.0 ≡ 16) where
       (λ u. rw (t, u) (by-none own.0 true (λ f q. omega (arith, ltb-false 0 (get_or left.0 own.0 0) t))
       (λ f q. omega (arith, ltb-false 0 (get_or left.0 0 0) u)))))
     where
-      by-own : 1 ≤ get_or left.0 own.0 0 → Took true left own.0 (To own) (less_of left (To own))
+      by-own : 1 ≤ get_or left.0 own.0 0 → Took true left own.0 (Some own) (less_of left (Some own))
       by-own p = record {
         less = less-at own b p;
         fewer = λ l. fewer-at own l b;
@@ -108,7 +107,7 @@ module _ (left : ByLogical) (long : length left.0 ≡ 16) where
         some = λ f q. refl;
       }
 
-      by_zero : get_or left.0 own.0 0 ≤ 0 → 1 ≤ get_or left.0 0 0 → Took true left own.0 (To (logical 0)) (less_of left (To (logical 0)))
+      by_zero : get_or left.0 own.0 0 ≤ 0 → 1 ≤ get_or left.0 0 0 → Took true left own.0 (Some (logical 0)) (less_of left (Some (logical 0)))
       by_zero z p = record {
         less = less-at (logical 0) (omega arith) p;
         fewer = λ l. fewer-at (logical 0) l (omega arith);

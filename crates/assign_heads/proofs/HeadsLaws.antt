@@ -1,6 +1,7 @@
 -- What the definitions of Heads mean. Units that are given in ascending order serve every entry where the channels
 -- have counts, and are the lowest; an assignment's channels are as Choice says; and the channels decide the lowest
 -- units. Assumes nothing.
+use Rattle.std.specs.Prelude.{Option}
 use Prim.Native.Nat.{ℕ, ◌+◌, ◌*◌, ◌≤◌, ◌<◌, ◌/◌}
 use mathlib.Core.Path.{◌≡◌, refl, sym, ap, ◌∙◌, subst}
 use mathlib.Core.Bool.{Bool, true}
@@ -16,7 +17,6 @@ use Rattle.assign_channels.specs.declared.ByChannel.{ByChannel}
 use Rattle.assign_channels.specs.declared.ByLogical.{ByLogical}
 use Rattle.assign_channels.specs.Choice.{count_at, want, on, total, Placed}
 use Rattle.assign_channels.proofs.HallLaws.{channel-below}
-use Rattle.assign_heads.specs.declared.Given.{Given}
 use Rattle.assign_heads.specs.Sums.{sum_to, one, how_many}
 use Rattle.assign_heads.proofs.SumsLaws.{sum-none, sum_same, sum_mono, sum-at, sum-add, one-le, passes-later}
 use Rattle.assign_heads.specs.Heads.{is_to, is_given, Served, Lowest}
@@ -28,7 +28,7 @@ use Rattle.assign_heads.proofs.Counting.{free-below, counts-total, wants-total, 
 
 -- ---- all units given
 module _ (free : List Bool) (wants : ByLogical) (counts : ByChannel) (channels : List ChannelNumber) (own : List LogicalChannel)
-    (to : ℕ → Given) (left : ByLogical)
+    (to : ℕ → Option LogicalChannel) (left : ByLogical)
     (units : length free ≡ 256) (size : length wants.0 ≡ 16) (has : FreeCounts free counts) (placed : Placed counts wants channels)
     (owners : Owners wants channels own)
     (only : (i : ℕ) → is_given (to i) ≡ true → free_at free i ≡ true)
@@ -117,7 +117,7 @@ module _ (free : List Bool) (wants : ByLogical) (counts : ByChannel) (channels :
   }
 
 -- ---- an assignment's channels are as Choice says
-module _ (free : List Bool) (wants : ByLogical) (counts : ByChannel) (channels : List ChannelNumber) (to : ℕ → Given)
+module _ (free : List Bool) (wants : ByLogical) (counts : ByChannel) (channels : List ChannelNumber) (to : ℕ → Option LogicalChannel)
     (size : length wants.0 ≡ 16) (long : length channels ≡ 16) (has : FreeCounts free counts)
     (s : Served (free_at free) (want wants) (on channels) to) where
   count_at_lem : (l : ℕ) → 1 ≤ l → l < 16 → 1 ≤ want wants l → want wants l ≤ count_at counts (on channels l)

@@ -1,5 +1,7 @@
 -- The channels decide the lowest units: two ways to serve a kind's entries on the same channels, both lowest, give
 -- every unit alike. Assumes nothing.
+use Rattle.std.specs.Prelude.{Option, Some, None}
+use Rattle.numbers.specs.declared.LogicalChannel.{LogicalChannel}
 use Prim.Native.Nat.{ℕ, zero, suc, ◌≤◌, ◌<◌}
 use mathlib.Core.Path.{◌≡◌, refl, sym, ap, ◌∙◌, subst}
 use mathlib.Core.Bool.{Bool, true, false}
@@ -9,32 +11,30 @@ use native.Mathlib.Omega.{arith}
 use borrow.Author.Tests.{eq-eqb, eqb-true}
 use Rattle.numbers.proofs.Order.{le-or-lt, one_more}
 use Rattle.numbers.proofs.Tests.{by_bool, never}
-use Rattle.assign_heads.specs.declared.Given.{Given}
-use Rattle.assign_heads.specs.declared.Given.TheVariants.{Nothing, To}
 use Rattle.assign_heads.specs.Sums.{one, how_many}
 use Rattle.assign_heads.proofs.SumsLaws.{sum_same, sum-suc, grows, passes-later}
 use Rattle.assign_heads.specs.Heads.{is_to, is_given, Served, Lowest}
 use Rattle.assign_heads.proofs.GivingLaws.{to_one, to-given}
 
 -- a unit that is given has its entry
-entry : (g : Given) → is_given g ≡ true → (l : ℕ) × (is_to l g ≡ true)
-entry Nothing t = never t refl
-entry (To m) t = (m.0, eq-eqb m.0 m.0 refl)
+entry : (g : Option LogicalChannel) → is_given g ≡ true → (l : ℕ) × (is_to l g ≡ true)
+entry None t = never t refl
+entry (Some m) t = (m.0, eq-eqb m.0 m.0 refl)
 
 -- two units that are given to the same entries are given alike
-alike : (g h : Given) → ((l : ℕ) → is_to l g ≡ true → is_to l h ≡ true) → ((l : ℕ) → is_to l h ≡ true → is_to l g ≡ true) → g ≡ h
-alike Nothing Nothing p q = refl
-alike Nothing (To n) p q = never (q n.0 (eq-eqb n.0 n.0 refl)) refl
-alike (To m) Nothing p q = never (p m.0 (eq-eqb m.0 m.0 refl)) refl
-alike (To m) (To n) p q = let e : m.0 ≡ n.0 = sym (eqb-true n.0 m.0 (p m.0 (eq-eqb m.0 m.0 refl))) in λ i. To (record { 0 = e i })
+alike : (g h : Option LogicalChannel) → ((l : ℕ) → is_to l g ≡ true → is_to l h ≡ true) → ((l : ℕ) → is_to l h ≡ true → is_to l g ≡ true) → g ≡ h
+alike None None p q = refl
+alike None (Some n) p q = never (q n.0 (eq-eqb n.0 n.0 refl)) refl
+alike (Some m) None p q = never (p m.0 (eq-eqb m.0 m.0 refl)) refl
+alike (Some m) (Some n) p q = let e : m.0 ≡ n.0 = sym (eqb-true n.0 m.0 (p m.0 (eq-eqb m.0 m.0 refl))) in λ i. Some (record { 0 = e i })
 
 -- a unit that an entry has in the one way, after units that are alike, is in the other way passed over by a later
 -- one, or the entry has it too
-later : (want i l : ℕ) (a b : ℕ → Given) → i < 256 → ((j : ℕ) → j < i → a j ≡ b j) → how_many 256 (λ j. is_to l (a j)) ≡ want
+later : (want i l : ℕ) (a b : ℕ → Option LogicalChannel) → i < 256 → ((j : ℕ) → j < i → a j ≡ b j) → how_many 256 (λ j. is_to l (a j)) ≡ want
     → how_many 256 (λ j. is_to l (b j)) ≡ want
     → is_to l (a i) ≡ true → is_to l (b i) ≡ false → (j : ℕ) × ((i < j) × (is_to l (b j) ≡ true))
 later want i l a b h same ca cb t e =
-    let n = sum_same i (λ j. one (is_to l (a j))) (λ j. one (is_to l (b j))) (λ j k. ap (λ (g : Given). one (is_to l g)) (same j k)) in
+    let n = sum_same i (λ j. one (is_to l (a j))) (λ j. one (is_to l (b j))) (λ j k. ap (λ (g : Option LogicalChannel). one (is_to l g)) (same j k)) in
     let x : one (is_to l (a i)) ≡ 1 = ap one t in
     let y : one (is_to l (b i)) ≡ 0 = ap one e in
     let r = passes-later 256 (suc i) (λ j. is_to l (b j))
@@ -46,7 +46,7 @@ later want i l a b h same ca cb t e =
     )) in
     (r.0, (omega (arith, r.1.0), r.1.1.1))
 
-module _ (free : ℕ → Bool) (want on : ℕ → ℕ) (a b : ℕ → Given) (sa : Served free want on a) (sb : Served free want on b) (lb : Lowest free b)
+module _ (free : ℕ → Bool) (want on : ℕ → ℕ) (a b : ℕ → Option LogicalChannel) (sa : Served free want on a) (sb : Served free want on b) (lb : Lowest free b)
     (i : ℕ) (small : i < 256) (same : (j : ℕ) → j < i → a j ≡ b j) where
   -- an entry with a channel has the unit in both
   follows : (l : ℕ) → 1 ≤ l → is_to l (a i) ≡ true → is_to l (b i) ≡ true
@@ -66,10 +66,10 @@ module _ (free : ℕ → Bool) (want on : ℕ → ℕ) (a b : ℕ → Given) (sa
       let r = later (want 0) i 0 a b small same (sa.all 0 (omega arith)) (sb.all 0 (omega arith)) t u in
       lb.rest i r.0 r.1.0 r.1.1 (sa.only i (to-given (a i) 0 t)))
 
-module _ (free : ℕ → Bool) (want on : ℕ → ℕ) (a b : ℕ → Given) (sa : Served free want on a) (la : Lowest free a) (sb : Served free want on b)
+module _ (free : ℕ → Bool) (want on : ℕ → ℕ) (a b : ℕ → Option LogicalChannel) (sa : Served free want on a) (la : Lowest free a) (sb : Served free want on b)
     (lb : Lowest free b) where
   -- so an entry of the one is the entry of the other
-  half : (c d : ℕ → Given) → Served free want on c → Lowest free c → Served free want on d → Lowest free d → (i : ℕ) → i < 256
+  half : (c d : ℕ → Option LogicalChannel) → Served free want on c → Lowest free c → Served free want on d → Lowest free d → (i : ℕ) → i < 256
       → ((j : ℕ) → j < i → c j ≡ d j) → (l : ℕ) → is_to l (c i) ≡ true → is_to l (d i) ≡ true
   half c d sc lc sd ld i h same l t =
       ⊎_elim (λ z.

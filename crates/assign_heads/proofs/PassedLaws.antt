@@ -1,4 +1,6 @@
 -- What is known when the units below i have been given, and that one more keeps it. Assumes nothing.
+use Rattle.std.specs.Prelude.{Option}
+use Rattle.numbers.specs.declared.LogicalChannel.{LogicalChannel}
 use Prim.Native.Nat.{ℕ, ◌+◌, ◌≤◌, ◌<◌, ◌/◌}
 use mathlib.Core.Path.{◌≡◌, sym, ap, ◌∙◌, subst}
 use mathlib.Core.Bool.{Bool, true}
@@ -8,19 +10,18 @@ use native.Mathlib.Omega.{arith}
 use lib.ListN.{get_or}
 use Rattle.numbers.proofs.Order.{one_more}
 use Rattle.assign_channels.specs.declared.ByLogical.{ByLogical}
-use Rattle.assign_heads.specs.declared.Given.{Given}
 use Rattle.assign_heads.specs.Sums.{sum_to, one, how_many}
 use Rattle.assign_heads.proofs.SumsLaws.{sum-suc, sum_same}
 use Rattle.assign_heads.specs.Heads.{is_to, is_given}
 use Rattle.assign_heads.proofs.GivingLaws.{Took}
 use Rattle.assign_heads.specs.GaveOut.{Passed}
 
-module _ {free : ℕ → Bool} {own want : ℕ → ℕ} {to : ℕ → Given} {left : ByLogical} {i : ℕ} (p : Passed free own want to left i) where
+module _ {free : ℕ → Bool} {own want : ℕ → ℕ} {to : ℕ → Option LogicalChannel} {left : ByLogical} {i : ℕ} (p : Passed free own want to left i) where
   -- units from i on do not matter
-  pub carried : (next : ℕ → Given) → ((j : ℕ) → j < i → next j ≡ to j) → Passed free own want next left i
+  pub carried : (next : ℕ → Option LogicalChannel) → ((j : ℕ) → j < i → next j ≡ to j) → Passed free own want next left i
   carried next same = record {
     counted = λ l h. ap (λ (n : ℕ). n + get_or left.0 l 0)
-        (sum_same i (λ j. one (is_to l (next j))) (λ j. one (is_to l (to j))) (λ j k. ap (λ (g : Given). one (is_to l g)) (same j k)))
+        (sum_same i (λ j. one (is_to l (next j))) (λ j. one (is_to l (to j))) (λ j k. ap (λ (g : Option LogicalChannel). one (is_to l g)) (same j k)))
         ∙ p.counted l h;
     whose = λ j l h t. p.whose j l h (sym (ap (is_to l) (same j h)) ∙ t);
     first = λ j h f q. ap (is_to (own (j / 16))) (same j h) ∙ p.first j h f q;
@@ -54,7 +55,7 @@ module _ {free : ℕ → Bool} {own want : ℕ → ℕ} {to : ℕ → Given} {le
           let v : own (j / 16) ≡ l = ap own e ∙ sym w in
           subst (λ (x : ℕ). is_to x (to j) ≡ true) v (p.first j h f (subst (λ (x : ℕ). 1 ≤ get_or left.0 x 0) (sym v) (s.lacked l t)))
 
-pub begun : (free : ℕ → Bool) (own : ℕ → ℕ) (to : ℕ → Given) (left : ByLogical) → Passed free own (λ l. get_or left.0 l 0) to left 0
+pub begun : (free : ℕ → Bool) (own : ℕ → ℕ) (to : ℕ → Option LogicalChannel) (left : ByLogical) → Passed free own (λ l. get_or left.0 l 0) to left 0
 unfolding sum_to
 begun free own to left = record {
   counted = λ l h. omega arith;

@@ -1,5 +1,6 @@
 -- Serving: what the choice of channels and the giving of units make together, and that the promise leaves one
 -- answer. Assumes nothing.
+use Rattle.std.specs.Prelude.{None}
 use mathlib.Core.Path.{◌≡◌, refl, sym, ap, ◌∙◌, subst}
 use mathlib.Core.Bool.{Bool, true, false, cond}
 use mathlib.Core.List.{List}
@@ -13,7 +14,6 @@ use Rattle.assign_channels.specs.declared.ByChannel.{ByChannel}
 use Rattle.assign_channels.specs.declared.ByLogical.{ByLogical}
 use Rattle.assign_channels.specs.Choice.{want, on, Least, NoList}
 use Rattle.assign_channels.proofs.ChoiceLaws.{lex-both}
-use Rattle.assign_heads.specs.declared.Given.TheVariants.{Nothing}
 use Rattle.assign_heads.specs.declared.Head.{Head}
 use Rattle.assign_heads.specs.declared.Service.{Service}
 use Rattle.assign_heads.proofs.HeadsLaws.{all-served, all-lowest, served-placed}
@@ -60,8 +60,8 @@ module _ (free : List Bool) (wants : ByLogical) (before : List Head) where
       (λ t.
       let e = units-one (free_at free) (want wants) (on channels) (to_at free g) (to_at free h) p.served p.lowest q.served q.lowest i
       (omega (arith, p.wide)) in
-      let a : to_at free g i ≡ (get_or g i blank).to = ap (λ (b : Bool). cond b (get_or g i blank).to Nothing) t in
-      let b : to_at free h i ≡ (get_or h i blank).to = ap (λ (b : Bool). cond b (get_or h i blank).to Nothing) t in
+      let a : to_at free g i ≡ (get_or g i blank).to = ap (λ (b : Bool). cond b (get_or g i blank).to None) t in
+      let b : to_at free h i ≡ (get_or h i blank).to = ap (λ (b : Bool). cond b (get_or h i blank).to None) t in
       let f : (get_or g i blank).to ≡ (get_or h i blank).to = sym a ∙ e ∙ b in
       λ j. record { to = f j })
       (λ t. p.kept i t ∙ sym (q.kept i t))

@@ -1,17 +1,16 @@
 -- What is known when the units below i have been given: what the loop that gives them keeps. Nothing here has to be
 -- believed.
-use Rattle.std.specs.Prelude.{ℕ, ◌+◌, ◌≤◌, ◌<◌, ◌/◌, ◌≡◌, Bool, true, false, List, length, get_or, ◌⊎◌}
+use Rattle.std.specs.Prelude.{ℕ, ◌+◌, ◌≤◌, ◌<◌, ◌/◌, ◌≡◌, Bool, true, false, List, length, get_or, ◌⊎◌, Option}
 use Rattle.numbers.specs.declared.LogicalChannel.{LogicalChannel}
 use Rattle.assign_channels.specs.declared.ByLogical.{ByLogical}
 use Rattle.assign_channels.specs.Choice.{want}
-use Rattle.assign_heads.specs.declared.Given.{Given}
 use Rattle.assign_heads.specs.declared.Head.{Head}
 use Rattle.assign_heads.specs.Heads.{is_given, is_to}
 use Rattle.assign_heads.specs.Whose.{logical, free_at, blank, to_at}
 use Rattle.assign_heads.specs.Sums.{how_many}
 
 -- the units below i, by number
-pub record Passed (free : ℕ → Bool) (own want : ℕ → ℕ) (to : ℕ → Given) (left : ByLogical) (i : ℕ) : Type 0 where
+pub record Passed (free : ℕ → Bool) (own want : ℕ → ℕ) (to : ℕ → Option LogicalChannel) (left : ByLogical) (i : ℕ) : Type 0 where
   -- what is given and what is lacking make what is asked for
   pub counted : (l : ℕ) → l < 16 → how_many i (λ j. is_to l (to j)) + get_or left.0 l 0 ≡ want l
   pub whose : (j l : ℕ) → j < i → is_to l (to j) ≡ true → (l ≡ own (j / 16)) ⊎ (l ≡ 0)

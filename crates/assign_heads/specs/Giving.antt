@@ -1,24 +1,22 @@
 -- How units are given: in ascending order, each to its channel's entry while that lacks some, else to logical channel
 -- 0 while that does. Nothing here has to be believed: private functions cite it, and Serving says what comes out.
-use Rattle.std.specs.Prelude.{ℕ, ◌-◌, ◌≤◌, ◌<◌, ◌*◌, ◌+◌, ◌≡◌, Bool, cond, List, ltb, length, get_or, set}
+use Rattle.std.specs.Prelude.{ℕ, ◌-◌, ◌≤◌, ◌<◌, ◌*◌, ◌+◌, ◌≡◌, Bool, cond, List, ltb, length, get_or, set, Option, Some, None}
 use Rattle.numbers.specs.declared.LogicalChannel.{LogicalChannel}
 use Rattle.numbers.specs.declared.ChannelNumber.{ChannelNumber}
 use Rattle.assign_channels.specs.declared.ByChannel.{ByChannel}
 use Rattle.assign_channels.specs.declared.ByLogical.{ByLogical}
 use Rattle.assign_channels.specs.Choice.{by_logical, count_at, want, on}
-use Rattle.assign_heads.specs.declared.Given.{Given}
-use Rattle.assign_heads.specs.declared.Given.TheVariants.{Nothing, To}
 use Rattle.assign_heads.specs.Sums.{how_many}
 use Rattle.assign_heads.specs.Whose.{logical, free_at}
 
 -- the entry that a channel's next unit goes to, when its own entry is `own` and `left` says what each still lacks
-abbrev pub taker_of : ByLogical → LogicalChannel → Given
-taker_of left own = cond (ltb 0 (want left own.0)) (To own) (cond (ltb 0 (want left 0)) (To (logical 0)) Nothing)
+abbrev pub taker_of : ByLogical → LogicalChannel → Option LogicalChannel
+taker_of left own = cond (ltb 0 (want left own.0)) (Some own) (cond (ltb 0 (want left 0)) (Some (logical 0)) None)
 
 -- what each still lacks then
-abbrev pub less_of : ByLogical → Given → ByLogical
-less_of left Nothing = left
-less_of left (To l) = by_logical (set left.0 l.0 (want left l.0 - 1))
+abbrev pub less_of : ByLogical → Option LogicalChannel → ByLogical
+less_of left None = left
+less_of left (Some l) = by_logical (set left.0 l.0 (want left l.0 - 1))
 
 -- the logical channel of the entry that has a channel, 0 for none
 pub record OwnerIs (wants : ByLogical) (channels : List ChannelNumber) (c o : ℕ) : Type 0 where

@@ -1,10 +1,10 @@
 -- What serving a kind's entries answers: the least list of channels and the lowest units on them, or nothing. A
 -- reader has to believe this page.
-use Rattle.std.specs.Prelude.{ℕ, ◌≡◌, Bool, true, false, List, length, get_or, replicate}
+use Rattle.std.specs.Prelude.{ℕ, ◌≡◌, Bool, true, false, List, length, get_or, replicate, Option}
+use Rattle.numbers.specs.declared.LogicalChannel.{LogicalChannel}
 use Rattle.numbers.specs.declared.ChannelNumber.{ChannelNumber}
 use Rattle.assign_channels.specs.declared.ByLogical.{ByLogical}
 use Rattle.assign_channels.specs.Choice.{channel, want, on, LexLe}
-use Rattle.assign_heads.specs.declared.Given.{Given}
 use Rattle.assign_heads.specs.declared.Head.{Head}
 use Rattle.assign_heads.specs.declared.Service.{Service}
 use Rattle.assign_heads.specs.Heads.{Served, Lowest}
@@ -13,7 +13,7 @@ use Rattle.assign_heads.specs.Whose.{free_at, blank, to_at}
 -- some assignment has this list of channels
 pub record Possible (free : List Bool) (wants : ByLogical) (channels : List ChannelNumber) : Type 0 where
   pub long : length channels ≡ 16
-  pub to : ℕ → Given
+  pub to : ℕ → Option LogicalChannel
   pub served : Served (free_at free) (want wants) (on channels) to
 
 -- served: the least list of channels that some assignment has, the lowest units; the units of other kinds keep what

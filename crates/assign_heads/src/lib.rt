@@ -10,17 +10,12 @@ ghost use Rattle.assign_heads.specs.Serving.{Serves};
 
 use assign_channels::{ByChannel, ByLogical};
 use numbers::{ChannelNumber, LogicalChannel, UnitNumber};
+use std::array;
 
 // Whether a unit is given to an entry, and to which: the one with this logical channel.
 #[derive(Clone, Copy)]
-pub enum Given {
-    Nothing,
-    To(LogicalChannel),
-}
-
-#[derive(Clone, Copy)]
 pub struct Head {
-    pub to: Given,
+    pub to: Option<LogicalChannel>,
 }
 
 // Whether a kind's entries are served; then the channel of each, by logical channel, and to which entry each unit is
@@ -40,18 +35,17 @@ fn index_of(channel: ChannelNumber, unit: UnitNumber) -> usize
 }
 
 // To which entry a unit of a channel is given; to nothing where the cell has no such unit.
-pub fn given_at(heads: [Head; 256], channel: ChannelNumber, unit: UnitNumber) -> Given
+pub fn given_at(
+    heads: [Head; 256],
+    channel: ChannelNumber,
+    unit: UnitNumber,
+) -> Option<LogicalChannel>
     ensures { result ≡ given_at heads channel unit }
 {
-    if 15 < channel.0 {
-        return Given::Nothing;
+    if 15 < channel.0 || 15 < unit.0 {
+        return None;
     }
-    if 15 < unit.0 {
-        return Given::Nothing;
-    }
-    let at = index_of(channel, unit);
-    let head = heads[at];
-    head.to
+    heads[index_of(channel, unit)].to
 }
 
 // How many units of a channel are assignable.
@@ -59,29 +53,15 @@ fn free_on(free: &[bool; 256], channel: ChannelNumber) -> u8
     requires { channel.0 < 16 }
     ensures { result ≡ how_many 16 (λ (u : ℕ). free_at free.now (channel.0 * 16 + u)) }
 {
-    let mut n: u8 = 0;
-    let mut u: usize = 0;
-    while u < 16 {
-        let at = index_of(channel, UnitNumber(u as u8));
-        if free[at] {
-            n += 1;
-        }
-        u += 1;
-    }
-    n
+    let first = index_of(channel, UnitNumber(0));
+    free[first..first + 16].iter().filter(|f| **f).count() as u8
 }
 
 // The same for every channel.
 fn free_counts(free: &[bool; 256]) -> ByChannel
     ensures { FreeCounts free.now result }
 {
-    let mut counts = [0u8; 16];
-    let mut c: usize = 0;
-    while c < 16 {
-        counts[c] = free_on(free, ChannelNumber(c as u8));
-        c += 1;
-    }
-    ByChannel(counts)
+    ByChannel(array::from_fn(|c| free_on(free, ChannelNumber(c as u8))))
 }
 
 // The logical channel of the entry that has a channel; 0 where none has.
@@ -89,60 +69,43 @@ fn owner(on: [ChannelNumber; 16], wants: ByLogical, channel: ChannelNumber) -> L
     ensures { OwnerIs wants on channel.0 result.0 }
 {
     let asked = wants.0;
-    let mut l: usize = 1;
-    while l < 16 {
-        let its = on[l];
-        if 0 < asked[l] {
-            if its.0 == channel.0 {
-                return LogicalChannel(l as u8);
-            }
-        }
-        l += 1;
-    }
-    LogicalChannel(0)
+    let entry = (1..16).find(|l| 0 < asked[*l] && on[*l] == channel);
+    LogicalChannel(entry.unwrap_or(0) as u8)
 }
 
 // The same for every channel.
 fn owners(on: [ChannelNumber; 16], wants: ByLogical) -> [LogicalChannel; 16]
     ensures { Owners wants on result }
 {
-    let mut own = [LogicalChannel(0); 16];
-    let mut c: usize = 0;
-    while c < 16 {
-        own[c] = owner(on, wants, ChannelNumber(c as u8));
-        c += 1;
-    }
-    own
+    array::from_fn(|c| owner(on, wants, ChannelNumber(c as u8)))
 }
 
 // The entry that a channel's next unit goes to: its own while that lacks a unit, else logical channel 0 while that
 // does.
-fn taker(left: ByLogical, own: LogicalChannel) -> Given
+fn taker(left: ByLogical, own: LogicalChannel) -> Option<LogicalChannel>
     requires { own.0 < 16 }
     ensures { result ≡ taker_of left own }
 {
     let lacks = left.0;
     let l = own.0 as usize;
     if 0 < lacks[l] {
-        return Given::To(own);
+        return Some(own);
     }
     if 0 < lacks[0] {
-        return Given::To(LogicalChannel(0));
+        return Some(LogicalChannel(0));
     }
-    Given::Nothing
+    None
 }
 
 // What each entry lacks after that.
-fn less(left: ByLogical, taken: Given) -> ByLogical
+fn less(left: ByLogical, taken: Option<LogicalChannel>) -> ByLogical
     ensures { result ≡ less_of left taken }
 {
     let mut next = left;
-    if let Given::To(logical) = taken {
+    if let Some(logical) = taken {
         let l = logical.0 as usize;
         if l < 16 {
-            if 0 < next.0[l] {
-                next.0[l] -= 1;
-            }
+            next.0[l] = next.0[l].saturating_sub(1);
         }
     }
     next
@@ -160,16 +123,12 @@ fn give(
 {
     let mut next = heads;
     let mut left = wants;
-    let mut i: usize = 0;
-    while i < 256 {
+    for i in 0..256 {
         if free[i] {
-            let c = i / 16;
-            let to = taker(left, own[c]);
-            let after = less(left, to);
-            left = after;
+            let to = taker(left, own[i / 16]);
+            left = less(left, to);
             next[i] = Head { to };
         }
-        i += 1;
     }
     next
 }

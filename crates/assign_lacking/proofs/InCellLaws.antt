@@ -1,5 +1,6 @@
 -- THE THEOREM: by the counts of a cell, the first part that is lacking is the first that alone has no solution in the
 -- cell. Assumes nothing.
+use Rattle.std.specs.Prelude.{Option}
 use Prim.Native.Nat.{ℕ, ◌<◌}
 use mathlib.Core.Path.{◌≡◌}
 use mathlib.Core.List.{List, ◌∷◌}
@@ -14,7 +15,6 @@ use Rattle.assign_counts.specs.Assignable.{counts_of, Counted}
 use Rattle.cards_request.specs.declared.Facilities.{Facilities}
 use Rattle.assign.specs.Assignment.{Supply, supply_of, drum_length, wants_of}
 use Rattle.assign.specs.Parts.{kinds, parts, FirstOf, FirstLacking, Has, HasKind}
-use Rattle.assign.specs.declared.Lacking.{Lacking}
 use Rattle.assign.specs.declared.Part.{Part}
 use Rattle.assign.specs.declared.Part.TheVariants.{Core, Drum}
 use Rattle.assign.proofs.FirstLaws.{first_next, first-same, kind-there, kind-here}
@@ -39,7 +39,7 @@ module _ (units : List (List Unit)) (occupancy : ℕ) (areas : List Area) (chann
   abbrev servable : ℕ → Type 0
   servable order = Servable (counts_of counts order) (wants_of wanted order)
 
-  pub in_cell : (r : Lacking) → FirstOf counted parts r → FirstLacking supply wanted r
+  pub in_cell : (r : Option Part) → FirstOf counted parts r → FirstLacking supply wanted r
   in_cell r =
       first_next counted (Has supply wanted) Core (Drum ∷ kinds) r (λ h. h) (λ h. h)
       (first_next counted (Has supply wanted) Drum kinds r (λ h. h) (λ h. h)

@@ -1,5 +1,7 @@
 -- A kind's entries can have channels, by the counts of a cell, exactly if they are served in it in some way.
 -- Assumes nothing.
+use Rattle.std.specs.Prelude.{Option}
+use Rattle.numbers.specs.declared.LogicalChannel.{LogicalChannel}
 use Prim.Native.Nat.{ℕ, ◌+◌, ◌*◌, ◌<◌}
 use mathlib.Core.Path.{◌≡◌, refl, sym, ap, ◌∙◌, subst}
 use mathlib.Core.Bool.{Bool, true}
@@ -17,7 +19,6 @@ use Rattle.assign_channels.specs.declared.ByChannel.{ByChannel}
 use Rattle.assign_channels.specs.Choice.{by_channel, want, on, Placed}
 use Rattle.assign_channels.specs.Greedy.{choose_of}
 use Rattle.assign_channels.proofs.ChoiceLaws.{chosen, found_none}
-use Rattle.assign_heads.specs.declared.Given.{Given}
 use Rattle.assign_heads.specs.declared.Head.{Head}
 use Rattle.assign_heads.specs.Heads.{Served}
 use Rattle.assign_heads.specs.Sums.{how_many}
@@ -62,7 +63,7 @@ module _ (units : List (List Unit)) (channels : List Channel) (size : length cha
       room.each d k ∙ sym (values-at 16 (λ c. how_many 16 (λ u. free_at free (c * 16 + u))) d 0 k))
 
   -- entries that are served can have channels
-  pub kind-servable : (its : ℕ → ℕ) (to : ℕ → Given) → Served (is_free_of units channels order) (want (wants_of asked order)) its to
+  pub kind-servable : (its : ℕ → ℕ) (to : ℕ → Option LogicalChannel) → Served (is_free_of units channels order) (want (wants_of asked order)) its to
       → Servable (counts_of counts order) (wants_of asked order)
   kind-servable its to s = record {
     channels = listed its;
@@ -80,7 +81,7 @@ module _ (units : List (List Unit)) (channels : List Channel) (size : length cha
   serve-ok t = rw t refl
 
   pub servable-kind : Servable (counts_of counts order) (wants_of asked order)
-      → (its : ℕ → ℕ) × ((to : ℕ → Given) × Served (is_free_of units channels order) (want (wants_of asked order)) its to)
+      → (its : ℕ → ℕ) × ((to : ℕ → Option LogicalChannel) × Served (is_free_of units channels order) (want (wants_of asked order)) its to)
   servable-kind s =
       by_bool (choose_of (free-counts free) (wants_of asked order)).ok
       (λ t.

@@ -1,4 +1,6 @@
 -- What the searches and the two tests say of a part; and there is one answer. Assumes nothing.
+use Rattle.std.specs.Prelude.{Option, Some, None}
+use Rattle.assign.specs.declared.Part.{Part}
 use Prim.Native.Nat.{ℕ, ◌<◌, ◌≤◌}
 use mathlib.Core.Path.{◌≡◌, refl, sym, ap, ◌∙◌, subst}
 use mathlib.Core.Bool.{Bool, true, false}
@@ -11,12 +13,8 @@ use Rattle.numbers.proofs.Tests.{never}
 use Rattle.numbers.proofs.Stores.{get_d-replicate-same}
 use Rattle.assign_core.specs.Core as C
 use Rattle.assign_core.specs.declared.Pair.{Pair}
-use Rattle.assign_core.specs.declared.Found.{Found}
-use Rattle.assign_core.specs.declared.Found.TheVariants as F
 use Rattle.assign_drum.specs.Drum as D
 use Rattle.assign_drum.specs.declared.Area.{Area}
-use Rattle.assign_drum.specs.declared.Start.{Start}
-use Rattle.assign_drum.specs.declared.Start.TheVariants as S
 use Rattle.assign_channels.specs.declared.ByChannel.{ByChannel}
 use Rattle.assign_channels.specs.declared.ByLogical.{ByLogical}
 use Rattle.assign_channels.specs.Choice.{channel, total}
@@ -25,24 +23,23 @@ use Rattle.assign_channels.proofs.GreedyLaws.{total-none}
 use Rattle.assign_channels.proofs.Loops.{too_many, not-served, found}
 use Rattle.assign_counts.specs.declared.Counts.{Counts}
 use Rattle.cards_request.specs.declared.Facilities.{Facilities}
-use Rattle.assign.specs.declared.Lacking.{Lacking}
 use Rattle.assign.specs.Parts.{parts, HasCore, HasDrum}
 use Rattle.assign.proofs.FirstLaws.{first_one}
 use Rattle.assign_lacking.specs.ByCounts.{Servable, HasBy, LackingByCounts}
 
 -- ---- the core and the drum
-module _ (occupancy : ℕ) (wanted : Facilities) {r : Found} (a : C.LeastPair occupancy wanted.ib wanted.db r) where
-  pub no-core : r ≡ F.Nothing → HasCore occupancy wanted → ⊥
+module _ (occupancy : ℕ) (wanted : Facilities) {r : Option Pair} (a : C.LeastPair occupancy wanted.ib wanted.db r) where
+  pub no-core : r ≡ None → HasCore occupancy wanted → ⊥
   no-core e h = subst (C.LeastPair occupancy wanted.ib wanted.db) e a h.ib h.db h.fits
 
-  pub core-there : (p : Pair) → r ≡ F.At p → HasCore occupancy wanted
+  pub core-there : (p : Pair) → r ≡ Some p → HasCore occupancy wanted
   core-there p e = record { ib = p.0; db = p.1; fits = (subst (C.LeastPair occupancy wanted.ib wanted.db) e a).0 }
 
-module _ (areas : List Area) (size : ℕ) (wanted : Facilities) {r : Start} (a : D.LowestStart areas size wanted.md r) where
-  pub no-drum : r ≡ S.Nothing → HasDrum areas size wanted → ⊥
+module _ (areas : List Area) (size : ℕ) (wanted : Facilities) {r : Option ℕ} (a : D.LowestStart areas size wanted.md r) where
+  pub no-drum : r ≡ None → HasDrum areas size wanted → ⊥
   no-drum e h = subst (D.LowestStart areas size wanted.md) e a h.start h.fits
 
-  pub drum-there : (s : ℕ) → r ≡ S.At s → HasDrum areas size wanted
+  pub drum-there : (s : ℕ) → r ≡ Some s → HasDrum areas size wanted
   drum-there s e = record { start = s; fits = (subst (D.LowestStart areas size wanted.md) e a).0 }
 
 -- ---- a kind: where nothing is asked for, no channel is needed
@@ -76,7 +73,7 @@ module _ (counts : ByChannel) (wants : ByLogical) (wide : length counts.0 ≡ 16
   )
 
 -- two answers are one
-pub answers_one : (counts : Counts) (occupancy : ℕ) (areas : List Area) (size : ℕ) (wanted : Facilities) (r s : Lacking)
+pub answers_one : (counts : Counts) (occupancy : ℕ) (areas : List Area) (size : ℕ) (wanted : Facilities) (r s : Option Part)
     → LackingByCounts counts occupancy areas size wanted r
     → LackingByCounts counts occupancy areas size wanted s → r ≡ s
 answers_one counts occupancy areas size wanted r s a b = first_one (HasBy counts occupancy areas size wanted) parts r s a.first b.first

@@ -1,6 +1,6 @@
 -- The parts of an assignment and the first that is lacking, by what is counted and held. For a supply that is counted so
 -- this is what crates/assign/specs/Parts.antt says of it (proofs/InCellLaws: in-cell).
-use Rattle.std.specs.Prelude.{ℕ, ◌≡◌, List}
+use Rattle.std.specs.Prelude.{ℕ, ◌≡◌, List, Option}
 use Rattle.std.proofs.Math.ListN as N
 use Rattle.numbers.specs.Kinds.{order_of}
 use Rattle.numbers.specs.declared.ChannelNumber.{ChannelNumber}
@@ -14,7 +14,6 @@ use Rattle.cards_request.specs.Requests.{counts as many}
 use Rattle.cards_request.specs.declared.Facilities.{Facilities}
 use Rattle.assign.specs.Assignment.{wants_of}
 use Rattle.assign.specs.Parts.{HasCore, HasDrum, FirstOf, parts}
-use Rattle.assign.specs.declared.Lacking.{Lacking}
 use Rattle.assign.specs.declared.Part.{Part}
 use Rattle.assign.specs.declared.Part.TheVariants.{Core, Drum, Units}
 
@@ -37,6 +36,6 @@ HasBy counts occupancy areas length wanted (Units kind) = HasUnits counts wanted
 
 -- what is answered: the first part that is lacking. (And a fact of what is handed over, which callers need: the
 -- request's table has a number for each logical channel of each kind.)
-pub record LackingByCounts (counts : Counts) (occupancy : ℕ) (areas : List Area) (length : ℕ) (wanted : Facilities) (r : Lacking) : Type 0 where
+pub record LackingByCounts (counts : Counts) (occupancy : ℕ) (areas : List Area) (length : ℕ) (wanted : Facilities) (r : Option Part) : Type 0 where
   pub first : FirstOf (HasBy counts occupancy areas length wanted) parts r
   pub full : N.length wanted.units ≡ many

@@ -6,11 +6,10 @@ ghost use Rattle.numbers.specs.Decides.{Decides};
 ghost use Rattle.assign.specs.Parts.{FirstOf, kinds};
 ghost use Rattle.assign_lacking.specs.ByCounts.{Servable, HasUnits, LackingByCounts};
 
-use assign::{Lacking, Part};
+use assign::Part;
 use assign_channels::{ByChannel, ByLogical};
-use assign_core::Found;
 use assign_counts::Counts;
-use assign_drum::{Area, Start};
+use assign_drum::Area;
 use cards_request::Facilities;
 use numbers::LogicalChannel;
 
@@ -19,32 +18,28 @@ use numbers::LogicalChannel;
 fn has_units(counts: ByChannel, wants: ByLogical) -> bool
     ensures { Decides (Servable counts wants) result }
 {
-    let asked = wants.0;
-    let sum = assign_channels::sum(asked);
+    let sum = assign_channels::sum(wants.0);
     if sum == 0 {
         return true;
     }
-    let there = counts.0;
-    if assign_channels::sum(there) < sum {
+    if assign_channels::sum(counts.0) < sum {
         return false;
     }
     assign_channels::can_serve(counts, wants, LogicalChannel(1))
 }
 
 // The first kind whose units are lacking, in the written order.
-fn lacking_kind(counts: Counts, wanted: Facilities) -> Lacking
+fn lacking_kind(counts: Counts, wanted: Facilities) -> Option<Part>
     ensures { FirstOf (HasUnits counts wanted) kinds result }
 {
     let by_kind = counts.0;
-    let mut order: usize = 0;
-    while order < numbers::UNIT_KINDS {
+    for order in 0..numbers::UNIT_KINDS {
         let there = by_kind[order];
         if !has_units(there, assign::wants_of(wanted, order)) {
-            return Lacking::First(Part::Units(numbers::kind_at(order)));
+            return Some(Part::Units(numbers::kind_at(order)));
         }
-        order += 1;
     }
-    Lacking::Nothing
+    None
 }
 
 // The first part that is lacking, in the order core, drum, MA, MT, PR, MC, CR, PT, on a drum of the length given.
@@ -54,14 +49,14 @@ pub fn first_lacking(
     areas: [Area; 16],
     drum: u32,
     wanted: Facilities,
-) -> Lacking
+) -> Option<Part>
     ensures { LackingByCounts counts occupancy areas drum wanted result }
 {
-    let Found::At(_) = assign_core::search(occupancy, wanted.ib as u32, wanted.db as u32) else {
-        return Lacking::First(Part::Core);
+    let Some(_) = assign_core::search(occupancy, wanted.ib as u32, wanted.db as u32) else {
+        return Some(Part::Core);
     };
-    let Start::At(_) = assign_drum::lowest_start(areas, drum, wanted.md) else {
-        return Lacking::First(Part::Drum);
+    let Some(_) = assign_drum::lowest_start(areas, drum, wanted.md) else {
+        return Some(Part::Drum);
     };
     lacking_kind(counts, wanted)
 }

@@ -1,5 +1,6 @@
 -- What selection's promise means: there is one outcome, it is refused exactly when no place is free or no candidate has
 -- an assignment, and the taking that a selection makes is accepted by the lists. Assumes nothing.
+use Rattle.std.specs.Prelude.{Option, Some, None, Ok}
 use Prim.Native.Nat.{ℕ, ◌<◌}
 use mathlib.Core.Path.{◌≡◌, refl, sym, ap, ◌∙◌}
 use mathlib.Core.Bool.{true, false}
@@ -16,19 +17,13 @@ use Rattle.assign.specs.Parts.{Has, parts}
 use Rattle.assign.proofs.FirstLaws.{first_one}
 use Rattle.assign.proofs.ChosenLaws.{chosen-one}
 use Rattle.assign.specs.declared.Assigned.{Assigned}
-use Rattle.assign.specs.declared.Lacking.{Lacking}
-use Rattle.assign.specs.declared.Lacking.TheVariants.{Nothing, First}
 use Rattle.assign.specs.declared.Part.{Part}
 use Rattle.packets.specs.Rules.{refusal}
 use Rattle.packets.specs.declared.Lists.{Lists}
-use Rattle.packets.specs.declared.Verdict.TheVariants.{Granted}
 use Rattle.lists.specs.Outcomes.{state_of}
 use Rattle.cell_taken.specs.Taken.{LowestFree}
 use Rattle.cell_taken.proofs.TakenLaws.{lowest-one}
-use Rattle.cell_taken.specs.declared.FreePlace.{FreePlace}
-use Rattle.cell_taken.specs.declared.FreePlace.TheVariants.{At, Full}
-use Rattle.cell_selection.specs.Selecting.{AllHeld, FirstFit, FirstLacks, NoFit, Selected, Selects, SelectsBy, Takes}
-use Rattle.cell_selection.specs.Selecting.{Unselected, is_job, left_by, supply_in, taking_of, unselected}
+use Rattle.cell_selection.specs.Selecting.{AllHeld, FirstFit, FirstLacks, NoFit, Selected, Selects, SelectsBy, Takes, Unselected, is_job, left_by, supply_in, taking_of, unselected}
 use Rattle.cell_selection.specs.declared.Choice.{Choice}
 use Rattle.cell_selection.specs.declared.Choice.TheVariants.{Job, NoPlace, NoCandidates, Lacks}
 use Rattle.cell_selection.specs.declared.Selection.{Selection}
@@ -59,21 +54,21 @@ module _ (es : List Entry) (supply : Supply) where
 
   lacks-part : {k m : ℕ} {p q : Part} → k ≡ m → FirstLacks es supply k p → FirstLacks es supply m q → p ≡ q
   lacks-part {k} {m} {p} {q} e f g =
-      ap part_of (first_one (Has supply (entry_at es m).request.facilities) parts (First p) (First q) (rw (sym e) f.lacking) g.lacking)
+      ap part_of (first_one (Has supply (entry_at es m).request.facilities) parts (Some p) (Some q) (rw (sym e) f.lacking) g.lacking)
     where
-      part_of : Lacking → Part
-      part_of Nothing = p
-      part_of (First x) = x
+      part_of : Option Part → Part
+      part_of None = p
+      part_of (Some x) = x
 
-at-injective : {p q : ℕ} → At p ≡ At q → p ≡ q
-at-injective {p} {q} e = ap (λ (f : FreePlace). number f) e
+at-injective : {p q : ℕ} → Some p ≡ Some q → p ≡ q
+at-injective {p} {q} e = ap (λ (f : Option ℕ). number f) e
   where
-    number : FreePlace → ℕ
-    number (At p) = p
-    number Full = 0
+    number : Option ℕ → ℕ
+    number (Some p) = p
+    number None = 0
 
 -- where a place is free not all are held
-pub some-free : (lists : Lists) {place : ℕ} → LowestFree lists.jobs (At place) → AllHeld lists → ⊥
+pub some-free : (lists : Lists) {place : ℕ} → LowestFree lists.jobs (Some place) → AllHeld lists → ⊥
 some-free lists {place} l f = never l.1.0 (f place l.0)
 
 module _ (es : List Entry) (lists : Lists) where
@@ -127,7 +122,7 @@ module _ (es : List Entry) (lists : Lists) where
   both-selected : (r s : Selection) → r.choice ≡ s.choice → Selected es lists r → Selected es lists s → r ≡ s
   both-selected r s f a b =
       let k : r.at ≡ s.at = fit_at es (supply_in lists) a.fit b.fit in
-      let p : r.place ≡ s.place = at-injective (lowest-one lists.jobs (At r.place) (At s.place) a.place b.place) in
+      let p : r.place ≡ s.place = at-injective (lowest-one lists.jobs (Some r.place) (Some s.place) a.place b.place) in
       let g : r.assigned ≡ s.assigned = fit-given es (supply_in lists) k a.fit b.fit in
       let q : r.request ≡ s.request = a.request ∙ ap (λ (i : ℕ). (entry_at es i).request) k ∙ sym b.request in
       let n : r.first ≡ s.first = a.unnamed ∙ sym b.unnamed in
@@ -166,6 +161,6 @@ takes_one schedule lists r s a b =
 -- ---- the lists accept the taking
 
 pub taking-granted : (schedule : Schedule) (lists : Lists) (r : Selection) → Selected (in_schedule schedule) lists r
-    → refusal (state_of lists) (taking_of r) ≡ Granted
+    → refusal (state_of lists) (taking_of r) ≡ Ok tt
 unfolding refusal
 taking-granted schedule lists r a = rw (lt-ltb r.place 16 a.place.0, a.place.1.0) refl

@@ -1,4 +1,5 @@
 -- The walk over the candidates, and what an assignment's core says of its starts. Assumes nothing.
+use Rattle.std.specs.Prelude.{Option, Some, None}
 use Prim.Native.Nat.{ℕ, ◌+◌, ◌≤◌, ◌<◌}
 use mathlib.Core.Path.{◌≡◌, refl, sym, ap, subst, ◌∙◌}
 use mathlib.Core.Bool.{Bool, true, false}
@@ -24,7 +25,6 @@ use Rattle.assign.specs.Assignment.{Supply, supply_of, drum_length}
 use Rattle.assign.specs.Parts.{parts, FirstOf, FirstLacking}
 use Rattle.assign.specs.Chosen.{Assigns, nothing}
 use Rattle.assign.specs.declared.Assigned.{Assigned}
-use Rattle.assign.specs.declared.Lacking.{Lacking}
 use Rattle.assign.specs.declared.Part.{Part}
 use Rattle.assign.specs.declared.Provision.{Provision}
 use Rattle.assign.proofs.ChosenLaws.{none-lacking}
@@ -33,7 +33,6 @@ use Rattle.assign_lacking.specs.ByCounts.{LackingByCounts, HasBy}
 use Rattle.assign_lacking.proofs.InCellLaws.{in_cell}
 use Rattle.packets.specs.declared.Lists.{Lists}
 use Rattle.cell_taken.specs.Taken.{LowestFree}
-use Rattle.cell_taken.specs.declared.FreePlace.TheVariants.{At}
 use Rattle.cell_selection.specs.Selecting.{AllHeld, Candidate, FirstFit, FirstLacks, HasNone, NoFit, Selected}
 use Rattle.cell_selection.specs.Selecting.{SelectsBy, Starts, is_job, no_id, supply_in, unselected}
 use Rattle.cell_selection.specs.Noting.{Picks, PicksBy, PicksNone, at_then, lacking_then, none_picked, noted, picked}
@@ -45,15 +44,15 @@ use Rattle.cell_selection.specs.declared.Selection.{Selection}
 
 -- ---- what is noted of the candidates before k, of whom none has an assignment
 
-abbrev pub NotedBy : Lacking → List Entry → Supply → ℕ → ℕ → Type 0
-NotedBy Lacking.Nothing es supply k at = ((i : ℕ) → i < k → Candidate es i → ⊥) × (at ≡ 0)
-NotedBy (Lacking.First part) es supply k at = (at < k) × FirstLacks es supply at part
+abbrev pub NotedBy : Option Part → List Entry → Supply → ℕ → ℕ → Type 0
+NotedBy None es supply k at = ((i : ℕ) → i < k → Candidate es i → ⊥) × (at ≡ 0)
+NotedBy (Some part) es supply k at = (at < k) × FirstLacks es supply at part
 
-pub record Walked (es : List Entry) (supply : Supply) (lacking : Lacking) (at k : ℕ) : Type 0 where
+pub record Walked (es : List Entry) (supply : Supply) (lacking : Option Part) (at k : ℕ) : Type 0 where
   pub passed : (i : ℕ) → i < k → Candidate es i → HasNone supply (entry_at es i).request
   pub so_far : NotedBy lacking es supply k at
 
-pub walk_start : (es : List Entry) (supply : Supply) → Walked es supply Lacking.Nothing 0 0
+pub walk_start : (es : List Entry) (supply : Supply) → Walked es supply None 0 0
 walk_start es supply = record { passed = λ i h c. absurd (omega arith); so_far = (λ i h c. absurd (omega arith), refl) }
 
 module _ (es : List Entry) (supply : Supply) (k : ℕ) where
@@ -67,23 +66,23 @@ module _ (es : List Entry) (supply : Supply) (k : ℕ) where
       less q = omega arith
 
   -- one more is no candidate
-  past : (l : Lacking) (at : ℕ) → (Candidate es k → ⊥) → NotedBy l es supply k at → NotedBy l es supply (k + 1) at
-  past Lacking.Nothing at h n = (below (λ i. ⊥) n.0 h, n.1)
-  past (Lacking.First part) at h n = (omega (arith, n.0), n.1)
+  past : (l : Option Part) (at : ℕ) → (Candidate es k → ⊥) → NotedBy l es supply k at → NotedBy l es supply (k + 1) at
+  past None at h n = (below (λ i. ⊥) n.0 h, n.1)
+  past (Some part) at h n = (omega (arith, n.0), n.1)
 
-  pub walk-past : {l : Lacking} {at : ℕ} → Walked es supply l at k → (Candidate es k → ⊥) → Walked es supply l at (k + 1)
+  pub walk-past : {l : Option Part} {at : ℕ} → Walked es supply l at k → (Candidate es k → ⊥) → Walked es supply l at (k + 1)
   walk-past {l} {at} w h = record {
     passed = below (λ i. HasNone supply (entry_at es i).request) w.passed (λ d. absurd (h d));
     so_far = past l at h w.so_far;
   }
 
   -- one more is a candidate and lacks a part
-  module _ (part : Part) (is : Candidate es k) (f : FirstLacking supply (entry_at es k).request.facilities (Lacking.First part)) where
-    lacks : (l : Lacking) (at : ℕ) → NotedBy l es supply k at → NotedBy (lacking_then l part) es supply (k + 1) (at_then l at k)
-    lacks Lacking.Nothing at a = (omega arith, record { candidate = is; first = a.0; lacking = f })
-    lacks (Lacking.First other) at a = (omega (arith, a.0), a.1)
+  module _ (part : Part) (is : Candidate es k) (f : FirstLacking supply (entry_at es k).request.facilities (Some part)) where
+    lacks : (l : Option Part) (at : ℕ) → NotedBy l es supply k at → NotedBy (lacking_then l part) es supply (k + 1) (at_then l at k)
+    lacks None at a = (omega arith, record { candidate = is; first = a.0; lacking = f })
+    lacks (Some other) at a = (omega (arith, a.0), a.1)
 
-    pub walk-lacks : {l : Lacking} {at : ℕ} → Walked es supply l at k → Walked es supply (lacking_then l part) (at_then l at k) (k + 1)
+    pub walk-lacks : {l : Option Part} {at : ℕ} → Walked es supply l at k → Walked es supply (lacking_then l part) (at_then l at k) (k + 1)
     walk-lacks {l} {at} w = record {
       passed = below (λ i. HasNone supply (entry_at es i).request) w.passed
           (λ d b i. none-lacking supply (entry_at es k).request.facilities b i f);
@@ -91,20 +90,20 @@ module _ (es : List Entry) (supply : Supply) (k : ℕ) where
     }
 
   -- the last has been looked at
-  pub walked_all : {l : Lacking} {at : ℕ} → Walked es supply l at k → length es ≤ k → (a : Assigned) → a ≡ nothing
+  pub walked_all : {l : Option Part} {at : ℕ} → Walked es supply l at k → length es ≤ k → (a : Assigned) → a ≡ nothing
       → Picks es supply (record { found = false; lacking = l; at = at; assigned = a })
   walked_all {l} {at} w h a g = by-lack l w.so_far
     where
       none : NoFit es supply
       none i d = w.passed i (omega (arith, d.0)) d
 
-      by-lack : (m : Lacking) → NotedBy m es supply k at → PicksNone m es supply (record { found = false; lacking = l; at = at; assigned = a })
-      by-lack Lacking.Nothing x = (λ i d. x.0 i (omega (arith, d.0)) d, (x.1, g))
-      by-lack (Lacking.First part) x = (none, (x.1, g))
+      by-lack : (m : Option Part) → NotedBy m es supply k at → PicksNone m es supply (record { found = false; lacking = l; at = at; assigned = a })
+      by-lack None x = (λ i d. x.0 i (omega (arith, d.0)) d, (x.1, g))
+      by-lack (Some part) x = (none, (x.1, g))
 
 -- what the counts tell of a cell
 pub told : (units : List (List Unit)) (occupancy : ℕ) (areas : List Area) (channels : List Channel) (wanted : Facilities) (counts : Counts)
-    {drum : ℕ} {l m : Lacking}
+    {drum : ℕ} {l m : Option Part}
     → length channels ≡ 16
     → Counted units channels counts → drum ≡ drum_length channels → LackingByCounts counts occupancy areas drum wanted l → l ≡ m
     → FirstLacking (supply_of units occupancy areas channels) wanted m
@@ -126,7 +125,7 @@ module _ (s : Schedule) (wide : length s.entries ≡ most_requests) {n : ℕ} (s
     walked : Walked (in_schedule s) supply so_far.lacking so_far.at k
     walked = subst (λ (es : List Entry). Walked es supply so_far.lacking so_far.at k) part w
 
-    again : {l : Lacking} {at : ℕ} → Walked (in_schedule s) supply l at (k + 1) → Walked (take n s.entries) supply l at (k + 1)
+    again : {l : Option Part} {at : ℕ} → Walked (in_schedule s) supply l at (k + 1) → Walked (take n s.entries) supply l at (k + 1)
     again {l} {at} x = subst (λ (es : List Entry). Walked es supply l at (k + 1)) (sym part) x
 
     module _ (h : k < n) where
@@ -140,7 +139,7 @@ module _ (s : Schedule) (wide : length s.entries ≡ most_requests) {n : ℕ} (s
         candidate : Candidate (in_schedule s) k
         candidate = (inside, sym (marks.each k inside) ∙ m)
 
-        pub walk-found : FirstLacking supply (get_or s.entries k d).request.facilities Lacking.Nothing
+        pub walk-found : FirstLacking supply (get_or s.entries k d).request.facilities None
             → (given : Provision) → Assigns supply (get_or s.entries k d).request.facilities given
             → (r : Pick) → r ≡ picked k given → Picks (in_schedule s) supply r
         walk-found f given a r e =
@@ -151,7 +150,7 @@ module _ (s : Schedule) (wide : length s.entries ≡ most_requests) {n : ℕ} (s
             } in
             subst (Picks (in_schedule s) supply) (sym e) (fit, refl)
 
-        pub walk-next : (part : Part) → FirstLacking supply (get_or s.entries k d).request.facilities (Lacking.First part)
+        pub walk-next : (part : Part) → FirstLacking supply (get_or s.entries k d).request.facilities (Some part)
             → (next : Noted) → next ≡ noted so_far part k → Walked (take n s.entries) supply next.lacking next.at (k + 1)
         walk-next part f next e =
             subst (λ (x : Noted). Walked (take n s.entries) supply x.lacking x.at (k + 1)) (sym e)
@@ -168,18 +167,18 @@ pub refused_full : (es : List Entry) (lists : Lists) (r : Selection) → AllHeld
 refused_full es lists r f e = rw e ((f, refl), refl)
 
 module _ (es : List Entry) (lists : Lists) (p : Pick) (place : ℕ) (entry : Entry) (picks : Picks es (supply_in lists) p)
-    (l : LowestFree lists.jobs (At place))
+    (l : LowestFree lists.jobs (Some place))
     (is : entry ≡ entry_at es p.at) where
   module _ (f : p.found ≡ false) where
-    none : {l : Lacking} → p.lacking ≡ l → PicksNone l es (supply_in lists) p
-    none e = subst (λ (l : Lacking). PicksNone l es (supply_in lists) p) e (subst (λ (b : Bool). PicksBy b es (supply_in lists) p) f picks)
+    none : {l : Option Part} → p.lacking ≡ l → PicksNone l es (supply_in lists) p
+    none e = subst (λ (l : Option Part). PicksNone l es (supply_in lists) p) e (subst (λ (b : Bool). PicksBy b es (supply_in lists) p) f picks)
 
     -- there are no candidates
-    pub refused_none : p.lacking ≡ Lacking.Nothing → (r : Selection) → r ≡ unselected NoCandidates no_id → SelectsBy r.choice es lists r
+    pub refused_none : p.lacking ≡ None → (r : Selection) → r ≡ unselected NoCandidates no_id → SelectsBy r.choice es lists r
     refused_none e r g = rw g ((some-free lists l, ((none e).0, refl)), refl)
 
     -- none has an assignment
-    pub refused-lacks : (part : Part) → p.lacking ≡ Lacking.First part → (r : Selection) → r ≡ unselected (Lacks part) entry.request.id
+    pub refused-lacks : (part : Part) → p.lacking ≡ Some part → (r : Selection) → r ≡ unselected (Lacks part) entry.request.id
         → SelectsBy r.choice es lists r
     refused-lacks part e r g = rw g ((some-free lists l, ((none e).0, (p.at, ((none e).1.0, ap (λ (x : Entry). x.request.id) is)))), refl)
 

@@ -1,6 +1,6 @@
 -- Document 01, 'Selecting and assigning', and document 02's second request. Which request is selected, for which place,
 -- with which assignment; else why none is, and what was missing. A reader has to believe this page.
-use Rattle.std.specs.Prelude.{ℕ, ◌<◌, ◌≡◌, Bool, true, false, cond, List, map, eqb, length, replicate}
+use Rattle.std.specs.Prelude.{ℕ, ◌<◌, ◌≡◌, Bool, true, false, cond, List, map, eqb, length, replicate, Some, None}
 use Rattle.numbers.specs.Quoted.{byte}
 use Rattle.numbers.specs.Limits.{blocks}
 use Rattle.cards_request.specs.declared.Facilities.{Facilities}
@@ -17,7 +17,6 @@ use Rattle.assign.specs.Assignment.{Supply, supply_of, IsAssignment}
 use Rattle.assign.specs.Parts.{FirstLacking}
 use Rattle.assign.specs.Chosen.{Chosen, nothing}
 use Rattle.assign.specs.declared.Assigned.{Assigned}
-use Rattle.assign.specs.declared.Lacking.TheVariants.{First}
 use Rattle.assign.specs.declared.Part.{Part}
 use Rattle.packets.specs.declared.Assignment.{Assignment}
 use Rattle.packets.specs.declared.Blocks.{Blocks}
@@ -25,7 +24,6 @@ use Rattle.packets.specs.declared.Lists.{Lists}
 use Rattle.packets.specs.Rules.{Call, Take}
 use Rattle.lists.specs.Outcomes.{outcome}
 use Rattle.cell_taken.specs.Taken.{LowestFree, any_has, area_of, core_of, occupancy}
-use Rattle.cell_taken.specs.declared.FreePlace.TheVariants.{At, Full}
 use Rattle.cell_selection.specs.declared.Choice.{Choice}
 use Rattle.cell_selection.specs.declared.Choice.TheVariants.{Job, NoPlace, NoCandidates, Lacks}
 use Rattle.cell_selection.specs.declared.Selection.{Selection}
@@ -51,7 +49,7 @@ pub record FirstFit (es : List Entry) (supply : Supply) (k : ℕ) (a : Assigned)
 
 -- 18: "no place is free"
 abbrev pub AllHeld : Lists → Type 0
-AllHeld lists = LowestFree lists.jobs Full
+AllHeld lists = LowestFree lists.jobs None
 
 -- 19: "there are no candidates"
 abbrev pub NoCandidate : List Entry → Type 0
@@ -65,7 +63,7 @@ NoFit es supply = (i : ℕ) → Candidate es i → HasNone supply (entry_at es i
 pub record FirstLacks (es : List Entry) (supply : Supply) (k : ℕ) (part : Part) : Type 0 where
   pub candidate : Candidate es k
   pub first : (i : ℕ) → i < k → Candidate es i → ⊥
-  pub lacking : FirstLacking supply (entry_at es k).request.facilities (First part)
+  pub lacking : FirstLacking supply (entry_at es k).request.facilities (Some part)
 
 -- no ID: six blanks
 abbrev pub no_id : List ℕ
@@ -78,7 +76,7 @@ unselected choice first =
 
 -- SELECTED: "The first candidate with an assignment is taken into the lowest free place"
 pub record Selected (es : List Entry) (lists : Lists) (r : Selection) : Type 0 where
-  pub place : LowestFree lists.jobs (At r.place)
+  pub place : LowestFree lists.jobs (Some r.place)
   pub fit : FirstFit es (supply_in lists) r.at r.assigned
   pub request : r.request ≡ (entry_at es r.at).request
   pub unnamed : r.first ≡ no_id

@@ -9,11 +9,10 @@ ghost use Rattle.schedule_list.specs.InSchedule.{in_schedule};
 ghost use Rattle.cell_selection.specs.Selecting.{is_job, Selects, supply_in, unselected, is_taken, run_of, assignment_of, Starts, Takes};
 ghost use Rattle.cell_selection.specs.Noting.{noted, picked, none_picked, Picks};
 
-use assign::{Assigned, Lacking, Part, Provision};
+use assign::{Assigned, Part, Provision};
 use assign_drum::Area;
-use assign_heads::{Given, Head};
+use assign_heads::Head;
 use cards_request::{Facilities, Request};
-use cell_taken::FreePlace;
 use channels::Channel;
 use packets::{Assignment, Blocks, Core, Lists};
 use schedule_entries::Entry;
@@ -34,7 +33,7 @@ pub enum Choice {
 // nothing where there was none.
 #[derive(Clone, Copy)]
 struct Noted {
-    lacking: Lacking,
+    lacking: Option<Part>,
     at: usize,
 }
 
@@ -43,7 +42,7 @@ struct Noted {
 #[derive(Clone, Copy)]
 pub struct Pick {
     pub found: bool,
-    pub lacking: Lacking,
+    pub lacking: Option<Part>,
     pub at: usize,
     pub assigned: Assigned,
 }
@@ -86,11 +85,11 @@ fn note(before: Noted, part: Part, at: usize) -> Noted
 {
     let lacking = before.lacking;
     match lacking {
-        Lacking::Nothing => Noted {
-            lacking: Lacking::First(part),
+        None => Noted {
+            lacking: Some(part),
             at,
         },
-        Lacking::First(_) => before,
+        Some(_) => before,
     }
 }
 
@@ -101,7 +100,7 @@ fn picked(at: usize, given: Provision) -> Pick
     let assigned = given.assigned;
     Pick {
         found: true,
-        lacking: Lacking::Nothing,
+        lacking: None,
         at,
         assigned,
     }
@@ -138,7 +137,7 @@ fn first_fit(
     let counts = assign_counts::count(units, channels);
     let drum = assign::drum_length(channels);
     let mut so_far = Noted {
-        lacking: Lacking::Nothing,
+        lacking: None,
         at: 0,
     };
     let mut k: usize = 0;
@@ -148,7 +147,7 @@ fn first_fit(
             let request = entry.request;
             let wanted = request.facilities;
             let lacking = assign_lacking::first_lacking(counts, occupancy, areas, drum, wanted);
-            let Lacking::First(part) = lacking else {
+            let Some(part) = lacking else {
                 let given = assign::assign(units, occupancy, areas, channels, request);
                 return picked(k, given);
             };
@@ -197,7 +196,7 @@ pub fn choose(schedule: Schedule, lists: Lists) -> Selection
 {
     let jobs = lists.jobs;
     let no_id = [b' '; 6];
-    let FreePlace::At(place) = cell_taken::lowest_free(jobs) else {
+    let Some(place) = cell_taken::lowest_free(jobs) else {
         return unselected(Choice::NoPlace, no_id);
     };
     let picked = picked_in(schedule, lists);
@@ -216,8 +215,8 @@ pub fn choose(schedule: Schedule, lists: Lists) -> Selection
     }
     let lacking = picked.lacking;
     match lacking {
-        Lacking::Nothing => unselected(Choice::NoCandidates, no_id),
-        Lacking::First(part) => {
+        None => unselected(Choice::NoCandidates, no_id),
+        Some(part) => {
             let id = request.id;
             unselected(Choice::Lacks(part), id)
         }
@@ -230,8 +229,8 @@ fn is_taken(head: Head) -> bool
 {
     let to = head.to;
     match to {
-        Given::Nothing => false,
-        Given::To(_) => true,
+        None => false,
+        Some(_) => true,
     }
 }
 

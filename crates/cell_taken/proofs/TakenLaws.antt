@@ -1,5 +1,6 @@
 -- What the occupancy word means: bit b of it is 1 exactly where block b is taken, and it has no more bits; and two
 -- answers to the lowest free place are one. Assumes nothing.
+use Rattle.std.specs.Prelude.{Option, Some, None}
 use Prim.Native.Nat.{ℕ, zero, suc, ◌+◌, ◌*◌, ◌/◌, ◌%◌, ◌^◌, ◌<◌, ◌-◌}
 use mathlib.Core.Path.{◌≡◌, refl, ap, ◌∙◌}
 use mathlib.Core.Bool.{Bool, true, false, cond}
@@ -13,8 +14,6 @@ use Rattle.numbers.proofs.Tests.{never}
 use Rattle.numbers.specs.Bits.{bit}
 use Rattle.packets.specs.declared.Job.{Job}
 use Rattle.cell_taken.specs.Taken.{word_from, LowestFree}
-use Rattle.cell_taken.specs.declared.FreePlace.{FreePlace}
-use Rattle.cell_taken.specs.declared.FreePlace.TheVariants.{At, Full}
 
 -- n bits are below 2 ^ n
 pub word_below : (taken : ℕ → Bool) (k n : ℕ) → word_from taken k n < 2 ^ n
@@ -48,13 +47,13 @@ pub occupancy-bit : (taken : ℕ → Bool) (n b : ℕ) → b < n → bit (word_f
 occupancy-bit taken n b h = word-bits taken n 0 b h ∙ ap (λ (x : ℕ). cond (taken x) 1 0) (let e : 0 + b ≡ b = omega arith in e)
 
 -- TWO ANSWERS TO THE LOWEST FREE PLACE ARE ONE
-pub lowest-one : (jobs : List Job) (a b : FreePlace) → LowestFree jobs a → LowestFree jobs b → a ≡ b
-lowest-one jobs (At p) (At q) f g = ap At (same p q (λ h. never f.1.0 (g.1.1 p h)) (λ h. never g.1.0 (f.1.1 q h)))
+pub lowest-one : (jobs : List Job) (a b : Option ℕ) → LowestFree jobs a → LowestFree jobs b → a ≡ b
+lowest-one jobs (Some p) (Some q) f g = ap Some (same p q (λ h. never f.1.0 (g.1.1 p h)) (λ h. never g.1.0 (f.1.1 q h)))
   where
     same : (p q : ℕ) → (p < q → ⊥) → (q < p → ⊥) → p ≡ q
     same p q l r =
         ⊎_elim (λ e. ⊎_elim (λ d. omega arith) (λ d. absurd (r (omega arith))) (eq-zero-or-pos (p - q))) (λ e. absurd (l (omega arith)))
         (eq-zero-or-pos (q - p))
-lowest-one jobs (At p) Full f g = never f.1.0 (g p f.0)
-lowest-one jobs Full (At q) f g = never g.1.0 (f q g.0)
-lowest-one jobs Full Full f g = refl
+lowest-one jobs (Some p) None f g = never f.1.0 (g p f.0)
+lowest-one jobs None (Some q) f g = never g.1.0 (f q g.0)
+lowest-one jobs None None f g = refl

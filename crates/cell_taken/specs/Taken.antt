@@ -1,13 +1,11 @@
 -- What the jobs in their places hold of core and drum, and the lowest free place.
-use Rattle.std.specs.Prelude.{ℕ, zero, suc, ◌+◌, ◌*◌, ◌<◌, ◌≡◌, Bool, true, false, cond, ◌||◌, List}
+use Rattle.std.specs.Prelude.{ℕ, zero, suc, ◌+◌, ◌*◌, ◌<◌, ◌≡◌, Bool, true, false, cond, ◌||◌, List, Option, Some, None}
 use Rattle.assign_drum.specs.declared.Area.{Area}
 use Rattle.assign_drum.specs.Drum.{no_area}
 use Rattle.packets.specs.declared.Core.{Core}
 use Rattle.packets.specs.declared.Job.{Job}
 use Rattle.numbers.specs.Elements.{any}
 use Rattle.packets.specs.State.{in_run, is_empty, no_core, state_in}
-use Rattle.cell_taken.specs.declared.FreePlace.{FreePlace}
-use Rattle.cell_taken.specs.declared.FreePlace.TheVariants.{At, Full}
 
 -- a block of a job's core: of its IB run or its DB run
 abbrev pub in_blocks : Core → ℕ → Bool
@@ -35,6 +33,6 @@ abbrev pub occupancy : (ℕ → Bool) → ℕ → ℕ
 occupancy taken n = word_from taken 0 n
 
 -- "the lowest free place": no job is in it, and one is in each before it; full where one is in each of the 16
-abbrev pub LowestFree : List Job → FreePlace → Type 0
-LowestFree jobs (At p) = (p < 16) × ((is_empty (state_in jobs p) ≡ true) × ((q : ℕ) → q < p → is_empty (state_in jobs q) ≡ false))
-LowestFree jobs Full = (q : ℕ) → q < 16 → is_empty (state_in jobs q) ≡ false
+abbrev pub LowestFree : List Job → Option ℕ → Type 0
+LowestFree jobs (Some p) = (p < 16) × ((is_empty (state_in jobs p) ≡ true) × ((q : ℕ) → q < p → is_empty (state_in jobs q) ≡ false))
+LowestFree jobs None = (q : ℕ) → q < 16 → is_empty (state_in jobs q) ≡ false

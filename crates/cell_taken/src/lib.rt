@@ -10,13 +10,6 @@ use assign_drum::Area;
 use numbers::limits;
 use packets::{Blocks, Core, Job};
 
-// The lowest place without a job, or that all are taken.
-#[derive(Clone, Copy)]
-pub enum FreePlace {
-    At(u8),
-    Full,
-}
-
 // The blocks that the job of a place holds; none in an empty place, whatever the last job left there.
 fn core_of(job: Job) -> Core
     ensures { result ≡ core_of job }
@@ -33,14 +26,7 @@ fn core_of(job: Job) -> Core
 fn cores(jobs: [Job; 16]) -> [Core; 16]
     ensures { result ≡ map core_of jobs }
 {
-    let none = Blocks { start: 0, count: 0 };
-    let mut next = [Core { ib: none, db: none }; 16];
-    let mut i: usize = 0;
-    while i < 16 {
-        next[i] = core_of(jobs[i]);
-        i += 1;
-    }
-    next
+    jobs.map(|job| core_of(job))
 }
 
 // Whether a block is one of a run's.
@@ -71,12 +57,10 @@ fn is_in_core(core: Core, b: u32) -> bool
 fn is_taken(held: [Core; 16], b: u32) -> bool
     ensures { result ≡ any_has held b }
 {
-    let mut i: usize = 0;
-    while i < 16 {
+    for i in 0..16 {
         if is_in_core(held[i], b) {
             return true;
         }
-        i += 1;
     }
     false
 }
@@ -126,27 +110,19 @@ fn area_of(job: Job) -> Area
 pub fn areas(jobs: [Job; 16]) -> [Area; 16]
     ensures { result ≡ map area_of jobs }
 {
-    let mut next = [Area { start: 0, words: 0 }; 16];
-    let mut i: usize = 0;
-    while i < 16 {
-        next[i] = area_of(jobs[i]);
-        i += 1;
-    }
-    next
+    jobs.map(|job| area_of(job))
 }
 
-// The lowest free place.
-pub fn lowest_free(jobs: [Job; 16]) -> FreePlace
+// The lowest place without a job; none where all are taken.
+pub fn lowest_free(jobs: [Job; 16]) -> Option<u8>
     ensures { LowestFree jobs result }
 {
-    let mut i: usize = 0;
-    while i < 16 {
+    for i in 0..16 {
         let job = jobs[i];
         let state = job.state;
         if packets_job::is_empty(state) {
-            return FreePlace::At(i as u8);
+            return Some(i as u8);
         }
-        i += 1;
     }
-    FreePlace::Full
+    None
 }

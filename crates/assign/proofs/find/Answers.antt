@@ -18,15 +18,15 @@ returns-in_default c =
 pub returns-in_default-lowest_start : goal.returns-in_default-lowest_start
 returns-in_default-lowest_start c =
     no-drum (supply_of c.args.units.of c.args.occupancy c.args.areas c.args.channels) c.args.wanted
-    (subst (Core.LeastPair c.args.occupancy c.args.wanted.ib c.args.wanted.db) c.in-At.is c.search.ensures)
+    (subst (Core.LeastPair c.args.occupancy c.args.wanted.ib c.args.wanted.db) c.in-Some.is c.search.ensures)
     (for-length c.args.areas c.args.wanted.md c.drum_length.ensures c.in_default-lowest_start.is c.lowest_start.ensures)
     c.without-in_default-lowest_start.ensures
 
 pub returns-then-not-kinds : goal.returns-then-not-kinds
 returns-then-not-kinds c =
     let supply = supply_of c.args.units.of c.args.occupancy c.args.areas c.args.channels in
-    let core = subst (Core.LeastPair c.args.occupancy c.args.wanted.ib c.args.wanted.db) c.in-At.is c.search.ensures in
-    let area = for-length c.args.areas c.args.wanted.md c.drum_length.ensures c.in-At-lowest_start.is
+    let core = subst (Core.LeastPair c.args.occupancy c.args.wanted.ib c.args.wanted.db) c.in-Some.is c.search.ensures in
+    let area = for-length c.args.areas c.args.wanted.md c.drum_length.ensures c.in-Some-lowest_start.is
     c.lowest_start.ensures in
     no_kind supply c.args.wanted core area
     (kinds-lacking c.serve_kinds-kinds.result (not-true c.serve_kinds-kinds.result.ok c.if-not-kinds.true) c.serve_kinds-kinds.ensures)
@@ -35,9 +35,9 @@ returns-then-not-kinds c =
 pub returns : goal.returns
 returns c =
     let supply = supply_of c.args.units.of c.args.occupancy c.args.areas c.args.channels in
-    let core = subst (Core.LeastPair c.args.occupancy c.args.wanted.ib c.args.wanted.db) c.in-At.is c.search.ensures in
-    let area = for-length c.args.areas c.args.wanted.md c.drum_length.ensures c.in-At-lowest_start.is
+    let core = subst (Core.LeastPair c.args.occupancy c.args.wanted.ib c.args.wanted.db) c.in-Some.is c.search.ensures in
+    let area = for-length c.args.areas c.args.wanted.md c.drum_length.ensures c.in-Some-lowest_start.is
     c.lowest_start.ensures in
-    assigned supply c.args.wanted c.in-At.pair c.in-At-lowest_start.start c.serve_kinds-kinds.result.channels c.serve_kinds-kinds.result.heads core
+    assigned supply c.args.wanted c.in-Some.pair c.in-Some-lowest_start.start c.serve_kinds-kinds.result.channels c.serve_kinds-kinds.result.heads core
     area
     (kinds-served c.serve_kinds-kinds.result (not-false c.serve_kinds-kinds.result.ok c.if-not-kinds.false) c.serve_kinds-kinds.ensures)

@@ -18,9 +18,6 @@ returns-then-not-service c =
     c.free_units-free.ensures c.wants_of-wants.ensures (lacking-so c.free_units-free.result c.wants_of-wants.result c.loop-order.heads c.serve-service.result no c.serve-service.ensures)
     c.loop-order.invariant
 
-pub loop-order-smaller : goal.loop-order-smaller
-loop-order-smaller c = omega arith
-
 pub loop-order-preserved : goal.loop-order-preserved
 loop-order-preserved c =
     elim c.if-sum-gt0.branch [

@@ -1,39 +1,24 @@
--- `assign_channels::can_serve` meets its contract. The loop's invariant: the tests that are left give the whole
--- answer. Assumes nothing.
-use mathlib.Core.Path.{◌≡◌, sym, ap, ◌∙◌}
-use native.Mathlib.Omega.{arith}
-use lib.ListN.{length, drop}
-use Rattle.assign_channels.specs.Greedy.{cnt}
-use Rattle.assign_channels.proofs.Loops.{tests-zero, tests-pass, tests-fail, tests-end, lent_is}
+-- `assign_channels::can_serve` meets its contract: it asks of each entry what the threshold test does. Assumes nothing.
+use Prim.Native.Nat.{ℕ, ◌-◌}
+use mathlib.Core.Path.{◌≡◌, ◌∙◌, ap}
+use mathlib.Core.Bool.{◌||◌}
+use mathlib.Core.List.{List}
+use lib.Dec.{leb, eqb}
+use lib.ListN.{length, take, drop}
 use borrow.Author.Rules.{rules}
+use borrow.Author.Tests.{tests}
+use Rattle.std.proofs.lemmas.Iterator.{YieldsList-from_slice}
+use Rattle.std.proofs.lemmas.Iterator.Search.{all_from_yields_List}
+use Rattle.assign_channels.specs.Greedy.{cnt, hall_b}
+use Rattle.assign_channels.proofs.StdWords.{all_tests}
+use Rattle.assign_channels.proofs.Loops.{lent_is}
 use Rattle.assign_channels.proofs.can_serve.Goals as goal
-use Rattle.assign_channels.proofs.can_serve.Goals.{then-t-gt0+else-channels-entries, else-t-gt0}
-
-pub returns-then-channels-entries : goal.returns-then-channels-entries
-returns-then-channels-entries c =
-    let all = drop c.args.from.0 c.args.wants.0 in
-    let n : length c.args.wants.0 ≡ 16 = search rules in
-    let entries = c.count_ge-entries.ensures ∙ ap (cnt _) (lent_is c.args.wants.0 c.args.from.0 n) in
-    let fails = tests-fail c.args.counts.0 all c.args.wants.0 c.loop-i.i (omega (arith, n)) (omega (arith, entries, c.count_ge-channels.ensures, c.if-channels-entries.true)) in
-    sym (sym c.loop-i.invariant.1 ∙ fails c.if-t-gt0.true)
-
-pub loop-i-preserved : goal.loop-i-preserved
-loop-i-preserved c =
-    let all = drop c.args.from.0 c.args.wants.0 in
-    let n : length c.args.wants.0 ≡ 16 = search rules in (
-      omega arith,
-      (elim c.if-t-gt0.branch [
-        | then-t-gt0+else-channels-entries w ↦
-            let entries = w.count_ge-entries.ensures ∙ ap (cnt _) (lent_is c.args.wants.0 c.args.from.0 n) in
-            tests-pass c.args.counts.0 all c.args.wants.0 c.loop-i.i (omega (arith, n))
-            (omega (arith, entries, w.count_ge-channels.ensures, w.if-channels-entries.false))
-            w.if-t-gt0.true
-        | else-t-gt0 w ↦ tests-zero c.args.counts.0 all c.args.wants.0 c.loop-i.i (omega (arith, n)) (omega (arith, w))
-      ]) ∙ c.loop-i.invariant.1,
-    )
 
 pub returns : goal.returns
 returns c =
-    let all = drop c.args.from.0 c.args.wants.0 in
     let n : length c.args.wants.0 ≡ 16 = search rules in
-    sym (sym c.loop-i.invariant.1 ∙ tests-end c.args.counts.0 all c.args.wants.0 c.loop-i.i (omega (arith, n)))
+    let all : List ℕ = take (length c.args.wants.0 - c.min-start.result) (drop c.min-start.result c.args.wants.0) in
+    let is : all ≡ drop c.args.from.0 c.args.wants.0 = lent_is c.args.wants.0 c.args.from.0 c.min-start.result n c.min-start.ensures in
+    all_from_yields_List (λ n. eqb n 0 || leb (cnt n all) (cnt n c.args.counts.0)) _ _ _ c.all.ensures.ran
+    (YieldsList-from_slice all c.iter.ensures.rest) (λ x b q k. search (rules, tests))
+    ∙ all_tests c.args.counts.0 all all ∙ ap (hall_b c.args.counts.0) is

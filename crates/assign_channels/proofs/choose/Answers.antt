@@ -36,9 +36,6 @@ bounds-left-c c =
     let below = pick-below size c.loop-l-test.true c.loop-l.invariant c.if-n-gt0.true c.lowest-channel.ensures in
     omega (arith, c.loop-l.invariant.wide, below)
 
-pub loop-l-smaller : goal.loop-l-smaller
-loop-l-smaller c = omega arith
-
 pub loop-l-preserved : goal.loop-l-preserved
 loop-l-preserved c =
     let size : length c.args.wants.0 ≡ 16 = search rules in

@@ -1,11 +1,7 @@
 -- `assign_channels::choose` meets its contract: it is the greedy choice. The loop's invariant is `Going`. Assumes
 -- nothing.
-use Prim.Native.Nat.{◌-◌}
 use Rattle.assign_channels.proofs.Loops.{Going}
 use Rattle.assign_channels.proofs.choose.Given as goal
 
 abbrev pub invariant-loop-l : goal.invariant-loop-l
 invariant-loop-l l = Going l.initial.left.0 l.asked l.on l.left.0 l.l
-
-abbrev pub decreases-loop-l : goal.decreases-loop-l
-decreases-loop-l l = 16 - l.l

@@ -1,17 +1,16 @@
--- `assign_channels::count_ge` meets its contract. The loop's invariant: what is counted, and what of the list is
--- left, make the whole. Assumes nothing.
-use native.Mathlib.Omega.{arith}
-use Rattle.assign_channels.proofs.HallLaws.{ge-yes, ge-no, cnt-drop, cnt-end}
+-- `assign_channels::count_ge` meets its contract: it counts what passes the filter. Assumes nothing.
+use mathlib.Core.Path.{◌∙◌}
+use lib.Dec.{leb}
+use borrow.Author.Rules.{rules}
+use borrow.Author.Tests.{tests}
+use Rattle.std.proofs.lemmas.Iterator.{YieldsList-from_slice}
+use Rattle.std.proofs.lemmas.Iterator.Consumers.{YieldsList-from_filter, count_from_yields_List}
+use Rattle.assign_channels.proofs.StdWords.{length_cnt}
 use Rattle.assign_channels.proofs.count_ge.Goals as goal
-use Rattle.assign_channels.proofs.count_ge.Goals.{then-t-xs, else-t-xs}
-
-pub loop-i-preserved : goal.loop-i-preserved
-loop-i-preserved c =
-    let d = cnt-drop c.args.t c.args.xs.now c.loop-i.i c.loop-i-test.true in
-    elim c.if-t-xs.branch [
-      | then-t-xs w ↦ omega (arith, w.n-is, ge-yes w.if-t-xs.true)
-      | else-t-xs w ↦ omega (arith, w.n-is, ge-no w.if-t-xs.false)
-    ]
 
 pub returns : goal.returns
-returns c = omega (arith, cnt-end c.args.t c.args.xs.now c.loop-i.i c.loop-i-test.false)
+returns c =
+    count_from_yields_List c.filter.result _ c.count.ensures.ran
+    (YieldsList-from_filter _ (λ x. leb c.args.t x) (YieldsList-from_slice c.args.xs.now (cc)) c.filter.ensures.closure
+    (λ x r q k. search (rules, tests)))
+    ∙ length_cnt c.args.t c.args.xs.now

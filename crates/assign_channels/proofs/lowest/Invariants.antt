@@ -9,6 +9,3 @@ use Rattle.assign_channels.proofs.lowest.Given as goal
 abbrev pub invariant-loop-c : goal.invariant-loop-c
 invariant-loop-c l =
     (l.c ≤ 16) × (lowest_from l.there l.n (drop l.from.0 l.wants.0) (16 - l.c) l.c ≡ lowest_from l.there l.n (drop l.from.0 l.wants.0) 16 0)
-
-abbrev pub decreases-loop-c : goal.decreases-loop-c
-decreases-loop-c l = 16 - l.c

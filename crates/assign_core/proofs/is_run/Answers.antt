@@ -1,26 +1,24 @@
--- `assign_core::is_run` meets its contract. The loop's invariant: the blocks passed are free. Assumes nothing.
+-- `assign_core::is_run` meets its contract: the blocks that it asks about are those of the run. Assumes nothing.
+use Prim.Native.Nat.{ℕ, ◌+◌, ◌-◌, ◌≤◌, ◌<◌}
+use mathlib.Core.Path.{◌≡◌}
+use mathlib.Core.Bool.{Bool, true, false}
 use native.Mathlib.Omega.{arith}
-use borrow.Author.Count.{below_more}
+use borrow.Author.Rules.{rules}
+use borrow.Author.Tests.{tests}
+use Rattle.std.specs.Bool.{MatchBool}
+use Rattle.numbers.specs.Bits.{bit}
+use Rattle.numbers.specs.Decides.{Decides}
+use Rattle.numbers.specs.Limits.{first_block, last_block}
 use Rattle.numbers.proofs.DecidesLaws.{yes, no}
+use Rattle.assign_core.specs.Core.{Run}
+use Rattle.assign_core.proofs.Ranges.{all_in}
 use Rattle.assign_core.proofs.is_run.Goals as goal
 
-pub returns-then-from-lt-FIRST : goal.returns-then-from-lt-FIRST
-returns-then-from-lt-FIRST c = no (λ f. omega arith)
-
-pub returns-then-from-gt-END : goal.returns-then-from-gt-END
-returns-then-from-gt-END c = no (λ f. omega arith)
-
-pub returns-then-from-n : goal.returns-then-from-n
-returns-then-from-n c = no (λ f. omega arith)
-
-pub loop-b-init : goal.loop-b-init
-loop-b-init c = (omega arith, λ k h l. absurd (omega arith))
-
-pub returns-then-word-b-eq1 : goal.returns-then-word-b-eq1
-returns-then-word-b-eq1 c = no (λ f. omega (arith, f.free c.loop-b.b (omega arith) (omega arith)))
-
-pub loop-b-preserved : goal.loop-b-preserved
-loop-b-preserved c = (omega arith, below_more _ _ c.loop-b.invariant.1 (λ l. omega arith))
+by_blocks : (w n i : ℕ) (r : Bool) → first_block ≤ i → i ≤ last_block + 1 → n ≤ last_block + 1 - i
+    → MatchBool r ((b : ℕ) → i ≤ b → b < i + n → bit w b ≡ 0) ((b : ℕ) × (i ≤ b) × (b < i + n) × (bit w b ≡ 0 → ⊥)) → Decides (Run w n i) r
+by_blocks w n i true l m h f = yes (record { low = l; high = omega arith; free = λ b u v. f b v u })
+by_blocks w n i false l m h f = no (λ r. f.3 (r.free f.0 f.2 f.1))
 
 pub returns : goal.returns
-returns c = yes (record { low = omega arith; high = omega arith; free = λ k h l. c.loop-b.invariant.1 k (omega arith) l })
+returns c = by_blocks c.args.word c.args.n c.args.from c.all.result (omega arith) (omega arith) (omega arith)
+    (all_in _ _ _ _ (λ b. bit c.args.word b ≡ 0) (λ b. bit c.args.word b ≡ 0 → ⊥) c.all.ensures.ran (λ x q k. search (rules, tests)) (λ x q k. search (rules, tests)))

@@ -18,37 +18,16 @@ none_left {w} {ib} {db} {i} j h none b f =
     (λ p. none b (omega (arith, (f.data-run p).run)) f)
     (eq-zero-or-pos db)
 
-pub search-init : goal.search-init
-search-init c = (omega arith, λ a h b f. omega (arith, f.instructions))
-
-pub loop-j-init : goal.loop-j-init
-loop-j-init c = (omega arith, λ b h f. omega arith)
-
-pub is_beside-requires : goal.is_beside-requires
-is_beside-requires c = omega (arith, c.is_run.ensures.0 c.if-is_run.true)
-
-pub loop-j-smaller : goal.loop-j-smaller
-loop-j-smaller c = omega arith
-
 pub loop-j-preserved : goal.loop-j-preserved
-loop-j-preserved c =
-    (omega arith, below_more _ _ c.loop-j.invariant.1 (λ f. c.is_beside.ensures.1 c.if-is_beside.false (f.data-run (omega arith))))
+loop-j-preserved c = below_more _ _ c.loop-j.invariant (λ f. c.is_beside.ensures.1 c.if-is_beside.false (f.data-run (omega arith)))
 
-pub search-smaller : goal.search-smaller
-search-smaller c = omega arith
-
-pub search-preserved : goal.search-preserved
-search-preserved c = (
-  omega arith,
-  below_more _ _ c.search.invariant.1 (λ b f.
-      elim c.if-is_run.branch [
-        | then-is_run+else-loop-j-test w ↦ none_left w.loop-j.j (omega (arith, w)) w.loop-j.invariant.1 b f
-        | else-is_run w ↦ c.is_run.ensures.1 w.if-is_run.false f.instructions
-      ]),
-)
-
-pub returns-then-i-gt-END : goal.returns-then-i-gt-END
-returns-then-i-gt-END c = λ a b f. c.search.invariant.1 a (omega (arith, f.instructions)) b f
+pub loop-i-preserved : goal.loop-i-preserved
+loop-i-preserved c =
+    below_more _ _ c.loop-i.invariant (λ b f.
+    elim c.if-is_run.branch [
+      | then-is_run+else-loop-j-test w ↦ none_left w.loop-j.j (omega (arith, w)) w.loop-j.invariant b f
+      | else-is_run w ↦ c.is_run.ensures.1 w.if-is_run.false f.instructions
+    ])
 
 pub returns-then-db-eq0 : goal.returns-then-db-eq0
 returns-then-db-eq0 c = (
@@ -59,6 +38,9 @@ returns-then-db-eq0 c = (
       | then-db-eq0-via-else-db-eq0+then-is_beside w ↦ w.is_beside.ensures.0 w.if-is_beside.true
     ];
   },
-  λ a b f. ⊎_elim (λ h. c.search.invariant.1 a h b f)
-      (λ e. c.loop-j.invariant.1 b e.1 (subst (λ (x : ℕ). Fits c.args.word c.args.ib c.args.db x b) e.0 f)),
+  λ a b f. ⊎_elim (λ h. c.loop-i.invariant a h b f)
+      (λ e. c.loop-j.invariant b e.1 (subst (λ (x : ℕ). Fits c.args.word c.args.ib c.args.db x b) e.0 f)),
 )
+
+pub returns-after-loop-i : goal.returns-after-loop-i
+returns-after-loop-i c = λ a b f. c.loop-i.invariant a (omega (arith, f.instructions)) b f

@@ -1,35 +1,27 @@
--- `assign_heads::free_on` meets its contract. The loop's invariant: n is how many of the units passed are
--- assignable. Assumes nothing.
-use Prim.Native.Nat.{ℕ, ◌+◌, ◌*◌}
-use mathlib.Core.Path.{sym, ap, ◌∙◌}
-use mathlib.Core.Bool.{true, false}
+-- `assign_heads::free_on` meets its contract: it counts the channel's part of the table. Assumes nothing.
+use Prim.Native.Nat.{ℕ, ◌+◌, ◌-◌, ◌*◌}
+use mathlib.Core.Path.{◌≡◌, ap, ◌∙◌}
+use mathlib.Core.Bool.{Bool}
+use mathlib.Core.List.{List}
 use native.Mathlib.Omega.{arith}
+use lib.ListN.{length, take, drop}
+use borrow.Author.Rules.{rules}
+use borrow.Author.Tests.{tests}
+use Rattle.std.specs.List.{filter}
+use Rattle.std.proofs.lemmas.Iterator.{YieldsList-from_slice}
+use Rattle.std.proofs.lemmas.Iterator.Consumers.{YieldsList-from_filter, count_from_yields_List}
 use Rattle.assign_heads.specs.Sums.{how_many}
 use Rattle.assign_heads.specs.Whose.{free_at}
-use Rattle.assign_heads.proofs.Turns.{count_none, count-more}
+use Rattle.assign_heads.proofs.Turns.{part-count}
 use Rattle.assign_heads.proofs.free_on.Goals as goal
-use Rattle.assign_heads.proofs.free_on.Goals.{then-free-at, else-free-at}
-
-pub loop-u-init : goal.loop-u-init
-loop-u-init c = (omega arith, count_none (λ v. free_at c.args.free.now (c.args.channel.0 * 16 + v)))
-
-pub overflow_add-n : goal.overflow_add-n
-overflow_add-n c = omega arith
-
-pub loop-u-smaller : goal.loop-u-smaller
-loop-u-smaller c = omega arith
-
-pub loop-u-preserved : goal.loop-u-preserved
-loop-u-preserved c = (
-  elim c.if-free-at.branch [ then-free-at w ↦ omega (arith, w) | else-free-at w ↦ omega (arith, w) ],
-  elim c.if-free-at.branch [
-    | then-free-at w ↦ count-more (λ v. free_at c.args.free.now (c.args.channel.0 * 16 + v)) c.loop-u.u c.loop-u.n c.if-free-at.n true
-        (ap (free_at c.args.free.now) (sym c.index_of-at.ensures) ∙ w.if-free-at.true) c.loop-u.invariant.1 (omega (arith, w))
-    | else-free-at w ↦ count-more (λ v. free_at c.args.free.now (c.args.channel.0 * 16 + v)) c.loop-u.u c.loop-u.n c.if-free-at.n false
-        (ap (free_at c.args.free.now) (sym c.index_of-at.ensures) ∙ w.if-free-at.false) c.loop-u.invariant.1 (omega (arith, w))
-  ],
-)
 
 pub returns : goal.returns
 returns c =
-    c.loop-u.invariant.1 ∙ ap (λ (x : ℕ). how_many x (λ v. free_at c.args.free.now (c.args.channel.0 * 16 + v))) (omega arith)
+    let k = c.index_of-first.result in
+    let part : List Bool = take (k + 16 - k) (drop k c.args.free.now) in
+    let e : k + 16 - k ≡ 16 = omega arith in
+    let f : k ≡ c.args.channel.0 * 16 = omega (arith, c.index_of-first.ensures) in
+    count_from_yields_List c.filter.result _ c.count.ensures.ran
+    (YieldsList-from_filter _ (λ b. b) (YieldsList-from_slice part (cc)) c.filter.ensures.closure (λ x r q k. search (rules, tests)))
+    ∙ ap (λ (n : ℕ). length (filter (λ (b : Bool). b) (take n (drop k c.args.free.now)))) e
+    ∙ part-count c.args.free.now k 16 ∙ ap (λ (n : ℕ). how_many 16 (λ u. free_at c.args.free.now (n + u))) f

@@ -13,13 +13,10 @@ pub taker-to-requires : goal.taker-to-requires
 taker-to-requires c =
     own-small c.loop-i-test.true c.loop-i.invariant c.if-free-i.true c.requires
 
-pub loop-i-smaller : goal.loop-i-smaller
-loop-i-smaller c = omega arith
-
 pub loop-i-preserved : goal.loop-i-preserved
 loop-i-preserved c =
     elim c.if-free-i.branch [
-      | then-free-i w ↦ gave-turn c.loop-i-test.true c.loop-i.invariant w.if-free-i.true c.requires w.taker-to.ensures (w.left-is ∙ w.less-after.ensures) w.next-is
+      | then-free-i w ↦ gave-turn c.loop-i-test.true c.loop-i.invariant w.if-free-i.true c.requires w.taker-to.ensures (w.left-is ∙ w.less-left.ensures) w.next-is
       | else-free-i w ↦ gave-past c.loop-i-test.true c.loop-i.invariant w.if-free-i.false w.left-is w.next-is
     ]
 

@@ -12,12 +12,12 @@ returns-in_default c =
 
 pub returns-in_default-lowest_start : goal.returns-in_default-lowest_start
 returns-in_default-lowest_start c =
-    let core = core-there c.args.occupancy c.args.wanted c.search.ensures _ c.in-At.is in
+    let core = core-there c.args.occupancy c.args.wanted c.search.ensures _ c.in-Some.is in
     let none = no-drum c.args.areas c.args.drum c.args.wanted c.lowest_start.ensures c.in_default-lowest_start.is in
     record { first = inr (core, inl (none, refl)); full = search rules }
 
 pub returns : goal.returns
 returns c =
-    let core = core-there c.args.occupancy c.args.wanted c.search.ensures _ c.in-At.is in
-    let drum = drum-there c.args.areas c.args.drum c.args.wanted c.lowest_start.ensures _ c.in-At-lowest_start.is in
+    let core = core-there c.args.occupancy c.args.wanted c.search.ensures _ c.in-Some.is in
+    let drum = drum-there c.args.areas c.args.drum c.args.wanted c.lowest_start.ensures _ c.in-Some-lowest_start.is in
     record { first = inr (core, inr (drum, c.lacking_kind.ensures)); full = search rules }

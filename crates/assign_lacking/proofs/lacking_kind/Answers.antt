@@ -1,5 +1,6 @@
 -- `assign_lacking::lacking_kind` meets its contract: the kinds before one have their units, by the law of the first kind
 -- that is lacking. Assumes nothing.
+use Rattle.std.specs.Prelude.{Some}
 use Prim.Native.Nat.{ℕ}
 use mathlib.Core.Path.{subst, sym}
 use native.Mathlib.Omega.{arith}
@@ -9,21 +10,17 @@ use Rattle.assign_channels.specs.declared.ByLogical.{ByLogical}
 use Rattle.assign_counts.specs.Assignable.{counts_of}
 use Rattle.assign.specs.Assignment.{wants_of}
 use Rattle.assign.specs.Parts.{FirstOf, kinds}
-use Rattle.assign.specs.declared.Lacking.TheVariants.{First}
 use Rattle.assign.specs.declared.Part.TheVariants.{Units}
 use Rattle.assign.proofs.FirstLaws.{first_kind, every-kind}
 use Rattle.assign_lacking.specs.ByCounts.{Servable, HasUnits}
 use Rattle.assign_lacking.proofs.lacking_kind.Goals as goal
-
-pub loop-order-init : goal.loop-order-init
-loop-order-init c = (omega arith, λ j h. absurd (omega arith))
 
 pub returns-then-not-has_units : goal.returns-then-not-has_units
 returns-then-not-has_units c =
     let there : ℕ → Type 0 = λ j. Servable (counts_of c.args.counts j) (wants_of c.args.wanted j) in
     let never = subst (λ (w : ByLogical). Servable (counts_of c.args.counts c.loop-order.order) w → ⊥) c.wants_of.ensures
     (c.has_units.ensures.1 c.if-not-has_units.true) in
-    subst (λ (k : Kind). FirstOf (HasUnits c.args.counts c.args.wanted) kinds (First (Units k))) (sym c.kind_at.ensures)
+    subst (λ (k : Kind). FirstOf (HasUnits c.args.counts c.args.wanted) kinds (Some (Units k))) (sym c.kind_at.ensures)
     (first_kind (HasUnits c.args.counts c.args.wanted) there (λ k x. x) (λ k x. x) c.loop-order.order c.loop-order-test.true c.loop-order.invariant.1 never)
 
 pub loop-order-preserved : goal.loop-order-preserved

@@ -11,6 +11,3 @@ use Rattle.assign_lacking.proofs.lacking_kind.Given as goal
 
 abbrev pub invariant-loop-order : goal.invariant-loop-order
 invariant-loop-order l = (l.order ≤ unit_kinds) × ((j : ℕ) → j < l.order → Servable (get_or l.by_kind j (by_channel [])) (wants_of l.wanted j))
-
-abbrev pub decreases-loop-order : goal.decreases-loop-order
-decreases-loop-order l = unit_kinds - l.order

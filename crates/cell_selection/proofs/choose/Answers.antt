@@ -12,17 +12,17 @@ returns-in_default c =
 
 pub returns-then-picked : goal.returns-then-picked
 returns-then-picked c =
-    selected (in_schedule c.args.schedule) c.args.lists c.picked_in-picked.result c.in-At.place c.entry_at-entry.result c.picked_in-picked.ensures
-    (subst (LowestFree c.args.lists.jobs) c.in-At.is c.lowest_free.ensures) c.entry_at-entry.ensures c.if-picked.true
+    selected (in_schedule c.args.schedule) c.args.lists c.picked_in-picked.result c.in-Some.place c.entry_at-entry.result c.picked_in-picked.ensures
+    (subst (LowestFree c.args.lists.jobs) c.in-Some.is c.lowest_free.ensures) c.entry_at-entry.ensures c.if-picked.true
 
-pub returns-in-Nothing : goal.returns-in-Nothing
-returns-in-Nothing c =
-    refused_none (in_schedule c.args.schedule) c.args.lists c.picked_in-picked.result c.in-At.place c.entry_at-entry.result c.picked_in-picked.ensures
-    (subst (LowestFree c.args.lists.jobs) c.in-At.is c.lowest_free.ensures) c.entry_at-entry.ensures c.if-picked.false
-    c.in-Nothing.is c.unselected-in-Nothing.result c.unselected-in-Nothing.ensures
+pub returns-in-None : goal.returns-in-None
+returns-in-None c =
+    refused_none (in_schedule c.args.schedule) c.args.lists c.picked_in-picked.result c.in-Some.place c.entry_at-entry.result c.picked_in-picked.ensures
+    (subst (LowestFree c.args.lists.jobs) c.in-Some.is c.lowest_free.ensures) c.entry_at-entry.ensures c.if-picked.false
+    c.in-None.is c.unselected-in-None.result c.unselected-in-None.ensures
 
-pub returns-in-First : goal.returns-in-First
-returns-in-First c =
-    refused-lacks (in_schedule c.args.schedule) c.args.lists c.picked_in-picked.result c.in-At.place c.entry_at-entry.result c.picked_in-picked.ensures
-    (subst (LowestFree c.args.lists.jobs) c.in-At.is c.lowest_free.ensures) c.entry_at-entry.ensures c.if-picked.false c.in-First.part
-    c.in-First.is c.unselected-in-First.result c.unselected-in-First.ensures
+pub returns-in-Some-lacking : goal.returns-in-Some-lacking
+returns-in-Some-lacking c =
+    refused-lacks (in_schedule c.args.schedule) c.args.lists c.picked_in-picked.result c.in-Some.place c.entry_at-entry.result c.picked_in-picked.ensures
+    (subst (LowestFree c.args.lists.jobs) c.in-Some.is c.lowest_free.ensures) c.entry_at-entry.ensures c.if-picked.false c.in-Some-lacking.part
+    c.in-Some-lacking.is c.unselected-in-Some-lacking.result c.unselected-in-Some-lacking.ensures

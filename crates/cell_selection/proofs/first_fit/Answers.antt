@@ -9,7 +9,7 @@ use Rattle.assign.specs.Assignment.{supply_of}
 use Rattle.cell_selection.specs.declared.Noted.{Noted}
 use Rattle.cell_selection.proofs.Walk.{Walked, told, few, walk_start, walk-found, walk-next, walk-on, walk_end}
 use Rattle.cell_selection.proofs.first_fit.Goals as goal
-use Rattle.cell_selection.proofs.first_fit.Goals.{then-may-k+in-First, else-may-k}
+use Rattle.cell_selection.proofs.first_fit.Goals.{then-may-k+in-Some, else-may-k}
 
 pub loop-k-init : goal.loop-k-init
 loop-k-init c = walk_start _ _
@@ -34,11 +34,11 @@ returns-in_default c =
 pub loop-k-preserved : goal.loop-k-preserved
 loop-k-preserved c =
     elim c.if-may-k.branch [
-      | then-may-k+in-First w ↦
+      | then-may-k+in-Some w ↦
           walk-next c.args.schedule (full c.args.schedule _ c.well_formed.0) c.size-n.ensures c.all-may.ensures (supply_of c.args.units.of c.args.occupancy c.args.areas c.args.channels) c.loop-k.so_far c.loop-k.invariant
-          (omega (arith, c)) _ w.if-may-k.true w.in-First.part
+          (omega (arith, c)) _ w.if-may-k.true w.in-Some.part
           (told c.args.units.of c.args.occupancy c.args.areas c.args.channels _ c.count-counts.result (omega (arith, c))
-          c.count-counts.ensures c.drum_length-drum.ensures w.first_lacking-lacking.ensures w.in-First.is)
+          c.count-counts.ensures c.drum_length-drum.ensures w.first_lacking-lacking.ensures w.in-Some.is)
           c.if-may-k.so_far (w.so_far-is ∙ w.note-so_far.ensures)
       | else-may-k w ↦
           subst (λ (x : Noted). Walked (take c.size-n.result c.args.schedule.entries) (supply_of c.args.units.of c.args.occupancy c.args.areas c.args.channels) x.lacking x.at (c.loop-k.k + 1))

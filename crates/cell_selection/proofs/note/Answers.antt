@@ -2,8 +2,8 @@
 use mathlib.Core.Path.{refl}
 use Rattle.cell_selection.proofs.note.Goals as goal
 
-pub returns-in-Nothing : goal.returns-in-Nothing
-returns-in-Nothing c = rw c.in-Nothing.is refl
+pub returns-in-None : goal.returns-in-None
+returns-in-None c = rw c.in-None.is refl
 
-pub returns-in-First : goal.returns-in-First
-returns-in-First c = rw c.in-First.is refl
+pub returns-in-Some : goal.returns-in-Some
+returns-in-Some c = rw c.in-Some.is refl

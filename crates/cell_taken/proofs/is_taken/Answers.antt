@@ -17,9 +17,6 @@ returns-then-is_in_core c =
     sym (look_hit (λ (core : Core). in_blocks core c.args.b) no_core c.args.held c.loop-i.i (omega (arith, c.loop-i.invariant.1))
     (sym c.is_in_core.ensures ∙ c.if-is_in_core.true) c.loop-i.invariant.2)
 
-pub loop-i-smaller : goal.loop-i-smaller
-loop-i-smaller c = omega arith
-
 pub loop-i-preserved : goal.loop-i-preserved
 loop-i-preserved c = (
   omega arith,

@@ -14,9 +14,6 @@ pub returns-then-is_empty : goal.returns-then-is_empty
 unfolding state_in
 returns-then-is_empty c = (omega arith, (sym c.is_empty.ensures ∙ c.if-is_empty.true, c.loop-i.invariant.none))
 
-pub loop-i-smaller : goal.loop-i-smaller
-loop-i-smaller c = omega arith
-
 pub loop-i-preserved : goal.loop-i-preserved
 unfolding state_in
 loop-i-preserved c =
